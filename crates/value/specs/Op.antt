@@ -110,3 +110,6 @@ operateOf c a b =
     (pickV (between 8 9 c) (truth2 (logicOf c) a b)
     (pickV (eqb c 10) (truth1 not a)
     (pickV (eqb c 11) (whole1 negateOf a) Err))))
+
+unfoldable pub operands : ℕ → ℕ
+operands c = elim (leb 10 c) [ true ↦ 1 | false ↦ 2 ]

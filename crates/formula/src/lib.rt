@@ -1,0 +1,130 @@
+// The data of the formula sheet (document 01, "The formula sheet" and the two lists of refusals): a field, a row by its
+// kind, what a test says of a sheet, and the refusals with their numbers. The definitions over them are in specs/.
+ghost use mathlib.Core.Path.{_≡_};
+ghost use Rattle.formula.specs.Refusals.{numberOf};
+
+// A decimal field: its number, or malformed.
+pub enum Field {
+    Number(u32),
+    Malformed,
+}
+
+// A row by its kind, 1 to 9 in the order of document 01's table, with the fields that its kind lists.
+pub enum Shape {
+    // a: the identifier's number
+    Identifier(u32),
+    // a: the constant
+    Whole(u32),
+    // a: 0 false, 1 true
+    Truth(u32),
+    // a, b: rows
+    Pair(usize, usize),
+    // a: the code; b: the row of its operands
+    Operator(u32, usize),
+    // identifiers a to a+b-1, bound to row c, in row d
+    Let(u32, u32, usize, usize),
+    // a: the test's row; b: the row if true; c: the row if false
+    If(usize, usize, usize),
+    // identifiers a to a+b-1, started from row c, body row d
+    For(u32, u32, usize, usize),
+    // a: a row
+    Iter(usize),
+}
+
+// What one test says of a sheet: passed, or the lowest row at fault (0 where the test is not about a row).
+pub enum Check {
+    Passed,
+    Fault(usize),
+}
+
+// The refusals of document 01, in its order.
+pub enum Refusal {
+    // 1: empty, not in 31-byte rows, or a row without its line feed
+    Layout,
+    // 2: over 200 rows
+    Rows,
+    // 3: a malformed field
+    Malformed,
+    // 4: kind, code, identifier, constant or unlisted field outside its range
+    Range,
+    // 5: a row that names one wrongly
+    Naming,
+    // 6: a row before the last not named once
+    Named,
+    // 7: iter in an expression place
+    StrayIter,
+    // 8: a width rule broken
+    Width,
+    // 9: a bound identifier not free in row d
+    Unused,
+    // 10: over 1,024 operators
+    Operators,
+    // 11: lent memory shorter than the call's need
+    Memory,
+    // 12: a set with another number of values than inputs, a bad value field, a file line unended
+    Set,
+    // 13: a set file over 65,536 bytes
+    SetFile,
+    // 14: capacity outside 1..16
+    Capacity,
+    // 31: a stored figure or token outside its range, or a link named twice
+    Altered,
+    // 32: sixteen sets untaken
+    Untaken,
+    // 33: an input link, or the trigger's link where it exists, full
+    Full,
+    // 34: the operator is absent or not able
+    NotAble,
+    // 35: a result port empty or no set untaken
+    NoResult,
+    // 36: run: something can still fire after the lent firings; evaluation: more rounds needed than lent
+    Unfinished,
+}
+
+// What reading says of a sheet: every test passed, or the first refusal with its row.
+pub enum Verdict {
+    Passed,
+    Refused(Refusal, usize),
+}
+
+// The figures of an accepted sheet.
+pub struct Figures {
+    pub rows: usize,
+    pub operators: usize,
+    pub inputs: usize,
+    pub results: usize,
+}
+
+// The answer of reading a sheet.
+pub enum Reading {
+    Accepted(Figures),
+    Rejected(Refusal, usize),
+}
+
+// Document 01's number of a refusal.
+pub fn refusal_number(r: Refusal) -> u32
+    ensures { λ n. ⌜ n ≡ numberOf r ⌝ }
+{
+    match r {
+        Refusal::Layout => 1,
+        Refusal::Rows => 2,
+        Refusal::Malformed => 3,
+        Refusal::Range => 4,
+        Refusal::Naming => 5,
+        Refusal::Named => 6,
+        Refusal::StrayIter => 7,
+        Refusal::Width => 8,
+        Refusal::Unused => 9,
+        Refusal::Operators => 10,
+        Refusal::Memory => 11,
+        Refusal::Set => 12,
+        Refusal::SetFile => 13,
+        Refusal::Capacity => 14,
+        Refusal::Altered => 31,
+        Refusal::Untaken => 32,
+        Refusal::Full => 33,
+        Refusal::NotAble => 34,
+        Refusal::NoResult => 35,
+        Refusal::Unfinished => 36,
+    }
+}
