@@ -1,0 +1,5 @@
+-- The root of the specs.
+pub mod Values
+pub mod Rules
+pub mod Histories
+pub mod HistoryLaw
