@@ -2,7 +2,7 @@
 -- operator computes. This file alone names the cases of a value, so a further case or an err with a reason changes nothing else here.
 use Prim.Native.Nat.{ℕ}
 use mathlib.Core.Path.{_≡_, refl, sym, subst}
-use mathlib.Core.Bool.{Bool, true, false, cond, _||_}
+use mathlib.Core.Bool.{Bool, true, false, _||_}
 use lib.Dec.{eqb}
 use Rattle.value.specs.declared.Value.{Value}
 use Rattle.value.specs.declared.Value.the-variants.{Whole, Truth, Err}
@@ -26,11 +26,6 @@ sense (Whole n) = is-neither
 sense (Truth true) = is-true
 sense (Truth false) = is-false
 sense Err = is-neither
-
-abbrev pub choose : {A : Type 0} → Sense → A → A → A → A
-choose is-true a b c = a
-choose is-false a b c = b
-choose is-neither a b c = c
 
 -- Only one value is true and only one false: a gate that hands on a true control hands on this value.
 abbrev Is-true : Sense → Type 0
