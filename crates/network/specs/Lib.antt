@@ -3,3 +3,7 @@ pub mod Values
 pub mod Rules
 pub mod Histories
 pub mod HistoryLaw
+pub mod Net
+pub mod Commute
+pub mod Wired
+pub mod Fill
