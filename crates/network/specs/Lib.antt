@@ -7,3 +7,4 @@ pub mod Net
 pub mod Commute
 pub mod Wired
 pub mod Fill
+pub mod Decide
