@@ -8,3 +8,5 @@ pub mod Commute
 pub mod Wired
 pub mod Fill
 pub mod Decide
+pub mod Firing
+pub mod FiringHistory
