@@ -10,3 +10,5 @@ pub mod Fill
 pub mod Decide
 pub mod Firing
 pub mod FiringHistory
+pub mod Ends
+pub mod Uses
