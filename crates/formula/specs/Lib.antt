@@ -7,3 +7,4 @@ pub mod Count
 pub mod Places
 pub mod Tests
 pub mod TreeLaws
+pub mod Admitted
