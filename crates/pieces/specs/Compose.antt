@@ -1,0 +1,102 @@
+-- Compositions as pieces again: so that they can be composed further.
+use Prim.Native.Nat.{ℕ, zero, suc, _<_, _≤_, _+_}
+use mathlib.Core.Path.{_≡_, refl, sym, _∙_, ap, subst}
+use mathlib.Core.Logic.{_≢_, _⊎_, inl, inr, ⊎-elim}
+use mathlib.Core.List.{List, [], _∷_, _++_}
+use mathlib.Core.Option.{Option, none, some}
+use Rattle.value.specs.declared.Value.{Value}
+use Rattle.network.specs.Values.{true-value, false-value}
+use Rattle.network.specs.Net.{Token, val, Demand}
+use Rattle.pieces.specs.Load.{Load, cat, app-assoc}
+use Rattle.pieces.specs.Piece.{Vals, load, In, Piece, Dom, Ans, Means, Leads, Serves, some-of}
+use Rattle.pieces.specs.DataRows.{Tg, cs, ds, os, each, TFit}
+use Rattle.pieces.specs.Sequence.{VFit, load-app, IdleS, Then, SeqRig, seq}
+use Rattle.pieces.specs.BodyIf.{Branch, IdleJ, IfRig, Before, body-if}
+
+-- ONE AFTER ANOTHER, as a piece: inputs are P's and the others; `own` is both pieces' own and the links handed on.
+module _ (net : ℕ → Demand) (P : Piece) (zs os : List ℕ) (own ownQ : ℕ → Type 0) (IdleQ : Load → Type 0) (MP MQ : Means) where
+  abbrev pub PS : (ℕ → Type 0) → Piece
+  PS D = record { ins = P .ins ++ zs; outs = os; own = own; Idle = IdleS net D P zs os ownQ IdleQ MP MQ }
+
+  -- the region is the whole's; `IdleS` does not depend on it
+  abbrev pub DS : ℕ → Type 0
+  DS l = own l ⊎ (In l (P .ins ++ zs) ⊎ In l os)
+
+  abbrev pub MS : Means
+  MS vs c a = (us : Vals) × (ws : Vals) × (vs ≡ us ++ ws) × VFit (P .ins) us × Then net DS P zs os ownQ IdleQ MP MQ us ws c a
+
+  pub seq-part : SeqRig net DS P zs os ownQ IdleQ MP MQ → Serves net (PS DS) MS
+  seq-part Z vs c a (us, ws, e, f, t) σ (σP, σQ, iP, iQ, es) =
+      subst (λ z. Leads net DS z os (IdleS net DS P zs os ownQ IdleQ MP MQ) c a) (sym whole) (seq net DS P zs os ownQ IdleQ MP MQ Z t σP σQ iP iQ)
+    where
+      whole : load (P .ins ++ zs) vs ++ σ ≡ cat (load (P .ins) us ∷ load zs ws ∷ σP ∷ σQ ∷ [])
+      whole =
+          ap (λ v. load (P .ins ++ zs) v ++ σ) e ∙ ap (λ s. load (P .ins ++ zs) (us ++ ws) ++ s) es
+          ∙ ap (λ x. x ++ cat (σP ∷ σQ ∷ [])) (load-app (P .ins) zs us ws f) ∙ app-assoc (load (P .ins) us) (load zs ws) (cat (σP ∷ σQ ∷ []))
+
+-- THE BODY IF, as a piece: inputs are IC's control, the controls and data of the T gates, those of the F gates.
+each-fit : (q : List Tg) (t : Value) → VFit (cs q) (each q t)
+each-fit [] t = tt
+each-fit (x ∷ q) t = each-fit q t
+
+data-fit : (q : List Tg) (vs : List Value) → TFit q vs → VFit (ds q) (some-of vs)
+data-fit [] [] f = tt
+data-fit [] (v ∷ vs) f = absurd f
+data-fit (x ∷ q) [] f = absurd f
+data-fit (x ∷ q) (v ∷ vs) f = data-fit q vs f
+
+module _ (net : ℕ → Demand) (colour colourA hueA colourB hueB : ℕ → ℕ) (ci o₁ o₃ : ℕ) (os₂ I R : List ℕ) (own DI DR Dc : ℕ → Type 0) (qT qF : List Tg)
+    (ia : ℕ) (IA RA : List ℕ) (ownA : ℕ → Type 0) (IdleA : Load → Type 0) (MA : Means) (itA reA : List Value → Type 0)
+    (ib : ℕ) (IB RB : List ℕ) (ownB : ℕ → Type 0) (IdleB : Load → Type 0) (MB : Means) (itB reB : List Value → Type 0) where
+  abbrev pub if-ins : List ℕ
+  if-ins = ci ∷ (cs qT ++ (ds qT ++ (cs qF ++ ds qF)))
+
+  abbrev pub DJ : ℕ → Type 0
+  DJ l = own l ⊎ (In l if-ins ⊎ In l (o₁ ∷ (I ++ R)))
+
+  abbrev pub Idle-if : Load → Type 0
+  Idle-if = IdleJ net colour colourA hueA colourB hueB ci o₁ o₃ os₂ I R DJ DI DR Dc qT qF ia IA RA ownA IdleA MA itA reA ib IB RB ownB IdleB MB itB reB
+
+  abbrev pub PJ : Piece
+  PJ = record { ins = if-ins; outs = o₁ ∷ (I ++ R); own = own; Idle = Idle-if }
+
+  abbrev pub if-vals : Value → List Value → List Value → Vals
+  if-vals t xs ys = some t ∷ (each qT t ++ (some-of xs ++ (each qF t ++ some-of ys)))
+
+  abbrev pub MJ : Means
+  MJ vs c a =
+      (t : Value) × (xs : List Value) × (ys : List Value) × (vs ≡ if-vals t xs ys) × TFit qT xs × TFit qF ys
+      × Branch net colour colourA hueA colourB hueB ci o₁ o₃ os₂ I R DJ DI DR Dc qT qF ia IA RA ownA IdleA MA itA reA ib IB RB ownB IdleB MB itB reB t xs ys c a
+
+  pub if-part : IfRig net colour colourA hueA colourB hueB ci o₁ o₃ os₂ I R DJ DI DR Dc qT qF ia IA RA ownA IdleA MA itA reA ib IB RB ownB IdleB MB itB reB → Serves net PJ MJ
+  if-part Z vs c a (t, xs, ys, e, fx, fy, b) σ (σA, σB, iA, iB, es) =
+      subst (λ z. Leads net DJ z (o₁ ∷ (I ++ R)) Idle-if c a) (sym whole)
+      (body-if net colour colourA hueA colourB hueB ci o₁ o₃ os₂ I R DJ DI DR Dc qT qF ia IA RA ownA IdleA MA itA reA ib IB RB ownB IdleB MB itB reB Z b fx fy σA σB iA iB)
+    where
+      CT : Load
+      CT = load (cs qT) (each qT t)
+
+      NT : Load
+      NT = load (ds qT) (some-of xs)
+
+      CF : Load
+      CF = load (cs qF) (each qF t)
+
+      NF : Load
+      NF = load (ds qF) (some-of ys)
+
+      σσ : Load
+      σσ = cat (σA ∷ σB ∷ [])
+
+      flat : load (cs qT ++ (ds qT ++ (cs qF ++ ds qF))) (each qT t ++ (some-of xs ++ (each qF t ++ some-of ys))) ≡ CT ++ (NT ++ (CF ++ NF))
+      flat =
+          load-app (cs qT) (ds qT ++ (cs qF ++ ds qF)) (each qT t) (some-of xs ++ (each qF t ++ some-of ys)) (each-fit qT t)
+          ∙ ap (λ z. CT ++ z) (load-app (ds qT) (cs qF ++ ds qF) (some-of xs) (each qF t ++ some-of ys) (data-fit qT xs fx)
+          ∙ ap (λ z. NT ++ z) (load-app (cs qF) (ds qF) (each qF t) (some-of ys) (each-fit qF t)))
+
+      nest : (CT ++ (NT ++ (CF ++ NF))) ++ σσ ≡ CT ++ (NT ++ (CF ++ (NF ++ σσ)))
+      nest = app-assoc CT (NT ++ (CF ++ NF)) σσ ∙ ap (λ z. CT ++ z) (app-assoc NT (CF ++ NF) σσ ∙ ap (λ z. NT ++ z) (app-assoc CF NF σσ))
+
+      whole : load if-ins vs ++ σ ≡ cat (((ci, some (val t)) ∷ []) ∷ CT ∷ NT ∷ CF ∷ NF ∷ σA ∷ σB ∷ [])
+      whole =
+          ap (λ v. load if-ins v ++ σ) e ∙ ap (λ s. load if-ins (if-vals t xs ys) ++ s) es ∙ ap (λ z. (ci, some (val t)) ∷ z) (ap (λ z. z ++ σσ) flat ∙ nest)

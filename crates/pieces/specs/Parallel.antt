@@ -1,0 +1,127 @@
+-- SIDE BY SIDE: two pieces that share no link (a pair; the names that both use were copied before), and pieces of one operator.
+use Prim.Native.Nat.{ℕ, zero, suc, _<_, _≤_, _+_}
+use mathlib.Core.Path.{_≡_, refl, sym, _∙_, ap, subst}
+use mathlib.Core.Logic.{_≢_, _⊎_, inl, inr, ⊎-elim}
+use mathlib.Core.List.{List, [], _∷_, _++_}
+use mathlib.Core.Option.{Option, none, some}
+use native.Mathlib.Omega.{arith}
+use Rattle.value.specs.declared.Value.{Value}
+use Rattle.network.specs.Values.{true-value, false-value, err-value}
+use Rattle.network.specs.Net.{Token, val, mark, Demand, Links}
+use Rattle.pieces.specs.Load.{Load, put, On, on-app, Off, Apart, Within, cat, pull, pulls, Pair, app-assoc}
+use Rattle.pieces.specs.Goes.{Goes, Goes-on, Alike, go-stay, go-then, go-then-on, go-wide, go-wide-on, go-less, go-from, go-to, go-from-on, alike-pulls, alike-sym, go-two, go-two-on, go-order}
+use Rattle.pieces.specs.Gate.{Dist, somes, Eats, gate}
+use Rattle.pieces.specs.Piece.{Vals, tok, load, In, Piece, Dom, Neat, Ans, Means, Leads, Serves, load-in, lead-after, lead-less}
+use Rattle.pieces.specs.Sequence.{VFit, load-app}
+
+module _ (net : ℕ → Demand) (D : ℕ → Type 0) (P Q : Piece) (MP MQ : Means) where
+  pub data Both : Vals → Vals → ℕ → Ans → Type 0 where
+    b-lost : (us ws : Vals) (c : ℕ) → MP us c none → Both us ws c none
+    b-late : (us ws rs : Vals) (c d : ℕ) → MP us c (some rs) → MQ ws d none → Both us ws (c + d) none
+    b-both : (us ws rs vs : Vals) (c d : ℕ) → MP us c (some rs) → VFit (P .outs) rs → MQ ws d (some vs) → Both us ws (c + d) (some (rs ++ vs))
+
+  abbrev pub IdleB : Load → Type 0
+  IdleB σ = (σP : Load) × (σQ : Load) × P .Idle σP × Q .Idle σQ × (σ ≡ cat (σP ∷ σQ ∷ []))
+
+  pub record ParRig : Type 0 where
+    pub serve-P : Serves net P MP
+    pub serve-Q : Serves net Q MQ
+    pub neat-P : Neat P
+    pub neat-Q : Neat Q
+    pub up-P : (l : ℕ) → Dom P l → D l
+    pub up-Q : (l : ℕ) → Dom Q l → D l
+    pub apart : (l : ℕ) → Dom P l → Dom Q l → ⊥
+
+  module _ (Z : ParRig) where
+    iP : (us : Vals) → Within (load (P .ins) us) (Dom P)
+    iP us l o = inr (inl (load-in (P .ins) us l o))
+
+    oP : (us : Vals) → Within (load (P .outs) us) (Dom P)
+    oP us l o = inr (inr (load-in (P .outs) us l o))
+
+    iQ : (us : Vals) → Within (load (Q .ins) us) (Dom Q)
+    iQ us l o = inr (inl (load-in (Q .ins) us l o))
+
+    oQ : (us : Vals) → Within (load (Q .outs) us) (Dom Q)
+    oQ us l o = inr (inr (load-in (Q .outs) us l o))
+
+    sP : (σ : Load) → P .Idle σ → Within σ (Dom P)
+    sP σ i l o = inl (Z .neat-P .idle-own σ i l o)
+
+    sQ : (σ : Load) → Q .Idle σ → Within σ (Dom Q)
+    sQ σ i l o = inl (Z .neat-Q .idle-own σ i l o)
+
+    pq : (x y : Load) → Within x (Dom P) → Within y (Dom Q) → Apart x y
+    pq x y wx wy l o o′ = Z .apart l (wx l o) (wy l o′)
+
+    qp : (x y : Load) → Within x (Dom Q) → Within y (Dom P) → Apart x y
+    qp x y wx wy l o o′ = Z .apart l (wy l o′) (wx l o)
+
+    two-off : (x y : Load) (E : ℕ → Type 0) → Off x E → Off y E → Off (cat (x ∷ y ∷ [])) E
+    two-off x y E f g l o e =
+        ⊎-elim (λ (z : On l x). f l z e) (λ (z : On l (y ++ [])). ⊎-elim (λ (w : On l y). g l w e) (λ (w : ⊥). w) (on-app l y [] z)) (on-app l x (y ++ []) o)
+
+    -- four blocks, two of each piece
+    four : (x y u v : Load) → Within x (Dom P) → Within y (Dom P) → Within u (Dom Q) → Within v (Dom Q) → Apart x y → Apart u v → Pair (x ∷ y ∷ u ∷ v ∷ [])
+    four x y u v wx wy wu wv xy uv = ((xy, (pq x u wx wu, (pq x v wx wv, tt))), ((pq y u wy wu, (pq y v wy wv, tt)), ((uv, tt), (tt, tt))))
+
+    off-ins : (us : Vals) (σ : Load) → P .Idle σ → Apart (load (P .ins) us) σ
+    off-ins us σ i l o o′ = Z .neat-P .off-ins l (Z .neat-P .idle-own σ i l o′) (load-in (P .ins) us l o)
+
+    off-outs : (us : Vals) (σ : Load) → P .Idle σ → Apart (load (P .outs) us) σ
+    off-outs us σ i l o o′ = Z .neat-P .off-outs l (Z .neat-P .idle-own σ i l o′) (load-in (P .outs) us l o)
+
+    off-insQ : (us : Vals) (σ : Load) → Q .Idle σ → Apart (load (Q .ins) us) σ
+    off-insQ us σ i l o o′ = Z .neat-Q .off-ins l (Z .neat-Q .idle-own σ i l o′) (load-in (Q .ins) us l o)
+
+    off-outsQ : (us : Vals) (σ : Load) → Q .Idle σ → Apart (load (Q .outs) us) σ
+    off-outsQ us σ i l o o′ = Z .neat-Q .off-outs l (Z .neat-Q .idle-own σ i l o′) (load-in (Q .outs) us l o)
+
+    -- P's turn; the blocks are handed over as P's and Q's
+    p-step : (us ws rs : Vals) (c : ℕ) (σP σP′ σQ : Load) → P .Idle σP → P .Idle σP′ → Q .Idle σQ → Goes net (Dom P) (load (P .ins) us ++ σP) c (load (P .outs) rs ++ σP′) →
+        Goes net D (cat (load (P .ins) us ∷ σP ∷ load (Q .ins) ws ∷ σQ ∷ [])) c (cat (load (Q .ins) ws ∷ σQ ∷ load (P .outs) rs ∷ σP′ ∷ []))
+    p-step us ws rs c σP σP′ σQ i i′ j g =
+        go-order net D (cat (load (P .ins) us ∷ σP ∷ load (Q .ins) ws ∷ σQ ∷ [])) c (3 ∷ 3 ∷ []) (load (P .outs) rs ∷ σP′ ∷ load (Q .ins) ws ∷ σQ ∷ [])
+        (four (load (P .outs) rs) σP′ (load (Q .ins) ws) σQ (oP rs) (sP σP′ i′) (iQ ws) (sQ σQ j) (off-outs rs σP′ i′) (off-insQ ws σQ j))
+        (go-wide net (Dom P) D (cat (load (P .ins) us ∷ σP ∷ load (Q .ins) ws ∷ σQ ∷ [])) (cat (load (P .outs) rs ∷ σP′ ∷ load (Q .ins) ws ∷ σQ ∷ [])) c (Z .up-P)
+        (go-two net (Dom P) (load (P .ins) us) σP (load (P .outs) rs) σP′ c (load (Q .ins) ws ∷ σQ ∷ [])
+        (two-off (load (Q .ins) ws) σQ (Dom P) (λ l o d. Z .apart l d (iQ ws l o)) (λ l o d. Z .apart l d (sQ σQ j l o))) g))
+
+    off-P : (rs : Vals) (σP : Load) → P .Idle σP → Off (cat (load (P .outs) rs ∷ σP ∷ [])) (Dom Q)
+    off-P rs σP i = two-off (load (P .outs) rs) σP (Dom Q) (λ l o d. Z .apart l (oP rs l o) d) (λ l o d. Z .apart l (sP σP i l o) d)
+
+    pub par : {us ws : Vals} {c : ℕ} {a : Ans} → Both us ws c a → (σP σQ : Load) → P .Idle σP → Q .Idle σQ →
+        Leads net D (cat (load (P .ins) us ∷ σP ∷ load (Q .ins) ws ∷ σQ ∷ [])) (P .outs ++ Q .outs) IdleB c a
+    par (b-lost us ws c m) σP σQ i j =
+        go-wide-on net (Dom P) D (cat (load (P .ins) us ∷ σP ∷ load (Q .ins) ws ∷ σQ ∷ [])) c (Z .up-P)
+        (go-two-on net (Dom P) (load (P .ins) us) σP c (load (Q .ins) ws ∷ σQ ∷ [])
+        (two-off (load (Q .ins) ws) σQ (Dom P) (λ l o d. Z .apart l d (iQ ws l o)) (λ l o d. Z .apart l d (sQ σQ j l o))) (Z .serve-P us c none m σP i))
+    par (b-late us ws rs c d m n) σP σQ i j =
+        let h = Z .serve-P us c (some rs) m σP i in
+        go-then-on net D (cat (load (P .ins) us ∷ σP ∷ load (Q .ins) ws ∷ σQ ∷ [])) (cat (load (Q .ins) ws ∷ σQ ∷ load (P .outs) rs ∷ h .0 ∷ [])) c d
+        (p-step us ws rs c σP (h .0) σQ i (h .1) j (h .2))
+        (go-wide-on net (Dom Q) D (cat (load (Q .ins) ws ∷ σQ ∷ load (P .outs) rs ∷ h .0 ∷ [])) d (Z .up-Q)
+        (go-two-on net (Dom Q) (load (Q .ins) ws) σQ d (load (P .outs) rs ∷ h .0 ∷ []) (off-P rs (h .0) (h .1)) (Z .serve-Q ws d none n σQ j)))
+    par (b-both us ws rs vs c d m f n) σP σQ i j =
+        let h = Z .serve-P us c (some rs) m σP i in
+        let k = Z .serve-Q ws d (some vs) n σQ j in
+        done (h .0) (k .0) (h .1) (k .1) (p-step us ws rs c σP (h .0) σQ i (h .1) j (h .2)) (k .2)
+      where
+        done : (σP′ σQ′ : Load) → P .Idle σP′ → Q .Idle σQ′ →
+            Goes net D (cat (load (P .ins) us ∷ σP ∷ load (Q .ins) ws ∷ σQ ∷ [])) c (cat (load (Q .ins) ws ∷ σQ ∷ load (P .outs) rs ∷ σP′ ∷ [])) →
+            Goes net (Dom Q) (load (Q .ins) ws ++ σQ) d (load (Q .outs) vs ++ σQ′) →
+            Leads net D (cat (load (P .ins) us ∷ σP ∷ load (Q .ins) ws ∷ σQ ∷ [])) (P .outs ++ Q .outs) IdleB (c + d) (some (rs ++ vs))
+        done σP′ σQ′ i′ j′ g k = (
+          cat (σP′ ∷ σQ′ ∷ []),
+          (σP′, σQ′, i′, j′, refl),
+          subst (λ z. Goes net D (cat (load (P .ins) us ∷ σP ∷ load (Q .ins) ws ∷ σQ ∷ [])) (c + d) z)
+              (sym (ap (λ z. z ++ cat (σP′ ∷ σQ′ ∷ [])) (load-app (P .outs) (Q .outs) rs vs f) ∙ app-assoc (load (P .outs) rs) (load (Q .outs) vs) (cat (σP′ ∷ σQ′ ∷ []))))
+              (go-then net D (cat (load (P .ins) us ∷ σP ∷ load (Q .ins) ws ∷ σQ ∷ [])) (cat (load (Q .ins) ws ∷ σQ ∷ load (P .outs) rs ∷ σP′ ∷ []))
+              (cat (load (P .outs) rs ∷ load (Q .outs) vs ∷ σP′ ∷ σQ′ ∷ [])) c d g
+              (go-order net D (cat (load (Q .ins) ws ∷ σQ ∷ load (P .outs) rs ∷ σP′ ∷ [])) d (1 ∷ 3 ∷ 2 ∷ 3 ∷ []) (load (Q .outs) vs ∷ σQ′ ∷ load (P .outs) rs ∷ σP′ ∷ []) (
+                (off-outsQ vs σQ′ j′, (qp (load (Q .outs) vs) (load (P .outs) rs) (oQ vs) (oP rs), (qp (load (Q .outs) vs) σP′ (oQ vs) (sP σP′ i′), tt))),
+                ((qp σQ′ (load (P .outs) rs) (sQ σQ′ j′) (oP rs), (qp σQ′ σP′ (sQ σQ′ j′) (sP σP′ i′), tt)), ((off-outs rs σP′ i′, tt), (tt, tt))),
+              )
+              (go-wide net (Dom Q) D (cat (load (Q .ins) ws ∷ σQ ∷ load (P .outs) rs ∷ σP′ ∷ [])) (cat (load (Q .outs) vs ∷ σQ′ ∷ load (P .outs) rs ∷ σP′ ∷ [])) d (Z .up-Q)
+              (go-two net (Dom Q) (load (Q .ins) ws) σQ (load (Q .outs) vs) σQ′ d (load (P .outs) rs ∷ σP′ ∷ []) (off-P rs σP′ i′) k)))),
+        )

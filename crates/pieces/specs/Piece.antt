@@ -1,0 +1,139 @@
+-- THE STATEMENT of the schedule lemma, for every piece of a graph at any width.
+use Prim.Native.Nat.{ℕ, zero, suc, _<_, _≤_, _+_}
+use mathlib.Core.Path.{_≡_, refl, sym, _∙_, ap, subst}
+use mathlib.Core.Logic.{_⊎_, inl, inr, ⊎-elim}
+use mathlib.Core.List.{List, [], _∷_, _++_}
+use mathlib.Core.Option.{Option, none, some}
+use Rattle.value.specs.declared.Value.{Value}
+use Rattle.network.specs.Net.{Token, val, mark, Demand, Links}
+use Rattle.pieces.specs.Load.{Load, On, on-app, Apart, Off, Within, Nones}
+use Rattle.pieces.specs.Goes.{Goes, Goes-on, Alike, go-stay, go-then, go-then-on, go-less, go-less-on, go-from, go-to, alike-nones, alike-sym}
+
+-- A value that may be absent: an arm that was not chosen gets nothing and gives nothing.
+abbrev pub Vals : Type 0
+Vals = List (Option Value)
+
+abbrev pub tok : Option Value → Option Token
+tok none = none
+tok (some v) = some (val v)
+
+-- values on links, in order; links beyond the values are empty
+abbrev pub load : List ℕ → Vals → Load
+load [] vs = []
+load (l ∷ ls) [] = (l, none) ∷ load ls []
+load (l ∷ ls) (v ∷ vs) = (l, tok v) ∷ load ls vs
+
+abbrev pub In : ℕ → List ℕ → Type 0
+In l [] = ⊥
+In l (x ∷ ls) = (l ≡ x) ⊎ In l ls
+
+-- A PIECE of a graph. Its interface is two lists of links; a bare identifier has the same link in both. `own` are the links that nobody
+-- else uses: the inner links, the control links of its FM and FS gates and their registers (a register is a link that its gate alone
+-- reads and writes and that holds one token: the mark before the first firing, then FS's remembered value or FM's `seen`).
+-- `Idle` are the loads of the own links between two sets: everything empty but the registers, and each FM and FS ready (Loop.antt).
+pub record Piece : Type 1 where
+  pub ins : List ℕ
+  pub outs : List ℕ
+  pub own : ℕ → Type 0
+  pub Idle : Load → Type 0
+
+-- every link that the piece may touch
+abbrev pub Dom : Piece → ℕ → Type 0
+Dom P l = P .own l ⊎ (In l (P .ins) ⊎ In l (P .outs))
+
+-- What is known of every piece that the maker makes (freshness of numbers, proved once over the translation).
+pub record Neat (P : Piece) : Type 0 where
+  pub idle-own : (σ : Load) → P .Idle σ → Within σ (P .own)
+  pub off-ins : (l : ℕ) → P .own l → In l (P .ins) → ⊥
+  pub off-outs : (l : ℕ) → P .own l → In l (P .outs) → ⊥
+
+-- An answer: the values on the outputs, or none, where the lent rounds did not suffice.
+abbrev pub Ans : Type 0
+Ans = Option Vals
+
+-- What a piece means: from the values of its inputs, with at least so many rounds, to an answer. A relation, or the graph of an evaluator.
+abbrev pub Means : Type 1
+Means = Vals → ℕ → Ans → Type 0
+
+module _ (net : ℕ → Demand) where
+  -- Where a schedule from the load `xs` leads: to the values on the outputs, with the piece idle again (perhaps another idle load: a
+  -- gate that has fired waits otherwise than one that has not); or as far as anyone asks.
+  abbrev pub Leads : (ℕ → Type 0) → Load → List ℕ → (Load → Type 0) → ℕ → Ans → Type 0
+  Leads D xs os Idle c none = Goes-on net D xs c
+  Leads D xs os Idle c (some rs) = (σ : Load) × Idle σ × Goes net D xs c (load os rs ++ σ)
+
+  -- THE SCHEDULE LEMMA, as a property of a piece: from any idle load and the values on its inputs there is a schedule, possible with one
+  -- place a link, of at least as many firings as rounds, that leads to the answer. The base under `Goes` is any that is empty on the
+  -- piece's links, so nothing outside is touched; what is not in the last load is empty.
+  abbrev pub Serves : Piece → Means → Type 0
+  Serves P M = (vs : Vals) (c : ℕ) (a : Ans) → M vs c a → (σ : Load) → P .Idle σ → Leads (Dom P) (load (P .ins) vs ++ σ) (P .outs) (P .Idle) c a
+
+  pub lead-after : (D : ℕ → Type 0) (xs ys : Load) (os : List ℕ) (Idle : Load → Type 0) (c d : ℕ) (a : Ans) → Goes net D xs c ys →
+      Leads D ys os Idle d a → Leads D xs os Idle (c + d) a
+  lead-after D xs ys os Idle c d none f g = go-then-on net D xs ys c d f g
+  lead-after D xs ys os Idle c d (some rs) f (σ, i, g) = (σ, i, go-then net D xs ys (load os rs ++ σ) c d f g)
+
+  pub lead-less : (D : ℕ → Type 0) (xs : Load) (os : List ℕ) (Idle : Load → Type 0) (c d : ℕ) (a : Ans) → d ≤ c → Leads D xs os Idle c a → Leads D xs os Idle d a
+  lead-less D xs os Idle c d none le g = go-less-on net D xs c d le g
+  lead-less D xs os Idle c d (some rs) le (σ, i, g) = (σ, i, go-less net D xs (load os rs ++ σ) c d le g)
+
+-- A BODY is a piece whose outputs are iter?, the iterated values and the returned values, and whose meaning has one of two forms.
+abbrev pub none-of : List ℕ → Vals
+none-of [] = []
+none-of (l ∷ ls) = none ∷ none-of ls
+
+abbrev pub some-of : List Value → Vals
+some-of [] = []
+some-of (v ∷ vs) = some v ∷ some-of vs
+
+-- Absent inputs: the piece has nothing to do. This needs no hypothesis on what it means.
+pub load-nones : (ls : List ℕ) → Nones (load ls [])
+load-nones [] = tt
+load-nones (l ∷ ls) = (refl, load-nones ls)
+
+pub load-in : (ls : List ℕ) (vs : Vals) (l : ℕ) → On l (load ls vs) → In l ls
+load-in [] vs l o = absurd o
+load-in (k ∷ ls) [] l (inl e) = inl e
+load-in (k ∷ ls) [] l (inr o) = inr (load-in ls [] l o)
+load-in (k ∷ ls) (v ∷ vs) l (inl e) = inl e
+load-in (k ∷ ls) (v ∷ vs) l (inr o) = inr (load-in ls vs l o)
+
+pub absent : (net : ℕ → Demand) (P : Piece) → Neat P → (σ : Load) → P .Idle σ → Goes net (Dom P) (load (P .ins) [] ++ σ) 0 (load (P .outs) [] ++ σ)
+absent net P N σ id =
+    go-from net (Dom P) σ (load (P .ins) [] ++ σ) (load (P .outs) [] ++ σ) 0
+    (alike-sym net (Dom P) (load (P .ins) [] ++ σ) σ (alike-nones net (Dom P) (load (P .ins) []) σ (load-nones (P .ins)) (λ l o. inr (inl (load-in (P .ins) [] l o)))
+    (λ l o o′. N .off-ins l (N .idle-own σ id l o′) (load-in (P .ins) [] l o))))
+    (go-to net (Dom P) σ σ (load (P .outs) [] ++ σ) 0
+    (alike-sym net (Dom P) (load (P .outs) [] ++ σ) σ (alike-nones net (Dom P) (load (P .outs) []) σ (load-nones (P .outs)) (λ l o. inr (inr (load-in (P .outs) [] l o)))
+    (λ l o o′. N .off-outs l (N .idle-own σ id l o′) (load-in (P .outs) [] l o))))
+    (go-stay net (Dom P) σ))
+
+pub load-app-none : (is rs : List ℕ) (ws : Vals) → load (is ++ rs) (none-of is ++ ws) ≡ load is (none-of is) ++ load rs ws
+load-app-none [] rs ws = refl
+load-app-none (i ∷ is) rs ws = ap (λ z. (i, none) ∷ z) (load-app-none is rs ws)
+
+pub none-of-nones : (is : List ℕ) → Nones (load is (none-of is))
+none-of-nones [] = tt
+none-of-nones (i ∷ is) = (refl, none-of-nones is)
+
+-- as many values as links
+abbrev pub LFit : List ℕ → List Value → Type 0
+LFit [] [] = Unit {0}
+LFit [] (v ∷ vs) = ⊥
+LFit (l ∷ ls) [] = ⊥
+LFit (l ∷ ls) (v ∷ vs) = LFit ls vs
+
+pub load-app-fit : (is rs : List ℕ) (us : List Value) (ws : Vals) → LFit is us → load (is ++ rs) (some-of us ++ ws) ≡ load is (some-of us) ++ load rs ws
+load-app-fit [] rs [] ws f = refl
+load-app-fit [] rs (v ∷ vs) ws f = absurd f
+load-app-fit (i ∷ is) rs [] ws f = absurd f
+load-app-fit (i ∷ is) rs (v ∷ vs) ws f = ap (λ z. (i, some (val v)) ∷ z) (load-app-fit is rs vs ws f)
+
+-- one value on every link
+abbrev pub same-of : List ℕ → Value → List Value
+same-of [] v = []
+same-of (l ∷ ls) v = v ∷ same-of ls v
+
+pub same-fit : (ls : List ℕ) (v : Value) → LFit ls (same-of ls v)
+same-fit [] v = tt
+same-fit (l ∷ ls) v = same-fit ls v
