@@ -22,3 +22,6 @@ pub mod Parallel
 pub mod Compose
 pub mod Paint
 pub mod Operators
+pub mod Sets
+pub mod Demand3
+pub mod Made
