@@ -11,7 +11,7 @@ use Rattle.network.specs.Values.{true-value, false-value, err-value}
 use Rattle.network.specs.Net.{Token, val, mark, Demand, Links}
 use Rattle.pieces.specs.Load.{Load, put, On, on-app, Clear, Off, Apart, Within, Nones, cat, pull, pulls, Far, Pair, Tint, Tints, pair-of, Among, among-not, off-tints, apart-cat, app-assoc}
 use Rattle.pieces.specs.Goes.{Goes, Goes-on, Alike, go-then, go-wide, go-wide-on, go-less, go-from, go-to, go-from-on, alike-pulls, alike-sym, alike-nones, go-two, go-two-on, go-order}
-use Rattle.pieces.specs.Piece.{Vals, tok, load, In, Piece, Dom, Ans, Means, Serves, none-of, some-of, load-in, load-app-none, none-of-nones, LFit, load-app-fit, same-of}
+use Rattle.pieces.specs.Piece.{Vals, tok, load, In, Piece, Dom, Ans, Means, Serves, none-of, some-of, load-in, load-app-none, none-of-nones, load-app-fit, same-of, Fits}
 use Rattle.pieces.specs.Rows.{in-app}
 
 -- Colours: 0 IC's control, 3 the arm's inputs (an arm such as `iter i` has bare outputs: such an input has its output's colour), 7 its iter?, 9 its iterated, 11 its returned links, 18 its own, 19 the other arm's own,
@@ -58,8 +58,8 @@ module _ (net : ℕ → Demand) (colour hue : ℕ → ℕ) (ci o₁ o₃ : ℕ) 
     pub in-R : (l : ℕ) → In l R → D l
     pub no-I : (l : ℕ) → DI l → Among colour (colour l) (13 ∷ 18 ∷ 19 ∷ []) → ⊥
     pub no-R : (l : ℕ) → DR l → Among colour (colour l) (13 ∷ 18 ∷ 19 ∷ []) → ⊥
-    pub fit-it : (us : List Value) → itX us → LFit IX us
-    pub fit-I : (us : List Value) → itX us → LFit I us
+    pub fit-it : (us : List Value) → itX us → Fits IX us
+    pub fit-I : (us : List Value) → itX us → Fits I us
     -- IC fires; the joins
     pub ic-t : Goes net Dic (((ci, some (val t)) ∷ []) ++ ((ix, some (val true-value)) ∷ [])) 1 (((o₁, some (val true-value)) ∷ []) ++ load os₂ (some-of (same-of os₂ t)))
     pub ic-f : Goes net Dic (((ci, some (val t)) ∷ []) ++ ((ix, some (val false-value)) ∷ [])) 1 (((o₁, some (val false-value)) ∷ []) ++ ((o₃, some (val t)) ∷ []))

@@ -12,9 +12,9 @@ use Rattle.network.specs.Values.{true-value, false-value, err-value}
 use Rattle.network.specs.Net.{Token, val, mark, Demand, Links}
 use Rattle.pieces.specs.Load.{Load, put, put-app, put-swap, On, on-app, Clear, Off, Apart, Within, Nones, cat, pull, pulls, Far, Pair, Tint, Tints, pair-of, Among, among-not, off-tints, apart-cat, app-assoc}
 use Rattle.pieces.specs.Goes.{Goes, Goes-on, Alike, go-then, go-then-on, go-wide, go-less, go-less-on, go-from, go-to, go-by, alike-pulls, alike-sym, alike-nones, alike-cat, go-two, go-order, go-first, go-first-on}
-use Rattle.pieces.specs.Piece.{Vals, tok, load, In, Piece, Dom, Ans, Means, Leads, Serves, none-of, some-of, load-in, load-app-none, none-of-nones, same-of}
+use Rattle.pieces.specs.Piece.{Vals, tok, load, In, Piece, Dom, Ans, Means, Leads, Serves, none-of, some-of, load-in, load-app-none, none-of-nones, same-of, Fits}
 use Rattle.pieces.specs.Rows.{join, in-app}
-use Rattle.pieces.specs.DataRows.{Tg, cs, ds, os, tlinks, each, TFit, Bad, Goods}
+use Rattle.pieces.specs.DataRows.{Tg, cs, ds, os, tlinks, each, Bad, Goods}
 use Rattle.pieces.specs.Joins.{passes₂, absorbs₂, All-T, All-F, T-pass, T-absorb, T-bad, F-pass, F-absorb, F-bad}
 use Rattle.pieces.specs.Arm.{Arm, Chosen, Res, chosen}
 
@@ -178,7 +178,7 @@ module _ (net : ℕ → Demand) (colour colourA hueA colourB hueB : ℕ → ℕ)
         (off-tints colour (3 ∷ 0 ∷ 18 ∷ 19 ∷ []) (Y ∷ K t ∷ σA ∷ σB ∷ []) (λ l. In l (join (tlinks qF))) (tY, (tK t, (tA σA iA, (tB σB iB, tt)))) no-F) g)))
 
     -- TRUE
-    true-step : (xs ys : List Value) (σA σB : Load) → TFit qT xs → TFit qF ys → IdleA σA → IdleB σB →
+    true-step : (xs ys : List Value) (σA σB : Load) → Fits qT xs → Fits qF ys → IdleA σA → IdleB σB →
         Goes net D (Before true-value xs ys σA σB) 0 (cat (K true-value ∷ load (os qT) (some-of xs) ∷ σA ∷ σB ∷ []))
     unfolding ℕ-discrete
     true-step xs ys σA σB fx fy iA iB =
@@ -194,7 +194,7 @@ module _ (net : ℕ → Demand) (colour colourA hueA colourB hueB : ℕ → ℕ)
         tX l o = Z .h-oT l (load-in (os qT) (some-of xs) l o)
 
     -- FALSE
-    false-step : (xs ys : List Value) (σA σB : Load) → TFit qT xs → TFit qF ys → IdleA σA → IdleB σB →
+    false-step : (xs ys : List Value) (σA σB : Load) → Fits qT xs → Fits qF ys → IdleA σA → IdleB σB →
         Goes net D (Before false-value xs ys σA σB) 0 (cat (K false-value ∷ load (os qF) (some-of ys) ∷ σB ∷ σA ∷ []))
     unfolding ℕ-discrete
     false-step xs ys σA σB fx fy iA iB =
@@ -210,7 +210,7 @@ module _ (net : ℕ → Demand) (colour colourA hueA colourB hueB : ℕ → ℕ)
         tX l o = Z .h-oF l (load-in (os qF) (some-of ys) l o)
 
     -- NO TRUTH: everything is absorbed; IC gives false and err, and every returned result is err
-    bad-step : (t : Value) → Bad t → (xs ys : List Value) (σA σB : Load) → TFit qT xs → TFit qF ys → IdleA σA → IdleB σB →
+    bad-step : (t : Value) → Bad t → (xs ys : List Value) (σA σB : Load) → Fits qT xs → Fits qF ys → IdleA σA → IdleB σB →
         Goes net D (Before t xs ys σA σB) 0 (cat (load (o₁ ∷ (I ++ R)) (some false-value ∷ (none-of I ++ some-of (same-of R err-value))) ∷ σA ∷ σB ∷ []))
     unfolding ℕ-discrete
     bad-step t bt xs ys σA σB fx fy iA iB =
@@ -272,7 +272,7 @@ module _ (net : ℕ → Demand) (colour colourA hueA colourB hueB : ℕ → ℕ)
             ∙ ap (λ z. put (cat (((o₁, some (val false-value)) ∷ z) ∷ σA ∷ σB ∷ [])) b) (sym (load-app-none I R (some-of (same-of R err-value))))
 
     -- THE SCHEDULE LEMMA FOR THE BODY IF.
-    pub body-if : {t : Value} {xs ys : List Value} {c : ℕ} {a : Ans} → Branch t xs ys c a → TFit qT xs → TFit qF ys → (σA σB : Load) → IdleA σA → IdleB σB →
+    pub body-if : {t : Value} {xs ys : List Value} {c : ℕ} {a : Ans} → Branch t xs ys c a → Fits qT xs → Fits qF ys → (σA σB : Load) → IdleA σA → IdleB σB →
         Leads net D (Before t xs ys σA σB) (o₁ ∷ (I ++ R)) IdleJ c a
     body-if (on-true xs ys c a ch) fx fy σA σB iA iB =
         go a (chosen net colourA hueA ci o₁ o₃ os₂ I R D DI DR true-value (os qT) ia IA RA ownA IdleA MA itA reA (Z .arm-A) σB (λ l o. Z .kA-B l (Z .idle-B σB iB l o))

@@ -8,9 +8,9 @@ use Rattle.value.specs.declared.Value.{Value}
 use Rattle.network.specs.Values.{true-value, false-value}
 use Rattle.network.specs.Net.{Token, val, Demand}
 use Rattle.pieces.specs.Load.{Load, cat, app-assoc}
-use Rattle.pieces.specs.Piece.{Vals, load, In, Piece, Dom, Ans, Means, Leads, Serves, some-of}
-use Rattle.pieces.specs.DataRows.{Tg, cs, ds, os, each, TFit}
-use Rattle.pieces.specs.Sequence.{VFit, load-app, IdleS, Then, SeqRig, seq}
+use Rattle.pieces.specs.Piece.{Vals, load, In, Piece, Dom, Ans, Means, Leads, Serves, some-of, Fits}
+use Rattle.pieces.specs.DataRows.{Tg, cs, ds, os, each}
+use Rattle.pieces.specs.Sequence.{load-app, IdleS, Then, SeqRig, seq}
 use Rattle.pieces.specs.BodyIf.{Branch, IdleJ, IfRig, Before, body-if}
 
 -- ONE AFTER ANOTHER, as a piece: inputs are P's and the others; `own` is both pieces' own and the links handed on.
@@ -23,7 +23,7 @@ module _ (net : ℕ → Demand) (P : Piece) (zs os : List ℕ) (own ownQ : ℕ �
   DS l = own l ⊎ (In l (P .ins ++ zs) ⊎ In l os)
 
   abbrev pub MS : Means
-  MS vs c a = (us : Vals) × (ws : Vals) × (vs ≡ us ++ ws) × VFit (P .ins) us × Then net DS P zs os ownQ IdleQ MP MQ us ws c a
+  MS vs c a = (us : Vals) × (ws : Vals) × (vs ≡ us ++ ws) × Fits (P .ins) us × Then net DS P zs os ownQ IdleQ MP MQ us ws c a
 
   pub seq-part : SeqRig net DS P zs os ownQ IdleQ MP MQ → Serves net (PS DS) MS
   seq-part Z vs c a (us, ws, e, f, t) σ (σP, σQ, iP, iQ, es) =
@@ -35,11 +35,11 @@ module _ (net : ℕ → Demand) (P : Piece) (zs os : List ℕ) (own ownQ : ℕ �
           ∙ ap (λ x. x ++ cat (σP ∷ σQ ∷ [])) (load-app (P .ins) zs us ws f) ∙ app-assoc (load (P .ins) us) (load zs ws) (cat (σP ∷ σQ ∷ []))
 
 -- THE BODY IF, as a piece: inputs are IC's control, the controls and data of the T gates, those of the F gates.
-each-fit : (q : List Tg) (t : Value) → VFit (cs q) (each q t)
+each-fit : (q : List Tg) (t : Value) → Fits (cs q) (each q t)
 each-fit [] t = tt
 each-fit (x ∷ q) t = each-fit q t
 
-data-fit : (q : List Tg) (vs : List Value) → TFit q vs → VFit (ds q) (some-of vs)
+data-fit : (q : List Tg) (vs : List Value) → Fits q vs → Fits (ds q) (some-of vs)
 data-fit [] [] f = tt
 data-fit [] (v ∷ vs) f = absurd f
 data-fit (x ∷ q) [] f = absurd f
@@ -65,7 +65,7 @@ module _ (net : ℕ → Demand) (colour colourA hueA colourB hueB : ℕ → ℕ)
 
   abbrev pub MJ : Means
   MJ vs c a =
-      (t : Value) × (xs : List Value) × (ys : List Value) × (vs ≡ if-vals t xs ys) × TFit qT xs × TFit qF ys
+      (t : Value) × (xs : List Value) × (ys : List Value) × (vs ≡ if-vals t xs ys) × Fits qT xs × Fits qF ys
       × Branch net colour colourA hueA colourB hueB ci o₁ o₃ os₂ I R DJ DI DR Dc qT qF ia IA RA ownA IdleA MA itA reA ib IB RB ownB IdleB MB itB reB t xs ys c a
 
   pub if-part : IfRig net colour colourA hueA colourB hueB ci o₁ o₃ os₂ I R DJ DI DR Dc qT qF ia IA RA ownA IdleA MA itA reA ib IB RB ownB IdleB MB itB reB → Serves net PJ MJ

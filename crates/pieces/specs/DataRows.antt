@@ -16,7 +16,7 @@ use Rattle.network.specs.Net.{Token, val, mark, Demand, Links}
 use Rattle.pieces.specs.Load.{Load, put, On, Off, Apart, Within, cat}
 use Rattle.pieces.specs.Goes.{Goes, go-from, go-less, go-to}
 use Rattle.pieces.specs.Gate.{Dist, somes, Eats, gate}
-use Rattle.pieces.specs.Piece.{Vals, tok, load, In, some-of, load-in}
+use Rattle.pieces.specs.Piece.{Vals, tok, load, In, some-of, load-in, Fits}
 use Rattle.pieces.specs.Rows.{join, zipw, zip2, ones, cat-ones, Row, row, in-app}
 use Rattle.pieces.specs.Gates.{ports, T-at, F-at, E-at, M-at}
 
@@ -47,12 +47,6 @@ tlinks (q ∷ qs) = (q .c ∷ q .d ∷ q .o ∷ []) ∷ tlinks qs
 abbrev pub each : List Tg → Value → Vals
 each [] v = []
 each (q ∷ qs) v = some v ∷ each qs v
-
-abbrev pub TFit : List Tg → List Value → Type 0
-TFit [] [] = Unit {0}
-TFit [] (v ∷ vs) = ⊥
-TFit (q ∷ qs) [] = ⊥
-TFit (q ∷ qs) (v ∷ vs) = TFit qs vs
 
 -- neither true nor false
 abbrev pub Bad : Value → Type 0
@@ -102,7 +96,7 @@ module _ (net : ℕ → Demand) where
   wo q l (inl z) = inr (inr (inl z))
   wo q l (inr z) = absurd z
 
-  row-pass : (t : Value) (qs : List Tg) (vs : List Value) → Pass t qs → Goods qs → TFit qs vs →
+  row-pass : (t : Value) (qs : List Tg) (vs : List Value) → Pass t qs → Goods qs → Fits qs vs →
       Row net (tlinks qs) (zipw (ones (load (cs qs) (each qs t))) (ones (load (ds qs) (some-of vs)))) (ones (load (os qs) (some-of vs)))
   row-pass t [] [] p gd f = tt
   row-pass t [] (v ∷ vs) p gd f = absurd f
@@ -116,7 +110,7 @@ module _ (net : ℕ → Demand) where
     row-pass t qs vs (p .1) (gd .2) f,
   )
 
-  row-absorb : (t : Value) (qs : List Tg) (vs : List Value) → Absorb t qs → Goods qs → TFit qs vs →
+  row-absorb : (t : Value) (qs : List Tg) (vs : List Value) → Absorb t qs → Goods qs → Fits qs vs →
       Row net (tlinks qs) (zipw (ones (load (cs qs) (each qs t))) (ones (load (ds qs) (some-of vs)))) (blanks qs)
   row-absorb t [] [] p gd f = tt
   row-absorb t [] (v ∷ vs) p gd f = absurd f
@@ -131,7 +125,7 @@ module _ (net : ℕ → Demand) where
   )
 
   -- THE ROW as a rule on loads.
-  pub passes : (t : Value) (qs : List Tg) (vs : List Value) → Pass t qs → Goods qs → TFit qs vs → Apart (load (cs qs) (each qs t)) (load (ds qs) (some-of vs)) →
+  pub passes : (t : Value) (qs : List Tg) (vs : List Value) → Pass t qs → Goods qs → Fits qs vs → Apart (load (cs qs) (each qs t)) (load (ds qs) (some-of vs)) →
       Goes net (Dq qs) (cat (load (cs qs) (each qs t) ∷ load (ds qs) (some-of vs) ∷ [])) 0 (load (os qs) (some-of vs))
   passes t qs vs p gd f apt =
       subst (λ z. Goes net (Dq qs) (cat (C ∷ Vd ∷ [])) 0 z) (cat-ones (load (os qs) (some-of vs)))
@@ -155,7 +149,7 @@ module _ (net : ℕ → Demand) where
           ∙ sym (zip2 (ones C) (ones Vd) [] b (λ l u w. apt l (subst (λ z. On l z) (cat-ones C) u) (subst (λ z. On l z) (cat-ones Vd) w)))
           ∙ ap (λ z. put (z ++ (cat (ones Vd) ++ [])) b) (cat-ones C) ∙ ap (λ z. put (C ++ (z ++ [])) b) (cat-ones Vd)
 
-  pub absorbs : (t : Value) (qs : List Tg) (vs : List Value) → Absorb t qs → Goods qs → TFit qs vs → Apart (load (cs qs) (each qs t)) (load (ds qs) (some-of vs)) →
+  pub absorbs : (t : Value) (qs : List Tg) (vs : List Value) → Absorb t qs → Goods qs → Fits qs vs → Apart (load (cs qs) (each qs t)) (load (ds qs) (some-of vs)) →
       Goes net (Dq qs) (cat (load (cs qs) (each qs t) ∷ load (ds qs) (some-of vs) ∷ [])) 0 []
   absorbs t qs vs p gd f apt =
       subst (λ z. Goes net (Dq qs) (cat (C ∷ Vd ∷ [])) 0 z) (cat-blanks qs)

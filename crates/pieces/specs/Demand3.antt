@@ -17,7 +17,7 @@ use Rattle.network.specs.Ends.{machine-push, machine-take, machine-graph}
 use Rattle.network.specs.Commute.{Free, enabled, next, output, diamond}
 use Rattle.pieces.specs.Load.{Load, opt, set1, set-same, set-other, set-ext, set-swap, put, put-app, put-off, put-set, put-swap, On, on-app, Clear, Within, app-assoc}
 use Rattle.pieces.specs.Goes.{cap1, Runs1, ends1, Steps, Long, Goes}
-use Rattle.pieces.specs.Piece.{Vals, tok, load, In, Piece, Dom, Neat, Ans, Means, Serves, some-of, LFit, load-in}
+use Rattle.pieces.specs.Piece.{Vals, tok, load, In, Piece, Dom, Neat, Ans, Means, Serves, some-of, load-in, Fits}
 use Rattle.pieces.specs.Sets.{vals, Differ, ok-up, push-it, take-it, net, Bench, Rest, graph-ne, push-set, take-set}
 
 -- the tape of the sets to come
@@ -125,7 +125,7 @@ module _ (graph : ℕ → Demand) (p k src cr : ℕ) (P : Piece) (M : Means) (B 
       set-other cr l (val true-value ∷ []) (set1 src tape b) (λ e. B .cr-off (subst (Dom P) e d))
       ∙ set-other src l tape b (λ e. B .src-off (subst (Dom P) e d)) ∙ c l d
 
-  module _ (vs : List Value) (tape : List Token) (σ : Load) (b : Links) (fv : LFit (P .ins) vs) (i : P .Idle σ) (cl : Clear (Dom P) b) (ce : b cr ≡ []) where
+  module _ (vs : List Value) (tape : List Token) (σ : Load) (b : Links) (fv : Fits (P .ins) vs) (i : P .Idle σ) (cl : Clear (Dom P) b) (ce : b cr ≡ []) where
     off-σ : (l : ℕ) → In l (P .ins) → put σ b l ≡ []
     off-σ l j = put-off l σ b (λ o. B .neat .off-ins l (B .neat .idle-own σ i l o) j) ∙ cl l (inr (inl j))
 
@@ -149,7 +149,7 @@ module _ (graph : ℕ → Demand) (p k src cr : ℕ) (P : Piece) (M : Means) (B 
         L = load (P .ins) (some-of vs)
 
   -- take
-  module _ (rs : List Value) (tape : List Token) (σ : Load) (b : Links) (fr : LFit (P .outs) rs) (i : P .Idle σ) (cl : Clear (Dom P) b) (ce : b cr ≡ []) where
+  module _ (rs : List Value) (tape : List Token) (σ : Load) (b : Links) (fr : Fits (P .outs) rs) (i : P .Idle σ) (cl : Clear (Dom P) b) (ce : b cr ≡ []) where
     abbrev Q : Links
     Q = put (load (P .outs) (some-of rs) ++ σ) (base tape b)
 
@@ -182,7 +182,7 @@ module _ (graph : ℕ → Demand) (p k src cr : ℕ) (P : Piece) (M : Means) (B 
         ∙ sym (put-set src tape σ b (own-src σ i src (B .src-off)))
 
   -- ONE SET, from its push to its take
-  one : (vs rs : List Value) (c : ℕ) (tape : List Token) (σ : Load) (b : Links) → LFit (P .ins) vs → LFit (P .outs) rs → M (some-of vs) c (some (some-of rs)) →
+  one : (vs rs : List Value) (c : ℕ) (tape : List Token) (σ : Load) (b : Links) → Fits (P .ins) vs → Fits (P .outs) rs → M (some-of vs) c (some (some-of rs)) →
       P .Idle σ → Clear (Dom P) b → b cr ≡ [] → (σ′ : Load) × P .Idle σ′ × Ref (At σ (vals vs ++ tape) b) (vals rs ∷ []) (At σ′ tape b)
   one vs rs c tape σ b fv fr m i cl ce =
       let h = B .serves (some-of vs) c (some (some-of rs)) m σ i in
@@ -217,7 +217,7 @@ module _ (graph : ℕ → Demand) (p k src cr : ℕ) (P : Piece) (M : Means) (B 
           }
 
   -- a set whose rounds do not suffice
-  one-long : (vs : List Value) (c : ℕ) (tape : List Token) (σ : Load) (b : Links) → LFit (P .ins) vs → M (some-of vs) c none →
+  one-long : (vs : List Value) (c : ℕ) (tape : List Token) (σ : Load) (b : Links) → Fits (P .ins) vs → M (some-of vs) c none →
       P .Idle σ → Clear (Dom P) b → b cr ≡ [] → Ref-long (At σ (vals vs ++ tape) b) 1 c
   one-long vs c tape σ b fv m i cl ce =
       let s = B .serves (some-of vs) c none m σ i (base tape b) (base-clear tape b cl) in
@@ -238,7 +238,7 @@ module _ (graph : ℕ → Demand) (p k src cr : ℕ) (P : Piece) (M : Means) (B 
   Evals [] [] = Unit {0}
   Evals [] (r ∷ rss) = ⊥
   Evals (v ∷ vss) [] = ⊥
-  Evals (v ∷ vss) (r ∷ rss) = LFit (P .ins) v × LFit (P .outs) r × ((c : ℕ) × M (some-of v) c (some (some-of r))) × Evals vss rss
+  Evals (v ∷ vss) (r ∷ rss) = Fits (P .ins) v × Fits (P .outs) r × ((c : ℕ) × M (some-of v) c (some (some-of r))) × Evals vss rss
 
   many : (vss rss : List (List Value)) (tail : List Token) (σ : Load) (b : Links) → Evals vss rss → P .Idle σ → Clear (Dom P) b → b cr ≡ [] →
       (σ′ : Load) × P .Idle σ′ × Ref (At σ (flat vss tail) b) (each-vals rss) (At σ′ tail b)
@@ -254,7 +254,7 @@ module _ (graph : ℕ → Demand) (p k src cr : ℕ) (P : Piece) (M : Means) (B 
   abbrev pub Tries : ℕ → List (List Value) → Type 0
   Tries c [] = Unit {0}
   Tries c (v ∷ vss) =
-      LFit (P .ins) v × (((r : List Value) × (d : ℕ) × LFit (P .outs) r × M (some-of v) d (some (some-of r))) ⊎ M (some-of v) c none) × Tries c vss
+      Fits (P .ins) v × (((r : List Value) × (d : ℕ) × Fits (P .outs) r × M (some-of v) d (some (some-of r))) ⊎ M (some-of v) c none) × Tries c vss
 
   tried : (c : ℕ) (vss : List (List Value)) (tail : List Token) (σ : Load) (b : Links) → Tries c vss → P .Idle σ → Clear (Dom P) b → b cr ≡ [] →
       ((rss : List (List Token)) × (q′ : Links) × (length rss ≡ length vss) × Ref (At σ (flat vss tail) b) rss q′) ⊎ Ref-long (At σ (flat vss tail) b) (length vss) c
@@ -273,7 +273,7 @@ module _ (graph : ℕ → Demand) (p k src cr : ℕ) (P : Piece) (M : Means) (B 
 
       go : ((σ′ : Load) → P .Idle σ′ →
           ((rss : List (List Token)) × (q′ : Links) × (length rss ≡ length vss) × Ref (At σ′ (flat vss tail) b) rss q′) ⊎ Ref-long (At σ′ (flat vss tail) b) (length vss) c) →
-          ((r : List Value) × (d : ℕ) × LFit (P .outs) r × M (some-of v) d (some (some-of r))) ⊎ M (some-of v) c none →
+          ((r : List Value) × (d : ℕ) × Fits (P .outs) r × M (some-of v) d (some (some-of r))) ⊎ M (some-of v) c none →
           ((rss : List (List Token)) × (q′ : Links) × (length rss ≡ suc (length vss)) × Ref (At σ (vals v ++ flat vss tail) b) rss q′)
           ⊎ Ref-long (At σ (vals v ++ flat vss tail) b) (suc (length vss)) c
       go ih (inl (r, d, fr, m)) =

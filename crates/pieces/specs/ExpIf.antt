@@ -11,9 +11,9 @@ use Rattle.network.specs.Values.{true-value, false-value, err-value}
 use Rattle.network.specs.Net.{Token, val, mark, Demand, Links}
 use Rattle.pieces.specs.Load.{Load, put, put-app, put-swap, On, on-app, Off, Apart, Within, cat, pull, pulls, Far, Pair, Tint, Tints, pair-of, Among, among-not, off-tints, app-assoc}
 use Rattle.pieces.specs.Goes.{Goes, Goes-on, Alike, go-then, go-then-on, go-wide, go-wide-on, go-less, go-from, go-to, go-from-on, go-by, alike-pulls, alike-cat, go-two, go-two-on, go-order, go-first, go-first-on}
-use Rattle.pieces.specs.Piece.{Vals, tok, load, In, Piece, Dom, Ans, Means, Leads, Serves, some-of, load-in}
+use Rattle.pieces.specs.Piece.{Vals, tok, load, In, Piece, Dom, Ans, Means, Leads, Serves, some-of, load-in, Fits}
 use Rattle.pieces.specs.Rows.{join}
-use Rattle.pieces.specs.DataRows.{Tg, cs, ds, os, tlinks, each, TFit, Bad, Goods, Pass, Spoil, spoils}
+use Rattle.pieces.specs.DataRows.{Tg, cs, ds, os, tlinks, each, Bad, Goods, Pass, Spoil, spoils}
 use Rattle.pieces.specs.Joins.{passes₂, absorbs₂, All-T, All-F, T-pass, T-absorb, T-bad, F-pass, F-absorb, F-bad, app-nil}
 
 -- a link of a row is a control, a datum or an output
@@ -41,8 +41,8 @@ module _ (net : ℕ → Demand) (colour : ℕ → ℕ) (D : ℕ → Type 0) (qT 
   pub data Choice : Value → List Value → List Value → ℕ → Ans → Type 0 where
     lost-A : (xs ys : List Value) (c : ℕ) → MA (some-of xs) c none → Choice true-value xs ys c none
     lost-B : (xs ys : List Value) (c : ℕ) → MB (some-of ys) c none → Choice false-value xs ys c none
-    on-A : (xs ys rs : List Value) (c : ℕ) → MA (some-of xs) c (some (some-of rs)) → TFit qA rs → Choice true-value xs ys c (some (some-of rs))
-    on-B : (xs ys rs : List Value) (c : ℕ) → MB (some-of ys) c (some (some-of rs)) → TFit qB rs → Choice false-value xs ys c (some (some-of rs))
+    on-A : (xs ys rs : List Value) (c : ℕ) → MA (some-of xs) c (some (some-of rs)) → Fits qA rs → Choice true-value xs ys c (some (some-of rs))
+    on-B : (xs ys rs : List Value) (c : ℕ) → MB (some-of ys) c (some (some-of rs)) → Fits qB rs → Choice false-value xs ys c (some (some-of rs))
     on-bad : (t : Value) (xs ys : List Value) → Bad t → Choice t xs ys 0 (some (each qA err-value))
 
   abbrev pub IdleJ : Load → Type 0
@@ -171,7 +171,7 @@ module _ (net : ℕ → Demand) (colour : ℕ → ℕ) (D : ℕ → Type 0) (qT 
         (off-tints colour (3 ∷ 0 ∷ 18 ∷ 19 ∷ []) (Y ∷ K t ∷ σA ∷ σB ∷ []) (λ l. In l (join (tlinks qF))) (tY, (tK t, (tA σA iA, (tB σB iB, tt)))) no-F) g)))
 
     -- TRUE
-    true-step : (xs ys : List Value) (σA σB : Load) → TFit qT xs → TFit qF ys → IdleA σA → IdleB σB →
+    true-step : (xs ys : List Value) (σA σB : Load) → Fits qT xs → Fits qF ys → IdleA σA → IdleB σB →
         Goes net D (Before true-value xs ys σA σB) 0 (cat (K true-value ∷ load (os qT) (some-of xs) ∷ σA ∷ σB ∷ []))
     unfolding ℕ-discrete
     true-step xs ys σA σB fx fy iA iB =
@@ -187,7 +187,7 @@ module _ (net : ℕ → Demand) (colour : ℕ → ℕ) (D : ℕ → Type 0) (qT 
         tX l o = Z .h-oT l (load-in (os qT) (some-of xs) l o)
 
     -- FALSE
-    false-step : (xs ys : List Value) (σA σB : Load) → TFit qT xs → TFit qF ys → IdleA σA → IdleB σB →
+    false-step : (xs ys : List Value) (σA σB : Load) → Fits qT xs → Fits qF ys → IdleA σA → IdleB σB →
         Goes net D (Before false-value xs ys σA σB) 0 (cat (K false-value ∷ load (os qF) (some-of ys) ∷ σB ∷ σA ∷ []))
     unfolding ℕ-discrete
     false-step xs ys σA σB fx fy iA iB =
@@ -258,7 +258,7 @@ module _ (net : ℕ → Demand) (colour : ℕ → ℕ) (D : ℕ → Type 0) (qT 
     h-oB l i = Z .h-oA l (subst (λ z. In l z) (Z .os-same) i)
 
     -- THE CHOSEN ARM AND ITS M GATES, for one side
-    side-A : (xs ys rs : List Value) (c : ℕ) (σA σA′ σB : Load) → IdleA σA → IdleA σA′ → IdleB σB → TFit qA rs →
+    side-A : (xs ys rs : List Value) (c : ℕ) (σA σA′ σB : Load) → IdleA σA → IdleA σA′ → IdleB σB → Fits qA rs →
         Goes net (Dom PA) (load (os qT) (some-of xs) ++ σA) c (load (ds qA) (some-of rs) ++ σA′) →
         Goes net D (cat (K true-value ∷ load (os qT) (some-of xs) ∷ σA ∷ σB ∷ [])) c (cat (load (os qA) (some-of rs) ∷ σA′ ∷ σB ∷ []))
     unfolding ℕ-discrete
@@ -296,7 +296,7 @@ module _ (net : ℕ → Demand) (colour : ℕ → ℕ) (D : ℕ → Type 0) (qT 
     turn l (inr (inr e)) = absurd e
 
     -- and for the other
-    side-B : (xs ys rs : List Value) (c : ℕ) (σB σB′ σA : Load) → IdleB σB → IdleB σB′ → IdleA σA → TFit qB rs →
+    side-B : (xs ys rs : List Value) (c : ℕ) (σB σB′ σA : Load) → IdleB σB → IdleB σB′ → IdleA σA → Fits qB rs →
         Goes net (Dom PB) (load (os qF) (some-of xs) ++ σB) c (load (ds qB) (some-of rs) ++ σB′) →
         Goes net D (cat (K false-value ∷ load (os qF) (some-of xs) ∷ σB ∷ σA ∷ [])) c (cat (load (os qB) (some-of rs) ∷ σB′ ∷ σA ∷ []))
     unfolding ℕ-discrete
@@ -329,7 +329,7 @@ module _ (net : ℕ → Demand) (colour : ℕ → ℕ) (D : ℕ → Type 0) (qT 
             let n : _≡_ {A = ℕ} 0 20 = sym h ∙ k in omega arith
 
     -- THE SCHEDULE LEMMA FOR THE EXPRESSION IF.
-    pub exp-if : {t : Value} {xs ys : List Value} {c : ℕ} {a : Ans} → Choice t xs ys c a → TFit qT xs → TFit qF ys → (σA σB : Load) → IdleA σA → IdleB σB →
+    pub exp-if : {t : Value} {xs ys : List Value} {c : ℕ} {a : Ans} → Choice t xs ys c a → Fits qT xs → Fits qF ys → (σA σB : Load) → IdleA σA → IdleB σB →
         Leads net D (Before t xs ys σA σB) (os qA) IdleJ c a
     unfolding ℕ-discrete
     exp-if (lost-A xs ys c m) fx fy σA σB iA iB =

@@ -14,10 +14,10 @@ use Rattle.network.specs.Net.{Token, val, mark, Demand, Links}
 use Rattle.pieces.specs.Load.{Load, On, Off, Within, Apart, cat}
 use Rattle.pieces.specs.Goes.{Goes, go-stay, go-then, go-wide, go-less, go-by}
 use Rattle.pieces.specs.Gate.{Dist, somes, Eats, gate}
-use Rattle.pieces.specs.Piece.{Vals, load, In, some-of, load-in, same-of}
+use Rattle.pieces.specs.Piece.{Vals, load, In, some-of, load-in, same-of, Fits}
 use Rattle.pieces.specs.Rows.{join, in-l, in-r, in-app}
 use Rattle.pieces.specs.Gates.{ports, IC-at, listed, T-at, F-at, M-at, E-at}
-use Rattle.pieces.specs.DataRows.{Tg, cs, ds, os, tlinks, each, TFit, Bad, Goods, Pass, Absorb, Spoil, passes, absorbs, spoils, t-tru, t-fls, t-bad, f-fls, f-tru, f-bad, m-tru, m-fls, e-tru, e-fls}
+use Rattle.pieces.specs.DataRows.{Tg, cs, ds, os, tlinks, each, Bad, Goods, Pass, Absorb, Spoil, passes, absorbs, spoils, t-tru, t-fls, t-bad, f-fls, f-tru, f-bad, m-tru, m-fls, e-tru, e-fls}
 use Rattle.pieces.specs.Fan.{Chain, Dch, chain}
 
 pub app-nil : (x : Load) → x ++ [] ≡ x
@@ -34,14 +34,14 @@ each-os (q ∷ qs) v = ap (λ z. (q .o, some (val v)) ∷ z) (each-os qs v)
 
 module _ (net : ℕ → Demand) where
   -- a row on its two blocks
-  pub passes₂ : (t : Value) (qs : List Tg) (vs : List Value) → Pass net t qs → Goods net qs → TFit qs vs → Apart (load (cs qs) (each qs t)) (load (ds qs) (some-of vs)) →
+  pub passes₂ : (t : Value) (qs : List Tg) (vs : List Value) → Pass net t qs → Goods net qs → Fits qs vs → Apart (load (cs qs) (each qs t)) (load (ds qs) (some-of vs)) →
       Goes net (λ l. In l (join (tlinks qs))) (load (cs qs) (each qs t) ++ load (ds qs) (some-of vs)) 0 (load (os qs) (some-of vs) ++ [])
   passes₂ t qs vs p g f a =
       subst (λ z. Goes net (λ l. In l (join (tlinks qs))) (load (cs qs) (each qs t) ++ z) 0 (load (os qs) (some-of vs) ++ [])) (app-nil (load (ds qs) (some-of vs)))
       (subst (λ z. Goes net (λ l. In l (join (tlinks qs))) (load (cs qs) (each qs t) ++ (load (ds qs) (some-of vs) ++ [])) 0 z) (sym (app-nil (load (os qs) (some-of vs))))
       (passes net t qs vs p g f a))
 
-  pub absorbs₂ : (t : Value) (qs : List Tg) (vs : List Value) → Absorb net t qs → Goods net qs → TFit qs vs → Apart (load (cs qs) (each qs t)) (load (ds qs) (some-of vs)) →
+  pub absorbs₂ : (t : Value) (qs : List Tg) (vs : List Value) → Absorb net t qs → Goods net qs → Fits qs vs → Apart (load (cs qs) (each qs t)) (load (ds qs) (some-of vs)) →
       Goes net (λ l. In l (join (tlinks qs))) (load (cs qs) (each qs t) ++ load (ds qs) (some-of vs)) 0 ([] ++ [])
   absorbs₂ t qs vs p g f a =
       subst (λ z. Goes net (λ l. In l (join (tlinks qs))) (load (cs qs) (each qs t) ++ z) 0 []) (app-nil (load (ds qs) (some-of vs)))
@@ -54,7 +54,7 @@ module _ (net : ℕ → Demand) where
     Dj l = Dch net x ms (cs qs) l ⊎ In l (join (tlinks qs))
 
     -- M on the chosen side, E on a truth
-    pub pass-join : (t : Value) (us : List Value) → Pass net t qs → TFit qs us →
+    pub pass-join : (t : Value) (us : List Value) → Pass net t qs → Fits qs us →
         Goes net Dj (((x, some (val t)) ∷ []) ++ load (ds qs) (some-of us)) 0 (load (os qs) (some-of us) ++ [])
     pass-join t us p f =
         go-then net Dj (((x, some (val t)) ∷ []) ++ U) (load (cs qs) (each qs t) ++ U) (load (os qs) (some-of us) ++ []) 0 0

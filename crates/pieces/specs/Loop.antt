@@ -13,9 +13,9 @@ use Rattle.network.specs.Values.{true-value, false-value, err-value}
 use Rattle.network.specs.Net.{Token, val, mark, Demand, Links}
 use Rattle.pieces.specs.Load.{Load, put, put-app, On, on-app, Clear, Off, Apart, Within, Nones, cat, pull, pulls, Far, Pair, differs, Tint, Tints, pair-of, Among, tint-on, among-not, off-tints, apart-cat, app-assoc}
 use Rattle.pieces.specs.Goes.{Steps, Long, Goes, Goes-on, Alike, go-stay, go-then, go-then-on, go-wide, go-wide-on, go-less, go-by, go-from, go-to, go-from-on, alike-pulls, alike-sym, alike-then, alike-nones, alike-cat, go-two, go-two-on, go-order}
-use Rattle.pieces.specs.Piece.{Vals, tok, load, In, Piece, Dom, Neat, Ans, Means, Leads, Serves, none-of, some-of, load-in, lead-after, lead-less, load-app-none, none-of-nones}
+use Rattle.pieces.specs.Piece.{Vals, tok, load, In, Piece, Dom, Neat, Ans, Means, Leads, Serves, none-of, some-of, load-in, lead-after, lead-less, load-app-none, none-of-nones, Fits}
 use Rattle.pieces.specs.Rows.{join, in-l, in-r, in-app, zipw, zip2, zip3, on-zip, ones, cat-ones, row}
-use Rattle.pieces.specs.Ring.{G, fm, fs, op, ctl, start, out, dem, links, maps, Ready, regs, iters, isl, itv, Fit, Keeps, keeps-fit, all-of, Good, Outs, row-start, row-again, ready-again, hue-out, hue-ctl, hue-start, hue-isl, hue-regs, iters-load, ready-hue, hue-links, links-up, some-row, load-app-iter}
+use Rattle.pieces.specs.Ring.{G, fm, fs, op, ctl, start, out, dem, links, maps, Ready, regs, iters, isl, itv, Keeps, keeps-fit, all-of, Good, Outs, row-start, row-again, ready-again, hue-out, hue-ctl, hue-start, hue-isl, hue-regs, iters-load, ready-hue, hue-links, links-up, some-row, load-app-iter}
 
 module _ (net : ℕ → Demand) (colour : ℕ → ℕ) (gs : List G) (it : ℕ) (rs : List ℕ) (ownB ownF : ℕ → Type 0) (IdleB IdleF : Load → Type 0) (MB : Means) where
   -- THE BODY: inputs are the outputs of the gates; outputs are iter?, the iterated and the returned values. It may hold loops: its
@@ -50,7 +50,7 @@ module _ (net : ℕ → Demand) (colour : ℕ → ℕ) (gs : List G) (it : ℕ) 
         MB (some-of vs) c (some (some true-value ∷ (some-of (itv gs vs′) ++ none-of rs))) → Spin vs′ d a → Spin vs (c + suc d) a
 
   abbrev pub ML : Means
-  ML vs c a = (ws : List Value) × (d : ℕ) × (vs ≡ some-of ws) × Fit gs ws × Spin ws d a × (c ≤ suc d)
+  ML vs c a = (ws : List Value) × (d : ℕ) × (vs ≡ some-of ws) × Fits gs ws × Spin ws d a × (c ≤ suc d)
 
   -- What the maker owes: colours, freshness, and the lemma for the body and the copies.
   pub record Rig : Type 0 where
@@ -285,7 +285,7 @@ module _ (net : ℕ → Demand) (colour : ℕ → ℕ) (gs : List G) (it : ℕ) 
     cut3 : (x : ℕ × Option Token) (I W : Load) (bs : List Load) → cat ((x ∷ (I ++ W)) ∷ bs) ≡ cat ((x ∷ []) ∷ I ∷ W ∷ bs)
     cut3 x I W bs = ap (λ z. x ∷ z) (app-assoc I W (cat bs))
 
-    pub spin : {vs : List Value} {c : ℕ} {a : Ans} → Spin vs c a → Fit gs vs → (σB σF : Load) → IdleB σB → IdleF σF → Leads net DL (Turn vs σB σF) rs IdleL c a
+    pub spin : {vs : List Value} {c : ℕ} {a : Ans} → Spin vs c a → Fits gs vs → (σB σF : Load) → IdleB σB → IdleF σF → Leads net DL (Turn vs σB σF) rs IdleL c a
     spin (enough vs) f σB σF iB iF = λ b cl. record { w = []; runs = tt; many = omega arith }
     spin (lost vs c m) f σB σF iB iF =
         go-wide-on net (Dom PB) DL (Turn vs σB σF) c up-B
@@ -352,7 +352,7 @@ module _ (net : ℕ → Demand) (colour : ℕ → ℕ) (gs : List G) (it : ℕ) 
     abbrev fold7 : ℕ → ℕ
     fold7 k = ite (ℕ-discrete k 6) 7 k
 
-    start-step : (vs : List Value) (σB σF : Load) (rb : List Load) → Fit gs vs → IdleB σB → IdleF σF → Ready gs rb →
+    start-step : (vs : List Value) (σB σF : Load) (rb : List Load) → Fits gs vs → IdleB σB → IdleF σF → Ready gs rb →
         Goes net DL (load (maps start gs) (some-of vs) ++ cat (σB ∷ σF ∷ cat rb ∷ [])) 1 (Turn vs σB σF)
     unfolding ℕ-discrete
     start-step vs σB σF rb f iB iF rd =

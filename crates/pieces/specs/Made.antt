@@ -12,7 +12,7 @@ use Rattle.value.specs.declared.Value.{Value}
 use Rattle.network.specs.Net.{Token, Demand, Links}
 use Rattle.network.specs.Commute.{Free}
 use Rattle.pieces.specs.Load.{Load, Clear}
-use Rattle.pieces.specs.Piece.{Piece, Dom, Means, some-of, LFit}
+use Rattle.pieces.specs.Piece.{Piece, Dom, Means, some-of, Fits}
 use Rattle.pieces.specs.Sets.{net, Bench}
 use Rattle.pieces.specs.Demand3.{En, Nx, Ou, At, flat, each-vals, Evals, Tries, results, ready}
 
@@ -23,9 +23,9 @@ module _ (graph : ℕ → Demand) (p k src cr : ℕ) (P : Piece) (M : Means) (ev
     pub bench : Bench graph p k src cr P M
     pub free : (a b : ℕ) → a ≢ b → Free (net graph p k src cr P M a) (net graph p k src cr P M b)
     -- lent n rounds it ends with `r`: so does the piece
-    pub ended : (n : ℕ) (v r : List Value) → LFit (P .ins) v → eval n v ≡ some r → LFit (P .outs) r × ((c : ℕ) × M (some-of v) c (some (some-of r)))
+    pub ended : (n : ℕ) (v r : List Value) → Fits (P .ins) v → eval n v ≡ some r → Fits (P .outs) r × ((c : ℕ) × M (some-of v) c (some (some-of r)))
     -- n rounds are not enough: the piece goes on for n firings at least
-    pub lost : (n : ℕ) (v : List Value) → LFit (P .ins) v → eval n v ≡ none → M (some-of v) n none
+    pub lost : (n : ℕ) (v : List Value) → Fits (P .ins) v → eval n v ≡ none → M (some-of v) n none
     -- at the start: every register marked, everything else empty
     pub fresh : Load
     pub fresh-idle : P .Idle fresh
@@ -35,11 +35,11 @@ module _ (graph : ℕ → Demand) (p k src cr : ℕ) (P : Piece) (M : Means) (ev
   Ending [] [] = Unit {0}
   Ending [] (r ∷ rss) = ⊥
   Ending (v ∷ vss) [] = ⊥
-  Ending (v ∷ vss) (r ∷ rss) = LFit (P .ins) v × ((n : ℕ) × (eval n v ≡ some r)) × Ending vss rss
+  Ending (v ∷ vss) (r ∷ rss) = Fits (P .ins) v × ((n : ℕ) × (eval n v ≡ some r)) × Ending vss rss
 
   abbrev pub Fitting : List (List Value) → Type 0
   Fitting [] = Unit {0}
-  Fitting (v ∷ vss) = LFit (P .ins) v × Fitting vss
+  Fitting (v ∷ vss) = Fits (P .ins) v × Fitting vss
 
   module _ (F : Made) (cap : ℕ → ℕ) (roomy : (l : ℕ) → 1 ≤ cap l) where
     abbrev E : ℕ → Links → Type 0
@@ -65,7 +65,7 @@ module _ (graph : ℕ → Demand) (p k src cr : ℕ) (P : Piece) (M : Means) (ev
     tries n [] f = tt
     tries n (v ∷ vss) f = (f .0, go (eval n v) refl, tries n vss (f .1))
       where
-        go : (o : Option (List Value)) → eval n v ≡ o → ((r : List Value) × (d : ℕ) × LFit (P .outs) r × M (some-of v) d (some (some-of r))) ⊎ M (some-of v) n none
+        go : (o : Option (List Value)) → eval n v ≡ o → ((r : List Value) × (d : ℕ) × Fits (P .outs) r × M (some-of v) d (some (some-of r))) ⊎ M (some-of v) n none
         go none e = inr (F .lost n v (f .0) e)
         go (some r) e = let h = F .ended n v r (f .0) e in inl (r, h .1 .0, h .0, h .1 .1)
 

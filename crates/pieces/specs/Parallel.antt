@@ -11,14 +11,14 @@ use Rattle.network.specs.Net.{Token, val, mark, Demand, Links}
 use Rattle.pieces.specs.Load.{Load, put, On, on-app, Off, Apart, Within, cat, pull, pulls, Pair, app-assoc}
 use Rattle.pieces.specs.Goes.{Goes, Goes-on, Alike, go-stay, go-then, go-then-on, go-wide, go-wide-on, go-less, go-from, go-to, go-from-on, alike-pulls, alike-sym, go-two, go-two-on, go-order}
 use Rattle.pieces.specs.Gate.{Dist, somes, Eats, gate}
-use Rattle.pieces.specs.Piece.{Vals, tok, load, In, Piece, Dom, Neat, Ans, Means, Leads, Serves, load-in, lead-after, lead-less}
-use Rattle.pieces.specs.Sequence.{VFit, load-app}
+use Rattle.pieces.specs.Piece.{Vals, tok, load, In, Piece, Dom, Neat, Ans, Means, Leads, Serves, load-in, lead-after, lead-less, Fits}
+use Rattle.pieces.specs.Sequence.{load-app}
 
 module _ (net : ℕ → Demand) (D : ℕ → Type 0) (P Q : Piece) (MP MQ : Means) where
   pub data Both : Vals → Vals → ℕ → Ans → Type 0 where
     b-lost : (us ws : Vals) (c : ℕ) → MP us c none → Both us ws c none
     b-late : (us ws rs : Vals) (c d : ℕ) → MP us c (some rs) → MQ ws d none → Both us ws (c + d) none
-    b-both : (us ws rs vs : Vals) (c d : ℕ) → MP us c (some rs) → VFit (P .outs) rs → MQ ws d (some vs) → Both us ws (c + d) (some (rs ++ vs))
+    b-both : (us ws rs vs : Vals) (c d : ℕ) → MP us c (some rs) → Fits (P .outs) rs → MQ ws d (some vs) → Both us ws (c + d) (some (rs ++ vs))
 
   abbrev pub IdleB : Load → Type 0
   IdleB σ = (σP : Load) × (σQ : Load) × P .Idle σP × Q .Idle σQ × (σ ≡ cat (σP ∷ σQ ∷ []))

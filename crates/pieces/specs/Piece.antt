@@ -9,6 +9,13 @@ use Rattle.network.specs.Net.{Token, val, mark, Demand, Links}
 use Rattle.pieces.specs.Load.{Load, On, on-app, Apart, Off, Within, Nones}
 use Rattle.pieces.specs.Goes.{Goes, Goes-on, Alike, go-stay, go-then, go-then-on, go-less, go-less-on, go-from, go-to, alike-nones, alike-sym}
 
+-- As many of the one as of the other: values for links, for gates, for names.
+abbrev pub Fits : {X Y : Type 0} → List X → List Y → Type 0
+Fits [] [] = Unit {0}
+Fits [] (y ∷ ys) = ⊥
+Fits (x ∷ xs) [] = ⊥
+Fits (x ∷ xs) (y ∷ ys) = Fits xs ys
+
 -- A value that may be absent: an arm that was not chosen gets nothing and gives nothing.
 abbrev pub Vals : Type 0
 Vals = List (Option Value)
@@ -116,14 +123,7 @@ pub none-of-nones : (is : List ℕ) → Nones (load is (none-of is))
 none-of-nones [] = tt
 none-of-nones (i ∷ is) = (refl, none-of-nones is)
 
--- as many values as links
-abbrev pub LFit : List ℕ → List Value → Type 0
-LFit [] [] = Unit {0}
-LFit [] (v ∷ vs) = ⊥
-LFit (l ∷ ls) [] = ⊥
-LFit (l ∷ ls) (v ∷ vs) = LFit ls vs
-
-pub load-app-fit : (is rs : List ℕ) (us : List Value) (ws : Vals) → LFit is us → load (is ++ rs) (some-of us ++ ws) ≡ load is (some-of us) ++ load rs ws
+pub load-app-fit : (is rs : List ℕ) (us : List Value) (ws : Vals) → Fits is us → load (is ++ rs) (some-of us ++ ws) ≡ load is (some-of us) ++ load rs ws
 load-app-fit [] rs [] ws f = refl
 load-app-fit [] rs (v ∷ vs) ws f = absurd f
 load-app-fit (i ∷ is) rs [] ws f = absurd f
@@ -134,6 +134,6 @@ abbrev pub same-of : List ℕ → Value → List Value
 same-of [] v = []
 same-of (l ∷ ls) v = v ∷ same-of ls v
 
-pub same-fit : (ls : List ℕ) (v : Value) → LFit ls (same-of ls v)
+pub same-fit : (ls : List ℕ) (v : Value) → Fits ls (same-of ls v)
 same-fit [] v = tt
 same-fit (l ∷ ls) v = same-fit ls v

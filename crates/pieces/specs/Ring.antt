@@ -12,7 +12,7 @@ use Rattle.network.specs.Net.{Token, val, mark, Demand, Links}
 use Rattle.pieces.specs.Load.{Load, On, on-app, Off, Apart, Within, cat, Tint}
 use Rattle.pieces.specs.Goes.{Goes}
 use Rattle.pieces.specs.Gate.{At, cut, Dist, somes, Eats, gate}
-use Rattle.pieces.specs.Piece.{Vals, tok, load, In, some-of, none-of, load-in}
+use Rattle.pieces.specs.Piece.{Vals, tok, load, In, some-of, none-of, load-in, Fits}
 use Rattle.pieces.specs.Rows.{join, zipw, ones, Row, in-l, in-r, in-app}
 use Rattle.pieces.specs.Gates.{fired-token, FM-at, FS-at}
 
@@ -92,13 +92,6 @@ itv (x ∷ gs) [] = []
 itv (fm a g c i s o ∷ gs) (v ∷ vs) = v ∷ itv gs vs
 itv (fs a g c s o ∷ gs) (v ∷ vs) = itv gs vs
 
--- as many values as gates
-abbrev pub Fit : List G → List Value → Type 0
-Fit [] [] = Unit {0}
-Fit [] (v ∷ vs) = ⊥
-Fit (x ∷ gs) [] = ⊥
-Fit (x ∷ gs) (v ∷ vs) = Fit gs vs
-
 -- from one round to the next FS repeats its value
 abbrev pub Keep1 : G → Value → Value → Type 0
 Keep1 (fm a g c i s o) v v′ = Unit {0}
@@ -112,7 +105,7 @@ Keeps (x ∷ gs) [] vs′ = ⊥
 Keeps (x ∷ gs) (v ∷ vs) [] = ⊥
 Keeps (x ∷ gs) (v ∷ vs) (v′ ∷ vs′) = Keep1 x v v′ × Keeps gs vs vs′
 
-pub keeps-fit : (gs : List G) (vs vs′ : List Value) → Keeps gs vs vs′ → Fit gs vs′
+pub keeps-fit : (gs : List G) (vs vs′ : List Value) → Keeps gs vs vs′ → Fits gs vs′
 keeps-fit [] [] [] k = tt
 keeps-fit [] [] (v′ ∷ vs′) k = absurd k
 keeps-fit [] (v ∷ vs) vs′ k = absurd k
@@ -284,7 +277,7 @@ module _ (colour : ℕ → ℕ) where
     Outs gs vs = ones (load (maps out gs) (some-of vs))
 
     -- THE ROWS
-    pub row-start : (gs : List G) (rb : List Load) (vs : List Value) → Good gs → Fit gs vs → Ready gs rb →
+    pub row-start : (gs : List G) (rb : List Load) (vs : List Value) → Good gs → Fits gs vs → Ready gs rb →
         Row net (maps links gs) (zipw rb (ones (load (maps start gs) (some-of vs)))) (zipw (Outs gs vs) (regs gs vs))
     row-start [] [] [] gd f r = tt
     row-start [] (b ∷ rb) vs gd f r = absurd r
@@ -307,7 +300,7 @@ module _ (colour : ℕ → ℕ) where
         (h .0, h .1, left1 x v′, gd .2, row-again gs vs vs′ (gd .3) (k .1))
 
     -- a gate that has got its false is ready
-    pub ready-again : (gs : List G) (vs : List Value) → Fit gs vs → Ready gs (zipw (regs gs vs) (ones (load (maps ctl gs) (all-of gs false-value))))
+    pub ready-again : (gs : List G) (vs : List Value) → Fits gs vs → Ready gs (zipw (regs gs vs) (ones (load (maps ctl gs) (all-of gs false-value))))
     ready-again [] [] f = tt
     ready-again [] (v ∷ vs) f = absurd f
     ready-again (x ∷ gs) [] f = absurd f
@@ -347,7 +340,7 @@ module _ (colour : ℕ → ℕ) where
     hue-regs (fs a g c s o ∷ gs) (v ∷ vs) gd l (inl e) = ap colour e ∙ gd .1 .0
     hue-regs (fs a g c s o ∷ gs) (v ∷ vs) gd l (inr z) = hue-regs gs vs (gd .3) l z
 
-    pub iters-load : (gs : List G) (vs : List Value) → Fit gs vs → cat (iters gs vs) ≡ load (isl gs) (some-of (itv gs vs))
+    pub iters-load : (gs : List G) (vs : List Value) → Fits gs vs → cat (iters gs vs) ≡ load (isl gs) (some-of (itv gs vs))
     iters-load [] [] f = refl
     iters-load [] (v ∷ vs) f = absurd f
     iters-load (x ∷ gs) [] f = absurd f
@@ -426,7 +419,7 @@ module _ (colour : ℕ → ℕ) where
     some-row [] h = absurd (omega arith)
     some-row (x ∷ gs) h = omega arith
 
-    pub load-app-iter : (gs : List G) (vs : List Value) (rs : List ℕ) (ws : Vals) → Fit gs vs →
+    pub load-app-iter : (gs : List G) (vs : List Value) (rs : List ℕ) (ws : Vals) → Fits gs vs →
         load (isl gs ++ rs) (some-of (itv gs vs) ++ ws) ≡ load (isl gs) (some-of (itv gs vs)) ++ load rs ws
     load-app-iter [] [] rs ws f = refl
     load-app-iter [] (v ∷ vs) rs ws f = absurd f

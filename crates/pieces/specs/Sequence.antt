@@ -12,16 +12,9 @@ use Rattle.network.specs.Net.{Token, val, mark, Demand, Links}
 use Rattle.pieces.specs.Load.{Load, put, On, on-app, Off, Apart, Within, cat, pull, pulls, Pair, app-assoc}
 use Rattle.pieces.specs.Goes.{Goes, Goes-on, Alike, go-stay, go-then, go-then-on, go-wide, go-wide-on, go-less, go-from, go-to, go-from-on, alike-pulls, alike-sym, go-two, go-two-on, go-order}
 use Rattle.pieces.specs.Gate.{Dist, somes, Eats, gate}
-use Rattle.pieces.specs.Piece.{Vals, tok, load, In, Piece, Dom, Neat, Ans, Means, Leads, Serves, load-in, lead-after, lead-less}
+use Rattle.pieces.specs.Piece.{Vals, tok, load, In, Piece, Dom, Neat, Ans, Means, Leads, Serves, load-in, lead-after, lead-less, Fits}
 
--- as many values as links
-abbrev pub VFit : List ℕ → Vals → Type 0
-VFit [] [] = Unit {0}
-VFit [] (v ∷ vs) = ⊥
-VFit (l ∷ ls) [] = ⊥
-VFit (l ∷ ls) (v ∷ vs) = VFit ls vs
-
-pub load-app : (xs zs : List ℕ) (us ws : Vals) → VFit xs us → load (xs ++ zs) (us ++ ws) ≡ load xs us ++ load zs ws
+pub load-app : (xs zs : List ℕ) (us ws : Vals) → Fits xs us → load (xs ++ zs) (us ++ ws) ≡ load xs us ++ load zs ws
 load-app [] zs [] ws f = refl
 load-app [] zs (v ∷ us) ws f = absurd f
 load-app (x ∷ xs) zs [] ws f = absurd f
@@ -38,7 +31,7 @@ module _ (net : ℕ → Demand) (D : ℕ → Type 0) (P : Piece) (zs os : List �
   -- the meaning: of P's inputs and the other values
   pub data Then : Vals → Vals → ℕ → Ans → Type 0 where
     t-lost : (us ws : Vals) (c : ℕ) → MP us c none → Then us ws c none
-    t-then : (us ws rs : Vals) (c d : ℕ) (a : Ans) → MP us c (some rs) → VFit (P .outs) rs → MQ (rs ++ ws) d a → Then us ws (c + d) a
+    t-then : (us ws rs : Vals) (c d : ℕ) (a : Ans) → MP us c (some rs) → Fits (P .outs) rs → MQ (rs ++ ws) d a → Then us ws (c + d) a
 
   pub record SeqRig : Type 0 where
     pub serve-P : Serves net P MP

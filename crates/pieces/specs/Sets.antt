@@ -16,7 +16,7 @@ use Rattle.network.specs.Ends.{draw, collect, push-demand, take-demand, machine
 use Rattle.pieces.specs.Load.{Load, opt, set1, set-same, set-other, set-ext, set-swap, put, put-app, put-off, put-set, put-swap, On, on-app, Clear, Within, app-assoc}
 use Rattle.pieces.specs.Goes.{cap1, Runs1, ends1, Steps, Long, Goes}
 use Rattle.pieces.specs.Gate.{Dist, somes, emits, pop-set}
-use Rattle.pieces.specs.Piece.{Vals, tok, load, In, Piece, Dom, Neat, Ans, Means, Serves, some-of, LFit, load-in}
+use Rattle.pieces.specs.Piece.{Vals, tok, load, In, Piece, Dom, Neat, Ans, Means, Serves, some-of, load-in, Fits}
 
 abbrev pub vals : List Value → List Token
 vals [] = []
@@ -27,7 +27,7 @@ zipv [] vs = []
 zipv (i ∷ is) [] = []
 zipv (i ∷ is) (v ∷ vs) = (i, val v) ∷ zipv is vs
 
-somes-zipv : (is : List ℕ) (vs : List Value) → LFit is vs → somes (zipv is vs) ≡ load is (some-of vs)
+somes-zipv : (is : List ℕ) (vs : List Value) → Fits is vs → somes (zipv is vs) ≡ load is (some-of vs)
 somes-zipv [] [] f = refl
 somes-zipv [] (v ∷ vs) f = absurd f
 somes-zipv (i ∷ is) [] f = absurd f
@@ -42,7 +42,7 @@ pop-set1 l t xs q =
     sym (set-ext l xs q (pop l (set1 l (t ∷ xs) q)) (pop-same l (set1 l (t ∷ xs) q) ∙ ap tail (set-same l (t ∷ xs) q))
     (λ j ne. sym (pop-other l j (set1 l (t ∷ xs) q) ne ∙ set-other l j (t ∷ xs) q ne)))
 
-draw-does : (src : ℕ) (is : List ℕ) (vs : List Value) (rs : List Token) (b : Links) (k : List (ℕ × Token) → Demand) → LFit is vs →
+draw-does : (src : ℕ) (is : List ℕ) (vs : List Value) (rs : List Token) (b : Links) (k : List (ℕ × Token) → Demand) → Fits is vs →
     (Able cap1 (k (zipv is vs)) (set1 src rs b) → Able cap1 (draw src is k) (set1 src (vals vs ++ rs) b))
     × (act (draw src is k) (set1 src (vals vs ++ rs) b) ≡ act (k (zipv is vs)) (set1 src rs b))
 draw-does src [] [] rs b k f = (λ o. o, refl)
@@ -65,7 +65,7 @@ draw-does src (i ∷ is) (v ∷ vs) rs b k f =
 set-clear : (l : ℕ) (q : Links) → q l ≡ [] → set1 l [] q ≡ q
 set-clear l q e = set-ext l [] q q e (λ j ne. refl)
 
-collect-does : (os : List ℕ) (rs : List Value) (b : Links) (k : List Token → Demand) → LFit os rs → Differ os → ((l : ℕ) → In l os → b l ≡ []) →
+collect-does : (os : List ℕ) (rs : List Value) (b : Links) (k : List Token → Demand) → Fits os rs → Differ os → ((l : ℕ) → In l os → b l ≡ []) →
     (Able cap1 (k (vals rs)) b → Able cap1 (collect os k) (put (load os (some-of rs)) b)) × (act (collect os k) (put (load os (some-of rs)) b) ≡ act (k (vals rs)) b)
     × (label (collect os k) (put (load os (some-of rs)) b) ≡ label (k (vals rs)) b)
 collect-does [] [] b k f d c = (λ o. o, refl, refl)
@@ -141,7 +141,7 @@ module _ (graph : ℕ → Demand) (p k src cr : ℕ) (P : Piece) (M : Means) whe
     )
 
     -- PUSH
-    pub push-set : (vs : List Value) (tape : List Token) (b : Links) → LFit (P .ins) vs → ((l : ℕ) → In l (P .ins) → b l ≡ []) → b cr ≡ [] →
+    pub push-set : (vs : List Value) (tape : List Token) (b : Links) → Fits (P .ins) vs → ((l : ℕ) → In l (P .ins) → b l ≡ []) → b cr ≡ [] →
         Able cap1 push-it (set1 src (vals vs ++ tape) b)
         × (act push-it (set1 src (vals vs ++ tape) b) ≡ put ((cr, some (val true-value)) ∷ load (P .ins) (some-of vs)) (set1 src tape b))
     push-set vs tape b f ci cc =
@@ -161,7 +161,7 @@ module _ (graph : ℕ → Demand) (p k src cr : ℕ) (P : Piece) (M : Means) whe
             set-other src l tape b (λ y. B .src-off (subst (Dom P) y (inr (inl i)))) ∙ ci l i
 
     -- TAKE
-    pub take-set : (rs : List Value) (b : Links) → LFit (P .outs) rs → ((l : ℕ) → In l (P .outs) → b l ≡ []) → b cr ≡ val true-value ∷ [] →
+    pub take-set : (rs : List Value) (b : Links) → Fits (P .outs) rs → ((l : ℕ) → In l (P .outs) → b l ≡ []) → b cr ≡ val true-value ∷ [] →
         Able cap1 take-it (put (load (P .outs) (some-of rs)) b) × (act take-it (put (load (P .outs) (some-of rs)) b) ≡ set1 cr [] b)
         × (label take-it (put (load (P .outs) (some-of rs)) b) ≡ vals rs)
     take-set rs b f c h =

@@ -9,7 +9,7 @@ use Rattle.value.specs.declared.Value.{Value}
 use Rattle.network.specs.Net.{Token, val, Demand}
 use Rattle.pieces.specs.Load.{Load, On, on-app, Off, Within}
 use Rattle.pieces.specs.Goes.{Goes, go-stay, go-wide, go-by, go-first}
-use Rattle.pieces.specs.Piece.{Vals, load, In, some-of, same-of, load-in}
+use Rattle.pieces.specs.Piece.{Vals, load, In, some-of, same-of, load-in, Fits}
 use Rattle.pieces.specs.Rows.{in-l, in-r, in-app, go-left}
 use Rattle.pieces.specs.Fan.{Chain, Dch, chain}
 
@@ -32,12 +32,6 @@ copies [] vs = []
 copies (s ∷ ss) [] = []
 copies (s ∷ ss) (v ∷ vs) = load (s .os) (some-of (same-of (s .os) v)) ++ copies ss vs
 
-abbrev pub SFit : List Sh → List Value → Type 0
-SFit [] [] = Unit {0}
-SFit [] (v ∷ vs) = ⊥
-SFit (s ∷ ss) [] = ⊥
-SFit (s ∷ ss) (v ∷ vs) = SFit ss vs
-
 module _ (net : ℕ → Demand) where
   abbrev pub Shares : List Sh → Type 0
   Shares [] = Unit {0}
@@ -57,7 +51,7 @@ module _ (net : ℕ → Demand) where
       (λ (z : On l (copies ss vs)). inr (in-r l (s .ms ++ s .os) (all-links ss) (copies-in ss vs l z)))
       (on-app l (load (s .os) (some-of (same-of (s .os) v))) (copies ss vs) o)
 
-  pub share : (ss : List Sh) (vs : List Value) → Shares ss → SFit ss vs → Goes net (λ l. In l (all-links ss)) (load (names ss) (some-of vs)) 0 (copies ss vs)
+  pub share : (ss : List Sh) (vs : List Value) → Shares ss → Fits ss vs → Goes net (λ l. In l (all-links ss)) (load (names ss) (some-of vs)) 0 (copies ss vs)
   share [] [] g f = go-stay net (λ l. ⊥) []
   share [] (v ∷ vs) g f = absurd f
   share (s ∷ ss) [] g f = absurd f
