@@ -14,6 +14,16 @@ use Rattle.pieces.specs.Goes.{Goes, Goes-on, Alike, go-then, go-wide, go
 use Rattle.pieces.specs.Piece.{Vals, tok, load, In, Piece, Dom, Ans, Means, Serves, none-of, some-of, load-in, load-app-none, none-of-nones, load-app-fit, same-of, Fits}
 use Rattle.pieces.specs.Rows.{in-app}
 
+-- What an arm's answer makes of the whole's: its iterated links `IX` and returned links `RX` become the whole's `I` and `R`. `itX`, `reX` say which
+-- values the arm may iterate or return (none, for an arm that never does).
+module _ (IX RX I R : List ℕ) (MX : Means) (itX reX : List Value → Type 0) where
+  pub data Chosen : List Value → ℕ → Ans → Type 0 where
+    arm-lost : (xs : List Value) (c : ℕ) → MX (some-of xs) c none → Chosen xs c none
+    arm-iterates : (xs : List Value) (c : ℕ) (us : List Value) → itX us → MX (some-of xs) c (some (some true-value ∷ (some-of us ++ none-of RX))) →
+        Chosen xs c (some (some true-value ∷ (some-of us ++ none-of R)))
+    arm-returns : (xs : List Value) (c : ℕ) (ws : List Value) → reX ws → MX (some-of xs) c (some (some false-value ∷ (none-of IX ++ some-of ws))) →
+        Chosen xs c (some (some false-value ∷ (none-of I ++ some-of ws)))
+
 -- Colours: 0 IC's control, 3 the arm's inputs (an arm such as `iter i` has bare outputs: such an input has its output's colour), 7 its iter?, 9 its iterated, 11 its returned links, 18 its own, 19 the other arm's own,
 -- 13 iter?, 14 IC's second and 15 its third output. Where an iterated result passes straight, the link of the whole is that of the arm; where
 -- neither arm returns and one value does, it is IC's third output. So the links of the whole have colours of their own, `hue`: 16 and 17.
@@ -25,14 +35,6 @@ module _ (net : ℕ → Demand) (colour hue : ℕ → ℕ) (ci o₁ o₃ : ℕ) 
 
   abbrev pub Dic : ℕ → Type 0
   Dic l = In l (ci ∷ ix ∷ o₁ ∷ o₃ ∷ os₂)
-
-  -- what the arm's answer makes of the whole's
-  pub data Chosen : List Value → ℕ → Ans → Type 0 where
-    c-lost : (xs : List Value) (c : ℕ) → MX (some-of xs) c none → Chosen xs c none
-    c-iter : (xs : List Value) (c : ℕ) (us : List Value) → itX us → MX (some-of xs) c (some (some true-value ∷ (some-of us ++ none-of RX))) →
-        Chosen xs c (some (some true-value ∷ (some-of us ++ none-of R)))
-    c-ret : (xs : List Value) (c : ℕ) (ws : List Value) → reX ws → MX (some-of xs) c (some (some false-value ∷ (none-of IX ++ some-of ws))) →
-        Chosen xs c (some (some false-value ∷ (none-of I ++ some-of ws)))
 
   pub record Arm : Type 0 where
     pub serves : Serves net PX MX
@@ -354,12 +356,12 @@ module _ (net : ℕ → Demand) (colour hue : ℕ → ℕ) (ci o₁ o₃ : ℕ) 
           (go-then net D (cat (K ∷ ((ix, some (val false-value)) ∷ []) ∷ U′ ∷ σ′ ∷ τ ∷ [])) (cat (F₁ ∷ S₃ ∷ U′ ∷ σ′ ∷ τ ∷ [])) (cat (J′ ∷ F₁ ∷ σ′ ∷ τ ∷ [])) 1 0 re-2 re-3))))
 
     -- THE CHOSEN ARM, all in one
-    pub chosen : {xs : List Value} {c : ℕ} {a : Ans} → Chosen xs c a → (σ : Load) → Idle σ → Res xs σ c a
-    chosen (c-lost xs c m) σ i =
+    pub chosen : {xs : List Value} {c : ℕ} {a : Ans} → Chosen IX RX I R MX itX reX xs c a → (σ : Load) → Idle σ → Res xs σ c a
+    chosen (arm-lost xs c m) σ i =
         go-from-on net D (cat (load ins (some-of xs) ∷ σ ∷ K ∷ τ ∷ [])) (Begin xs σ) c (begin-alike xs σ i)
         (go-wide-on net (Dom PX) D (cat (load ins (some-of xs) ∷ σ ∷ K ∷ τ ∷ [])) c (A .up-X)
         (go-two-on net (Dom PX) (load ins (some-of xs)) σ c (K ∷ τ ∷ []) off-arm (A .serves (some-of xs) c none m σ i)))
-    chosen (c-iter xs c us iu m) σ i =
+    chosen (arm-iterates xs c us iu m) σ i =
         let h = A .serves (some-of xs) c (some (some true-value ∷ (some-of us ++ none-of RX))) m σ i in
         let X = load (ix ∷ (IX ++ RX)) (some true-value ∷ (some-of us ++ none-of RX)) in
         let Y = cat (load (o₁ ∷ (I ++ R)) (some true-value ∷ (some-of us ++ none-of R)) ∷ h .0 ∷ τ ∷ []) in (
@@ -368,7 +370,7 @@ module _ (net : ℕ → Demand) (colour hue : ℕ → ℕ) (ci o₁ o₃ : ℕ) 
           go-less net D (Begin xs σ) Y (c + 1) c (omega arith)
               (go-then net D (Begin xs σ) (cat (X ∷ h .0 ∷ K ∷ τ ∷ [])) Y c 1 (arm-step xs c X σ (h .0) i (h .2)) (iterates us iu (h .0) (h .1))),
         )
-    chosen (c-ret xs c ws rw′ m) σ i =
+    chosen (arm-returns xs c ws rw′ m) σ i =
         let h = A .serves (some-of xs) c (some (some false-value ∷ (none-of IX ++ some-of ws))) m σ i in
         let X = load (ix ∷ (IX ++ RX)) (some false-value ∷ (none-of IX ++ some-of ws)) in
         let Y = cat (load (o₁ ∷ (I ++ R)) (some false-value ∷ (none-of I ++ some-of ws)) ∷ h .0 ∷ τ ∷ []) in (

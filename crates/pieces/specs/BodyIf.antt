@@ -12,7 +12,7 @@ use Rattle.network.specs.Values.{true-value, false-value, err-value}
 use Rattle.network.specs.Net.{Token, val, mark, Demand, Links}
 use Rattle.pieces.specs.Load.{Load, put, put-app, put-swap, On, on-app, Clear, Off, Apart, Within, Nones, cat, pull, pulls, Far, Pair, Tint, Tints, pair-of, Among, among-not, off-tints, apart-cat, app-assoc}
 use Rattle.pieces.specs.Goes.{Goes, Goes-on, Alike, go-then, go-then-on, go-wide, go-less, go-less-on, go-from, go-to, go-by, alike-pulls, alike-sym, alike-nones, alike-cat, go-two, go-order, go-first, go-first-on}
-use Rattle.pieces.specs.Piece.{Vals, tok, load, In, Piece, Dom, Ans, Means, Leads, Serves, none-of, some-of, load-in, load-app-none, none-of-nones, same-of, Fits}
+use Rattle.pieces.specs.Piece.{Vals, tok, load, In, Piece, Dom, Ans, Means, Leads, Serves, none-of, some-of, load-in, load-app-none, none-of-nones, same-of, Fits, Both-idle}
 use Rattle.pieces.specs.Rows.{join, in-app}
 use Rattle.pieces.specs.DataRows.{Tg, cs, ds, os, tlinks, each, Bad, Goods}
 use Rattle.pieces.specs.Joins.{passes₂, absorbs₂, All-T, All-F, T-pass, T-absorb, T-bad, F-pass, F-absorb, F-bad}
@@ -31,7 +31,15 @@ tl-hue (q ∷ qs) l (inr (inr (inr i))) = go (tl-hue qs l i)
     go (inr (inl z)) = inr (inl (inr z))
     go (inr (inr z)) = inr (inr (inr z))
 
--- Colours `kind`: 0 IC's control, 1 2 3 controls, data and outputs of the T gates, 4 5 6 of the F gates, 13 iter?, 15 IC's third output, 18 and 19
+-- What it means, of the test's value and the values of the names of either arm: the chosen arm's answer (`A`, `B`); where the test is no truth, iter?
+-- is false, nothing is iterated, and each returned value is err.
+module _ (I R : List ℕ) (A B : List Value → ℕ → Ans → Type 0) where
+  pub data Branch : Value → List Value → List Value → ℕ → Ans → Type 0 where
+    on-true : (xs ys : List Value) (c : ℕ) (a : Ans) → A xs c a → Branch true-value xs ys c a
+    on-false : (xs ys : List Value) (c : ℕ) (a : Ans) → B ys c a → Branch false-value xs ys c a
+    on-bad : (t : Value) (xs ys : List Value) → Bad t → Branch t xs ys 0 (some (some false-value ∷ (none-of I ++ some-of (same-of R err-value))))
+
+-- Colours `colour`: 0 IC's control, 1 2 3 controls, data and outputs of the T gates, 4 5 6 of the F gates, 13 iter?, 15 IC's third output, 18 and 19
 -- the arms' own. Each arm has colourings of its own (Arm.antt), in which the other arm's own links are 19.
 module _ (net : ℕ → Demand) (colour colourA hueA colourB hueB : ℕ → ℕ) (ci o₁ o₃ : ℕ) (os₂ I R : List ℕ) (D DI DR Dc : ℕ → Type 0) (qT qF : List Tg)
     (ia : ℕ) (IA RA : List ℕ) (ownA : ℕ → Type 0) (IdleA : Load → Type 0) (MA : Means) (itA reA : List Value → Type 0)
@@ -42,27 +50,12 @@ module _ (net : ℕ → Demand) (colour colourA hueA colourB hueB : ℕ → ℕ)
   abbrev pub Arm-B : Type 0
   Arm-B = Arm net colourB hueB ci o₁ o₃ os₂ I R D DI DR false-value (os qF) ib IB RB ownB IdleB MB itB reB
 
-  abbrev pub Chosen-A : List Value → ℕ → Ans → Type 0
-  Chosen-A = Chosen net colourA hueA ci o₁ o₃ os₂ I R D DI DR true-value (os qT) ia IA RA ownA IdleA MA itA reA
-
-  abbrev pub Chosen-B : List Value → ℕ → Ans → Type 0
-  Chosen-B = Chosen net colourB hueB ci o₁ o₃ os₂ I R D DI DR false-value (os qF) ib IB RB ownB IdleB MB itB reB
-
-  -- WHAT IT MEANS: the test's value, the values of the names of either arm, rounds, answer.
-  pub data Branch : Value → List Value → List Value → ℕ → Ans → Type 0 where
-    on-true : (xs ys : List Value) (c : ℕ) (a : Ans) → Chosen-A xs c a → Branch true-value xs ys c a
-    on-false : (xs ys : List Value) (c : ℕ) (a : Ans) → Chosen-B ys c a → Branch false-value xs ys c a
-    on-bad : (t : Value) (xs ys : List Value) → Bad t → Branch t xs ys 0 (some (some false-value ∷ (none-of I ++ some-of (same-of R err-value))))
-
-  abbrev pub IdleJ : Load → Type 0
-  IdleJ σ = (σA : Load) × (σB : Load) × IdleA σA × IdleB σB × (σ ≡ cat (σA ∷ σB ∷ []))
-
   -- before: a copy of the test for IC, one for each gate, the names of the arms, the idle arms
   abbrev pub Before : Value → List Value → List Value → Load → Load → Load
   Before t xs ys σA σB =
       cat (((ci, some (val t)) ∷ []) ∷ load (cs qT) (each qT t) ∷ load (ds qT) (some-of xs) ∷ load (cs qF) (each qF t) ∷ load (ds qF) (some-of ys) ∷ σA ∷ σB ∷ [])
 
-  pub record IfRig : Type 0 where
+  pub record Body-if-rig : Type 0 where
     pub arm-A : Arm-A
     pub arm-B : Arm-B
     pub idle-A : (σ : Load) → IdleA σ → Within σ ownA
@@ -94,7 +87,7 @@ module _ (net : ℕ → Demand) (colour colourA hueA colourB hueB : ℕ → ℕ)
     pub ic-bad : (t : Value) → Bad t → Goes net Dc ((ci, some (val t)) ∷ []) 1 (((o₁, some (val false-value)) ∷ []) ++ ((o₃, some (val err-value)) ∷ []))
     pub jr-err : Goes net DR ((o₃, some (val err-value)) ∷ []) 0 (load R (some-of (same-of R err-value)) ++ [])
 
-  module _ (Z : IfRig) where
+  module _ (Z : Body-if-rig) where
     abbrev K : Value → Load
     K t = (ci, some (val t)) ∷ []
 
@@ -272,14 +265,14 @@ module _ (net : ℕ → Demand) (colour colourA hueA colourB hueB : ℕ → ℕ)
             ∙ ap (λ z. put (cat (((o₁, some (val false-value)) ∷ z) ∷ σA ∷ σB ∷ [])) b) (sym (load-app-none I R (some-of (same-of R err-value))))
 
     -- THE SCHEDULE LEMMA FOR THE BODY IF.
-    pub body-if : {t : Value} {xs ys : List Value} {c : ℕ} {a : Ans} → Branch t xs ys c a → Fits qT xs → Fits qF ys → (σA σB : Load) → IdleA σA → IdleB σB →
-        Leads net D (Before t xs ys σA σB) (o₁ ∷ (I ++ R)) IdleJ c a
+    pub body-if : {t : Value} {xs ys : List Value} {c : ℕ} {a : Ans} → Branch I R (Chosen IA RA I R MA itA reA) (Chosen IB RB I R MB itB reB) t xs ys c a → Fits qT xs → Fits qF ys → (σA σB : Load) → IdleA σA → IdleB σB →
+        Leads net D (Before t xs ys σA σB) (o₁ ∷ (I ++ R)) (Both-idle IdleA IdleB) c a
     body-if (on-true xs ys c a ch) fx fy σA σB iA iB =
         go a (chosen net colourA hueA ci o₁ o₃ os₂ I R D DI DR true-value (os qT) ia IA RA ownA IdleA MA itA reA (Z .arm-A) σB (λ l o. Z .kA-B l (Z .idle-B σB iB l o))
         (λ l o. Z .wA-B l (Z .idle-B σB iB l o)) ch σA iA)
       where
         go : (a : Ans) → Res net colourA hueA ci o₁ o₃ os₂ I R D DI DR true-value (os qT) ia IA RA ownA IdleA MA itA reA (Z .arm-A) σB (λ l o. Z .kA-B l (Z .idle-B σB iB l o))
-            (λ l o. Z .wA-B l (Z .idle-B σB iB l o)) xs σA c a → Leads net D (Before true-value xs ys σA σB) (o₁ ∷ (I ++ R)) IdleJ c a
+            (λ l o. Z .wA-B l (Z .idle-B σB iB l o)) xs σA c a → Leads net D (Before true-value xs ys σA σB) (o₁ ∷ (I ++ R)) (Both-idle IdleA IdleB) c a
         go none r = go-first-on net D (Before true-value xs ys σA σB) (cat (K true-value ∷ load (os qT) (some-of xs) ∷ σA ∷ σB ∷ [])) c (true-step xs ys σA σB fx fy iA iB) r
         go (some v) (σ′, i′, r) = (
           cat (σ′ ∷ σB ∷ []),
@@ -292,7 +285,7 @@ module _ (net : ℕ → Demand) (colour colourA hueA colourB hueB : ℕ → ℕ)
         (λ l o. Z .wB-A l (Z .idle-A σA iA l o)) ch σB iB)
       where
         go : (a : Ans) → Res net colourB hueB ci o₁ o₃ os₂ I R D DI DR false-value (os qF) ib IB RB ownB IdleB MB itB reB (Z .arm-B) σA (λ l o. Z .kB-A l (Z .idle-A σA iA l o))
-            (λ l o. Z .wB-A l (Z .idle-A σA iA l o)) ys σB c a → Leads net D (Before false-value xs ys σA σB) (o₁ ∷ (I ++ R)) IdleJ c a
+            (λ l o. Z .wB-A l (Z .idle-A σA iA l o)) ys σB c a → Leads net D (Before false-value xs ys σA σB) (o₁ ∷ (I ++ R)) (Both-idle IdleA IdleB) c a
         go none r = go-first-on net D (Before false-value xs ys σA σB) (cat (K false-value ∷ load (os qF) (some-of ys) ∷ σB ∷ σA ∷ [])) c (false-step xs ys σA σB fx fy iA iB) r
         go (some v) (σ′, i′, r) = (
           cat (σA ∷ σ′ ∷ []),

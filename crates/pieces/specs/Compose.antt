@@ -8,26 +8,26 @@ use Rattle.value.specs.declared.Value.{Value}
 use Rattle.network.specs.Values.{true-value, false-value}
 use Rattle.network.specs.Net.{Token, val, Demand}
 use Rattle.pieces.specs.Load.{Load, cat, app-assoc}
-use Rattle.pieces.specs.Piece.{Vals, load, In, Piece, Dom, Ans, Means, Leads, Serves, some-of, Fits}
+use Rattle.pieces.specs.Piece.{Vals, load, In, Piece, Dom, Ans, Means, Leads, Serves, some-of, Fits, Both-idle}
 use Rattle.pieces.specs.DataRows.{Tg, cs, ds, os, each}
-use Rattle.pieces.specs.Sequence.{load-app, IdleS, Then, SeqRig, seq}
-use Rattle.pieces.specs.BodyIf.{Branch, IdleJ, IfRig, Before, body-if}
+use Rattle.pieces.specs.Sequence.{load-app, Then, Sequence-rig, sequence}
+use Rattle.pieces.specs.BodyIf.{Branch, Body-if-rig, Before, body-if}
+use Rattle.pieces.specs.Arm.{Chosen}
 
 -- ONE AFTER ANOTHER, as a piece: inputs are P's and the others; `own` is both pieces' own and the links handed on.
 module _ (net : ℕ → Demand) (P : Piece) (zs os : List ℕ) (own ownQ : ℕ → Type 0) (IdleQ : Load → Type 0) (MP MQ : Means) where
-  abbrev pub PS : (ℕ → Type 0) → Piece
-  PS D = record { ins = P .ins ++ zs; outs = os; own = own; Idle = IdleS net D P zs os ownQ IdleQ MP MQ }
+  abbrev pub PS : Piece
+  PS = record { ins = P .ins ++ zs; outs = os; own = own; Idle = Both-idle (P .Idle) IdleQ }
 
-  -- the region is the whole's; `IdleS` does not depend on it
   abbrev pub DS : ℕ → Type 0
   DS l = own l ⊎ (In l (P .ins ++ zs) ⊎ In l os)
 
   abbrev pub MS : Means
-  MS vs c a = (us : Vals) × (ws : Vals) × (vs ≡ us ++ ws) × Fits (P .ins) us × Then net DS P zs os ownQ IdleQ MP MQ us ws c a
+  MS vs c a = (us : Vals) × (ws : Vals) × (vs ≡ us ++ ws) × Fits (P .ins) us × Then (P .outs) MP MQ us ws c a
 
-  pub seq-part : SeqRig net DS P zs os ownQ IdleQ MP MQ → Serves net (PS DS) MS
-  seq-part Z vs c a (us, ws, e, f, t) σ (σP, σQ, iP, iQ, es) =
-      subst (λ z. Leads net DS z os (IdleS net DS P zs os ownQ IdleQ MP MQ) c a) (sym whole) (seq net DS P zs os ownQ IdleQ MP MQ Z t σP σQ iP iQ)
+  pub sequence-piece : Sequence-rig net DS P zs os ownQ IdleQ MP MQ → Serves net PS MS
+  sequence-piece Z vs c a (us, ws, e, f, t) σ (σP, σQ, iP, iQ, es) =
+      subst (λ z. Leads net DS z os (Both-idle (P .Idle) IdleQ) c a) (sym whole) (sequence net DS P zs os ownQ IdleQ MP MQ Z t σP σQ iP iQ)
     where
       whole : load (P .ins ++ zs) vs ++ σ ≡ cat (load (P .ins) us ∷ load zs ws ∷ σP ∷ σQ ∷ [])
       whole =
@@ -55,7 +55,7 @@ module _ (net : ℕ → Demand) (colour colourA hueA colourB hueB : ℕ → ℕ)
   DJ l = own l ⊎ (In l if-ins ⊎ In l (o₁ ∷ (I ++ R)))
 
   abbrev pub Idle-if : Load → Type 0
-  Idle-if = IdleJ net colour colourA hueA colourB hueB ci o₁ o₃ os₂ I R DJ DI DR Dc qT qF ia IA RA ownA IdleA MA itA reA ib IB RB ownB IdleB MB itB reB
+  Idle-if = Both-idle IdleA IdleB
 
   abbrev pub PJ : Piece
   PJ = record { ins = if-ins; outs = o₁ ∷ (I ++ R); own = own; Idle = Idle-if }
@@ -66,10 +66,10 @@ module _ (net : ℕ → Demand) (colour colourA hueA colourB hueB : ℕ → ℕ)
   abbrev pub MJ : Means
   MJ vs c a =
       (t : Value) × (xs : List Value) × (ys : List Value) × (vs ≡ if-vals t xs ys) × Fits qT xs × Fits qF ys
-      × Branch net colour colourA hueA colourB hueB ci o₁ o₃ os₂ I R DJ DI DR Dc qT qF ia IA RA ownA IdleA MA itA reA ib IB RB ownB IdleB MB itB reB t xs ys c a
+      × Branch I R (Chosen IA RA I R MA itA reA) (Chosen IB RB I R MB itB reB) t xs ys c a
 
-  pub if-part : IfRig net colour colourA hueA colourB hueB ci o₁ o₃ os₂ I R DJ DI DR Dc qT qF ia IA RA ownA IdleA MA itA reA ib IB RB ownB IdleB MB itB reB → Serves net PJ MJ
-  if-part Z vs c a (t, xs, ys, e, fx, fy, b) σ (σA, σB, iA, iB, es) =
+  pub body-if-piece : Body-if-rig net colour colourA hueA colourB hueB ci o₁ o₃ os₂ I R DJ DI DR Dc qT qF ia IA RA ownA IdleA MA itA reA ib IB RB ownB IdleB MB itB reB → Serves net PJ MJ
+  body-if-piece Z vs c a (t, xs, ys, e, fx, fy, b) σ (σA, σB, iA, iB, es) =
       subst (λ z. Leads net DJ z (o₁ ∷ (I ++ R)) Idle-if c a) (sym whole)
       (body-if net colour colourA hueA colourB hueB ci o₁ o₃ os₂ I R DJ DI DR Dc qT qF ia IA RA ownA IdleA MA itA reA ib IB RB ownB IdleB MB itB reB Z b fx fy σA σB iA iB)
     where

@@ -11,7 +11,7 @@ use Rattle.network.specs.Values.{true-value, false-value, err-value}
 use Rattle.network.specs.Net.{Token, val, mark, Demand, Links}
 use Rattle.pieces.specs.Load.{Load, put, put-app, put-swap, On, on-app, Off, Apart, Within, cat, pull, pulls, Far, Pair, Tint, Tints, pair-of, Among, among-not, off-tints, app-assoc}
 use Rattle.pieces.specs.Goes.{Goes, Goes-on, Alike, go-then, go-then-on, go-wide, go-wide-on, go-less, go-from, go-to, go-from-on, go-by, alike-pulls, alike-cat, go-two, go-two-on, go-order, go-first, go-first-on}
-use Rattle.pieces.specs.Piece.{Vals, tok, load, In, Piece, Dom, Ans, Means, Leads, Serves, some-of, load-in, Fits}
+use Rattle.pieces.specs.Piece.{Vals, tok, load, In, Piece, Dom, Ans, Means, Leads, Serves, some-of, load-in, Fits, Both-idle}
 use Rattle.pieces.specs.Rows.{join}
 use Rattle.pieces.specs.DataRows.{Tg, cs, ds, os, tlinks, each, Bad, Goods, Pass, Spoil, spoils}
 use Rattle.pieces.specs.Joins.{passes₂, absorbs₂, All-T, All-F, T-pass, T-absorb, T-bad, F-pass, F-absorb, F-bad, app-nil}
@@ -29,15 +29,9 @@ tl-hue (q ∷ qs) l (inr (inr (inr i))) = go (tl-hue qs l i)
     go (inr (inl z)) = inr (inl (inr z))
     go (inr (inr z)) = inr (inr (inr z))
 
--- Colours: 0 controls of the M gates, 1 2 3 controls, data and outputs of the T gates, 4 5 6 of the F gates, 18 and 19 the arms' own, 20 the arms' results that
--- are no inputs of the arm, 21 the results. `qA` and `qB` are the M gates seen with their second and with their third input.
-module _ (net : ℕ → Demand) (colour : ℕ → ℕ) (D : ℕ → Type 0) (qT qF qA qB : List Tg) (ownA ownB : ℕ → Type 0) (IdleA IdleB : Load → Type 0) (MA MB : Means) where
-  abbrev pub PA : Piece
-  PA = record { ins = os qT; outs = ds qA; own = ownA; Idle = IdleA }
-
-  abbrev pub PB : Piece
-  PB = record { ins = os qF; outs = ds qB; own = ownB; Idle = IdleB }
-
+-- What it means, of the test's value and the values of the names of either arm: the chosen arm's answer; err for each value where the test is
+-- no truth. `qA` and `qB` are the M gates seen with their second and with their third input.
+module _ (qA qB : List Tg) (MA MB : Means) where
   pub data Choice : Value → List Value → List Value → ℕ → Ans → Type 0 where
     lost-A : (xs ys : List Value) (c : ℕ) → MA (some-of xs) c none → Choice true-value xs ys c none
     lost-B : (xs ys : List Value) (c : ℕ) → MB (some-of ys) c none → Choice false-value xs ys c none
@@ -45,14 +39,20 @@ module _ (net : ℕ → Demand) (colour : ℕ → ℕ) (D : ℕ → Type 0) (qT 
     on-B : (xs ys rs : List Value) (c : ℕ) → MB (some-of ys) c (some (some-of rs)) → Fits qB rs → Choice false-value xs ys c (some (some-of rs))
     on-bad : (t : Value) (xs ys : List Value) → Bad t → Choice t xs ys 0 (some (each qA err-value))
 
-  abbrev pub IdleJ : Load → Type 0
-  IdleJ σ = (σA : Load) × (σB : Load) × IdleA σA × IdleB σB × (σ ≡ cat (σA ∷ σB ∷ []))
+-- Colours: 0 controls of the M gates, 1 2 3 controls, data and outputs of the T gates, 4 5 6 of the F gates, 18 and 19 the arms' own, 20 the arms'
+-- results that are no inputs of the arm, 21 the results.
+module _ (net : ℕ → Demand) (colour : ℕ → ℕ) (D : ℕ → Type 0) (qT qF qA qB : List Tg) (ownA ownB : ℕ → Type 0) (IdleA IdleB : Load → Type 0) (MA MB : Means) where
+  abbrev pub PA : Piece
+  PA = record { ins = os qT; outs = ds qA; own = ownA; Idle = IdleA }
+
+  abbrev pub PB : Piece
+  PB = record { ins = os qF; outs = ds qB; own = ownB; Idle = IdleB }
 
   abbrev pub Before : Value → List Value → List Value → Load → Load → Load
   Before t xs ys σA σB =
       cat (load (cs qA) (each qA t) ∷ load (cs qT) (each qT t) ∷ load (ds qT) (some-of xs) ∷ load (cs qF) (each qF t) ∷ load (ds qF) (some-of ys) ∷ σA ∷ σB ∷ [])
 
-  pub record IfRig : Type 0 where
+  pub record Exp-if-rig : Type 0 where
     pub serve-A : Serves net PA MA
     pub serve-B : Serves net PB MB
     pub idle-A : (σ : Load) → IdleA σ → Within σ ownA
@@ -88,7 +88,7 @@ module _ (net : ℕ → Demand) (colour : ℕ → ℕ) (D : ℕ → Type 0) (qT 
     pub up-A : (l : ℕ) → Dom PA l → D l
     pub up-B : (l : ℕ) → Dom PB l → D l
 
-  module _ (Z : IfRig) where
+  module _ (Z : Exp-if-rig) where
     abbrev K : Value → Load
     K t = load (cs qA) (each qA t)
 
@@ -329,8 +329,8 @@ module _ (net : ℕ → Demand) (colour : ℕ → ℕ) (D : ℕ → Type 0) (qT 
             let n : _≡_ {A = ℕ} 0 20 = sym h ∙ k in omega arith
 
     -- THE SCHEDULE LEMMA FOR THE EXPRESSION IF.
-    pub exp-if : {t : Value} {xs ys : List Value} {c : ℕ} {a : Ans} → Choice t xs ys c a → Fits qT xs → Fits qF ys → (σA σB : Load) → IdleA σA → IdleB σB →
-        Leads net D (Before t xs ys σA σB) (os qA) IdleJ c a
+    pub exp-if : {t : Value} {xs ys : List Value} {c : ℕ} {a : Ans} → Choice qA qB MA MB t xs ys c a → Fits qT xs → Fits qF ys → (σA σB : Load) → IdleA σA → IdleB σB →
+        Leads net D (Before t xs ys σA σB) (os qA) (Both-idle IdleA IdleB) c a
     unfolding ℕ-discrete
     exp-if (lost-A xs ys c m) fx fy σA σB iA iB =
         go-first-on net D (Before true-value xs ys σA σB) (cat (K true-value ∷ load (os qT) (some-of xs) ∷ σA ∷ σB ∷ [])) c (true-step xs ys σA σB fx fy iA iB)

@@ -17,43 +17,46 @@ use Rattle.pieces.specs.Piece.{Vals, tok, load, In, Piece, Dom, Neat, An
 use Rattle.pieces.specs.Rows.{join, in-l, in-r, in-app, zipw, zip2, zip3, on-zip, ones, cat-ones, row}
 use Rattle.pieces.specs.Ring.{G, fm, fs, op, ctl, start, out, dem, links, maps, Ready, regs, iters, isl, itv, Keeps, keeps-fit, all-of, Good, Outs, row-start, row-again, ready-again, hue-out, hue-ctl, hue-start, hue-isl, hue-regs, iters-load, ready-hue, hue-links, links-up, some-row, load-app-iter}
 
-module _ (net : ℕ → Demand) (colour : ℕ → ℕ) (gs : List G) (it : ℕ) (rs : List ℕ) (ownB ownF : ℕ → Type 0) (IdleB IdleF : Load → Type 0) (MB : Means) where
-  -- THE BODY: inputs are the outputs of the gates; outputs are iter?, the iterated and the returned values. It may hold loops: its
-  -- idle loads are any.
-  abbrev pub PB : Piece
-  PB = record { ins = maps out gs; outs = it ∷ (isl gs ++ rs); own = ownB; Idle = IdleB }
+-- THE BODY: inputs are the outputs of the gates; outputs are iter?, the iterated and the returned values. It may hold loops: its idle loads
+-- are any.
+abbrev pub Body-piece : List G → ℕ → List ℕ → (ℕ → Type 0) → (Load → Type 0) → Piece
+Body-piece gs it rs own Idle = record { ins = maps out gs; outs = it ∷ (isl gs ++ rs); own = own; Idle = Idle }
 
-  -- THE COPIES of iter?, one for each gate. Where there is one gate they are a bare link.
-  abbrev pub PF : Piece
-  PF = record { ins = it ∷ []; outs = maps ctl gs; own = ownF; Idle = IdleF }
+-- THE COPIES of iter?, one for each gate. Where there is one gate they are a bare link.
+abbrev pub Fan-piece : List G → ℕ → (ℕ → Type 0) → (Load → Type 0) → Piece
+Fan-piece gs it own Idle = record { ins = it ∷ []; outs = maps ctl gs; own = own; Idle = Idle }
 
-  abbrev pub MF : Means
-  MF vs c a = (v : Value) × (vs ≡ some v ∷ []) × (c ≡ 0) × (a ≡ some (all-of gs v))
+abbrev pub Fan-means : List G → Means
+Fan-means gs vs c a = (v : Value) × (vs ≡ some v ∷ []) × (c ≡ 0) × (a ≡ some (all-of gs v))
 
-  -- THE LOOP
-  abbrev pub ownL : ℕ → Type 0
-  ownL l = (colour l < 8) × (colour l ≢ 3)
+-- THE LOOP: idle are the body, the copies and each gate.
+abbrev pub loop-own : (ℕ → ℕ) → ℕ → Type 0
+loop-own colour l = (colour l < 8) × (colour l ≢ 3)
 
-  abbrev pub IdleL : Load → Type 0
-  IdleL σ = (σB : Load) × (σF : Load) × (rb : List Load) × IdleB σB × IdleF σF × Ready gs rb × (σ ≡ cat (σB ∷ σF ∷ cat rb ∷ []))
+abbrev pub Loop-idle : List G → (Load → Type 0) → (Load → Type 0) → Load → Type 0
+Loop-idle gs IdleB IdleF σ =
+    (σB : Load) × (σF : Load) × (rb : List Load) × IdleB σB × IdleF σF × Ready gs rb × (σ ≡ cat (σB ∷ σF ∷ cat rb ∷ []))
 
-  abbrev pub PL : Piece
-  PL = record { ins = maps start gs; outs = rs; own = ownL; Idle = IdleL }
+abbrev pub Loop-piece : (ℕ → ℕ) → List G → List ℕ → (Load → Type 0) → (Load → Type 0) → Piece
+Loop-piece colour gs rs IdleB IdleF = record { ins = maps start gs; outs = rs; own = loop-own colour; Idle = Loop-idle gs IdleB IdleF }
 
-  -- The rounds, from the values of a turn: enough of them; or the body itself runs on; or it ends with the returned values and nothing
-  -- iterated; or it goes round with other values and nothing returned. The number counts entries into bodies, here and further in.
-  pub data Spin : List Value → ℕ → Ans → Type 0 where
-    enough : (vs : List Value) → Spin vs 0 none
-    lost : (vs : List Value) (c : ℕ) → MB (some-of vs) c none → Spin vs c none
-    last : (vs : List Value) (c : ℕ) (ws : List Value) → MB (some-of vs) c (some (some false-value ∷ (none-of (isl gs) ++ some-of ws))) → Spin vs c (some (some-of ws))
+-- The rounds, from the values of a turn: enough of them; or the body itself runs on; or it ends with the returned values and nothing
+-- iterated; or it goes round with other values and nothing returned. The number counts entries into bodies, here and further in.
+module _ (gs : List G) (rs : List ℕ) (body : Means) where
+  pub data Rounds : List Value → ℕ → Ans → Type 0 where
+    enough : (vs : List Value) → Rounds vs 0 none
+    lost : (vs : List Value) (c : ℕ) → body (some-of vs) c none → Rounds vs c none
+    last : (vs : List Value) (c : ℕ) (ws : List Value) → body (some-of vs) c (some (some false-value ∷ (none-of (isl gs) ++ some-of ws))) →
+        Rounds vs c (some (some-of ws))
     more : (vs : List Value) (c : ℕ) (vs′ : List Value) (d : ℕ) (a : Ans) → Keeps gs vs vs′ →
-        MB (some-of vs) c (some (some true-value ∷ (some-of (itv gs vs′) ++ none-of rs))) → Spin vs′ d a → Spin vs (c + suc d) a
+        body (some-of vs) c (some (some true-value ∷ (some-of (itv gs vs′) ++ none-of rs))) → Rounds vs′ d a → Rounds vs (c + suc d) a
 
-  abbrev pub ML : Means
-  ML vs c a = (ws : List Value) × (d : ℕ) × (vs ≡ some-of ws) × Fits gs ws × Spin ws d a × (c ≤ suc d)
+  abbrev pub Loop-means : Means
+  Loop-means vs c a = (ws : List Value) × (d : ℕ) × (vs ≡ some-of ws) × Fits gs ws × Rounds ws d a × (c ≤ suc d)
 
+module _ (net : ℕ → Demand) (colour : ℕ → ℕ) (gs : List G) (it : ℕ) (rs : List ℕ) (ownB ownF : ℕ → Type 0) (IdleB IdleF : Load → Type 0) (MB : Means) where
   -- What the maker owes: colours, freshness, and the lemma for the body and the copies.
-  pub record Rig : Type 0 where
+  pub record Loop-rig : Type 0 where
     pub good : Good colour net gs
     pub some-gate : 0 < length gs
     pub hue-it : colour it ≡ 6
@@ -62,12 +65,12 @@ module _ (net : ℕ → Demand) (colour : ℕ → ℕ) (gs : List G) (it : ℕ) 
     pub hue-F : (l : ℕ) → ownF l → colour l ≡ 5
     pub idle-B : (σ : Load) → IdleB σ → Within σ ownB
     pub idle-F : (σ : Load) → IdleF σ → Within σ ownF
-    pub body : Serves net PB MB
-    pub fan : Serves net PF MF
+    pub body : Serves net (Body-piece gs it rs ownB IdleB) MB
+    pub fan : Serves net (Fan-piece gs it ownF IdleF) (Fan-means gs)
 
-  module _ (R : Rig) where
+  module _ (R : Loop-rig) where
     abbrev DL : ℕ → Type 0
-    DL = Dom PL
+    DL = Dom (Loop-piece colour gs rs IdleB IdleF)
 
     abbrev O : List Value → Load
     O vs = load (maps out gs) (some-of vs)
@@ -111,20 +114,20 @@ module _ (net : ℕ → Demand) (colour : ℕ → ℕ) (gs : List G) (it : ℕ) 
     own-hue i lt n l e = inl (omega arith, λ z. n (sym e ∙ z))
 
     -- the regions of the parts are in the loop's
-    up-B : (l : ℕ) → Dom PB l → DL l
+    up-B : (l : ℕ) → Dom (Body-piece gs it rs ownB IdleB) l → DL l
     up-B l (inl o) = own-hue 4 (omega arith) (omega arith) l (R .hue-B l o)
     up-B l (inr (inl i)) = own-hue 0 (omega arith) (omega arith) l (hue-out colour net gs (R .good) l i)
     up-B l (inr (inr (inl e))) = own-hue 6 (omega arith) (omega arith) l (ap colour e ∙ R .hue-it)
     up-B l (inr (inr (inr i))) =
         ⊎-elim (λ (z : In l (isl gs)). own-hue 2 (omega arith) (omega arith) l (hue-isl colour net gs (R .good) l z)) (λ (z : In l rs). inr (inr z)) (in-app l (isl gs) rs i)
 
-    up-F : (l : ℕ) → Dom PF l → DL l
+    up-F : (l : ℕ) → Dom (Fan-piece gs it ownF IdleF) l → DL l
     up-F l (inl o) = own-hue 5 (omega arith) (omega arith) l (R .hue-F l o)
     up-F l (inr (inl (inl e))) = own-hue 6 (omega arith) (omega arith) l (ap colour e ∙ R .hue-it)
     up-F l (inr (inl (inr e))) = absurd e
     up-F l (inr (inr i)) = own-hue 6 (omega arith) (omega arith) l (hue-ctl colour net gs (R .good) l i)
 
-    no-B : (l : ℕ) → Dom PB l → Among colour (colour l) (5 ∷ 7 ∷ []) → ⊥
+    no-B : (l : ℕ) → Dom (Body-piece gs it rs ownB IdleB) l → Among colour (colour l) (5 ∷ 7 ∷ []) → ⊥
     unfolding ℕ-discrete
     no-B l (inl o) = among-not colour (colour l) 4 (5 ∷ 7 ∷ []) (R .hue-B l o) refl
     no-B l (inr (inl i)) = among-not colour (colour l) 0 (5 ∷ 7 ∷ []) (hue-out colour net gs (R .good) l i) refl
@@ -133,7 +136,7 @@ module _ (net : ℕ → Demand) (colour : ℕ → ℕ) (gs : List G) (it : ℕ) 
         ⊎-elim (λ (z : In l (isl gs)). among-not colour (colour l) 2 (5 ∷ 7 ∷ []) (hue-isl colour net gs (R .good) l z) refl)
         (λ (z : In l rs). among-not colour (colour l) 3 (5 ∷ 7 ∷ []) (R .hue-rs l z) refl) (in-app l (isl gs) rs i)
 
-    no-F : (l : ℕ) → Dom PF l → Among colour (colour l) (2 ∷ 3 ∷ 4 ∷ 7 ∷ []) → ⊥
+    no-F : (l : ℕ) → Dom (Fan-piece gs it ownF IdleF) l → Among colour (colour l) (2 ∷ 3 ∷ 4 ∷ 7 ∷ []) → ⊥
     unfolding ℕ-discrete
     no-F l (inl o) = among-not colour (colour l) 5 (2 ∷ 3 ∷ 4 ∷ 7 ∷ []) (R .hue-F l o) refl
     no-F l (inr (inl (inl e))) = among-not colour (colour l) 6 (2 ∷ 3 ∷ 4 ∷ 7 ∷ []) (ap colour e ∙ R .hue-it) refl
@@ -149,11 +152,11 @@ module _ (net : ℕ → Demand) (colour : ℕ → ℕ) (gs : List G) (it : ℕ) 
     up-G l i = ⊎-elim (λ (z : (colour l < 8) × (colour l ≢ 3)). inl z) (λ (z : In l (maps start gs)). inr (inl z)) (links-up colour net gs (R .good) l i)
 
     -- the body's turn
-    body-step : (vs : List Value) (c : ℕ) (X σB σB′ σF : Load) → IdleF σF → Goes net (Dom PB) (O vs ++ σB) c (X ++ σB′) →
+    body-step : (vs : List Value) (c : ℕ) (X σB σB′ σF : Load) → IdleF σF → Goes net (Dom (Body-piece gs it rs ownB IdleB)) (O vs ++ σB) c (X ++ σB′) →
         Goes net DL (Turn vs σB σF) c (cat (X ∷ σB′ ∷ σF ∷ Rg vs ∷ []))
     body-step vs c X σB σB′ σF iF f =
-        go-wide net (Dom PB) DL (Turn vs σB σF) (cat (X ∷ σB′ ∷ σF ∷ Rg vs ∷ [])) c up-B
-        (go-two net (Dom PB) (O vs) σB X σB′ c (σF ∷ Rg vs ∷ []) (off-tints colour (5 ∷ 7 ∷ []) (σF ∷ Rg vs ∷ []) (Dom PB) (tF σF iF, (tR vs, tt)) no-B) f)
+        go-wide net (Dom (Body-piece gs it rs ownB IdleB)) DL (Turn vs σB σF) (cat (X ∷ σB′ ∷ σF ∷ Rg vs ∷ [])) c up-B
+        (go-two net (Dom (Body-piece gs it rs ownB IdleB)) (O vs) σB X σB′ c (σF ∷ Rg vs ∷ []) (off-tints colour (5 ∷ 7 ∷ []) (σF ∷ Rg vs ∷ []) (Dom (Body-piece gs it rs ownB IdleB)) (tF σF iF, (tR vs, tt)) no-B) f)
 
     -- iter? reaches every gate
     fan-step : (v : Value) (I W σB σF Q : Load) → Tint colour 2 I → Tint colour 3 W → Tint colour 4 σB → Tint colour 7 Q → IdleF σF →
@@ -168,9 +171,9 @@ module _ (net : ℕ → Demand) (colour : ℕ → ℕ) (gs : List G) (it : ℕ) 
               (cat (C v ∷ f .0 ∷ I ∷ W ∷ σB ∷ Q ∷ [])) 0
               (alike-pulls net DL (4 ∷ 1 ∷ []) (((it, some (val v)) ∷ []) ∷ I ∷ W ∷ σB ∷ σF ∷ Q ∷ [])
               (pair-of colour (6 ∷ 2 ∷ 3 ∷ 4 ∷ 5 ∷ 7 ∷ []) (((it, some (val v)) ∷ []) ∷ I ∷ W ∷ σB ∷ σF ∷ Q ∷ []) (t-it v, (tI′, (tW′, (tB′, (tF σF iF, (tQ, tt)))))) refl))
-              (go-wide net (Dom PF) DL (cat (((it, some (val v)) ∷ []) ∷ σF ∷ I ∷ W ∷ σB ∷ Q ∷ [])) (cat (C v ∷ f .0 ∷ I ∷ W ∷ σB ∷ Q ∷ [])) 0 up-F
-              (go-two net (Dom PF) ((it, some (val v)) ∷ []) σF (C v) (f .0) 0 (I ∷ W ∷ σB ∷ Q ∷ [])
-              (off-tints colour (2 ∷ 3 ∷ 4 ∷ 7 ∷ []) (I ∷ W ∷ σB ∷ Q ∷ []) (Dom PF) (tI′, (tW′, (tB′, (tQ, tt)))) no-F) (f .2))),
+              (go-wide net (Dom (Fan-piece gs it ownF IdleF)) DL (cat (((it, some (val v)) ∷ []) ∷ σF ∷ I ∷ W ∷ σB ∷ Q ∷ [])) (cat (C v ∷ f .0 ∷ I ∷ W ∷ σB ∷ Q ∷ [])) 0 up-F
+              (go-two net (Dom (Fan-piece gs it ownF IdleF)) ((it, some (val v)) ∷ []) σF (C v) (f .0) 0 (I ∷ W ∷ σB ∷ Q ∷ [])
+              (off-tints colour (2 ∷ 3 ∷ 4 ∷ 7 ∷ []) (I ∷ W ∷ σB ∷ Q ∷ []) (Dom (Fan-piece gs it ownF IdleF)) (tI′, (tW′, (tB′, (tQ, tt)))) no-F) (f .2))),
         )
 
     -- the gates have fired: a turn
@@ -285,11 +288,11 @@ module _ (net : ℕ → Demand) (colour : ℕ → ℕ) (gs : List G) (it : ℕ) 
     cut3 : (x : ℕ × Option Token) (I W : Load) (bs : List Load) → cat ((x ∷ (I ++ W)) ∷ bs) ≡ cat ((x ∷ []) ∷ I ∷ W ∷ bs)
     cut3 x I W bs = ap (λ z. x ∷ z) (app-assoc I W (cat bs))
 
-    pub spin : {vs : List Value} {c : ℕ} {a : Ans} → Spin vs c a → Fits gs vs → (σB σF : Load) → IdleB σB → IdleF σF → Leads net DL (Turn vs σB σF) rs IdleL c a
+    pub spin : {vs : List Value} {c : ℕ} {a : Ans} → Rounds gs rs MB vs c a → Fits gs vs → (σB σF : Load) → IdleB σB → IdleF σF → Leads net DL (Turn vs σB σF) rs (Loop-idle gs IdleB IdleF) c a
     spin (enough vs) f σB σF iB iF = λ b cl. record { w = []; runs = tt; many = omega arith }
     spin (lost vs c m) f σB σF iB iF =
-        go-wide-on net (Dom PB) DL (Turn vs σB σF) c up-B
-        (go-two-on net (Dom PB) (O vs) σB c (σF ∷ Rg vs ∷ []) (off-tints colour (5 ∷ 7 ∷ []) (σF ∷ Rg vs ∷ []) (Dom PB) (tF σF iF, (tR vs, tt)) no-B)
+        go-wide-on net (Dom (Body-piece gs it rs ownB IdleB)) DL (Turn vs σB σF) c up-B
+        (go-two-on net (Dom (Body-piece gs it rs ownB IdleB)) (O vs) σB c (σF ∷ Rg vs ∷ []) (off-tints colour (5 ∷ 7 ∷ []) (σF ∷ Rg vs ∷ []) (Dom (Body-piece gs it rs ownB IdleB)) (tF σF iF, (tR vs, tt)) no-B)
         (R .body (some-of vs) c none m σB iB))
     spin (last vs c ws m) f σB σF iB iF =
         let h = R .body (some-of vs) c (some (some false-value ∷ (none-of (isl gs) ++ some-of ws))) m σB iB in
@@ -305,7 +308,7 @@ module _ (net : ℕ → Demand) (colour : ℕ → ℕ) (gs : List G) (it : ℕ) 
         ends : (c : ℕ) (σB′ σF′ : Load) → IdleB σB′ → IdleF σF′ →
             Goes net DL (Turn vs σB σF) c (cat (load (it ∷ (isl gs ++ rs)) (some false-value ∷ (none-of (isl gs) ++ some-of ws)) ∷ σB′ ∷ σF ∷ Rg vs ∷ [])) →
             Goes net DL (cat (((it, some (val false-value)) ∷ []) ∷ I ∷ W ∷ σB′ ∷ σF ∷ Rg vs ∷ [])) 0 (cat (C false-value ∷ σF′ ∷ I ∷ W ∷ σB′ ∷ Rg vs ∷ [])) →
-            Leads net DL (Turn vs σB σF) rs IdleL c (some (some-of ws))
+            Leads net DL (Turn vs σB σF) rs (Loop-idle gs IdleB IdleF) c (some (some-of ws))
         ends c σB′ σF′ jB jF p r =
             let e : cat (load (it ∷ (isl gs ++ rs)) (some false-value ∷ (none-of (isl gs) ++ some-of ws)) ∷ σB′ ∷ σF ∷ Rg vs ∷ [])
             ≡ cat (((it, some (val false-value)) ∷ []) ∷ I ∷ W ∷ σB′ ∷ σF ∷ Rg vs ∷ [])
@@ -334,14 +337,14 @@ module _ (net : ℕ → Demand) (colour : ℕ → ℕ) (gs : List G) (it : ℕ) 
         goes : (σB′ σF′ : Load) → IdleB σB′ → IdleF σF′ →
             Goes net DL (Turn vs σB σF) c (cat (load (it ∷ (isl gs ++ rs)) (some true-value ∷ (some-of (itv gs vs′) ++ none-of rs)) ∷ σB′ ∷ σF ∷ Rg vs ∷ [])) →
             Goes net DL (cat (((it, some (val true-value)) ∷ []) ∷ I ∷ W ∷ σB′ ∷ σF ∷ Rg vs ∷ [])) 0 (cat (C true-value ∷ σF′ ∷ I ∷ W ∷ σB′ ∷ Rg vs ∷ [])) →
-            Leads net DL (Turn vs′ σB′ σF′) rs IdleL d a → Leads net DL (Turn vs σB σF) rs IdleL (c + suc d) a
+            Leads net DL (Turn vs′ σB′ σF′) rs (Loop-idle gs IdleB IdleF) d a → Leads net DL (Turn vs σB σF) rs (Loop-idle gs IdleB IdleF) (c + suc d) a
         goes σB′ σF′ jB jF p r tail =
             let e : cat (load (it ∷ (isl gs ++ rs)) (some true-value ∷ (some-of (itv gs vs′) ++ none-of rs)) ∷ σB′ ∷ σF ∷ Rg vs ∷ [])
             ≡ cat (((it, some (val true-value)) ∷ []) ∷ I ∷ W ∷ σB′ ∷ σF ∷ Rg vs ∷ [])
             = ap (λ z. cat (((it, some (val true-value)) ∷ z) ∷ σB′ ∷ σF ∷ Rg vs ∷ [])) (load-app-iter colour net gs vs′ rs (none-of rs) (keeps-fit gs vs vs′ k))
             ∙ cut3 (it, some (val true-value)) I W (σB′ ∷ σF ∷ Rg vs ∷ []) in
-            lead-less net DL (Turn vs σB σF) rs IdleL ((c + (0 + 1)) + d) (c + suc d) a (omega arith)
-            (lead-after net DL (Turn vs σB σF) (Turn vs′ σB′ σF′) rs IdleL (c + (0 + 1)) d a
+            lead-less net DL (Turn vs σB σF) rs (Loop-idle gs IdleB IdleF) ((c + (0 + 1)) + d) (c + suc d) a (omega arith)
+            (lead-after net DL (Turn vs σB σF) (Turn vs′ σB′ σF′) rs (Loop-idle gs IdleB IdleF) (c + (0 + 1)) d a
             (go-then net DL (Turn vs σB σF) (cat (((it, some (val true-value)) ∷ []) ∷ I ∷ W ∷ σB′ ∷ σF ∷ Rg vs ∷ [])) (Turn vs′ σB′ σF′) c (0 + 1)
             (subst (λ z. Goes net DL (Turn vs σB σF) c z) e p)
             (go-then net DL (cat (((it, some (val true-value)) ∷ []) ∷ I ∷ W ∷ σB′ ∷ σF ∷ Rg vs ∷ [])) (cat (C true-value ∷ σF′ ∷ I ∷ W ∷ σB′ ∷ Rg vs ∷ [])) (Turn vs′ σB′ σF′) 0 1
@@ -385,16 +388,16 @@ module _ (net : ℕ → Demand) (colour : ℕ → ℕ) (gs : List G) (it : ℕ) 
             ∙ alike-pulls net DL (3 ∷ []) (S ∷ σB ∷ σF ∷ cat rb ∷ []) pr b cl
 
     -- THE SCHEDULE LEMMA FOR THE LOOP.
-    pub loop : Serves net PL ML
+    pub loop : Serves net (Loop-piece colour gs rs IdleB IdleF) (Loop-means gs rs MB)
     loop vs c a (ws, d, e, f, sp, le) σ (σB, σF, rb, iB, iF, rd, es) =
-        lead-less net DL (load (maps start gs) vs ++ σ) rs IdleL (1 + d) c a (omega arith)
-        (subst (λ z. Leads net DL (load (maps start gs) z ++ σ) rs IdleL (1 + d) a) (sym e)
-        (subst (λ z. Leads net DL (load (maps start gs) (some-of ws) ++ z) rs IdleL (1 + d) a) (sym es)
-        (lead-after net DL (load (maps start gs) (some-of ws) ++ cat (σB ∷ σF ∷ cat rb ∷ [])) (Turn ws σB σF) rs IdleL 1 d a
+        lead-less net DL (load (maps start gs) vs ++ σ) rs (Loop-idle gs IdleB IdleF) (1 + d) c a (omega arith)
+        (subst (λ z. Leads net DL (load (maps start gs) z ++ σ) rs (Loop-idle gs IdleB IdleF) (1 + d) a) (sym e)
+        (subst (λ z. Leads net DL (load (maps start gs) (some-of ws) ++ z) rs (Loop-idle gs IdleB IdleF) (1 + d) a) (sym es)
+        (lead-after net DL (load (maps start gs) (some-of ws) ++ cat (σB ∷ σF ∷ cat rb ∷ [])) (Turn ws σB σF) rs (Loop-idle gs IdleB IdleF) 1 d a
         (start-step ws σB σF rb f iB iF rd) (spin sp f σB σF iB iF))))
 
     -- The loop keeps to its own, so that it can be part of a body.
-    pub loop-neat : Neat PL
+    pub loop-neat : Neat (Loop-piece colour gs rs IdleB IdleF)
     loop-neat =
         record {
           idle-own = λ σ (σB, σF, rb, iB, iF, rd, es) l o. within l σB σF rb iB iF rd (subst (λ z. On l z) es o);
@@ -402,21 +405,21 @@ module _ (net : ℕ → Demand) (colour : ℕ → ℕ) (gs : List G) (it : ℕ) 
           off-outs = λ l o i. o .1 (R .hue-rs l i);
         }
       where
-        own-of : (i l : ℕ) → colour l ≡ i → i < 8 → i ≢ 3 → ownL l
+        own-of : (i l : ℕ) → colour l ≡ i → i < 8 → i ≢ 3 → (loop-own colour) l
         own-of i l e lt n = (omega arith, λ z. n (sym e ∙ z))
 
-        within : (l : ℕ) (σB σF : Load) (rb : List Load) → IdleB σB → IdleF σF → Ready gs rb → On l (cat (σB ∷ σF ∷ cat rb ∷ [])) → ownL l
+        within : (l : ℕ) (σB σF : Load) (rb : List Load) → IdleB σB → IdleF σF → Ready gs rb → On l (cat (σB ∷ σF ∷ cat rb ∷ [])) → (loop-own colour) l
         within l σB σF rb iB iF rd o = go (on-app l σB (cat (σF ∷ cat rb ∷ [])) o)
           where
-            third : On l (cat rb) → ownL l
+            third : On l (cat rb) → (loop-own colour) l
             third z =
                 ⊎-elim (λ (e : colour l ≡ 7). own-of 7 l e (omega arith) (omega arith)) (λ (e : colour l ≡ 6). own-of 6 l e (omega arith) (omega arith))
                 (ready-hue colour net gs rb (R .good) rd l z)
 
-            second : On l σF ⊎ On l (cat rb ++ []) → ownL l
+            second : On l σF ⊎ On l (cat rb ++ []) → (loop-own colour) l
             second (inl z) = own-of 5 l (tF σF iF l z) (omega arith) (omega arith)
             second (inr z) = ⊎-elim third (λ (e : ⊥). absurd e) (on-app l (cat rb) [] z)
 
-            go : On l σB ⊎ On l (cat (σF ∷ cat rb ∷ [])) → ownL l
+            go : On l σB ⊎ On l (cat (σF ∷ cat rb ∷ [])) → (loop-own colour) l
             go (inl z) = own-of 4 l (tB σB iB l z) (omega arith) (omega arith)
             go (inr z) = second (on-app l σF (cat rb ++ []) z)

@@ -14,16 +14,16 @@ use Rattle.pieces.specs.Joins.{app-nil}
 use Rattle.pieces.specs.Ring.{G, ctl, maps, all-of}
 use Rattle.pieces.specs.Fan.{Chain, Dch, chain}
 use Rattle.pieces.specs.Rows.{dec-in}
-use Rattle.pieces.specs.Loop.{PF, MF}
+use Rattle.pieces.specs.Loop.{Fan-piece, Fan-means}
 
 all-same : (gs : List G) (v : Value) → load (maps ctl gs) (some-of (same-of (maps ctl gs) v)) ≡ load (maps ctl gs) (all-of gs v)
 all-same [] v = refl
 all-same (x ∷ gs) v = ap (λ z. (ctl x, some (val v)) ∷ z) (all-same gs v)
 
 -- The last copy's second output is a control, and stands among the chain's inner links too (Fan.antt): `own` is what is no control.
-module _ (net : ℕ → Demand) (colour : ℕ → ℕ) (gs : List G) (it : ℕ) (ms rs : List ℕ) (ownB : ℕ → Type 0) (IdleB : Load → Type 0) (MB : Means) where
+module _ (net : ℕ → Demand) (gs : List G) (it : ℕ) (ms : List ℕ) where
   abbrev pub Fn : Piece
-  Fn = PF net colour gs it rs ownB (λ l. In l ms × (In l (maps ctl gs) → ⊥)) IdleB (λ σ. σ ≡ []) MB
+  Fn = Fan-piece gs it (λ l. In l ms × (In l (maps ctl gs) → ⊥)) (λ σ. σ ≡ [])
 
   up : (l : ℕ) → Dch net it ms (maps ctl gs) l → Dom Fn l
   up l (inl e) = inr (inl (inl e))
@@ -33,7 +33,7 @@ module _ (net : ℕ → Demand) (colour : ℕ → ℕ) (gs : List G) (it : ℕ) 
       inner (yes p) z = inr (inr p)
       inner (no m) z = inl (z, m)
 
-  pub fan : Chain net it ms (maps ctl gs) → Serves net Fn (MF net colour gs it rs ownB (λ l. In l ms × (In l (maps ctl gs) → ⊥)) IdleB (λ σ. σ ≡ []) MB)
+  pub fan : Chain net it ms (maps ctl gs) → Serves net Fn (Fan-means gs)
   fan ch vs c a (v, e, z, r) σ s =
       rw (r, z) (
         [],

@@ -11,19 +11,18 @@ use Rattle.network.specs.Net.{Token, val, mark, Demand, Links}
 use Rattle.pieces.specs.Load.{Load, put, On, on-app, Off, Apart, Within, cat, pull, pulls, Pair, app-assoc}
 use Rattle.pieces.specs.Goes.{Goes, Goes-on, Alike, go-stay, go-then, go-then-on, go-wide, go-wide-on, go-less, go-from, go-to, go-from-on, alike-pulls, alike-sym, go-two, go-two-on, go-order}
 use Rattle.pieces.specs.Gate.{Dist, somes, Eats, gate}
-use Rattle.pieces.specs.Piece.{Vals, tok, load, In, Piece, Dom, Neat, Ans, Means, Leads, Serves, load-in, lead-after, lead-less, Fits}
+use Rattle.pieces.specs.Piece.{Vals, tok, load, In, Piece, Dom, Neat, Ans, Means, Leads, Serves, load-in, lead-after, lead-less, Fits, Both-idle}
 use Rattle.pieces.specs.Sequence.{load-app}
 
-module _ (net : ℕ → Demand) (D : ℕ → Type 0) (P Q : Piece) (MP MQ : Means) where
+-- The meaning: the first's rounds do not suffice, or the second's after it, or both end.
+module _ (outs : List ℕ) (MP MQ : Means) where
   pub data Both : Vals → Vals → ℕ → Ans → Type 0 where
-    b-lost : (us ws : Vals) (c : ℕ) → MP us c none → Both us ws c none
-    b-late : (us ws rs : Vals) (c d : ℕ) → MP us c (some rs) → MQ ws d none → Both us ws (c + d) none
-    b-both : (us ws rs vs : Vals) (c d : ℕ) → MP us c (some rs) → Fits (P .outs) rs → MQ ws d (some vs) → Both us ws (c + d) (some (rs ++ vs))
+    first-lost : (us ws : Vals) (c : ℕ) → MP us c none → Both us ws c none
+    second-lost : (us ws rs : Vals) (c d : ℕ) → MP us c (some rs) → MQ ws d none → Both us ws (c + d) none
+    both-done : (us ws rs vs : Vals) (c d : ℕ) → MP us c (some rs) → Fits outs rs → MQ ws d (some vs) → Both us ws (c + d) (some (rs ++ vs))
 
-  abbrev pub IdleB : Load → Type 0
-  IdleB σ = (σP : Load) × (σQ : Load) × P .Idle σP × Q .Idle σQ × (σ ≡ cat (σP ∷ σQ ∷ []))
-
-  pub record ParRig : Type 0 where
+module _ (net : ℕ → Demand) (D : ℕ → Type 0) (P Q : Piece) (MP MQ : Means) where
+  pub record Parallel-rig : Type 0 where
     pub serve-P : Serves net P MP
     pub serve-Q : Serves net Q MQ
     pub neat-P : Neat P
@@ -32,7 +31,7 @@ module _ (net : ℕ → Demand) (D : ℕ → Type 0) (P Q : Piece) (MP MQ : Mean
     pub up-Q : (l : ℕ) → Dom Q l → D l
     pub apart : (l : ℕ) → Dom P l → Dom Q l → ⊥
 
-  module _ (Z : ParRig) where
+  module _ (Z : Parallel-rig) where
     iP : (us : Vals) → Within (load (P .ins) us) (Dom P)
     iP us l o = inr (inl (load-in (P .ins) us l o))
 
@@ -90,19 +89,19 @@ module _ (net : ℕ → Demand) (D : ℕ → Type 0) (P Q : Piece) (MP MQ : Mean
     off-P : (rs : Vals) (σP : Load) → P .Idle σP → Off (cat (load (P .outs) rs ∷ σP ∷ [])) (Dom Q)
     off-P rs σP i = two-off (load (P .outs) rs) σP (Dom Q) (λ l o d. Z .apart l (oP rs l o) d) (λ l o d. Z .apart l (sP σP i l o) d)
 
-    pub par : {us ws : Vals} {c : ℕ} {a : Ans} → Both us ws c a → (σP σQ : Load) → P .Idle σP → Q .Idle σQ →
-        Leads net D (cat (load (P .ins) us ∷ σP ∷ load (Q .ins) ws ∷ σQ ∷ [])) (P .outs ++ Q .outs) IdleB c a
-    par (b-lost us ws c m) σP σQ i j =
+    pub parallel : {us ws : Vals} {c : ℕ} {a : Ans} → Both (P .outs) MP MQ us ws c a → (σP σQ : Load) → P .Idle σP → Q .Idle σQ →
+        Leads net D (cat (load (P .ins) us ∷ σP ∷ load (Q .ins) ws ∷ σQ ∷ [])) (P .outs ++ Q .outs) (Both-idle (P .Idle) (Q .Idle)) c a
+    parallel (first-lost us ws c m) σP σQ i j =
         go-wide-on net (Dom P) D (cat (load (P .ins) us ∷ σP ∷ load (Q .ins) ws ∷ σQ ∷ [])) c (Z .up-P)
         (go-two-on net (Dom P) (load (P .ins) us) σP c (load (Q .ins) ws ∷ σQ ∷ [])
         (two-off (load (Q .ins) ws) σQ (Dom P) (λ l o d. Z .apart l d (iQ ws l o)) (λ l o d. Z .apart l d (sQ σQ j l o))) (Z .serve-P us c none m σP i))
-    par (b-late us ws rs c d m n) σP σQ i j =
+    parallel (second-lost us ws rs c d m n) σP σQ i j =
         let h = Z .serve-P us c (some rs) m σP i in
         go-then-on net D (cat (load (P .ins) us ∷ σP ∷ load (Q .ins) ws ∷ σQ ∷ [])) (cat (load (Q .ins) ws ∷ σQ ∷ load (P .outs) rs ∷ h .0 ∷ [])) c d
         (p-step us ws rs c σP (h .0) σQ i (h .1) j (h .2))
         (go-wide-on net (Dom Q) D (cat (load (Q .ins) ws ∷ σQ ∷ load (P .outs) rs ∷ h .0 ∷ [])) d (Z .up-Q)
         (go-two-on net (Dom Q) (load (Q .ins) ws) σQ d (load (P .outs) rs ∷ h .0 ∷ []) (off-P rs (h .0) (h .1)) (Z .serve-Q ws d none n σQ j)))
-    par (b-both us ws rs vs c d m f n) σP σQ i j =
+    parallel (both-done us ws rs vs c d m f n) σP σQ i j =
         let h = Z .serve-P us c (some rs) m σP i in
         let k = Z .serve-Q ws d (some vs) n σQ j in
         done (h .0) (k .0) (h .1) (k .1) (p-step us ws rs c σP (h .0) σQ i (h .1) j (h .2)) (k .2)
@@ -110,7 +109,7 @@ module _ (net : ℕ → Demand) (D : ℕ → Type 0) (P Q : Piece) (MP MQ : Mean
         done : (σP′ σQ′ : Load) → P .Idle σP′ → Q .Idle σQ′ →
             Goes net D (cat (load (P .ins) us ∷ σP ∷ load (Q .ins) ws ∷ σQ ∷ [])) c (cat (load (Q .ins) ws ∷ σQ ∷ load (P .outs) rs ∷ σP′ ∷ [])) →
             Goes net (Dom Q) (load (Q .ins) ws ++ σQ) d (load (Q .outs) vs ++ σQ′) →
-            Leads net D (cat (load (P .ins) us ∷ σP ∷ load (Q .ins) ws ∷ σQ ∷ [])) (P .outs ++ Q .outs) IdleB (c + d) (some (rs ++ vs))
+            Leads net D (cat (load (P .ins) us ∷ σP ∷ load (Q .ins) ws ∷ σQ ∷ [])) (P .outs ++ Q .outs) (Both-idle (P .Idle) (Q .Idle)) (c + d) (some (rs ++ vs))
         done σP′ σQ′ i′ j′ g k = (
           cat (σP′ ∷ σQ′ ∷ []),
           (σP′, σQ′, i′, j′, refl),

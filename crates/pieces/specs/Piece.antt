@@ -6,7 +6,7 @@ use mathlib.Core.List.{List, [], _∷_, _++_}
 use mathlib.Core.Option.{Option, none, some}
 use Rattle.value.specs.declared.Value.{Value}
 use Rattle.network.specs.Net.{Token, val, mark, Demand, Links}
-use Rattle.pieces.specs.Load.{Load, On, on-app, Apart, Off, Within, Nones}
+use Rattle.pieces.specs.Load.{cat, Load, On, on-app, Apart, Off, Within, Nones}
 use Rattle.pieces.specs.Goes.{Goes, Goes-on, Alike, go-stay, go-then, go-then-on, go-less, go-less-on, go-from, go-to, alike-nones, alike-sym}
 
 -- As many of the one as of the other: values for links, for gates, for names.
@@ -137,3 +137,7 @@ same-of (l ∷ ls) v = v ∷ same-of ls v
 pub same-fit : (ls : List ℕ) (v : Value) → Fits ls (same-of ls v)
 same-fit [] v = tt
 same-fit (l ∷ ls) v = same-fit ls v
+
+-- Two pieces idle, the one's load before the other's.
+abbrev pub Both-idle : (Load → Type 0) → (Load → Type 0) → Load → Type 0
+Both-idle I J σ = (σP : Load) × (σQ : Load) × I σP × J σQ × (σ ≡ cat (σP ∷ σQ ∷ []))

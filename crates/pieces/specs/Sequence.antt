@@ -12,7 +12,7 @@ use Rattle.network.specs.Net.{Token, val, mark, Demand, Links}
 use Rattle.pieces.specs.Load.{Load, put, On, on-app, Off, Apart, Within, cat, pull, pulls, Pair, app-assoc}
 use Rattle.pieces.specs.Goes.{Goes, Goes-on, Alike, go-stay, go-then, go-then-on, go-wide, go-wide-on, go-less, go-from, go-to, go-from-on, alike-pulls, alike-sym, go-two, go-two-on, go-order}
 use Rattle.pieces.specs.Gate.{Dist, somes, Eats, gate}
-use Rattle.pieces.specs.Piece.{Vals, tok, load, In, Piece, Dom, Neat, Ans, Means, Leads, Serves, load-in, lead-after, lead-less, Fits}
+use Rattle.pieces.specs.Piece.{Vals, tok, load, In, Piece, Dom, Neat, Ans, Means, Leads, Serves, load-in, lead-after, lead-less, Fits, Both-idle}
 
 pub load-app : (xs zs : List ℕ) (us ws : Vals) → Fits xs us → load (xs ++ zs) (us ++ ws) ≡ load xs us ++ load zs ws
 load-app [] zs [] ws f = refl
@@ -20,20 +20,18 @@ load-app [] zs (v ∷ us) ws f = absurd f
 load-app (x ∷ xs) zs [] ws f = absurd f
 load-app (x ∷ xs) zs (u ∷ us) ws f = ap (λ t. (x, tok u) ∷ t) (load-app xs zs us ws f)
 
--- ONE AFTER ANOTHER: `P` from `xs`; then `Q` from P's outputs and `zs`.
+-- ONE AFTER ANOTHER: `P` from its inputs; then `Q` from P's outputs and the links `zs`. The meaning is of P's inputs and the other values: P's
+-- rounds do not suffice, or what it gives goes on to Q.
+module _ (outs : List ℕ) (MP MQ : Means) where
+  pub data Then : Vals → Vals → ℕ → Ans → Type 0 where
+    first-lost : (us ws : Vals) (c : ℕ) → MP us c none → Then us ws c none
+    first-done : (us ws rs : Vals) (c d : ℕ) (a : Ans) → MP us c (some rs) → Fits outs rs → MQ (rs ++ ws) d a → Then us ws (c + d) a
+
 module _ (net : ℕ → Demand) (D : ℕ → Type 0) (P : Piece) (zs os : List ℕ) (ownQ : ℕ → Type 0) (IdleQ : Load → Type 0) (MP MQ : Means) where
   abbrev pub PQ : Piece
   PQ = record { ins = P .outs ++ zs; outs = os; own = ownQ; Idle = IdleQ }
 
-  abbrev pub IdleS : Load → Type 0
-  IdleS σ = (σP : Load) × (σQ : Load) × P .Idle σP × IdleQ σQ × (σ ≡ cat (σP ∷ σQ ∷ []))
-
-  -- the meaning: of P's inputs and the other values
-  pub data Then : Vals → Vals → ℕ → Ans → Type 0 where
-    t-lost : (us ws : Vals) (c : ℕ) → MP us c none → Then us ws c none
-    t-then : (us ws rs : Vals) (c d : ℕ) (a : Ans) → MP us c (some rs) → Fits (P .outs) rs → MQ (rs ++ ws) d a → Then us ws (c + d) a
-
-  pub record SeqRig : Type 0 where
+  pub record Sequence-rig : Type 0 where
     pub serve-P : Serves net P MP
     pub serve-Q : Serves net PQ MQ
     pub neat-P : Neat P
@@ -44,7 +42,7 @@ module _ (net : ℕ → Demand) (D : ℕ → Type 0) (P : Piece) (zs os : List �
     pub apart-Q : (l : ℕ) → ownQ l → Dom P l → ⊥
     pub apart-P : (l : ℕ) → P .own l → Dom PQ l → ⊥
 
-  module _ (Z : SeqRig) where
+  module _ (Z : Sequence-rig) where
     in-z : (l : ℕ) → In l zs → In l (P .outs ++ zs)
     in-z l i = go (P .outs)
       where
@@ -104,16 +102,16 @@ module _ (net : ℕ → Demand) (D : ℕ → Type 0) (P : Piece) (zs os : List �
     unfolding Bef
     first-alike us ws σP σQ iP iQ = alike-pulls net D (2 ∷ 1 ∷ []) (load (P .ins) us ∷ load zs ws ∷ σP ∷ σQ ∷ []) (pr-1 us ws σP σQ iP iQ)
 
-    pub seq : {us ws : Vals} {c : ℕ} {a : Ans} → Then us ws c a → (σP σQ : Load) → P .Idle σP → IdleQ σQ →
-        Leads net D (cat (load (P .ins) us ∷ load zs ws ∷ σP ∷ σQ ∷ [])) os IdleS c a
+    pub sequence : {us ws : Vals} {c : ℕ} {a : Ans} → Then (P .outs) MP MQ us ws c a → (σP σQ : Load) → P .Idle σP → IdleQ σQ →
+        Leads net D (cat (load (P .ins) us ∷ load zs ws ∷ σP ∷ σQ ∷ [])) os (Both-idle (P .Idle) IdleQ) c a
     unfolding Bef
-    seq (t-lost us ws c m) σP σQ iP iQ =
+    sequence (first-lost us ws c m) σP σQ iP iQ =
         go-from-on net D (cat (load (P .ins) us ∷ σP ∷ load zs ws ∷ σQ ∷ [])) (Bef us ws σP σQ) c (first-alike us ws σP σQ iP iQ)
         (go-wide-on net (Dom P) D (cat (load (P .ins) us ∷ σP ∷ load zs ws ∷ σQ ∷ [])) c (Z .up-P)
         (go-two-on net (Dom P) (load (P .ins) us) σP c (load zs ws ∷ σQ ∷ []) (off-1 ws σQ iQ) (Z .serve-P us c none m σP iP)))
-    seq (t-then us ws rs c d a m f n) σP σQ iP iQ =
+    sequence (first-done us ws rs c d a m f n) σP σQ iP iQ =
         let h = Z .serve-P us c (some rs) m σP iP in
-        lead-after net D (Bef us ws σP σQ) (cat ((load (P .outs) rs ++ load zs ws) ∷ σQ ∷ h .0 ∷ [])) os IdleS c d a
+        lead-after net D (Bef us ws σP σQ) (cat ((load (P .outs) rs ++ load zs ws) ∷ σQ ∷ h .0 ∷ [])) os (Both-idle (P .Idle) IdleQ) c d a
         (second (h .0) (h .1) (h .2)) (third (h .0) (h .1) a (Z .serve-Q (rs ++ ws) d a n σQ iQ))
       where
         second : (σ′ : Load) → P .Idle σ′ → Goes net (Dom P) (load (P .ins) us ++ σP) c (load (P .outs) rs ++ σ′) →
@@ -126,7 +124,7 @@ module _ (net : ℕ → Demand) (D : ℕ → Type 0) (P : Piece) (zs os : List �
             (go-two net (Dom P) (load (P .ins) us) σP (load (P .outs) rs) σ′ c (load zs ws ∷ σQ ∷ []) (off-1 ws σQ iQ) g))))
 
         third : (σ′ : Load) → P .Idle σ′ → (a : Ans) → Leads net (Dom PQ) (load (P .outs ++ zs) (rs ++ ws) ++ σQ) os IdleQ d a →
-            Leads net D (cat ((load (P .outs) rs ++ load zs ws) ∷ σQ ∷ σ′ ∷ [])) os IdleS d a
+            Leads net D (cat ((load (P .outs) rs ++ load zs ws) ∷ σQ ∷ σ′ ∷ [])) os (Both-idle (P .Idle) IdleQ) d a
         third σ′ i′ none g =
             go-wide-on net (Dom PQ) D (cat ((load (P .outs) rs ++ load zs ws) ∷ σQ ∷ σ′ ∷ [])) d (Z .up-Q)
             (go-two-on net (Dom PQ) (load (P .outs) rs ++ load zs ws) σQ d (σ′ ∷ []) (off-2 σ′ i′) (subst (λ z. Goes-on net (Dom PQ) (z ++ σQ) d) (load-app (P .outs) zs rs ws f) g))
