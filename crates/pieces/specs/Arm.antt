@@ -11,13 +11,13 @@ use Rattle.network.specs.Values.{true-value, false-value, err-value}
 use Rattle.network.specs.Net.{Token, val, mark, Demand, Links}
 use Rattle.pieces.specs.Load.{Load, put, On, on-app, Clear, Off, Apart, Within, Nones, cat, pull, pulls, Far, Pair, Tint, Tints, pair-of, Among, among-not, off-tints, apart-cat, app-assoc}
 use Rattle.pieces.specs.Goes.{Goes, Goes-on, Alike, go-then, go-wide, go-wide-on, go-less, go-from, go-to, go-from-on, alike-pulls, alike-sym, alike-nones, go-two, go-two-on, go-order}
-use Rattle.pieces.specs.Piece.{Vals, tok, load, In, Piece, Dom, Ans, Means, Serves, none-of, some-of, load-in, load-app-none, none-of-nones, load-app-fit, same-of, Fits}
+use Rattle.pieces.specs.Piece.{Values, token-of, load, In, Piece, Region, Answer, Means, Serves, none-of, some-of, load-in, load-app-none, none-of-nones, load-app-fit, same-of, Fits}
 use Rattle.pieces.specs.Rows.{in-app}
 
 -- What an arm's answer makes of the whole's: its iterated links `IX` and returned links `RX` become the whole's `I` and `R`. `itX`, `reX` say which
 -- values the arm may iterate or return (none, for an arm that never does).
 module _ (IX RX I R : List ℕ) (MX : Means) (itX reX : List Value → Type 0) where
-  pub data Chosen : List Value → ℕ → Ans → Type 0 where
+  pub data Chosen : List Value → ℕ → Answer → Type 0 where
     arm-lost : (xs : List Value) (c : ℕ) → MX (some-of xs) c none → Chosen xs c none
     arm-iterates : (xs : List Value) (c : ℕ) (us : List Value) → itX us → MX (some-of xs) c (some (some true-value ∷ (some-of us ++ none-of RX))) →
         Chosen xs c (some (some true-value ∷ (some-of us ++ none-of R)))
@@ -30,14 +30,14 @@ module _ (IX RX I R : List ℕ) (MX : Means) (itX reX : List Value → Type 0) w
 module _ (net : ℕ → Demand) (colour hue : ℕ → ℕ) (ci o₁ o₃ : ℕ) (os₂ I R : List ℕ) (D DI DR : ℕ → Type 0) (t : Value)
     (ins : List ℕ) (ix : ℕ) (IX RX : List ℕ) (own : ℕ → Type 0) (Idle : Load → Type 0) (MX : Means) (itX reX : List Value → Type 0) where
   -- the arm: a body; `itX`, `reX` say which values it may iterate or return (none, for an arm that never does)
-  abbrev pub PX : Piece
-  PX = record { ins = ins; outs = ix ∷ (IX ++ RX); own = own; Idle = Idle }
+  abbrev pub Arm-piece : Piece
+  Arm-piece = record { ins = ins; outs = ix ∷ (IX ++ RX); own = own; Idle = Idle }
 
-  abbrev pub Dic : ℕ → Type 0
-  Dic l = In l (ci ∷ ix ∷ o₁ ∷ o₃ ∷ os₂)
+  abbrev pub IC-region : ℕ → Type 0
+  IC-region l = In l (ci ∷ ix ∷ o₁ ∷ o₃ ∷ os₂)
 
   pub record Arm : Type 0 where
-    pub serves : Serves net PX MX
+    pub serves : Serves net Arm-piece MX
     pub idle-own : (σ : Load) → Idle σ → Within σ own
     pub h-ci : colour ci ≡ 0
     pub h-ins : (l : ℕ) → In l ins → (colour l ≡ 3) ⊎ ((colour l ≡ 9) ⊎ (colour l ≡ 11))
@@ -52,8 +52,8 @@ module _ (net : ℕ → Demand) (colour hue : ℕ → ℕ) (ci o₁ o₃ : ℕ) 
     pub w-o₁ : hue o₁ ≡ 13
     pub w-I : (l : ℕ) → In l I → hue l ≡ 16
     pub w-R : (l : ℕ) → In l R → hue l ≡ 17
-    pub up-X : (l : ℕ) → Dom PX l → D l
-    pub up-ic : (l : ℕ) → Dic l → D l
+    pub up-X : (l : ℕ) → Region Arm-piece l → D l
+    pub up-ic : (l : ℕ) → IC-region l → D l
     pub up-I : (l : ℕ) → DI l → D l
     pub up-R : (l : ℕ) → DR l → D l
     pub in-I : (l : ℕ) → In l I → D l
@@ -63,10 +63,10 @@ module _ (net : ℕ → Demand) (colour hue : ℕ → ℕ) (ci o₁ o₃ : ℕ) 
     pub fit-it : (us : List Value) → itX us → Fits IX us
     pub fit-I : (us : List Value) → itX us → Fits I us
     -- IC fires; the joins
-    pub ic-t : Goes net Dic (((ci, some (val t)) ∷ []) ++ ((ix, some (val true-value)) ∷ [])) 1 (((o₁, some (val true-value)) ∷ []) ++ load os₂ (some-of (same-of os₂ t)))
-    pub ic-f : Goes net Dic (((ci, some (val t)) ∷ []) ++ ((ix, some (val false-value)) ∷ [])) 1 (((o₁, some (val false-value)) ∷ []) ++ ((o₃, some (val t)) ∷ []))
-    pub ji : (us : List Value) → itX us → Goes net DI (load os₂ (some-of (same-of os₂ t)) ++ load IX (some-of us)) 0 (load I (some-of us) ++ [])
-    pub jr : (ws : List Value) → reX ws → Goes net DR (((o₃, some (val t)) ∷ []) ++ load RX (some-of ws)) 0 (load R (some-of ws) ++ [])
+    pub IC-iterates : Goes net IC-region (((ci, some (val t)) ∷ []) ++ ((ix, some (val true-value)) ∷ [])) 1 (((o₁, some (val true-value)) ∷ []) ++ load os₂ (some-of (same-of os₂ t)))
+    pub IC-returns : Goes net IC-region (((ci, some (val t)) ∷ []) ++ ((ix, some (val false-value)) ∷ [])) 1 (((o₁, some (val false-value)) ∷ []) ++ ((o₃, some (val t)) ∷ []))
+    pub join-iterated : (us : List Value) → itX us → Goes net DI (load os₂ (some-of (same-of os₂ t)) ++ load IX (some-of us)) 0 (load I (some-of us) ++ [])
+    pub join-returned : (ws : List Value) → reX ws → Goes net DR (((o₃, some (val t)) ∷ []) ++ load RX (some-of ws)) 0 (load R (some-of ws) ++ [])
 
   module _ (A : Arm) (τ : Load) (tτ : Tint colour 19 τ) (wτ : Tint hue 19 τ) where
     abbrev K : Load
@@ -76,9 +76,9 @@ module _ (net : ℕ → Demand) (colour hue : ℕ → ℕ) (ci o₁ o₃ : ℕ) 
     abbrev pub Begin : List Value → Load → Load
     Begin xs σ = cat (K ∷ load ins (some-of xs) ∷ σ ∷ τ ∷ [])
 
-    abbrev pub Res : List Value → Load → ℕ → Ans → Type 0
-    Res xs σ c none = Goes-on net D (Begin xs σ) c
-    Res xs σ c (some r) = (σ′ : Load) × Idle σ′ × Goes net D (Begin xs σ) c (cat (load (o₁ ∷ (I ++ R)) r ∷ σ′ ∷ τ ∷ []))
+    abbrev pub Arm-result : List Value → Load → ℕ → Answer → Type 0
+    Arm-result xs σ c none = Goes-on net D (Begin xs σ) c
+    Arm-result xs σ c (some r) = (σ′ : Load) × Idle σ′ × Goes net D (Begin xs σ) c (cat (load (o₁ ∷ (I ++ R)) r ∷ σ′ ∷ τ ∷ []))
 
     tK : Tint colour 0 K
     tK l (inl e) = ap colour e ∙ A .h-ci
@@ -94,7 +94,7 @@ module _ (net : ℕ → Demand) (colour hue : ℕ → ℕ) (ci o₁ o₃ : ℕ) 
     abbrev fold : ℕ → ℕ
     fold x = ite (ℕ-discrete x 9) 3 (ite (ℕ-discrete x 11) 3 x)
 
-    t-ins : (vs : Vals) → Tint (λ l. fold (colour l)) 3 (load ins vs)
+    t-ins : (vs : Values) → Tint (λ l. fold (colour l)) 3 (load ins vs)
     unfolding ℕ-discrete
     t-ins vs l o = go (A .h-ins l (load-in ins vs l o))
       where
@@ -107,10 +107,10 @@ module _ (net : ℕ → Demand) (colour hue : ℕ → ℕ) (ci o₁ o₃ : ℕ) 
     t-ix v l (inl e) = ap colour e ∙ A .h-ix
     t-ix v l (inr e) = absurd e
 
-    t-IX : (vs : Vals) → Tint colour 9 (load IX vs)
+    t-IX : (vs : Values) → Tint colour 9 (load IX vs)
     t-IX vs l o = A .h-IX l (load-in IX vs l o)
 
-    t-RX : (vs : Vals) → Tint colour 11 (load RX vs)
+    t-RX : (vs : Values) → Tint colour 11 (load RX vs)
     t-RX vs l o = A .h-RX l (load-in RX vs l o)
 
     t-o₁ : (v : Value) → Tint colour 13 ((o₁, some (val v)) ∷ [])
@@ -121,14 +121,14 @@ module _ (net : ℕ → Demand) (colour hue : ℕ → ℕ) (ci o₁ o₃ : ℕ) 
     wt-o₁ v l (inl e) = ap hue e ∙ A .w-o₁
     wt-o₁ v l (inr e) = absurd e
 
-    t-os₂ : (vs : Vals) → Tint colour 14 (load os₂ vs)
+    t-os₂ : (vs : Values) → Tint colour 14 (load os₂ vs)
     t-os₂ vs l o = A .h-os₂ l (load-in os₂ vs l o)
 
     t-o₃ : (v : Value) → Tint colour 15 ((o₃, some (val v)) ∷ [])
     t-o₃ v l (inl e) = ap colour e ∙ A .h-o₃
     t-o₃ v l (inr e) = absurd e
 
-    no-X : (l : ℕ) → Dom PX l → Among colour (colour l) (0 ∷ 19 ∷ []) → ⊥
+    no-X : (l : ℕ) → Region Arm-piece l → Among colour (colour l) (0 ∷ 19 ∷ []) → ⊥
     unfolding ℕ-discrete
     no-X l (inl o) = among-not colour (colour l) 18 (0 ∷ 19 ∷ []) (A .h-own l o) refl
     no-X l (inr (inl i)) = go (A .h-ins l i)
@@ -143,7 +143,7 @@ module _ (net : ℕ → Demand) (colour hue : ℕ → ℕ) (ci o₁ o₃ : ℕ) 
         (λ (z : In l RX). among-not colour (colour l) 11 (0 ∷ 19 ∷ []) (A .h-RX l z) refl) (in-app l IX RX i)
 
     -- of the links of IC none is one of these colours
-    no-ic : (is : List ℕ) (l : ℕ) → Dic l → ((k : ℕ) → colour l ≡ k → (k ≡ 0) ⊎ ((k ≡ 7) ⊎ ((k ≡ 13) ⊎ ((k ≡ 15) ⊎ (k ≡ 14)))) → Among colour (colour l) is → ⊥) →
+    no-ic : (is : List ℕ) (l : ℕ) → IC-region l → ((k : ℕ) → colour l ≡ k → (k ≡ 0) ⊎ ((k ≡ 7) ⊎ ((k ≡ 13) ⊎ ((k ≡ 15) ⊎ (k ≡ 14)))) → Among colour (colour l) is → ⊥) →
         Among colour (colour l) is → ⊥
     no-ic is l (inl e) f = f 0 (ap colour e ∙ A .h-ci) (inl refl)
     no-ic is l (inr (inl e)) f = f 7 (ap colour e ∙ A .h-ix) (inr (inl refl))
@@ -151,10 +151,10 @@ module _ (net : ℕ → Demand) (colour hue : ℕ → ℕ) (ci o₁ o₃ : ℕ) 
     no-ic is l (inr (inr (inr (inl e)))) f = f 15 (ap colour e ∙ A .h-o₃) (inr (inr (inr (inl refl))))
     no-ic is l (inr (inr (inr (inr i)))) f = f 14 (A .h-os₂ l i) (inr (inr (inr (inr refl))))
 
-    five : (is : List ℕ) → ((k : ℕ) → (k ≡ 0) ⊎ ((k ≡ 7) ⊎ ((k ≡ 13) ⊎ ((k ≡ 15) ⊎ (k ≡ 14)))) → Among colour k is → ⊥) → (l : ℕ) → Dic l → Among colour (colour l) is → ⊥
+    five : (is : List ℕ) → ((k : ℕ) → (k ≡ 0) ⊎ ((k ≡ 7) ⊎ ((k ≡ 13) ⊎ ((k ≡ 15) ⊎ (k ≡ 14)))) → Among colour k is → ⊥) → (l : ℕ) → IC-region l → Among colour (colour l) is → ⊥
     five is g l d = no-ic is l d (λ k e z m. g k z (subst (λ x. Among colour x is) e m))
 
-    ic9 : (l : ℕ) → Dic l → Among colour (colour l) (9 ∷ 18 ∷ 19 ∷ []) → ⊥
+    ic9 : (l : ℕ) → IC-region l → Among colour (colour l) (9 ∷ 18 ∷ 19 ∷ []) → ⊥
     unfolding ℕ-discrete
     ic9 = five (9 ∷ 18 ∷ 19 ∷ []) (λ k z m. go k z m)
       where
@@ -165,7 +165,7 @@ module _ (net : ℕ → Demand) (colour hue : ℕ → ℕ) (ci o₁ o₃ : ℕ) 
         go k (inr (inr (inr (inl e)))) = among-not colour k 15 (9 ∷ 18 ∷ 19 ∷ []) e refl
         go k (inr (inr (inr (inr e)))) = among-not colour k 14 (9 ∷ 18 ∷ 19 ∷ []) e refl
 
-    ic11 : (l : ℕ) → Dic l → Among colour (colour l) (11 ∷ 18 ∷ 19 ∷ []) → ⊥
+    ic11 : (l : ℕ) → IC-region l → Among colour (colour l) (11 ∷ 18 ∷ 19 ∷ []) → ⊥
     unfolding ℕ-discrete
     ic11 = five (11 ∷ 18 ∷ 19 ∷ []) (λ k z m. go k z m)
       where
@@ -184,15 +184,15 @@ module _ (net : ℕ → Demand) (colour hue : ℕ → ℕ) (ci o₁ o₃ : ℕ) 
         (pair-of (λ l. fold (colour l)) (0 ∷ 3 ∷ 18 ∷ 19 ∷ []) (K ∷ load ins (some-of xs) ∷ σ ∷ τ ∷ [])
         (λ l o. ap fold (tK l o), (t-ins (some-of xs), (λ l o. ap fold (tσ σ i l o), (λ l o. ap fold (tτ l o), tt)))) refl)
 
-    off-arm : Off (cat (K ∷ τ ∷ [])) (Dom PX)
-    off-arm = off-tints colour (0 ∷ 19 ∷ []) (K ∷ τ ∷ []) (Dom PX) (tK, (tτ, tt)) no-X
+    off-arm : Off (cat (K ∷ τ ∷ [])) (Region Arm-piece)
+    off-arm = off-tints colour (0 ∷ 19 ∷ []) (K ∷ τ ∷ []) (Region Arm-piece) (tK, (tτ, tt)) no-X
 
-    arm-step : (xs : List Value) (c : ℕ) (X σ σ′ : Load) → Idle σ → Goes net (Dom PX) (load ins (some-of xs) ++ σ) c (X ++ σ′) →
+    arm-step : (xs : List Value) (c : ℕ) (X σ σ′ : Load) → Idle σ → Goes net (Region Arm-piece) (load ins (some-of xs) ++ σ) c (X ++ σ′) →
         Goes net D (Begin xs σ) c (cat (X ∷ σ′ ∷ K ∷ τ ∷ []))
     arm-step xs c X σ σ′ i f =
         go-from net D (cat (load ins (some-of xs) ∷ σ ∷ K ∷ τ ∷ [])) (Begin xs σ) (cat (X ∷ σ′ ∷ K ∷ τ ∷ [])) c (begin-alike xs σ i)
-        (go-wide net (Dom PX) D (cat (load ins (some-of xs) ∷ σ ∷ K ∷ τ ∷ [])) (cat (X ∷ σ′ ∷ K ∷ τ ∷ [])) c (A .up-X)
-        (go-two net (Dom PX) (load ins (some-of xs)) σ X σ′ c (K ∷ τ ∷ []) off-arm f))
+        (go-wide net (Region Arm-piece) D (cat (load ins (some-of xs) ∷ σ ∷ K ∷ τ ∷ [])) (cat (X ∷ σ′ ∷ K ∷ τ ∷ [])) c (A .up-X)
+        (go-two net (Region Arm-piece) (load ins (some-of xs)) σ X σ′ c (K ∷ τ ∷ []) off-arm f))
 
     cut3 : (x : ℕ × Option Token) (P Q : Load) (bs : List Load) → cat ((x ∷ (P ++ Q)) ∷ bs) ≡ cat ((x ∷ []) ∷ P ∷ Q ∷ bs)
     cut3 x P Q bs = ap (λ z. x ∷ z) (app-assoc P Q (cat bs))
@@ -235,9 +235,9 @@ module _ (net : ℕ → Demand) (colour hue : ℕ → ℕ) (ci o₁ o₃ : ℕ) 
 
       it-2 : Goes net D (cat (K ∷ ((ix, some (val true-value)) ∷ []) ∷ U ∷ σ′ ∷ τ ∷ [])) 1 (cat (T₁ ∷ S₂ ∷ U ∷ σ′ ∷ τ ∷ []))
       it-2 =
-          go-wide net Dic D (cat (K ∷ ((ix, some (val true-value)) ∷ []) ∷ U ∷ σ′ ∷ τ ∷ [])) (cat (T₁ ∷ S₂ ∷ U ∷ σ′ ∷ τ ∷ [])) 1 (A .up-ic)
-          (go-two net Dic K ((ix, some (val true-value)) ∷ []) T₁ S₂ 1 (U ∷ σ′ ∷ τ ∷ [])
-          (off-tints colour (9 ∷ 18 ∷ 19 ∷ []) (U ∷ σ′ ∷ τ ∷ []) Dic (t-IX (some-of us), (tσ σ′ jσ, (tτ, tt))) ic9) (A .ic-t))
+          go-wide net IC-region D (cat (K ∷ ((ix, some (val true-value)) ∷ []) ∷ U ∷ σ′ ∷ τ ∷ [])) (cat (T₁ ∷ S₂ ∷ U ∷ σ′ ∷ τ ∷ [])) 1 (A .up-ic)
+          (go-two net IC-region K ((ix, some (val true-value)) ∷ []) T₁ S₂ 1 (U ∷ σ′ ∷ τ ∷ [])
+          (off-tints colour (9 ∷ 18 ∷ 19 ∷ []) (U ∷ σ′ ∷ τ ∷ []) IC-region (t-IX (some-of us), (tσ σ′ jσ, (tτ, tt))) ic9) (A .IC-iterates))
 
       it-3 : Goes net D (cat (T₁ ∷ S₂ ∷ U ∷ σ′ ∷ τ ∷ [])) 0 (cat (J ∷ T₁ ∷ σ′ ∷ τ ∷ []))
       unfolding ℕ-discrete
@@ -247,7 +247,7 @@ module _ (net : ℕ → Demand) (colour hue : ℕ → ℕ) (ci o₁ o₃ : ℕ) 
           (pair-of colour (13 ∷ 14 ∷ 9 ∷ 18 ∷ 19 ∷ []) (T₁ ∷ S₂ ∷ U ∷ σ′ ∷ τ ∷ []) (t-o₁ true-value, (t-os₂ (some-of (same-of os₂ t)), (t-IX (some-of us), (tσ σ′ jσ, (tτ, tt))))) refl))
           (go-wide net DI D (cat (S₂ ∷ U ∷ T₁ ∷ σ′ ∷ τ ∷ [])) (cat (J ∷ [] ∷ T₁ ∷ σ′ ∷ τ ∷ [])) 0 (A .up-I)
           (go-two net DI S₂ U J [] 0 (T₁ ∷ σ′ ∷ τ ∷ [])
-          (off-tints colour (13 ∷ 18 ∷ 19 ∷ []) (T₁ ∷ σ′ ∷ τ ∷ []) DI (t-o₁ true-value, (tσ σ′ jσ, (tτ, tt))) (A .no-I)) (A .ji us iu)))
+          (off-tints colour (13 ∷ 18 ∷ 19 ∷ []) (T₁ ∷ σ′ ∷ τ ∷ []) DI (t-o₁ true-value, (tσ σ′ jσ, (tτ, tt))) (A .no-I)) (A .join-iterated us iu)))
 
       it-4 : Alike net D (cat (J ∷ T₁ ∷ σ′ ∷ τ ∷ [])) (cat (load (o₁ ∷ (I ++ R)) (some true-value ∷ (some-of us ++ none-of R)) ∷ σ′ ∷ τ ∷ []))
       unfolding ℕ-discrete
@@ -313,9 +313,9 @@ module _ (net : ℕ → Demand) (colour hue : ℕ → ℕ) (ci o₁ o₃ : ℕ) 
 
       re-2 : Goes net D (cat (K ∷ ((ix, some (val false-value)) ∷ []) ∷ U′ ∷ σ′ ∷ τ ∷ [])) 1 (cat (F₁ ∷ S₃ ∷ U′ ∷ σ′ ∷ τ ∷ []))
       re-2 =
-          go-wide net Dic D (cat (K ∷ ((ix, some (val false-value)) ∷ []) ∷ U′ ∷ σ′ ∷ τ ∷ [])) (cat (F₁ ∷ S₃ ∷ U′ ∷ σ′ ∷ τ ∷ [])) 1 (A .up-ic)
-          (go-two net Dic K ((ix, some (val false-value)) ∷ []) F₁ S₃ 1 (U′ ∷ σ′ ∷ τ ∷ [])
-          (off-tints colour (11 ∷ 18 ∷ 19 ∷ []) (U′ ∷ σ′ ∷ τ ∷ []) Dic (t-RX (some-of ws), (tσ σ′ jσ, (tτ, tt))) ic11) (A .ic-f))
+          go-wide net IC-region D (cat (K ∷ ((ix, some (val false-value)) ∷ []) ∷ U′ ∷ σ′ ∷ τ ∷ [])) (cat (F₁ ∷ S₃ ∷ U′ ∷ σ′ ∷ τ ∷ [])) 1 (A .up-ic)
+          (go-two net IC-region K ((ix, some (val false-value)) ∷ []) F₁ S₃ 1 (U′ ∷ σ′ ∷ τ ∷ [])
+          (off-tints colour (11 ∷ 18 ∷ 19 ∷ []) (U′ ∷ σ′ ∷ τ ∷ []) IC-region (t-RX (some-of ws), (tσ σ′ jσ, (tτ, tt))) ic11) (A .IC-returns))
 
       re-3 : Goes net D (cat (F₁ ∷ S₃ ∷ U′ ∷ σ′ ∷ τ ∷ [])) 0 (cat (J′ ∷ F₁ ∷ σ′ ∷ τ ∷ []))
       unfolding ℕ-discrete
@@ -325,7 +325,7 @@ module _ (net : ℕ → Demand) (colour hue : ℕ → ℕ) (ci o₁ o₃ : ℕ) 
           (pair-of colour (13 ∷ 15 ∷ 11 ∷ 18 ∷ 19 ∷ []) (F₁ ∷ S₃ ∷ U′ ∷ σ′ ∷ τ ∷ []) (t-o₁ false-value, (t-o₃ t, (t-RX (some-of ws), (tσ σ′ jσ, (tτ, tt))))) refl))
           (go-wide net DR D (cat (S₃ ∷ U′ ∷ F₁ ∷ σ′ ∷ τ ∷ [])) (cat (J′ ∷ [] ∷ F₁ ∷ σ′ ∷ τ ∷ [])) 0 (A .up-R)
           (go-two net DR S₃ U′ J′ [] 0 (F₁ ∷ σ′ ∷ τ ∷ [])
-          (off-tints colour (13 ∷ 18 ∷ 19 ∷ []) (F₁ ∷ σ′ ∷ τ ∷ []) DR (t-o₁ false-value, (tσ σ′ jσ, (tτ, tt))) (A .no-R)) (A .jr ws rw′)))
+          (off-tints colour (13 ∷ 18 ∷ 19 ∷ []) (F₁ ∷ σ′ ∷ τ ∷ []) DR (t-o₁ false-value, (tσ σ′ jσ, (tτ, tt))) (A .no-R)) (A .join-returned ws rw′)))
 
       re-4 : Alike net D (cat (J′ ∷ F₁ ∷ σ′ ∷ τ ∷ [])) (cat (load (o₁ ∷ (I ++ R)) (some false-value ∷ (none-of I ++ some-of ws)) ∷ σ′ ∷ τ ∷ []))
       unfolding ℕ-discrete
@@ -356,11 +356,11 @@ module _ (net : ℕ → Demand) (colour hue : ℕ → ℕ) (ci o₁ o₃ : ℕ) 
           (go-then net D (cat (K ∷ ((ix, some (val false-value)) ∷ []) ∷ U′ ∷ σ′ ∷ τ ∷ [])) (cat (F₁ ∷ S₃ ∷ U′ ∷ σ′ ∷ τ ∷ [])) (cat (J′ ∷ F₁ ∷ σ′ ∷ τ ∷ [])) 1 0 re-2 re-3))))
 
     -- THE CHOSEN ARM, all in one
-    pub chosen : {xs : List Value} {c : ℕ} {a : Ans} → Chosen IX RX I R MX itX reX xs c a → (σ : Load) → Idle σ → Res xs σ c a
+    pub chosen : {xs : List Value} {c : ℕ} {a : Answer} → Chosen IX RX I R MX itX reX xs c a → (σ : Load) → Idle σ → Arm-result xs σ c a
     chosen (arm-lost xs c m) σ i =
         go-from-on net D (cat (load ins (some-of xs) ∷ σ ∷ K ∷ τ ∷ [])) (Begin xs σ) c (begin-alike xs σ i)
-        (go-wide-on net (Dom PX) D (cat (load ins (some-of xs) ∷ σ ∷ K ∷ τ ∷ [])) c (A .up-X)
-        (go-two-on net (Dom PX) (load ins (some-of xs)) σ c (K ∷ τ ∷ []) off-arm (A .serves (some-of xs) c none m σ i)))
+        (go-wide-on net (Region Arm-piece) D (cat (load ins (some-of xs) ∷ σ ∷ K ∷ τ ∷ [])) c (A .up-X)
+        (go-two-on net (Region Arm-piece) (load ins (some-of xs)) σ c (K ∷ τ ∷ []) off-arm (A .serves (some-of xs) c none m σ i)))
     chosen (arm-iterates xs c us iu m) σ i =
         let h = A .serves (some-of xs) c (some (some true-value ∷ (some-of us ++ none-of RX))) m σ i in
         let X = load (ix ∷ (IX ++ RX)) (some true-value ∷ (some-of us ++ none-of RX)) in

@@ -2,15 +2,20 @@
 -- a gate does; that a firing takes a load and emits another is computed from the table where it is used.
 -- The register of FM and FS is a link `g`; an absent input is link 0, which the kind never takes from; an absent output is none.
 use Prim.Native.Nat.{ℕ}
+use mathlib.Core.Bool.{false}
 use mathlib.Core.List.{List, [], _∷_}
 use mathlib.Core.Option.{Option, none, some}
 use Rattle.value.specs.declared.Value.{Value}
-use Rattle.network.specs.Rules.{constant, copy, operator, T-gate, F-gate, M-gate, E-gate, IC-gate, FM-gate, FS-gate, Register, fired}
+use Rattle.network.specs.Rules.{constant, copy, operator, T-gate, F-gate, M-gate, E-gate, IC-gate, FM-gate, FS-gate, Register, Firing, fired}
 use Rattle.network.specs.Net.{Token, Demand}
-use Rattle.network.specs.Fill.{Ports, register-token, fill}
+use Rattle.network.specs.Fill.{Ports, register-token, wire, kept, fill}
 
 abbrev pub ports : ℕ → ℕ → ℕ → Option ℕ → Option ℕ → Option ℕ → ℕ → Register → Ports
 ports i j k o p q g r = record { in1 = i; in2 = j; in3 = k; out1 = o; out2 = p; out3 = q; register = g; held = r }
+
+-- a firing rule on the ports of a gate with one output
+abbrev pub plain : ℕ → ℕ → ℕ → ℕ → Firing → Demand
+plain i j k o f = wire (kept false (ports i j k (some o) none none 0 none)) (ports i j k (some o) none none 0 none) f
 
 -- a constant: value, trigger, output
 abbrev pub constant-at : Value → ℕ → ℕ → Demand

@@ -8,40 +8,39 @@ use lib.ListN.{length, length-append}
 use native.Mathlib.Omega.{arith}
 use Rattle.value.specs.declared.Value.{Value}
 use Rattle.network.specs.Net.{Token, val, mark, Demand, Links, Able, act}
+use Rattle.network.specs.Commute.{enabled, next, output}
+use Rattle.schedule.specs.Schedules.{Possible, reached, possible-append, reached-append}
 use Rattle.pieces.specs.Load.{Load, opt, put, put-app, On, Clear, Off, Apart, Within, put-off, put-clear, put-swap, Nones, put-nones, cat, pull, pulls, Pair, put-pulls, app-assoc}
 
 -- The capacity is one at every link.
-abbrev pub cap1 : ℕ → ℕ
-cap1 l = 1
+abbrev pub one-place : ℕ → ℕ
+one-place l = 1
 
 module _ (net : ℕ → Demand) where
-  abbrev pub Runs1 : List ℕ → Links → Type 0
-  Runs1 [] q = Unit {0}
-  Runs1 (a ∷ w) q = Able cap1 (net a) q × Runs1 w (act (net a) q)
+  -- A schedule that is possible with one place a link, and where it leads.
+  abbrev pub Feasible : List ℕ → Links → Type 0
+  Feasible = Possible (enabled net one-place) (next net one-place) (output net one-place)
 
-  abbrev pub ends1 : List ℕ → Links → Links
-  ends1 [] q = q
-  ends1 (a ∷ w) q = ends1 w (act (net a) q)
+  abbrev pub led-to : List ℕ → Links → Links
+  led-to = reached (enabled net one-place) (next net one-place) (output net one-place)
 
-  pub runs-app : (u w : List ℕ) (q : Links) → Runs1 u q → Runs1 w (ends1 u q) → Runs1 (u ++ w) q
-  runs-app [] w q r s = s
-  runs-app (a ∷ u) w q r s = (r .0, runs-app u w (act (net a) q) (r .1) s)
+  feasible-append : (u w : List ℕ) (q : Links) → Feasible u q → Feasible w (led-to u q) → Feasible (u ++ w) q
+  feasible-append = possible-append (enabled net one-place) (next net one-place) (output net one-place)
 
-  pub ends-app : (u w : List ℕ) (q : Links) → ends1 (u ++ w) q ≡ ends1 w (ends1 u q)
-  ends-app [] w q = refl
-  ends-app (a ∷ u) w q = ends-app u w (act (net a) q)
+  led-to-append : (u w : List ℕ) (q : Links) → led-to (u ++ w) q ≡ led-to w (led-to u q)
+  led-to-append = reached-append (enabled net one-place) (next net one-place) (output net one-place)
 
   -- A schedule of at least `c` firings, from one state to exactly another.
   pub record Steps (q : Links) (c : ℕ) (q′ : Links) : Type 0 where
     pub w : List ℕ
-    pub runs : Runs1 w q
-    pub ends : ends1 w q ≡ q′
+    pub runs : Feasible w q
+    pub ends : led-to w q ≡ q′
     pub many : c ≤ length w
 
   -- A schedule of at least `c` firings, wherever it leads.
   pub record Long (q : Links) (c : ℕ) : Type 0 where
     pub w : List ℕ
-    pub runs : Runs1 w q
+    pub runs : Feasible w q
     pub many : c ≤ length w
 
   pub stay : (q : Links) → Steps q 0 q
@@ -51,8 +50,8 @@ module _ (net : ℕ → Demand) where
   steps-then q q₁ q₂ c d s t =
       record {
         w = s .w ++ t .w;
-        runs = runs-app (s .w) (t .w) q (s .runs) (subst (Runs1 (t .w)) (sym (s .ends)) (t .runs));
-        ends = ends-app (s .w) (t .w) q ∙ ap (ends1 (t .w)) (s .ends) ∙ t .ends;
+        runs = feasible-append (s .w) (t .w) q (s .runs) (subst (Feasible (t .w)) (sym (s .ends)) (t .runs));
+        ends = led-to-append (s .w) (t .w) q ∙ ap (led-to (t .w)) (s .ends) ∙ t .ends;
         many = simp length-append (omega (arith, s .many, t .many));
       }
 
@@ -60,7 +59,7 @@ module _ (net : ℕ → Demand) where
   steps-long q q₁ c d s t =
       record {
         w = s .w ++ t .w;
-        runs = runs-app (s .w) (t .w) q (s .runs) (subst (Runs1 (t .w)) (sym (s .ends)) (t .runs));
+        runs = feasible-append (s .w) (t .w) q (s .runs) (subst (Feasible (t .w)) (sym (s .ends)) (t .runs));
         many = simp length-append (omega (arith, s .many, t .many));
       }
 

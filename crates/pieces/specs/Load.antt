@@ -19,19 +19,19 @@ abbrev pub opt : Option Token → List Token
 opt none = []
 opt (some t) = t ∷ []
 
-unfoldable pub set1 : ℕ → List Token → Links → Links
-set1 l x q j = ite (ℕ-discrete j l) x (q j)
+unfoldable pub set-link : ℕ → List Token → Links → Links
+set-link l x q j = ite (ℕ-discrete j l) x (q j)
 
-pub set-same : (l : ℕ) (x : List Token) (q : Links) → set1 l x q l ≡ x
-unfolding set1
+pub set-same : (l : ℕ) (x : List Token) (q : Links) → set-link l x q l ≡ x
+unfolding set-link
 set-same l x q = go (ℕ-discrete l l)
   where
     go : (d : Dec (l ≡ l)) → ite d x (q l) ≡ x
     go (yes p) = refl
     go (no n) = absurd (n refl)
 
-pub set-other : (l j : ℕ) (x : List Token) (q : Links) → j ≢ l → set1 l x q j ≡ q j
-unfolding set1
+pub set-other : (l j : ℕ) (x : List Token) (q : Links) → j ≢ l → set-link l x q j ≡ q j
+unfolding set-link
 set-other l j x q ne = go (ℕ-discrete j l)
   where
     go : (d : Dec (j ≡ l)) → ite d x (q j) ≡ q j
@@ -39,16 +39,16 @@ set-other l j x q ne = go (ℕ-discrete j l)
     go (no n) = refl
 
 -- two states are one if they agree at `l` and elsewhere
-pub set-ext : (l : ℕ) (x : List Token) (q q′ : Links) → q′ l ≡ x → ((j : ℕ) → j ≢ l → q j ≡ q′ j) → set1 l x q ≡ q′
-unfolding set1
+pub set-ext : (l : ℕ) (x : List Token) (q q′ : Links) → q′ l ≡ x → ((j : ℕ) → j ≢ l → q j ≡ q′ j) → set-link l x q ≡ q′
+unfolding set-link
 set-ext l x q q′ e f = fun-ext (λ j. go j (ℕ-discrete j l))
   where
     go : (j : ℕ) (d : Dec (j ≡ l)) → ite d x (q j) ≡ q′ j
     go j (yes p) = sym e ∙ ap q′ (sym p)
     go j (no n) = f j n
 
-pub set-swap : (l m : ℕ) (x y : List Token) (q : Links) → l ≢ m → set1 l x (set1 m y q) ≡ set1 m y (set1 l x q)
-unfolding set1
+pub set-swap : (l m : ℕ) (x y : List Token) (q : Links) → l ≢ m → set-link l x (set-link m y q) ≡ set-link m y (set-link l x q)
+unfolding set-link
 set-swap l m x y q ne = fun-ext (λ j. go j (ℕ-discrete j l) (ℕ-discrete j m))
   where
     go : (j : ℕ) (d : Dec (j ≡ l)) (e : Dec (j ≡ m)) → ite d x (ite e y (q j)) ≡ ite e y (ite d x (q j))
@@ -59,11 +59,11 @@ set-swap l m x y q ne = fun-ext (λ j. go j (ℕ-discrete j l) (ℕ-discrete j m
 
 abbrev pub put : Load → Links → Links
 put [] b = b
-put (x ∷ xs) b = set1 (x .0) (opt (x .1)) (put xs b)
+put (x ∷ xs) b = set-link (x .0) (opt (x .1)) (put xs b)
 
 pub put-app : (xs ys : Load) (b : Links) → put (xs ++ ys) b ≡ put xs (put ys b)
 put-app [] ys b = refl
-put-app (x ∷ xs) ys b = ap (set1 (x .0) (opt (x .1))) (put-app xs ys b)
+put-app (x ∷ xs) ys b = ap (set-link (x .0) (opt (x .1))) (put-app xs ys b)
 
 -- the link is one of the load's
 abbrev pub On : ℕ → Load → Type 0
@@ -75,14 +75,14 @@ on-app l [] ys o = inr o
 on-app l (x ∷ xs) ys (inl e) = inl (inl e)
 on-app l (x ∷ xs) ys (inr o) = ⊎-elim (λ (p : On l xs). inl (inr p)) (λ (p : On l ys). inr p) (on-app l xs ys o)
 
-pub on-l : (l : ℕ) (xs ys : Load) → On l xs → On l (xs ++ ys)
-on-l l [] ys o = absurd o
-on-l l (x ∷ xs) ys (inl e) = inl e
-on-l l (x ∷ xs) ys (inr o) = inr (on-l l xs ys o)
+pub on-left : (l : ℕ) (xs ys : Load) → On l xs → On l (xs ++ ys)
+on-left l [] ys o = absurd o
+on-left l (x ∷ xs) ys (inl e) = inl e
+on-left l (x ∷ xs) ys (inr o) = inr (on-left l xs ys o)
 
-pub on-r : (l : ℕ) (xs ys : Load) → On l ys → On l (xs ++ ys)
-on-r l [] ys o = o
-on-r l (x ∷ xs) ys o = inr (on-r l xs ys o)
+pub on-right : (l : ℕ) (xs ys : Load) → On l ys → On l (xs ++ ys)
+on-right l [] ys o = o
+on-right l (x ∷ xs) ys o = inr (on-right l xs ys o)
 
 -- the base is empty in a region
 abbrev pub Clear : (ℕ → Type 0) → Links → Type 0
@@ -105,15 +105,15 @@ put-off l (x ∷ xs) b n = set-other (x .0) l (opt (x .1)) (put xs b) (λ e. n (
 pub put-clear : (xs : Load) (D : ℕ → Type 0) (b : Links) → Off xs D → Clear D b → Clear D (put xs b)
 put-clear xs D b f c l d = put-off l xs b (λ o. f l o d) ∙ c l d
 
-pub put-set : (l : ℕ) (x : List Token) (ys : Load) (b : Links) → (On l ys → ⊥) → set1 l x (put ys b) ≡ put ys (set1 l x b)
+pub put-set : (l : ℕ) (x : List Token) (ys : Load) (b : Links) → (On l ys → ⊥) → set-link l x (put ys b) ≡ put ys (set-link l x b)
 put-set l x [] b n = refl
 put-set l x (y ∷ ys) b n =
-    set-swap l (y .0) x (opt (y .1)) (put ys b) (λ e. n (inl e)) ∙ ap (set1 (y .0) (opt (y .1))) (put-set l x ys b (λ o. n (inr o)))
+    set-swap l (y .0) x (opt (y .1)) (put ys b) (λ e. n (inl e)) ∙ ap (set-link (y .0) (opt (y .1))) (put-set l x ys b (λ o. n (inr o)))
 
 pub put-swap : (xs ys : Load) (b : Links) → Apart xs ys → put xs (put ys b) ≡ put ys (put xs b)
 put-swap [] ys b f = refl
 put-swap (x ∷ xs) ys b f =
-    ap (set1 (x .0) (opt (x .1))) (put-swap xs ys b (λ l o. f l (inr o))) ∙ put-set (x .0) (opt (x .1)) ys (put xs b) (λ o. f (x .0) (inl refl) o)
+    ap (set-link (x .0) (opt (x .1))) (put-swap xs ys b (λ l o. f l (inr o))) ∙ put-set (x .0) (opt (x .1)) ys (put xs b) (λ o. f (x .0) (inl refl) o)
 
 -- Links that hold nothing need not be said.
 abbrev pub Nones : Load → Type 0
@@ -123,7 +123,7 @@ Nones (x ∷ xs) = (x .1 ≡ none) × Nones xs
 pub put-nones : (xs : Load) (b : Links) → Nones xs → ((l : ℕ) → On l xs → b l ≡ []) → put xs b ≡ b
 put-nones [] b n c = refl
 put-nones (x ∷ xs) b n c =
-    ap (set1 (x .0) (opt (x .1))) (put-nones xs b (n .1) (λ l o. c l (inr o)))
+    ap (set-link (x .0) (opt (x .1))) (put-nones xs b (n .1) (λ l o. c l (inr o)))
     ∙ set-ext (x .0) (opt (x .1)) b b (c (x .0) (inl refl) ∙ ap opt (sym (n .0))) (λ j ne. refl)
 
 -- Blocks of a load may be put in any order where no two share a link. `pull k` brings block k to the front.
@@ -258,3 +258,7 @@ apart-cat x (y ∷ bs) f l o p = ⊎-elim (λ (q : On l y). f .0 l o q) (λ (q :
 pub app-assoc : (xs ys zs : Load) → (xs ++ ys) ++ zs ≡ xs ++ (ys ++ zs)
 app-assoc [] ys zs = refl
 app-assoc (x ∷ xs) ys zs = ap (λ z. x ∷ z) (app-assoc xs ys zs)
+
+pub app-nil : (x : Load) → x ++ [] ≡ x
+app-nil [] = refl
+app-nil (y ∷ x) = ap (λ z. y ∷ z) (app-nil x)

@@ -8,8 +8,8 @@ use native.Mathlib.Decide.{ℕ-discrete}
 use native.Mathlib.Omega.{arith}
 use Rattle.value.specs.declared.Value.{Value}
 use Rattle.network.specs.Net.{Token, val, Demand, Links}
-use Rattle.pieces.specs.Load.{Load, opt, set1, set-same, set-other, put, put-off, On, on-app, Apart}
-use Rattle.pieces.specs.Gate.{Dist}
+use Rattle.pieces.specs.Load.{Load, opt, set-link, set-same, set-other, put, put-off, On, on-app, Apart}
+use Rattle.pieces.specs.Gate.{Distinct}
 use Rattle.pieces.specs.Goes.{Alike}
 
 abbrev pub Mem : ℕ → Option Token → Load → Type 0
@@ -26,9 +26,9 @@ on-mem l [] o = absurd o
 on-mem l (x ∷ xs) (inl e) = (x .1, inl (sym e, refl))
 on-mem l (x ∷ xs) (inr o) = let h = on-mem l xs o in (h .0, inr (h .1))
 
-pub put-mem : (l : ℕ) (t : Option Token) (xs : Load) (b : Links) → Dist xs → Mem l t xs → put xs b l ≡ opt t
+pub put-mem : (l : ℕ) (t : Option Token) (xs : Load) (b : Links) → Distinct xs → Mem l t xs → put xs b l ≡ opt t
 put-mem l t [] b d m = absurd m
-put-mem l t (x ∷ xs) b d (inl (e, f)) = ap (λ z. set1 (x .0) (opt (x .1)) (put xs b) z) (sym e) ∙ set-same (x .0) (opt (x .1)) (put xs b) ∙ ap opt f
+put-mem l t (x ∷ xs) b d (inl (e, f)) = ap (λ z. set-link (x .0) (opt (x .1)) (put xs b) z) (sym e) ∙ set-same (x .0) (opt (x .1)) (put xs b) ∙ ap opt f
 put-mem l t (x ∷ xs) b d (inr m) =
     set-other (x .0) l (opt (x .1)) (put xs b) (λ e. d .0 (subst (λ z. On z xs) e (mem-on l t xs m))) ∙ put-mem l t xs b (d .1) m
 
@@ -41,8 +41,8 @@ dec-on l (x ∷ xs) = go (ℕ-discrete l (x .0)) (dec-on l xs)
     go (no n) (yes p) = yes (inr p)
     go (no n) (no m) = no (λ o. ⊎-elim n m o)
 
-pub put-set! : (xs ys : Load) (b : Links) → Dist xs → Dist ys → ((l : ℕ) (t : Option Token) → Mem l t xs → Mem l t ys) → ((l : ℕ) → On l ys → On l xs) → put xs b ≡ put ys b
-put-set! xs ys b dx dy f g = fun-ext (λ l. go l (dec-on l xs))
+pub put-same-entries : (xs ys : Load) (b : Links) → Distinct xs → Distinct ys → ((l : ℕ) (t : Option Token) → Mem l t xs → Mem l t ys) → ((l : ℕ) → On l ys → On l xs) → put xs b ≡ put ys b
+put-same-entries xs ys b dx dy f g = fun-ext (λ l. go l (dec-on l xs))
   where
     go : (l : ℕ) → Dec (On l xs) → put xs b l ≡ put ys b l
     go l (yes o) = let h = on-mem l xs o in put-mem l (h .0) xs b dx (h .1) ∙ sym (put-mem l (h .0) ys b dy (f l (h .0) (h .1)))
@@ -62,7 +62,7 @@ pub mem-r : (l : ℕ) (t : Option Token) (xs ys : Load) → Mem l t ys → Mem l
 mem-r l t [] ys m = m
 mem-r l t (x ∷ xs) ys m = inr (mem-r l t xs ys m)
 
-pub dist-app : (xs ys : Load) → Dist xs → Dist ys → Apart xs ys → Dist (xs ++ ys)
+pub dist-app : (xs ys : Load) → Distinct xs → Distinct ys → Apart xs ys → Distinct (xs ++ ys)
 dist-app [] ys dx dy a = dy
 dist-app (x ∷ xs) ys dx dy a =
     (λ o. ⊎-elim (dx .0) (λ (z : On (x .0) ys). a (x .0) (inl refl) z) (on-app (x .0) xs ys o), dist-app xs ys (dx .1) dy (λ l o o′. a l (inr o) o′))

@@ -12,16 +12,16 @@ use Rattle.value.specs.declared.Value.{Value}
 use Rattle.network.specs.Net.{Token, Demand, Links}
 use Rattle.network.specs.Commute.{Free}
 use Rattle.pieces.specs.Load.{Load, Clear}
-use Rattle.pieces.specs.Piece.{Piece, Dom, Means, some-of, Fits}
+use Rattle.pieces.specs.Piece.{Piece, Region, Means, some-of, Fits}
 use Rattle.pieces.specs.Sets.{net, Bench}
-use Rattle.pieces.specs.Demand3.{En, Nx, Ou, At, flat, each-vals, Evals, Tries, results, ready}
+use Rattle.pieces.specs.Demand3.{Enabled, Next, Output, Between, tape-of, each-tokens, Evaluated, Tried, results, ready}
 
 -- For one accepted formula: the graph `inner` with the numbers of push and take, of the tape's link and of the credit's; its piece, with the schedule lemma
 -- (in `bench`); that each link has one reader and one writer (`free`, from Wired.antt); and that the piece means what the evaluator gives.
-module _ (graph : ℕ → Demand) (p k src cr : ℕ) (P : Piece) (M : Means) (eval : ℕ → List Value → Option (List Value)) where
+module _ (graph : ℕ → Demand) (p k source credit : ℕ) (P : Piece) (M : Means) (eval : ℕ → List Value → Option (List Value)) where
   pub record Made : Type 0 where
-    pub bench : Bench graph p k src cr P M
-    pub free : (a b : ℕ) → a ≢ b → Free (net graph p k src cr P M a) (net graph p k src cr P M b)
+    pub bench : Bench graph p k source credit P M
+    pub free : (a b : ℕ) → a ≢ b → Free (net graph p k source credit P M a) (net graph p k source credit P M b)
     -- lent n rounds it ends with `r`: so does the piece
     pub ended : (n : ℕ) (v r : List Value) → Fits (P .ins) v → eval n v ≡ some r → Fits (P .outs) r × ((c : ℕ) × M (some-of v) c (some (some-of r)))
     -- n rounds are not enough: the piece goes on for n firings at least
@@ -43,25 +43,25 @@ module _ (graph : ℕ → Demand) (p k src cr : ℕ) (P : Piece) (M : Means) (ev
 
   module _ (F : Made) (cap : ℕ → ℕ) (roomy : (l : ℕ) → 1 ≤ cap l) where
     abbrev E : ℕ → Links → Type 0
-    E = En graph p k src cr P M (F .bench) cap roomy
+    E = Enabled graph p k source credit P M (F .bench) cap roomy
 
     abbrev X : ℕ → Links → Links
-    X = Nx graph p k src cr P M (F .bench) cap roomy
+    X = Next graph p k source credit P M (F .bench) cap roomy
 
     abbrev O : ℕ → Links → List Token
-    O = Ou graph p k src cr P M (F .bench) cap roomy
+    O = Output graph p k source credit P M (F .bench) cap roomy
 
     -- the machine as start leaves it, with the sets to come on the tape
     abbrev pub Start : List Token → Links
-    Start tape = At graph p k src cr P M (F .bench) cap roomy (F .fresh) tape (λ l. [])
+    Start tape = Between graph p k source credit P M (F .bench) cap roomy (F .fresh) tape (λ l. [])
 
-    evals : (vss rss : List (List Value)) → Ending vss rss → Evals graph p k src cr P M (F .bench) cap roomy vss rss
+    evals : (vss rss : List (List Value)) → Ending vss rss → Evaluated graph p k source credit P M (F .bench) cap roomy vss rss
     evals [] [] e = tt
     evals [] (r ∷ rss) e = e
     evals (v ∷ vss) [] e = e
     evals (v ∷ vss) (r ∷ rss) e = let h = F .ended (e .1 .0) v r (e .0) (e .1 .1) in (e .0, h .0, h .1, evals vss rss (e .2))
 
-    tries : (n : ℕ) (vss : List (List Value)) → Fitting vss → Tries graph p k src cr P M (F .bench) cap roomy n vss
+    tries : (n : ℕ) (vss : List (List Value)) → Fitting vss → Tried graph p k source credit P M (F .bench) cap roomy n vss
     tries n [] f = tt
     tries n (v ∷ vss) f = (f .0, go (eval n v) refl, tries n vss (f .1))
       where
@@ -70,13 +70,13 @@ module _ (graph : ℕ → Demand) (p k src cr : ℕ) (P : Piece) (M : Means) (ev
         go (some r) e = let h = F .ended n v r (f .0) e in inl (r, h .1 .0, h .0, h .1 .1)
 
     -- FIRST HALF: for every list of accepted calls and firings, the j-th take hands out the evaluation of the j-th set, as long as the sets so far end.
-    pub demand-results : (vss rss : List (List Value)) (tail : List Token) (u : List ℕ) → Ending vss rss → Possible E X O u (Start (flat vss tail)) →
-        Agree (outputs E X O k u (Start (flat vss tail))) (each-vals rss)
+    pub demand-results : (vss rss : List (List Value)) (tail : List Token) (u : List ℕ) → Ending vss rss → Possible E X O u (Start (tape-of vss tail)) →
+        Agree (outputs E X O k u (Start (tape-of vss tail))) (each-tokens rss)
     demand-results vss rss tail u e ru =
-        results graph p k src cr P M (F .bench) cap roomy (F .free) vss rss tail (F .fresh) (λ l. []) u (evals vss rss e) (F .fresh-idle) (λ l d. refl) refl ru
+        results graph p k source credit P M (F .bench) cap roomy (F .free) vss rss tail (F .fresh) (λ l. []) u (evals vss rss e) (F .fresh-idle) (λ l d. refl) refl ru
 
     -- SECOND HALF: with all of `vss` pushed and fewer taken, where nothing can fire a whole result is ready.
-    pub demand-ready : (vss : List (List Value)) (tail : List Token) (u : List ℕ) → Fitting vss → Possible E X O u (Start (flat vss tail)) → length vss ≤ count p u →
-        count k u < length vss → ((a : ℕ) → a ≢ p → a ≢ k → E a (reached E X O u (Start (flat vss tail))) → ⊥) → E k (reached E X O u (Start (flat vss tail)))
+    pub demand-ready : (vss : List (List Value)) (tail : List Token) (u : List ℕ) → Fitting vss → Possible E X O u (Start (tape-of vss tail)) → length vss ≤ count p u →
+        count k u < length vss → ((a : ℕ) → a ≢ p → a ≢ k → E a (reached E X O u (Start (tape-of vss tail))) → ⊥) → E k (reached E X O u (Start (tape-of vss tail)))
     demand-ready vss tail u f ru le lt stuck =
-        ready graph p k src cr P M (F .bench) cap roomy (F .free) vss tail (F .fresh) (λ l. []) u (tries (suc (length u)) vss f) (F .fresh-idle) (λ l d. refl) refl ru le lt stuck
+        ready graph p k source credit P M (F .bench) cap roomy (F .free) vss tail (F .fresh) (λ l. []) u (tries (suc (length u)) vss f) (F .fresh-idle) (λ l d. refl) refl ru le lt stuck

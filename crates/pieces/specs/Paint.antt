@@ -23,20 +23,20 @@ paint [] l = 99
 paint (c ∷ cs) l = ite (decLt l (c .top)) (shade c l) (paint cs l)
 
 -- the i-th stretch
-abbrev pub At : ℕ → List Cut → ℕ → Type 0
-At i [] l = ⊥
-At zero (c ∷ cs) l = l < c .top
-At (suc i) (c ∷ cs) l = (c .top ≤ l) × At i cs l
+abbrev pub In-stretch : ℕ → List Cut → ℕ → Type 0
+In-stretch i [] l = ⊥
+In-stretch zero (c ∷ cs) l = l < c .top
+In-stretch (suc i) (c ∷ cs) l = (c .top ≤ l) × In-stretch i cs l
 
-abbrev pub hueY : ℕ → List Cut → ℕ
-hueY i [] = 0
-hueY zero (c ∷ cs) = c .yes′
-hueY (suc i) (c ∷ cs) = hueY i cs
+abbrev pub hue-listed : ℕ → List Cut → ℕ
+hue-listed i [] = 0
+hue-listed zero (c ∷ cs) = c .yes′
+hue-listed (suc i) (c ∷ cs) = hue-listed i cs
 
-abbrev pub hueN : ℕ → List Cut → ℕ
-hueN i [] = 0
-hueN zero (c ∷ cs) = c .no′
-hueN (suc i) (c ∷ cs) = hueN i cs
+abbrev pub hue-other : ℕ → List Cut → ℕ
+hue-other i [] = 0
+hue-other zero (c ∷ cs) = c .no′
+hue-other (suc i) (c ∷ cs) = hue-other i cs
 
 abbrev pub listed : ℕ → List Cut → List ℕ
 listed i [] = []
@@ -75,13 +75,13 @@ next c cs l h = go (decLt l (c .top))
     go (yes p) = absurd (omega arith)
     go (no n) = refl
 
-pub paint-yes : (i : ℕ) (cs : List Cut) (l : ℕ) → At i cs l → In l (listed i cs) → paint cs l ≡ hueY i cs
+pub paint-yes : (i : ℕ) (cs : List Cut) (l : ℕ) → In-stretch i cs l → In l (listed i cs) → paint cs l ≡ hue-listed i cs
 paint-yes zero [] l a m = absurd a
 paint-yes (suc i) [] l a m = absurd a
 paint-yes zero (c ∷ cs) l a m = here c cs l a ∙ shade-yes c l m
 paint-yes (suc i) (c ∷ cs) l a m = next c cs l (a .0) ∙ paint-yes i cs l (a .1) m
 
-pub paint-no : (i : ℕ) (cs : List Cut) (l : ℕ) → At i cs l → (In l (listed i cs) → ⊥) → paint cs l ≡ hueN i cs
+pub paint-no : (i : ℕ) (cs : List Cut) (l : ℕ) → In-stretch i cs l → (In l (listed i cs) → ⊥) → paint cs l ≡ hue-other i cs
 paint-no zero [] l a m = absurd a
 paint-no (suc i) [] l a m = absurd a
 paint-no zero (c ∷ cs) l a m = here c cs l a ∙ shade-no c l m

@@ -17,18 +17,18 @@ Fits (x ∷ xs) [] = ⊥
 Fits (x ∷ xs) (y ∷ ys) = Fits xs ys
 
 -- A value that may be absent: an arm that was not chosen gets nothing and gives nothing.
-abbrev pub Vals : Type 0
-Vals = List (Option Value)
+abbrev pub Values : Type 0
+Values = List (Option Value)
 
-abbrev pub tok : Option Value → Option Token
-tok none = none
-tok (some v) = some (val v)
+abbrev pub token-of : Option Value → Option Token
+token-of none = none
+token-of (some v) = some (val v)
 
 -- values on links, in order; links beyond the values are empty
-abbrev pub load : List ℕ → Vals → Load
+abbrev pub load : List ℕ → Values → Load
 load [] vs = []
 load (l ∷ ls) [] = (l, none) ∷ load ls []
-load (l ∷ ls) (v ∷ vs) = (l, tok v) ∷ load ls vs
+load (l ∷ ls) (v ∷ vs) = (l, token-of v) ∷ load ls vs
 
 abbrev pub In : ℕ → List ℕ → Type 0
 In l [] = ⊥
@@ -45,8 +45,8 @@ pub record Piece : Type 1 where
   pub Idle : Load → Type 0
 
 -- every link that the piece may touch
-abbrev pub Dom : Piece → ℕ → Type 0
-Dom P l = P .own l ⊎ (In l (P .ins) ⊎ In l (P .outs))
+abbrev pub Region : Piece → ℕ → Type 0
+Region P l = P .own l ⊎ (In l (P .ins) ⊎ In l (P .outs))
 
 -- What is known of every piece that the maker makes (freshness of numbers, proved once over the translation).
 pub record Neat (P : Piece) : Type 0 where
@@ -55,17 +55,17 @@ pub record Neat (P : Piece) : Type 0 where
   pub off-outs : (l : ℕ) → P .own l → In l (P .outs) → ⊥
 
 -- An answer: the values on the outputs, or none, where the lent rounds did not suffice.
-abbrev pub Ans : Type 0
-Ans = Option Vals
+abbrev pub Answer : Type 0
+Answer = Option Values
 
 -- What a piece means: from the values of its inputs, with at least so many rounds, to an answer. A relation, or the graph of an evaluator.
 abbrev pub Means : Type 1
-Means = Vals → ℕ → Ans → Type 0
+Means = Values → ℕ → Answer → Type 0
 
 module _ (net : ℕ → Demand) where
   -- Where a schedule from the load `xs` leads: to the values on the outputs, with the piece idle again (perhaps another idle load: a
   -- gate that has fired waits otherwise than one that has not); or as far as anyone asks.
-  abbrev pub Leads : (ℕ → Type 0) → Load → List ℕ → (Load → Type 0) → ℕ → Ans → Type 0
+  abbrev pub Leads : (ℕ → Type 0) → Load → List ℕ → (Load → Type 0) → ℕ → Answer → Type 0
   Leads D xs os Idle c none = Goes-on net D xs c
   Leads D xs os Idle c (some rs) = (σ : Load) × Idle σ × Goes net D xs c (load os rs ++ σ)
 
@@ -73,23 +73,23 @@ module _ (net : ℕ → Demand) where
   -- place a link, of at least as many firings as rounds, that leads to the answer. The base under `Goes` is any that is empty on the
   -- piece's links, so nothing outside is touched; what is not in the last load is empty.
   abbrev pub Serves : Piece → Means → Type 0
-  Serves P M = (vs : Vals) (c : ℕ) (a : Ans) → M vs c a → (σ : Load) → P .Idle σ → Leads (Dom P) (load (P .ins) vs ++ σ) (P .outs) (P .Idle) c a
+  Serves P M = (vs : Values) (c : ℕ) (a : Answer) → M vs c a → (σ : Load) → P .Idle σ → Leads (Region P) (load (P .ins) vs ++ σ) (P .outs) (P .Idle) c a
 
-  pub lead-after : (D : ℕ → Type 0) (xs ys : Load) (os : List ℕ) (Idle : Load → Type 0) (c d : ℕ) (a : Ans) → Goes net D xs c ys →
+  pub lead-after : (D : ℕ → Type 0) (xs ys : Load) (os : List ℕ) (Idle : Load → Type 0) (c d : ℕ) (a : Answer) → Goes net D xs c ys →
       Leads D ys os Idle d a → Leads D xs os Idle (c + d) a
   lead-after D xs ys os Idle c d none f g = go-then-on net D xs ys c d f g
   lead-after D xs ys os Idle c d (some rs) f (σ, i, g) = (σ, i, go-then net D xs ys (load os rs ++ σ) c d f g)
 
-  pub lead-less : (D : ℕ → Type 0) (xs : Load) (os : List ℕ) (Idle : Load → Type 0) (c d : ℕ) (a : Ans) → d ≤ c → Leads D xs os Idle c a → Leads D xs os Idle d a
+  pub lead-less : (D : ℕ → Type 0) (xs : Load) (os : List ℕ) (Idle : Load → Type 0) (c d : ℕ) (a : Answer) → d ≤ c → Leads D xs os Idle c a → Leads D xs os Idle d a
   lead-less D xs os Idle c d none le g = go-less-on net D xs c d le g
   lead-less D xs os Idle c d (some rs) le (σ, i, g) = (σ, i, go-less net D xs (load os rs ++ σ) c d le g)
 
 -- A BODY is a piece whose outputs are iter?, the iterated values and the returned values, and whose meaning has one of two forms.
-abbrev pub none-of : List ℕ → Vals
+abbrev pub none-of : List ℕ → Values
 none-of [] = []
 none-of (l ∷ ls) = none ∷ none-of ls
 
-abbrev pub some-of : List Value → Vals
+abbrev pub some-of : List Value → Values
 some-of [] = []
 some-of (v ∷ vs) = some v ∷ some-of vs
 
@@ -98,24 +98,24 @@ pub load-nones : (ls : List ℕ) → Nones (load ls [])
 load-nones [] = tt
 load-nones (l ∷ ls) = (refl, load-nones ls)
 
-pub load-in : (ls : List ℕ) (vs : Vals) (l : ℕ) → On l (load ls vs) → In l ls
+pub load-in : (ls : List ℕ) (vs : Values) (l : ℕ) → On l (load ls vs) → In l ls
 load-in [] vs l o = absurd o
 load-in (k ∷ ls) [] l (inl e) = inl e
 load-in (k ∷ ls) [] l (inr o) = inr (load-in ls [] l o)
 load-in (k ∷ ls) (v ∷ vs) l (inl e) = inl e
 load-in (k ∷ ls) (v ∷ vs) l (inr o) = inr (load-in ls vs l o)
 
-pub absent : (net : ℕ → Demand) (P : Piece) → Neat P → (σ : Load) → P .Idle σ → Goes net (Dom P) (load (P .ins) [] ++ σ) 0 (load (P .outs) [] ++ σ)
+pub absent : (net : ℕ → Demand) (P : Piece) → Neat P → (σ : Load) → P .Idle σ → Goes net (Region P) (load (P .ins) [] ++ σ) 0 (load (P .outs) [] ++ σ)
 absent net P N σ id =
-    go-from net (Dom P) σ (load (P .ins) [] ++ σ) (load (P .outs) [] ++ σ) 0
-    (alike-sym net (Dom P) (load (P .ins) [] ++ σ) σ (alike-nones net (Dom P) (load (P .ins) []) σ (load-nones (P .ins)) (λ l o. inr (inl (load-in (P .ins) [] l o)))
+    go-from net (Region P) σ (load (P .ins) [] ++ σ) (load (P .outs) [] ++ σ) 0
+    (alike-sym net (Region P) (load (P .ins) [] ++ σ) σ (alike-nones net (Region P) (load (P .ins) []) σ (load-nones (P .ins)) (λ l o. inr (inl (load-in (P .ins) [] l o)))
     (λ l o o′. N .off-ins l (N .idle-own σ id l o′) (load-in (P .ins) [] l o))))
-    (go-to net (Dom P) σ σ (load (P .outs) [] ++ σ) 0
-    (alike-sym net (Dom P) (load (P .outs) [] ++ σ) σ (alike-nones net (Dom P) (load (P .outs) []) σ (load-nones (P .outs)) (λ l o. inr (inr (load-in (P .outs) [] l o)))
+    (go-to net (Region P) σ σ (load (P .outs) [] ++ σ) 0
+    (alike-sym net (Region P) (load (P .outs) [] ++ σ) σ (alike-nones net (Region P) (load (P .outs) []) σ (load-nones (P .outs)) (λ l o. inr (inr (load-in (P .outs) [] l o)))
     (λ l o o′. N .off-outs l (N .idle-own σ id l o′) (load-in (P .outs) [] l o))))
-    (go-stay net (Dom P) σ))
+    (go-stay net (Region P) σ))
 
-pub load-app-none : (is rs : List ℕ) (ws : Vals) → load (is ++ rs) (none-of is ++ ws) ≡ load is (none-of is) ++ load rs ws
+pub load-app-none : (is rs : List ℕ) (ws : Values) → load (is ++ rs) (none-of is ++ ws) ≡ load is (none-of is) ++ load rs ws
 load-app-none [] rs ws = refl
 load-app-none (i ∷ is) rs ws = ap (λ z. (i, none) ∷ z) (load-app-none is rs ws)
 
@@ -123,7 +123,7 @@ pub none-of-nones : (is : List ℕ) → Nones (load is (none-of is))
 none-of-nones [] = tt
 none-of-nones (i ∷ is) = (refl, none-of-nones is)
 
-pub load-app-fit : (is rs : List ℕ) (us : List Value) (ws : Vals) → Fits is us → load (is ++ rs) (some-of us ++ ws) ≡ load is (some-of us) ++ load rs ws
+pub load-app-fit : (is rs : List ℕ) (us : List Value) (ws : Values) → Fits is us → load (is ++ rs) (some-of us ++ ws) ≡ load is (some-of us) ++ load rs ws
 load-app-fit [] rs [] ws f = refl
 load-app-fit [] rs (v ∷ vs) ws f = absurd f
 load-app-fit (i ∷ is) rs [] ws f = absurd f
