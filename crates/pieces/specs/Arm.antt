@@ -1,4 +1,6 @@
--- THE CHOSEN ARM of a body if, the IC gate, and the joins of iterated and returned results: the same for both arms.
+-- The chosen arm of a body if: the arm runs, IC fires, the iterated or the returned results are joined. Stated once for both arms, over the
+-- control that chooses it; what differs between the shapes of a body if is in the fields `join-iterated` and `join-returned`.
+-- An arm such as `iter i` has bare outputs, so that one link may be its input and its output; hence two colourings.
 use Prim.Native.Nat.{ℕ, zero, suc, _<_, _≤_, _+_}
 use mathlib.Core.Path.{_≡_, refl, sym, _∙_, ap, subst}
 use mathlib.Core.Logic.{_≢_, ite, _⊎_, inl, inr, ⊎-elim}
@@ -9,9 +11,10 @@ use native.Mathlib.Omega.{arith}
 use Rattle.value.specs.declared.Value.{Value}
 use Rattle.network.specs.Values.{true-value, false-value, err-value}
 use Rattle.network.specs.Net.{Token, val, mark, Demand, Links}
+use Rattle.network.specs.Uses.{In}
 use Rattle.pieces.specs.Load.{Load, put, On, on-app, Clear, Off, Apart, Within, Nones, cat, pull, pulls, Far, Pair, Tint, Tints, pair-of, Among, among-not, off-tints, apart-cat, app-assoc}
 use Rattle.pieces.specs.Goes.{Goes, Goes-on, Alike, go-then, go-wide, go-wide-on, go-less, go-from, go-to, go-from-on, alike-pulls, alike-sym, alike-nones, go-two, go-two-on, go-order}
-use Rattle.pieces.specs.Piece.{Values, token-of, load, In, Piece, Region, Answer, Means, Serves, none-of, some-of, load-in, load-app-none, none-of-nones, load-app-fit, same-of, Fits}
+use Rattle.pieces.specs.Piece.{Values, token-of, load, Piece, Region, Answer, Means, Serves, none-of, some-of, load-in, load-app-none, none-of-nones, load-app-fit, same-of, Fits}
 use Rattle.pieces.specs.Rows.{in-app}
 
 -- What an arm's answer makes of the whole's: its iterated links `IX` and returned links `RX` become the whole's `I` and `R`. `itX`, `reX` say which
@@ -197,7 +200,7 @@ module _ (net : ℕ → Demand) (colour hue : ℕ → ℕ) (ci o₁ o₃ : ℕ) 
     cut3 : (x : ℕ × Option Token) (P Q : Load) (bs : List Load) → cat ((x ∷ (P ++ Q)) ∷ bs) ≡ cat ((x ∷ []) ∷ P ∷ Q ∷ bs)
     cut3 x P Q bs = ap (λ z. x ∷ z) (app-assoc P Q (cat bs))
 
-    -- THE ARM ITERATES
+    -- the arm iterates
     module _ (us : List Value) (iu : itX us) (σ′ : Load) (jσ : Idle σ′) where
       abbrev U : Load
       U = load IX (some-of us)
@@ -277,7 +280,7 @@ module _ (net : ℕ → Demand) (colour hue : ℕ → ℕ) (ci o₁ o₃ : ℕ) 
           (go-less net D (cat (K ∷ ((ix, some (val true-value)) ∷ []) ∷ U ∷ σ′ ∷ τ ∷ [])) (cat (J ∷ T₁ ∷ σ′ ∷ τ ∷ [])) (1 + 0) 1 (omega arith)
           (go-then net D (cat (K ∷ ((ix, some (val true-value)) ∷ []) ∷ U ∷ σ′ ∷ τ ∷ [])) (cat (T₁ ∷ S₂ ∷ U ∷ σ′ ∷ τ ∷ [])) (cat (J ∷ T₁ ∷ σ′ ∷ τ ∷ [])) 1 0 it-2 it-3))))
 
-    -- THE ARM RETURNS
+    -- the arm returns
     module _ (ws : List Value) (rw′ : reX ws) (σ′ : Load) (jσ : Idle σ′) where
       abbrev U′ : Load
       U′ = load RX (some-of ws)
@@ -355,7 +358,7 @@ module _ (net : ℕ → Demand) (colour hue : ℕ → ℕ) (ci o₁ o₃ : ℕ) 
           (go-less net D (cat (K ∷ ((ix, some (val false-value)) ∷ []) ∷ U′ ∷ σ′ ∷ τ ∷ [])) (cat (J′ ∷ F₁ ∷ σ′ ∷ τ ∷ [])) (1 + 0) 1 (omega arith)
           (go-then net D (cat (K ∷ ((ix, some (val false-value)) ∷ []) ∷ U′ ∷ σ′ ∷ τ ∷ [])) (cat (F₁ ∷ S₃ ∷ U′ ∷ σ′ ∷ τ ∷ [])) (cat (J′ ∷ F₁ ∷ σ′ ∷ τ ∷ [])) 1 0 re-2 re-3))))
 
-    -- THE CHOSEN ARM, all in one
+    -- The chosen arm: it iterates, returns or runs on.
     pub chosen : {xs : List Value} {c : ℕ} {a : Answer} → Chosen IX RX I R MX itX reX xs c a → (σ : Load) → Idle σ → Arm-result xs σ c a
     chosen (arm-lost xs c m) σ i =
         go-from-on net D (cat (load ins (some-of xs) ∷ σ ∷ K ∷ τ ∷ [])) (Begin xs σ) c (begin-alike xs σ i)

@@ -1,5 +1,6 @@
--- THE BODY IF: T and F gates on the names of the arms, the arms, IC, and the joins. All shapes: what differs between them is in `Arm`'s fields
--- `join-iterated`, `join-returned` and in `join-err` here, which Joins.antt gives for M, E, copies of the third output and results that pass straight.
+-- The body if (Brock, Figure 2.12 and the paragraph below his table): T and F gates on the names of the arms, the arms, IC, and the joins. What
+-- differs between its shapes is in the fields `join-iterated` and `join-returned` of each arm and in `join-err` here, which Joins.antt gives for M, E,
+-- copies of the third output and results that pass straight. Where the test is no truth nothing stays behind on any link.
 use Prim.Native.Nat.{ℕ, zero, suc, _<_, _≤_, _+_}
 use mathlib.Core.Path.{_≡_, refl, sym, _∙_, ap, subst}
 use mathlib.Core.Logic.{_≢_, ite, _⊎_, inl, inr, ⊎-elim}
@@ -10,9 +11,10 @@ use native.Mathlib.Omega.{arith}
 use Rattle.value.specs.declared.Value.{Value}
 use Rattle.network.specs.Values.{true-value, false-value, err-value}
 use Rattle.network.specs.Net.{Token, val, mark, Demand, Links}
+use Rattle.network.specs.Uses.{In}
 use Rattle.pieces.specs.Load.{Load, put, put-app, put-swap, On, on-app, Clear, Off, Apart, Within, Nones, cat, pull, pulls, Far, Pair, Tint, Tints, pair-of, Among, among-not, off-tints, apart-cat, app-assoc}
 use Rattle.pieces.specs.Goes.{Goes, Goes-on, Alike, go-then, go-then-on, go-wide, go-less, go-less-on, go-from, go-to, go-by, alike-pulls, alike-sym, alike-nones, alike-cat, go-two, go-order, go-first, go-first-on}
-use Rattle.pieces.specs.Piece.{Values, token-of, load, In, Piece, Region, Answer, Means, Leads, Serves, none-of, some-of, load-in, load-app-none, none-of-nones, same-of, Fits, Both-idle}
+use Rattle.pieces.specs.Piece.{Values, token-of, load, Piece, Region, Answer, Means, Leads, Serves, none-of, some-of, load-in, load-app-none, none-of-nones, same-of, Fits, Both-idle}
 use Rattle.pieces.specs.Rows.{join, in-app}
 use Rattle.pieces.specs.DataRows.{Gated, controls, data-of, outs-of, row-links, each, Bad, Separate, row-link}
 use Rattle.pieces.specs.Joins.{passes-blocks, absorbs-blocks, All-T, All-F, T-pass, T-absorb, T-bad, F-pass, F-absorb, F-bad}
@@ -157,7 +159,7 @@ module _ (net : ℕ → Demand) (colour colourA hueA colourB hueB : ℕ → ℕ)
         (go-two net (λ l. In l (join (row-links qF))) (CF t) (NF ys) X [] 0 (Y ∷ K t ∷ σA ∷ σB ∷ [])
         (off-tints colour (3 ∷ 0 ∷ 18 ∷ 19 ∷ []) (Y ∷ K t ∷ σA ∷ σB ∷ []) (λ l. In l (join (row-links qF))) (tY, (tK t, (tA σA iA, (tB σB iB, tt)))) no-F) g)))
 
-    -- TRUE
+    -- the test is true
     true-step : (xs ys : List Value) (σA σB : Load) → Fits qT xs → Fits qF ys → IdleA σA → IdleB σB →
         Goes net D (Before true-value xs ys σA σB) 0 (cat (K true-value ∷ load (outs-of qT) (some-of xs) ∷ σA ∷ σB ∷ []))
     unfolding ℕ-discrete
@@ -173,7 +175,7 @@ module _ (net : ℕ → Demand) (colour colourA hueA colourB hueB : ℕ → ℕ)
         tX : Tint colour 3 X
         tX l o = Z .h-oT l (load-in (outs-of qT) (some-of xs) l o)
 
-    -- FALSE
+    -- the test is false
     false-step : (xs ys : List Value) (σA σB : Load) → Fits qT xs → Fits qF ys → IdleA σA → IdleB σB →
         Goes net D (Before false-value xs ys σA σB) 0 (cat (K false-value ∷ load (outs-of qF) (some-of ys) ∷ σB ∷ σA ∷ []))
     unfolding ℕ-discrete
@@ -189,7 +191,7 @@ module _ (net : ℕ → Demand) (colour colourA hueA colourB hueB : ℕ → ℕ)
         tX : Tint colour 6 X
         tX l o = Z .h-oF l (load-in (outs-of qF) (some-of ys) l o)
 
-    -- NO TRUTH: everything is absorbed; IC gives false and err, and every returned result is err
+    -- the test is no truth: everything is absorbed; IC gives false and err, and every returned result is err
     bad-step : (t : Value) → Bad t → (xs ys : List Value) (σA σB : Load) → Fits qT xs → Fits qF ys → IdleA σA → IdleB σB →
         Goes net D (Before t xs ys σA σB) 0 (cat (load (o₁ ∷ (I ++ R)) (some false-value ∷ (none-of I ++ some-of (same-of R err-value))) ∷ σA ∷ σB ∷ []))
     unfolding ℕ-discrete
@@ -251,7 +253,7 @@ module _ (net : ℕ → Demand) (colour colourA hueA colourB hueB : ℕ → ℕ)
             ∙ ap (λ z. put ((o₁, some (val false-value)) ∷ z) b) (sym (app-assoc E J (cat (σA ∷ σB ∷ []))))
             ∙ ap (λ z. put (cat (((o₁, some (val false-value)) ∷ z) ∷ σA ∷ σB ∷ [])) b) (sym (load-app-none I R (some-of (same-of R err-value))))
 
-    -- THE SCHEDULE LEMMA FOR THE BODY IF.
+    -- The schedule lemma for the body if.
     pub body-if : {t : Value} {xs ys : List Value} {c : ℕ} {a : Answer} → Branch I R (Chosen IA RA I R MA itA reA) (Chosen IB RB I R MB itB reB) t xs ys c a → Fits qT xs → Fits qF ys → (σA σB : Load) → IdleA σA → IdleB σB →
         Leads net D (Before t xs ys σA σB) (o₁ ∷ (I ++ R)) (Both-idle IdleA IdleB) c a
     body-if (on-true xs ys c a ch) fx fy σA σB iA iB =

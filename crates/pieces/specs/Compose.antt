@@ -1,4 +1,4 @@
--- Compositions as pieces again: so that they can be composed further.
+-- Compositions as pieces again, so that they can be composed further: one after another, and the body if.
 use Prim.Native.Nat.{ℕ, zero, suc, _<_, _≤_, _+_}
 use mathlib.Core.Path.{_≡_, refl, sym, _∙_, ap, subst}
 use mathlib.Core.Logic.{_≢_, _⊎_, inl, inr, ⊎-elim}
@@ -7,14 +7,15 @@ use mathlib.Core.Option.{Option, none, some}
 use Rattle.value.specs.declared.Value.{Value}
 use Rattle.network.specs.Values.{true-value, false-value}
 use Rattle.network.specs.Net.{Token, val, Demand}
+use Rattle.network.specs.Uses.{In}
 use Rattle.pieces.specs.Load.{Load, cat, app-assoc}
-use Rattle.pieces.specs.Piece.{Values, load, In, Piece, Region, Answer, Means, Leads, Serves, some-of, Fits, Both-idle}
+use Rattle.pieces.specs.Piece.{Values, load, Piece, Region, Answer, Means, Leads, Serves, some-of, Fits, Both-idle}
 use Rattle.pieces.specs.DataRows.{Gated, controls, data-of, outs-of, each}
 use Rattle.pieces.specs.Sequence.{load-app, Then, Sequence-rig, sequence}
 use Rattle.pieces.specs.BodyIf.{Branch, Body-if-rig, Before, body-if}
 use Rattle.pieces.specs.Arm.{Chosen}
 
--- ONE AFTER ANOTHER, as a piece: inputs are P's and the others; `own` is both pieces' own and the links handed on.
+-- One after another, as a piece: inputs are P's and the others; `own` is both pieces' own and the links handed on.
 module _ (net : ℕ → Demand) (P : Piece) (zs outs-of : List ℕ) (own ownQ : ℕ → Type 0) (IdleQ : Load → Type 0) (MP MQ : Means) where
   abbrev pub Sequence-whole : Piece
   Sequence-whole = record { ins = P .ins ++ zs; outs = outs-of; own = own; Idle = Both-idle (P .Idle) IdleQ }
@@ -34,7 +35,7 @@ module _ (net : ℕ → Demand) (P : Piece) (zs outs-of : List ℕ) (own ownQ : 
           ap (λ v. load (P .ins ++ zs) v ++ σ) e ∙ ap (λ s. load (P .ins ++ zs) (us ++ ws) ++ s) es
           ∙ ap (λ x. x ++ cat (σP ∷ σQ ∷ [])) (load-app (P .ins) zs us ws f) ∙ app-assoc (load (P .ins) us) (load zs ws) (cat (σP ∷ σQ ∷ []))
 
--- THE BODY IF, as a piece: inputs are IC's control, the controls and data of the T gates, those of the F gates.
+-- The body if, as a piece: inputs are IC's control, the controls and data of the T gates, those of the F gates.
 each-fit : (q : List Gated) (t : Value) → Fits (controls q) (each q t)
 each-fit [] t = tt
 each-fit (x ∷ q) t = each-fit q t

@@ -1,5 +1,5 @@
--- Rows of gates with one control and one datum each (T, F, E, and M on its chosen side): a row passes its data, takes it and gives nothing, or,
--- on a bad control, gives err and takes no data.
+-- Rows of gates with one control and one datum each: T, F, E, and M on its chosen side. By the control a row passes its data, takes it and gives
+-- nothing, or gives err and takes no data. What a single gate does is computed from the table of rules.
 use Prim.Native.Nat.{ℕ, zero, suc, _<_, _≤_, _+_}
 use mathlib.Core.Path.{_≡_, refl, sym, _∙_, ap, subst}
 use mathlib.Core.Logic.{_≢_, _⊎_, inl, inr, ⊎-elim}
@@ -11,10 +11,11 @@ use Rattle.value.specs.declared.Value.{Value}
 use Rattle.network.specs.Values.{true-value, false-value, err-value, is-neither, sense}
 use Rattle.network.specs.Rules.{T-rule, F-rule, M-rule, E-rule}
 use Rattle.network.specs.Net.{Token, val, mark, Demand, Links}
+use Rattle.network.specs.Uses.{In}
 use Rattle.pieces.specs.Load.{Load, put, On, Off, Apart, Within, cat, app-nil}
 use Rattle.pieces.specs.Goes.{Goes, go-from, go-less, go-to}
 use Rattle.pieces.specs.Gate.{Distinct, emitted, Consumes, fires, distinct-two}
-use Rattle.pieces.specs.Piece.{Values, token-of, load, In, some-of, load-in, Fits}
+use Rattle.pieces.specs.Piece.{Values, token-of, load, some-of, load-in, Fits}
 use Rattle.pieces.specs.Rows.{join, zip-blocks, zip-two, single-blocks, cat-single, Row, row, in-app}
 use Rattle.pieces.specs.Gates.{T-at, F-at, E-at, M-at, plain}
 
@@ -132,7 +133,7 @@ module _ (net : ℕ → Demand) where
     row-absorb t qs vs (p .1) (gd .2) f,
   )
 
-  -- THE ROW as a rule on loads.
+  -- The row as a rule on loads.
   pub passes : (t : Value) (qs : List Gated) (vs : List Value) → Pass t qs → Separate qs → Fits qs vs → Apart (load (controls qs) (each qs t)) (load (data-of qs) (some-of vs)) →
       Goes net (Dq qs) (cat (load (controls qs) (each qs t) ∷ load (data-of qs) (some-of vs) ∷ [])) 0 (load (outs-of qs) (some-of vs))
   passes t qs vs p gd f apt =

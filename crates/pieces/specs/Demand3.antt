@@ -1,4 +1,6 @@
--- BOTH HALVES OF DEMAND 3 on the abstract machine, at every capacity of at least one place, for any piece that has the schedule lemma.
+-- Both halves of demand 3 for a machine over any piece that has the schedule lemma, at every capacity of at least one place: the reference is
+-- push, the piece's schedule, take, for one set after another; the residual (crate schedule) carries its results over to every list of events.
+-- Assumes that operators commute (network, Commute.antt and Wired.antt).
 use Prim.Native.Nat.{ℕ, zero, suc, _<_, _≤_, _+_, _-_}
 use mathlib.Core.Path.{_≡_, refl, sym, _∙_, ap, subst}
 use mathlib.Core.Logic.{_≢_, ite, if-pos, if-neg, Ne·symm, _⊎_, inl, inr, ⊎-elim}
@@ -15,9 +17,10 @@ use Rattle.network.specs.Values.{true-value, false-value, err-value}
 use Rattle.network.specs.Net.{Token, val, mark, Demand, ask, fire, halt, Links, head, tail, pop, append, Room, Able, appends, act, label}
 use Rattle.network.specs.Ends.{machine-push, machine-take, machine-graph}
 use Rattle.network.specs.Commute.{Free, enabled, next, output, diamond}
+use Rattle.network.specs.Uses.{In}
 use Rattle.pieces.specs.Load.{Load, opt, set-link, set-same, set-other, set-ext, set-swap, put, put-app, put-off, put-set, put-swap, On, on-app, Clear, Within, app-assoc}
 use Rattle.pieces.specs.Goes.{one-place, Feasible, led-to, Steps, Long, Goes}
-use Rattle.pieces.specs.Piece.{Values, token-of, load, In, Piece, Region, Neat, Answer, Means, Serves, some-of, load-in, Fits}
+use Rattle.pieces.specs.Piece.{Values, token-of, load, Piece, Region, Neat, Answer, Means, Serves, some-of, load-in, Fits}
 use Rattle.pieces.specs.Sets.{tokens-of, Different, able-with-more, push-it, take-it, net, Bench, Resting, graph-ne, push-set, take-set}
 
 -- the tape of the sets to come
@@ -72,7 +75,7 @@ module _ (graph : ℕ → Demand) (p k source credit : ℕ) (P : Piece) (M : Mea
         quiet = if-neg (ℕ-discrete k a) (Ne·symm (ne .1)) _ _ ∙ h′ .quiet;
       }
 
-  -- THE REFERENCE: a list of events that gives these results and no other, one push and one take for each.
+  -- A reference: a list of events that gives these results and no other, one push and one take for each.
   pub record Reference (q : Links) (rss : List (List Token)) (q′ : Links) : Type 0 where
     pub w : List ℕ
     pub runs : Possible Enabled Next Output w q
@@ -181,7 +184,7 @@ module _ (graph : ℕ → Demand) (p k source credit : ℕ) (P : Piece) (M : Mea
         (λ j ne. set-other credit j (val true-value ∷ []) (set-link source tape b) ne))
         ∙ sym (put-set source tape σ b (own-src σ i source (B .source-off)))
 
-  -- ONE SET, from its push to its take
+  -- one set, from its push to its take
   one : (vs rs : List Value) (c : ℕ) (tape : List Token) (σ : Load) (b : Links) → Fits (P .ins) vs → Fits (P .outs) rs → M (some-of vs) c (some (some-of rs)) →
       P .Idle σ → Clear (Region P) b → b credit ≡ [] → (σ′ : Load) × P .Idle σ′ × Reference (Between σ (tokens-of vs ++ tape) b) (tokens-of rs ∷ []) (Between σ′ tape b)
   one vs rs c tape σ b fv fr m i cl ce =
@@ -233,7 +236,7 @@ module _ (graph : ℕ → Demand) (p k source credit : ℕ) (P : Piece) (M : Mea
             few = let z : count p (p ∷ w) ≡ suc (count p w) = if-pos (ℕ-discrete p p) refl _ _ in omega (arith, l .no-push);
           }
 
-  -- MANY SETS
+  -- Many sets, one after another.
   abbrev pub Evaluated : List (List Value) → List (List Value) → Type 0
   Evaluated [] [] = Unit {0}
   Evaluated [] (r ∷ rss) = ⊥
@@ -287,7 +290,7 @@ module _ (graph : ℕ → Demand) (p k source credit : ℕ) (P : Piece) (M : Mea
     abbrev Commutes : Diamond Enabled Next Output
     Commutes = diamond N cap free
 
-    -- DEMAND 3, FIRST HALF. Whatever the list of events done from the start, and whatever the capacity: the j-th take hands out the direct
+    -- Demand 3, first half. Whatever the list of events done from the start, and whatever the capacity: the j-th take hands out the direct
     -- evaluation of the j-th set, for every j up to the first set whose evaluation does not end (`vss` are the sets before it, `tail` the rest).
     pub results : (vss rss : List (List Value)) (tail : List Token) (σ : Load) (b : Links) (u : List ℕ) → Evaluated vss rss → P .Idle σ → Clear (Region P) b → b credit ≡ [] →
         Possible Enabled Next Output u (Between σ (tape-of vss tail) b) → Agree (outputs Enabled Next Output k u (Between σ (tape-of vss tail) b)) (each-tokens rss)
@@ -296,7 +299,7 @@ module _ (graph : ℕ → Demand) (p k source credit : ℕ) (P : Piece) (M : Mea
         subst (λ z. Agree (outputs Enabled Next Output k u (Between σ (tape-of vss tail) b)) z) (r .2 .gives)
         (outputs-agree Enabled Next Output Commutes k u (r .2 .w) (Between σ (tape-of vss tail) b) ru (r .2 .runs))
 
-    -- DEMAND 3, SECOND HALF. If the sets `vss` are pushed and not all of them taken, and nothing can fire, then a whole result is ready: a take is
+    -- Demand 3, second half. If the sets `vss` are pushed and not all of them taken, and nothing can fire, then a whole result is ready: a take is
     -- possible. Nothing is assumed of whether evaluations end; the evaluator is only asked with more rounds than there were events.
     pub ready : (vss : List (List Value)) (tail : List Token) (σ : Load) (b : Links) (u : List ℕ) → Tried (suc (length u)) vss → P .Idle σ → Clear (Region P) b → b credit ≡ [] →
         Possible Enabled Next Output u (Between σ (tape-of vss tail) b) → length vss ≤ count p u → count k u < length vss →

@@ -1,4 +1,5 @@
--- THE EXPRESSION IF: T and F gates on the names of the arms, the arms, and an M gate on each result, all under copies of one test.
+-- The expression if (Brock, Figure 2.8) at any width: T and F gates on the names of the arms, the arms, and an M gate on each result, all under
+-- copies of one test. Where the test is no truth, the data are absorbed and each result is err.
 use Prim.Native.Nat.{ℕ, zero, suc, _<_, _≤_, _+_}
 use mathlib.Core.Path.{_≡_, refl, sym, _∙_, ap, subst}
 use mathlib.Core.Logic.{_≢_, ite, _⊎_, inl, inr, ⊎-elim}
@@ -9,9 +10,10 @@ use native.Mathlib.Omega.{arith}
 use Rattle.value.specs.declared.Value.{Value}
 use Rattle.network.specs.Values.{true-value, false-value, err-value}
 use Rattle.network.specs.Net.{Token, val, mark, Demand, Links}
+use Rattle.network.specs.Uses.{In}
 use Rattle.pieces.specs.Load.{Load, put, put-app, put-swap, On, on-app, Off, Apart, Within, cat, pull, pulls, Far, Pair, Tint, Tints, pair-of, Among, among-not, off-tints, app-assoc, app-nil}
 use Rattle.pieces.specs.Goes.{Goes, Goes-on, Alike, go-then, go-then-on, go-wide, go-wide-on, go-less, go-from, go-to, go-from-on, go-by, alike-pulls, alike-cat, go-two, go-two-on, go-order, go-first, go-first-on}
-use Rattle.pieces.specs.Piece.{Values, token-of, load, In, Piece, Region, Answer, Means, Leads, Serves, some-of, load-in, Fits, Both-idle}
+use Rattle.pieces.specs.Piece.{Values, token-of, load, Piece, Region, Answer, Means, Leads, Serves, some-of, load-in, Fits, Both-idle}
 use Rattle.pieces.specs.Rows.{join}
 use Rattle.pieces.specs.DataRows.{Gated, controls, data-of, outs-of, row-links, each, Bad, Separate, Pass, Spoil, spoils, row-link}
 use Rattle.pieces.specs.Joins.{passes-blocks, absorbs-blocks, All-T, All-F, T-pass, T-absorb, T-bad, F-pass, F-absorb, F-bad}
@@ -157,7 +159,7 @@ module _ (net : ℕ → Demand) (colour : ℕ → ℕ) (D : ℕ → Type 0) (qT 
         (go-two net (λ l. In l (join (row-links qF))) (CF t) (NF ys) X [] 0 (Y ∷ K t ∷ σA ∷ σB ∷ [])
         (off-tints colour (3 ∷ 0 ∷ 18 ∷ 19 ∷ []) (Y ∷ K t ∷ σA ∷ σB ∷ []) (λ l. In l (join (row-links qF))) (tY, (tK t, (tA σA iA, (tB σB iB, tt)))) no-F) g)))
 
-    -- TRUE
+    -- the test is true
     true-step : (xs ys : List Value) (σA σB : Load) → Fits qT xs → Fits qF ys → IdleA σA → IdleB σB →
         Goes net D (Before true-value xs ys σA σB) 0 (cat (K true-value ∷ load (outs-of qT) (some-of xs) ∷ σA ∷ σB ∷ []))
     unfolding ℕ-discrete
@@ -173,7 +175,7 @@ module _ (net : ℕ → Demand) (colour : ℕ → ℕ) (D : ℕ → Type 0) (qT 
         tX : Tint colour 3 X
         tX l o = Z .h-oT l (load-in (outs-of qT) (some-of xs) l o)
 
-    -- FALSE
+    -- the test is false
     false-step : (xs ys : List Value) (σA σB : Load) → Fits qT xs → Fits qF ys → IdleA σA → IdleB σB →
         Goes net D (Before false-value xs ys σA σB) 0 (cat (K false-value ∷ load (outs-of qF) (some-of ys) ∷ σB ∷ σA ∷ []))
     unfolding ℕ-discrete
@@ -244,7 +246,7 @@ module _ (net : ℕ → Demand) (colour : ℕ → ℕ) (D : ℕ → Type 0) (qT 
     h-oB : (l : ℕ) → In l (outs-of qB) → colour l ≡ 21
     h-oB l i = Z .h-oA l (subst (λ z. In l z) (Z .os-same) i)
 
-    -- THE CHOSEN ARM AND ITS M GATES, for one side
+    -- the chosen arm and its M gates, for one side
     side-A : (xs ys rs : List Value) (c : ℕ) (σA σA′ σB : Load) → IdleA σA → IdleA σA′ → IdleB σB → Fits qA rs →
         Goes net (Region PA) (load (outs-of qT) (some-of xs) ++ σA) c (load (data-of qA) (some-of rs) ++ σA′) →
         Goes net D (cat (K true-value ∷ load (outs-of qT) (some-of xs) ∷ σA ∷ σB ∷ [])) c (cat (load (outs-of qA) (some-of rs) ∷ σA′ ∷ σB ∷ []))
@@ -315,7 +317,7 @@ module _ (net : ℕ → Demand) (colour : ℕ → ℕ) (D : ℕ → Type 0) (qT 
             let k : fold (colour l) ≡ 20 = tR (data-of qB) (some-of rs) hB l o′ in
             let n : _≡_ {A = ℕ} 0 20 = sym h ∙ k in omega arith
 
-    -- THE SCHEDULE LEMMA FOR THE EXPRESSION IF.
+    -- The schedule lemma for the expression if.
     pub exp-if : {t : Value} {xs ys : List Value} {c : ℕ} {a : Answer} → Choice qA qB MA MB t xs ys c a → Fits qT xs → Fits qF ys → (σA σB : Load) → IdleA σA → IdleB σB →
         Leads net D (Before t xs ys σA σB) (outs-of qA) (Both-idle IdleA IdleB) c a
     unfolding ℕ-discrete

@@ -1,4 +1,5 @@
--- One firing as a rule on loads: a gate that takes every token of a load turns it into what it emits.
+-- One firing as a rule on loads: a gate that takes every token of a load turns it into what it emits. That it takes them is a tuple which
+-- computes from the firing itself, so each gate in each of its cases is one line where it is used.
 use Prim.Native.Nat.{ℕ, zero, suc, _<_, _≤_, _+_}
 use mathlib.Core.Path.{_≡_, refl, sym, _∙_, ap, subst, fun-ext}
 use mathlib.Core.Logic.{_≢_, ite, Ne·symm, _⊎_, inl, inr, ⊎-elim}

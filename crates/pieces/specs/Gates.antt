@@ -21,7 +21,7 @@ plain i j k o f = wire (kept false (ports i j k (some o) none none 0 none)) (por
 abbrev pub constant-at : Value → ℕ → ℕ → Demand
 constant-at v i o = fill constant (ports i 0 0 (some o) none none 0 (some v))
 
--- an operator of one operand: code, operand, output; and of two
+-- an operator: code, operands (the second unused where there is one), output
 abbrev pub operator-at : ℕ → ℕ → ℕ → ℕ → Demand
 operator-at code i j o = fill (operator code) (ports i j 0 (some o) none none 0 none)
 

@@ -1,4 +1,6 @@
--- The judgement of all schedules: from one load to another, on every base that is empty in a region.
+-- The judgement of all schedules (demand 3's one good order of firings): from one load to another, on every base that is empty in a region, by
+-- a list of firings that is possible with one place a link and has at least a given length. The length is what an evaluation that needs more
+-- rounds than were lent leaves behind. Knows of no gate and no formula.
 use Prim.Native.Nat.{ℕ, zero, suc, _<_, _≤_, _+_}
 use mathlib.Core.Path.{_≡_, refl, sym, _∙_, ap, subst, fun-ext}
 use mathlib.Core.Logic.{_≢_, ite, Ne·symm, _⊎_, inl, inr, ⊎-elim}
@@ -63,7 +65,7 @@ module _ (net : ℕ → Demand) where
         many = simp length-append (omega (arith, s .many, t .many));
       }
 
-  -- THE JUDGEMENTS. `Goes D xs c ys`: on every base that is empty in the region `D`, the load `xs` becomes the load `ys` by a schedule of at
+  -- The judgements. `Goes D xs c ys`: on every base that is empty in the region `D`, the load `xs` becomes the load `ys` by a schedule of at
   -- least `c` firings. The base is any: so nothing that is not in the load is touched, and every frame is built in.
   abbrev pub Goes : (ℕ → Type 0) → Load → ℕ → Load → Type 0
   Goes D xs c ys = (b : Links) → Clear D b → Steps (put xs b) c (put ys b)

@@ -1,4 +1,5 @@
--- The joins of a body if, and what IC does.
+-- The joins of a body if (document 01: "Its iterated results join by M .. else pass straight. Its returned results .. join by M .., by E ..; where
+-- neither does, each is a copy of that third output"), and the IC gate in each row of Brock's table.
 use Prim.Native.Nat.{ℕ, zero, suc, _<_, _≤_, _+_}
 use mathlib.Core.Path.{_≡_, refl, sym, _∙_, ap, subst}
 use mathlib.Core.Logic.{_≢_, _⊎_, inl, inr, ⊎-elim}
@@ -11,10 +12,11 @@ use Rattle.network.specs.Values.{true-value, false-value, err-value}
 use Rattle.network.specs.Rules.{chosen, IC-table}
 use Rattle.network.specs.Fill.{Ports, emission, wire, kept}
 use Rattle.network.specs.Net.{Token, val, mark, Demand, Links}
+use Rattle.network.specs.Uses.{In}
 use Rattle.pieces.specs.Load.{Load, On, Off, Within, Apart, cat, app-nil}
 use Rattle.pieces.specs.Goes.{Goes, go-stay, go-then, go-wide, go-less, go-by}
 use Rattle.pieces.specs.Gate.{Distinct, emitted, Consumes, fires, distinct-two}
-use Rattle.pieces.specs.Piece.{Values, load, In, some-of, load-in, same-of, Fits}
+use Rattle.pieces.specs.Piece.{Values, load, some-of, load-in, same-of, Fits}
 use Rattle.pieces.specs.Rows.{join, in-front, in-back, in-app}
 use Rattle.pieces.specs.Gates.{ports, IC-at, listed, T-at, F-at, M-at, E-at}
 use Rattle.pieces.specs.DataRows.{Gated, controls, data-of, outs-of, row-links, each, Bad, Separate, Pass, Absorb, Spoil, passes, absorbs, spoils, one-T-true, one-T-false, one-T-bad, one-F-false, one-F-true, one-F-bad, one-M-true, one-M-false, one-E-true, one-E-false}
@@ -29,7 +31,7 @@ each-os [] v = refl
 each-os (q ∷ qs) v = ap (λ z. (q .o, some (val v)) ∷ z) (each-os qs v)
 
 module _ (net : ℕ → Demand) where
-  -- a row on its distinct-two blocks
+  -- a row on its two blocks
   pub passes-blocks : (t : Value) (qs : List Gated) (vs : List Value) → Pass net t qs → Separate net qs → Fits qs vs → Apart (load (controls qs) (each qs t)) (load (data-of qs) (some-of vs)) →
       Goes net (λ l. In l (join (row-links qs))) (load (controls qs) (each qs t) ++ load (data-of qs) (some-of vs)) 0 (load (outs-of qs) (some-of vs) ++ [])
   passes-blocks t qs vs p g f a =

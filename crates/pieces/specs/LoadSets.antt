@@ -1,4 +1,4 @@
--- LOADS AS SETS: two loads in which no link stands twice and that have the same entries are one and the same. With it no order of blocks matters.
+-- Loads as sets: two loads in which no link stands twice and that have the same entries are one and the same, so that no order of blocks matters.
 use Prim.Native.Nat.{ℕ, zero, suc, _<_, _≤_, _+_}
 use mathlib.Core.Path.{_≡_, refl, sym, _∙_, ap, subst, fun-ext}
 use mathlib.Core.Logic.{_≢_, ite, _⊎_, inl, inr, ⊎-elim}

@@ -1,4 +1,6 @@
--- THE LOOP at any width: FM and FS gates, the chain of copies of iter?, and a body that is any piece with the body form of the lemma.
+-- The for (Brock, Figure 2.13) at any width: FM and FS gates, the copies of iter?, and a body that is any piece. The loop starts from ready gates,
+-- goes round as often as the body iterates, and ends with a false on every control, which makes the gates ready for the next set: nothing of
+-- one set is left for another. Where rounds do not suffice there are as many firings, since each entry into the body fires a gate.
 use Prim.Native.Nat.{ℕ, zero, suc, _<_, _≤_, _+_}
 use mathlib.Core.Path.{_≡_, refl, sym, _∙_, ap, subst}
 use mathlib.Core.Logic.{_≢_, ite, _⊎_, inl, inr, ⊎-elim}
@@ -11,25 +13,26 @@ use native.Mathlib.Omega.{arith}
 use Rattle.value.specs.declared.Value.{Value}
 use Rattle.network.specs.Values.{true-value, false-value, err-value}
 use Rattle.network.specs.Net.{Token, val, mark, Demand, Links}
+use Rattle.network.specs.Uses.{In}
 use Rattle.pieces.specs.Load.{Load, put, put-app, On, on-app, Clear, Off, Apart, Within, Nones, cat, pull, pulls, Far, Pair, differs, Tint, Tints, pair-of, Among, tint-on, among-not, off-tints, apart-cat, app-assoc}
 use Rattle.pieces.specs.Goes.{Steps, Long, Goes, Goes-on, Alike, go-stay, go-then, go-then-on, go-wide, go-wide-on, go-less, go-by, go-from, go-to, go-from-on, alike-pulls, alike-sym, alike-then, alike-nones, alike-cat, go-two, go-two-on, go-order}
-use Rattle.pieces.specs.Piece.{Values, token-of, load, In, Piece, Region, Neat, Answer, Means, Leads, Serves, none-of, some-of, load-in, lead-after, lead-less, load-app-none, none-of-nones, Fits}
+use Rattle.pieces.specs.Piece.{Values, token-of, load, Piece, Region, Neat, Answer, Means, Leads, Serves, none-of, some-of, load-in, lead-after, lead-less, load-app-none, none-of-nones, Fits}
 use Rattle.pieces.specs.Rows.{join, in-front, in-back, in-app, zip-blocks, zip-two, zip-three, on-zip, single-blocks, cat-single, row}
 use Rattle.pieces.specs.Ring.{Ring-gate, fm, fs, number, control, start, output, demand, links, map-gates, Ready, register-blocks, iterated-blocks, iterated-links, iterated-values, Keeps, keeps-fit, to-each-gate, Ring-good, Outs, row-start, row-again, ready-again, hue-output, hue-control, hue-start, hue-iterated, hue-regs, iters-load, ready-hue, hue-links, links-up, some-row, load-app-iter}
 
--- THE BODY: inputs are the outputs of the gates; outputs are iter?, the iterated and the returned values. It may hold loops: its idle loads
+-- The body: inputs are the outputs of the gates; outputs are iter?, the iterated and the returned values. It may hold loops: its idle loads
 -- are any.
 abbrev pub Body-piece : List Ring-gate → ℕ → List ℕ → (ℕ → Type 0) → (Load → Type 0) → Piece
 Body-piece gs it rs own Idle = record { ins = map-gates output gs; outs = it ∷ (iterated-links gs ++ rs); own = own; Idle = Idle }
 
--- THE COPIES of iter?, one for each gate. Where there is one gate they are a bare link.
+-- The copies of iter?, one for each gate. Where there is one gate they are a bare link.
 abbrev pub Fan-piece : List Ring-gate → ℕ → (ℕ → Type 0) → (Load → Type 0) → Piece
 Fan-piece gs it own Idle = record { ins = it ∷ []; outs = map-gates control gs; own = own; Idle = Idle }
 
 abbrev pub Fan-means : List Ring-gate → Means
 Fan-means gs vs c a = (v : Value) × (vs ≡ some v ∷ []) × (c ≡ 0) × (a ≡ some (to-each-gate gs v))
 
--- THE LOOP: idle are the body, the copies and each gate.
+-- The loop: idle are the body, the copies and each gate.
 abbrev pub loop-own : (ℕ → ℕ) → ℕ → Type 0
 loop-own colour l = (colour l < 8) × (colour l ≢ 3)
 
@@ -387,7 +390,7 @@ module _ (net : ℕ → Demand) (colour : ℕ → ℕ) (gs : List Ring-gate) (it
             ∙ ap (λ z. put (cat rb ++ (z ++ Z)) b) (cat-single S)
             ∙ alike-pulls net DL (3 ∷ []) (S ∷ σB ∷ σF ∷ cat rb ∷ []) pr b cl
 
-    -- THE SCHEDULE LEMMA FOR THE LOOP.
+    -- The schedule lemma for the loop.
     pub loop : Serves net (Loop-piece colour gs rs IdleB IdleF) (Loop-means gs rs MB)
     loop vs c a (ws, d, e, f, sp, le) σ (σB, σF, rb, iB, iF, rd, es) =
         lead-less net DL (load (map-gates start gs) vs ++ σ) rs (Loop-idle gs IdleB IdleF) (1 + d) c a (omega arith)

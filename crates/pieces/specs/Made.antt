@@ -1,4 +1,4 @@
--- WHAT THE MAKER OWES, and what follows: both halves of demand 3 in terms of the direct evaluator.
+-- What the maker of a graph owes (`Made`), and what follows from it: both halves of demand 3 in terms of the direct evaluator.
 use Prim.Native.Nat.{ℕ, zero, suc, _<_, _≤_, _+_}
 use mathlib.Core.Path.{_≡_, refl, sym, _∙_, ap, subst}
 use mathlib.Core.Logic.{_≢_, ite, _⊎_, inl, inr, ⊎-elim}
@@ -16,8 +16,8 @@ use Rattle.pieces.specs.Piece.{Piece, Region, Means, some-of, Fits}
 use Rattle.pieces.specs.Sets.{net, Bench}
 use Rattle.pieces.specs.Demand3.{Enabled, Next, Output, Between, tape-of, each-tokens, Evaluated, Tried, results, ready}
 
--- For one accepted formula: the graph `inner` with the numbers of push and take, of the tape's link and of the credit's; its piece, with the schedule lemma
--- (in `bench`); that each link has one reader and one writer (`free`, from Wired.antt); and that the piece means what the evaluator gives.
+-- For one accepted formula: the graph `graph` with the numbers of push and take, of the tape's link and of the credit's; its piece, with the schedule lemma
+-- (in `bench`); that operators commute (`free`, from one taker and one putter a link); and that the piece means what the evaluator gives.
 module _ (graph : ℕ → Demand) (p k source credit : ℕ) (P : Piece) (M : Means) (eval : ℕ → List Value → Option (List Value)) where
   pub record Made : Type 0 where
     pub bench : Bench graph p k source credit P M
@@ -69,13 +69,13 @@ module _ (graph : ℕ → Demand) (p k source credit : ℕ) (P : Piece) (M : Mea
         go none e = inr (F .lost n v (f .0) e)
         go (some r) e = let h = F .ended n v r (f .0) e in inl (r, h .1 .0, h .0, h .1 .1)
 
-    -- FIRST HALF: for every list of accepted calls and firings, the j-th take hands out the evaluation of the j-th set, as long as the sets so far end.
+    -- First half: for every list of accepted calls and firings, the j-th take hands out the evaluation of the j-th set, as long as the sets so far end.
     pub demand-results : (vss rss : List (List Value)) (tail : List Token) (u : List ℕ) → Ending vss rss → Possible E X O u (Start (tape-of vss tail)) →
         Agree (outputs E X O k u (Start (tape-of vss tail))) (each-tokens rss)
     demand-results vss rss tail u e ru =
         results graph p k source credit P M (F .bench) cap roomy (F .free) vss rss tail (F .fresh) (λ l. []) u (evals vss rss e) (F .fresh-idle) (λ l d. refl) refl ru
 
-    -- SECOND HALF: with all of `vss` pushed and fewer taken, where nothing can fire a whole result is ready.
+    -- Second half: with all of `vss` pushed and fewer taken, where nothing can fire a whole result is ready.
     pub demand-ready : (vss : List (List Value)) (tail : List Token) (u : List ℕ) → Fitting vss → Possible E X O u (Start (tape-of vss tail)) → length vss ≤ count p u →
         count k u < length vss → ((a : ℕ) → a ≢ p → a ≢ k → E a (reached E X O u (Start (tape-of vss tail))) → ⊥) → E k (reached E X O u (Start (tape-of vss tail)))
     demand-ready vss tail u f ru le lt stuck =

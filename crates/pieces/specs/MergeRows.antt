@@ -1,4 +1,4 @@
--- Rows of M and of E gates: what IfExp, Arm and IfBody ask of them. An M gate is seen twice: with its second and with its third input.
+-- Rows of M and of E gates: what the ifs ask of them. An M gate is seen twice, with its second and with its third input.
 use Prim.Native.Nat.{ℕ}
 use mathlib.Core.Path.{_≡_, refl, sym, _∙_, ap, subst}
 use mathlib.Core.List.{List, [], _∷_, _++_}

@@ -1,5 +1,5 @@
--- Identifiers, constants and operators as pieces. A constant or operator takes one token from each of its inputs and gives one value, at every set anew (document 01: "every
--- operand .. is evaluated, used or not"). What the operator of a code computes is `apply`, of which nothing else is known here.
+-- Identifiers, constants and operators as pieces. A constant or an operator takes one token from each of its inputs and gives one value (document
+-- 01: "every operand .. is evaluated, used or not"). What the operator of a code computes is `apply`, of which nothing else is known here.
 use Prim.Native.Nat.{ℕ, _≤_}
 use mathlib.Core.Path.{_≡_, refl, sym, _∙_, ap, subst}
 use mathlib.Core.Logic.{_≢_, _⊎_, inl, inr, ⊎-elim}
@@ -11,10 +11,11 @@ use Rattle.value.specs.declared.Value.{Value}
 use Rattle.network.specs.Values.{err-value, one-operand, apply}
 use Rattle.network.specs.Rules.{operator-rule}
 use Rattle.network.specs.Net.{Token, val, Demand}
+use Rattle.network.specs.Uses.{In}
 use Rattle.pieces.specs.Load.{Load, On}
 use Rattle.pieces.specs.Goes.{Goes, go-less, go-stay}
 use Rattle.pieces.specs.Gate.{Consumes, fires}
-use Rattle.pieces.specs.Piece.{load, In, Piece, Region, Serves}
+use Rattle.pieces.specs.Piece.{load, Piece, Region, Serves}
 use Rattle.pieces.specs.Gates.{constant-at, operator-at, plain}
 
 constant-eats : (x : Value) (i o : ℕ) (v : Value) → Consumes (constant-at x i o) ((i, some (val v)) ∷ []) ((o, val x) ∷ [])

@@ -1,11 +1,11 @@
--- ONE LEMMA FOR ALL COLOURINGS: the links are cut at rising numbers; in each stretch a colour, or two by membership in a list.
+-- One lemma for all colourings of links: the links are cut at rising numbers; in each stretch there is one colour, or two by membership in a list.
 use Prim.Native.Nat.{ℕ, zero, suc, _<_, _≤_, _+_}
 use mathlib.Core.Path.{_≡_, refl, sym, _∙_, ap, subst}
 use mathlib.Core.Logic.{_≢_, ite, _⊎_, inl, inr, ⊎-elim}
 use mathlib.Core.List.{List, [], _∷_, _++_}
 use native.Mathlib.Decide.{ℕ-discrete, decLt}
 use native.Mathlib.Omega.{arith}
-use Rattle.pieces.specs.Piece.{In}
+use Rattle.network.specs.Uses.{In}
 use Rattle.pieces.specs.Rows.{dec-in}
 
 -- a cut: up to `top`, links of `ls` have colour `yes′`, the others `no′`

@@ -1,4 +1,4 @@
--- SIDE BY SIDE: two pieces that share no link (a pair; the names that both use were copied before), and pieces of one operator.
+-- Two pieces side by side that share no link: a pair. Names that both use were copied before (Share.antt).
 use Prim.Native.Nat.{ℕ, zero, suc, _<_, _≤_, _+_}
 use mathlib.Core.Path.{_≡_, refl, sym, _∙_, ap, subst}
 use mathlib.Core.Logic.{_≢_, _⊎_, inl, inr, ⊎-elim}
@@ -8,10 +8,11 @@ use native.Mathlib.Omega.{arith}
 use Rattle.value.specs.declared.Value.{Value}
 use Rattle.network.specs.Values.{true-value, false-value, err-value}
 use Rattle.network.specs.Net.{Token, val, mark, Demand, Links}
+use Rattle.network.specs.Uses.{In}
 use Rattle.pieces.specs.Load.{Load, put, On, on-app, Off, Apart, Within, cat, pull, pulls, Pair, app-assoc}
 use Rattle.pieces.specs.Goes.{Goes, Goes-on, Alike, go-stay, go-then, go-then-on, go-wide, go-wide-on, go-less, go-from, go-to, go-from-on, alike-pulls, alike-sym, go-two, go-two-on, go-order}
 use Rattle.pieces.specs.Gate.{Distinct, emitted, Consumes, fires}
-use Rattle.pieces.specs.Piece.{Values, token-of, load, In, Piece, Region, Neat, Answer, Means, Leads, Serves, load-in, lead-after, lead-less, Fits, Both-idle}
+use Rattle.pieces.specs.Piece.{Values, token-of, load, Piece, Region, Neat, Answer, Means, Leads, Serves, load-in, lead-after, lead-less, Fits, Both-idle}
 use Rattle.pieces.specs.Sequence.{load-app}
 
 -- The meaning: the first's rounds do not suffice, or the second's after it, or both end.

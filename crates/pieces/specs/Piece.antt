@@ -1,4 +1,6 @@
--- THE STATEMENT of the schedule lemma, for every piece of a graph at any width.
+-- The schedule lemma as a statement (`Serves`), for every piece of a graph at any width: from any idle load and the values on its inputs, a
+-- schedule to the values on its outputs with the piece idle again, or as many firings as anyone asks where the rounds do not suffice.
+-- A piece is known by its links alone; no numbering and no translation appears. What the other files prove of a kind of piece is `Serves`.
 use Prim.Native.Nat.{ℕ, zero, suc, _<_, _≤_, _+_}
 use mathlib.Core.Path.{_≡_, refl, sym, _∙_, ap, subst}
 use mathlib.Core.Logic.{_⊎_, inl, inr, ⊎-elim}
@@ -6,6 +8,7 @@ use mathlib.Core.List.{List, [], _∷_, _++_}
 use mathlib.Core.Option.{Option, none, some}
 use Rattle.value.specs.declared.Value.{Value}
 use Rattle.network.specs.Net.{Token, val, mark, Demand, Links}
+use Rattle.network.specs.Uses.{In}
 use Rattle.pieces.specs.Load.{cat, Load, On, on-app, Apart, Off, Within, Nones}
 use Rattle.pieces.specs.Goes.{Goes, Goes-on, Alike, go-stay, go-then, go-then-on, go-less, go-less-on, go-from, go-to, alike-nones, alike-sym}
 
@@ -30,13 +33,9 @@ load [] vs = []
 load (l ∷ ls) [] = (l, none) ∷ load ls []
 load (l ∷ ls) (v ∷ vs) = (l, token-of v) ∷ load ls vs
 
-abbrev pub In : ℕ → List ℕ → Type 0
-In l [] = ⊥
-In l (x ∷ ls) = (l ≡ x) ⊎ In l ls
-
--- A PIECE of a graph. Its interface is two lists of links; a bare identifier has the same link in both. `own` are the links that nobody
+-- A piece of a graph. Its interface is two lists of links; a bare identifier has the same link in both. `own` are the links that nobody
 -- else uses: the inner links, the control links of its FM and FS gates and their registers (a register is a link that its gate alone
--- reads and writes and that holds one token: the mark before the first firing, then FS's remembered value or FM's `seen`).
+-- takes from and puts onto and that holds one token: the mark before the first firing, then the register's value).
 -- `Idle` are the loads of the own links between two sets: everything empty but the registers, and each FM and FS ready (Loop.antt).
 pub record Piece : Type 1 where
   pub ins : List ℕ
@@ -69,7 +68,7 @@ module _ (net : ℕ → Demand) where
   Leads D xs os Idle c none = Goes-on net D xs c
   Leads D xs os Idle c (some rs) = (σ : Load) × Idle σ × Goes net D xs c (load os rs ++ σ)
 
-  -- THE SCHEDULE LEMMA, as a property of a piece: from any idle load and the values on its inputs there is a schedule, possible with one
+  -- The schedule lemma, as a property of a piece: from any idle load and the values on its inputs there is a schedule, possible with one
   -- place a link, of at least as many firings as rounds, that leads to the answer. The base under `Goes` is any that is empty on the
   -- piece's links, so nothing outside is touched; what is not in the last load is empty.
   abbrev pub Serves : Piece → Means → Type 0
@@ -84,7 +83,7 @@ module _ (net : ℕ → Demand) where
   lead-less D xs os Idle c d none le g = go-less-on net D xs c d le g
   lead-less D xs os Idle c d (some rs) le (σ, i, g) = (σ, i, go-less net D xs (load os rs ++ σ) c d le g)
 
--- A BODY is a piece whose outputs are iter?, the iterated values and the returned values, and whose meaning has one of two forms.
+-- A body is a piece whose outputs are iter?, the iterated values and the returned values, and whose meaning has one of two forms.
 abbrev pub none-of : List ℕ → Values
 none-of [] = []
 none-of (l ∷ ls) = none ∷ none-of ls

@@ -1,4 +1,5 @@
--- The gates of a loop: FM on its identifiers, FS on the body's other names, in any order, each by itself and as a row.
+-- The gates of a loop (document 01: "A for puts FM on its identifiers and FS on the body's other names, trigger included"; Brock, Figure 2.13), in
+-- any order: each gate's first firing, a further round, and ready again with one false on its control; then the row of them all.
 use Prim.Native.Nat.{ℕ, zero, suc, _<_, _≤_, _+_}
 use mathlib.Core.Path.{_≡_, refl, sym, _∙_, ap, subst}
 use mathlib.Core.Logic.{_≢_, ite, _⊎_, inl, inr, ⊎-elim}
@@ -9,10 +10,11 @@ use native.Mathlib.Omega.{arith}
 use Rattle.value.specs.declared.Value.{Value}
 use Rattle.network.specs.Values.{true-value, false-value, err-value}
 use Rattle.network.specs.Net.{Token, val, mark, Demand, Links}
+use Rattle.network.specs.Uses.{In}
 use Rattle.pieces.specs.Load.{Load, On, on-app, Off, Apart, Within, cat, Tint}
 use Rattle.pieces.specs.Goes.{Goes}
 use Rattle.pieces.specs.Gate.{Distinct, emitted, Consumes, fires, distinct-two, distinct-three}
-use Rattle.pieces.specs.Piece.{Values, token-of, load, In, some-of, none-of, load-in, Fits}
+use Rattle.pieces.specs.Piece.{Values, token-of, load, some-of, none-of, load-in, Fits}
 use Rattle.pieces.specs.Rows.{join, zip-blocks, single-blocks, Row, in-front, in-back, in-app}
 use Rattle.pieces.specs.Gates.{fired-token, FM-at, FS-at}
 
@@ -49,7 +51,7 @@ abbrev pub map-gates : {X : Type 0} → (Ring-gate → X) → List Ring-gate →
 map-gates f [] = []
 map-gates f (x ∷ gs) = f x ∷ map-gates f gs
 
--- READY, per gate: never fired and its control link empty, or fired and its control link holding just one false.
+-- Ready, per gate: never fired and its control link empty, or fired and its control link holding just one false.
 abbrev pub Ready-one : Ring-gate → Load → Type 0
 Ready-one (fm a g c i s o) b = (b ≡ (g, some mark) ∷ []) ⊎ ((r : Value) × (b ≡ (g, some (val r)) ∷ (c, some (val false-value)) ∷ []))
 Ready-one (fs a g c s o) b = (b ≡ (g, some mark) ∷ []) ⊎ ((r : Value) × (b ≡ (g, some (val r)) ∷ (c, some (val false-value)) ∷ []))
@@ -265,7 +267,7 @@ module _ (colour : ℕ → ℕ) where
     abbrev pub Outs : List Ring-gate → List Value → List Load
     Outs gs vs = single-blocks (load (map-gates output gs) (some-of vs))
 
-    -- THE ROWS
+    -- the rows
     pub row-start : (gs : List Ring-gate) (rb : List Load) (vs : List Value) → Ring-good gs → Fits gs vs → Ready gs rb →
         Row net (map-gates links gs) (zip-blocks rb (single-blocks (load (map-gates start gs) (some-of vs)))) (zip-blocks (Outs gs vs) (register-blocks gs vs))
     row-start [] [] [] gd f r = tt

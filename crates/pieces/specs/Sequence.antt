@@ -1,5 +1,5 @@
--- COMPOSITION of pieces: one after another (let, operators over their operands, a test and its if), and side by side (pairs). What the pieces share is
--- copied before (Fan.antt), so here nothing is shared but what is handed on.
+-- One piece after another: a let, operators over their operands, a test and its if, a loop after its starting values. Names that both use were
+-- copied before (Fan.antt), so nothing is shared but what is handed on.
 use Prim.Native.Nat.{ℕ, zero, suc, _<_, _≤_, _+_}
 use mathlib.Core.Path.{_≡_, refl, sym, _∙_, ap, subst}
 use mathlib.Core.Logic.{_≢_, _⊎_, inl, inr, ⊎-elim}
@@ -9,10 +9,11 @@ use native.Mathlib.Omega.{arith}
 use Rattle.value.specs.declared.Value.{Value}
 use Rattle.network.specs.Values.{true-value, false-value, err-value}
 use Rattle.network.specs.Net.{Token, val, mark, Demand, Links}
+use Rattle.network.specs.Uses.{In}
 use Rattle.pieces.specs.Load.{Load, put, On, on-app, Off, Apart, Within, cat, pull, pulls, Pair, app-assoc}
 use Rattle.pieces.specs.Goes.{Goes, Goes-on, Alike, go-stay, go-then, go-then-on, go-wide, go-wide-on, go-less, go-from, go-to, go-from-on, alike-pulls, alike-sym, go-two, go-two-on, go-order}
 use Rattle.pieces.specs.Gate.{Distinct, emitted, Consumes, fires}
-use Rattle.pieces.specs.Piece.{Values, token-of, load, In, Piece, Region, Neat, Answer, Means, Leads, Serves, load-in, lead-after, lead-less, Fits, Both-idle}
+use Rattle.pieces.specs.Piece.{Values, token-of, load, Piece, Region, Neat, Answer, Means, Leads, Serves, load-in, lead-after, lead-less, Fits, Both-idle}
 
 pub load-app : (xs zs : List ℕ) (us ws : Values) → Fits xs us → load (xs ++ zs) (us ++ ws) ≡ load xs us ++ load zs ws
 load-app [] zs [] ws f = refl
@@ -20,7 +21,7 @@ load-app [] zs (v ∷ us) ws f = absurd f
 load-app (x ∷ xs) zs [] ws f = absurd f
 load-app (x ∷ xs) zs (u ∷ us) ws f = ap (λ t. (x, token-of u) ∷ t) (load-app xs zs us ws f)
 
--- ONE AFTER ANOTHER: `P` from its inputs; then `Q` from P's outputs and the links `zs`. The meaning is of P's inputs and the other values: P's
+-- `P` from its inputs; then `Q` from P's outputs and the links `zs`. The meaning is of P's inputs and the other values: P's
 -- rounds do not suffice, or what it gives goes on to Q.
 module _ (outs : List ℕ) (MP MQ : Means) where
   pub data Then : Values → Values → ℕ → Answer → Type 0 where

@@ -1,6 +1,5 @@
--- SETS IN A ROW. Push and take are operators; the sets to come lie on a source link that nobody writes (the tape), one value after another.
--- Push takes a set from the tape onto the inputs and a token onto the credit link (capacity 16: refusal 32); take takes the results and a
--- credit, and hands the results out.
+-- One set pushed and one set taken, on the machine over a piece (network, Ends.antt): what push makes of the tape, and what take hands out.
+-- Assumes of the numbers only that push and take are no operators of the graph and that source and credit are no links of it.
 use Prim.Native.Nat.{ℕ, zero, suc, _<_, _≤_, _+_, _-_}
 use mathlib.Core.Path.{_≡_, refl, sym, _∙_, ap, subst}
 use mathlib.Core.Logic.{_≢_, ite, if-pos, if-neg, Ne·symm, _⊎_, inl, inr, ⊎-elim}
@@ -13,10 +12,11 @@ use Rattle.value.specs.declared.Value.{Value}
 use Rattle.network.specs.Values.{true-value, false-value, err-value}
 use Rattle.network.specs.Net.{Token, val, mark, Demand, ask, fire, halt, Links, head, tail, pop, append, pop-same, pop-other, Room, Able, appends, act, label}
 use Rattle.network.specs.Ends.{draw, collect, push-demand, take-demand, machine}
+use Rattle.network.specs.Uses.{In}
 use Rattle.pieces.specs.Load.{Load, opt, set-link, set-same, set-other, set-ext, set-swap, put, put-app, put-off, put-set, put-swap, On, on-app, Clear, Within, app-assoc}
 use Rattle.pieces.specs.Goes.{one-place, Feasible, led-to, Steps, Long, Goes}
 use Rattle.pieces.specs.Gate.{Distinct, emitted, emits, pop-set}
-use Rattle.pieces.specs.Piece.{Values, token-of, load, In, Piece, Region, Neat, Answer, Means, Serves, some-of, load-in, Fits}
+use Rattle.pieces.specs.Piece.{Values, token-of, load, Piece, Region, Neat, Answer, Means, Serves, some-of, load-in, Fits}
 
 abbrev pub tokens-of : List Value → List Token
 tokens-of [] = []
@@ -100,7 +100,7 @@ able-with-more cap h (ask l k) q o = (o .0, able-with-more cap h (k (head (q l))
 able-with-more cap h (fire es r) q o = room-with-more cap h es q o
 able-with-more cap h halt q o = o
 
--- THE MACHINE over a piece: the piece's operators, push `p`, take `k`, the source and the credit link.
+-- The machine over a piece: the piece's operators, push `p`, take `k`, the source and the credit link.
 module _ (graph : ℕ → Demand) (p k source credit : ℕ) (P : Piece) (M : Means) where
   abbrev pub push-it : Demand
   push-it = push-demand source credit (P .ins)
@@ -140,7 +140,7 @@ module _ (graph : ℕ → Demand) (p k source credit : ℕ) (P : Piece) (M : Mea
       λ e. subst (λ d. Able one-place d q) (B .take-apart) (subst (λ x. Able one-place (graph x) q) e o),
     )
 
-    -- PUSH
+    -- a push
     pub push-set : (vs : List Value) (tape : List Token) (b : Links) → Fits (P .ins) vs → ((l : ℕ) → In l (P .ins) → b l ≡ []) → b credit ≡ [] →
         Able one-place push-it (set-link source (tokens-of vs ++ tape) b)
         × (act push-it (set-link source (tokens-of vs ++ tape) b) ≡ put ((credit, some (val true-value)) ∷ load (P .ins) (some-of vs)) (set-link source tape b))
@@ -160,7 +160,7 @@ module _ (graph : ℕ → Demand) (p k source credit : ℕ) (P : Piece) (M : Mea
             let i : In l (P .ins) = load-in (P .ins) (some-of vs) l (subst (λ x. On l x) (emitted-onto (P .ins) vs f) o) in
             set-other source l tape b (λ y. B .source-off (subst (Region P) y (inr (inl i)))) ∙ ci l i
 
-    -- TAKE
+    -- a take
     pub take-set : (rs : List Value) (b : Links) → Fits (P .outs) rs → ((l : ℕ) → In l (P .outs) → b l ≡ []) → b credit ≡ val true-value ∷ [] →
         Able one-place take-it (put (load (P .outs) (some-of rs)) b) × (act take-it (put (load (P .outs) (some-of rs)) b) ≡ set-link credit [] b)
         × (label take-it (put (load (P .outs) (some-of rs)) b) ≡ tokens-of rs)
