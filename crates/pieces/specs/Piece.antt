@@ -10,7 +10,7 @@ use Rattle.value.specs.declared.Value.{Value}
 use Rattle.network.specs.Net.{Token, val, mark, Demand, Links}
 use Rattle.network.specs.Uses.{In}
 use Rattle.pieces.specs.Load.{cat, Load, On, on-app, Apart, Off, Within, Nones}
-use Rattle.pieces.specs.Goes.{Goes, Goes-on, Alike, go-stay, go-then, go-then-on, go-less, go-less-on, go-from, go-to, alike-nones, alike-sym}
+use Rattle.pieces.specs.Goes.{Goes, Goes-on, Alike, go-stay, go-then, go-then-on, go-less, go-less-on, go-from, go-to, alike-nones, alike-sym, go-from-on}
 
 -- As many of the one as of the other: values for links, for gates, for names.
 abbrev pub Fits : {X Y : Type 0} → List X → List Y → Type 0
@@ -82,6 +82,11 @@ module _ (net : ℕ → Demand) where
   pub lead-less : (D : ℕ → Type 0) (xs : Load) (os : List ℕ) (Idle : Load → Type 0) (c d : ℕ) (a : Answer) → d ≤ c → Leads D xs os Idle c a → Leads D xs os Idle d a
   lead-less D xs os Idle c d none le g = go-less-on net D xs c d le g
   lead-less D xs os Idle c d (some rs) le (σ, i, g) = (σ, i, go-less net D xs (load os rs ++ σ) c d le g)
+
+  pub lead-from : (D : ℕ → Type 0) (xs xs′ : Load) (os : List ℕ) (Idle : Load → Type 0) (c : ℕ) (a : Answer) → Alike net D xs xs′ → Leads D xs os Idle c a →
+      Leads D xs′ os Idle c a
+  lead-from D xs xs′ os Idle c none e g = go-from-on net D xs xs′ c e g
+  lead-from D xs xs′ os Idle c (some rs) e (σ, i, g) = (σ, i, go-from net D xs xs′ (load os rs ++ σ) c e g)
 
 -- A body is a piece whose outputs are iter?, the iterated values and the returned values, and whose meaning has one of two forms.
 abbrev pub none-of : List ℕ → Values
