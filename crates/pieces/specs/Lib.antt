@@ -25,3 +25,4 @@ pub mod Operators
 pub mod Sets
 pub mod Demand3
 pub mod Made
+pub mod Tested
