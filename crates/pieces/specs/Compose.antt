@@ -14,19 +14,19 @@ use Rattle.pieces.specs.Sequence.{load-app, Then, Sequence-rig, sequence
 use Rattle.pieces.specs.Parallel.{Both, Parallel-rig, parallel}
 
 -- One after another, as a piece: inputs are P's and the others; `own` is both pieces' own and the links handed on.
-module _ (net : ℕ → Demand) (P : Piece) (zs outs-of : List ℕ) (own ownQ : ℕ → Type 0) (IdleQ : Load → Type 0) (MP MQ : Means) where
+module _ (net : ℕ → Demand) (P : Piece) (zs os : List ℕ) (own ownQ : ℕ → Type 0) (IdleQ : Load → Type 0) (MP MQ : Means) where
   abbrev pub Sequence-whole : Piece
-  Sequence-whole = record { ins = P .ins ++ zs; outs = outs-of; own = own; Idle = Both-idle (P .Idle) IdleQ }
+  Sequence-whole = record { ins = P .ins ++ zs; outs = os; own = own; Idle = Both-idle (P .Idle) IdleQ }
 
   abbrev pub Sequence-region : ℕ → Type 0
-  Sequence-region l = own l ⊎ (In l (P .ins ++ zs) ⊎ In l outs-of)
+  Sequence-region l = own l ⊎ (In l (P .ins ++ zs) ⊎ In l os)
 
   abbrev pub Sequence-means : Means
   Sequence-means vs c a = (us : Values) × (ws : Values) × (vs ≡ us ++ ws) × Fits (P .ins) us × Then (P .outs) MP MQ us ws c a
 
-  pub sequence-serves : Sequence-rig net Sequence-region P zs outs-of ownQ IdleQ MP MQ → Serves net Sequence-whole Sequence-means
+  pub sequence-serves : Sequence-rig net Sequence-region P zs os ownQ IdleQ MP MQ → Serves net Sequence-whole Sequence-means
   sequence-serves Z vs c a (us, ws, e, f, t) σ (σP, σQ, iP, iQ, es) =
-      subst (λ z. Leads net Sequence-region z outs-of (Both-idle (P .Idle) IdleQ) c a) (sym whole) (sequence net Sequence-region P zs outs-of ownQ IdleQ MP MQ Z t σP σQ iP iQ)
+      subst (λ z. Leads net Sequence-region z os (Both-idle (P .Idle) IdleQ) c a) (sym whole) (sequence net Sequence-region P zs os ownQ IdleQ MP MQ Z t σP σQ iP iQ)
     where
       whole : load (P .ins ++ zs) vs ++ σ ≡ cat (load (P .ins) us ∷ load zs ws ∷ σP ∷ σQ ∷ [])
       whole =
