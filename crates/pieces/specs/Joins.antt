@@ -45,34 +45,34 @@ module _ (net : ℕ → Demand) where
       subst (λ z. Goes net (λ l. In l (join (row-links qs))) (load (controls qs) (each qs t) ++ z) 0 []) (app-nil (load (data-of qs) (some-of vs)))
       (absorbs net t qs vs p g f a)
 
-  -- a control through its copies to a row
+  -- A control through its copies to a row.
+  abbrev pub Join-region : ℕ → List ℕ → List Gated → ℕ → Type 0
+  Join-region x ms qs l = Chain-region net x ms (controls qs) l ⊎ In l (join (row-links qs))
+
   module _ (x : ℕ) (ms : List ℕ) (qs : List Gated) (ch : Chain net x ms (controls qs)) (gd : Separate net qs)
       (off : (l : ℕ) → In l (data-of qs) → Chain-region net x ms (controls qs) l → ⊥) where
-    abbrev pub Join-region : ℕ → Type 0
-    Join-region l = Chain-region net x ms (controls qs) l ⊎ In l (join (row-links qs))
-
     -- M on the chosen side, E on a truth
     pub pass-join : (t : Value) (us : List Value) → Pass net t qs → Fits qs us →
-        Goes net Join-region (((x, some (val t)) ∷ []) ++ load (data-of qs) (some-of us)) 0 (load (outs-of qs) (some-of us) ++ [])
+        Goes net (Join-region x ms qs) (((x, some (val t)) ∷ []) ++ load (data-of qs) (some-of us)) 0 (load (outs-of qs) (some-of us) ++ [])
     pass-join t us p f =
-        go-then net Join-region (((x, some (val t)) ∷ []) ++ U) (load (controls qs) (each qs t) ++ U) (load (outs-of qs) (some-of us) ++ []) 0 0
-        (go-wide net (Chain-region net x ms (controls qs)) Join-region (((x, some (val t)) ∷ []) ++ U) (load (controls qs) (each qs t) ++ U) 0 (λ l d. inl d)
+        go-then net (Join-region x ms qs) (((x, some (val t)) ∷ []) ++ U) (load (controls qs) (each qs t) ++ U) (load (outs-of qs) (some-of us) ++ []) 0 0
+        (go-wide net (Chain-region net x ms (controls qs)) (Join-region x ms qs) (((x, some (val t)) ∷ []) ++ U) (load (controls qs) (each qs t) ++ U) 0 (λ l d. inl d)
         (go-by net (Chain-region net x ms (controls qs)) ((x, some (val t)) ∷ []) (load (controls qs) (each qs t)) U 0 (λ l o d. off l (load-in (data-of qs) (some-of us) l o) d)
         (subst (λ z. Goes net (Chain-region net x ms (controls qs)) ((x, some (val t)) ∷ []) 0 z) (each-cs qs t) (chain net ch t))))
-        (go-wide net (λ l. In l (join (row-links qs))) Join-region (load (controls qs) (each qs t) ++ U) (load (outs-of qs) (some-of us) ++ []) 0 (λ l d. inr d)
+        (go-wide net (λ l. In l (join (row-links qs))) (Join-region x ms qs) (load (controls qs) (each qs t) ++ U) (load (outs-of qs) (some-of us) ++ []) 0 (λ l d. inr d)
         (passes-blocks t qs us p gd f (λ l o o′. off l (load-in (data-of qs) (some-of us) l o′) (inr (in-back l ms (controls qs) (load-in (controls qs) (each qs t) l o))))))
       where
         U : Load
         U = load (data-of qs) (some-of us)
 
     -- M and E on err
-    pub spoil-join : Spoil net err-value qs → Goes net Join-region ((x, some (val err-value)) ∷ []) 0 (load (outs-of qs) (some-of (same-of (outs-of qs) err-value)) ++ [])
+    pub spoil-join : Spoil net err-value qs → Goes net (Join-region x ms qs) ((x, some (val err-value)) ∷ []) 0 (load (outs-of qs) (some-of (same-of (outs-of qs) err-value)) ++ [])
     spoil-join p =
-        subst (λ z. Goes net Join-region ((x, some (val err-value)) ∷ []) 0 z) (each-os qs err-value ∙ sym (app-nil (load (outs-of qs) (some-of (same-of (outs-of qs) err-value)))))
-        (go-then net Join-region ((x, some (val err-value)) ∷ []) (load (controls qs) (each qs err-value)) (load (outs-of qs) (each qs err-value)) 0 0
-        (go-wide net (Chain-region net x ms (controls qs)) Join-region ((x, some (val err-value)) ∷ []) (load (controls qs) (each qs err-value)) 0 (λ l d. inl d)
+        subst (λ z. Goes net (Join-region x ms qs) ((x, some (val err-value)) ∷ []) 0 z) (each-os qs err-value ∙ sym (app-nil (load (outs-of qs) (some-of (same-of (outs-of qs) err-value)))))
+        (go-then net (Join-region x ms qs) ((x, some (val err-value)) ∷ []) (load (controls qs) (each qs err-value)) (load (outs-of qs) (each qs err-value)) 0 0
+        (go-wide net (Chain-region net x ms (controls qs)) (Join-region x ms qs) ((x, some (val err-value)) ∷ []) (load (controls qs) (each qs err-value)) 0 (λ l d. inl d)
         (subst (λ z. Goes net (Chain-region net x ms (controls qs)) ((x, some (val err-value)) ∷ []) 0 z) (each-cs qs err-value) (chain net ch err-value)))
-        (go-wide net (λ l. In l (join (row-links qs))) Join-region (load (controls qs) (each qs err-value)) (load (outs-of qs) (each qs err-value)) 0 (λ l d. inr d) (spoils net err-value qs p gd)))
+        (go-wide net (λ l. In l (join (row-links qs))) (Join-region x ms qs) (load (controls qs) (each qs err-value)) (load (outs-of qs) (each qs err-value)) 0 (λ l d. inr d) (spoils net err-value qs p gd)))
 
   -- neither arm returns: the returned results are copies of IC's third output
   pub copy-join : (x : ℕ) (ms R : List ℕ) → Chain net x ms R → Goes net (Chain-region net x ms R) ((x, some (val err-value)) ∷ []) 0 (load R (some-of (same-of R err-value)) ++ [])

@@ -26,3 +26,4 @@ pub mod Sets
 pub mod Demand3
 pub mod Made
 pub mod Tested
+pub mod SmallBodyIf

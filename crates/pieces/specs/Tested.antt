@@ -124,24 +124,24 @@ module _ (x : ℕ) (qT qF : List Gated) where
       ∙ app-assoc (load (data-of qT) (some-of xs)) (load (data-of qF) (some-of ys)) (cat (σA ∷ σB ∷ [])))
 
 -- The expression if under its test.
+abbrev pub Tested-exp-if : ℕ → List Gated → List Gated → List ℕ → (ℕ → Type 0) → (Load → Type 0) → (Load → Type 0) → Piece
+Tested-exp-if x qT qF os own IdleA IdleB = record { ins = tested-ins x qT qF; outs = os; own = own; Idle = Both-idle IdleA IdleB }
+
+abbrev pub Tested-choice : ℕ → List Gated → List Gated → List Gated → List Gated → Means → Means → Means
+Tested-choice x qT qF qA qB MA MB vs c a =
+    (t : Value) × (xs : List Value) × (ys : List Value) × (vs ≡ tested-values x qT qF t xs ys) × Fits qT xs × Fits qF ys × Choice qA qB MA MB t xs ys c a
+
 module _ (net : ℕ → Demand) (colour : ℕ → ℕ) (own : ℕ → Type 0) (x : ℕ) (ms : List ℕ) (qT qF qA qB : List Gated) (ownA ownB : ℕ → Type 0)
     (IdleA IdleB : Load → Type 0) (MA MB : Means) where
-  abbrev pub Tested-exp-if : Piece
-  Tested-exp-if = record { ins = tested-ins x qT qF; outs = outs-of qA; own = own; Idle = Both-idle IdleA IdleB }
-
-  abbrev pub Tested-choice : Means
-  Tested-choice vs c a =
-      (t : Value) × (xs : List Value) × (ys : List Value) × (vs ≡ tested-values x qT qF t xs ys) × Fits qT xs × Fits qF ys × Choice qA qB MA MB t xs ys c a
-
-  pub tested-exp-if-serves : Exp-if-rig net colour (Region Tested-exp-if) qT qF qA qB ownA ownB IdleA IdleB MA MB →
-      Copies net colour (Region Tested-exp-if) x ms (controls qA) qT qF → Serves net Tested-exp-if Tested-choice
+  pub tested-exp-if-serves : Exp-if-rig net colour (Region (Tested-exp-if x qT qF (outs-of qA) own IdleA IdleB)) qT qF qA qB ownA ownB IdleA IdleB MA MB →
+      Copies net colour (Region (Tested-exp-if x qT qF (outs-of qA) own IdleA IdleB)) x ms (controls qA) qT qF → Serves net (Tested-exp-if x qT qF (outs-of qA) own IdleA IdleB) (Tested-choice x qT qF qA qB MA MB)
   tested-exp-if-serves Z C vs c a (t, xs, ys, e, fx, fy, b) σ (σA, σB, iA, iB, es) =
-      subst (λ z. Leads net (Region Tested-exp-if) z (outs-of qA) (Both-idle IdleA IdleB) c a) (sym whole)
-      (lead-first net (Region Tested-exp-if) (cat (((x, some (val t)) ∷ []) ∷ NT ∷ NF ∷ σA ∷ σB ∷ [])) (cat (load (controls qA) (each qA t) ∷ CT ∷ NT ∷ CF ∷ NF ∷ σA ∷ σB ∷ []))
+      subst (λ z. Leads net (Region (Tested-exp-if x qT qF (outs-of qA) own IdleA IdleB)) z (outs-of qA) (Both-idle IdleA IdleB) c a) (sym whole)
+      (lead-first net (Region (Tested-exp-if x qT qF (outs-of qA) own IdleA IdleB)) (cat (((x, some (val t)) ∷ []) ∷ NT ∷ NF ∷ σA ∷ σB ∷ [])) (cat (load (controls qA) (each qA t) ∷ CT ∷ NT ∷ CF ∷ NF ∷ σA ∷ σB ∷ []))
       (outs-of qA) (Both-idle IdleA IdleB) c a
-      (subst (λ z. Goes net (Region Tested-exp-if) (cat (((x, some (val t)) ∷ []) ∷ NT ∷ NF ∷ σA ∷ σB ∷ [])) 0 (cat (z ∷ CT ∷ NT ∷ CF ∷ NF ∷ σA ∷ σB ∷ []))) (same-each qA t)
-      (tested net colour (Region Tested-exp-if) x ms (controls qA) qT qF C t xs ys σA σB (λ l o. Z .h-A l (Z .idle-A σA iA l o)) (λ l o. Z .h-B l (Z .idle-B σB iB l o))))
-      (exp-if net colour (Region Tested-exp-if) qT qF qA qB ownA ownB IdleA IdleB MA MB Z b fx fy σA σB iA iB))
+      (subst (λ z. Goes net (Region (Tested-exp-if x qT qF (outs-of qA) own IdleA IdleB)) (cat (((x, some (val t)) ∷ []) ∷ NT ∷ NF ∷ σA ∷ σB ∷ [])) 0 (cat (z ∷ CT ∷ NT ∷ CF ∷ NF ∷ σA ∷ σB ∷ []))) (same-each qA t)
+      (tested net colour (Region (Tested-exp-if x qT qF (outs-of qA) own IdleA IdleB)) x ms (controls qA) qT qF C t xs ys σA σB (λ l o. Z .h-A l (Z .idle-A σA iA l o)) (λ l o. Z .h-B l (Z .idle-B σB iB l o))))
+      (exp-if net colour (Region (Tested-exp-if x qT qF (outs-of qA) own IdleA IdleB)) qT qF qA qB ownA ownB IdleA IdleB MA MB Z b fx fy σA σB iA iB))
     where
       CT : Load
       CT = load (controls qT) (each qT t)
@@ -160,26 +160,25 @@ module _ (net : ℕ → Demand) (colour : ℕ → ℕ) (own : ℕ → Type 0) (x
           ap (λ v. load (tested-ins x qT qF) v ++ σ) e ∙ ap (λ s. load (tested-ins x qT qF) (tested-values x qT qF t xs ys) ++ s) es
           ∙ laid x qT qF t xs ys σA σB fx
 
--- The body if under its test.
+-- The body if under its test; `A` and `B` are the answers of the arms.
+abbrev pub Tested-body-if : ℕ → List Gated → List Gated → ℕ → List ℕ → List ℕ → (ℕ → Type 0) → (Load → Type 0) → (Load → Type 0) → Piece
+Tested-body-if x qT qF o₁ I R own IdleA IdleB = record { ins = tested-ins x qT qF; outs = o₁ ∷ (I ++ R); own = own; Idle = Both-idle IdleA IdleB }
+
+abbrev pub Tested-branch : ℕ → List Gated → List Gated → List ℕ → List ℕ → (List Value → ℕ → Answer → Type 0) → (List Value → ℕ → Answer → Type 0) → Means
+Tested-branch x qT qF I R A B vs c a =
+    (t : Value) × (xs : List Value) × (ys : List Value) × (vs ≡ tested-values x qT qF t xs ys) × Fits qT xs × Fits qF ys × Branch I R A B t xs ys c a
+
 module _ (net : ℕ → Demand) (colour colourA hueA colourB hueB : ℕ → ℕ) (x : ℕ) (ms : List ℕ) (ci o₁ o₃ : ℕ) (os₂ I R : List ℕ) (own DI DR Dc : ℕ → Type 0) (qT qF : List Gated)
     (ia : ℕ) (IA RA : List ℕ) (ownA : ℕ → Type 0) (IdleA : Load → Type 0) (MA : Means) (itA reA : List Value → Type 0)
     (ib : ℕ) (IB RB : List ℕ) (ownB : ℕ → Type 0) (IdleB : Load → Type 0) (MB : Means) (itB reB : List Value → Type 0) where
-  abbrev pub Tested-body-if : Piece
-  Tested-body-if = record { ins = tested-ins x qT qF; outs = o₁ ∷ (I ++ R); own = own; Idle = Both-idle IdleA IdleB }
-
-  abbrev pub Tested-branch : Means
-  Tested-branch vs c a =
-      (t : Value) × (xs : List Value) × (ys : List Value) × (vs ≡ tested-values x qT qF t xs ys) × Fits qT xs × Fits qF ys
-      × Branch I R (Chosen IA RA I R MA itA reA) (Chosen IB RB I R MB itB reB) t xs ys c a
-
-  pub tested-body-if-serves : Body-if-rig net colour colourA hueA colourB hueB ci o₁ o₃ os₂ I R (Region Tested-body-if) DI DR Dc qT qF ia IA RA ownA IdleA MA itA reA ib IB RB ownB IdleB MB itB reB →
-      Copies net colour (Region Tested-body-if) x ms (ci ∷ []) qT qF → Serves net Tested-body-if Tested-branch
+  pub tested-body-if-serves : Body-if-rig net colour colourA hueA colourB hueB ci o₁ o₃ os₂ I R (Region (Tested-body-if x qT qF o₁ I R own IdleA IdleB)) DI DR Dc qT qF ia IA RA ownA IdleA MA itA reA ib IB RB ownB IdleB MB itB reB →
+      Copies net colour (Region (Tested-body-if x qT qF o₁ I R own IdleA IdleB)) x ms (ci ∷ []) qT qF → Serves net (Tested-body-if x qT qF o₁ I R own IdleA IdleB) (Tested-branch x qT qF I R (Chosen IA RA I R MA itA reA) (Chosen IB RB I R MB itB reB))
   tested-body-if-serves Z C vs c a (t, xs, ys, e, fx, fy, b) σ (σA, σB, iA, iB, es) =
-      subst (λ z. Leads net (Region Tested-body-if) z (o₁ ∷ (I ++ R)) (Both-idle IdleA IdleB) c a) (sym whole)
-      (lead-first net (Region Tested-body-if) (cat (((x, some (val t)) ∷ []) ∷ NT ∷ NF ∷ σA ∷ σB ∷ [])) (cat (((ci, some (val t)) ∷ []) ∷ CT ∷ NT ∷ CF ∷ NF ∷ σA ∷ σB ∷ []))
+      subst (λ z. Leads net (Region (Tested-body-if x qT qF o₁ I R own IdleA IdleB)) z (o₁ ∷ (I ++ R)) (Both-idle IdleA IdleB) c a) (sym whole)
+      (lead-first net (Region (Tested-body-if x qT qF o₁ I R own IdleA IdleB)) (cat (((x, some (val t)) ∷ []) ∷ NT ∷ NF ∷ σA ∷ σB ∷ [])) (cat (((ci, some (val t)) ∷ []) ∷ CT ∷ NT ∷ CF ∷ NF ∷ σA ∷ σB ∷ []))
       (o₁ ∷ (I ++ R)) (Both-idle IdleA IdleB) c a
-      (tested net colour (Region Tested-body-if) x ms (ci ∷ []) qT qF C t xs ys σA σB (λ l o. Z .h-A l (Z .idle-A σA iA l o)) (λ l o. Z .h-B l (Z .idle-B σB iB l o)))
-      (body-if net colour colourA hueA colourB hueB ci o₁ o₃ os₂ I R (Region Tested-body-if) DI DR Dc qT qF ia IA RA ownA IdleA MA itA reA ib IB RB ownB IdleB MB itB reB Z b fx fy σA σB iA iB))
+      (tested net colour (Region (Tested-body-if x qT qF o₁ I R own IdleA IdleB)) x ms (ci ∷ []) qT qF C t xs ys σA σB (λ l o. Z .h-A l (Z .idle-A σA iA l o)) (λ l o. Z .h-B l (Z .idle-B σB iB l o)))
+      (body-if net colour colourA hueA colourB hueB ci o₁ o₃ os₂ I R (Region (Tested-body-if x qT qF o₁ I R own IdleA IdleB)) DI DR Dc qT qF ia IA RA ownA IdleA MA itA reA ib IB RB ownB IdleB MB itB reB Z b fx fy σA σB iA iB))
     where
       CT : Load
       CT = load (controls qT) (each qT t)
