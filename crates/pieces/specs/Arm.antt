@@ -12,7 +12,7 @@ use Rattle.value.specs.declared.Value.{Value}
 use Rattle.network.specs.Values.{true-value, false-value, err-value}
 use Rattle.network.specs.Net.{Token, val, mark, Demand, Links}
 use Rattle.network.specs.Uses.{In}
-use Rattle.pieces.specs.Load.{Load, put, On, on-app, Clear, Off, Apart, Within, Nones, cat, pull, pulls, Far, Pair, Tint, Tints, pair-of, Among, among-not, off-tints, apart-cat, app-assoc}
+use Rattle.pieces.specs.Load.{Load, put, On, on-app, Clear, Off, Apart, Within, Nones, cat, pull, pulls, Far, Pair, Tint, Tints, pair-of, Among, among-not, off-tints, apart-cat, app-assoc, cut-outputs}
 use Rattle.pieces.specs.Goes.{Goes, Goes-on, Alike, go-then, go-wide, go-wide-on, go-less, go-from, go-to, go-from-on, alike-pulls, alike-sym, alike-nones, go-two, go-two-on, go-order}
 use Rattle.pieces.specs.Piece.{Values, token-of, load, Piece, Region, Answer, Means, Serves, none-of, some-of, load-in, load-app-none, none-of-nones, load-app-fit, same-of, Fits}
 use Rattle.pieces.specs.Rows.{in-app}
@@ -158,9 +158,9 @@ module _ (net : ℕ → Demand) (colour hue : ℕ → ℕ) (ci o₁ o₃ : ℕ) 
     five : (is : List ℕ) → ((k : ℕ) → (k ≡ 0) ⊎ ((k ≡ 7) ⊎ ((k ≡ 13) ⊎ ((k ≡ 15) ⊎ (k ≡ 14)))) → Among colour k is → ⊥) → (l : ℕ) → (IC-region ci ix o₁ o₃ os₂) l → Among colour (colour l) is → ⊥
     five is g l d = no-ic is l d (λ k e z m. g k z (subst (λ x. Among colour x is) e m))
 
-    ic9 : (l : ℕ) → (IC-region ci ix o₁ o₃ os₂) l → Among colour (colour l) (9 ∷ 18 ∷ 19 ∷ []) → ⊥
+    off-iterated : (l : ℕ) → (IC-region ci ix o₁ o₃ os₂) l → Among colour (colour l) (9 ∷ 18 ∷ 19 ∷ []) → ⊥
     unfolding ℕ-discrete
-    ic9 = five (9 ∷ 18 ∷ 19 ∷ []) (λ k z m. go k z m)
+    off-iterated = five (9 ∷ 18 ∷ 19 ∷ []) (λ k z m. go k z m)
       where
         go : (k : ℕ) → (k ≡ 0) ⊎ ((k ≡ 7) ⊎ ((k ≡ 13) ⊎ ((k ≡ 15) ⊎ (k ≡ 14)))) → Among colour k (9 ∷ 18 ∷ 19 ∷ []) → ⊥
         go k (inl e) = among-not colour k 0 (9 ∷ 18 ∷ 19 ∷ []) e refl
@@ -169,9 +169,9 @@ module _ (net : ℕ → Demand) (colour hue : ℕ → ℕ) (ci o₁ o₃ : ℕ) 
         go k (inr (inr (inr (inl e)))) = among-not colour k 15 (9 ∷ 18 ∷ 19 ∷ []) e refl
         go k (inr (inr (inr (inr e)))) = among-not colour k 14 (9 ∷ 18 ∷ 19 ∷ []) e refl
 
-    ic11 : (l : ℕ) → (IC-region ci ix o₁ o₃ os₂) l → Among colour (colour l) (11 ∷ 18 ∷ 19 ∷ []) → ⊥
+    off-returned : (l : ℕ) → (IC-region ci ix o₁ o₃ os₂) l → Among colour (colour l) (11 ∷ 18 ∷ 19 ∷ []) → ⊥
     unfolding ℕ-discrete
-    ic11 = five (11 ∷ 18 ∷ 19 ∷ []) (λ k z m. go k z m)
+    off-returned = five (11 ∷ 18 ∷ 19 ∷ []) (λ k z m. go k z m)
       where
         go : (k : ℕ) → (k ≡ 0) ⊎ ((k ≡ 7) ⊎ ((k ≡ 13) ⊎ ((k ≡ 15) ⊎ (k ≡ 14)))) → Among colour k (11 ∷ 18 ∷ 19 ∷ []) → ⊥
         go k (inl e) = among-not colour k 0 (11 ∷ 18 ∷ 19 ∷ []) e refl
@@ -198,9 +198,6 @@ module _ (net : ℕ → Demand) (colour hue : ℕ → ℕ) (ci o₁ o₃ : ℕ) 
         (go-wide net (Region (Arm-piece ins ix IX RX own Idle)) D (cat (load ins (some-of xs) ∷ σ ∷ K ∷ τ ∷ [])) (cat (X ∷ σ′ ∷ K ∷ τ ∷ [])) c (A .up-X)
         (go-two net (Region (Arm-piece ins ix IX RX own Idle)) (load ins (some-of xs)) σ X σ′ c (K ∷ τ ∷ []) off-arm f))
 
-    cut3 : (x : ℕ × Option Token) (P Q : Load) (bs : List Load) → cat ((x ∷ (P ++ Q)) ∷ bs) ≡ cat ((x ∷ []) ∷ P ∷ Q ∷ bs)
-    cut3 x P Q bs = ap (λ z. x ∷ z) (app-assoc P Q (cat bs))
-
     -- the arm iterates
     module _ (us : List Value) (iu : itX us) (σ′ : Load) (jσ : Idle σ′) where
       abbrev U : Load
@@ -218,9 +215,9 @@ module _ (net : ℕ → Demand) (colour hue : ℕ → ℕ) (ci o₁ o₃ : ℕ) 
       abbrev J : Load
       J = load I (some-of us)
 
-      it-1 : Alike net D (cat (K ∷ ((ix, some (val true-value)) ∷ []) ∷ U ∷ σ′ ∷ τ ∷ [])) (cat (((ix, some (val true-value)) ∷ []) ∷ U ∷ N ∷ σ′ ∷ K ∷ τ ∷ []))
+      iterating-begins : Alike net D (cat (K ∷ ((ix, some (val true-value)) ∷ []) ∷ U ∷ σ′ ∷ τ ∷ [])) (cat (((ix, some (val true-value)) ∷ []) ∷ U ∷ N ∷ σ′ ∷ K ∷ τ ∷ []))
       unfolding ℕ-discrete
-      it-1 b cl =
+      iterating-begins b cl =
           sym (alike-nones net D N (cat (K ∷ ((ix, some (val true-value)) ∷ []) ∷ U ∷ σ′ ∷ τ ∷ [])) (none-of-nones RX)
           (λ l o. A .up-X l (inr (inr (inr (right l (load-in RX (none-of RX) l o))))))
           (apart-cat N (K ∷ ((ix, some (val true-value)) ∷ []) ∷ U ∷ σ′ ∷ τ ∷ [])
@@ -237,15 +234,15 @@ module _ (net : ℕ → Demand) (colour hue : ℕ → ℕ) (ci o₁ o₃ : ℕ) 
               in-right l [] i = i
               in-right l (x ∷ xs) i = inr (in-right l xs i)
 
-      it-2 : Goes net D (cat (K ∷ ((ix, some (val true-value)) ∷ []) ∷ U ∷ σ′ ∷ τ ∷ [])) 1 (cat (T₁ ∷ S₂ ∷ U ∷ σ′ ∷ τ ∷ []))
-      it-2 =
+      iterating-fires : Goes net D (cat (K ∷ ((ix, some (val true-value)) ∷ []) ∷ U ∷ σ′ ∷ τ ∷ [])) 1 (cat (T₁ ∷ S₂ ∷ U ∷ σ′ ∷ τ ∷ []))
+      iterating-fires =
           go-wide net (IC-region ci ix o₁ o₃ os₂) D (cat (K ∷ ((ix, some (val true-value)) ∷ []) ∷ U ∷ σ′ ∷ τ ∷ [])) (cat (T₁ ∷ S₂ ∷ U ∷ σ′ ∷ τ ∷ [])) 1 (A .up-ic)
           (go-two net (IC-region ci ix o₁ o₃ os₂) K ((ix, some (val true-value)) ∷ []) T₁ S₂ 1 (U ∷ σ′ ∷ τ ∷ [])
-          (off-tints colour (9 ∷ 18 ∷ 19 ∷ []) (U ∷ σ′ ∷ τ ∷ []) (IC-region ci ix o₁ o₃ os₂) (t-IX (some-of us), (tσ σ′ jσ, (tτ, tt))) ic9) (A .IC-iterates))
+          (off-tints colour (9 ∷ 18 ∷ 19 ∷ []) (U ∷ σ′ ∷ τ ∷ []) (IC-region ci ix o₁ o₃ os₂) (t-IX (some-of us), (tσ σ′ jσ, (tτ, tt))) off-iterated) (A .IC-iterates))
 
-      it-3 : Goes net D (cat (T₁ ∷ S₂ ∷ U ∷ σ′ ∷ τ ∷ [])) 0 (cat (J ∷ T₁ ∷ σ′ ∷ τ ∷ []))
+      iterating-joins : Goes net D (cat (T₁ ∷ S₂ ∷ U ∷ σ′ ∷ τ ∷ [])) 0 (cat (J ∷ T₁ ∷ σ′ ∷ τ ∷ []))
       unfolding ℕ-discrete
-      it-3 =
+      iterating-joins =
           go-from net D (cat (S₂ ∷ U ∷ T₁ ∷ σ′ ∷ τ ∷ [])) (cat (T₁ ∷ S₂ ∷ U ∷ σ′ ∷ τ ∷ [])) (cat (J ∷ T₁ ∷ σ′ ∷ τ ∷ [])) 0
           (alike-pulls net D (2 ∷ 2 ∷ []) (T₁ ∷ S₂ ∷ U ∷ σ′ ∷ τ ∷ [])
           (pair-of colour (13 ∷ 14 ∷ 9 ∷ 18 ∷ 19 ∷ []) (T₁ ∷ S₂ ∷ U ∷ σ′ ∷ τ ∷ []) (t-o₁ true-value, (t-os₂ (some-of (same-of os₂ t)), (t-IX (some-of us), (tσ σ′ jσ, (tτ, tt))))) refl))
@@ -253,13 +250,13 @@ module _ (net : ℕ → Demand) (colour hue : ℕ → ℕ) (ci o₁ o₃ : ℕ) 
           (go-two net DI S₂ U J [] 0 (T₁ ∷ σ′ ∷ τ ∷ [])
           (off-tints colour (13 ∷ 18 ∷ 19 ∷ []) (T₁ ∷ σ′ ∷ τ ∷ []) DI (t-o₁ true-value, (tσ σ′ jσ, (tτ, tt))) (A .no-I)) (A .join-iterated us iu)))
 
-      it-4 : Alike net D (cat (J ∷ T₁ ∷ σ′ ∷ τ ∷ [])) (cat (load (o₁ ∷ (I ++ R)) (some true-value ∷ (some-of us ++ none-of R)) ∷ σ′ ∷ τ ∷ []))
+      iterating-ends : Alike net D (cat (J ∷ T₁ ∷ σ′ ∷ τ ∷ [])) (cat (load (o₁ ∷ (I ++ R)) (some true-value ∷ (some-of us ++ none-of R)) ∷ σ′ ∷ τ ∷ []))
       unfolding ℕ-discrete
-      it-4 b cl =
+      iterating-ends b cl =
           sym (alike-nones net D E (cat (J ∷ T₁ ∷ σ′ ∷ τ ∷ [])) (none-of-nones R) (λ l o. A .in-R l (load-in R (none-of R) l o))
           (apart-cat E (J ∷ T₁ ∷ σ′ ∷ τ ∷ []) (pr .0)) b cl)
           ∙ sym (alike-pulls net D (1 ∷ 2 ∷ []) (E ∷ J ∷ T₁ ∷ σ′ ∷ τ ∷ []) pr b cl)
-          ∙ ap (λ z. put z b) (sym (cut3 (o₁, some (val true-value)) J E (σ′ ∷ τ ∷ [])))
+          ∙ ap (λ z. put z b) (sym (cut-outputs (o₁, some (val true-value)) J E (σ′ ∷ τ ∷ [])))
           ∙ ap (λ z. put (cat (((o₁, some (val true-value)) ∷ z) ∷ σ′ ∷ τ ∷ [])) b) (sym (load-app-fit I R us (none-of R) (A .fit-I us iu)))
         where
           E : Load
@@ -273,13 +270,13 @@ module _ (net : ℕ → Demand) (colour hue : ℕ → ℕ) (ci o₁ o₃ : ℕ) 
           (cat (load (o₁ ∷ (I ++ R)) (some true-value ∷ (some-of us ++ none-of R)) ∷ σ′ ∷ τ ∷ []))
       iterates =
           subst (λ z. Goes net D z 1 (cat (load (o₁ ∷ (I ++ R)) (some true-value ∷ (some-of us ++ none-of R)) ∷ σ′ ∷ τ ∷ [])))
-          (sym (ap (λ z. cat (((ix, some (val true-value)) ∷ z) ∷ σ′ ∷ K ∷ τ ∷ [])) (load-app-fit IX RX us (none-of RX) (A .fit-it us iu)) ∙ cut3 (ix, some (val true-value)) U N (σ′ ∷ K ∷ τ ∷ [])))
+          (sym (ap (λ z. cat (((ix, some (val true-value)) ∷ z) ∷ σ′ ∷ K ∷ τ ∷ [])) (load-app-fit IX RX us (none-of RX) (A .fit-it us iu)) ∙ cut-outputs (ix, some (val true-value)) U N (σ′ ∷ K ∷ τ ∷ [])))
           (go-from net D (cat (K ∷ ((ix, some (val true-value)) ∷ []) ∷ U ∷ σ′ ∷ τ ∷ [])) (cat (((ix, some (val true-value)) ∷ []) ∷ U ∷ N ∷ σ′ ∷ K ∷ τ ∷ []))
-          (cat (load (o₁ ∷ (I ++ R)) (some true-value ∷ (some-of us ++ none-of R)) ∷ σ′ ∷ τ ∷ [])) 1 it-1
+          (cat (load (o₁ ∷ (I ++ R)) (some true-value ∷ (some-of us ++ none-of R)) ∷ σ′ ∷ τ ∷ [])) 1 iterating-begins
           (go-to net D (cat (K ∷ ((ix, some (val true-value)) ∷ []) ∷ U ∷ σ′ ∷ τ ∷ [])) (cat (J ∷ T₁ ∷ σ′ ∷ τ ∷ []))
-          (cat (load (o₁ ∷ (I ++ R)) (some true-value ∷ (some-of us ++ none-of R)) ∷ σ′ ∷ τ ∷ [])) 1 it-4
+          (cat (load (o₁ ∷ (I ++ R)) (some true-value ∷ (some-of us ++ none-of R)) ∷ σ′ ∷ τ ∷ [])) 1 iterating-ends
           (go-less net D (cat (K ∷ ((ix, some (val true-value)) ∷ []) ∷ U ∷ σ′ ∷ τ ∷ [])) (cat (J ∷ T₁ ∷ σ′ ∷ τ ∷ [])) (1 + 0) 1 (omega arith)
-          (go-then net D (cat (K ∷ ((ix, some (val true-value)) ∷ []) ∷ U ∷ σ′ ∷ τ ∷ [])) (cat (T₁ ∷ S₂ ∷ U ∷ σ′ ∷ τ ∷ [])) (cat (J ∷ T₁ ∷ σ′ ∷ τ ∷ [])) 1 0 it-2 it-3))))
+          (go-then net D (cat (K ∷ ((ix, some (val true-value)) ∷ []) ∷ U ∷ σ′ ∷ τ ∷ [])) (cat (T₁ ∷ S₂ ∷ U ∷ σ′ ∷ τ ∷ [])) (cat (J ∷ T₁ ∷ σ′ ∷ τ ∷ [])) 1 0 iterating-fires iterating-joins))))
 
     -- the arm returns
     module _ (ws : List Value) (rw′ : reX ws) (σ′ : Load) (jσ : Idle σ′) where
@@ -298,9 +295,9 @@ module _ (net : ℕ → Demand) (colour hue : ℕ → ℕ) (ci o₁ o₃ : ℕ) 
       abbrev J′ : Load
       J′ = load R (some-of ws)
 
-      re-1 : Alike net D (cat (K ∷ ((ix, some (val false-value)) ∷ []) ∷ U′ ∷ σ′ ∷ τ ∷ [])) (cat (((ix, some (val false-value)) ∷ []) ∷ N′ ∷ U′ ∷ σ′ ∷ K ∷ τ ∷ []))
+      returning-begins : Alike net D (cat (K ∷ ((ix, some (val false-value)) ∷ []) ∷ U′ ∷ σ′ ∷ τ ∷ [])) (cat (((ix, some (val false-value)) ∷ []) ∷ N′ ∷ U′ ∷ σ′ ∷ K ∷ τ ∷ []))
       unfolding ℕ-discrete
-      re-1 b cl =
+      returning-begins b cl =
           sym (alike-nones net D N′ (cat (K ∷ ((ix, some (val false-value)) ∷ []) ∷ U′ ∷ σ′ ∷ τ ∷ [])) (none-of-nones IX)
           (λ l o. A .up-X l (inr (inr (inr (left l IX (load-in IX (none-of IX) l o))))))
           (apart-cat N′ (K ∷ ((ix, some (val false-value)) ∷ []) ∷ U′ ∷ σ′ ∷ τ ∷ [])
@@ -315,15 +312,15 @@ module _ (net : ℕ → Demand) (colour hue : ℕ → ℕ) (ci o₁ o₃ : ℕ) 
           left l (x ∷ xs) (inl e) = inl e
           left l (x ∷ xs) (inr i) = inr (left l xs i)
 
-      re-2 : Goes net D (cat (K ∷ ((ix, some (val false-value)) ∷ []) ∷ U′ ∷ σ′ ∷ τ ∷ [])) 1 (cat (F₁ ∷ S₃ ∷ U′ ∷ σ′ ∷ τ ∷ []))
-      re-2 =
+      returning-fires : Goes net D (cat (K ∷ ((ix, some (val false-value)) ∷ []) ∷ U′ ∷ σ′ ∷ τ ∷ [])) 1 (cat (F₁ ∷ S₃ ∷ U′ ∷ σ′ ∷ τ ∷ []))
+      returning-fires =
           go-wide net (IC-region ci ix o₁ o₃ os₂) D (cat (K ∷ ((ix, some (val false-value)) ∷ []) ∷ U′ ∷ σ′ ∷ τ ∷ [])) (cat (F₁ ∷ S₃ ∷ U′ ∷ σ′ ∷ τ ∷ [])) 1 (A .up-ic)
           (go-two net (IC-region ci ix o₁ o₃ os₂) K ((ix, some (val false-value)) ∷ []) F₁ S₃ 1 (U′ ∷ σ′ ∷ τ ∷ [])
-          (off-tints colour (11 ∷ 18 ∷ 19 ∷ []) (U′ ∷ σ′ ∷ τ ∷ []) (IC-region ci ix o₁ o₃ os₂) (t-RX (some-of ws), (tσ σ′ jσ, (tτ, tt))) ic11) (A .IC-returns))
+          (off-tints colour (11 ∷ 18 ∷ 19 ∷ []) (U′ ∷ σ′ ∷ τ ∷ []) (IC-region ci ix o₁ o₃ os₂) (t-RX (some-of ws), (tσ σ′ jσ, (tτ, tt))) off-returned) (A .IC-returns))
 
-      re-3 : Goes net D (cat (F₁ ∷ S₃ ∷ U′ ∷ σ′ ∷ τ ∷ [])) 0 (cat (J′ ∷ F₁ ∷ σ′ ∷ τ ∷ []))
+      returning-joins : Goes net D (cat (F₁ ∷ S₃ ∷ U′ ∷ σ′ ∷ τ ∷ [])) 0 (cat (J′ ∷ F₁ ∷ σ′ ∷ τ ∷ []))
       unfolding ℕ-discrete
-      re-3 =
+      returning-joins =
           go-from net D (cat (S₃ ∷ U′ ∷ F₁ ∷ σ′ ∷ τ ∷ [])) (cat (F₁ ∷ S₃ ∷ U′ ∷ σ′ ∷ τ ∷ [])) (cat (J′ ∷ F₁ ∷ σ′ ∷ τ ∷ [])) 0
           (alike-pulls net D (2 ∷ 2 ∷ []) (F₁ ∷ S₃ ∷ U′ ∷ σ′ ∷ τ ∷ [])
           (pair-of colour (13 ∷ 15 ∷ 11 ∷ 18 ∷ 19 ∷ []) (F₁ ∷ S₃ ∷ U′ ∷ σ′ ∷ τ ∷ []) (t-o₁ false-value, (t-o₃ t, (t-RX (some-of ws), (tσ σ′ jσ, (tτ, tt))))) refl))
@@ -331,13 +328,13 @@ module _ (net : ℕ → Demand) (colour hue : ℕ → ℕ) (ci o₁ o₃ : ℕ) 
           (go-two net DR S₃ U′ J′ [] 0 (F₁ ∷ σ′ ∷ τ ∷ [])
           (off-tints colour (13 ∷ 18 ∷ 19 ∷ []) (F₁ ∷ σ′ ∷ τ ∷ []) DR (t-o₁ false-value, (tσ σ′ jσ, (tτ, tt))) (A .no-R)) (A .join-returned ws rw′)))
 
-      re-4 : Alike net D (cat (J′ ∷ F₁ ∷ σ′ ∷ τ ∷ [])) (cat (load (o₁ ∷ (I ++ R)) (some false-value ∷ (none-of I ++ some-of ws)) ∷ σ′ ∷ τ ∷ []))
+      returning-ends : Alike net D (cat (J′ ∷ F₁ ∷ σ′ ∷ τ ∷ [])) (cat (load (o₁ ∷ (I ++ R)) (some false-value ∷ (none-of I ++ some-of ws)) ∷ σ′ ∷ τ ∷ []))
       unfolding ℕ-discrete
-      re-4 b cl =
+      returning-ends b cl =
           sym (alike-nones net D E (cat (J′ ∷ F₁ ∷ σ′ ∷ τ ∷ [])) (none-of-nones I) (λ l o. A .in-I l (load-in I (none-of I) l o))
           (apart-cat E (J′ ∷ F₁ ∷ σ′ ∷ τ ∷ []) (pr .0)) b cl)
           ∙ sym (alike-pulls net D (2 ∷ []) (E ∷ J′ ∷ F₁ ∷ σ′ ∷ τ ∷ []) pr b cl)
-          ∙ ap (λ z. put z b) (sym (cut3 (o₁, some (val false-value)) E J′ (σ′ ∷ τ ∷ [])))
+          ∙ ap (λ z. put z b) (sym (cut-outputs (o₁, some (val false-value)) E J′ (σ′ ∷ τ ∷ [])))
           ∙ ap (λ z. put (cat (((o₁, some (val false-value)) ∷ z) ∷ σ′ ∷ τ ∷ [])) b) (sym (load-app-none I R (some-of ws)))
         where
           E : Load
@@ -351,13 +348,13 @@ module _ (net : ℕ → Demand) (colour hue : ℕ → ℕ) (ci o₁ o₃ : ℕ) 
           (cat (load (o₁ ∷ (I ++ R)) (some false-value ∷ (none-of I ++ some-of ws)) ∷ σ′ ∷ τ ∷ []))
       returns =
           subst (λ z. Goes net D z 1 (cat (load (o₁ ∷ (I ++ R)) (some false-value ∷ (none-of I ++ some-of ws)) ∷ σ′ ∷ τ ∷ [])))
-          (sym (ap (λ z. cat (((ix, some (val false-value)) ∷ z) ∷ σ′ ∷ K ∷ τ ∷ [])) (load-app-none IX RX (some-of ws)) ∙ cut3 (ix, some (val false-value)) N′ U′ (σ′ ∷ K ∷ τ ∷ [])))
+          (sym (ap (λ z. cat (((ix, some (val false-value)) ∷ z) ∷ σ′ ∷ K ∷ τ ∷ [])) (load-app-none IX RX (some-of ws)) ∙ cut-outputs (ix, some (val false-value)) N′ U′ (σ′ ∷ K ∷ τ ∷ [])))
           (go-from net D (cat (K ∷ ((ix, some (val false-value)) ∷ []) ∷ U′ ∷ σ′ ∷ τ ∷ [])) (cat (((ix, some (val false-value)) ∷ []) ∷ N′ ∷ U′ ∷ σ′ ∷ K ∷ τ ∷ []))
-          (cat (load (o₁ ∷ (I ++ R)) (some false-value ∷ (none-of I ++ some-of ws)) ∷ σ′ ∷ τ ∷ [])) 1 re-1
+          (cat (load (o₁ ∷ (I ++ R)) (some false-value ∷ (none-of I ++ some-of ws)) ∷ σ′ ∷ τ ∷ [])) 1 returning-begins
           (go-to net D (cat (K ∷ ((ix, some (val false-value)) ∷ []) ∷ U′ ∷ σ′ ∷ τ ∷ [])) (cat (J′ ∷ F₁ ∷ σ′ ∷ τ ∷ []))
-          (cat (load (o₁ ∷ (I ++ R)) (some false-value ∷ (none-of I ++ some-of ws)) ∷ σ′ ∷ τ ∷ [])) 1 re-4
+          (cat (load (o₁ ∷ (I ++ R)) (some false-value ∷ (none-of I ++ some-of ws)) ∷ σ′ ∷ τ ∷ [])) 1 returning-ends
           (go-less net D (cat (K ∷ ((ix, some (val false-value)) ∷ []) ∷ U′ ∷ σ′ ∷ τ ∷ [])) (cat (J′ ∷ F₁ ∷ σ′ ∷ τ ∷ [])) (1 + 0) 1 (omega arith)
-          (go-then net D (cat (K ∷ ((ix, some (val false-value)) ∷ []) ∷ U′ ∷ σ′ ∷ τ ∷ [])) (cat (F₁ ∷ S₃ ∷ U′ ∷ σ′ ∷ τ ∷ [])) (cat (J′ ∷ F₁ ∷ σ′ ∷ τ ∷ [])) 1 0 re-2 re-3))))
+          (go-then net D (cat (K ∷ ((ix, some (val false-value)) ∷ []) ∷ U′ ∷ σ′ ∷ τ ∷ [])) (cat (F₁ ∷ S₃ ∷ U′ ∷ σ′ ∷ τ ∷ [])) (cat (J′ ∷ F₁ ∷ σ′ ∷ τ ∷ [])) 1 0 returning-fires returning-joins))))
 
     -- The chosen arm: it iterates, returns or runs on.
     pub chosen : {xs : List Value} {c : ℕ} {a : Answer} → Chosen IX RX I R MX itX reX xs c a → (σ : Load) → Idle σ → Arm-result xs σ c a

@@ -33,12 +33,12 @@ pub distinct-two : (x y : ℕ × Option Token) → x .0 ≢ y .0 → Distinct (x
 distinct-two x y ne = (λ o. ⊎-elim ne (λ (z : ⊥). z) o, (λ o. o, tt))
 
 pub distinct-three : (x y z : ℕ × Option Token) → x .0 ≢ y .0 → x .0 ≢ z .0 → y .0 ≢ z .0 → Distinct (x ∷ y ∷ z ∷ [])
-distinct-three x y z xy xz yz = (λ o. no3 o, distinct-two y z yz)
+distinct-three x y z xy xz yz = (λ o. none-alike o, distinct-two y z yz)
   where
-    no3 : (x .0 ≡ y .0) ⊎ ((x .0 ≡ z .0) ⊎ ⊥) → ⊥
-    no3 (inl e) = xy e
-    no3 (inr (inl e)) = xz e
-    no3 (inr (inr e)) = e
+    none-alike : (x .0 ≡ y .0) ⊎ ((x .0 ≡ z .0) ⊎ ⊥) → ⊥
+    none-alike (inl e) = xy e
+    none-alike (inr (inl e)) = xz e
+    none-alike (inr (inr e)) = e
 
 abbrev pub emitted : List (ℕ × Token) → Load
 emitted [] = []

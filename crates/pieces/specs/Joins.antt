@@ -98,10 +98,10 @@ module _ (net : ℕ → Demand) where
 
   module _ (D : ℕ → Type 0) (a ci ia ib o₁ o₃ : ℕ) (o₂ : Option ℕ) (at : net a ≡ IC-at ci ia ib o₁ o₂ o₃) (d-ci : D ci) (d-o₁ : D o₁) (d-o₃ : D o₃)
       (d-os₂ : (l : ℕ) → In l (listed o₂) → D l) (ci-ia : ci ≢ ia) (ci-ib : ci ≢ ib) (o₁-o₃ : o₁ ≢ o₃) (o₁-os₂ : In o₁ (listed o₂) → ⊥) (os₂-d : (t : Value) → Distinct (load (listed o₂) (some-of (same-of (listed o₂) t)))) where
-    w2 : (i : ℕ) → D i → (l : ℕ) → (l ≡ ci) ⊎ ((l ≡ i) ⊎ ⊥) → D l
-    w2 i di l (inl e) = subst D (sym e) d-ci
-    w2 i di l (inr (inl e)) = subst D (sym e) di
-    w2 i di l (inr (inr e)) = absurd e
+    two-within : (i : ℕ) → D i → (l : ℕ) → (l ≡ ci) ⊎ ((l ≡ i) ⊎ ⊥) → D l
+    two-within i di l (inl e) = subst D (sym e) d-ci
+    two-within i di l (inr (inl e)) = subst D (sym e) di
+    two-within i di l (inr (inr e)) = absurd e
 
     wt : (t : Value) (l : ℕ) → (l ≡ o₁) ⊎ On l (emitted (emission o₂ (some t))) → D l
     wt t l (inl e) = subst D (sym e) d-o₁
@@ -122,25 +122,25 @@ module _ (net : ℕ → Demand) where
     IC-true-true d-ia =
         subst (λ z. Goes net D ((ci, some (val true-value)) ∷ (ia, some (val true-value)) ∷ []) 1 ((o₁, some (val true-value)) ∷ z)) (each-somes o₂ true-value)
         (fires net D a (IC-at ci ia ib o₁ o₂ o₃) ((ci, some (val true-value)) ∷ (ia, some (val true-value)) ∷ []) ((o₁, val true-value) ∷ emission o₂ (some true-value)) at
-        (0, val true-value, (refl, refl), (1, val true-value, (refl, refl), ((refl, (refl, tt)), second-emits o₁ o₂ true-value))) (distinct-two (ci, some (val true-value)) (ia, some (val true-value)) ci-ia) (dt true-value) (w2 ia d-ia) (wt true-value))
+        (0, val true-value, (refl, refl), (1, val true-value, (refl, refl), ((refl, (refl, tt)), second-emits o₁ o₂ true-value))) (distinct-two (ci, some (val true-value)) (ia, some (val true-value)) ci-ia) (dt true-value) (two-within ia d-ia) (wt true-value))
 
     pub IC-true-false : D ia → Goes net D (((ci, some (val true-value)) ∷ []) ++ ((ia, some (val false-value)) ∷ [])) 1 (((o₁, some (val false-value)) ∷ []) ++ ((o₃, some (val true-value)) ∷ []))
     IC-true-false d-ia =
         fires net D a (IC-at ci ia ib o₁ o₂ o₃) ((ci, some (val true-value)) ∷ (ia, some (val false-value)) ∷ []) ((o₁, val false-value) ∷ (o₃, val true-value) ∷ []) at
         (0, val true-value, (refl, refl), (1, val false-value, (refl, refl), ((refl, (refl, tt)), third-emits o₁ o₃ o₂ false-value true-value))) (distinct-two (ci, some (val true-value)) (ia, some (val false-value)) ci-ia)
-        (distinct-two (o₁, some (val false-value)) (o₃, some (val true-value)) o₁-o₃) (w2 ia d-ia) wf
+        (distinct-two (o₁, some (val false-value)) (o₃, some (val true-value)) o₁-o₃) (two-within ia d-ia) wf
 
     pub IC-false-true : D ib → Goes net D (((ci, some (val false-value)) ∷ []) ++ ((ib, some (val true-value)) ∷ [])) 1 (((o₁, some (val true-value)) ∷ []) ++ load (listed o₂) (some-of (same-of (listed o₂) false-value)))
     IC-false-true d-ib =
         subst (λ z. Goes net D ((ci, some (val false-value)) ∷ (ib, some (val true-value)) ∷ []) 1 ((o₁, some (val true-value)) ∷ z)) (each-somes o₂ false-value)
         (fires net D a (IC-at ci ia ib o₁ o₂ o₃) ((ci, some (val false-value)) ∷ (ib, some (val true-value)) ∷ []) ((o₁, val true-value) ∷ emission o₂ (some false-value)) at
-        (0, val false-value, (refl, refl), (1, val true-value, (refl, refl), ((refl, (refl, tt)), second-emits o₁ o₂ false-value))) (distinct-two (ci, some (val false-value)) (ib, some (val true-value)) ci-ib) (dt false-value) (w2 ib d-ib) (wt false-value))
+        (0, val false-value, (refl, refl), (1, val true-value, (refl, refl), ((refl, (refl, tt)), second-emits o₁ o₂ false-value))) (distinct-two (ci, some (val false-value)) (ib, some (val true-value)) ci-ib) (dt false-value) (two-within ib d-ib) (wt false-value))
 
     pub IC-false-false : D ib → Goes net D (((ci, some (val false-value)) ∷ []) ++ ((ib, some (val false-value)) ∷ [])) 1 (((o₁, some (val false-value)) ∷ []) ++ ((o₃, some (val false-value)) ∷ []))
     IC-false-false d-ib =
         fires net D a (IC-at ci ia ib o₁ o₂ o₃) ((ci, some (val false-value)) ∷ (ib, some (val false-value)) ∷ []) ((o₁, val false-value) ∷ (o₃, val false-value) ∷ []) at
         (0, val false-value, (refl, refl), (1, val false-value, (refl, refl), ((refl, (refl, tt)), third-emits o₁ o₃ o₂ false-value false-value))) (distinct-two (ci, some (val false-value)) (ib, some (val false-value)) ci-ib)
-        (distinct-two (o₁, some (val false-value)) (o₃, some (val false-value)) o₁-o₃) (w2 ib d-ib) wf
+        (distinct-two (o₁, some (val false-value)) (o₃, some (val false-value)) o₁-o₃) (two-within ib d-ib) wf
 
     abbrev IC-ports : Ports
     IC-ports = ports ci ia ib (some o₁) o₂ (some o₃) 0 none

@@ -7,6 +7,8 @@ pub mod Rows
 pub mod LoadSets
 pub mod Gates
 pub mod Ring
+pub mod RingRows
+pub mod LoopMeans
 pub mod DataRows
 pub mod Fan
 pub mod MergeRows

@@ -263,3 +263,7 @@ app-assoc (x ∷ xs) ys zs = ap (λ z. x ∷ z) (app-assoc xs ys zs)
 pub app-nil : (x : Load) → x ++ [] ≡ x
 app-nil [] = refl
 app-nil (y ∷ x) = ap (λ z. y ∷ z) (app-nil x)
+
+-- A first entry and two blocks, cut apart.
+pub cut-outputs : (x : ℕ × Option Token) (P Q : Load) (bs : List Load) → cat ((x ∷ (P ++ Q)) ∷ bs) ≡ cat ((x ∷ []) ∷ P ∷ Q ∷ bs)
+cut-outputs x P Q bs = ap (λ z. x ∷ z) (app-assoc P Q (cat bs))

@@ -14,7 +14,7 @@ use Rattle.pieces.specs.Rows.{in-app}
 use Rattle.pieces.specs.Ring.{Ring-gate, control, map-gates, to-each-gate}
 use Rattle.pieces.specs.Fan.{Chain, Chain-region, chain}
 use Rattle.pieces.specs.Rows.{dec-in}
-use Rattle.pieces.specs.Loop.{Fan-piece, Fan-means}
+use Rattle.pieces.specs.LoopMeans.{Fan-piece, Fan-means}
 
 all-same : (gs : List Ring-gate) (v : Value) → load (map-gates control gs) (some-of (same-of (map-gates control gs) v)) ≡ load (map-gates control gs) (to-each-gate gs v)
 all-same [] v = refl

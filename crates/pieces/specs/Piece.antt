@@ -145,3 +145,9 @@ same-fit (l ∷ ls) v = same-fit ls v
 -- Two pieces idle, the one's load before the other's.
 abbrev pub Both-idle : (Load → Type 0) → (Load → Type 0) → Load → Type 0
 Both-idle I J σ = (σP : Load) × (σQ : Load) × I σP × J σQ × (σ ≡ cat (σP ∷ σQ ∷ []))
+
+pub both-idle-own : (I J : Load → Type 0) (A B own : ℕ → Type 0) → ((σ : Load) → I σ → Within σ A) → ((σ : Load) → J σ → Within σ B) → ((l : ℕ) → A l → own l) →
+    ((l : ℕ) → B l → own l) → (σ : Load) → Both-idle I J σ → Within σ own
+both-idle-own I J A B own wI wJ a b σ (σP, σQ, i, j, e) l o =
+    ⊎-elim (λ (z : On l σP). a l (wI σP i l z))
+    (λ (z : On l (σQ ++ [])). ⊎-elim (λ (y : On l σQ). b l (wJ σQ j l y)) (λ (y : ⊥). absurd y) (on-app l σQ [] z)) (on-app l σP (σQ ++ []) (subst (On l) e o))

@@ -37,8 +37,8 @@ abbrev pub Different : List ℕ → Type 0
 Different [] = Unit {0}
 Different (l ∷ ls) = (In l ls → ⊥) × Different ls
 
-pop-set1 : (l : ℕ) (t : Token) (xs : List Token) (q : Links) → pop l (set-link l (t ∷ xs) q) ≡ set-link l xs q
-pop-set1 l t xs q =
+pop-set-link : (l : ℕ) (t : Token) (xs : List Token) (q : Links) → pop l (set-link l (t ∷ xs) q) ≡ set-link l xs q
+pop-set-link l t xs q =
     sym (set-ext l xs q (pop l (set-link l (t ∷ xs) q)) (pop-same l (set-link l (t ∷ xs) q) ∙ ap tail (set-same l (t ∷ xs) q))
     (λ j ne. sym (pop-other l j (set-link l (t ∷ xs) q) ne ∙ set-other l j (t ∷ xs) q ne)))
 
@@ -50,7 +50,7 @@ draw-does source [] (v ∷ vs) rs b k f = absurd f
 draw-does source (i ∷ is) [] rs b k f = absurd f
 draw-does source (i ∷ is) (v ∷ vs) rs b k f =
     let at : set-link source (val v ∷ (tokens-of vs ++ rs)) b source ≡ val v ∷ (tokens-of vs ++ rs) = set-same source (val v ∷ (tokens-of vs ++ rs)) b in
-    let po : pop source (set-link source (val v ∷ (tokens-of vs ++ rs)) b) ≡ set-link source (tokens-of vs ++ rs) b = pop-set1 source (val v) (tokens-of vs ++ rs) b in
+    let po : pop source (set-link source (val v ∷ (tokens-of vs ++ rs)) b) ≡ set-link source (tokens-of vs ++ rs) b = pop-set-link source (val v) (tokens-of vs ++ rs) b in
     let h = draw-does source is vs rs b (λ es. k ((i, val v) ∷ es)) f in
     let g : head (set-link source (val v ∷ (tokens-of vs ++ rs)) b source) ≡ val v = ap head at in (
       λ o. (
@@ -75,7 +75,7 @@ collect-does (o ∷ os) (r ∷ rs) b k f d c =
     let Q = put (load os (some-of rs)) b in
     let at : set-link o (val r ∷ []) Q o ≡ val r ∷ [] = set-same o (val r ∷ []) Q in
     let po : pop o (set-link o (val r ∷ []) Q) ≡ Q
-    = pop-set1 o (val r) [] Q ∙ set-clear o Q (put-off o (load os (some-of rs)) b (λ i. d .0 (load-in os (some-of rs) o i)) ∙ c o (inl refl)) in
+    = pop-set-link o (val r) [] Q ∙ set-clear o Q (put-off o (load os (some-of rs)) b (λ i. d .0 (load-in os (some-of rs) o i)) ∙ c o (inl refl)) in
     let h = collect-does os rs b (λ ts. k (val r ∷ ts)) f (d .1) (λ l i. c l (inr i)) in
     let g : head (set-link o (val r ∷ []) Q o) ≡ val r = ap head at in (
       λ x. (
