@@ -1,7 +1,7 @@
 -- From "every link has at most one taker and at most one putter" to the hypothesis of the diamond. Takers and putters are relations, so no
 -- owner of a link has to be computed; in a graph that the maker made they hold by its fresh numbers.
 use Prim.Native.Nat.{ℕ}
-use mathlib.Core.Path.{_≡_, refl, sym, _∙_, subst}
+use mathlib.Core.Path.{_≡_, subst}
 use mathlib.Core.Logic.{_≢_}
 use mathlib.Core.List.{List, [], _∷_}
 use Rattle.network.specs.Net.{Token, Demand, ask, fire, halt}

@@ -1,20 +1,20 @@
 -- The chosen arm of a body if: the arm runs, IC fires, the iterated or the returned results are joined. Stated once for both arms, over the
 -- control that chooses it; what differs between the shapes of a body if is in the fields `join-iterated` and `join-returned`.
 -- An arm such as `iter i` has bare outputs, so that one link may be its input and its output; hence two colourings.
-use Prim.Native.Nat.{ℕ, zero, suc, _<_, _≤_, _+_}
+use Prim.Native.Nat.{ℕ, _+_}
 use mathlib.Core.Path.{_≡_, refl, sym, _∙_, ap, subst}
-use mathlib.Core.Logic.{_≢_, ite, _⊎_, inl, inr, ⊎-elim}
+use mathlib.Core.Logic.{ite, _⊎_, inl, inr, ⊎-elim}
 use mathlib.Core.List.{List, [], _∷_, _++_}
-use mathlib.Core.Option.{Option, none, some}
+use mathlib.Core.Option.{none, some}
 use native.Mathlib.Decide.{ℕ-discrete}
 use native.Mathlib.Omega.{arith}
 use Rattle.value.specs.declared.Value.{Value}
-use Rattle.network.specs.Values.{true-value, false-value, err-value}
-use Rattle.network.specs.Net.{Token, val, mark, Demand, Links}
+use Rattle.network.specs.Values.{true-value, false-value}
+use Rattle.network.specs.Net.{val, Demand}
 use Rattle.network.specs.Uses.{In}
-use Rattle.pieces.specs.Load.{Load, put, On, on-app, Clear, Off, Apart, Within, Nones, cat, pull, pulls, Far, Pair, Tint, Tints, pair-of, Among, among-not, off-tints, apart-cat, app-assoc, cut-outputs}
-use Rattle.pieces.specs.Goes.{Goes, Goes-on, Alike, go-then, go-wide, go-wide-on, go-less, go-from, go-to, go-from-on, alike-pulls, alike-sym, alike-nones, go-two, go-two-on, go-order}
-use Rattle.pieces.specs.Piece.{Values, token-of, load, Piece, Region, Answer, Means, Serves, none-of, some-of, load-in, load-app-none, none-of-nones, load-app-fit, same-of, Fits}
+use Rattle.pieces.specs.Load.{Load, put, Off, Within, cat, Pair, Tint, pair-of, Among, among-not, off-tints, apart-cat, cut-outputs}
+use Rattle.pieces.specs.Goes.{Goes, Goes-on, Alike, go-then, go-wide, go-wide-on, go-less, go-from, go-to, go-from-on, alike-pulls, alike-nones, go-two, go-two-on}
+use Rattle.pieces.specs.Piece.{Values, load, Piece, Region, Answer, Means, Serves, none-of, some-of, load-in, load-app-none, none-of-nones, load-app-fit, same-of, Fits}
 use Rattle.pieces.specs.Rows.{in-app}
 
 -- What an arm's answer makes of the whole's: its iterated links `IX` and returned links `RX` become the whole's `I` and `R`. `itX`, `reX` say which

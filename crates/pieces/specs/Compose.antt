@@ -1,15 +1,13 @@
 -- One after another and side by side as pieces again, so that they can be composed further. The ifs under their test are in Tested.antt, the
 -- loop in Loop.antt.
-use Prim.Native.Nat.{ℕ, zero, suc, _<_, _≤_, _+_}
-use mathlib.Core.Path.{_≡_, refl, sym, _∙_, ap, subst}
-use mathlib.Core.Logic.{_≢_, _⊎_, inl, inr, ⊎-elim}
+use Prim.Native.Nat.{ℕ, _+_}
+use mathlib.Core.Path.{_≡_, sym, _∙_, ap, subst}
+use mathlib.Core.Logic.{_⊎_, inl, inr}
 use mathlib.Core.List.{List, [], _∷_, _++_}
-use mathlib.Core.Option.{Option, none, some}
-use Rattle.value.specs.declared.Value.{Value}
-use Rattle.network.specs.Net.{Token, val, Demand, Links}
+use Rattle.network.specs.Net.{Demand, Links}
 use Rattle.network.specs.Uses.{In}
 use Rattle.pieces.specs.Load.{put, put-app, put-swap, Load, cat, app-assoc}
-use Rattle.pieces.specs.Piece.{Values, load, Piece, Region, Answer, Means, Leads, Serves, some-of, Fits, Both-idle, load-in, lead-from}
+use Rattle.pieces.specs.Piece.{Values, load, Piece, Region, Means, Leads, Serves, Fits, Both-idle, load-in, lead-from}
 use Rattle.pieces.specs.Sequence.{load-app, Then, Sequence-rig, sequence}
 use Rattle.pieces.specs.Parallel.{Both, Parallel-rig, parallel}
 

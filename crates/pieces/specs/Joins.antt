@@ -1,25 +1,24 @@
 -- The joins of a body if (document 01: "Its iterated results join by M .. else pass straight. Its returned results .. join by M .., by E ..; where
 -- neither does, each is a copy of that third output"), and the IC gate in each row of Brock's table.
-use Prim.Native.Nat.{ℕ, zero, suc, _<_, _≤_, _+_}
+use Prim.Native.Nat.{ℕ, _+_}
 use mathlib.Core.Path.{_≡_, refl, sym, _∙_, ap, subst}
 use mathlib.Core.Logic.{_≢_, _⊎_, inl, inr, ⊎-elim}
 use mathlib.Core.Bool.{false}
 use mathlib.Core.List.{List, [], _∷_, _++_}
 use mathlib.Core.Option.{Option, none, some}
-use native.Mathlib.Omega.{arith}
 use Rattle.value.specs.declared.Value.{Value}
 use Rattle.network.specs.Values.{true-value, false-value, err-value}
 use Rattle.network.specs.Rules.{chosen, IC-table}
 use Rattle.network.specs.Fill.{Ports, emission, wire, kept}
-use Rattle.network.specs.Net.{Token, val, mark, Demand, Links}
+use Rattle.network.specs.Net.{val, Demand}
 use Rattle.network.specs.Uses.{In}
-use Rattle.pieces.specs.Load.{Load, On, Off, Within, Apart, cat, app-nil}
-use Rattle.pieces.specs.Goes.{Goes, go-stay, go-then, go-wide, go-less, go-by}
+use Rattle.pieces.specs.Load.{Load, On, Apart, app-nil}
+use Rattle.pieces.specs.Goes.{Goes, go-stay, go-then, go-wide, go-by}
 use Rattle.pieces.specs.Gate.{Distinct, emitted, Consumes, fires, distinct-two}
-use Rattle.pieces.specs.Piece.{Values, load, some-of, load-in, same-of, Fits}
-use Rattle.pieces.specs.Rows.{join, in-front, in-back, in-app}
-use Rattle.pieces.specs.Gates.{ports, IC-at, listed, T-at, F-at, M-at, E-at}
-use Rattle.pieces.specs.DataRows.{Gated, controls, data-of, outs-of, row-links, each, Bad, Separate, Pass, Absorb, Spoil, passes, absorbs, spoils, one-T-true, one-T-false, one-T-bad, one-F-false, one-F-true, one-F-bad, one-M-true, one-M-false, one-E-true, one-E-false}
+use Rattle.pieces.specs.Piece.{load, some-of, load-in, same-of, Fits}
+use Rattle.pieces.specs.Rows.{join, in-back}
+use Rattle.pieces.specs.Gates.{ports, IC-at, listed, T-at, F-at}
+use Rattle.pieces.specs.DataRows.{Gated, controls, data-of, outs-of, row-links, each, Bad, Separate, Pass, Absorb, Spoil, passes, absorbs, spoils, one-T-true, one-T-false, one-T-bad, one-F-false, one-F-true, one-F-bad}
 use Rattle.pieces.specs.Fan.{Chain, Chain-region, chain}
 
 each-cs : (qs : List Gated) (v : Value) → load (controls qs) (some-of (same-of (controls qs) v)) ≡ load (controls qs) (each qs v)

@@ -1,24 +1,15 @@
 -- The for as a piece, and what it means (document 01: "An iter starts the body again with its identifiers rebound; another ending returns its
 -- values"; a round is "one entry into a loop body"). The proof is in Loop.antt.
-use Prim.Native.Nat.{ℕ, zero, suc, _<_, _≤_, _+_}
-use mathlib.Core.Path.{_≡_, refl, sym, _∙_, ap, subst}
-use mathlib.Core.Logic.{_≢_, ite, _⊎_, inl, inr, ⊎-elim}
+use Prim.Native.Nat.{ℕ, suc, _<_, _≤_, _+_}
+use mathlib.Core.Path.{_≡_}
+use mathlib.Core.Logic.{_≢_}
 use mathlib.Core.List.{List, [], _∷_, _++_}
-use mathlib.Core.Option.{Option, none, some}
-use mathlib.Core.Bool.{Bool, true, false}
-use lib.ListN.{length}
-use native.Mathlib.Decide.{ℕ-discrete}
-use native.Mathlib.Omega.{arith}
+use mathlib.Core.Option.{none, some}
 use Rattle.value.specs.declared.Value.{Value}
-use Rattle.network.specs.Values.{true-value, false-value, err-value}
-use Rattle.network.specs.Net.{Token, val, mark, Demand, Links}
-use Rattle.network.specs.Uses.{In}
-use Rattle.pieces.specs.Load.{Load, put, put-app, On, on-app, Clear, Off, Apart, Within, Nones, cat, pull, pulls, Far, Pair, differs, Tint, Tints, pair-of, Among, tint-on, among-not, off-tints, apart-cat, app-assoc, cut-outputs}
-use Rattle.pieces.specs.Goes.{Steps, Long, Goes, Goes-on, Alike, go-stay, go-then, go-then-on, go-wide, go-wide-on, go-less, go-by, go-from, go-to, go-from-on, alike-pulls, alike-sym, alike-then, alike-nones, alike-cat, go-two, go-two-on, go-order}
-use Rattle.pieces.specs.Piece.{Values, token-of, load, Piece, Region, Neat, Answer, Means, Leads, Serves, none-of, some-of, load-in, lead-after, lead-less, load-app-none, none-of-nones, Fits}
-use Rattle.pieces.specs.Rows.{join, in-front, in-back, in-app, zip-blocks, zip-two, zip-three, on-zip, single-blocks, cat-single, row}
-use Rattle.pieces.specs.Ring.{Ring-gate, fm, fs, number, control, start, output, demand, links, map-gates, Ready, register-blocks, iterated-blocks, iterated-links, iterated-values, Keeps, keeps-fit, to-each-gate, Ring-good}
-use Rattle.pieces.specs.RingRows.{Outs, row-start, row-again, ready-again, hue-output, hue-control, hue-start, hue-iterated, hue-regs, iters-load, ready-hue, hue-links, links-up, some-row, load-app-iter}
+use Rattle.network.specs.Values.{true-value, false-value}
+use Rattle.pieces.specs.Load.{Load, cat}
+use Rattle.pieces.specs.Piece.{Piece, Answer, Means, none-of, some-of, Fits}
+use Rattle.pieces.specs.Ring.{Ring-gate, control, start, output, map-gates, Ready, iterated-links, iterated-values, Keeps, to-each-gate}
 
 -- The body: inputs are the outputs of the gates; outputs are iter?, the iterated and the returned values. It may hold loops: its idle loads
 -- are any.

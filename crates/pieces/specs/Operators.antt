@@ -1,18 +1,16 @@
 -- Identifiers, constants and operators as pieces. A constant or an operator takes one token from each of its inputs and gives one value (document
 -- 01: "every operand .. is evaluated, used or not"). What the operator of a code computes is `apply`, of which nothing else is known here.
-use Prim.Native.Nat.{ℕ, _≤_}
-use mathlib.Core.Path.{_≡_, refl, sym, _∙_, ap, subst}
+use Prim.Native.Nat.{ℕ}
+use mathlib.Core.Path.{_≡_, refl, sym, subst}
 use mathlib.Core.Logic.{_≢_, _⊎_, inl, inr, ⊎-elim}
-use mathlib.Core.Bool.{Bool, true, false}
-use mathlib.Core.List.{List, [], _∷_, _++_}
+use mathlib.Core.Bool.{true, false}
+use mathlib.Core.List.{[], _∷_, _++_}
 use mathlib.Core.Option.{Option, none, some}
 use native.Mathlib.Omega.{arith}
 use Rattle.value.specs.declared.Value.{Value}
 use Rattle.network.specs.Values.{err-value, one-operand, apply}
 use Rattle.network.specs.Rules.{operator-rule}
-use Rattle.network.specs.Net.{Token, val, Demand}
-use Rattle.network.specs.Uses.{In}
-use Rattle.pieces.specs.Load.{Load, On}
+use Rattle.network.specs.Net.{val, Demand}
 use Rattle.pieces.specs.Goes.{Goes, go-less, go-stay}
 use Rattle.pieces.specs.Gate.{Consumes, fires}
 use Rattle.pieces.specs.Piece.{load, Piece, Region, Serves}

@@ -1,15 +1,15 @@
 -- The schedule lemma as a statement (`Serves`), for every piece of a graph at any width: from any idle load and the values on its inputs, a
 -- schedule to the values on its outputs with the piece idle again, or as many firings as anyone asks where the rounds do not suffice.
 -- A piece is known by its links alone; no numbering and no translation appears. What the other files prove of a kind of piece is `Serves`.
-use Prim.Native.Nat.{ℕ, zero, suc, _<_, _≤_, _+_}
-use mathlib.Core.Path.{_≡_, refl, sym, _∙_, ap, subst}
+use Prim.Native.Nat.{ℕ, _≤_, _+_}
+use mathlib.Core.Path.{_≡_, refl, ap, subst}
 use mathlib.Core.Logic.{_⊎_, inl, inr, ⊎-elim}
 use mathlib.Core.List.{List, [], _∷_, _++_}
 use mathlib.Core.Option.{Option, none, some}
 use Rattle.value.specs.declared.Value.{Value}
-use Rattle.network.specs.Net.{Token, val, mark, Demand, Links}
+use Rattle.network.specs.Net.{Token, val, Demand}
 use Rattle.network.specs.Uses.{In}
-use Rattle.pieces.specs.Load.{cat, Load, On, on-app, Apart, Off, Within, Nones}
+use Rattle.pieces.specs.Load.{cat, Load, On, on-app, Within, Nones}
 use Rattle.pieces.specs.Goes.{Goes, Goes-on, Alike, go-stay, go-then, go-then-on, go-less, go-less-on, go-from, go-to, alike-nones, alike-sym, go-from-on}
 
 -- As many of the one as of the other: values for links, for gates, for names.

@@ -1,21 +1,20 @@
 -- The gates of a loop (document 01: "A for puts FM on its identifiers and FS on the body's other names, trigger included"; Brock, Figure 2.13), in
 -- any order: each gate's first firing, a further round, and ready again with one false on its control; then the row of them all.
-use Prim.Native.Nat.{ℕ, zero, suc, _<_, _≤_, _+_}
-use mathlib.Core.Path.{_≡_, refl, sym, _∙_, ap, subst}
-use mathlib.Core.Logic.{_≢_, ite, _⊎_, inl, inr, ⊎-elim}
+use Prim.Native.Nat.{ℕ, _+_}
+use mathlib.Core.Path.{_≡_, refl, sym, _∙_, ap}
+use mathlib.Core.Logic.{_≢_, _⊎_, inl, inr}
 use mathlib.Core.List.{List, [], _∷_, _++_}
-use mathlib.Core.Option.{Option, none, some}
-use lib.ListN.{length}
+use mathlib.Core.Option.{some}
 use native.Mathlib.Omega.{arith}
 use Rattle.value.specs.declared.Value.{Value}
-use Rattle.network.specs.Values.{true-value, false-value, err-value}
-use Rattle.network.specs.Net.{Token, val, mark, Demand, Links}
+use Rattle.network.specs.Values.{true-value, false-value}
+use Rattle.network.specs.Net.{val, mark, Demand}
 use Rattle.network.specs.Uses.{In}
-use Rattle.pieces.specs.Load.{Load, On, on-app, Off, Apart, Within, cat, Tint}
+use Rattle.pieces.specs.Load.{Load, Within}
 use Rattle.pieces.specs.Goes.{Goes}
-use Rattle.pieces.specs.Gate.{Distinct, emitted, Consumes, fires, distinct-two, distinct-three}
-use Rattle.pieces.specs.Piece.{Values, token-of, load, some-of, none-of, load-in, Fits}
-use Rattle.pieces.specs.Rows.{join, zip-blocks, single-blocks, Row, in-front, in-back, in-app}
+use Rattle.pieces.specs.Gate.{fires, distinct-two, distinct-three}
+use Rattle.pieces.specs.Piece.{Values, Fits}
+use Rattle.pieces.specs.Rows.{join}
 use Rattle.pieces.specs.Gates.{fired-token, FM-at, FS-at}
 
 -- A gate: operator number, register, control, for FM the iterated value, what comes in at the start (for FS: the data), output.

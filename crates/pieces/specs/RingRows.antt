@@ -1,22 +1,19 @@
 -- The gates of a loop as a row: all start, all go round, all are ready again; and the colours of their links.
-use Prim.Native.Nat.{ℕ, zero, suc, _<_, _≤_, _+_}
+use Prim.Native.Nat.{ℕ, _<_, _≤_, _+_}
 use mathlib.Core.Path.{_≡_, refl, sym, _∙_, ap, subst}
-use mathlib.Core.Logic.{_≢_, ite, _⊎_, inl, inr, ⊎-elim}
+use mathlib.Core.Logic.{_≢_, _⊎_, inl, inr, ⊎-elim}
 use mathlib.Core.List.{List, [], _∷_, _++_}
-use mathlib.Core.Option.{Option, none, some}
+use mathlib.Core.Option.{some}
 use lib.ListN.{length}
 use native.Mathlib.Omega.{arith}
 use Rattle.value.specs.declared.Value.{Value}
-use Rattle.network.specs.Values.{true-value, false-value, err-value}
-use Rattle.network.specs.Net.{Token, val, mark, Demand, Links}
+use Rattle.network.specs.Values.{true-value, false-value}
+use Rattle.network.specs.Net.{val, mark, Demand}
 use Rattle.network.specs.Uses.{In}
-use Rattle.pieces.specs.Load.{Load, On, on-app, Off, Apart, Within, cat, Tint}
-use Rattle.pieces.specs.Goes.{Goes}
-use Rattle.pieces.specs.Gate.{Distinct, emitted, Consumes, fires, distinct-two, distinct-three}
-use Rattle.pieces.specs.Piece.{Values, token-of, load, some-of, none-of, load-in, Fits}
-use Rattle.pieces.specs.Rows.{join, zip-blocks, single-blocks, Row, in-front, in-back, in-app}
-use Rattle.pieces.specs.Gates.{fired-token, FM-at, FS-at}
-use Rattle.pieces.specs.Ring.{Ring-gate, fm, fs, number, control, start, output, demand, links, map-gates, Ready-one, Ready, register-block, register-blocks, iterated-block, iterated-blocks, iterated-links, iterated-values, Keeps-one, Keeps, to-each-gate, Hues, Ring-good, one-starts, one-goes-round, one-leaves}
+use Rattle.pieces.specs.Load.{Load, On, on-app, cat, Tint}
+use Rattle.pieces.specs.Piece.{Values, load, some-of, Fits}
+use Rattle.pieces.specs.Rows.{join, zip-blocks, single-blocks, Row, in-app}
+use Rattle.pieces.specs.Ring.{Ring-gate, fm, fs, control, start, output, links, map-gates, Ready-one, Ready, register-blocks, iterated-blocks, iterated-links, iterated-values, Keeps, to-each-gate, Hues, Ring-good, one-starts, one-goes-round, one-leaves}
 
 module _ (colour : ℕ → ℕ) where
   module _ (net : ℕ → Demand) where

@@ -1,19 +1,15 @@
 -- One piece after another: a let, operators over their operands, a test and its if, a loop after its starting values. Names that both use were
 -- copied before (Fan.antt), so nothing is shared but what is handed on.
-use Prim.Native.Nat.{ℕ, zero, suc, _<_, _≤_, _+_}
-use mathlib.Core.Path.{_≡_, refl, sym, _∙_, ap, subst}
-use mathlib.Core.Logic.{_≢_, _⊎_, inl, inr, ⊎-elim}
+use Prim.Native.Nat.{ℕ, _+_}
+use mathlib.Core.Path.{_≡_, refl, sym, ap, subst}
+use mathlib.Core.Logic.{_⊎_, inl, inr, ⊎-elim}
 use mathlib.Core.List.{List, [], _∷_, _++_}
-use mathlib.Core.Option.{Option, none, some}
-use native.Mathlib.Omega.{arith}
-use Rattle.value.specs.declared.Value.{Value}
-use Rattle.network.specs.Values.{true-value, false-value, err-value}
-use Rattle.network.specs.Net.{Token, val, mark, Demand, Links}
+use mathlib.Core.Option.{none, some}
+use Rattle.network.specs.Net.{Demand}
 use Rattle.network.specs.Uses.{In}
-use Rattle.pieces.specs.Load.{Load, put, On, on-app, Off, Apart, Within, cat, pull, pulls, Pair, app-assoc}
-use Rattle.pieces.specs.Goes.{Goes, Goes-on, Alike, go-stay, go-then, go-then-on, go-wide, go-wide-on, go-less, go-from, go-to, go-from-on, alike-pulls, alike-sym, go-two, go-two-on, go-order}
-use Rattle.pieces.specs.Gate.{Distinct, emitted, Consumes, fires}
-use Rattle.pieces.specs.Piece.{Values, token-of, load, Piece, Region, Neat, Answer, Means, Leads, Serves, load-in, lead-after, lead-less, Fits, Both-idle}
+use Rattle.pieces.specs.Load.{Load, On, on-app, Off, cat, Pair, app-assoc}
+use Rattle.pieces.specs.Goes.{Goes, Goes-on, Alike, go-wide, go-wide-on, go-from, go-from-on, alike-pulls, go-two, go-two-on, go-order}
+use Rattle.pieces.specs.Piece.{Values, token-of, load, Piece, Region, Neat, Answer, Means, Leads, Serves, load-in, lead-after, Fits, Both-idle}
 
 pub load-app : (xs zs : List ℕ) (us ws : Values) → Fits xs us → load (xs ++ zs) (us ++ ws) ≡ load xs us ++ load zs ws
 load-app [] zs [] ws f = refl

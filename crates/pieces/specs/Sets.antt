@@ -1,22 +1,20 @@
 -- One set pushed and one set taken, on the machine over a piece (network, Ends.antt): what push makes of the tape, and what take hands out.
 -- Assumes of the numbers only that push and take are no operators of the graph and that source and credit are no links of it.
-use Prim.Native.Nat.{ℕ, zero, suc, _<_, _≤_, _+_, _-_}
+use Prim.Native.Nat.{ℕ, _≤_, _+_, _-_}
 use mathlib.Core.Path.{_≡_, refl, sym, _∙_, ap, subst}
-use mathlib.Core.Logic.{_≢_, ite, if-pos, if-neg, Ne·symm, _⊎_, inl, inr, ⊎-elim}
+use mathlib.Core.Logic.{_≢_, _⊎_, inl, inr}
 use mathlib.Core.List.{List, [], _∷_, _++_}
-use mathlib.Core.Option.{Option, none, some}
-use lib.ListN.{length, length-append}
-use native.Mathlib.Decide.{ℕ-discrete, decLe}
+use mathlib.Core.Option.{some}
 use native.Mathlib.Omega.{arith}
 use Rattle.value.specs.declared.Value.{Value}
-use Rattle.network.specs.Values.{true-value, false-value, err-value}
-use Rattle.network.specs.Net.{Token, val, mark, Demand, ask, fire, halt, Links, head, tail, pop, append, pop-same, pop-other, Room, Able, appends, act, label}
+use Rattle.network.specs.Values.{true-value}
+use Rattle.network.specs.Net.{Token, val, Demand, ask, fire, halt, Links, head, tail, pop, append, pop-same, pop-other, Room, Able, act, label}
 use Rattle.network.specs.Ends.{draw, collect, push-demand, take-demand, machine}
 use Rattle.network.specs.Uses.{In}
-use Rattle.pieces.specs.Load.{Load, opt, set-link, set-same, set-other, set-ext, set-swap, put, put-app, put-off, put-set, put-swap, On, on-app, Clear, Within, app-assoc}
-use Rattle.pieces.specs.Goes.{one-place, Feasible, led-to, Steps, Long, Goes}
+use Rattle.pieces.specs.Load.{Load, set-link, set-same, set-other, set-ext, put, put-off, On}
+use Rattle.pieces.specs.Goes.{one-place}
 use Rattle.pieces.specs.Gate.{Distinct, emitted, emits, pop-set}
-use Rattle.pieces.specs.Piece.{Values, token-of, load, Piece, Region, Neat, Answer, Means, Serves, some-of, load-in, Fits}
+use Rattle.pieces.specs.Piece.{Values, load, Piece, Region, Neat, Means, Serves, some-of, load-in, Fits}
 
 abbrev pub tokens-of : List Value → List Token
 tokens-of [] = []

@@ -2,24 +2,23 @@
 -- bare results, IC without a user of its second output, and an E gate on the returned value. It shows that the hypotheses of BodyIf.antt, Arm.antt
 -- and Tested.antt can be met together, also where an arm's result is its input; nothing rests on this file.
 use Prim.Native.Nat.{ℕ, zero, suc, _<_}
-use mathlib.Core.Path.{_≡_, refl, sym, _∙_, ap, subst}
+use mathlib.Core.Path.{_≡_, refl, sym, _∙_, subst}
 use mathlib.Core.Logic.{_≢_, _⊎_, inl, inr, ⊎-elim}
 use mathlib.Core.Bool.{true}
 use mathlib.Core.List.{List, [], _∷_, _++_}
-use mathlib.Core.Option.{Option, none, some}
+use mathlib.Core.Option.{none, some}
 use native.Mathlib.Decide.{ℕ-discrete}
 use native.Mathlib.Omega.{arith}
 use Rattle.value.specs.declared.Value.{Value}
 use Rattle.network.specs.Values.{true-value, false-value, err-value}
-use Rattle.network.specs.Net.{Token, val, Demand, halt, Links}
+use Rattle.network.specs.Net.{val, Demand, halt}
 use Rattle.network.specs.Uses.{In}
-use Rattle.pieces.specs.Load.{Load, On, put, set-swap, differs, Among, among-not}
+use Rattle.pieces.specs.Load.{Load, On, set-swap, differs, Among, among-not}
 use Rattle.pieces.specs.Goes.{Goes, go-less, go-from, go-by, go-wide}
 use Rattle.pieces.specs.Gate.{fires}
-use Rattle.pieces.specs.Piece.{Values, load, Piece, Region, Answer, Means, Serves, some-of, none-of, Fits}
-use Rattle.pieces.specs.Rows.{join}
+use Rattle.pieces.specs.Piece.{Values, load, Piece, Region, Means, Serves, some-of, Fits}
 use Rattle.pieces.specs.Gates.{constant-at, copy-at, T-at, F-at, E-at, IC-at}
-use Rattle.pieces.specs.DataRows.{Gated, controls, data-of, outs-of, row-links, Separate}
+use Rattle.pieces.specs.DataRows.{Gated, controls, data-of, outs-of, Separate}
 use Rattle.pieces.specs.MergeRows.{E-false, E-bad}
 use Rattle.pieces.specs.Fan.{Chain, bare, copy, Chain-region}
 use Rattle.pieces.specs.Joins.{Join-region, pass-join, spoil-join, straight-join, IC-true-true, IC-true-false, IC-false-true, IC-false-false, IC-bad}

@@ -4,14 +4,13 @@
 -- Assumes of the copies' links only that they are none of the data's and of the arms' own; the last copy's second output is a control itself.
 use Prim.Native.Nat.{ℕ}
 use mathlib.Core.Path.{_≡_, refl, sym, _∙_, ap, subst}
-use mathlib.Core.Logic.{_⊎_, inl, inr}
 use mathlib.Core.List.{List, [], _∷_, _++_}
-use mathlib.Core.Option.{Option, none, some}
+use mathlib.Core.Option.{none, some}
 use native.Mathlib.Decide.{ℕ-discrete}
 use Rattle.value.specs.declared.Value.{Value}
-use Rattle.network.specs.Net.{Token, val, Demand}
+use Rattle.network.specs.Net.{val, Demand}
 use Rattle.network.specs.Uses.{In}
-use Rattle.pieces.specs.Load.{Load, On, cat, Tint, pair-of, Among, off-tints, app-assoc}
+use Rattle.pieces.specs.Load.{Load, cat, Tint, pair-of, Among, off-tints, app-assoc}
 use Rattle.pieces.specs.Goes.{Goes, go-wide, go-by, go-order, go-first, go-first-on}
 use Rattle.pieces.specs.Piece.{Values, load, Piece, Region, Answer, Means, Leads, Serves, some-of, same-of, load-in, Fits, Both-idle}
 use Rattle.pieces.specs.DataRows.{Gated, controls, data-of, outs-of, each}
