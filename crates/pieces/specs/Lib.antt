@@ -29,3 +29,4 @@ pub mod Demand3
 pub mod Made
 pub mod Tested
 pub mod SmallBodyIf
+pub mod Tape

@@ -20,7 +20,7 @@ abbrev pub tokens-of : List Value → List Token
 tokens-of [] = []
 tokens-of (v ∷ vs) = val v ∷ tokens-of vs
 
-abbrev onto : List ℕ → List Value → List (ℕ × Token)
+abbrev pub onto : List ℕ → List Value → List (ℕ × Token)
 onto [] vs = []
 onto (i ∷ is) [] = []
 onto (i ∷ is) (v ∷ vs) = (i, val v) ∷ onto is vs
@@ -40,21 +40,21 @@ pop-set-link l t xs q =
     sym (set-ext l xs q (pop l (set-link l (t ∷ xs) q)) (pop-same l (set-link l (t ∷ xs) q) ∙ ap tail (set-same l (t ∷ xs) q))
     (λ j ne. sym (pop-other l j (set-link l (t ∷ xs) q) ne ∙ set-other l j (t ∷ xs) q ne)))
 
-draw-does : (source : ℕ) (is : List ℕ) (vs : List Value) (rs : List Token) (b : Links) (k : List (ℕ × Token) → Demand) → Fits is vs →
-    (Able one-place (k (onto is vs)) (set-link source rs b) → Able one-place (draw source is k) (set-link source (tokens-of vs ++ rs) b))
+pub draw-does : (cap : ℕ → ℕ) (source : ℕ) (is : List ℕ) (vs : List Value) (rs : List Token) (b : Links) (k : List (ℕ × Token) → Demand) → Fits is vs →
+    (Able cap (k (onto is vs)) (set-link source rs b) → Able cap (draw source is k) (set-link source (tokens-of vs ++ rs) b))
     × (act (draw source is k) (set-link source (tokens-of vs ++ rs) b) ≡ act (k (onto is vs)) (set-link source rs b))
-draw-does source [] [] rs b k f = (λ o. o, refl)
-draw-does source [] (v ∷ vs) rs b k f = absurd f
-draw-does source (i ∷ is) [] rs b k f = absurd f
-draw-does source (i ∷ is) (v ∷ vs) rs b k f =
+draw-does cap source [] [] rs b k f = (λ o. o, refl)
+draw-does cap source [] (v ∷ vs) rs b k f = absurd f
+draw-does cap source (i ∷ is) [] rs b k f = absurd f
+draw-does cap source (i ∷ is) (v ∷ vs) rs b k f =
     let at : set-link source (val v ∷ (tokens-of vs ++ rs)) b source ≡ val v ∷ (tokens-of vs ++ rs) = set-same source (val v ∷ (tokens-of vs ++ rs)) b in
     let po : pop source (set-link source (val v ∷ (tokens-of vs ++ rs)) b) ≡ set-link source (tokens-of vs ++ rs) b = pop-set-link source (val v) (tokens-of vs ++ rs) b in
-    let h = draw-does source is vs rs b (λ es. k ((i, val v) ∷ es)) f in
+    let h = draw-does cap source is vs rs b (λ es. k ((i, val v) ∷ es)) f in
     let g : head (set-link source (val v ∷ (tokens-of vs ++ rs)) b source) ≡ val v = ap head at in (
       λ o. (
         rw at (omega arith),
-        subst (λ u. Able one-place (draw source is (λ es. k ((i, u) ∷ es))) (pop source (set-link source (val v ∷ (tokens-of vs ++ rs)) b))) (sym g)
-            (subst (λ q. Able one-place (draw source is (λ es. k ((i, val v) ∷ es))) q) (sym po) (h .0 o)),
+        subst (λ u. Able cap (draw source is (λ es. k ((i, u) ∷ es))) (pop source (set-link source (val v ∷ (tokens-of vs ++ rs)) b))) (sym g)
+            (subst (λ q. Able cap (draw source is (λ es. k ((i, val v) ∷ es))) q) (sym po) (h .0 o)),
       ),
       ap (λ u. act (draw source is (λ es. k ((i, u) ∷ es))) (pop source (set-link source (val v ∷ (tokens-of vs ++ rs)) b))) g
           ∙ ap (act (draw source is (λ es. k ((i, val v) ∷ es)))) po ∙ h .1,
@@ -145,7 +145,7 @@ module _ (graph : ℕ → Demand) (p k source credit : ℕ) (P : Piece) (M : Mea
     push-set vs tape b f ci cc =
         let es = onto (P .ins) vs in
         let z : emitted es ≡ load (P .ins) (some-of vs) = emitted-onto (P .ins) vs f in
-        let h = draw-does source (P .ins) vs tape b (λ es. fire ((credit, val true-value) ∷ es) []) f in
+        let h = draw-does one-place source (P .ins) vs tape b (λ es. fire ((credit, val true-value) ∷ es) []) f in
         let dd : Distinct ((credit, some (val true-value)) ∷ emitted es)
         = subst (λ x. Distinct ((credit, some (val true-value)) ∷ x)) (sym z)
         (λ o. B .credit-off (inr (inl (load-in (P .ins) (some-of vs) credit o))), differ-dist (P .ins) (some-of vs) (B .ins-differ)) in
