@@ -30,3 +30,4 @@ pub mod Made
 pub mod Tested
 pub mod SmallBodyIf
 pub mod Tape
+pub mod Calls

@@ -41,13 +41,13 @@ module _ (graph : ℕ → Demand) (p k source credit : ℕ) (P : Piece) (M : Mea
   Fitting (v ∷ vss) = Fits (P .ins) v × Fitting vss
 
   module _ (F : Made) (cap : ℕ → ℕ) (roomy : (l : ℕ) → 1 ≤ cap l) where
-    abbrev E : ℕ → Links → Type 0
+    abbrev pub E : ℕ → Links → Type 0
     E = Enabled graph p k source credit P M (F .bench) cap roomy
 
-    abbrev X : ℕ → Links → Links
+    abbrev pub X : ℕ → Links → Links
     X = Next graph p k source credit P M (F .bench) cap roomy
 
-    abbrev O : ℕ → Links → List Token
+    abbrev pub O : ℕ → Links → List Token
     O = Output graph p k source credit P M (F .bench) cap roomy
 
     -- the machine as start leaves it, with the sets to come on the tape
