@@ -31,3 +31,4 @@ pub mod Tested
 pub mod SmallBodyIf
 pub mod Tape
 pub mod Calls
+pub mod Wiring
