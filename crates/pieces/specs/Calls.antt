@@ -6,20 +6,19 @@ use Prim.Native.Nat.{ℕ, zero, suc, _<_, _≤_, _+_}
 use mathlib.Core.Path.{_≡_, refl, sym, _∙_, ap, subst}
 use mathlib.Core.Logic.{_≢_, Ne·symm, _⊎_, inl, inr}
 use mathlib.Core.List.{List, [], _∷_, _++_}
-use mathlib.Core.Option.{Option, none, some}
+use mathlib.Core.Option.{Option}
 use lib.ListN.{length, take, drop, take-append-drop, length-append}
 use native.Mathlib.Decide.{decLe}
 use native.Mathlib.Omega.{arith}
 use Rattle.schedule.specs.Schedules.{Possible, reached, outputs, Agree}
-use Rattle.schedule.specs.Counts.{count}
 use Rattle.value.specs.declared.Value.{Value}
 use Rattle.network.specs.Values.{true-value}
 use Rattle.network.specs.Net.{Token, val, Demand, ask, fire, halt, Links, head, tail, pop, pop-same, pop-other, append, append-same, append-other, Able, appends, act}
 use Rattle.network.specs.Commute.{Never-asks, Not-among, Never-emits}
 use Rattle.network.specs.Ends.{take-demand, collect, machine-take, machine-graph}
 use Rattle.network.specs.Uses.{In}
-use Rattle.pieces.specs.Load.{set-link, set-same, set-other, set-ext, put, put-off, On}
-use Rattle.pieces.specs.Piece.{Piece, Means, Fits}
+use Rattle.pieces.specs.Load.{set-link, set-other, set-ext, put, put-off}
+use Rattle.pieces.specs.Piece.{Piece, Means}
 use Rattle.pieces.specs.Sets.{tokens-of, onto}
 use Rattle.pieces.specs.Demand3.{tape-of, each-tokens}
 use Rattle.pieces.specs.Made.{Made, Ending, Fitting, E, X, O, demand-results, demand-ready}

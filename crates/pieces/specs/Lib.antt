@@ -28,7 +28,9 @@ pub mod Sets
 pub mod Demand3
 pub mod Made
 pub mod Tested
+pub mod Small
 pub mod SmallBodyIf
+pub mod SmallBothIterate
 pub mod Tape
 pub mod Calls
 pub mod Wiring

@@ -1,9 +1,9 @@
 -- A body if in numbers: the body "if test then iter i else i" with real gates, its test's copies, T and F gates on `i` and the trigger, arms with
 -- bare results, IC without a user of its second output, and an E gate on the returned value. It shows that the hypotheses of BodyIf.antt, Arm.antt
 -- and Tested.antt can be met together, also where an arm's result is its input; nothing rests on this file.
-use Prim.Native.Nat.{ℕ, zero, suc, _<_}
-use mathlib.Core.Path.{_≡_, refl, sym, _∙_, subst}
-use mathlib.Core.Logic.{_≢_, _⊎_, inl, inr, ⊎-elim}
+use Prim.Native.Nat.{ℕ, _<_}
+use mathlib.Core.Path.{_≡_, refl, sym, _∙_}
+use mathlib.Core.Logic.{_≢_, _⊎_, inl, inr}
 use mathlib.Core.Bool.{true}
 use mathlib.Core.List.{List, [], _∷_, _++_}
 use mathlib.Core.Option.{none, some}
@@ -11,12 +11,10 @@ use native.Mathlib.Decide.{ℕ-discrete}
 use native.Mathlib.Omega.{arith}
 use Rattle.value.specs.declared.Value.{Value}
 use Rattle.network.specs.Values.{true-value, false-value, err-value}
-use Rattle.network.specs.Net.{val, Demand, halt}
+use Rattle.network.specs.Net.{Demand, halt}
 use Rattle.network.specs.Uses.{In}
-use Rattle.pieces.specs.Load.{Load, On, set-swap, differs, Among, among-not}
-use Rattle.pieces.specs.Goes.{Goes, go-less, go-from, go-by, go-wide}
-use Rattle.pieces.specs.Gate.{fires}
-use Rattle.pieces.specs.Piece.{Values, load, Piece, Region, Means, Serves, some-of, Fits}
+use Rattle.pieces.specs.Load.{differs, Among, among-not}
+use Rattle.pieces.specs.Piece.{load, Piece, Region, Serves, some-of, Fits}
 use Rattle.pieces.specs.Gates.{constant-at, copy-at, T-at, F-at, E-at, IC-at}
 use Rattle.pieces.specs.DataRows.{Gated, controls, data-of, outs-of, Separate}
 use Rattle.pieces.specs.MergeRows.{E-false, E-bad}
@@ -25,11 +23,7 @@ use Rattle.pieces.specs.Joins.{Join-region, pass-join, spoil-join, strai
 use Rattle.pieces.specs.Arm.{Chosen, Arm, IC-region}
 use Rattle.pieces.specs.BodyIf.{Body-if-rig}
 use Rattle.pieces.specs.Tested.{Copies, Tested-body-if, Tested-branch, tested-body-if-serves}
-
-abbrev entry : {X : Type 0} → X → List X → ℕ → X
-entry d [] l = d
-entry d (x ∷ xs) zero = x
-entry d (x ∷ xs) (suc l) = entry d xs l
+use Rattle.pieces.specs.Small.{entry, Each, each-in, none-own, Empty, empty-own, ArmMeans, arm-goes, Lone, Never, Not, lone-fits}
 
 -- Links: 0 the test, 1 2 3 between its copies, 4 IC's control, 5 6 and 7 8 the controls of the T and F gates, 9 10 and 13 14 `i` and the trigger
 -- for either arm, 11 12 and 15 16 behind the gates, 17 18 the arms' iter?, 19 iter?, 20 IC's third output, 21 the returned value.
@@ -61,75 +55,23 @@ colourB = entry 99 (99 ∷ 99 ∷ 99 ∷ 99 ∷ 0 ∷ 99 ∷ 99 ∷ 99 ∷ 99 �
 abbrev hue : ℕ → ℕ
 hue = entry 99 (99 ∷ 99 ∷ 99 ∷ 99 ∷ 99 ∷ 99 ∷ 99 ∷ 99 ∷ 99 ∷ 99 ∷ 99 ∷ 16 ∷ 99 ∷ 99 ∷ 99 ∷ 99 ∷ 99 ∷ 99 ∷ 99 ∷ 13 ∷ 99 ∷ 17 ∷ [])
 
--- a fact of each link of a list
-abbrev Each : (ℕ → Type 0) → List ℕ → Type 0
-Each P [] = Unit {0}
-Each P (x ∷ ls) = P x × Each P ls
-
-each-in : (P : ℕ → Type 0) (ls : List ℕ) → Each P ls → (l : ℕ) → In l ls → P l
-each-in P [] h l i = absurd i
-each-in P (x ∷ ls) h l (inl e) = subst P (sym e) (h .0)
-each-in P (x ∷ ls) h l (inr i) = each-in P ls (h .1) l i
-
 -- the whole: own are all its links
 abbrev own : ℕ → Type 0
 own l = l < 22
-
-abbrev none-own : ℕ → Type 0
-none-own l = ⊥
-
-abbrev Empty : Load → Type 0
-Empty σ = σ ≡ []
-
-empty-own : (P : ℕ → Type 0) (σ : Load) → Empty σ → (l : ℕ) → On l σ → P l
-empty-own P σ e l o = absurd (subst (On l) e o)
-
--- An arm: `i` passes, the trigger makes iter?.
-abbrev ArmMeans : Value → (Value → Values) → Means
-ArmMeans x rs vs c a = (v : Value) × (w : Value) × (vs ≡ some v ∷ some w ∷ []) × (c ≡ 0) × (a ≡ some (some x ∷ rs v))
-
-arm-goes : (D : ℕ → Type 0) (x : Value) (a i t o : ℕ) → net a ≡ constant-at x t o → i ≢ t → i ≢ o → D t → D o → (v w : Value) →
-    Goes net D ((i, some (val v)) ∷ (t, some (val w)) ∷ []) 0 ((o, some (val x)) ∷ (i, some (val v)) ∷ [])
-arm-goes D x a i t o at it io dt do′ v w =
-    go-less net D ((i, some (val v)) ∷ (t, some (val w)) ∷ []) ((o, some (val x)) ∷ (i, some (val v)) ∷ []) 1 0 (omega arith)
-    (go-from net D ((t, some (val w)) ∷ (i, some (val v)) ∷ []) ((i, some (val v)) ∷ (t, some (val w)) ∷ []) ((o, some (val x)) ∷ (i, some (val v)) ∷ []) 1
-    (λ b cl. sym (set-swap i t (val v ∷ []) (val w ∷ []) b it))
-    (go-wide net Dk D ((t, some (val w)) ∷ (i, some (val v)) ∷ []) ((o, some (val x)) ∷ (i, some (val v)) ∷ []) 1 up
-    (go-by net Dk ((t, some (val w)) ∷ []) ((o, some (val x)) ∷ []) ((i, some (val v)) ∷ []) 1 off
-    (fires net Dk a (constant-at x t o) ((t, some (val w)) ∷ []) ((o, val x) ∷ []) at (0, val w, (refl, refl), ((refl, tt), refl)) (λ z. z, tt) (λ z. z, tt)
-    (λ l z. ⊎-elim (λ (y : l ≡ t). inl y) (λ (y : ⊥). absurd y) z) (λ l z. inr z)))))
-  where
-    Dk : ℕ → Type 0
-    Dk l = In l (t ∷ o ∷ [])
-
-    up : (l : ℕ) → Dk l → D l
-    up = each-in D (t ∷ o ∷ []) (dt, (do′, tt))
-
-    off : (l : ℕ) → (l ≡ i) ⊎ ⊥ → Dk l → ⊥
-    off l (inl e) (inl y) = it (sym e ∙ y)
-    off l (inl e) (inr (inl y)) = io (sym e ∙ y)
-    off l (inl e) (inr (inr y)) = y
-    off l (inr e) d = e
-
-abbrev Lone : List Value → Type 0
-Lone us = (u : Value) × (us ≡ u ∷ [])
-
-abbrev Never : List Value → Type 0
-Never us = ⊥
 
 abbrev PA : Piece
 PA = record { ins = outs-of qT; outs = 17 ∷ ((11 ∷ []) ++ []); own = none-own; Idle = Empty }
 
 serves-A : Serves net PA (ArmMeans true-value (λ v. some v ∷ []))
 serves-A vs c a (v, w, e, z, r) σ s =
-    rw (r, z, e, s) ([], refl, arm-goes (Region PA) true-value 8 11 12 17 refl (omega arith) (omega arith) (inr (inl (inr (inl refl)))) (inr (inr (inl refl))) v w)
+    rw (r, z, e, s) ([], refl, arm-goes net (Region PA) true-value 8 11 12 17 refl (omega arith) (omega arith) (inr (inl (inr (inl refl)))) (inr (inr (inl refl))) v w)
 
 abbrev PB : Piece
 PB = record { ins = outs-of qF; outs = 18 ∷ ([] ++ (15 ∷ [])); own = none-own; Idle = Empty }
 
 serves-B : Serves net PB (ArmMeans false-value (λ v. some v ∷ []))
 serves-B vs c a (v, w, e, z, r) σ s =
-    rw (r, z, e, s) ([], refl, arm-goes (Region PB) false-value 9 15 16 18 refl (omega arith) (omega arith) (inr (inl (inr (inl refl)))) (inr (inr (inl refl))) v w)
+    rw (r, z, e, s) ([], refl, arm-goes net (Region PB) false-value 9 15 16 18 refl (omega arith) (omega arith) (inr (inl (inr (inl refl)))) (inr (inr (inl refl))) v w)
 
 -- the region of the whole
 abbrev whole-ins : List ℕ
@@ -163,12 +105,6 @@ DI l = In l (11 ∷ [])
 DR-fact : (P : ℕ → Type 0) → P 20 → P 15 → P 21 → (l : ℕ) → DR l → P l
 DR-fact P x d o l (inl i) = each-in P (20 ∷ 20 ∷ []) (x, (x, tt)) l i
 DR-fact P x d o l (inr i) = each-in P (20 ∷ 15 ∷ 21 ∷ []) (x, (d, (o, tt))) l i
-
-abbrev Not : (ℕ → ℕ) → List ℕ → ℕ → Type 0
-Not f ks l = Among f (f l) ks → ⊥
-
-lone-fits : (l : ℕ) (us : List Value) → Lone us → Fits (l ∷ []) us
-lone-fits l us (u, e) = rw e tt
 
 arm-A : Arm net colourA hue 4 19 20 [] (11 ∷ []) (21 ∷ []) D DI DR true-value (outs-of qT) 17 (11 ∷ []) [] none-own Empty (ArmMeans true-value (λ v. some v ∷ [])) Lone Never
 unfolding ℕ-discrete
