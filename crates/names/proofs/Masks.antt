@@ -8,7 +8,7 @@ use native.Mathlib.Nat.{pow-suc, lt-of-lt-of-le, mul-comm}
 use lib.Bits.{bitAnd, bitOr, and-step, or-step}
 use lib.Dec.{eqb, leb, ltb, eqb·suc-suc, leb·suc-suc}
 use lib.Pow.{pow-mono, pow-pos, shr-shr, shl-exact, ones-lt}
-use borrow.Author.Tests.{eq-eqb, ne-eqb, eqb-true, eqb-false, le-leb, lt-leb, lt-ltb, le-ltb, leb-true}
+use borrow.Author.Tests.{ne-eqb, le-leb, lt-leb, lt-ltb, le-ltb, leb-true}
 use Rattle.names.specs.Names.{Names, none, one, union, common, without, range, later, bit, maskFrom, mask}
 
 -- ---- one digit
