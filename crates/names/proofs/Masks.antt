@@ -152,5 +152,8 @@ maskFrom-range (suc n) (suc a) b h =
 pub shifted-one : (i : ℕ) → i < 64 → (1 * 2 ^ i) % 2 ^ 64 ≡ 2 ^ i
 shifted-one i h = shl-exact 1 i 64 (omega arith) (omega arith) ∙ omega arith
 
-pub shifted-range : (a b : ℕ) → a + b ≤ 33 → ((2 ^ b - 1) * 2 ^ a) % 2 ^ 64 ≡ 2 ^ a * (2 ^ b - 1)
-shifted-range a b h = shl-exact b a 64 (ones-lt b) (omega arith) ∙ mul-comm (2 ^ b - 1) (2 ^ a)
+pub shifted-one-pos : (b : ℕ) → b < 64 → 1 ≤ (1 * 2 ^ b) % 2 ^ 64
+shifted-one-pos b h = rw (shifted-one b h) (pow-pos b)
+
+pub shifted-range : (a b : ℕ) → a + b ≤ 33 → (((1 * 2 ^ b) % 2 ^ 64 - 1) * 2 ^ a) % 2 ^ 64 ≡ 2 ^ a * (2 ^ b - 1)
+shifted-range a b h = rw (shifted-one b (omega arith)) (shl-exact b a 64 (ones-lt b) (omega arith) ∙ mul-comm (2 ^ b - 1) (2 ^ a))
