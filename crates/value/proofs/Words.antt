@@ -177,6 +177,12 @@ word-of-bytes w h =
     (rw (div-div-eq-div-mul w 16777216 256) at (div-add-mod' (w / 16777216) 256))
     (mod-eq-of-lt (omega arith))
 
+-- five bytes read one by one make the word
+pub word-read : (l : List ℕ) (at a b c d e : ℕ) → a ≡ getD l at 0 → b ≡ getD l (at + 1) 0 → c ≡ getD l (at + 2) 0 → d ≡ getD l (at + 3) 0 → e ≡ getD l (at + 4) 0
+    → a + 256 * b + 65536 * c + 16777216 * d + 4294967296 * e ≡ wordAt l at
+unfolding wordAt
+word-read l at a b c d e p q r s t = rw (p, q, r, s, t) refl
+
 word-drop : (l : List ℕ) (at : ℕ) → wordAt l at ≡ wordAt (drop at l) 0
 unfolding wordAt
 word-drop l at = rw (getD-drop at l 0 0, getD-drop at l 1 0, getD-drop at l 2 0, getD-drop at l 3 0, getD-drop at l 4 0, add-zero at) refl
