@@ -6,3 +6,4 @@ pub mod Free
 pub mod Count
 pub mod Places
 pub mod Tests
+pub mod TreeLaws
