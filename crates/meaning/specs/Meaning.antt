@@ -9,7 +9,7 @@ use lib.Dec.{eqb, leb, ltb}
 use Rattle.value.specs.declared.Value.{Value}
 use Rattle.value.specs.declared.Value.the-variants.{Whole, Truth, Err}
 use Rattle.value.specs.Operators.{apply}
-use Rattle.names.specs.Names.{Names, range, below}
+use Rattle.names.specs.Names.{Names, range, below, sizeFrom}
 use Rattle.formula.specs.Tree.{Exp, identifier, whole, truth, pair, operator, letE, ifE, forE, Body, ret, iter, letB, ifB}
 use Rattle.formula.specs.Widths.{width, returned}
 
@@ -19,12 +19,11 @@ Env = ℕ → Value
 
 -- Identifiers a to a+b-1 bound to values, the first to a.
 unfoldable pub bind : ℕ → ℕ → List Value → Env → Env
-unfolding range
 bind a b vs env k = cond (range a b k) (getD vs (k - a) Err) (env k)
 
 -- The inputs, rising, hold a set's values in their order.
 unfoldable pub inputsHold : Names → List Value → Env
-unfolding below
+unfolding below sizeFrom
 inputsHold f vs k = getD vs (below f k) Err
 
 -- What an expression yields, with the rounds left; or more rounds are needed than were lent.
