@@ -3,10 +3,10 @@
 use Prim.Native.Nat.{ℕ, _+_, _*_, _-_}
 use mathlib.Core.Bool.{Bool, true, false, not, cond, _&&_, _||_}
 use lib.Dec.{eqb}
-use Rattle.names.specs.Names.{Names, one, union, common, without, range, size, sizeFrom}
+use Rattle.names.specs.Names.{Names, trigger, one, union, common, without, range, size, sizeFrom}
 use Rattle.formula.specs.Tree.{Exp, identifier, whole, truth, pair, operator, letE, ifE, forE, Body, ret, iter, letB, ifB}
 use Rattle.formula.specs.Widths.{width, iterated, returned}
-use Rattle.formula.specs.Free.{trigger, freeE, freeB}
+use Rattle.formula.specs.Free.{freeE, freeB}
 
 pub record Count : Type 0 where
   pub operators : ℕ

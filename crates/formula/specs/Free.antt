@@ -4,15 +4,11 @@ use Prim.Native.Nat.{ℕ}
 use mathlib.Core.Bool.{Bool, true, false, not, _&&_, _||_}
 use mathlib.Core.List.{List}
 use lib.Dec.{eqb}
-use Rattle.names.specs.Names.{Names, one, union, without, range, size, sizeFrom, members, membersFrom}
+use Rattle.names.specs.Names.{Names, trigger, one, union, without, range, size, sizeFrom, members, membersFrom}
 use Rattle.formula.specs.Tree.{Exp, identifier, whole, truth, pair, operator, letE, ifE, forE, Body, ret, iter, letB, ifB}
-
-abbrev pub trigger : ℕ
-trigger = 32
 
 -- "row c of let and for lies outside the new identifiers"
 unfoldable mutual
-
   pub freeE : Exp → Names
   freeE (identifier a) = one a
   freeE (whole a) = one trigger
