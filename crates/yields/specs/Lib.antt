@@ -1,1 +1,3 @@
 pub mod Naming
+pub mod BodyWidths
+pub mod Choice
