@@ -1,3 +1,5 @@
 pub mod Naming
 pub mod BodyWidths
 pub mod Choice
+pub mod Joins
+pub mod ArmNames
