@@ -3,3 +3,4 @@ pub mod BodyWidths
 pub mod Choice
 pub mod Joins
 pub mod ArmNames
+pub mod FreeNames
