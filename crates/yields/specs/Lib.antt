@@ -4,3 +4,5 @@ pub mod Choice
 pub mod Joins
 pub mod ArmNames
 pub mod FreeNames
+pub mod BareOutputs
+pub mod FitGraphs
