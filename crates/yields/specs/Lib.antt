@@ -6,3 +6,4 @@ pub mod ArmNames
 pub mod FreeNames
 pub mod BareOutputs
 pub mod FitGraphs
+pub mod Gates
