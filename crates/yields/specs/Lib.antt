@@ -7,3 +7,5 @@ pub mod FreeNames
 pub mod BareOutputs
 pub mod FitGraphs
 pub mod Gates
+pub mod Lookups
+pub mod Absence
