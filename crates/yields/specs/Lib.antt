@@ -9,3 +9,5 @@ pub mod FitGraphs
 pub mod Gates
 pub mod Lookups
 pub mod Absence
+pub mod Rows
+pub mod Branches
