@@ -18,7 +18,7 @@ use Rattle.graph.specs.Fit.{Fit}
 use Rattle.graph.specs.Translation.{testName, row, gated, arm}
 use Rattle.yields.specs.Naming.{Small, member-members}
 use Rattle.yields.specs.Choice.{Has, From}
-use Rattle.yields.specs.Gates.{T-passes, T-drops, F-passes, F-drops}
+use Rattle.yields.specs.Gates.{T-passes, T-drops, F-passes, F-drops, differ}
 use Rattle.yields.specs.Lookups.{absent-map, bound-self, bound-other}
 use Rattle.yields.specs.Absence.{NothingAt, nothing-bound, absence}
 use Rattle.yields.specs.Rows.{in-turn, gated-yields, row-yields}
@@ -89,14 +89,6 @@ pub record Arms (ns : List ℕ) (f : Names) (a : Graph) (ms : List ℕ) (g : Nam
   pub has-g : Has b g
   pub from-n : From 34 ns
 
-abbrev Kind : Sense → ℕ
-Kind is-true = 0
-Kind is-false = 1
-Kind is-neither = 2
-
-unlike : (s t : Sense) → (Kind s ≡ Kind t → ⊥) → s ≡ t → ⊥
-unlike s t n e = n (ap Kind e)
-
 module _ (ns : List ℕ) (f : Names) (a : Graph) (ms : List ℕ) (g : Names) (b j : Graph) (A : Arms ns f a ms g b) where
   abbrev pub behind : Graph
   behind = bind ns (arm T f a) (bind ms (arm F g b) j)
@@ -133,7 +125,7 @@ module _ (ns : List ℕ) (f : Names) (a : Graph) (ms : List ℕ) (g : Names) (b 
         in-turn ns (arm T f a) (bind ms (arm F g b) j) ρ n 0 n xs (some zs) (omega arith)
         (arm-passes T f a ρ n (some xs) (A .small-f) (T-through ρ c at-test f all-f e) p)
         (in-turn ms (arm F g b) j (bound ns xs ρ) 0 0 0 (absent (length ms)) (some zs) refl
-        (second-absorbs xs is-true e (unlike is-true is-false (λ z. omega arith))) q)
+        (second-absorbs xs is-true e (differ is-true is-false (λ z. omega arith))) q)
 
     pub chosen-true-stops : sense c ≡ is-true → (n : ℕ) → Yields a ρ n none → Yields behind ρ n none
     chosen-true-stops e n p = Sequel.stops n (arm-passes T f a ρ n none (A .small-f) (T-through ρ c at-test f all-f e) p)
@@ -142,7 +134,7 @@ module _ (ns : List ℕ) (f : Names) (a : Graph) (ms : List ℕ) (g : Names) (b 
         → Yields j (bound ms ys (bound ns (absent (length ns)) ρ)) 0 (some zs) → Yields behind ρ n (some zs)
     chosen-false e n ys zs p q =
         in-turn ns (arm T f a) (bind ms (arm F g b) j) ρ 0 n n (absent (length ns)) (some zs) (omega arith)
-        (first-absorbs is-false e (unlike is-false is-true (λ z. omega arith)))
+        (first-absorbs is-false e (differ is-false is-true (λ z. omega arith)))
         (in-turn ms (arm F g b) j (bound ns (absent (length ns)) ρ) n 0 n ys (some zs) (omega arith)
         (arm-passes F g b (bound ns (absent (length ns)) ρ) n (some ys) (A .small-g)
         (F-through (bound ns (absent (length ns)) ρ) c (still-test (absent (length ns))) g (still-all (absent (length ns))) e) p)
@@ -151,7 +143,7 @@ module _ (ns : List ℕ) (f : Names) (a : Graph) (ms : List ℕ) (g : Names) (b 
     pub chosen-false-stops : sense c ≡ is-false → (n : ℕ) → Yields b (bound ns (absent (length ns)) ρ) n none → Yields behind ρ n none
     chosen-false-stops e n p =
         in-turn ns (arm T f a) (bind ms (arm F g b) j) ρ 0 n n (absent (length ns)) none (omega arith)
-        (first-absorbs is-false e (unlike is-false is-true (λ z. omega arith)))
+        (first-absorbs is-false e (differ is-false is-true (λ z. omega arith)))
         (Sequel.stops n
         (arm-passes F g b (bound ns (absent (length ns)) ρ) n none (A .small-g)
         (F-through (bound ns (absent (length ns)) ρ) c (still-test (absent (length ns))) g (still-all (absent (length ns))) e) p))
@@ -160,6 +152,6 @@ module _ (ns : List ℕ) (f : Names) (a : Graph) (ms : List ℕ) (g : Names) (b 
         → Yields j (bound ms (absent (length ms)) (bound ns (absent (length ns)) ρ)) 0 (some zs) → Yields behind ρ 0 (some zs)
     chosen-neither e zs q =
         in-turn ns (arm T f a) (bind ms (arm F g b) j) ρ 0 0 0 (absent (length ns)) (some zs) refl
-        (first-absorbs is-neither e (unlike is-neither is-true (λ z. omega arith)))
+        (first-absorbs is-neither e (differ is-neither is-true (λ z. omega arith)))
         (in-turn ms (arm F g b) j (bound ns (absent (length ns)) ρ) 0 0 0 (absent (length ms)) (some zs) refl
-        (second-absorbs (absent (length ns)) is-neither e (unlike is-neither is-false (λ z. omega arith))) q)
+        (second-absorbs (absent (length ns)) is-neither e (differ is-neither is-false (λ z. omega arith))) q)

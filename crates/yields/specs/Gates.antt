@@ -171,3 +171,13 @@ pub IC-rests : (both : Bool) → Fires (IC both) (none ∷ none ∷ none ∷ [])
 unfolding gateOutputs
 IC-rests true = rests (IC true) 3
 IC-rests false = rests (IC false) 3
+
+-- ---- the three senses are different
+
+abbrev pub place : Sense → ℕ
+place is-true = 0
+place is-false = 1
+place is-neither = 2
+
+pub differ : (s t : Sense) → (place s ≡ place t → ⊥) → s ≡ t → ⊥
+differ s t n e = n (ap place e)

@@ -11,3 +11,4 @@ pub mod Lookups
 pub mod Absence
 pub mod Rows
 pub mod Branches
+pub mod JoinRows
