@@ -12,3 +12,4 @@ pub mod Absence
 pub mod Rows
 pub mod Branches
 pub mod JoinRows
+pub mod BodyJoin
