@@ -5,14 +5,16 @@ use mathlib.Core.Path.{_≡_, refl, sym, ap, _∙_}
 use mathlib.Core.Bool.{Bool, true, false, cond, _||_, false≢true}
 use mathlib.Core.List.{List, [], _∷_}
 use mathlib.Core.Option.{Option, none, some}
+use lib.ListN.{length, getD}
 use lib.Dec.{eqb}
+use native.Mathlib.Omega.{arith}
 use Rattle.value.specs.declared.Value.{Value}
-use Rattle.value.specs.Operators.{operands}
+use Rattle.value.specs.Operators.{operands, pick}
 use Rattle.network.specs.Values.{true-value, false-value, err-value, Sense, is-true, is-false, is-neither, sense, one-operand, apply, only-one-true, only-one-false}
 use Rattle.network.specs.Rules.{Input, first, second, third, Firing, T-rule, F-rule, M-rule, E-rule, chosen, IC-table}
 use Rattle.network.specs.Decide.{Taken, Decision, decided, also, untouched}
 use Rattle.graph.specs.Assembly.{Gate, const, oper, T, F, M, E, IC, gateOutputs}
-use Rattle.graph.specs.Yields.{Fires, rests, fires, TakesAll, absent, waiting}
+use Rattle.graph.specs.Yields.{Fires, rests, fires, TakesAll, absent, present, waiting}
 
 -- A decision that takes these inputs and gives these values, the register being left alone.
 abbrev decision : Bool → Bool → Bool → Option Value → Option Value → Option Value → Option Value → Decision
@@ -45,6 +47,22 @@ pub two-operands-fire : (k : ℕ) (a b : Value) → one-operand k ≡ false → 
 two-operands-fire k a b e =
     fires (oper k) (some a ∷ some b ∷ []) (decision true true false (some (apply k a b)) none none none) (rw e refl)
     (record { control = refl; data2 = refl; data3 = refl })
+
+-- An operator with as many operands as its code takes.
+pub operator-fires : (k : ℕ) (vs : List Value) → length vs ≡ operands k
+    → Fires (oper k) (present vs) (some (apply k (getD vs 0 err-value) (getD vs 1 err-value)) ∷ [])
+unfolding operands
+operator-fires k vs n = go (one-operand k) refl vs n
+  where
+    go : (b : Bool) → one-operand k ≡ b → (vs : List Value) → length vs ≡ pick b 1 2
+        → Fires (oper k) (present vs) (some (apply k (getD vs 0 err-value) (getD vs 1 err-value)) ∷ [])
+    go true e (a ∷ []) n = one-operand-fires k a e
+    go false e (a ∷ b ∷ []) n = two-operands-fire k a b e
+    go true e [] n = absurd (omega arith)
+    go true e (a ∷ b ∷ vs) n = absurd (omega arith)
+    go false e [] n = absurd (omega arith)
+    go false e (a ∷ []) n = absurd (omega arith)
+    go false e (a ∷ b ∷ c ∷ vs) n = absurd (omega arith)
 
 -- ---- T and F
 

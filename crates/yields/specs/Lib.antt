@@ -13,3 +13,4 @@ pub mod Rows
 pub mod Branches
 pub mod JoinRows
 pub mod BodyJoin
+pub mod Meets
