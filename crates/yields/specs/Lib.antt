@@ -14,3 +14,4 @@ pub mod Branches
 pub mod JoinRows
 pub mod BodyJoin
 pub mod Meets
+pub mod LoopRounds
