@@ -15,3 +15,4 @@ pub mod JoinRows
 pub mod BodyJoin
 pub mod Meets
 pub mod LoopRounds
+pub mod IfMeets
