@@ -16,3 +16,6 @@ pub mod BodyJoin
 pub mod Meets
 pub mod LoopRounds
 pub mod IfMeets
+pub mod BodyIfMeets
+pub mod TreeMeets
+pub mod Agreement
