@@ -1,12 +1,11 @@
 -- Where nothing comes, nothing goes: a fit graph whose inputs are all absent yields absent outputs in no round, loops resting. This is the arm of
 -- an if that was not chosen (Brock, section 2.3: T and F gates absorb). Then the same for the graph of a formula and of a body.
-use Prim.Native.Nat.{ℕ, zero, suc, _+_, _-_, _≤_, _<_}
+use Prim.Native.Nat.{ℕ, suc, _+_}
 use mathlib.Core.Path.{_≡_, refl, sym, ap, _∙_, subst}
-use mathlib.Core.Bool.{Bool, true, false, not, cond, _&&_, _||_, false≢true}
-use mathlib.Core.List.{List, [], _∷_, _++_}
+use mathlib.Core.Bool.{Bool, true, false, not, _&&_}
+use mathlib.Core.List.{List, [], _∷_}
 use mathlib.Core.Option.{Option, none, some}
 use lib.ListN.{length}
-use lib.Dec.{eqb}
 use borrow.Author.Tests.{eq-eqb}
 use Rattle.names.specs.Names.{Names}
 use Rattle.formula.specs.Tree.{Exp, Body}

@@ -1,24 +1,24 @@
 -- The names of an arm's outputs and of IC's outputs (graph/specs/Translation): all different, none an identifier, the trigger or the test,
 -- and each of them used by what joins the arms.
-use Prim.Native.Nat.{ℕ, zero, suc, _+_, _-_, _≤_, _<_}
+use Prim.Native.Nat.{ℕ, suc, _+_, _≤_, _<_}
 use mathlib.Core.Path.{_≡_, refl, sym, ap, _∙_}
-use mathlib.Core.Bool.{Bool, true, false, not, cond, _&&_, _||_, false≢true}
-use mathlib.Core.List.{List, [], _∷_, _++_}
+use mathlib.Core.Bool.{Bool, true, false, not, _&&_, _||_, false≢true}
+use mathlib.Core.List.{List, _∷_, _++_}
 use lib.ListN.{length, length-append}
 use lib.Dec.{eqb, ltb}
-use borrow.Author.Tests.{eqb-true, eqb-false, eq-eqb, ne-eqb, ltb-true, ltb-false}
+use borrow.Author.Tests.{ne-eqb, ltb-true, ltb-false}
 use native.Mathlib.Omega.{arith}
 use Rattle.formula.specs.Tree.{Exp, Body, ifB}
 use Rattle.formula.specs.Widths.{iterated}
 use Rattle.formula.specs.Count.{returns, iterates}
 use Rattle.formula.specs.Admitted.{AdmittedB}
-use Rattle.graph.specs.Assembly.{Graph, wire, nothing, beside, bind, gate, loop, Gate, IC, free, memberOf, upFrom, nameCount}
+use Rattle.graph.specs.Assembly.{free, memberOf, upFrom}
 use Rattle.graph.specs.Fit.{Different, Used}
 use Rattle.graph.specs.Translation.{testName, iterName, iteratedName, returnedName, joinName, iteratedJoin, returnedJoin, armNames, joinNames, joined}
-use Rattle.yields.specs.Naming.{or-true, or-false, or-left, or-right, or-neither, length-upFrom, within-upFrom, below-upFrom, above-upFrom, upFrom-holds, member-append, different-upFrom, different-append, Apart}
-use Rattle.yields.specs.BodyWidths.{iteratedOutputs, returnedOutputs, iterated-outputs, returned-outputs-le, iterated-16, iterated-both, iterated-some}
-use Rattle.yields.specs.Choice.{From, gone, kept, unseen, Joining}
-use Rattle.yields.specs.Joins.{joinI, joinR, joinI-is, joinR-is, stretch, joinI-lacks, joinI-first, joinI-second, joinR-lacks, joinR-control, joinR-first, joinR-second, merge-control}
+use Rattle.yields.specs.Naming.{or-true, or-false, or-left, or-right, or-neither, length-upFrom, below-upFrom, above-upFrom, upFrom-holds, member-append, different-upFrom, different-append, Apart}
+use Rattle.yields.specs.BodyWidths.{iteratedOutputs, returnedOutputs, iterated-outputs, returned-outputs-le, iterated-16, iterated-both}
+use Rattle.yields.specs.Choice.{From, gone, kept, unseen}
+use Rattle.yields.specs.Joins.{joinI-is, joinR-is, joinI-lacks, joinI-first, joinI-second, joinR-lacks, joinR-first, joinR-second}
 
 -- ---- the three parts of an arm's names
 

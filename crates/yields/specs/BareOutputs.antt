@@ -1,26 +1,25 @@
 -- Which inputs of a graph are bare outputs as well (graph/specs/Fit): none of a body that iterates and returns, since such a body ends, behind
 -- any lets, in an if, and an if passes its names through T and F gates. A loop may close over such a body alone.
-use Prim.Native.Nat.{ℕ, zero, suc, _+_, _≤_, _<_}
+use Prim.Native.Nat.{ℕ, _+_}
 use mathlib.Core.Path.{_≡_, refl, sym, ap, _∙_}
 use mathlib.Core.Bool.{Bool, true, false, not, cond, _&&_, _||_, false≢true}
-use mathlib.Core.List.{List, [], _∷_, _++_}
-use lib.Dec.{eqb, ltb}
-use borrow.Author.Tests.{ne-eqb, eq-eqb}
-use native.Mathlib.Omega.{arith}
-use Rattle.names.specs.Names.{Names, none as noNames, one, union, without, common, members, sizeFrom}
+use mathlib.Core.List.{List, [], _∷_}
+use lib.Dec.{eqb}
+use borrow.Author.Tests.{ne-eqb}
+use Rattle.names.specs.Names.{Names, none as noNames, common, members}
 use Rattle.names.proofs.Counts.{sizeFrom-none}
-use Rattle.formula.specs.Tree.{Exp, Body, ret, iter, letB, ifB}
+use Rattle.formula.specs.Tree.{Body, ret, iter, letB, ifB}
 use Rattle.formula.specs.Widths.{iterated}
-use Rattle.formula.specs.Free.{freeE, freeB}
+use Rattle.formula.specs.Free.{freeB}
 use Rattle.formula.specs.Count.{returns, iterates}
-use Rattle.formula.specs.Admitted.{AdmittedE, AdmittedB}
-use Rattle.graph.specs.Assembly.{Graph, wire, nothing, beside, bind, gate, loop, Gate, T, F, M, E, IC, free, memberOf, upFrom, total, nameCount}
+use Rattle.formula.specs.Admitted.{AdmittedB}
+use Rattle.graph.specs.Assembly.{Graph, wire, nothing, beside, bind, gate, loop, Gate, T, F, IC, free, memberOf, upFrom, total, nameCount}
 use Rattle.graph.specs.Fit.{bare}
 use Rattle.graph.specs.Translation.{testName, iterName, iteratedName, returnedName, joinName, row, gated, arm, merged, excepted, mergeRow, exceptRow, straight, copied, iteratedJoin, returnedJoin, armNames, joinNames, joined, graphE, graphB}
-use Rattle.yields.specs.Naming.{or-false, or-left, or-right, or-neither, Small, member-members, within-upFrom, upFrom-holds}
+use Rattle.yields.specs.Naming.{or-false, or-neither, Small, member-members}
 use Rattle.yields.specs.Choice.{choice, Has, unseen, gone, kept}
 use Rattle.yields.specs.Joins.{joinI, joinR, joinI-is, joinR-is, stretch, straight-lacks}
-use Rattle.yields.specs.ArmNames.{Foreign, foreign, not-first, not-third}
+use Rattle.yields.specs.ArmNames.{foreign, not-first, not-third}
 use Rattle.yields.specs.FreeNames.{small-B, free-B}
 use Rattle.yields.specs.BodyWidths.{iteratedOutputs, returnedOutputs}
 

@@ -1,9 +1,9 @@
 -- A body's if behind its test meets its evaluation, where each arm meets its own (document 01: "An if whose test is no truth .. in a body it ends the
 -- loop with err for each returned value"). An arm that goes on iterates, and one that ends returns, so its results have names.
-use Prim.Native.Nat.{ℕ, zero, suc, _+_, _-_, _≤_, _<_}
+use Prim.Native.Nat.{ℕ, _-_}
 use mathlib.Core.Path.{_≡_, refl, sym, ap, _∙_, subst}
-use mathlib.Core.Bool.{Bool, true, false, cond, _&&_, _||_, false≢true}
-use mathlib.Core.List.{List, [], _∷_, _++_}
+use mathlib.Core.Bool.{Bool, true, false}
+use mathlib.Core.List.{List, _∷_, _++_}
 use mathlib.Core.Option.{Option, none, some}
 use lib.ListN.{length, getD, replicate}
 use native.Mathlib.Omega.{arith}
@@ -11,23 +11,23 @@ use Rattle.value.specs.declared.Value.{Value}
 use Rattle.value.specs.declared.Value.the-variants.{Whole, Truth, Err}
 use Rattle.network.specs.Values.{true-value, false-value, is-neither, sense}
 use Rattle.formula.specs.Tree.{Exp, Body, ret, iter, letB, ifB}
-use Rattle.formula.specs.Widths.{width, returned, iterated}
-use Rattle.formula.specs.Free.{freeE, freeB}
+use Rattle.formula.specs.Widths.{iterated}
+use Rattle.formula.specs.Free.{freeB}
 use Rattle.formula.specs.Count.{returns as returnsAlways, iterates}
-use Rattle.formula.specs.Admitted.{AdmittedE, AdmittedB}
+use Rattle.formula.specs.Admitted.{AdmittedB}
 use Rattle.meaning.specs.Meaning.{Env, bind, Outcome, yields, Ending, again, returns, thenB, branch, evalE, evalB}
 use Rattle.meaning.specs.WidthLaws.{SizedB}
-use Rattle.graph.specs.Assembly.{Graph, memberOf, upFrom}
+use Rattle.graph.specs.Assembly.{Graph}
 use Rattle.graph.specs.Yields.{Values, absent, present, bound, Yields}
-use Rattle.graph.specs.Translation.{testName, armNames, joined, graphE, graphB}
+use Rattle.graph.specs.Translation.{testName, armNames, joined, graphB}
 use Rattle.yields.specs.Naming.{or-left, or-right}
 use Rattle.yields.specs.BodyWidths.{iteratedOutputs, returnedOutputs, iterated-outputs, returned-outputs}
-use Rattle.yields.specs.Choice.{From}
 use Rattle.yields.specs.ArmNames.{Narrow, narrow, length-arm-names, arm-from-test}
-use Rattle.yields.specs.FreeNames.{small-B, free-B}
-use Rattle.yields.specs.FitGraphs.{fit-B, count-B, Returning, arms-returning}
+use Rattle.yields.specs.FreeNames.{small-B}
+use Rattle.yields.specs.FitParts.{Arms}
+use Rattle.yields.specs.FitGraphs.{fit-B, Returning, arms-returning, arms-of-B}
 use Rattle.yields.specs.Lookups.{length-present, length-absent, absent-append, bound-other}
-use Rattle.yields.specs.Branches.{Arms, behind, AllAt, chosen-true, chosen-true-stops, chosen-false, chosen-false-stops, chosen-neither}
+use Rattle.yields.specs.Branches.{behind, AllAt, chosen-true, chosen-true-stops, chosen-false, chosen-false-stops, chosen-neither}
 use Rattle.yields.specs.BodyJoin.{Given, given, given-still, first-iterates, second-iterates, first-returns, second-returns, neither-arm}
 use Rattle.yields.specs.Meets.{Holds, holds-beside, all-held, MeetsB}
 
@@ -104,17 +104,7 @@ module _ (w : ℕ) (t : Exp) (x y : Body) (adm : AdmittedB (ifB t x y)) (r : Ret
   pub body-arms : Arms (armNames true w x) (freeB x) (graphB w x) (armNames false w y) (freeB y) (graphB w y)
   body-arms =
       let s = arms-returning w t x y adm r in
-      record {
-        fit-a = fit-B w x (adm .2) (s .0);
-        fit-b = fit-B w y (adm .3) (s .1);
-        count-a = count-B w x (adm .2) (s .0) ∙ sym (length-arm-names true w x);
-        count-b = count-B w y (adm .3) (s .1) ∙ sym (length-arm-names false w y);
-        small-f = small-B x (adm .2);
-        small-g = small-B y (adm .3);
-        has-f = free-B w x (adm .2);
-        has-g = free-B w y (adm .3);
-        from-n = arm-from-test true w x;
-      }
+      arms-of-B w t x y adm r (fit-B w x (adm .2) (s .0)) (fit-B w y (adm .3) (s .1))
 
   abbrev pub body-behind : Graph
   body-behind = behind (armNames true w x) (freeB x) (graphB w x) (armNames false w y) (freeB y) (graphB w y) (joined w x y) body-arms

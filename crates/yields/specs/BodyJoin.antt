@@ -1,8 +1,8 @@
 -- The end of a body's if (Brock, figure 2.12 and the table of the IC gate): what `joined` yields when the arm of a true test iterates or returns,
 -- when the arm of a false one does, and when the test is no truth. The results of an arm that was not chosen are absent.
-use Prim.Native.Nat.{ℕ, zero, suc, _+_, _-_, _≤_, _<_}
+use Prim.Native.Nat.{ℕ, _+_, _≤_, _<_}
 use mathlib.Core.Path.{_≡_, refl, sym, ap, _∙_, subst}
-use mathlib.Core.Bool.{Bool, true, false, cond, _&&_, _||_, false≢true}
+use mathlib.Core.Bool.{Bool, true, false, cond, _&&_, false≢true}
 use mathlib.Core.List.{List, [], _∷_, _++_}
 use mathlib.Core.Option.{Option, none, some}
 use lib.ListN.{length, getD, replicate}
@@ -11,21 +11,21 @@ use borrow.Author.Tests.{ne-eqb, eq-eqb}
 use native.Mathlib.Omega.{arith}
 use Rattle.value.specs.declared.Value.{Value}
 use Rattle.value.specs.declared.Value.the-variants.{Err}
-use Rattle.network.specs.Values.{true-value, false-value, err-value, Sense, is-true, is-false, is-neither, sense}
+use Rattle.network.specs.Values.{true-value, false-value, err-value, is-neither, sense}
 use Rattle.formula.specs.Tree.{Exp, Body, ifB}
 use Rattle.formula.specs.Widths.{iterated}
 use Rattle.formula.specs.Count.{returns, iterates}
 use Rattle.formula.specs.Admitted.{AdmittedB}
-use Rattle.graph.specs.Assembly.{Graph, wire, beside, bind, gate, IC, memberOf, upFrom}
+use Rattle.graph.specs.Assembly.{wire, beside, gate, IC, memberOf}
 use Rattle.graph.specs.Yields.{Values, absent, present, bound, Yields, Fires}
 use Rattle.graph.specs.Translation.{testName, iterName, iteratedName, returnedName, joinName, iteratedJoin, returnedJoin, armNames, joinNames, joined}
 use Rattle.yields.specs.Naming.{length-upFrom, above-upFrom}
 use Rattle.yields.specs.BodyWidths.{iteratedOutputs, returnedOutputs, iterated-both, iterated-outputs, returned-outputs}
-use Rattle.yields.specs.Joins.{joinI, joinR, joinI-is, joinR-is}
-use Rattle.yields.specs.ArmNames.{iteratedNames, returnedNames, Narrow, lowest, arm-from, join-from}
-use Rattle.yields.specs.FitGraphs.{if-iterates}
+use Rattle.yields.specs.Joins.{joinI, joinR}
+use Rattle.yields.specs.ArmNames.{iteratedNames, returnedNames, Narrow, arm-from, join-from}
+use Rattle.yields.specs.FitParts.{if-iterates}
 use Rattle.yields.specs.Gates.{joinOutputs, IC-true-true, IC-true-false, IC-false-true, IC-false-false, IC-err}
-use Rattle.yields.specs.Lookups.{length-present, present-at, length-absent, absent-at, bound-other, bound-append, bound-up}
+use Rattle.yields.specs.Lookups.{present-at, absent-at, bound-other, bound-append, bound-up}
 use Rattle.yields.specs.Rows.{in-turn, side-by-side, three-yield}
 use Rattle.yields.specs.JoinRows.{Hold, Empty, joinI-rests, joinI-takes-first, joinI-takes-second, joinR-rests, joinR-errs, joinR-takes-first, joinR-takes-second}
 

@@ -1,16 +1,15 @@
 -- The outputs of a body's graph, by the body's widths (document 01, "The graph"): the iterated results that a body has, and the returned
 -- ones. A body that has a returned width returns; one that always returns, since it ends in an if, need not have such a width.
-use Prim.Native.Nat.{ℕ, zero, suc, _+_, _≤_, _<_}
-use mathlib.Core.Path.{_≡_, refl, sym, ap, _∙_}
-use mathlib.Core.Bool.{Bool, true, false, not, cond, _&&_, _||_, false≢true}
-use lib.Dec.{eqb, leb}
-use borrow.Author.Tests.{ne-eqb, leb-true}
+use Prim.Native.Nat.{ℕ, _≤_}
+use mathlib.Core.Path.{_≡_, refl, sym, _∙_}
+use mathlib.Core.Bool.{Bool, true, false, cond, false≢true}
+use borrow.Author.Tests.{ne-eqb}
 use native.Mathlib.Omega.{arith}
 use Rattle.formula.specs.Tree.{Exp, identifier, whole, truth, pair, operator, letE, ifE, forE, Body, ret, iter, letB, ifB}
-use Rattle.formula.specs.Widths.{width, returned, iterated, either, agree, wideE, wideB}
+use Rattle.formula.specs.Widths.{width, returned, iterated, either, wideB}
 use Rattle.formula.specs.Count.{returns, iterates}
-use Rattle.formula.specs.Admitted.{AdmittedE, AdmittedB, FineE, FineB}
-use Rattle.meaning.specs.WidthLaws.{SoundE, SoundB, Suits, positive, if-fits-B, arms-suit, wide-16, wide-16-B, for-fits}
+use Rattle.formula.specs.Admitted.{AdmittedE, AdmittedB}
+use Rattle.meaning.specs.WidthLaws.{SoundE, SoundB, Suits, positive, if-fits-B, arms-suit, wide-16, wide-16-B}
 use Rattle.yields.specs.Naming.{or-neither}
 
 -- ---- an admitted tree passes test 8 everywhere

@@ -1,9 +1,9 @@
 -- What an if yields behind its test, by what the test gives: "of an if only the chosen arm" (document 01). T and F gates let the names of the
 -- chosen arm through and absorb those of the other, to which then nothing comes; a test that is no truth chooses neither.
-use Prim.Native.Nat.{ℕ, zero, suc, _+_, _-_, _≤_, _<_}
-use mathlib.Core.Path.{_≡_, refl, sym, ap, ap₂, _∙_, subst, fun-ext}
-use mathlib.Core.Bool.{Bool, true, false, not, cond, _&&_, _||_, false≢true}
-use mathlib.Core.List.{List, [], _∷_, _++_, map}
+use Prim.Native.Nat.{ℕ, _<_}
+use mathlib.Core.Path.{_≡_, refl, sym, _∙_, subst, fun-ext}
+use mathlib.Core.Bool.{Bool, true, false, false≢true}
+use mathlib.Core.List.{List, [], _∷_, map}
 use mathlib.Core.Option.{Option, none, some}
 use lib.ListN.{length}
 use lib.Dec.{ltb}
@@ -12,15 +12,16 @@ use native.Mathlib.Omega.{arith}
 use Rattle.value.specs.declared.Value.{Value}
 use Rattle.names.specs.Names.{Names, members}
 use Rattle.network.specs.Values.{Sense, is-true, is-false, is-neither, sense}
-use Rattle.graph.specs.Assembly.{Graph, wire, nothing, beside, bind, gate, loop, Gate, T, F, free, memberOf}
+use Rattle.graph.specs.Assembly.{Graph, bind, Gate, T, F, free}
 use Rattle.graph.specs.Yields.{Values, Answer, absent, bound, outputCount, Yields, Sequel, Fires}
 use Rattle.graph.specs.Fit.{Fit}
 use Rattle.graph.specs.Translation.{testName, row, gated, arm}
 use Rattle.yields.specs.Naming.{Small, member-members}
-use Rattle.yields.specs.Choice.{Has, From}
+use Rattle.yields.specs.Choice.{Has}
+use Rattle.yields.specs.FitParts.{Arms}
 use Rattle.yields.specs.Gates.{T-passes, T-drops, F-passes, F-drops, differ}
 use Rattle.yields.specs.Lookups.{absent-map, bound-self, bound-other}
-use Rattle.yields.specs.Absence.{NothingAt, nothing-bound, absence}
+use Rattle.yields.specs.Absence.{nothing-bound, absence}
 use Rattle.yields.specs.Rows.{in-turn, gated-yields, row-yields}
 
 -- Every name of a set has a value.
@@ -76,18 +77,6 @@ module _ (ρ : Values) (c : Value) (at-test : ρ testName ≡ some c) where
   F-away f a s e n k h = let v = a k h in here F k (v .0) none (v .1) (F-drops c (v .0) s e n)
 
 -- ---- both arms
-
--- The two arms of an if with the names of their outputs.
-pub record Arms (ns : List ℕ) (f : Names) (a : Graph) (ms : List ℕ) (g : Names) (b : Graph) : Type 0 where
-  pub fit-a : Fit a
-  pub fit-b : Fit b
-  pub count-a : outputCount a ≡ length ns
-  pub count-b : outputCount b ≡ length ms
-  pub small-f : Small f
-  pub small-g : Small g
-  pub has-f : Has a f
-  pub has-g : Has b g
-  pub from-n : From 34 ns
 
 module _ (ns : List ℕ) (f : Names) (a : Graph) (ms : List ℕ) (g : Names) (b j : Graph) (A : Arms ns f a ms g b) where
   abbrev pub behind : Graph

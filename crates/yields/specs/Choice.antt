@@ -1,16 +1,16 @@
 -- An if behind its test, as the translation makes it (Brock, figures 2.8 and 2.12): T gates on one arm, F gates on the other, and a graph
 -- that joins what the arms give. One shape serves expressions and bodies. Here are its free names.
-use Prim.Native.Nat.{ℕ, zero, suc, _+_, _≤_, _<_}
+use Prim.Native.Nat.{ℕ, _≤_, _<_}
 use mathlib.Core.Path.{_≡_, refl, sym, ap, _∙_}
-use mathlib.Core.Bool.{Bool, true, false, not, cond, _&&_, _||_, false≢true}
-use mathlib.Core.List.{List, [], _∷_, _++_}
+use mathlib.Core.Bool.{Bool, true, false, not, _&&_, _||_, false≢true}
+use mathlib.Core.List.{List, [], _∷_}
 use lib.Dec.{eqb, ltb}
 use borrow.Author.Tests.{eqb-true, eqb-false, eq-eqb, ne-eqb, ltb-true, ltb-false}
 use native.Mathlib.Omega.{arith}
-use Rattle.names.specs.Names.{Names, one, union, without, members}
-use Rattle.graph.specs.Assembly.{Graph, wire, nothing, beside, bind, gate, loop, Gate, T, F, free, memberOf}
+use Rattle.names.specs.Names.{Names, union, members}
+use Rattle.graph.specs.Assembly.{Graph, bind, Gate, T, F, free, memberOf}
 use Rattle.graph.specs.Translation.{testName, row, gated, arm}
-use Rattle.yields.specs.Naming.{or-true, or-false, or-left, or-right, or-neither, Small, member-members}
+use Rattle.yields.specs.Naming.{or-true, or-false, or-left, or-right, Small, member-members}
 
 abbrev pub choice : Graph → List ℕ → Names → Graph → List ℕ → Names → Graph → Graph → Graph
 choice t ns f a ms g b j = bind (testName ∷ []) t (bind ns (arm T f a) (bind ms (arm F g b) j))

@@ -1,248 +1,32 @@
 -- The graph of an admitted formula is fit (graph/specs/Fit): ports and names match in number, every bound name is used, and a loop's body hands
 -- on no bare input. A body's outputs are iter?, its iterated results and its returned results, as many as the whole loop returns, which is w.
-use Prim.Native.Nat.{ℕ, zero, suc, _+_, _-_, _≤_, _<_}
+use Prim.Native.Nat.{ℕ, suc, _+_, _-_, _≤_, _<_}
 use mathlib.Core.Path.{_≡_, refl, sym, ap, ap₂, _∙_}
-use mathlib.Core.Bool.{Bool, true, false, not, cond, _&&_, _||_, false≢true}
-use mathlib.Core.List.{List, [], _∷_, _++_}
+use mathlib.Core.Bool.{Bool, true, false, _&&_}
+use mathlib.Core.List.{List}
 use lib.ListN.{length}
-use lib.Dec.{eqb, ltb}
-use borrow.Author.Tests.{ne-eqb, eq-eqb, eqb-true, ltb-true, ltb-false, le-leb, lt-ltb}
+use borrow.Author.Tests.{le-leb, lt-ltb}
 use native.Mathlib.Omega.{arith}
-use Rattle.value.specs.Operators.{operands}
-use Rattle.names.specs.Names.{Names, trigger, range, members, sizeFrom, bit}
+use Rattle.names.specs.Names.{Names, sizeFrom, bit}
 use Rattle.names.proofs.Counts.{sizeFrom-suc, sizeFrom-mono}
 use Rattle.formula.specs.Tree.{Exp, identifier, whole, truth, pair, operator, letE, ifE, forE, Body, ret, iter, letB, ifB}
 use Rattle.formula.specs.Widths.{width, returned, iterated}
 use Rattle.formula.specs.Free.{freeE, freeB, boundE, boundB, covers}
 use Rattle.formula.specs.Count.{returns, iterates}
 use Rattle.formula.specs.Admitted.{AdmittedE, AdmittedB}
-use Rattle.graph.specs.Assembly.{Graph, wire, nothing, beside, bind, gate, loop, Gate, const, oper, T, F, M, E, IC, gateOutputs, free, memberOf, upFrom, total, nameCount}
+use Rattle.graph.specs.Assembly.{Graph, loop, gateOutputs, free, upFrom, total, nameCount}
 use Rattle.graph.specs.Yields.{outputCount}
-use Rattle.graph.specs.Fit.{Fit, Different, Used, gateInputs}
-use Rattle.graph.specs.Translation.{testName, iterName, iteratedName, returnedName, joinName, row, gated, arm, merged, excepted, mergeRow, exceptRow, straight, copied, iteratedJoin, returnedJoin, armNames, joinNames, joined, graphE, graphB}
+use Rattle.graph.specs.Fit.{Fit, Used, gateInputs}
+use Rattle.graph.specs.Translation.{testName, returnedName, mergeRow, armNames, joined, graphE, graphB}
 use Rattle.meaning.specs.WidthLaws.{Suits, operator-fits, let-fits, if-fits, for-fits, let-fits-B, if-fits-B}
-use Rattle.yields.specs.Naming.{or-true, or-false, or-left, or-right, or-neither, Small, member-members, length-upFrom, member-upFrom, upFrom-holds, below-upFrom, above-upFrom, different-upFrom, different-members, Apart}
-use Rattle.yields.specs.BodyWidths.{wide-enough, not-too-wide, iteratedOutputs, returnedOutputs, iterated-outputs, returned-outputs, iterates-some, returns-some, iterated-some, iterated-16, iterated-both, iterated-first, iterated-second, iterated-none, arms-return, fine-body}
-use Rattle.yields.specs.Choice.{choice, Has, From, unseen, gone, kept}
-use Rattle.yields.specs.Joins.{joinI, joinR, joinI-is, joinR-is, merge-control, merge-has, joinR-control}
-use Rattle.yields.specs.ArmNames.{Narrow, narrow, length-arm-names, arm-from-test, arms-apart, arm-different, join-different, use-first, use-second, joined-test}
+use Rattle.yields.specs.Naming.{length-upFrom, member-upFrom, upFrom-holds, below-upFrom, different-upFrom}
+use Rattle.yields.specs.BodyWidths.{wide-enough, not-too-wide, iteratedOutputs, returnedOutputs, iterated-outputs, returned-outputs, iterates-some, returns-some, arms-return}
+use Rattle.yields.specs.Choice.{Has}
+use Rattle.yields.specs.Joins.{merge-control, merge-has}
+use Rattle.yields.specs.ArmNames.{Narrow, narrow, length-arm-names, arm-from-test, arms-apart, arm-different, use-first, use-second, joined-test}
 use Rattle.yields.specs.FreeNames.{small-E, small-B, free-E, free-B, covered, body-triggered, results-from-test}
 use Rattle.yields.specs.BareOutputs.{body-bare}
-
--- ---- rows
-
-fit-row : (f : ℕ → Graph) (ns : List ℕ) → ((n : ℕ) → memberOf ns n ≡ true → Fit (f n)) → Fit (row f ns)
-unfolding row memberOf
-fit-row f [] h = tt
-fit-row f (n ∷ ns) h =
-    (h n (or-left (eqb n n) (memberOf ns n) (eq-eqb n n refl)), fit-row f ns (λ m i. h m (or-right (eqb n m) (memberOf ns m) i)))
-
-count-row : (f : ℕ → Graph) (ns : List ℕ) → ((n : ℕ) → outputCount (f n) ≡ 1) → outputCount (row f ns) ≡ length ns
-unfolding row outputCount
-count-row f [] h = refl
-count-row f (n ∷ ns) h = omega (arith, h n, count-row f ns h)
-
-fit-up : (f : ℕ → Graph) (w : ℕ) → ((i : ℕ) → i < w → Fit (f i)) → Fit (row f (upFrom 0 w))
-fit-up f w h = fit-row f (upFrom 0 w) (λ i m. h i (omega (arith, upFrom-holds 0 w i m)))
-
-count-up : (f : ℕ → Graph) (w : ℕ) → ((n : ℕ) → outputCount (f n) ≡ 1) → outputCount (row f (upFrom 0 w)) ≡ w
-count-up f w h = count-row f (upFrom 0 w) h ∙ length-upFrom 0 w
-
-module _ (c : ℕ) (w : ℕ) where
-  pub count-merge : (s : Bool → ℕ) → outputCount (mergeRow c s w) ≡ w
-  unfolding mergeRow outputCount gateOutputs
-  count-merge s = count-up (merged c s) w (λ i. refl)
-
-  pub count-except : (s : ℕ) → outputCount (exceptRow c s w) ≡ w
-  unfolding exceptRow outputCount gateOutputs
-  count-except s = count-up (excepted c s) w (λ i. refl)
-
-  pub count-copied : outputCount (copied c w) ≡ w
-  unfolding copied outputCount
-  count-copied = count-up (λ i. wire c) w (λ i. refl)
-
-  fit-merge : (s : Bool → ℕ) → c < nameCount → s true + w ≤ nameCount → s false + w ≤ nameCount → Fit (mergeRow c s w)
-  unfolding mergeRow outputCount gateInputs
-  fit-merge s h p q = fit-up (merged c s) w (λ i l. ((h, (omega arith, omega arith)), refl))
-
-  fit-except : (s : ℕ) → c < nameCount → s + w ≤ nameCount → Fit (exceptRow c s w)
-  unfolding exceptRow outputCount gateInputs
-  fit-except s h p = fit-up (excepted c s) w (λ i l. ((h, omega arith), refl))
-
-  fit-copied : c < nameCount → Fit (copied c w)
-  unfolding copied
-  fit-copied h = fit-up (λ i. wire c) w (λ i l. h)
-
-pub count-straight : (s w : ℕ) → outputCount (straight s w) ≡ w
-unfolding straight outputCount
-count-straight s w = count-up (λ i. wire (s + i)) w (λ i. refl)
-
-fit-straight : (s w : ℕ) → s + w ≤ nameCount → Fit (straight s w)
-unfolding straight
-fit-straight s w h = fit-up (λ i. wire (s + i)) w (λ i l. omega arith)
-
--- ---- an arm, and an if
-
-fit-arm : (G : Gate) (f : Names) (a : Graph) → gateInputs G ≡ 2 → gateOutputs G ≡ 1 → Small f → Has a f → Fit a → Fit (arm G f a)
-unfolding arm outputCount
-fit-arm G f a p q s e h = (
-  fit-row (gated G) (members f) (λ n m. ((omega arith, below n m), sym p)),
-  h,
-  count-row (gated G) (members f) (λ n. q),
-  different-members f,
-  (λ k m. e k ∙ sym (member-members f s k) ∙ m),
-)
-  where
-    below : (n : ℕ) → memberOf (members f) n ≡ true → n < nameCount
-    below n m = go (ltb n 33) refl
-      where
-        go : (b : Bool) → ltb n 33 ≡ b → n < nameCount
-        go true z = omega (arith, ltb-true n 33 z)
-        go false z = absurd (false≢true (sym (s n (ltb-false n 33 z)) ∙ sym (member-members f s n) ∙ m))
-
-or-single : (c : Bool) → c || false ≡ true → c ≡ true
-or-single true e = refl
-or-single false e = e
-
--- the parts of an if that fit together
-pub record Fitting (t : Graph) (ns : List ℕ) (f : Names) (a : Graph) (ms : List ℕ) (g : Names) (b j : Graph) : Type 0 where
-  fit-t : Fit t
-  fit-a : Fit a
-  fit-b : Fit b
-  fit-j : Fit j
-  one-test : outputCount t ≡ 1
-  count-a : outputCount a ≡ length ns
-  count-b : outputCount b ≡ length ms
-  small-f : Small f
-  small-g : Small g
-  has-f : Has a f
-  has-g : Has b g
-  from-n : From 34 ns
-  from-m : From 34 ms
-  different-n : Different ns
-  different-m : Different ms
-  apart : Apart ns ms
-  used-n : Used ns j
-  used-m : Used ms j
-  used-t : free j testName ≡ true
-
-fit-choice : (t : Graph) (ns : List ℕ) (f : Names) (a : Graph) (ms : List ℕ) (g : Names) (b j : Graph)
-    → Fitting t ns f a ms g b j → Fit (choice t ns f a ms g b j)
-unfolding outputCount free memberOf gateInputs gateOutputs arm
-fit-choice t ns f a ms g b j z = (
-  z .fit-t,
-  (
-    fit-arm T f a refl refl (z .small-f) (z .has-f) (z .fit-a),
-    (fit-arm F g b refl refl (z .small-g) (z .has-g) (z .fit-b), z .fit-j, z .count-b, z .different-m, z .used-m),
-    z .count-a,
-    z .different-n,
-    (λ k m.
-        or-right (free (arm F g b) k) (free j k && not (memberOf ms k))
-        (kept (free j k) (memberOf ms k) (z .apart k m) ∙ z .used-n k m)
-        ),
-  ),
-  z .one-test,
-  (omega arith, refl, tt),
-  (λ k m. ap (λ (i : ℕ). free (bind ns (arm T f a) (bind ms (arm F g b) j)) i) (sym (eqb-true testName k (or-single (eqb testName k) m))) ∙ test),
-)
-  where
-    test : free (bind ns (arm T f a) (bind ms (arm F g b) j)) testName ≡ true
-    test =
-        or-right (free (arm T f a) testName) (free (bind ms (arm F g b) j) testName && not (memberOf ns testName))
-        (kept (free (bind ms (arm F g b) j) testName) (memberOf ns testName) (z .from-n testName (omega arith))
-        ∙ or-right (free (arm F g b) testName) (free j testName && not (memberOf ms testName))
-        (kept (free j testName) (memberOf ms testName) (z .from-m testName (omega arith)) ∙ z .used-t))
-
--- ---- the joins of a body's if
-
-fit-joinI : (b c : Bool) (m n : ℕ) → m ≤ 16 → n ≤ 16 → Fit (joinI b c m n)
-fit-joinI true true m n p q = fit-merge (joinName + 1) m iteratedName (omega arith) (omega arith) (omega arith)
-fit-joinI true false m n p q = fit-straight (iteratedName true) m (omega arith)
-fit-joinI false true m n p q = fit-straight (iteratedName false) n (omega arith)
-fit-joinI false false m n p q = tt
-
-fit-joinR : (b c : Bool) (w : ℕ) → w ≤ 16 → Fit (joinR b c w)
-fit-joinR true true w p = fit-merge (joinName + 2) w returnedName (omega arith) (omega arith) (omega arith)
-fit-joinR true false w p = fit-except (joinName + 2) w (returnedName true) (omega arith) (omega arith)
-fit-joinR false true w p = fit-except (joinName + 2) w (returnedName false) (omega arith) (omega arith)
-fit-joinR false false w p = fit-copied (joinName + 2) w (omega arith)
-
-pub count-joinI : (b c : Bool) (m n : ℕ) → outputCount (joinI b c m n) ≡ cond b m (cond c n 0)
-unfolding outputCount
-count-joinI true true m n = count-merge (joinName + 1) m iteratedName
-count-joinI true false m n = count-straight (iteratedName true) m
-count-joinI false true m n = count-straight (iteratedName false) n
-count-joinI false false m n = refl
-
-pub count-joinR : (b c : Bool) (w : ℕ) → outputCount (joinR b c w) ≡ w
-count-joinR true true w = count-merge (joinName + 2) w returnedName
-count-joinR true false w = count-except (joinName + 2) w (returnedName true)
-count-joinR false true w = count-except (joinName + 2) w (returnedName false)
-count-joinR false false w = count-copied (joinName + 2) w
-
--- The iterated outputs of an if, by its arms.
-pub if-iterates : (t : Exp) (x y : Body) → AdmittedB (ifB t x y)
-    → iteratedOutputs (ifB t x y) ≡ cond (iterates x) (iterated x) (cond (iterates y) (iterated y) 0)
-unfolding iterated
-if-iterates t x y h = iterated-outputs (ifB t x y) ∙ go (iterates x) refl (iterates y) refl
-  where
-    go : (b : Bool) → iterates x ≡ b → (c : Bool) → iterates y ≡ c → iterated (ifB t x y) ≡ cond b (iterated x) (cond c (iterated y) 0)
-    go true p c q = iterated-first t x y h p
-    go false p true q = iterated-second t x y h q
-    go false p false q = rw (iterated-none x p, iterated-none y q) refl
-
-joined-used : (both : Bool) (i r : Graph) → (both ≡ true → free i (joinName + 1) ≡ true) → free r (joinName + 2) ≡ true
-    → Used (joinNames both) (beside (wire joinName) (beside i r))
-unfolding free joinNames memberOf
-joined-used both i r p q k m = go (eqb joinName k) refl (eqb (joinName + 2) k) refl
-  where
-    second : (b : Bool) → both ≡ b → memberOf (joinNames b) k ≡ true → eqb joinName k ≡ false → eqb (joinName + 2) k ≡ false
-        → free i k || free r k ≡ true
-    second true e m n₁ n₃ =
-        let s : eqb (joinName + 1) k || false ≡ true = rw (n₁, n₃) at m in
-        or-left (free i k) (free r k) (ap (free i) (sym (eqb-true (joinName + 1) k (or-single (eqb (joinName + 1) k) s))) ∙ p e)
-    second false e m n₁ n₃ = let z : false ≡ true = rw (n₁, n₃) at m in absurd (false≢true z)
-
-    go : (b : Bool) → eqb joinName k ≡ b → (c : Bool) → eqb (joinName + 2) k ≡ c → b || (free i k || free r k) ≡ true
-    go true e c d = refl
-    go false e true d = or-right (free i k) (free r k) (ap (free r) (sym (eqb-true (joinName + 2) k d)) ∙ q)
-    go false e false d = second both refl m e d
-
-module _ (w : ℕ) (t : Exp) (x y : Body) (a : AdmittedB (ifB t x y)) where
-  fit-joined : 1 ≤ w → w ≤ 16 → Fit (joined w x y)
-  unfolding joined outputCount gateInputs gateOutputs joinNames
-  fit-joined h l = (
-    (((omega arith, (omega arith, omega arith)), refl)),
-    (
-      omega arith,
-      (
-        rw (joinI-is x y) (fit-joinI (iterates x) (iterates y) (iterated x) (iterated y) (iterated-16 x (a .2)) (iterated-16 y (a .3))),
-        rw (joinR-is w x y) (fit-joinR (returns x) (returns y) w l),
-      ),
-    ),
-    ports (iterates x && iterates y),
-    join-different (iterates x && iterates y),
-    joined-used (iterates x && iterates y) (iteratedJoin x y) (returnedJoin w x y)
-        (λ e. rw (joinI-is x y) (second (iterates x) (iterates y) refl refl e)) (rw (joinR-is w x y) (joinR-control (returns x) (returns y) w h)),
-  )
-    where
-      ports : (both : Bool) → cond both 3 2 ≡ length (joinNames both)
-      ports true = refl
-      ports false = refl
-
-      second : (b c : Bool) → iterates x ≡ b → iterates y ≡ c → b && c ≡ true → free (joinI b c (iterated x) (iterated y)) (joinName + 1) ≡ true
-      second true true p q e = merge-control (joinName + 1) iteratedName (iterated x) (iterated-some x (a .2) p)
-      second true false p q e = absurd (false≢true e)
-      second false c p q e = absurd (false≢true e)
-
-  count-joined : outputCount (joined w x y) ≡ suc (iteratedOutputs (ifB t x y) + w)
-  unfolding joined outputCount
-  count-joined =
-      let i : outputCount (iteratedJoin x y) ≡ iteratedOutputs (ifB t x y) =
-      ap outputCount (joinI-is x y) ∙ count-joinI (iterates x) (iterates y) (iterated x) (iterated y) ∙ sym (if-iterates t x y a)
-      in
-      let r : outputCount (returnedJoin w x y) ≡ w = ap outputCount (joinR-is w x y) ∙ count-joinR (returns x) (returns y) w in
-      omega arith
+use Rattle.yields.specs.FitParts.{count-merge, fit-merge, Arms, fit-choice, fit-joined, count-joined}
 
 -- ---- the graph of a formula
 
@@ -328,6 +112,45 @@ body-names w a b y h p s c =
     (bound-used a b (freeB y) (graphB w y) s c (free-B w y h) a (member-upFrom a b a ∙ ap₂ _&&_ (le-leb a a (omega arith)) (lt-ltb a (a + b) (omega arith))))
     (free-B w y h 32 ∙ body-triggered y h)
 
+-- ---- the arms of an if
+
+module _ (t x y : Exp) (h : AdmittedE (ifE t x y)) where
+  pub arms-of-E : Fit (graphE x) → Fit (graphE y)
+      → Arms (upFrom (returnedName true) (width x)) (freeE x) (graphE x) (upFrom (returnedName false) (width x)) (freeE y) (graphE y)
+  arms-of-E p q =
+      record {
+        fit-a = p;
+        fit-b = q;
+        count-a = count-E x (h .2) ∙ sym (length-upFrom (returnedName true) (width x));
+        count-b = count-E y (h .3) ∙ sym (if-fits t x y (h .0 .0) .1) ∙ sym (length-upFrom (returnedName false) (width x));
+        small-f = small-E x (h .2);
+        small-g = small-E y (h .3);
+        has-f = free-E x (h .2);
+        has-g = free-E y (h .3);
+        from-n = results-from-test true (width x);
+        from-m = results-from-test false (width x);
+      }
+
+module _ (w : ℕ) (t : Exp) (x y : Body) (h : AdmittedB (ifB t x y)) (r : Returning w (ifB t x y)) where
+  pub arms-of-B : Fit (graphB w x) → Fit (graphB w y)
+      → Arms (armNames true w x) (freeB x) (graphB w x) (armNames false w y) (freeB y) (graphB w y)
+  arms-of-B p q =
+      let s = arms-returning w t x y h r in
+      record {
+        fit-a = p;
+        fit-b = q;
+        count-a = count-B w x (h .2) (s .0) ∙ sym (length-arm-names true w x);
+        count-b = count-B w y (h .3) (s .1) ∙ sym (length-arm-names false w y);
+        small-f = small-B x (h .2);
+        small-g = small-B y (h .3);
+        has-f = free-B w x (h .2);
+        has-g = free-B w y (h .3);
+        from-n = arm-from-test true w x;
+        from-m = arm-from-test false w y;
+      }
+
+-- ---- fit
+
 mutual
   unfolding outputCount gateOutputs gateInputs graphE graphB boundE boundB
 
@@ -350,19 +173,10 @@ mutual
       fit-choice (graphE t) (upFrom (returnedName true) (width x)) (freeE x) (graphE x) (upFrom (returnedName false) (width x)) (freeE y)
       (graphE y) (mergeRow testName returnedName (width x))
       (record {
+        arms = arms-of-E t x y h (fit-E x (h .2)) (fit-E y (h .3));
         fit-t = fit-E t (h .1);
-        fit-a = fit-E x (h .2);
-        fit-b = fit-E y (h .3);
         fit-j = fit-merge testName (width x) returnedName (omega arith) (omega arith) (omega arith);
         one-test = count-E t (h .1) ∙ f .0;
-        count-a = count-E x (h .2) ∙ sym (length-upFrom (returnedName true) (width x));
-        count-b = count-E y (h .3) ∙ sym (f .1) ∙ sym (length-upFrom (returnedName false) (width x));
-        small-f = small-E x (h .2);
-        small-g = small-E y (h .3);
-        has-f = free-E x (h .2);
-        has-g = free-E y (h .3);
-        from-n = results-from-test true (width x);
-        from-m = results-from-test false (width x);
         different-n = different-upFrom (returnedName true) (width x) (omega arith);
         different-m = different-upFrom (returnedName false) (width x) (omega arith);
         apart = λ k m. below-upFrom 84 (width x) k (omega (arith, w, upFrom-holds 51 (width x) k m));
@@ -402,19 +216,10 @@ mutual
       let ny : Narrow w y = narrow w y (h .3) (r .at-most) in
       fit-choice (graphE t) (armNames true w x) (freeB x) (graphB w x) (armNames false w y) (freeB y) (graphB w y) (joined w x y)
       (record {
+        arms = arms-of-B w t x y h r (fit-B w x (h .2) (s .0)) (fit-B w y (h .3) (s .1));
         fit-t = fit-E t (h .1);
-        fit-a = fit-B w x (h .2) (s .0);
-        fit-b = fit-B w y (h .3) (s .1);
         fit-j = fit-joined w t x y h (r .some-width) (r .at-most);
         one-test = count-E t (h .1) ∙ if-fits-B t x y (h .0 .0) .0;
-        count-a = count-B w x (h .2) (s .0) ∙ sym (length-arm-names true w x);
-        count-b = count-B w y (h .3) (s .1) ∙ sym (length-arm-names false w y);
-        small-f = small-B x (h .2);
-        small-g = small-B y (h .3);
-        has-f = free-B w x (h .2);
-        has-g = free-B w y (h .3);
-        from-n = arm-from-test true w x;
-        from-m = arm-from-test false w y;
         different-n = arm-different true w x nx;
         different-m = arm-different false w y ny;
         apart = arms-apart w x y nx;

@@ -1,20 +1,20 @@
 -- The inputs of a formula's graph are the formula's free names (document 01: "The free names of a row form a set over 33 places"; Brock, section
 -- 2.4: "an input port for each free variable .. and, optionally, an input port trigger"). Assumes an admitted tree.
-use Prim.Native.Nat.{ℕ, zero, suc, _+_, _≤_, _<_}
+use Prim.Native.Nat.{ℕ, suc, _+_, _≤_, _<_}
 use mathlib.Core.Path.{_≡_, refl, sym, ap, ap₂, _∙_}
-use mathlib.Core.Bool.{Bool, true, false, not, cond, _&&_, _||_, false≢true}
-use mathlib.Core.List.{List, [], _∷_, _++_}
-use lib.Dec.{eqb, ltb}
-use borrow.Author.Tests.{ne-eqb, eq-eqb, eqb-true}
+use mathlib.Core.Bool.{Bool, true, false, not, _&&_, _||_}
+use mathlib.Core.List.{List}
+use lib.Dec.{eqb}
+use borrow.Author.Tests.{ne-eqb, eqb-true}
 use native.Mathlib.Omega.{arith}
 use Rattle.names.specs.Names.{Names, trigger, one, union, without, range, size, sizeFrom, bit}
 use Rattle.names.proofs.Counts.{sizeFrom-suc, sizeFrom-mono}
 use Rattle.formula.specs.Tree.{Exp, identifier, whole, truth, pair, operator, letE, ifE, forE, Body, ret, iter, letB, ifB}
-use Rattle.formula.specs.Widths.{width, returned, iterated}
-use Rattle.formula.specs.Free.{freeE, freeB, covers, boundE, boundB}
+use Rattle.formula.specs.Widths.{width, returned}
+use Rattle.formula.specs.Free.{freeE, freeB, covers}
 use Rattle.formula.specs.Admitted.{AdmittedE, AdmittedB}
-use Rattle.graph.specs.Assembly.{Graph, wire, nothing, beside, bind, gate, loop, free, memberOf, upFrom}
-use Rattle.graph.specs.Translation.{testName, iterName, iteratedName, returnedName, mergeRow, armNames, joined, graphE, graphB}
+use Rattle.graph.specs.Assembly.{Graph, free, memberOf, upFrom}
+use Rattle.graph.specs.Translation.{testName, returnedName, mergeRow, armNames, joined, graphE, graphB}
 use Rattle.yields.specs.Naming.{or-false, or-left, or-right, Small, member-upFrom, below-upFrom, above-upFrom}
 use Rattle.yields.specs.Choice.{choice, choice-free, Has, From, unseen, kept}
 use Rattle.yields.specs.Joins.{merge-lacks}

@@ -1,20 +1,19 @@
 -- What each gate gives for what comes to it, and that it takes all of that (document 01, "Rules, control first"; Brock, figure 2.9 and the
 -- table of the IC gate in section 2.4), read off the table of rules by what the control is: true, false or neither.
-use Prim.Native.Nat.{ℕ, zero, suc, _+_, _≤_, _<_}
-use mathlib.Core.Path.{_≡_, refl, sym, ap, _∙_}
-use mathlib.Core.Bool.{Bool, true, false, cond, _||_, false≢true}
+use Prim.Native.Nat.{ℕ}
+use mathlib.Core.Path.{_≡_, refl, ap, _∙_}
+use mathlib.Core.Bool.{Bool, true, false}
 use mathlib.Core.List.{List, [], _∷_}
 use mathlib.Core.Option.{Option, none, some}
 use lib.ListN.{length, getD}
-use lib.Dec.{eqb}
 use native.Mathlib.Omega.{arith}
 use Rattle.value.specs.declared.Value.{Value}
 use Rattle.value.specs.Operators.{operands, pick}
-use Rattle.network.specs.Values.{true-value, false-value, err-value, Sense, is-true, is-false, is-neither, sense, one-operand, apply, only-one-true, only-one-false}
+use Rattle.network.specs.Values.{true-value, false-value, err-value, Sense, is-true, is-false, is-neither, sense, one-operand, apply}
 use Rattle.network.specs.Rules.{Input, first, second, third, Firing, T-rule, F-rule, M-rule, E-rule, chosen, IC-table}
-use Rattle.network.specs.Decide.{Taken, Decision, decided, also, untouched}
-use Rattle.graph.specs.Assembly.{Gate, const, oper, T, F, M, E, IC, gateOutputs}
-use Rattle.graph.specs.Yields.{Fires, rests, fires, TakesAll, absent, present, waiting}
+use Rattle.network.specs.Decide.{Decision, decided, also, untouched}
+use Rattle.graph.specs.Assembly.{const, oper, T, F, M, E, IC, gateOutputs}
+use Rattle.graph.specs.Yields.{Fires, rests, fires, present, waiting}
 
 -- A decision that takes these inputs and gives these values, the register being left alone.
 abbrev decision : Bool → Bool → Bool → Option Value → Option Value → Option Value → Option Value → Decision

@@ -1,36 +1,34 @@
 -- An if behind its test meets its evaluation (document 01: "of an if only the chosen arm"; "An if whose test is no truth gives err for each of its
 -- values; in a body it ends the loop with err for each returned value"), where each arm meets its own. Expressions first, then bodies.
-use Prim.Native.Nat.{ℕ, zero, suc, _+_, _-_, _≤_, _<_}
-use mathlib.Core.Path.{_≡_, refl, sym, ap, _∙_, subst}
-use mathlib.Core.Bool.{Bool, true, false, cond, _&&_, _||_, false≢true}
-use mathlib.Core.List.{List, [], _∷_, _++_}
-use mathlib.Core.Option.{Option, none, some}
-use lib.ListN.{length, getD, replicate}
+use Prim.Native.Nat.{ℕ, _+_, _-_, _≤_}
+use mathlib.Core.Path.{_≡_, refl, _∙_, subst}
+use mathlib.Core.Bool.{true, false}
+use mathlib.Core.List.{List}
+use mathlib.Core.Option.{Option, some}
+use lib.ListN.{length, replicate}
 use native.Mathlib.Omega.{arith}
 use Rattle.value.specs.declared.Value.{Value}
 use Rattle.value.specs.declared.Value.the-variants.{Whole, Truth, Err}
 use Rattle.network.specs.Values.{true-value, false-value, is-neither, sense}
-use Rattle.formula.specs.Tree.{Exp, ifE, Body, ret, iter, letB, ifB}
-use Rattle.formula.specs.Widths.{width, returned, iterated}
-use Rattle.formula.specs.Free.{freeE, freeB}
-use Rattle.formula.specs.Count.{returns as returnsAlways, iterates}
-use Rattle.formula.specs.Admitted.{AdmittedE, AdmittedB}
-use Rattle.meaning.specs.Meaning.{Env, bind, Outcome, yields, Ending, again, returns, thenB, branch, evalE, evalB}
-use Rattle.meaning.specs.WidthLaws.{Sized, SizedB, if-fits}
-use Rattle.graph.specs.Assembly.{Graph, memberOf, upFrom}
+use Rattle.formula.specs.Tree.{Exp, ifE}
+use Rattle.formula.specs.Widths.{width}
+use Rattle.formula.specs.Free.{freeE}
+use Rattle.formula.specs.Admitted.{AdmittedE}
+use Rattle.meaning.specs.Meaning.{Env, Outcome, yields, branch, evalE}
+use Rattle.meaning.specs.WidthLaws.{Sized}
+use Rattle.graph.specs.Assembly.{Graph, upFrom}
 use Rattle.graph.specs.Yields.{Values, absent, present, bound, Yields}
-use Rattle.graph.specs.Translation.{testName, iterName, iteratedName, returnedName, mergeRow, armNames, joined, graphE, graphB}
-use Rattle.yields.specs.Naming.{length-upFrom, within-upFrom, below-upFrom, or-left, or-right}
-use Rattle.yields.specs.BodyWidths.{not-too-wide, iteratedOutputs, returnedOutputs, iterated-outputs, returned-outputs, iterated-first, iterated-second}
+use Rattle.graph.specs.Translation.{testName, returnedName, mergeRow, graphE}
+use Rattle.yields.specs.Naming.{within-upFrom, below-upFrom}
+use Rattle.yields.specs.BodyWidths.{not-too-wide}
 use Rattle.yields.specs.Choice.{From}
-use Rattle.yields.specs.ArmNames.{Narrow, narrow, length-arm-names, arm-from-test}
-use Rattle.yields.specs.FreeNames.{small-E, small-B, free-E, free-B, results-from-test}
-use Rattle.yields.specs.FitGraphs.{fit-E, fit-B, count-E, count-B, Returning, arms-returning}
-use Rattle.yields.specs.Lookups.{length-present, present-at, length-absent, absent-append, bound-other, bound-absent, bound-up}
-use Rattle.yields.specs.Branches.{Arms, behind, AllAt, chosen-true, chosen-true-stops, chosen-false, chosen-false-stops, chosen-neither}
+use Rattle.yields.specs.FreeNames.{small-E, results-from-test}
+use Rattle.yields.specs.FitParts.{Arms}
+use Rattle.yields.specs.FitGraphs.{fit-E, arms-of-E}
+use Rattle.yields.specs.Lookups.{length-present, present-at, bound-other, bound-absent, bound-up}
+use Rattle.yields.specs.Branches.{behind, AllAt, chosen-true, chosen-true-stops, chosen-false, chosen-false-stops, chosen-neither}
 use Rattle.yields.specs.JoinRows.{Hold, Empty, merge-second, merge-third, merge-err}
-use Rattle.yields.specs.BodyJoin.{Given, given, given-still, first-iterates, second-iterates, first-returns, second-returns, neither-arm}
-use Rattle.yields.specs.Meets.{Holds, holds-beside, all-held, Meets, MeetsB}
+use Rattle.yields.specs.Meets.{Holds, holds-beside, all-held, Meets}
 
 -- Names from 34 on are names from 33 on.
 from-33 : (ns : List ℕ) → From 34 ns → From 33 ns
@@ -68,18 +66,7 @@ module _ (n : ℕ) (small : n ≤ 16) (ρ : Values) where
 
 module _ (t x y : Exp) (adm : AdmittedE (ifE t x y)) where
   pub exp-arms : Arms (upFrom (returnedName true) (width x)) (freeE x) (graphE x) (upFrom (returnedName false) (width x)) (freeE y) (graphE y)
-  exp-arms =
-      record {
-        fit-a = fit-E x (adm .2);
-        fit-b = fit-E y (adm .3);
-        count-a = count-E x (adm .2) ∙ sym (length-upFrom (returnedName true) (width x));
-        count-b = count-E y (adm .3) ∙ sym (if-fits t x y (adm .0 .0) .1) ∙ sym (length-upFrom (returnedName false) (width x));
-        small-f = small-E x (adm .2);
-        small-g = small-E y (adm .3);
-        has-f = free-E x (adm .2);
-        has-g = free-E y (adm .3);
-        from-n = results-from-test true (width x);
-      }
+  exp-arms = arms-of-E t x y adm (fit-E x (adm .2)) (fit-E y (adm .3))
 
   abbrev pub exp-behind : Graph
   exp-behind =

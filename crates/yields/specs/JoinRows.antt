@@ -1,19 +1,18 @@
 -- What joins the arms of an if yields (document 01, "The graph": "Its iterated results join by M on the second IC output where both arms iterate,
 -- else pass straight. Its returned results .. join by M on the third output where both arms return, by E where one does; where neither does,
 -- each is a copy of that third output"), by which arm gave its results, or neither.
-use Prim.Native.Nat.{ℕ, zero, suc, _+_, _-_, _≤_, _<_}
-use mathlib.Core.Path.{_≡_, refl, sym, ap, _∙_, subst}
+use Prim.Native.Nat.{ℕ, _+_, _<_}
+use mathlib.Core.Path.{_≡_, refl, sym, ap, _∙_}
 use mathlib.Core.Bool.{Bool, true, false, cond, _&&_, false≢true}
-use mathlib.Core.List.{List, [], _∷_, _++_}
+use mathlib.Core.List.{List}
 use mathlib.Core.Option.{Option, none, some}
 use lib.ListN.{length, getD, replicate, length-replicate, getD-replicate}
 use native.Mathlib.Omega.{arith}
 use Rattle.value.specs.declared.Value.{Value}
 use Rattle.value.specs.declared.Value.the-variants.{Err}
 use Rattle.network.specs.Values.{true-value, false-value, err-value, Sense, is-true, is-false, is-neither, sense}
-use Rattle.graph.specs.Assembly.{Graph, nothing, Gate, M, E}
-use Rattle.graph.specs.Yields.{Values, absent, present, Yields, Fires}
-use Rattle.graph.specs.Translation.{iteratedName, returnedName, joinName, mergeRow, exceptRow, straight, copied}
+use Rattle.graph.specs.Yields.{Values, absent, present, Yields}
+use Rattle.graph.specs.Translation.{iteratedName, returnedName, joinName, mergeRow, exceptRow, straight}
 use Rattle.yields.specs.Gates.{M-second, M-third, M-err, M-rests, E-passes, E-err, E-rests, differ}
 use Rattle.yields.specs.Joins.{joinI, joinR}
 use Rattle.yields.specs.Lookups.{length-present, present-at, present-replicate, length-absent, absent-at}

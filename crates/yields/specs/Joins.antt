@@ -1,24 +1,19 @@
 -- What joins the arms of an if (graph/specs/Translation: rows of M and E gates, results that pass straight, copies, the IC gate): which names
 -- these graphs use. Document 01, "The graph": "An output with no user is not emitted", and each output that is, has one.
-use Prim.Native.Nat.{ℕ, zero, suc, _+_, _-_, _≤_, _<_}
+use Prim.Native.Nat.{ℕ, _+_, _-_, _≤_, _<_}
 use mathlib.Core.Path.{_≡_, refl, sym, ap, _∙_}
-use mathlib.Core.Bool.{Bool, true, false, not, cond, _&&_, _||_, false≢true}
-use mathlib.Core.List.{List, [], _∷_, _++_}
-use lib.ListN.{length}
-use lib.Dec.{eqb, ltb}
-use borrow.Author.Tests.{eqb-true, eqb-false, eq-eqb, ne-eqb, ltb-true, ltb-false}
+use mathlib.Core.Bool.{Bool, true, false, cond, _&&_, _||_, false≢true}
+use mathlib.Core.List.{List}
+use lib.Dec.{eqb}
+use borrow.Author.Tests.{eqb-false, eq-eqb, ne-eqb}
 use native.Mathlib.Omega.{arith}
-use Rattle.names.specs.Names.{Names, one, union, without}
-use Rattle.formula.specs.Tree.{Exp, Body, ifB}
+use Rattle.formula.specs.Tree.{Body}
 use Rattle.formula.specs.Widths.{iterated}
 use Rattle.formula.specs.Count.{returns, iterates}
-use Rattle.formula.specs.Admitted.{AdmittedB}
-use Rattle.graph.specs.Assembly.{Graph, wire, nothing, beside, bind, gate, loop, Gate, M, E, IC, free, memberOf, upFrom, nameCount}
-use Rattle.graph.specs.Fit.{Different}
-use Rattle.graph.specs.Translation.{testName, iterName, iteratedName, returnedName, joinName, row, merged, excepted, mergeRow, exceptRow, straight, copied, iteratedJoin, returnedJoin, armNames, joinNames, joined}
-use Rattle.yields.specs.Naming.{or-true, or-false, or-left, or-right, or-neither, length-upFrom, within-upFrom, below-upFrom, above-upFrom, upFrom-holds, member-append, different-upFrom, different-append, Apart}
-use Rattle.yields.specs.BodyWidths.{iteratedOutputs, returnedOutputs, iterated-outputs, returned-outputs, returned-outputs-le, iterated-16, iterated-both, iterated-some, iterated-none}
-use Rattle.yields.specs.Choice.{From, row-lacks, row-has, gone, kept, unseen}
+use Rattle.graph.specs.Assembly.{Graph, wire, nothing, free, memberOf, upFrom}
+use Rattle.graph.specs.Translation.{iteratedName, returnedName, joinName, row, merged, excepted, mergeRow, exceptRow, straight, copied, iteratedJoin, returnedJoin, joinNames}
+use Rattle.yields.specs.Naming.{or-false, or-left, or-right, or-neither, within-upFrom, upFrom-holds}
+use Rattle.yields.specs.Choice.{row-lacks, row-has}
 
 -- ---- rows over the numbers below w
 

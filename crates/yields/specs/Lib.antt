@@ -5,6 +5,7 @@ pub mod Joins
 pub mod ArmNames
 pub mod FreeNames
 pub mod BareOutputs
+pub mod FitParts
 pub mod FitGraphs
 pub mod Gates
 pub mod Lookups

@@ -1,21 +1,20 @@
 -- The rounds of a loop (document 01: "a round is one entry into a loop body"; "An iter starts the body again with its identifiers rebound; another
 -- ending returns its values"): where each round of the body meets its evaluation, the loop meets the evaluation of its rounds.
-use Prim.Native.Nat.{ℕ, zero, suc, _+_, _-_, _≤_, _<_}
-use mathlib.Core.Path.{_≡_, refl, sym, ap, _∙_, subst}
+use Prim.Native.Nat.{ℕ, zero, suc, _+_, _-_, _≤_}
+use mathlib.Core.Path.{_≡_, sym, subst}
 use mathlib.Core.Bool.{true, false}
-use mathlib.Core.List.{List, [], _∷_, _++_}
-use mathlib.Core.Option.{Option, none, some}
+use mathlib.Core.List.{List}
+use mathlib.Core.Option.{none, some}
 use lib.ListN.{length}
 use native.Mathlib.Omega.{arith}
 use Rattle.value.specs.declared.Value.{Value}
-use Rattle.network.specs.Values.{true-value, false-value}
-use Rattle.formula.specs.Tree.{Exp, Body}
+use Rattle.formula.specs.Tree.{Body}
 use Rattle.formula.specs.Widths.{returned}
 use Rattle.meaning.specs.Meaning.{Env, bind, Outcome, yields, Ending, again, returns, then, after, evalB}
 use Rattle.meaning.specs.Rounds.{Within, WithinB, turns, turns-none, turns-step, within-B}
 use Rattle.meaning.specs.WidthLaws.{Sized, SizedB}
 use Rattle.graph.specs.Assembly.{Graph, loop, memberOf, free}
-use Rattle.graph.specs.Yields.{Values, Answer, absent, present, bound, outputCount, Yields, Spins, Looped}
+use Rattle.graph.specs.Yields.{Values, present, bound, Yields, Spins, Looped}
 use Rattle.yields.specs.Meets.{Part, Meets, MeetsB}
 
 module _ (k r : ℕ) (B : List Value → Part) (y : Body) (a b : ℕ) (outer : Env)

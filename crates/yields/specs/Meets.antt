@@ -1,27 +1,24 @@
 -- What it is for a graph to yield what an evaluation yields: the same values in as many rounds as the evaluation used, or no end within the rounds
 -- lent. Then one law for each way in which evaluations are put together (meaning/specs/Meaning: then, loop). Assumes nothing of the formula.
-use Prim.Native.Nat.{ℕ, zero, suc, _+_, _-_, _≤_, _<_}
+use Prim.Native.Nat.{ℕ, _+_, _-_, _≤_, _<_}
 use mathlib.Core.Path.{_≡_, refl, sym, ap, _∙_, subst}
-use mathlib.Core.Bool.{Bool, true, false, not, _&&_, _||_, false≢true}
+use mathlib.Core.Bool.{Bool, true, false, false≢true}
 use mathlib.Core.List.{List, [], _∷_, _++_}
 use mathlib.Core.Option.{Option, none, some}
-use lib.ListN.{length, getD}
-use lib.Dec.{eqb, leb, ltb}
-use borrow.Author.Tests.{leb-true, leb-false, ltb-true, ltb-false, eq-eqb, le-leb, lt-leb, lt-ltb, le-ltb}
+use lib.ListN.{length}
+use lib.Dec.{leb, ltb}
+use borrow.Author.Tests.{leb-true, leb-false, ltb-true, ltb-false}
 use native.Mathlib.Omega.{arith}
 use Rattle.value.specs.declared.Value.{Value}
-use Rattle.value.specs.declared.Value.the-variants.{Err}
-use Rattle.names.specs.Names.{Names, trigger, range, without, union}
+use Rattle.names.specs.Names.{Names, trigger, range, without}
 use Rattle.network.specs.Values.{true-value, false-value}
-use Rattle.formula.specs.Tree.{Exp, Body}
-use Rattle.formula.specs.Widths.{returned}
-use Rattle.meaning.specs.Meaning.{Env, bind, Outcome, yields, Ending, again, returns, then, thenB, after, evalB}
-use Rattle.meaning.specs.Rounds.{Within, WithinB, turns, turns-none, turns-step}
-use Rattle.meaning.specs.WidthLaws.{Sized, SizedB}
+use Rattle.meaning.specs.Meaning.{Env, bind, Outcome, yields, Ending, again, returns, then, thenB}
+use Rattle.meaning.specs.Rounds.{Within, WithinB}
+use Rattle.meaning.specs.WidthLaws.{Sized}
 use Rattle.meaning.specs.Binding.{bound-among, bound-before, bound-behind}
-use Rattle.graph.specs.Assembly.{Graph, wire, nothing, beside, bind as binding, gate, loop, Gate, memberOf, upFrom}
-use Rattle.graph.specs.Yields.{Values, Answer, absent, present, bound, Yields, Sequel, Beside, Gated, Fires, Spins}
-use Rattle.yields.specs.Naming.{Small, length-upFrom, member-upFrom, upFrom-holds, below-upFrom, above-upFrom}
+use Rattle.graph.specs.Assembly.{Graph, beside, bind as binding, gate, Gate, memberOf, upFrom}
+use Rattle.graph.specs.Yields.{Values, Answer, absent, present, bound, Yields, Sequel, Beside, Gated, Fires}
+use Rattle.yields.specs.Naming.{Small, member-upFrom, below-upFrom, above-upFrom}
 use Rattle.yields.specs.Branches.{AllAt}
 use Rattle.yields.specs.Choice.{From, kept}
 use Rattle.yields.specs.Lookups.{length-present, present-append, present-at, bound-other, bound-up}

@@ -1,6 +1,6 @@
 -- What rows of gates and wires yield: one value after another, in no round. Rounds are counted with an equation, so that callers need not write
 -- their sums. Assumes nothing of the formula.
-use Prim.Native.Nat.{ℕ, zero, suc, _+_, _-_, _≤_, _<_}
+use Prim.Native.Nat.{ℕ, _+_, _<_}
 use mathlib.Core.Path.{_≡_, refl, sym, ap, _∙_, subst}
 use mathlib.Core.Bool.{Bool, true, false}
 use mathlib.Core.List.{List, [], _∷_, _++_, map}
@@ -10,10 +10,10 @@ use lib.Dec.{eqb}
 use borrow.Author.Tests.{eq-eqb}
 use native.Mathlib.Omega.{arith}
 use Rattle.value.specs.declared.Value.{Value}
-use Rattle.graph.specs.Assembly.{Graph, wire, nothing, beside, bind, gate, loop, Gate, T, F, M, E, IC, memberOf, upFrom}
-use Rattle.graph.specs.Yields.{Values, Answer, Yields, Sequel, Beside, Gated, Fires, before, bound}
+use Rattle.graph.specs.Assembly.{Graph, wire, beside, bind, gate, Gate, M, E, memberOf, upFrom}
+use Rattle.graph.specs.Yields.{Values, Answer, Yields, Sequel, Beside, Gated, Fires, bound}
 use Rattle.graph.specs.Translation.{testName, row, gated, merged, excepted, mergeRow, exceptRow, straight, copied}
-use Rattle.yields.specs.Naming.{or-left, or-right, length-upFrom, upFrom-holds}
+use Rattle.yields.specs.Naming.{or-left, or-right, upFrom-holds}
 use Rattle.yields.specs.Lookups.{by-place}
 
 -- ---- one part after another, and side by side

@@ -1,8 +1,8 @@
 -- What a fit graph yields has as many values as the graph has outputs, and depends on the values of its free names alone. Both want a fit graph:
 -- where a part has fewer outputs than names are bound to them, the rest of these names keep the values that they had outside.
-use Prim.Native.Nat.{ℕ, zero, suc, _+_, _-_, _≤_, _<_}
+use Prim.Native.Nat.{ℕ, suc, _+_, _-_}
 use mathlib.Core.Path.{_≡_, refl, sym, ap, _∙_, subst}
-use mathlib.Core.Bool.{Bool, true, false, not, cond, _&&_, _||_, false≢true}
+use mathlib.Core.Bool.{Bool, true, false, not, cond, _&&_}
 use mathlib.Core.List.{List, [], _∷_, _++_}
 use mathlib.Core.Option.{Option, none, some}
 use lib.ListN.{length, length-append}
@@ -15,7 +15,7 @@ use Rattle.network.specs.Decide.{Decision}
 use Rattle.graph.specs.Assembly.{Gate, const, oper, T, F, M, E, IC, gateOutputs, Graph, wire, nothing, beside, bind, gate, loop, free, memberOf}
 use Rattle.graph.specs.Yields.{Values, Answer, absent, present, bound, given, Fires, rests, fires, Sequel, Beside, before, Gated, Spins, Looped, outputCount, Yields}
 use Rattle.graph.specs.Fit.{Fit}
-use Rattle.yields.specs.Naming.{or-left, or-right, or-neither}
+use Rattle.yields.specs.Naming.{or-left, or-right}
 use Rattle.yields.specs.Choice.{kept}
 use Rattle.yields.specs.FitGraphs.{count-loop}
 use Rattle.yields.specs.Lookups.{length-present, length-absent}

@@ -1,39 +1,38 @@
 -- The graph of an admitted formula yields what direct evaluation yields, in as many rounds (document 01, "The meaning" and "The graph"; Brock leaves
 -- the agreement of his two meanings open). By induction over the tree: an expression's values, or no end within the rounds lent; for a body with w
 -- returned values in the whole loop, iter? with its iterated or its returned values.
-use Prim.Native.Nat.{ℕ, zero, suc, _+_, _-_, _≤_, _<_}
+use Prim.Native.Nat.{ℕ, _-_}
 use mathlib.Core.Path.{_≡_, refl, sym, ap, _∙_, subst}
-use mathlib.Core.Bool.{Bool, true, false, not, cond, _&&_, _||_, false≢true}
+use mathlib.Core.Bool.{true, false}
 use mathlib.Core.List.{List, [], _∷_, _++_}
 use mathlib.Core.Option.{Option, none, some}
-use lib.ListN.{length, getD, replicate}
+use lib.ListN.{length, getD}
 use lib.Dec.{eqb}
 use lib.IntN.{pos}
 use borrow.Author.Tests.{eq-eqb, ne-eqb}
 use native.Mathlib.Omega.{arith}
 use Rattle.value.specs.declared.Value.{Value}
 use Rattle.value.specs.declared.Value.the-variants.{Whole, Truth, Err}
-use Rattle.value.specs.Operators.{operands, apply}
+use Rattle.value.specs.Operators.{apply}
 use Rattle.names.specs.Names.{Names, trigger, one, union, without, range}
-use Rattle.network.specs.Values.{true-value, false-value}
+use Rattle.network.specs.Values.{true-value}
 use Rattle.formula.specs.Tree.{Exp, identifier, whole, truth, pair, operator, letE, ifE, forE, Body, ret, iter, letB, ifB}
 use Rattle.formula.specs.Widths.{width, returned, iterated}
 use Rattle.formula.specs.Free.{freeE, freeB}
 use Rattle.formula.specs.Count.{returns as returnsAlways, iterates}
 use Rattle.formula.specs.Admitted.{AdmittedE, AdmittedB}
-use Rattle.meaning.specs.Meaning.{Env, bind, Outcome, yields, Ending, again, returns, then, thenB, branch, evalE, evalB}
-use Rattle.meaning.specs.Rounds.{Within, WithinB, within, within-B, turns, for-turns}
-use Rattle.meaning.specs.WidthLaws.{Sized, SizedB, sized, sized-B, operator-fits, let-fits, if-fits, for-fits, let-fits-B, if-fits-B, Suits}
-use Rattle.graph.specs.Assembly.{Graph, wire, nothing, beside, bind as binding, gate, loop, Gate, const, oper, memberOf, upFrom, free}
-use Rattle.graph.specs.Yields.{Values, Answer, absent, present, bound, Yields, Beside, Gated, Fires}
+use Rattle.meaning.specs.Meaning.{Env, bind, Outcome, yields, Ending, again, returns, thenB, branch, evalE, evalB}
+use Rattle.meaning.specs.Rounds.{Within, WithinB, within, within-B, turns}
+use Rattle.meaning.specs.WidthLaws.{Sized, SizedB, sized, sized-B, operator-fits, let-fits, if-fits, for-fits, let-fits-B, if-fits-B}
+use Rattle.graph.specs.Assembly.{Graph, beside, const, oper, memberOf, upFrom}
+use Rattle.graph.specs.Yields.{Values, present, bound, Yields, Gated, Fires}
 use Rattle.graph.specs.Translation.{testName, constantOf, graphE, graphB}
 use Rattle.yields.specs.Naming.{or-false, or-left, or-right, length-upFrom, member-upFrom}
-use Rattle.yields.specs.BodyWidths.{sound-E, sound-B, iteratedOutputs, returnedOutputs, iterated-outputs, returned-outputs}
+use Rattle.yields.specs.BodyWidths.{sound-E, sound-B, iteratedOutputs, returnedOutputs, iterated-outputs}
 use Rattle.yields.specs.Choice.{From, kept, unseen}
 use Rattle.yields.specs.Gates.{const-fires, operator-fires}
-use Rattle.yields.specs.FreeNames.{small-E, small-B, free-B}
+use Rattle.yields.specs.FreeNames.{small-B, free-B}
 use Rattle.yields.specs.FitGraphs.{Returning, let-returning, arms-returning, loop-returning, loop-outputs}
-use Rattle.yields.specs.Lookups.{bound-other}
 use Rattle.yields.specs.Rows.{side-by-side, second-stops}
 use Rattle.yields.specs.Meets.{Holds, holds-part, holds-bound, holds-beside, all-held, Meets, MeetsB, then-meets, then-meets-B, pair-meets, gate-meets}
 use Rattle.yields.specs.LoopRounds.{spins-meets, loop-meets}
