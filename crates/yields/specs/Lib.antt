@@ -21,3 +21,4 @@ pub mod IfMeets
 pub mod BodyIfMeets
 pub mod TreeMeets
 pub mod Agreement
+pub mod Examples
