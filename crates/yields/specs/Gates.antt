@@ -10,10 +10,10 @@ use native.Mathlib.Omega.{arith}
 use Rattle.value.specs.declared.Value.{Value}
 use Rattle.value.specs.Operators.{operands, pick}
 use Rattle.network.specs.Values.{true-value, false-value, err-value, Sense, is-true, is-false, is-neither, sense, one-operand, apply}
-use Rattle.network.specs.Rules.{Input, first, second, third, Firing, T-rule, F-rule, M-rule, E-rule, chosen, IC-table}
-use Rattle.network.specs.Decide.{Decision, decided, also, untouched}
+use Rattle.network.specs.Rules.{IC-gate, Input, first, second, third, Firing, T-rule, F-rule, M-rule, E-rule, chosen, IC-table}
+use Rattle.network.specs.Decide.{Decision, decide, decided, also, untouched}
 use Rattle.graph.specs.Assembly.{const, oper, T, F, M, E, IC, gateOutputs}
-use Rattle.graph.specs.Yields.{Fires, rests, fires, present, waiting}
+use Rattle.graph.specs.Yields.{Fires, rests, fires, TakesAll, present, waiting}
 
 -- A decision that takes these inputs and gives these values, the register being left alone.
 abbrev decision : Bool → Bool → Bool → Option Value → Option Value → Option Value → Option Value → Decision
@@ -139,50 +139,44 @@ abbrev pub joinOutputs : Bool → Option Value → Option Value → Option Value
 joinOutputs true a b c = a ∷ b ∷ c ∷ []
 joinOutputs false a b c = a ∷ c ∷ []
 
+IC-fires : (both : Bool) (vs : List (Option Value)) (d : Decision) → decide IC-gate none (waiting vs) ≡ some d → TakesAll vs d
+    → Fires (IC both) vs (joinOutputs both (d .give1) (d .give2) (d .give3))
+IC-fires true vs d e t = fires (IC true) vs d e t
+IC-fires false vs d e t = fires (IC false) vs d e t
+
 pub IC-true-true : (both : Bool) (c i : Value) → sense c ≡ is-true → sense i ≡ is-true
     → Fires (IC both) (some c ∷ some i ∷ none ∷ []) (joinOutputs both (some true-value) (some true-value) none)
-IC-true-true true c i e d =
-    fires (IC true) (some c ∷ some i ∷ none ∷ []) (decision true true false (some true-value) (some true-value) none none) (ap (by-control IC-rule (some c ∷ some i ∷ none ∷ [])) e ∙ ap (by-chosen second is-true (some c ∷ some i ∷ none ∷ [])) d)
-    (record { control = refl; data2 = refl; data3 = refl })
-IC-true-true false c i e d =
-    fires (IC false) (some c ∷ some i ∷ none ∷ []) (decision true true false (some true-value) (some true-value) none none) (ap (by-control IC-rule (some c ∷ some i ∷ none ∷ [])) e ∙ ap (by-chosen second is-true (some c ∷ some i ∷ none ∷ [])) d)
+IC-true-true both c i e d =
+    IC-fires both (some c ∷ some i ∷ none ∷ []) (decision true true false (some true-value) (some true-value) none none)
+    (ap (by-control IC-rule (some c ∷ some i ∷ none ∷ [])) e ∙ ap (by-chosen second is-true (some c ∷ some i ∷ none ∷ [])) d)
     (record { control = refl; data2 = refl; data3 = refl })
 
 pub IC-true-false : (both : Bool) (c i : Value) → sense c ≡ is-true → sense i ≡ is-false
     → Fires (IC both) (some c ∷ some i ∷ none ∷ []) (joinOutputs both (some false-value) none (some true-value))
-IC-true-false true c i e d =
-    fires (IC true) (some c ∷ some i ∷ none ∷ []) (decision true true false (some false-value) none (some true-value) none) (ap (by-control IC-rule (some c ∷ some i ∷ none ∷ [])) e ∙ ap (by-chosen second is-true (some c ∷ some i ∷ none ∷ [])) d)
-    (record { control = refl; data2 = refl; data3 = refl })
-IC-true-false false c i e d =
-    fires (IC false) (some c ∷ some i ∷ none ∷ []) (decision true true false (some false-value) none (some true-value) none) (ap (by-control IC-rule (some c ∷ some i ∷ none ∷ [])) e ∙ ap (by-chosen second is-true (some c ∷ some i ∷ none ∷ [])) d)
+IC-true-false both c i e d =
+    IC-fires both (some c ∷ some i ∷ none ∷ []) (decision true true false (some false-value) none (some true-value) none)
+    (ap (by-control IC-rule (some c ∷ some i ∷ none ∷ [])) e ∙ ap (by-chosen second is-true (some c ∷ some i ∷ none ∷ [])) d)
     (record { control = refl; data2 = refl; data3 = refl })
 
 pub IC-false-true : (both : Bool) (c i : Value) → sense c ≡ is-false → sense i ≡ is-true
     → Fires (IC both) (some c ∷ none ∷ some i ∷ []) (joinOutputs both (some true-value) (some false-value) none)
-IC-false-true true c i e d =
-    fires (IC true) (some c ∷ none ∷ some i ∷ []) (decision true false true (some true-value) (some false-value) none none) (ap (by-control IC-rule (some c ∷ none ∷ some i ∷ [])) e ∙ ap (by-chosen third is-false (some c ∷ none ∷ some i ∷ [])) d)
-    (record { control = refl; data2 = refl; data3 = refl })
-IC-false-true false c i e d =
-    fires (IC false) (some c ∷ none ∷ some i ∷ []) (decision true false true (some true-value) (some false-value) none none) (ap (by-control IC-rule (some c ∷ none ∷ some i ∷ [])) e ∙ ap (by-chosen third is-false (some c ∷ none ∷ some i ∷ [])) d)
+IC-false-true both c i e d =
+    IC-fires both (some c ∷ none ∷ some i ∷ []) (decision true false true (some true-value) (some false-value) none none)
+    (ap (by-control IC-rule (some c ∷ none ∷ some i ∷ [])) e ∙ ap (by-chosen third is-false (some c ∷ none ∷ some i ∷ [])) d)
     (record { control = refl; data2 = refl; data3 = refl })
 
 pub IC-false-false : (both : Bool) (c i : Value) → sense c ≡ is-false → sense i ≡ is-false
     → Fires (IC both) (some c ∷ none ∷ some i ∷ []) (joinOutputs both (some false-value) none (some false-value))
-IC-false-false true c i e d =
-    fires (IC true) (some c ∷ none ∷ some i ∷ []) (decision true false true (some false-value) none (some false-value) none) (ap (by-control IC-rule (some c ∷ none ∷ some i ∷ [])) e ∙ ap (by-chosen third is-false (some c ∷ none ∷ some i ∷ [])) d)
-    (record { control = refl; data2 = refl; data3 = refl })
-IC-false-false false c i e d =
-    fires (IC false) (some c ∷ none ∷ some i ∷ []) (decision true false true (some false-value) none (some false-value) none) (ap (by-control IC-rule (some c ∷ none ∷ some i ∷ [])) e ∙ ap (by-chosen third is-false (some c ∷ none ∷ some i ∷ [])) d)
+IC-false-false both c i e d =
+    IC-fires both (some c ∷ none ∷ some i ∷ []) (decision true false true (some false-value) none (some false-value) none)
+    (ap (by-control IC-rule (some c ∷ none ∷ some i ∷ [])) e ∙ ap (by-chosen third is-false (some c ∷ none ∷ some i ∷ [])) d)
     (record { control = refl; data2 = refl; data3 = refl })
 
 pub IC-err : (both : Bool) (c : Value) → sense c ≡ is-neither
     → Fires (IC both) (some c ∷ none ∷ none ∷ []) (joinOutputs both (some false-value) none (some err-value))
-IC-err true c e =
-    fires (IC true) (some c ∷ none ∷ none ∷ []) (decision true false false (some false-value) none (some err-value) none) (ap (by-control IC-rule (some c ∷ none ∷ none ∷ [])) e)
-    (record { control = refl; data2 = refl; data3 = refl })
-IC-err false c e =
-    fires (IC false) (some c ∷ none ∷ none ∷ []) (decision true false false (some false-value) none (some err-value) none) (ap (by-control IC-rule (some c ∷ none ∷ none ∷ [])) e)
-    (record { control = refl; data2 = refl; data3 = refl })
+IC-err both c e =
+    IC-fires both (some c ∷ none ∷ none ∷ []) (decision true false false (some false-value) none (some err-value) none)
+    (ap (by-control IC-rule (some c ∷ none ∷ none ∷ [])) e) (record { control = refl; data2 = refl; data3 = refl })
 
 pub IC-rests : (both : Bool) → Fires (IC both) (none ∷ none ∷ none ∷ []) (joinOutputs both none none none)
 unfolding gateOutputs
