@@ -2,12 +2,15 @@
 use Prim.Native.Nat.{ℕ, zero, suc}
 use mathlib.Core.Path.{_≡_, refl}
 use mathlib.Core.List.{List, [], _∷_, map}
+use lib.ListN.{length}
 use Rattle.formula.specs.declared.Refusal.{Refusal}
 use Rattle.formula.specs.declared.Refusal.the-variants.{Rows, Named, StrayIter, Unused}
 use Rattle.formula.specs.declared.Figures.{Figures}
 use Rattle.formula.specs.declared.Reading.{Reading}
 use Rattle.formula.specs.declared.Reading.the-variants.{Accepted, Rejected}
+use Rattle.formula.specs.Tree.{formulaOf}
 use Rattle.formula.specs.Tests.{readingOf}
+use Rattle.graph.specs.Translation.{madeOf}
 use Rattle.cases.specs.Sheets.{bytes, lesser, twice, factorial, iterAlone, letUnused, alike, constantRow}
 
 abbrev accepted : ℕ → ℕ → ℕ → ℕ → Reading
@@ -36,3 +39,19 @@ reads =
 pub reads-worked : map (λ c. readingOf (c .sheet)) reads ≡ map (λ c. c .gives) reads
 unfolding reads readingOf
 reads-worked = refl
+
+-- The same numbers, of the graphs that the translation makes: lesser-of-two has 8 operators, x + x has 2.
+pub record Graph : Type 0 where
+  pub sheet : List ℕ
+  pub operators : ℕ
+
+abbrev graph : List ℕ → ℕ → Graph
+graph s n = record { sheet = s; operators = n }
+
+unfoldable pub graphs : List Graph
+unfolding bytes lesser twice
+graphs = graph (bytes lesser) 8 ∷ graph (bytes twice) 2 ∷ []
+
+pub graphs-worked : map (λ c. length (madeOf (formulaOf (c .sheet)) .operators)) graphs ≡ map (λ c. c .operators) graphs
+unfolding graphs madeOf formulaOf
+graphs-worked = refl
