@@ -7,7 +7,7 @@ pub mod tree;
 
 use crate::sheet::Sheet;
 use crate::value::Value;
-pub use formulas::{accepted_sheet, heavy_sheet, loose_sheet, Made, Sort};
+pub use formulas::{accepted_sheet, heavy_sheet, loose_sheet, renamed_sheet, Made, Sort};
 
 pub struct Rng(u64);
 

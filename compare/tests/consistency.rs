@@ -150,9 +150,11 @@ fn work_all(case: &Case, capacity: usize) -> u32 {
         let Ran { refusal, count } = machine.run(10_000_000);
         assert_eq!(refusal, 0);
         firings += count;
+        let before = taken;
         while take(case, &mut machine, taken) {
             taken += 1;
         }
+        assert!(taken > before, "nothing can fire and no result is ready");
     }
     firings
 }

@@ -414,6 +414,26 @@ impl Maker<'_> {
     }
 }
 
+/// An accepted sheet with some identifiers exchanged for others, where they are used and where they are bound.
+/// It passes tests 1 to 8; whether it passes 9 and 10 is open.
+pub fn renamed_sheet(rng: &mut Rng) -> Vec<u8> {
+    let bytes = accepted_sheet(rng).bytes;
+    let sheet = sheet::read(&bytes).expect("an accepted sheet");
+    let mut rows: Vec<sheet::Row> = sheet.lines.iter().map(|line| line.row).collect();
+    let share = rng.pick(&[2, 10, 40]);
+    let names = rng.pick(&[2, 4, 32]);
+    for row in &mut rows {
+        if rng.chance(share) {
+            match row.kind {
+                1 => row.a = rng.below(names) as u32,
+                6 | 8 => row.a = rng.below(33 - row.b as usize) as u32,
+                _ => {}
+            }
+        }
+    }
+    rows.iter().map(sheet::write_row).collect::<String>().into_bytes()
+}
+
 /// A random tree of rows with fields in their ranges, each row named once, and no heed of places, widths or names.
 pub fn loose_sheet(rng: &mut Rng) -> Vec<u8> {
     let mut rows: Vec<[u32; 5]> = Vec::new();
@@ -421,7 +441,11 @@ pub fn loose_sheet(rng: &mut Rng) -> Vec<u8> {
     let wanted = rng.between(1, 30);
     while rows.len() < wanted || unnamed.len() > 1 {
         let joining = rows.len() >= wanted;
-        let kind = if joining { rng.pick(&[4, 6, 7, 8]) } else { rng.pick(&[1, 1, 2, 3, 4, 5, 5, 6, 7, 8, 9]) };
+        let kind = if joining {
+            rng.pick(&[4, 6, 7, 8])
+        } else {
+            rng.pick(&[1, 1, 1, 1, 2, 3, 3, 4, 4, 5, 5, 5, 6, 6, 7, 8, 8, 9])
+        };
         let needs = [0, 0, 0, 0, 2, 1, 2, 3, 2, 1][kind as usize];
         if unnamed.len() < needs {
             if !joining {
