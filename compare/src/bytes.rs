@@ -97,7 +97,7 @@ fn decode(bytes: &[u8]) -> Option<Value> {
 
 /// The values of a set, if it is in whole and good ones.
 pub fn decode_set(bytes: &[u8]) -> Option<Vec<Value>> {
-    if bytes.len() % VALUE_BYTES != 0 {
+    if !bytes.len().is_multiple_of(VALUE_BYTES) {
         return None;
     }
     bytes.chunks_exact(VALUE_BYTES).map(decode).collect()

@@ -3,6 +3,7 @@
 
 pub mod bench;
 pub mod bytes;
+pub mod cases;
 pub mod count;
 pub mod eval;
 pub mod graph;

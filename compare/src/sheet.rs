@@ -117,7 +117,7 @@ pub fn read(bytes: &[u8]) -> Result<Sheet, Refusal> {
 /// 1 "empty, not in 31-byte rows, or a row without its line feed"; 2 "over 200 rows".
 fn test_rows(bytes: &[u8]) -> Result<(), Refusal> {
     let ended = |row: &[u8]| row[ROW_BYTES - 1] == b'\n';
-    if bytes.is_empty() || bytes.len() % ROW_BYTES != 0 || !bytes.chunks_exact(ROW_BYTES).all(ended) {
+    if bytes.is_empty() || !bytes.len().is_multiple_of(ROW_BYTES) || !bytes.chunks_exact(ROW_BYTES).all(ended) {
         return refuse(1, 0);
     }
     if bytes.len() / ROW_BYTES > MOST_ROWS {
