@@ -3,11 +3,13 @@
 
 pub mod faults;
 pub mod formulas;
+pub mod sheets;
 pub mod tree;
 
 use crate::sheet::Sheet;
 use crate::value::Value;
-pub use formulas::{accepted_sheet, heavy_sheet, loose_sheet, renamed_sheet, Made, Sort};
+pub use formulas::Sort;
+pub use sheets::{accepted_sheet, heavy_sheet, loose_sheet, renamed_sheet, Made};
 
 pub struct Rng(u64);
 

@@ -1,6 +1,7 @@
 // Demand 3 on random sheets and sets: at every capacity, in any order of pushes, firings, runs and takes, the machine
 // gives what direct evaluation gives. And what the papers say of a machine at rest.
 
+use compare::bench::{bench, write_set};
 use compare::eval::evaluate;
 use compare::graph::{build, Graph, Kind};
 use compare::machine::{Machine, Ran};
@@ -157,6 +158,26 @@ fn work_all(case: &Case, capacity: usize) -> u32 {
         assert!(taken > before, "nothing can fire and no result is ready");
     }
     firings
+}
+
+/// The program's output is its first line and a line for each set as evaluation gives it.
+#[test]
+fn bench_prints_what_evaluation_gives() {
+    let mut rng = Rng::new(36);
+    let mut compared = 0;
+    for _ in 0..300 {
+        let case = case(false, &mut rng);
+        if case.expected.iter().any(Option::is_none) {
+            continue;
+        }
+        let sets: String = case.sets.iter().map(|set| write_set(set)).collect();
+        let figures = case.sheet.figures;
+        let mut printed = format!("{:6}{:6}{:6}\n", figures.inputs, figures.results, case.sets.len());
+        printed.extend(case.expected.iter().flatten().map(|set| write_set(set.used())));
+        assert_eq!(String::from_utf8(bench(&case.made.bytes, sets.as_bytes())).unwrap(), printed);
+        compared += 1;
+    }
+    assert!(compared > 150, "too few were compared: {compared}");
 }
 
 /// Run finds the least-numbered able operator as a search from the first one does.

@@ -5,7 +5,7 @@
 use compare::bytes;
 use compare::graph;
 use compare::machine::Machine;
-use compare::random::{heavy_sheet, random_set, Rng};
+use compare::random::{heavy_sheet, random_set, Made, Rng};
 use compare::sheet::{self, write};
 use compare::value::Value;
 use std::hint::black_box;
@@ -107,11 +107,20 @@ fn negations(rows: u32) -> Vec<u8> {
     write(&(1..=rows).map(row).collect::<Vec<_>>())
 }
 
+/// A sheet with over 1,000 operators.
+fn many_operators(rng: &mut Rng) -> Made {
+    loop {
+        let made = heavy_sheet(rng);
+        if bytes::read(&made.bytes).operators > 1000 {
+            return made;
+        }
+    }
+}
+
 fn sheets() -> Vec<(String, Vec<u8>)> {
-    let mut rng = Rng::new(1);
     let mut malformed = negations(200);
     malformed[6000] = b'x';
-    let many = heavy_sheet(&mut rng).bytes;
+    let many = many_operators(&mut Rng::new(1)).bytes;
     let operators = bytes::read(&many).operators;
     vec![
         ("the lesser of two".into(), lesser()),
@@ -128,7 +137,7 @@ fn evaluations() -> Vec<(String, Vec<u8>, Vec<u8>, u32)> {
     let number = |value| bytes::encode_set(&[Value::Whole(value)]);
     let pair = bytes::encode_set(&[Value::Whole(3), Value::Whole(5)]);
     let mut rng = Rng::new(1);
-    let many = heavy_sheet(&mut rng);
+    let many = many_operators(&mut rng);
     let sheet = sheet::read(&many.bytes).expect("an accepted sheet");
     let set = bytes::encode_set(&random_set(&many, &sheet, &mut rng));
     vec![

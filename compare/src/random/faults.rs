@@ -1,7 +1,7 @@
 // Sheets with one planted fault for each refusal 1 to 10, made from accepted sheets.
 // Where the way of planting fixes the row that the refusal must give, it is said with the bytes.
 
-use super::formulas::{accepted_sheet, overfull_sheet};
+use super::sheets::{accepted_sheet, overfull_sheet};
 use super::Rng;
 use crate::sheet::{self, Place, Sheet, ROW_BYTES};
 
@@ -214,7 +214,7 @@ mod tests {
     #[test]
     fn each_planted_fault_gets_its_refusal_and_row() {
         let mut rng = Rng::new(5);
-        for case in 0..4000 {
+        for case in 0..2000 {
             let number = case % 10 + 1;
             let planted = plant(number, &mut rng);
             let refusal = sheet::read(&planted.bytes).expect_err("a planted fault");

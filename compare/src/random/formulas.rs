@@ -2,9 +2,8 @@
 // let or for binds are handed down as names that must be used. Sorts of values are only a hint, so that most results
 // are no err; most loops count down, so that most evaluations end.
 
-use super::tree::{rows, Tree};
+use super::tree::Tree;
 use super::Rng;
-use crate::sheet;
 
 /// The kind of value that a place is made for.
 #[derive(Clone, Copy, PartialEq, Eq, Debug)]
@@ -13,19 +12,13 @@ pub enum Sort {
     Truth,
 }
 
-/// A sheet with the sort of value that each input is made for.
-#[derive(Clone, Debug)]
-pub struct Made {
-    pub bytes: Vec<u8>,
-    pub sorts: [Sort; 32],
-}
-
 /// The identifiers in use, by the sort of their values.
-type Scope = [Option<Sort>; 32];
+pub type Scope = [Option<Sort>; 32];
 
-/// The loop around a body: the identifiers, the sorts iterated and returned, and the identifier that counts down.
+/// The loop around a body: its first identifier, the sorts iterated and returned, and the identifier that counts down.
 #[derive(Clone)]
 struct Loop {
+    first: u32,
     iterated: Vec<Sort>,
     returned: Vec<Sort>,
     counter: Option<u32>,
@@ -44,153 +37,35 @@ struct Endings {
 struct Maker<'a> {
     rng: &'a mut Rng,
     fuel: i32,
-    /// How often, in a hundred, a value is of the other sort.
     wrong: usize,
 }
 
-/// A random accepted sheet of any size.
-pub fn accepted_sheet(rng: &mut Rng) -> Made {
-    loop {
-        let (tree, sorts) = random_tree(rng);
-        if let Some(made) = made(tree, sorts, rng) {
-            return made;
-        }
-    }
+/// A random expression with values of these sorts that uses these names; fuel is about its number of rows, and wrong how
+/// often, in a hundred, a leaf is of the other sort.
+pub fn random_expression(
+    sorts: &[Sort],
+    must: Vec<u32>,
+    scope: &Scope,
+    fuel: i32,
+    wrong: usize,
+    rng: &mut Rng,
+) -> Tree {
+    Maker { rng, fuel, wrong }.expression(sorts, must, scope)
 }
 
-/// A random formula and the sorts of its inputs. It may have too many rows or operators.
-fn random_tree(rng: &mut Rng) -> (Tree, [Sort; 32]) {
-    let sorts: [Sort; 32] = std::array::from_fn(|_| rng.pick(&[Sort::Whole, Sort::Whole, Sort::Truth]));
-    let many = rng.pick(&[0, 1, 2, 3, 4, 6, 32]);
-    let mut scope: Scope = [None; 32];
-    for _ in 0..many {
-        let name = rng.below(32);
-        scope[name] = Some(sorts[name]);
-    }
-    let fuel = rng.pick(&[1, 3, 8, 16, 30, 60, 100]);
-    let wrong = rng.pick(&[0, 0, 3, 10]);
-    let width = rng.pick(&[1, 1, 1, 1, 2, 3, 4, 8, 15, 16]);
-    let mut maker = Maker { rng, fuel, wrong };
-    let results = maker.sorts(width);
-    let mut tree = maker.expression(&results, Vec::new(), &scope);
-    if rng.chance(5) && tree.size() < 200 {
-        let extra = 200 - tree.size();
-        pad(&mut tree, extra, rng);
-    }
-    (tree, sorts)
-}
-
-/// The sheet of a tree; nothing if it has too many rows or operators.
-fn made(tree: Tree, sorts: [Sort; 32], rng: &mut Rng) -> Option<Made> {
-    if tree.size() > sheet::MOST_ROWS {
-        return None;
-    }
-    let shuffled = rng.chance(70);
-    let bytes = sheet::write(&rows(&tree, shuffled, rng));
-    match sheet::read(&bytes) {
-        Ok(_) => Some(Made { bytes, sorts }),
-        Err(refusal) => {
-            assert_eq!(refusal.number, 10, "{}", String::from_utf8_lossy(&bytes));
-            None
-        }
-    }
-}
-
-/// Adds so many rows, each with one operator, by negating or notting leaves.
-fn pad(tree: &mut Tree, extra: usize, rng: &mut Rng) {
-    for _ in 0..extra {
-        let mut leaves = 0;
-        tree.each_leaf(&mut |_| leaves += 1);
-        let mut chosen = rng.below(leaves) as isize;
-        tree.each_leaf(&mut |leaf| {
-            if chosen == 0 {
-                let code = if matches!(leaf, Tree::Truth(_)) { 10 } else { 11 };
-                *leaf = Tree::operator(code, leaf.clone());
-            }
-            chosen -= 1;
-        });
-    }
-}
-
-/// A random sheet with nearly 1,024 operators, or exactly so many.
-pub fn heavy_sheet(rng: &mut Rng) -> Made {
-    loop {
-        let (tree, sorts) = heavy_tree(sheet::MOST_OPERATORS as usize, rng);
-        if let Some(made) = made(tree, sorts, rng) {
-            return made;
-        }
-    }
-}
-
-/// A random sheet with more than 1,024 operators, often by one only; it passes tests 1 to 9.
-pub fn overfull_sheet(rng: &mut Rng) -> Vec<u8> {
-    loop {
-        let (mut tree, _) = heavy_tree(sheet::MOST_OPERATORS as usize, rng);
-        pad(&mut tree, 1, rng);
-        while tree.size() < 200 && sheet::read(&sheet::write(&rows(&tree, false, rng))).is_ok() {
-            pad(&mut tree, 1, rng);
-        }
-        let bytes = sheet::write(&rows(&tree, true, rng));
-        if tree.size() <= 200 && sheet::read(&bytes).is_err() {
-            return bytes;
-        }
-    }
-}
-
-/// Wraps a formula of many names in ifs and loops, each of which gates every name, and pads it up to so many operators.
-fn heavy_tree(most: usize, rng: &mut Rng) -> (Tree, [Sort; 32]) {
-    let sorts = [Sort::Whole; 32];
-    let width = rng.pick(&[1, 1, 2, 5]);
-    let must: Vec<u32> = (0..rng.between(12, 32) as u32).collect();
-    let fuel = rng.between(1, 12) as i32;
-    let mut maker = Maker { rng, fuel, wrong: 0 };
-    let results = maker.sorts(width);
-    let mut tree = maker.expression(&results, must, &[Some(Sort::Whole); 32]);
-    for _ in 0..60 {
-        let wrapped = wrap(&tree, width, rng);
-        if wrapped.size() <= 190 && operators_of(&wrapped, rng) <= most {
-            tree = wrapped;
-        }
-    }
-    let room = (most - operators_of(&tree, rng).min(most)).min(200 - tree.size().min(200));
-    let extra = if rng.chance(70) { room } else { rng.below(room + 1) };
-    pad(&mut tree, extra, rng);
-    (tree, sorts)
-}
-
-fn operators_of(tree: &Tree, rng: &mut Rng) -> usize {
-    match sheet::read(&sheet::write(&rows(tree, false, rng))) {
-        Ok(sheet) => sheet.figures.operators as usize,
-        Err(_) => usize::MAX,
-    }
-}
-
-fn wrap(tree: &Tree, width: usize, rng: &mut Rng) -> Tree {
-    let mut other = Tree::Whole(1);
-    for _ in 1..width {
-        other = Tree::pair(other, Tree::Identifier(rng.below(32) as u32));
-    }
-    let name = rng.below(32) as u32;
-    let test = match rng.chance(60) {
-        true => Tree::Truth(rng.chance(50)),
-        false => Tree::on_two(6, Tree::Identifier(name), Tree::Whole(rng.below(5) as u32)),
-    };
-    match rng.below(8) {
-        0..=2 => Tree::choose(test, tree.clone(), other),
-        3..=5 => Tree::choose(test, other, tree.clone()),
-        6 if tree.size() < 80 => Tree::choose(test, tree.clone(), tree.clone()),
-        _ => {
-            let next = Tree::on_two(2, Tree::Identifier(name), Tree::Whole(1));
-            let counted = Tree::on_two(6, Tree::Whole(0), Tree::Identifier(name));
-            let body = Tree::choose(counted, Tree::Iter(Box::new(next)), tree.clone());
-            Tree::For(name, 1, Box::new(Tree::Whole(rng.below(3) as u32)), Box::new(body))
-        }
-    }
+/// Sorts for so many values, whole numbers more often than truths.
+pub fn random_sorts(count: usize, rng: &mut Rng) -> Vec<Sort> {
+    (0..count).map(|_| rng.pick(&[Sort::Whole, Sort::Whole, Sort::Truth])).collect()
 }
 
 impl Maker<'_> {
-    fn sorts(&mut self, count: usize) -> Vec<Sort> {
-        (0..count).map(|_| self.rng.pick(&[Sort::Whole, Sort::Whole, Sort::Truth])).collect()
+    /// Makes a part with a share of the fuel, in a hundred, so that the parts after it get theirs.
+    fn with_share(&mut self, share: i32, make: impl FnOnce(&mut Self) -> Tree) -> Tree {
+        let kept = self.fuel * (100 - share) / 100;
+        self.fuel -= kept;
+        let part = make(self);
+        self.fuel += kept;
+        part
     }
 
     fn leaf(&mut self, sort: Sort, scope: &Scope) -> Tree {
@@ -251,22 +126,21 @@ impl Maker<'_> {
             return self.least(sorts, &must, scope);
         }
         match (self.rng.below(100), sorts.len()) {
-            (0..=49, 1) => self.operator(sorts[0], must, scope),
-            (0..=54, 2..) => {
+            (0..=44, 1) => self.operator(sorts[0], must, scope),
+            (0..=44, _) => {
                 let (left, right) = sorts.split_at(self.rng.between(1, sorts.len() - 1));
                 let parts = self.deal(&must, 2);
-                let left = self.expression(left, parts[0].clone(), scope);
+                let left = self.with_share(50, |maker| maker.expression(left, parts[0].clone(), scope));
                 Tree::pair(left, self.expression(right, parts[1].clone(), scope))
             }
-            (55..=69, _) => self.binding(must, scope, |maker, must, inner| maker.expression(sorts, must, inner)),
-            (70..=87, _) => {
+            (45..=59, _) => self.binding(None, must, scope, |maker, must, inner| maker.expression(sorts, must, inner)),
+            (60..=79, _) => {
                 let parts = self.deal(&must, 3);
-                let test = self.expression(&[Sort::Truth], parts[0].clone(), scope);
-                let yes = self.expression(sorts, parts[1].clone(), scope);
+                let test = self.with_share(30, |maker| maker.expression(&[Sort::Truth], parts[0].clone(), scope));
+                let yes = self.with_share(50, |maker| maker.expression(sorts, parts[1].clone(), scope));
                 Tree::choose(test, yes, self.expression(sorts, parts[2].clone(), scope))
             }
-            (88.., _) => self.repetition(sorts, must, scope),
-            _ => self.least(sorts, &must, scope),
+            _ => self.repetition(sorts, must, scope),
         }
     }
 
@@ -281,24 +155,37 @@ impl Maker<'_> {
     }
 
     /// A let; what it is in is made by the caller, which is handed the names to use and the new scope.
+    /// Now and then it binds identifiers from a given one on, those of the loop around it.
     fn binding(
         &mut self,
+        around: Option<u32>,
         must: Vec<u32>,
         scope: &Scope,
         inside: impl FnOnce(&mut Self, Vec<u32>, &Scope) -> Tree,
     ) -> Tree {
-        let count = if self.rng.chance(4) { self.rng.between(4, 16) } else { self.rng.between(1, 3) };
-        let sorts = self.sorts(count);
-        let (first, bound, inner) = self.bind(&sorts, scope);
+        let count = self.count();
+        let sorts = random_sorts(count, self.rng);
+        let near = around.filter(|_| self.rng.chance(50));
+        let (first, bound, inner) = self.bind(near, &sorts, scope);
         let (for_value, for_inside) = self.part(&must, &bound);
-        let value = self.expression(&sorts, for_value, scope);
+        let value = self.with_share(30, |maker| maker.expression(&sorts, for_value, scope));
         let inside = inside(self, for_inside, &inner);
         Tree::Let(first, count as u32, Box::new(value), Box::new(inside))
     }
 
-    /// Identifiers for values of these sorts, and the scope with them.
-    fn bind(&mut self, sorts: &[Sort], scope: &Scope) -> (u32, Vec<u32>, Scope) {
-        let first = self.rng.below(33 - sorts.len());
+    /// How many identifiers a let or for binds.
+    fn count(&mut self) -> usize {
+        if self.rng.chance(7) {
+            self.rng.between(4, 16)
+        } else {
+            self.rng.between(1, 3)
+        }
+    }
+
+    /// Identifiers for values of these sorts, from a given one on or any, and the scope with them.
+    fn bind(&mut self, near: Option<u32>, sorts: &[Sort], scope: &Scope) -> (u32, Vec<u32>, Scope) {
+        let most = 32 - sorts.len();
+        let first = near.map_or_else(|| self.rng.between(0, most), |first| most.min(first as usize));
         let mut inner = *scope;
         for (place, &sort) in sorts.iter().enumerate() {
             inner[first + place] = Some(sort);
@@ -323,17 +210,17 @@ impl Maker<'_> {
 
     /// A for with results of these sorts.
     fn repetition(&mut self, sorts: &[Sort], must: Vec<u32>, scope: &Scope) -> Tree {
-        let count = if self.rng.chance(4) { self.rng.between(4, 16) } else { self.rng.between(1, 3) };
+        let count = self.count();
         let counted = self.rng.chance(85);
-        let mut iterated = self.sorts(count);
+        let mut iterated = random_sorts(count, self.rng);
         if counted {
             iterated[0] = Sort::Whole;
         }
-        let (first, bound, inner) = self.bind(&iterated, scope);
+        let (first, bound, inner) = self.bind(None, &iterated, scope);
         let (for_start, for_body) = self.part(&must, &bound);
-        let start = self.expression(&iterated, for_start, scope);
+        let start = self.with_share(25, |maker| maker.expression(&iterated, for_start, scope));
         let counter = counted.then_some(first);
-        let around = Loop { iterated, returned: sorts.to_vec(), counter, guarded: false };
+        let around = Loop { first, iterated, returned: sorts.to_vec(), counter, guarded: false };
         let body = self.body(&around, for_body, &inner, Endings { iter: true, returned: true, may_iter: true });
         Tree::For(first, count as u32, Box::new(start), Box::new(body))
     }
@@ -341,21 +228,24 @@ impl Maker<'_> {
     fn body(&mut self, around: &Loop, must: Vec<u32>, scope: &Scope, endings: Endings) -> Tree {
         self.fuel -= 1;
         let more = self.fuel > 0;
-        if more && self.rng.chance(15) {
-            return self.binding(must, scope, |maker, must, inner| {
+        if more && self.rng.chance(20) {
+            return self.binding(Some(around.first), must, scope, |maker, must, inner| {
                 let mut around = around.clone();
-                // A let that rebinds the counter: the loop counts down no more, and need not end.
+                // A let that rebinds the counter: now and then the loop counts down no more, and need not end.
                 if around.counter.is_some_and(|name| must.contains(&name)) && maker.rng.chance(30) {
                     around.counter = None;
                 }
                 maker.body(&around, must, inner, endings)
             });
         }
-        if (endings.iter && endings.returned) || (more && self.rng.chance(30)) {
+        if (endings.iter && endings.returned) || (more && self.rng.chance(40)) {
             return self.body_if(around, must, scope, endings);
         }
-        if endings.iter || (!endings.returned && endings.may_iter && self.rng.chance(50)) {
+        if endings.iter || (!endings.returned && endings.may_iter && self.rng.chance(60)) {
             return Tree::Iter(Box::new(self.next_values(around, must, scope)));
+        }
+        if more && self.rng.chance(15) {
+            return self.repetition(&around.returned, must, scope);
         }
         self.expression(&around.returned, must, scope)
     }
@@ -380,10 +270,10 @@ impl Maker<'_> {
             _ => {
                 *self.either(&mut yes.iter, &mut no.iter) |= endings.iter;
                 *self.either(&mut yes.returned, &mut no.returned) |= endings.returned;
-                self.expression(&[Sort::Truth], parts[0].clone(), scope)
+                self.with_share(30, |maker| maker.expression(&[Sort::Truth], parts[0].clone(), scope))
             }
         };
-        let yes = self.body(&inner, parts[1].clone(), scope, yes);
+        let yes = self.with_share(50, |maker| maker.body(&inner, parts[1].clone(), scope, yes));
         let no = self.body(&inner, parts[2].clone(), scope, no);
         Tree::choose(test, yes, no)
     }
@@ -411,67 +301,5 @@ impl Maker<'_> {
         }
         let nothing = Tree::on_two(3, Tree::Whole(0), self.least(&[Sort::Whole], &must, scope));
         Tree::on_two(1, less, nothing)
-    }
-}
-
-/// An accepted sheet with some identifiers exchanged for others, where they are used and where they are bound.
-/// It passes tests 1 to 8; whether it passes 9 and 10 is open.
-pub fn renamed_sheet(rng: &mut Rng) -> Vec<u8> {
-    let bytes = accepted_sheet(rng).bytes;
-    let sheet = sheet::read(&bytes).expect("an accepted sheet");
-    let mut rows: Vec<sheet::Row> = sheet.lines.iter().map(|line| line.row).collect();
-    let share = rng.pick(&[2, 10, 40]);
-    let names = rng.pick(&[2, 4, 32]);
-    for row in &mut rows {
-        if rng.chance(share) {
-            match row.kind {
-                1 => row.a = rng.below(names) as u32,
-                6 | 8 => row.a = rng.below(33 - row.b as usize) as u32,
-                _ => {}
-            }
-        }
-    }
-    rows.iter().map(sheet::write_row).collect::<String>().into_bytes()
-}
-
-/// A random tree of rows with fields in their ranges, each row named once, and no heed of places, widths or names.
-pub fn loose_sheet(rng: &mut Rng) -> Vec<u8> {
-    let mut rows: Vec<[u32; 5]> = Vec::new();
-    let mut unnamed: Vec<u32> = Vec::new();
-    let wanted = rng.between(1, 30);
-    while rows.len() < wanted || unnamed.len() > 1 {
-        let joining = rows.len() >= wanted;
-        let kind = if joining {
-            rng.pick(&[4, 6, 7, 8])
-        } else {
-            rng.pick(&[1, 1, 1, 1, 2, 3, 3, 4, 4, 5, 5, 5, 6, 6, 7, 8, 8, 9])
-        };
-        let needs = [0, 0, 0, 0, 2, 1, 2, 3, 2, 1][kind as usize];
-        if unnamed.len() < needs {
-            if !joining {
-                rows.push([1, rng.below(3) as u32, 0, 0, 0]);
-                unnamed.push(rows.len() as u32);
-            }
-            continue;
-        }
-        let mut take = || unnamed.remove(rng.below(unnamed.len()));
-        let named: Vec<u32> = (0..needs).map(|_| take()).collect();
-        rows.push(loose_row(kind, &named, rng));
-        unnamed.push(rows.len() as u32);
-    }
-    sheet::write(&rows)
-}
-
-fn loose_row(kind: u32, named: &[u32], rng: &mut Rng) -> [u32; 5] {
-    let name = rng.below(3) as u32;
-    match kind {
-        1 => [1, name, 0, 0, 0],
-        2 => [2, rng.below(9) as u32, 0, 0, 0],
-        3 => [3, rng.below(2) as u32, 0, 0, 0],
-        4 => [4, named[0], named[1], 0, 0],
-        5 => [5, rng.between(1, 11) as u32, named[0], 0, 0],
-        7 => [7, named[0], named[1], named[2], 0],
-        9 => [9, named[0], 0, 0, 0],
-        _ => [kind, name, rng.pick(&[1, 1, 1, 2, 2, 3]), named[0], named[1]],
     }
 }
