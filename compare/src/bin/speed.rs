@@ -11,8 +11,8 @@ use compare::value::Value;
 use std::hint::black_box;
 use std::time::{Duration, Instant};
 
-const BATCHES: usize = 40;
-const BATCH: Duration = Duration::from_millis(4);
+const BATCHES: usize = 200;
+const BATCH: Duration = Duration::from_millis(1);
 
 /// A call to be timed; it gives its refusal.
 type Call<'a> = Box<dyn FnMut() -> u32 + 'a>;
