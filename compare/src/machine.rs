@@ -294,3 +294,95 @@ fn join_control(control: Value, yes: Option<Value>, no: Option<Value>) -> Option
     };
     Some(firing(takes, emits))
 }
+
+#[cfg(test)]
+mod tests {
+    use super::*;
+    use crate::graph::Operator;
+    use Value::{Err, Truth, Whole};
+
+    const YES: Value = Truth(true);
+    const NO: Value = Truth(false);
+
+    /// One operator with links of its own, the inputs first.
+    fn alone(kind: Kind, inputs: usize, outputs: usize) -> Graph {
+        let operator =
+            Operator { kind, inputs: (0..inputs).collect(), outputs: (inputs..inputs + outputs).map(Some).collect() };
+        let (links, results) = (inputs + outputs, (inputs..inputs + outputs).collect());
+        Graph { operators: vec![operator], links, inputs: (0..inputs).collect(), trigger: None, results }
+    }
+
+    /// Fires an operator as often as it can with these tokens on its links; gives what is on each link then.
+    fn fired(kind: Kind, inputs: &[&[Value]], outputs: usize) -> Vec<Vec<Value>> {
+        let graph = alone(kind, inputs.len(), outputs);
+        let mut machine = Machine::start(&graph, 16).expect("a capacity in its range");
+        for (link, tokens) in inputs.iter().enumerate() {
+            tokens.iter().for_each(|&token| machine.queues[link].append(token));
+        }
+        while machine.fire(0).is_ok() {}
+        (0..graph.links).map(|link| machine.waiting(link)).collect()
+    }
+
+    fn wholes(numbers: &[i32]) -> Vec<Value> {
+        numbers.iter().map(|&number| Whole(number)).collect()
+    }
+
+    #[test]
+    fn t_and_f_take_control_and_data() {
+        let (control, data) = ([YES, NO, Err, Whole(1)], wholes(&[1, 2, 3, 4]));
+        assert_eq!(fired(Kind::T, &[&control, &data], 1), [vec![], vec![], wholes(&[1])]);
+        assert_eq!(fired(Kind::F, &[&control, &data], 1), [vec![], vec![], wholes(&[2])]);
+        assert_eq!(fired(Kind::T, &[&[NO], &[]], 1), [vec![NO], vec![], vec![]]);
+    }
+
+    #[test]
+    fn m_takes_the_chosen_input_or_only_its_control() {
+        let control = [YES, NO, Err, NO, YES, YES];
+        let got = fired(Kind::M, &[&control, &wholes(&[1, 2]), &wholes(&[11, 12, 13])], 1);
+        let passed = vec![Whole(1), Whole(11), Err, Whole(12), Whole(2)];
+        assert_eq!(got, [vec![YES], vec![], wholes(&[13]), passed]);
+    }
+
+    #[test]
+    fn e_takes_no_data_on_a_bad_test() {
+        let got = fired(Kind::E, &[&[Err, YES, Whole(0), NO, NO], &wholes(&[1, 2])], 1);
+        assert_eq!(got, [vec![NO], vec![], vec![Err, Whole(1), Err, Whole(2)]]);
+    }
+
+    #[test]
+    fn ic_goes_by_brocks_table() {
+        let got = fired(Kind::IC, &[&[YES, YES, NO, NO, Err, YES], &[YES, NO], &[YES, NO, NO]], 3);
+        let (iter, second, third) = (vec![YES, NO, YES, NO, NO], vec![YES, NO], vec![YES, NO, Err]);
+        assert_eq!(got, [vec![YES], vec![], vec![NO], iter, second, third]);
+    }
+
+    #[test]
+    fn fm_starts_with_its_third_input() {
+        let got = fired(Kind::FM, &[&[YES, NO, NO], &wholes(&[1]), &wholes(&[11, 12])], 1);
+        assert_eq!(got, [vec![NO], vec![], vec![], wholes(&[11, 1, 12])]);
+    }
+
+    #[test]
+    fn fs_remembers_on_every_false() {
+        let got = fired(Kind::FS, &[&[YES, YES, NO, YES, NO], &wholes(&[1, 2])], 1);
+        assert_eq!(got, [vec![NO], vec![], wholes(&[1, 1, 1, 2, 2])]);
+    }
+
+    /// "each link it emits on has a free place": in this firing.
+    #[test]
+    fn a_dropping_gate_needs_no_free_place() {
+        let graph = alone(Kind::T, 2, 1);
+        let mut machine = Machine::start(&graph, 1).expect("a capacity in its range");
+        for (control, answer) in [(YES, Ok(())), (NO, Ok(())), (YES, refuse(34, 0))] {
+            machine.push(&[control, Whole(3)]).expect("free input links");
+            assert_eq!(machine.fire(0), answer);
+        }
+        let graph = alone(Kind::IC, 3, 3);
+        let mut machine = Machine::start(&graph, 1).expect("a capacity in its range");
+        machine.queues[5].append(Err);
+        machine.push(&[YES, YES, NO]).expect("free input links");
+        assert_eq!(machine.fire(0), Ok(()));
+        machine.queues[0].append(NO);
+        assert_eq!(machine.fire(0), refuse(34, 0));
+    }
+}
