@@ -1,0 +1,185 @@
+// Runs random cases through the product's reader and evaluator and through those here, and stops at the first
+// difference, which it prints in full. Usage: compare CASES SEED [FIRST]. A case is made from the seed and its number
+// alone, so that `compare 1 SEED NUMBER` makes it again.
+
+use compare::bytes::{self, EvaluateAnswer, OUT_BYTES, VALUE_BYTES};
+use compare::product;
+use compare::random::faults::plant;
+use compare::random::{accepted_sheet, heavy_sheet, loose_sheet, mutate, random_set, random_value, renamed_sheet};
+use compare::random::{Made, Rng, Sort};
+use compare::sheet;
+use std::collections::BTreeMap;
+use std::{env, process};
+
+/// The rounds within which an evaluation is looked for; a loop that takes more is given fewer than it needs.
+const ROUNDS: u32 = 2_000;
+
+/// How many cases of each kind were compared.
+type Counts = BTreeMap<String, u64>;
+
+fn main() {
+    let words: Vec<u64> = env::args().skip(1).map(|word| word.parse().unwrap_or_else(|_| usage())).collect();
+    let (cases, seed, first) = match words[..] {
+        [cases, seed] => (cases, seed, 0),
+        [cases, seed, first] => (cases, seed, first),
+        _ => usage(),
+    };
+    let mut counts = Counts::new();
+    for number in first..first + cases {
+        let mut rng = Rng::new(seed.wrapping_mul(1 << 32).wrapping_add(number));
+        let (kind, made) = random_sheet(number, &mut rng);
+        let compared = compare_read(&made.bytes, &mut counts, &mut rng).and_then(|()| {
+            *counts.entry(kind.clone()).or_default() += 1;
+            (0..3).try_for_each(|_| compare_evaluate(&made, &mut counts, &mut rng))
+        });
+        if let Err(difference) = compared {
+            println!("case {number} of seed {seed}, {kind}\nsheet of {} bytes:", made.bytes.len());
+            println!("{}\n{difference}", made.bytes.escape_ascii().to_string().replace("\\n", "\\n\n"));
+            process::exit(1);
+        }
+    }
+    note_err_bits();
+    let list: Vec<String> = counts.iter().map(|(kind, count)| format!("{kind} {count}")).collect();
+    println!("no difference; compared: {}", list.join(", "));
+}
+
+fn usage() -> ! {
+    eprintln!("usage: compare CASES SEED [FIRST]");
+    process::exit(2)
+}
+
+/// The kinds of cases by turns: half of them accepted sheets, and each refusal planted.
+fn random_sheet(number: u64, rng: &mut Rng) -> (String, Made) {
+    let bytes = |kind: &str, bytes| (kind.to_string(), Made { bytes, sorts: [Sort::Whole; 32] });
+    match number % 40 {
+        0 | 1 => ("sheet with many operators".into(), heavy_sheet(rng)),
+        fault @ 2..=11 => bytes(&format!("sheet with fault {:2}", fault - 1), plant(fault as u32 - 1, rng).bytes),
+        12..=15 => bytes("sheet with altered bytes", mutate(&accepted_sheet(rng).bytes, rng)),
+        16..=18 => bytes("rows at random", loose_sheet(rng)),
+        19..=21 => bytes("sheet with other names", renamed_sheet(rng)),
+        22 => bytes("bytes at random", random_bytes(rng)),
+        _ => ("accepted sheet".into(), accepted_sheet(rng)),
+    }
+}
+
+fn random_bytes(rng: &mut Rng) -> Vec<u8> {
+    let length = rng.pick(&[0, 1, 30, 31, 62, 93, 6200, 6231]);
+    let mut bytes: Vec<u8> = (0..length).map(|_| rng.pick(b"       00123456789")).collect();
+    bytes.iter_mut().skip(30).step_by(31).for_each(|byte| *byte = b'\n');
+    if rng.chance(30) && length > 0 {
+        bytes[rng.below(length)] = rng.number() as u8;
+    }
+    bytes
+}
+
+/// Bytes with others on both sides, so that a call which reads or writes past its ends gives itself away.
+struct Surrounded {
+    memory: Vec<u8>,
+    length: usize,
+}
+
+const MARGIN: usize = 64;
+
+impl Surrounded {
+    fn new(middle: &[u8], rng: &mut Rng) -> Surrounded {
+        let mut margin = || (0..MARGIN).map(|_| rng.pick(b" 0123456789\n\x01\x02\x03")).collect::<Vec<u8>>();
+        Surrounded { memory: [&margin(), middle, &margin()].concat(), length: middle.len() }
+    }
+
+    fn middle(&self) -> &[u8] {
+        &self.memory[MARGIN..MARGIN + self.length]
+    }
+
+    fn middle_mut(&mut self) -> &mut [u8] {
+        &mut self.memory[MARGIN..MARGIN + self.length]
+    }
+
+    fn margins_equal(&self, other: &Surrounded) -> bool {
+        let margins = |one: &Surrounded| [&one.memory[..MARGIN], &one.memory[MARGIN + one.length..]].concat();
+        margins(self) == margins(other)
+    }
+}
+
+fn compare_read(sheet: &[u8], counts: &mut Counts, rng: &mut Rng) -> Result<(), String> {
+    let (ours, theirs) = (bytes::read(sheet), product::read(Surrounded::new(sheet, rng).middle()));
+    *counts.entry(format!("read with {:2}", ours.refusal)).or_default() += 1;
+    if ours == theirs {
+        return Ok(());
+    }
+    Err(format!("reading gives here    {ours:?}\nthe product answers   {theirs:?}"))
+}
+
+/// One evaluation with a random set, lent rounds and room.
+fn compare_evaluate(made: &Made, counts: &mut Counts, rng: &mut Rng) -> Result<(), String> {
+    let sheet = &made.bytes;
+    let set = random_set_bytes(made, rng);
+    let rounds = random_rounds(sheet, &set, rng);
+    let room = if rng.chance(90) { OUT_BYTES } else { rng.pick(&[0, 1, 5, 79, 81, 160]) };
+    let held: Vec<u8> = (0..room).map(|_| rng.number() as u8).collect();
+    let mut our_out = held.clone();
+    let ours = bytes::evaluate(sheet, &set, rounds, &mut our_out);
+    let (lent_sheet, lent_set) = (Surrounded::new(sheet, rng), Surrounded::new(&set, rng));
+    let before = Surrounded::new(&held, rng);
+    let mut after = Surrounded { memory: before.memory.clone(), length: room };
+    let theirs = product::evaluate(lent_sheet.middle(), lent_set.middle(), rounds, after.middle_mut());
+    if lent_sheet.middle() != sheet || lent_set.middle() != set || !after.margins_equal(&before) {
+        return Err("the product altered memory that it may not write".into());
+    }
+    let their_out = after.middle();
+    *counts.entry(format!("evaluated with {:2}", ours.refusal)).or_default() += 1;
+    if ours == theirs && our_out == their_out {
+        let proper = ours.refusal == 0 && our_out[..OUT_BYTES].chunks(VALUE_BYTES).any(|value| value[0] != 3);
+        *counts.entry("evaluated to more than errs".into()).or_default() += u64::from(proper);
+        return Ok(());
+    }
+    let lent = format!("set {set:02x?}\nrounds lent {rounds}, room {room} holding {held:02x?}");
+    let show = |answer: EvaluateAnswer, out: &[u8]| format!("{answer:?}\nwith {out:02x?}");
+    Err(format!(
+        "{lent}\nevaluation gives here {}\nthe product answers   {}",
+        show(ours, &our_out),
+        show(theirs, their_out)
+    ))
+}
+
+/// Mostly a set that fits the sheet; else one with a value or a byte too many or too few, or with a bad value.
+fn random_set_bytes(made: &Made, rng: &mut Rng) -> Vec<u8> {
+    let mut values = match sheet::read(&made.bytes) {
+        Ok(sheet) => random_set(made, &sheet, rng),
+        Err(_) => (0..rng.below(4)).map(|_| random_value(Sort::Whole, rng)).collect(),
+    };
+    let change = rng.below(40);
+    match change {
+        0 => values.push(random_value(Sort::Whole, rng)),
+        1 => drop(values.pop()),
+        _ => {}
+    }
+    let mut set = bytes::encode_set(&values);
+    match change {
+        2 => set.push(0),
+        3 => drop(set.pop()),
+        4 if !set.is_empty() => set[rng.below(values.len()) * VALUE_BYTES] = rng.pick(&[0, 4, 5, 128, 255]),
+        5 if !set.is_empty() => {
+            let place = rng.below(values.len()) * VALUE_BYTES;
+            set[place] = 2;
+            set[place + rng.between(1, 4)] = rng.pick(&[2, 3, 255]);
+        }
+        _ => {}
+    }
+    set
+}
+
+/// Where the evaluation ends: rounds about as many as it needs, or any greater number; else fewer than it needs.
+fn random_rounds(sheet: &[u8], set: &[u8], rng: &mut Rng) -> u32 {
+    let answer = bytes::evaluate(sheet, set, ROUNDS, &mut [0; OUT_BYTES]);
+    match answer.refusal {
+        0 => rng.pick(&[0, answer.rounds.saturating_sub(1), answer.rounds, answer.rounds + 1, ROUNDS, u32::MAX]),
+        _ => rng.below(ROUNDS as usize) as u32,
+    }
+}
+
+/// Whether an err with other bits than 0 is a good value is the byte form's decision, not document 01's.
+fn note_err_bits() {
+    let identity = sheet::write(&[[1, 0, 0, 0, 0]]);
+    let answer = product::evaluate(&identity, &[3, 1, 0, 0, 0], 0, &mut [0; OUT_BYTES]);
+    println!("note: an err whose bits are not 0 gets {} (not compared)", answer.refusal);
+}

@@ -1,0 +1,25 @@
+// Writes the list of sheets in src/cases.rs as test data: FOLDER/NNN/formula.txt, and FOLDER/expected with a line each,
+// the refusal and its row, or 0, rows, operators, inputs and results, in six-character fields.
+
+use compare::cases;
+use std::path::Path;
+use std::{env, fs, io, process};
+
+fn main() -> io::Result<()> {
+    let Some(folder) = env::args().nth(1) else {
+        eprintln!("usage: reader_cases FOLDER");
+        process::exit(2);
+    };
+    let folder = Path::new(&folder);
+    let mut expected = String::new();
+    for (number, case) in (1..).zip(cases::list()) {
+        let place = folder.join(format!("{number:03}"));
+        fs::create_dir_all(&place)?;
+        fs::write(place.join("formula.txt"), &case.sheet)?;
+        let line = cases::answer_line(&case.sheet);
+        println!("{number:03} {line:30} {}", case.name);
+        expected.push_str(&line);
+        expected.push('\n');
+    }
+    fs::write(folder.join("expected"), expected)
+}

@@ -1,0 +1,15 @@
+// A second implementation of document 01, written from the paper alone and sharing nothing with the product.
+// Where both are run on the same bytes, a misreading in either shows up as a difference.
+
+pub mod bench;
+pub mod bytes;
+pub mod cases;
+pub mod count;
+pub mod eval;
+pub mod graph;
+pub mod machine;
+#[cfg(feature = "product")]
+pub mod product;
+pub mod random;
+pub mod sheet;
+pub mod value;

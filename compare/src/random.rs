@@ -1,0 +1,109 @@
+// Random sheets, sets and bytes for the comparison, from a seed, so that every case can be made again.
+// The generator of numbers is Marsaglia's xorshift with a multiplied output.
+
+pub mod faults;
+pub mod formulas;
+pub mod sheets;
+pub mod tree;
+
+use crate::sheet::Sheet;
+use crate::value::Value;
+pub use formulas::Sort;
+pub use sheets::{accepted_sheet, heavy_sheet, loose_sheet, renamed_sheet, Made};
+
+pub struct Rng(u64);
+
+impl Rng {
+    pub fn new(seed: u64) -> Rng {
+        let mut rng = Rng((seed ^ 0x9e37_79b9_7f4a_7c15).max(1));
+        // Near seeds give near states; a few steps part them.
+        for _ in 0..8 {
+            rng.number();
+        }
+        rng
+    }
+
+    pub fn number(&mut self) -> u64 {
+        self.0 ^= self.0 >> 12;
+        self.0 ^= self.0 << 25;
+        self.0 ^= self.0 >> 27;
+        self.0.wrapping_mul(0x2545_f491_4f6c_dd1d)
+    }
+
+    /// A number below the bound, which is not 0.
+    pub fn below(&mut self, bound: usize) -> usize {
+        (self.number() >> 32) as usize % bound
+    }
+
+    /// A number from the one to the other, both included.
+    pub fn between(&mut self, least: usize, most: usize) -> usize {
+        least + self.below(most - least + 1)
+    }
+
+    pub fn chance(&mut self, percent: usize) -> bool {
+        self.below(100) < percent
+    }
+
+    pub fn pick<T: Copy>(&mut self, items: &[T]) -> T {
+        items[self.below(items.len())]
+    }
+}
+
+/// A set for a sheet, mostly of the sorts that its formula was made for.
+pub fn random_set(made: &Made, sheet: &Sheet, rng: &mut Rng) -> Vec<Value> {
+    sheet.inputs().map(|name| random_value(made.sorts[name as usize], rng)).collect()
+}
+
+pub fn random_value(sort: Sort, rng: &mut Rng) -> Value {
+    let sort = if rng.chance(4) { rng.pick(&[Sort::Whole, Sort::Truth]) } else { sort };
+    match (rng.below(100), sort) {
+        (0..=4, _) => Value::Err,
+        (_, Sort::Truth) => Value::Truth(rng.chance(50)),
+        (5..=84, Sort::Whole) => Value::Whole(rng.between(0, 14) as i32 - 3),
+        (85..=94, Sort::Whole) => Value::Whole(rng.pick(&[i32::MIN, i32::MIN + 1, i32::MAX, i32::MAX - 1, -1, 0])),
+        _ => Value::Whole(rng.number() as i32),
+    }
+}
+
+/// One to three small changes anywhere in the bytes.
+pub fn mutate(bytes: &[u8], rng: &mut Rng) -> Vec<u8> {
+    let mut bytes = bytes.to_vec();
+    for _ in 0..rng.between(1, 3) {
+        mutate_once(&mut bytes, rng);
+    }
+    bytes
+}
+
+fn mutate_once(bytes: &mut Vec<u8>, rng: &mut Rng) {
+    let rows = bytes.len() / 31;
+    if rows == 0 {
+        bytes.push(rng.number() as u8);
+        return;
+    }
+    let (one, other) = (rng.below(rows) * 31, rng.below(rows) * 31);
+    let place = rng.below(bytes.len());
+    match rng.below(12) {
+        0 => bytes[place] = rng.number() as u8,
+        1 => bytes[place] = rng.pick(b" 0123456789\n\r\t+-"),
+        2 => bytes.insert(place, rng.pick(b" 0123456789\n")),
+        3 => drop(bytes.remove(place)),
+        4 => bytes.truncate(one),
+        5 => bytes.copy_within(one..one + 31, other),
+        6 => (0..31).for_each(|byte| bytes.swap(one + byte, other + byte)),
+        7 => drop(bytes.drain(one..one + 31)),
+        _ => {
+            let text = format!("{:6}", random_field(rows, rng));
+            let field = one + rng.below(5) * 6;
+            bytes[field..field + 6].copy_from_slice(text.as_bytes());
+        }
+    }
+}
+
+fn random_field(rows: usize, rng: &mut Rng) -> usize {
+    match rng.below(10) {
+        0..=5 => rng.below(rows + 2),
+        6 | 7 => rng.below(13),
+        8 => rng.between(30, 33),
+        _ => rng.below(1_000_000),
+    }
+}

@@ -1,0 +1,228 @@
+// Sheets with one planted fault for each refusal 1 to 10, made from accepted sheets.
+// Where the way of planting fixes the row that the refusal must give, it is said with the bytes.
+
+use super::sheets::{accepted_sheet, overfull_sheet};
+use super::Rng;
+use crate::sheet::{self, Place, Sheet, ROW_BYTES};
+
+/// A sheet's bytes and, where it is known, the row that its refusal gives.
+pub struct Planted {
+    pub bytes: Vec<u8>,
+    pub row: Option<u32>,
+}
+
+/// A sheet that gets this refusal, 1 to 10.
+pub fn plant(number: u32, rng: &mut Rng) -> Planted {
+    loop {
+        let bytes = accepted_sheet(rng).bytes;
+        let sheet = sheet::read(&bytes).expect("an accepted sheet");
+        let planted = match number {
+            1 => Some(known(bad_rows(bytes, rng), 0)),
+            2 => Some(known(many_rows(&bytes, rng), 0)),
+            3 => Some(bad_field(bytes, rng)),
+            4 => Some(out_of_range(&sheet, rng)),
+            5 => wrongly_named(&sheet, rng),
+            6 => not_once(&sheet, rng),
+            7 => misplaced_iter(&sheet, rng),
+            8 => bad_width(&sheet, rng),
+            9 => not_free(&sheet, rng),
+            _ => Some(known(overfull_sheet(rng), 0)),
+        };
+        if let Some(planted) = planted {
+            return planted;
+        }
+    }
+}
+
+fn known(bytes: Vec<u8>, row: u32) -> Planted {
+    Planted { bytes, row: Some(row) }
+}
+
+fn rows_of(sheet: &Sheet) -> Vec<[u32; 5]> {
+    sheet.lines.iter().map(|line| [line.row.kind, line.row.a, line.row.b, line.row.c, line.row.d]).collect()
+}
+
+/// The sheet with one row exchanged.
+fn with_row(sheet: &Sheet, number: u32, row: [u32; 5]) -> Vec<u8> {
+    let mut rows = rows_of(sheet);
+    rows[number as usize - 1] = row;
+    sheet::write(&rows)
+}
+
+/// The number of a random row of which this holds.
+fn some_row(sheet: &Sheet, rng: &mut Rng, holds: impl Fn(u32, [u32; 5]) -> bool) -> Option<u32> {
+    let rows = rows_of(sheet);
+    let found: Vec<u32> = (1..=sheet.last()).filter(|&number| holds(number, rows[number as usize - 1])).collect();
+    (!found.is_empty()).then(|| rng.pick(&found))
+}
+
+fn bad_rows(mut bytes: Vec<u8>, rng: &mut Rng) -> Vec<u8> {
+    let rows = bytes.len() / ROW_BYTES;
+    match rng.below(5) {
+        0 => return Vec::new(),
+        1 => bytes.truncate(bytes.len() - rng.between(1, 30)),
+        2 => (0..rng.between(1, 30)).for_each(|_| bytes.push(b'\n')),
+        3 => bytes[rng.between(1, rows) * ROW_BYTES - 1] = rng.pick(b" 0\r"),
+        _ => {
+            // The line feed one place too early, so that the number of bytes is right.
+            let end = rng.between(1, rows) * ROW_BYTES - 1;
+            bytes.swap(end - 1, end);
+        }
+    }
+    bytes
+}
+
+fn many_rows(bytes: &[u8], rng: &mut Rng) -> Vec<u8> {
+    let rows = rng.pick(&[201, 201, 202, 230, 1000]);
+    bytes.iter().copied().cycle().take(rows * ROW_BYTES).collect()
+}
+
+fn bad_field(mut bytes: Vec<u8>, rng: &mut Rng) -> Planted {
+    let row = rng.below(bytes.len() / ROW_BYTES);
+    let start = row * ROW_BYTES + rng.below(5) * 6;
+    let field = &mut bytes[start..start + 6];
+    let text: &[u8] = match rng.below(12) {
+        0 => b"      ",
+        1 => b"    00",
+        2 => b"000001",
+        3 => b"    1 ",
+        4 => b"    +1",
+        5 => b"    -1",
+        6 => b"  1  1",
+        7 => b"\t    1",
+        8 => b"   1\r\n",
+        9 => b"    1\0",
+        10 => b"\xff    1",
+        _ => b"    1A",
+    };
+    field.copy_from_slice(text);
+    known(bytes, row as u32 + 1)
+}
+
+fn out_of_range(sheet: &Sheet, rng: &mut Rng) -> Planted {
+    let number = rng.between(1, sheet.last() as usize) as u32;
+    let row = rows_of(sheet)[number as usize - 1];
+    let unlisted: &[usize] = match row[0] {
+        1..=3 | 9 => &[2, 3, 4],
+        4 | 5 => &[3, 4],
+        7 => &[4],
+        _ => &[],
+    };
+    let mut changed = row;
+    match (row[0], rng.below(3)) {
+        (1, 0) => changed[1] = rng.pick(&[32, 33, 999_999]),
+        (3, 0) => changed[1] = rng.pick(&[2, 3, 10]),
+        (5, 0) => changed[1] = rng.pick(&[0, 12, 13, 999_999]),
+        (6 | 8, 0) => changed[2] = 0,
+        (6 | 8, 1) => changed[1] = rng.pick(&[33 - row[2], 32, 999_999]),
+        (6 | 8, _) => changed[2] = rng.pick(&[33 - row[1], 33, 999_999]),
+        (_, 1) if !unlisted.is_empty() => changed[rng.pick(unlisted)] = rng.pick(&[1, 2, 999_999]),
+        _ => changed[0] = rng.pick(&[0, 10, 11, 999_999]),
+    }
+    known(with_row(sheet, number, changed), number)
+}
+
+/// The places of the fields that name rows.
+fn naming_fields(kind: u32) -> &'static [usize] {
+    match kind {
+        4 => &[1, 2],
+        5 => &[2],
+        6 | 8 => &[3, 4],
+        7 => &[1, 2, 3],
+        9 => &[1],
+        _ => &[],
+    }
+}
+
+fn wrongly_named(sheet: &Sheet, rng: &mut Rng) -> Option<Planted> {
+    let number = some_row(sheet, rng, |_, row| !naming_fields(row[0]).is_empty())?;
+    let mut row = rows_of(sheet)[number as usize - 1];
+    row[rng.pick(naming_fields(row[0]))] = rng.pick(&[0, number, number + 1, 201, 999_999]);
+    Some(known(with_row(sheet, number, row), number))
+}
+
+fn not_once(sheet: &Sheet, rng: &mut Rng) -> Option<Planted> {
+    let number = some_row(sheet, rng, |number, row| number > 2 && !naming_fields(row[0]).is_empty())?;
+    let mut row = rows_of(sheet)[number as usize - 1];
+    let field = rng.pick(naming_fields(row[0]));
+    let old = row[field];
+    let new = rng.between(1, number as usize - 1) as u32;
+    row[field] = new;
+    (new != old).then(|| known(with_row(sheet, number, row), old.min(new)))
+}
+
+fn misplaced_iter(sheet: &Sheet, rng: &mut Rng) -> Option<Planted> {
+    if rng.chance(30) && sheet.last() < 200 {
+        let mut rows = rows_of(sheet);
+        rows.push([9, sheet.last(), 0, 0, 0]);
+        return Some(known(sheet::write(&rows), sheet.last() + 1));
+    }
+    let outside = |number, row: [u32; 5]| row[0] == 5 && sheet.line(number).place == Place::Expression;
+    let number = some_row(sheet, rng, outside)?;
+    let row = rows_of(sheet)[number as usize - 1];
+    Some(known(with_row(sheet, number, [9, row[2], 0, 0, 0]), number))
+}
+
+fn bad_width(sheet: &Sheet, rng: &mut Rng) -> Option<Planted> {
+    let number = some_row(sheet, rng, |_, row| matches!(row[0], 5 | 6 | 8 | 9))?;
+    let row = rows_of(sheet)[number as usize - 1];
+    let mut changed = row;
+    match row[0] {
+        5 => changed[1] = if row[1] < 10 { rng.pick(&[10, 11]) } else { rng.between(1, 9) as u32 },
+        9 if sheet.line(row[1]).width < 16 => return wider_iter(sheet, number, rng),
+        9 => return None,
+        _ if row[2] > 1 && rng.chance(50) => changed[2] -= 1,
+        _ if row[1] + row[2] <= 31 => changed[2] += 1,
+        _ => return None,
+    }
+    Some(known(with_row(sheet, number, changed), number))
+}
+
+/// Gives an iter one value too many, by two rows before it. The fault shows at an if or for above.
+fn wider_iter(sheet: &Sheet, iter: u32, rng: &mut Rng) -> Option<Planted> {
+    if sheet.last() > 198 {
+        return None;
+    }
+    let later = |named: u32| if named >= iter { named + 2 } else { named };
+    let mut rows = Vec::new();
+    for (number, mut row) in (1..).zip(rows_of(sheet)) {
+        if number == iter {
+            rows.push([2, rng.below(9) as u32, 0, 0, 0]);
+            rows.push([4, row[1], iter, 0, 0]);
+            row[1] = iter + 1;
+        } else {
+            naming_fields(row[0]).iter().for_each(|&field| row[field] = later(row[field]));
+        }
+        rows.push(row);
+    }
+    Some(Planted { bytes: sheet::write(&rows), row: None })
+}
+
+fn not_free(sheet: &Sheet, rng: &mut Rng) -> Option<Planted> {
+    let number = some_row(sheet, rng, |_, row| matches!(row[0], 6 | 8))?;
+    let mut row = rows_of(sheet)[number as usize - 1];
+    row[1] = rng.between(0, 32 - row[2] as usize) as u32;
+    let bound = ((1u64 << row[2]) - 1) << row[1];
+    let missing = bound & !sheet.line(row[4]).free != 0;
+    missing.then(|| known(with_row(sheet, number, row), number))
+}
+
+#[cfg(test)]
+mod tests {
+    use super::*;
+
+    #[test]
+    fn each_planted_fault_gets_its_refusal_and_row() {
+        let mut rng = Rng::new(5);
+        for case in 0..2000 {
+            let number = case % 10 + 1;
+            let planted = plant(number, &mut rng);
+            let refusal = sheet::read(&planted.bytes).expect_err("a planted fault");
+            let text = String::from_utf8_lossy(&planted.bytes).into_owned();
+            assert_eq!(refusal.number, number, "{text}");
+            if let Some(row) = planted.row {
+                assert_eq!(refusal.row, row, "{number}\n{text}");
+            }
+        }
+    }
+}

@@ -1,0 +1,141 @@
+// Values and the eleven operators (document 01, "Values and operators").
+// Arithmetic is exact in 64 bits and then held to the range; assumes nothing.
+
+/// A whole number of 32 bits, a truth, or err.
+#[derive(Clone, Copy, PartialEq, Eq, Debug)]
+pub enum Value {
+    Whole(i32),
+    Truth(bool),
+    Err,
+}
+
+use Value::{Err, Truth, Whole};
+
+/// The greatest width, and the number of places in a result set.
+pub const PLACES: usize = 16;
+
+/// "A result set is sixteen values carried whole, with its width; places past the width hold err."
+#[derive(Clone, Copy, PartialEq, Eq, Debug)]
+pub struct ResultSet {
+    pub values: [Value; PLACES],
+    pub width: usize,
+}
+
+impl ResultSet {
+    pub const EMPTY: ResultSet = ResultSet { values: [Err; PLACES], width: 0 };
+
+    pub fn of(values: &[Value]) -> ResultSet {
+        let mut set = ResultSet::EMPTY;
+        for &value in values {
+            set.push(value);
+        }
+        set
+    }
+
+    /// An err for each of so many values.
+    pub fn errs(width: usize) -> ResultSet {
+        ResultSet { values: [Err; PLACES], width }
+    }
+
+    pub fn push(&mut self, value: Value) {
+        self.values[self.width] = value;
+        self.width += 1;
+    }
+
+    pub fn used(&self) -> &[Value] {
+        &self.values[..self.width]
+    }
+}
+
+pub const CODES: std::ops::RangeInclusive<u32> = 1..=11;
+
+/// "10 and 11 take one operand, the rest two."
+pub fn operands(code: u32) -> usize {
+    match code {
+        10 | 11 => 1,
+        _ => 2,
+    }
+}
+
+/// The operator with this code, on as many operands as it takes.
+pub fn operate(code: u32, operand: &[Value]) -> Value {
+    match (code, operand) {
+        (1..=7, &[Whole(x), Whole(y)]) => on_wholes(code, x.into(), y.into()),
+        (8, &[Truth(x), Truth(y)]) => Truth(x && y),
+        (9, &[Truth(x), Truth(y)]) => Truth(x || y),
+        (10, &[Truth(x)]) => Truth(!x),
+        (11, &[Whole(x)]) => in_range(-i64::from(x)),
+        _ => Err,
+    }
+}
+
+fn on_wholes(code: u32, x: i64, y: i64) -> Value {
+    match code {
+        1 => in_range(x + y),
+        2 => in_range(x - y),
+        3 => in_range(x * y),
+        4 | 5 if y == 0 => Err,
+        4 => in_range(x / y),
+        5 => in_range(x % y),
+        6 => Truth(x < y),
+        _ => Truth(x == y),
+    }
+}
+
+fn in_range(exact: i64) -> Value {
+    i32::try_from(exact).map_or(Err, Whole)
+}
+
+#[cfg(test)]
+mod tests {
+    use super::*;
+
+    fn two(code: u32, x: i32, y: i32) -> Value {
+        operate(code, &[Whole(x), Whole(y)])
+    }
+
+    #[test]
+    fn sums_stay_in_the_range() {
+        assert_eq!(two(1, 2, 3), Whole(5));
+        assert_eq!(two(1, i32::MAX, 1), Err);
+        assert_eq!(two(2, i32::MIN, 1), Err);
+        assert_eq!(two(2, 3, 5), Whole(-2));
+        assert_eq!(two(3, 65_536, 32_768), Err);
+        assert_eq!(two(3, -65_536, 32_768), Whole(i32::MIN));
+        assert_eq!(operate(11, &[Whole(i32::MIN)]), Err);
+        assert_eq!(operate(11, &[Whole(7)]), Whole(-7));
+    }
+
+    #[test]
+    fn division_cuts_toward_zero_and_remainder_has_the_dividends_sign() {
+        assert_eq!(two(4, -7, 2), Whole(-3));
+        assert_eq!(two(4, 7, -2), Whole(-3));
+        assert_eq!(two(5, -7, 2), Whole(-1));
+        assert_eq!(two(5, 7, -2), Whole(1));
+        assert_eq!(two(4, 1, 0), Err);
+        assert_eq!(two(5, 1, 0), Err);
+        assert_eq!(two(4, i32::MIN, -1), Err);
+        assert_eq!(two(5, i32::MIN, -1), Whole(0));
+    }
+
+    #[test]
+    fn comparisons_want_wholes_and_give_truths() {
+        assert_eq!(two(6, 1, 2), Truth(true));
+        assert_eq!(two(6, 2, 2), Truth(false));
+        assert_eq!(two(7, 2, 2), Truth(true));
+        assert_eq!(operate(7, &[Truth(true), Truth(true)]), Err);
+        assert_eq!(operate(6, &[Whole(1), Truth(true)]), Err);
+    }
+
+    #[test]
+    fn truths_want_truths() {
+        assert_eq!(operate(8, &[Truth(true), Truth(false)]), Truth(false));
+        assert_eq!(operate(9, &[Truth(true), Truth(false)]), Truth(true));
+        assert_eq!(operate(10, &[Truth(true)]), Truth(false));
+        assert_eq!(operate(8, &[Truth(false), Err]), Err);
+        assert_eq!(operate(9, &[Truth(true), Whole(1)]), Err);
+        assert_eq!(operate(10, &[Whole(1)]), Err);
+        assert_eq!(operate(11, &[Truth(true)]), Err);
+        assert_eq!(two(8, 1, 1), Err);
+    }
+}

@@ -1,0 +1,203 @@
+// Demand 3 on random sheets and sets: at every capacity, in any order of pushes, firings, runs and takes, the machine
+// gives what direct evaluation gives. And what the papers say of a machine at rest.
+
+use compare::bench::{bench, write_set};
+use compare::eval::evaluate;
+use compare::graph::{build, Graph, Kind};
+use compare::machine::{Machine, Ran};
+use compare::random::{accepted_sheet, heavy_sheet, random_set, Made, Rng};
+use compare::sheet::{read, Sheet};
+use compare::value::{ResultSet, Value};
+
+/// More rounds than most evaluations here need; one that needs more counts as one that does not end.
+const ROUNDS: u32 = 60;
+
+/// A sheet, its graph with the operators in a random order, and sets with what evaluation gives for them.
+struct Case {
+    made: Made,
+    sheet: Sheet,
+    graph: Graph,
+    sets: Vec<Vec<Value>>,
+    expected: Vec<Option<ResultSet>>,
+}
+
+fn case(heavy: bool, rng: &mut Rng) -> Case {
+    let made = if heavy { heavy_sheet(rng) } else { accepted_sheet(rng) };
+    let sheet = read(&made.bytes).expect("an accepted sheet");
+    let mut graph = build(&sheet);
+    for last in (1..graph.operators.len()).rev() {
+        graph.operators.swap(last, rng.below(last + 1));
+    }
+    let sets: Vec<Vec<Value>> = (0..rng.between(1, 20)).map(|_| random_set(&made, &sheet, rng)).collect();
+    let expected = sets.iter().map(|set| evaluate(&sheet, set, ROUNDS).ok().map(|done| done.set)).collect();
+    Case { made, sheet, graph, sets, expected }
+}
+
+/// How many results of a list of calls were held to evaluation.
+fn follow(case: &Case, capacity: usize, calls: usize, rng: &mut Rng) -> usize {
+    let mut machine = Machine::start(&case.graph, capacity).expect("a capacity in its range");
+    let (mut pushed, mut taken) = (0, 0);
+    for _ in 0..calls {
+        match rng.below(10) {
+            0..=2 if pushed < case.sets.len() => pushed += usize::from(machine.push(&case.sets[pushed]).is_ok()),
+            3 => drop(machine.run(rng.below(60) as u32)),
+            4 | 5 => taken += usize::from(take(case, &mut machine, taken)),
+            _ => drop(machine.fire(rng.below(case.graph.operators.len() + 1))),
+        }
+        assert_eq!(machine.untaken() as usize, pushed - taken);
+        if !(0..case.graph.operators.len()).any(|number| machine.can_fire(number)) {
+            rested(case, &machine, pushed - taken);
+        }
+    }
+    drain(case, &mut machine, &mut taken);
+    taken
+}
+
+/// Takes, and holds an accepted take to evaluation if it and every one before ends.
+fn take(case: &Case, machine: &mut Machine, taken: usize) -> bool {
+    let Ok(set) = machine.take() else {
+        return false;
+    };
+    let ending = case.expected[..=taken].iter().all(Option::is_some);
+    if ending {
+        assert_eq!(Some(set), case.expected[taken], "{}", String::from_utf8_lossy(&case.made.bytes));
+    }
+    true
+}
+
+/// "when nothing can fire, either every pushed set has been taken, or the oldest untaken one has its whole result".
+fn rested(case: &Case, machine: &Machine, untaken: usize) {
+    assert!(untaken == 0 || machine.clone().take().is_ok(), "{}", String::from_utf8_lossy(&case.made.bytes));
+    if untaken == 0 {
+        only_loop_controls_wait(case, machine);
+    }
+}
+
+/// At rest with all taken, a false waits at the control of each FM and FS that has fired, and nothing else anywhere.
+fn only_loop_controls_wait(case: &Case, machine: &Machine) {
+    let mut expected = vec![0; case.graph.links];
+    for (number, operator) in case.graph.operators.iter().enumerate() {
+        if matches!(operator.kind, Kind::FM | Kind::FS) && machine.has_fired(number) {
+            expected[operator.inputs[0]] = 1;
+        }
+    }
+    for (link, &count) in expected.iter().enumerate() {
+        assert_eq!(machine.waiting(link), vec![Value::Truth(false); count]);
+    }
+}
+
+/// Works what is pushed, as far as a number of firings allows.
+fn drain(case: &Case, machine: &mut Machine, taken: &mut usize) {
+    for _ in 0..40 {
+        machine.run(5_000);
+        while take(case, machine, *taken) {
+            *taken += 1;
+        }
+    }
+}
+
+#[test]
+fn every_order_of_calls_gives_what_evaluation_gives() {
+    let mut rng = Rng::new(1978);
+    let mut held = 0;
+    let mut values = 0;
+    for round in 0..1500 {
+        let case = case(false, &mut rng);
+        values += case.expected.iter().flatten().filter(|set| set.values[0] != Value::Err).count();
+        let capacity = round % 16 + 1;
+        let calls = rng.pick(&[20, 200, 1000]);
+        held += follow(&case, capacity, calls, &mut rng);
+    }
+    assert!(held > 5_000, "too few results were compared: {held}");
+    assert!(values > 3_000, "too few results are no err: {values}");
+}
+
+#[test]
+fn heavy_sheets_too() {
+    let mut rng = Rng::new(120);
+    let mut held = 0;
+    for round in 0..60 {
+        let case = case(true, &mut rng);
+        assert!(case.sheet.figures.operators <= 1024);
+        held += follow(&case, round % 16 + 1, 2_000, &mut rng);
+    }
+    assert!(held > 100, "too few results were compared: {held}");
+}
+
+/// Document 02, Job 10: at rest with all taken, the firings depend on the sheet and the sets alone.
+#[test]
+fn the_firings_in_all_depend_on_the_sheet_and_the_sets_alone() {
+    let mut rng = Rng::new(10);
+    let mut compared = 0;
+    for _ in 0..400 {
+        let case = case(false, &mut rng);
+        if case.expected.iter().any(Option::is_none) {
+            continue;
+        }
+        let counts: Vec<u32> = [1, 2, 16].map(|capacity| work_all(&case, capacity)).to_vec();
+        assert!(counts.iter().all(|&count| count == counts[0]));
+        compared += 1;
+    }
+    assert!(compared > 200, "too few were compared: {compared}");
+}
+
+fn work_all(case: &Case, capacity: usize) -> u32 {
+    let mut machine = Machine::start(&case.graph, capacity).expect("a capacity in its range");
+    let (mut pushed, mut taken, mut firings) = (0, 0, 0);
+    while taken < case.sets.len() {
+        while pushed < case.sets.len() && machine.push(&case.sets[pushed]).is_ok() {
+            pushed += 1;
+        }
+        let Ran { refusal, count } = machine.run(10_000_000);
+        assert_eq!(refusal, 0);
+        firings += count;
+        let before = taken;
+        while take(case, &mut machine, taken) {
+            taken += 1;
+        }
+        assert!(taken > before, "nothing can fire and no result is ready");
+    }
+    firings
+}
+
+/// The program's output is its first line and a line for each set as evaluation gives it.
+#[test]
+fn bench_prints_what_evaluation_gives() {
+    let mut rng = Rng::new(36);
+    let mut compared = 0;
+    for _ in 0..300 {
+        let case = case(false, &mut rng);
+        if case.expected.iter().any(Option::is_none) {
+            continue;
+        }
+        let sets: String = case.sets.iter().map(|set| write_set(set)).collect();
+        let figures = case.sheet.figures;
+        let mut printed = format!("{:6}{:6}{:6}\n", figures.inputs, figures.results, case.sets.len());
+        printed.extend(case.expected.iter().flatten().map(|set| write_set(set.used())));
+        assert_eq!(String::from_utf8(bench(&case.made.bytes, sets.as_bytes())).unwrap(), printed);
+        compared += 1;
+    }
+    assert!(compared > 150, "too few were compared: {compared}");
+}
+
+/// Run finds the least-numbered able operator as a search from the first one does.
+#[test]
+fn run_fires_the_least_numbered_able_operator() {
+    let mut rng = Rng::new(7);
+    for _ in 0..200 {
+        let case = case(false, &mut rng);
+        let mut quick = Machine::start(&case.graph, 2).expect("a capacity in its range");
+        let mut plain = quick.clone();
+        for set in case.sets.iter().take(3) {
+            assert_eq!(quick.push(set), plain.push(set));
+        }
+        let count = quick.run(300).count;
+        for _ in 0..count {
+            let least = (0..case.graph.operators.len()).find(|&number| plain.can_fire(number));
+            plain.fire(least.expect("something able")).expect("an able operator");
+        }
+        for link in 0..case.graph.links {
+            assert_eq!(quick.waiting(link), plain.waiting(link));
+        }
+    }
+}

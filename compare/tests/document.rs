@@ -1,0 +1,309 @@
+// The worked examples and the marked cases of document 01, and cases that its sentences decide one by one.
+
+use compare::bench::bench;
+use compare::eval::evaluate;
+use compare::graph::build;
+use compare::machine::Machine;
+use compare::sheet::{read, write, Figures, Refusal, Sheet};
+use compare::value::Value::{self, Err, Truth, Whole};
+
+const LESSER: &str = "     1     0     0     0     0
+     1     1     0     0     0
+     4     1     2     0     0
+     5     6     3     0     0
+     1     0     0     0     0
+     1     1     0     0     0
+     7     4     5     6     0
+";
+
+/// "for i, y = n, 1 do if 1 < i then iter i - 1, y * i else y": i is 0, y is 1, n is 2.
+const FACTORIAL: [[u32; 5]; 18] = [
+    [1, 2, 0, 0, 0],
+    [2, 1, 0, 0, 0],
+    [4, 1, 2, 0, 0],
+    [2, 1, 0, 0, 0],
+    [1, 0, 0, 0, 0],
+    [4, 4, 5, 0, 0],
+    [5, 6, 6, 0, 0],
+    [1, 0, 0, 0, 0],
+    [2, 1, 0, 0, 0],
+    [4, 8, 9, 0, 0],
+    [5, 2, 10, 0, 0],
+    [1, 1, 0, 0, 0],
+    [1, 0, 0, 0, 0],
+    [4, 12, 13, 0, 0],
+    [5, 3, 14, 0, 0],
+    [4, 11, 15, 0, 0],
+    [9, 16, 0, 0, 0],
+    [1, 1, 0, 0, 0],
+];
+
+fn factorial() -> Vec<[u32; 5]> {
+    let mut rows = FACTORIAL.to_vec();
+    rows.push([7, 7, 17, 18, 0]);
+    rows.push([8, 0, 2, 3, 19]);
+    rows
+}
+
+fn accepted(rows: &[[u32; 5]]) -> Sheet {
+    read(&write(rows)).expect("an accepted sheet")
+}
+
+fn refused(rows: &[[u32; 5]]) -> (u32, u32) {
+    let Refusal { number, row } = read(&write(rows)).expect_err("a refused sheet");
+    (number, row)
+}
+
+fn values(sheet: &Sheet, set: &[Value]) -> Vec<Value> {
+    evaluate(sheet, set, 1000).expect("an evaluation that ends").set.used().to_vec()
+}
+
+/// The first result of a machine at capacity 1.
+fn worked(sheet: &Sheet, set: &[Value]) -> Vec<Value> {
+    let graph = build(sheet);
+    let mut machine = Machine::start(&graph, 1).expect("a capacity in its range");
+    machine.push(set).expect("an empty machine");
+    assert_eq!(machine.run(100_000).refusal, 0);
+    machine.take().expect("a whole result").used().to_vec()
+}
+
+#[test]
+fn the_lesser_of_two_prints_as_on_the_page() {
+    let sets = "          3          5\n          7          7\n          E          2\n          T          1\n";
+    let printed = "     2     1     4\n          3\n          7\n          E\n          E\n";
+    assert_eq!(String::from_utf8(bench(LESSER.as_bytes(), sets.as_bytes())).unwrap(), printed);
+}
+
+#[test]
+fn the_lesser_of_two_has_eight_operators_and_its_four_results() {
+    let sheet = read(LESSER.as_bytes()).expect("an accepted sheet");
+    assert_eq!(sheet.figures, Figures { rows: 7, operators: 8, inputs: 2, results: 1 });
+    assert_eq!(build(&sheet).operators.len(), 8);
+    let sets = [([Whole(3), Whole(5)], Whole(3)), ([Whole(7), Whole(7)], Whole(7))];
+    let errs = [([Err, Whole(2)], Err), ([Truth(true), Whole(1)], Err)];
+    for (set, result) in sets.into_iter().chain(errs) {
+        assert_eq!(values(&sheet, &set), [result]);
+        assert_eq!(worked(&sheet, &set), [result]);
+    }
+}
+
+#[test]
+fn x_plus_x_has_two_operators() {
+    let sheet = accepted(&[[1, 0, 0, 0, 0], [1, 0, 0, 0, 0], [4, 1, 2, 0, 0], [5, 1, 3, 0, 0]]);
+    assert_eq!(sheet.figures, Figures { rows: 4, operators: 2, inputs: 1, results: 1 });
+    assert_eq!(values(&sheet, &[Whole(21)]), [Whole(42)]);
+}
+
+#[test]
+fn factorial_as_marked() {
+    let sheet = accepted(&factorial());
+    let five = evaluate(&sheet, &[Whole(5)], 5).expect("five rounds are enough");
+    assert_eq!((five.set.used(), five.rounds), ([Whole(120)].as_slice(), 5));
+    assert_eq!(evaluate(&sheet, &[Whole(5)], 4), Result::Err(Refusal { number: 36, row: 0 }));
+    let cases = [(Whole(0), Whole(1)), (Whole(12), Whole(479_001_600)), (Whole(13), Err), (Err, Err)];
+    for (set, result) in cases {
+        assert_eq!(values(&sheet, &[set]), [result]);
+        assert_eq!(worked(&sheet, &[set]), [result]);
+    }
+    assert_eq!(evaluate(&sheet, &[Err], 1).expect("one round is enough").rounds, 1);
+    assert_eq!(evaluate(&sheet, &[Err], 0), Result::Err(Refusal { number: 36, row: 0 }));
+}
+
+/// By hand: constants 1, 1, 1 and true, false; less, subtract, multiply: 8. T on i, y, trigger and F on y, trigger: 5.
+/// IC, E: 2. FM on i, y and FS on trigger: 3, iter? to them: 2 copies. Copies of i in the arm: i twice 1, trigger of
+/// 1 and true 1. The test's output to 5 gates and IC: 5. In the body i: test and T 1, y: T and F 1, trigger: test, T
+/// and F 2. Outside, trigger: the constant 1 and FS 1.
+#[test]
+fn factorial_has_the_operators_counted_by_hand() {
+    let sheet = accepted(&factorial());
+    assert_eq!(sheet.figures.operators, 8 + 5 + 2 + 3 + 2 + 2 + 5 + 4 + 1);
+    assert_eq!(build(&sheet).operators.len(), 32);
+}
+
+#[test]
+fn iter_as_the_formula_gets_7() {
+    assert_eq!(refused(&[[2, 1, 0, 0, 0], [9, 1, 0, 0, 0]]), (7, 2));
+}
+
+#[test]
+fn let_x_be_1_in_2_gets_9() {
+    assert_eq!(refused(&[[2, 1, 0, 0, 0], [2, 2, 0, 0, 0], [6, 0, 1, 1, 2]]), (9, 3));
+}
+
+fn negations(rows: u32) -> Vec<[u32; 5]> {
+    let negation = |row| if row == 1 { [1, 0, 0, 0, 0] } else { [5, 11, row - 1, 0, 0] };
+    (1..=rows).map(negation).collect()
+}
+
+#[test]
+fn two_hundred_rows_pass_test_2() {
+    assert_eq!(accepted(&negations(200)).figures.rows, 200);
+    assert_eq!(refused(&negations(201)), (2, 0));
+    // A stray byte behind 201 rows is test 1's.
+    let mut bytes = write(&negations(201));
+    bytes.push(b' ');
+    assert_eq!(read(&bytes).expect_err("a stray byte").number, 1);
+}
+
+#[test]
+fn sixteen_pushes_pass_and_the_seventeenth_gets_32() {
+    for rows in [vec![[1, 0, 0, 0, 0]], negations(2)] {
+        let sheet = accepted(&rows);
+        let graph = build(&sheet);
+        let mut machine = Machine::start(&graph, 16).expect("a capacity in its range");
+        for number in 0..16 {
+            assert_eq!(machine.push(&[Whole(number)]), Ok(()));
+        }
+        assert_eq!(machine.push(&[Whole(16)]), refusal(32));
+        assert_eq!(machine.push(&[]), refusal(12));
+    }
+}
+
+fn refusal<T>(number: u32) -> Result<T, Refusal> {
+    Result::Err(Refusal { number, row: 0 })
+}
+
+#[test]
+fn the_machines_refusals_in_a_small_case() {
+    let sheet = accepted(&negations(2));
+    let graph = build(&sheet);
+    assert!(Machine::start(&graph, 0).is_err() && Machine::start(&graph, 17).is_err());
+    let mut machine = Machine::start(&graph, 1).expect("a capacity in its range");
+    assert_eq!(machine.take(), refusal(35));
+    assert_eq!(machine.fire(0), refusal(34));
+    assert_eq!(machine.push(&[Whole(4)]), Ok(()));
+    assert_eq!(machine.push(&[Whole(5)]), refusal(33));
+    assert_eq!(machine.take(), refusal(35));
+    assert_eq!(machine.fire(1), refusal(34));
+    let none = machine.run(0);
+    assert_eq!((none.refusal, none.count), (36, 0));
+    assert_eq!(machine.fire(0), Ok(()));
+    assert_eq!(machine.push(&[Whole(5)]), Ok(()));
+    // The result's link is full.
+    assert_eq!(machine.fire(0), refusal(34));
+    assert_eq!(machine.run(7).count, 0);
+    assert_eq!(machine.take().expect("a whole result").used(), [Whole(-4)]);
+    let one = machine.run(1);
+    assert_eq!((one.refusal, one.count), (0, 1));
+    assert_eq!(machine.take().expect("a whole result").used(), [Whole(-5)]);
+    assert_eq!(machine.untaken(), 0);
+}
+
+/// A body if whose arms are both iters, on a test that is no truth: "each is a copy of that third output".
+#[test]
+fn an_if_of_two_iters_ends_with_errs_on_a_bad_test() {
+    // for x = n do if x < 3 then (if t then iter x + 1 else iter x + 2) else x, x: n is 1, t is 2, x is 0.
+    let rows = [
+        [1, 1, 0, 0, 0],
+        [1, 0, 0, 0, 0],
+        [2, 3, 0, 0, 0],
+        [4, 2, 3, 0, 0],
+        [5, 6, 4, 0, 0],
+        [1, 2, 0, 0, 0],
+        [1, 0, 0, 0, 0],
+        [2, 1, 0, 0, 0],
+        [4, 7, 8, 0, 0],
+        [5, 1, 9, 0, 0],
+        [9, 10, 0, 0, 0],
+        [1, 0, 0, 0, 0],
+        [2, 2, 0, 0, 0],
+        [4, 12, 13, 0, 0],
+        [5, 1, 14, 0, 0],
+        [9, 15, 0, 0, 0],
+        [7, 6, 11, 16, 0],
+        [1, 0, 0, 0, 0],
+        [1, 0, 0, 0, 0],
+        [4, 18, 19, 0, 0],
+        [7, 5, 17, 20, 0],
+        [8, 0, 1, 1, 21],
+    ];
+    let sheet = accepted(&rows);
+    for (set, result) in [
+        ([Whole(0), Truth(true)], [Whole(3), Whole(3)]),
+        ([Whole(0), Truth(false)], [Whole(4), Whole(4)]),
+        ([Whole(0), Err], [Err, Err]),
+        ([Whole(0), Whole(1)], [Err, Err]),
+        ([Whole(9), Err], [Whole(9), Whole(9)]),
+        ([Err, Truth(true)], [Err, Err]),
+    ] {
+        assert_eq!(values(&sheet, &set), result);
+        assert_eq!(worked(&sheet, &set), result);
+    }
+}
+
+#[test]
+fn a_for_that_never_iterates_breaks_a_width_rule() {
+    assert_eq!(refused(&[[2, 1, 0, 0, 0], [1, 0, 0, 0, 0], [8, 0, 1, 1, 2]]), (8, 3));
+    // And one that never returns.
+    assert_eq!(refused(&[[2, 1, 0, 0, 0], [1, 0, 0, 0, 0], [9, 2, 0, 0, 0], [8, 0, 1, 1, 3]]), (8, 4));
+}
+
+#[test]
+fn a_name_free_only_in_an_inner_row_c_is_free() {
+    // let x = 1 in let x = x in x
+    let rows = [[2, 1, 0, 0, 0], [1, 0, 0, 0, 0], [1, 0, 0, 0, 0], [6, 0, 1, 2, 3], [6, 0, 1, 1, 4]];
+    let sheet = accepted(&rows);
+    assert_eq!(sheet.figures, Figures { rows: 5, operators: 1, inputs: 0, results: 1 });
+    assert_eq!(values(&sheet, &[]), [Whole(1)]);
+}
+
+#[test]
+fn rounds_of_an_unused_loop_count() {
+    // let a, b = factorial of 4 rounds, 7 in if true then b else a
+    let mut rows = factorial();
+    rows.extend([[2, 7, 0, 0, 0], [4, 20, 21, 0, 0], [3, 1, 0, 0, 0], [1, 6, 0, 0, 0], [1, 5, 0, 0, 0]]);
+    rows.extend([[7, 23, 24, 25, 0], [6, 5, 2, 22, 26]]);
+    let done = evaluate(&accepted(&rows), &[Whole(4)], 100).expect("an evaluation that ends");
+    assert_eq!((done.set.used(), done.rounds), ([Whole(7)].as_slice(), 4));
+}
+
+#[test]
+fn bench_refusals() {
+    let print = |formula: &[u8], sets: &[u8]| String::from_utf8(bench(formula, sets)).unwrap();
+    let identity = write(&[[1, 0, 0, 0, 0]]);
+    assert_eq!(print(b"", b""), "     1     0\n");
+    assert_eq!(print(&write(&[[1, 32, 0, 0, 0]]), b""), "     4     1\n");
+    assert_eq!(print(&identity, b""), "     1     1     0\n");
+    assert_eq!(print(&identity, &vec![b' '; 65_537]), "    13     0\n");
+    assert_eq!(print(&identity, b"          1\n          2"), "    12     2\n");
+    assert_eq!(print(&identity, b"-2147483648\n 2147483647\n"), "     1     1     2\n-2147483648\n 2147483647\n");
+    for bad in ["-2147483649", " 2147483648", "         -0", "         01", "           ", "         1 ", "          t"]
+    {
+        assert_eq!(
+            print(&identity, format!("          1\n{bad}\n          1\n").as_bytes()),
+            "    12     2\n",
+            "{bad}"
+        );
+    }
+    for bad in ["99999999999", "         +1", "-0000000001", "          -", "          1          1", "", "\n"] {
+        assert_eq!(print(&identity, format!("{bad}\n").as_bytes()), "    12     1\n", "{bad}");
+    }
+    // A formula without inputs has empty set lines.
+    assert_eq!(print(&write(&[[2, 7, 0, 0, 0]]), b"\n\n"), "     0     1     2\n          7\n          7\n");
+    assert_eq!(print(&write(&[[2, 7, 0, 0, 0]]), b"\n "), "    12     2\n");
+}
+
+/// An unending loop: what is ready before it is printed, and 36 stands last.
+#[test]
+fn bench_prints_36_last() {
+    // for x = n do if x = 0 then x else iter x
+    let rows = [
+        [1, 1, 0, 0, 0],
+        [1, 0, 0, 0, 0],
+        [2, 0, 0, 0, 0],
+        [4, 2, 3, 0, 0],
+        [5, 7, 4, 0, 0],
+        [1, 0, 0, 0, 0],
+        [1, 0, 0, 0, 0],
+        [9, 7, 0, 0, 0],
+        [7, 5, 6, 8, 0],
+        [8, 0, 1, 1, 9],
+    ];
+    let printed = bench(&write(&rows), b"          0\n          0\n          0\n          5\n          0\n");
+    let printed = String::from_utf8(printed).unwrap();
+    let lines: Vec<&str> = printed.lines().collect();
+    assert_eq!(lines[0], "     1     1     5");
+    assert_eq!(*lines.last().unwrap(), "    36     0");
+    assert!(lines[1..lines.len() - 1].iter().all(|line| *line == "          0"));
+    assert_eq!(lines.len(), 5);
+}
