@@ -30,6 +30,7 @@ unfolding bytes lesser twice factorial iterAlone letUnused alike constantRow
 reads =
     read (bytes lesser) (accepted 7 8 2 1)
     ∷ read (bytes twice) (accepted 4 2 1 1)
+    ∷ read (bytes factorial) (accepted 20 32 1 1)
     ∷ read (bytes iterAlone) (Rejected StrayIter 2)
     ∷ read (bytes letUnused) (Rejected Unused 3)
     ∷ read (alike 200 constantRow) (Rejected Named 1)
