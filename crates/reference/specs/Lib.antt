@@ -1,0 +1,5 @@
+pub mod NameSets
+pub mod Plugged
+pub mod Firings
+pub mod Plan
+pub mod NameRows
