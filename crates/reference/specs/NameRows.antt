@@ -16,11 +16,12 @@ abbrev pub Works : (ℕ → Demand) → (ℕ → Type 0) → ℕ → (Links → 
 Works net F c Post s = (s′ : Links) × Steps net s c s′ × Post s′ × ((l : ℕ) → (F l → ⊥) → s′ l ≡ s l)
 
 -- The firings of the first k names.
-abbrev pub tally : ℕ → Names → ℕ → ℕ
+unfoldable pub tally : ℕ → Names → ℕ → ℕ
 tally e f zero = 0
 tally e f (suc k) = tally e f k + cond (f k) e 0
 
 pub tally-one : (e : ℕ) (f : Names) (k x : ℕ) → x < k → f x ≡ true → e ≤ tally e f k
+unfolding tally
 tally-one e f zero x lt h = absurd (omega arith)
 tally-one e f (suc k) x lt h = go (ℕ-discrete x k) (λ l. tally-one e f k x l h)
   where
@@ -43,6 +44,7 @@ module _ (net : ℕ → Demand) (f : Names) (e : ℕ) (F : ℕ → ℕ → Type 
     rest : (l : ℕ) → ((x : ℕ) → f x ≡ true → F x l → ⊥) → s′ l ≡ s l
 
   works : (k : ℕ) (s : Links) → ((x : ℕ) → f x ≡ true → Pre x s) → (s′ : Links) × Worked k s s′
+  unfolding tally
   works zero s p = (s, record { steps = stay net s; posts = λ x lt h. absurd (omega arith); pres = λ x le h. p x h; rest = λ l n. refl })
   works (suc k) s p = let w = works k s p in go (w .0) (w .1) (f k) refl
     where
