@@ -5,3 +5,5 @@ pub mod Plan
 pub mod NameRows
 pub mod Copies
 pub mod Sharing
+pub mod Parts
+pub mod SideBySide
