@@ -7,3 +7,5 @@ pub mod Copies
 pub mod Sharing
 pub mod Parts
 pub mod SideBySide
+pub mod Binding
+pub mod OneAfterAnother
