@@ -9,3 +9,4 @@ pub mod Parts
 pub mod SideBySide
 pub mod Binding
 pub mod OneAfterAnother
+pub mod GateFiring
