@@ -10,3 +10,4 @@ pub mod SideBySide
 pub mod Binding
 pub mod OneAfterAnother
 pub mod GateFiring
+pub mod BehindGate
