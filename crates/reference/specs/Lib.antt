@@ -11,3 +11,4 @@ pub mod Binding
 pub mod OneAfterAnother
 pub mod GateFiring
 pub mod BehindGate
+pub mod RingGates
