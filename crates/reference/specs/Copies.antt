@@ -122,6 +122,24 @@ module _ (net : ℕ → Demand) where
           here j m (inr (inl z)) = m (inr (omega arith, omega arith))
           here j m (inr (inr z)) = m (inr (omega arith, omega arith))
 
+  -- The same by the number of users.
+  pub fans-out : (k l n : ℕ) (v : Value) (s : Links) → 1 ≤ k → l < n → Has net (chain l n k) → s l ≡ val v ∷ [] → ((j : ℕ) → Between n (chainLinks k) j → s j ≡ []) →
+      (s′ : Links) × Steps net s 0 s′ × ((j : ℕ) → In j (chainEnds l n k) → s′ j ≡ val v ∷ [])
+      × ((j : ℕ) → (j ≡ l) ⊎ Between n (chainLinks k) j → (In j (chainEnds l n k) → ⊥) → s′ j ≡ [])
+      × ((j : ℕ) → j ≢ l → (Between n (chainLinks k) j → ⊥) → s′ j ≡ s j)
+  fans-out zero l n v s le lt h sl e = absurd (omega arith)
+  fans-out (suc k) l n v s le lt h sl e =
+      let w = chain-works k l n v s lt h sl (λ j b. e j (omega arith, omega arith)) in
+      (w .0, w .1, w .2 .0, λ j i m. w .2 .1 j (to j i) m, λ j p q. w .3 j (λ z. no-span j p q z))
+    where
+      to : (j : ℕ) → (j ≡ l) ⊎ Between n (chainLinks (suc k)) j → Span l n k j
+      to j (inl z) = inl z
+      to j (inr z) = inr (omega arith, omega arith)
+
+      no-span : (j : ℕ) → j ≢ l → (Between n (chainLinks (suc k)) j → ⊥) → Span l n k j → ⊥
+      no-span j p q (inl z) = p z
+      no-span j p q (inr z) = q (omega arith, omega arith)
+
 -- The ends of a chain of two or more users are links of the chain, different from each other, as many as users.
 pub ends-length : (k l n : ℕ) → length (chainEnds l n k) ≡ k
 unfolding chainEnds

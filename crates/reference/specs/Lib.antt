@@ -12,3 +12,4 @@ pub mod OneAfterAnother
 pub mod GateFiring
 pub mod BehindGate
 pub mod RingGates
+pub mod LoopLayout

@@ -138,3 +138,9 @@ hold-length [] [] s h = refl
 hold-length [] (v ∷ vs) s h = absurd h
 hold-length (l ∷ ls) [] s h = absurd h
 hold-length (l ∷ ls) (v ∷ vs) s h = ap suc (hold-length ls vs s (h .1))
+
+pub hold-parts : (ls ms : List ℕ) (vs ws : List (Option Value)) (s : Links) → length vs ≡ length ls → Hold (ls ++ ms) (vs ++ ws) s → Hold ls vs s × Hold ms ws s
+hold-parts [] ms [] ws s e h = (tt, h)
+hold-parts [] ms (v ∷ vs) ws s e h = absurd (omega arith)
+hold-parts (l ∷ ls) ms [] ws s e h = absurd (omega arith)
+hold-parts (l ∷ ls) ms (v ∷ vs) ws s e h = let r = hold-parts ls ms vs ws s (omega arith) (h .1) in ((h .0, r .0), r .1)

@@ -109,26 +109,6 @@ module _ (net : ℕ → Demand) (b : Bool) (c e o : ℕ) (v w : Value) (keeps : 
       sub l (inr (inr (inl z))) = inr (inr z)
       sub l (inr (inr (inr z))) = absurd z
 
-  -- with a control alone; the data link is empty
-  control-fires : (d : Demand) (t u : Token) → (a : ℕ) × (net a ≡ d) → Consumes d ((r, some t) ∷ (c, some u) ∷ []) given → s r ≡ t ∷ [] → s c ≡ u ∷ [] → s e ≡ [] → s o ≡ [] →
-      Works net (Touched c e o) 1 (Passed b c e o v) s
-  control-fires d t u at k sr sc se so =
-      done xs sub (yes (inr (inl refl))) (no off) (λ i. absurd (i (inr (inl refl)))) (λ i. se)
-      (fires-at net d xs given s at k (distinct-two (r, some t) (c, some u) (Ne·symm cr)) given-distinct (sr, (sc, tt)) (room xs (inl refl) so))
-    where
-      xs : Load
-      xs = (r, some t) ∷ (c, some u) ∷ []
-
-      off : On e xs → ⊥
-      off (inl z) = er z
-      off (inr (inl z)) = ce (sym z)
-      off (inr (inr z)) = z
-
-      sub : (l : ℕ) → On l xs → (l ≡ r) ⊎ ((l ≡ c) ⊎ (l ≡ e))
-      sub l (inl z) = inl z
-      sub l (inr (inl z)) = inr (inl z)
-      sub l (inr (inr z)) = absurd z
-
 -- The start of a set: e is where the value comes in.
 pub start-gate : (net : ℕ → Demand) (b : Bool) (c i st ow o e : ℕ) (v : Value) (s : Links) → Somewhere net (ringGate b c i st ow o) → cond b st ow ≡ e →
     c ≢ e → c ≢ o → e ≢ o → c ≢ registers + o → e ≢ registers + o → s e ≡ val v ∷ [] → s o ≡ [] → Ready c (registers + o) s → Works net (Touched c e o) 1 (Passed b c e o v) s
@@ -166,10 +146,44 @@ again-moves net c i st ow o v w s at ci co io cr ir sc si so sr =
     both-fire net true c i o v true-value (λ z. absurd (false≢true (sym z))) s ci co io cr ir (demandOf (ringGate true c i st ow o)) (val w) (val true-value) at
     (0, val w, (refl, refl), (1, val true-value, (refl, refl), (2, val v, (refl, refl), ((refl, (refl, (refl, tt))), refl)))) sr sc si so
 
--- FS repeats what it remembers; e is any other empty link.
-pub again-repeats : (net : ℕ → Demand) (c i st ow o e : ℕ) (w : Value) (s : Links) → Somewhere net (ringGate false c i st ow o) → c ≢ e → c ≢ o → e ≢ o → c ≢ registers + o → e ≢ registers + o →
-    s c ≡ val true-value ∷ [] → s e ≡ [] → s o ≡ [] → s (registers + o) ≡ val w ∷ [] → Works net (Touched c e o) 1 (Passed false c e o w) s
+-- FS repeats what it remembers, and takes its control alone.
+pub again-repeats : (net : ℕ → Demand) (c i st ow o : ℕ) (w : Value) (s : Links) → Somewhere net (ringGate false c i st ow o) → c ≢ o → c ≢ registers + o →
+    s c ≡ val true-value ∷ [] → s o ≡ [] → s (registers + o) ≡ val w ∷ [] →
+    Works net (λ l. (l ≡ c) ⊎ ((l ≡ o) ⊎ (l ≡ registers + o))) 1 (λ s′. (s′ c ≡ []) × (s′ o ≡ val w ∷ []) × (s′ (registers + o) ≡ val w ∷ [])) s
 unfolding ringGate nth
-again-repeats net c i st ow o e w s at ce co eo cr er sc se so sr =
-    control-fires net false c e o w w (λ z. refl) s ce co eo cr er (demandOf (ringGate false c i st ow o)) (val w) (val true-value) at
-    (0, val w, (refl, refl), (1, val true-value, (refl, refl), ((refl, (refl, tt)), refl))) sr sc se so
+again-repeats net c i st ow o w s at co cr sc so sr =
+    (h .after, h .steps, (h .takes c (inr (inl refl)) off, h .emits o (val w) (inl (refl, refl)), h .emits r (val w) (inr (inl (refl, refl)))), λ l n. h .keeps l (taken l n) (out l n))
+  where
+    r : ℕ
+    r = registers + o
+
+    xs : Load
+    xs = (r, some (val w)) ∷ (c, some (val true-value)) ∷ []
+
+    es : List (ℕ × Token)
+    es = (o, val w) ∷ (r, val w) ∷ []
+
+    off : On c (emitted es) → ⊥
+    off (inl z) = co z
+    off (inr (inl z)) = cr z
+    off (inr (inr z)) = z
+
+    taken : (l : ℕ) → ((l ≡ c) ⊎ ((l ≡ o) ⊎ (l ≡ r)) → ⊥) → On l xs → ⊥
+    taken l n (inl z) = n (inr (inr z))
+    taken l n (inr (inl z)) = n (inl z)
+    taken l n (inr (inr z)) = z
+
+    out : (l : ℕ) → ((l ≡ c) ⊎ ((l ≡ o) ⊎ (l ≡ r)) → ⊥) → On l (emitted es) → ⊥
+    out l n (inl z) = n (inr (inl z))
+    out l n (inr (inl z)) = n (inr (inr z))
+    out l n (inr (inr z)) = z
+
+    room : (l : ℕ) → On l (emitted es) → (On l xs → ⊥) → s l ≡ []
+    room l (inl z) n = ap s z ∙ so
+    room l (inr (inl z)) n = absurd (n (inl z))
+    room l (inr (inr z)) n = absurd z
+
+    h : Fired net s xs es
+    h =
+        fires-at net (demandOf (ringGate false c i st ow o)) xs es s at (0, val w, (refl, refl), (1, val true-value, (refl, refl), ((refl, (refl, tt)), refl)))
+        (distinct-two (r, some (val w)) (c, some (val true-value)) (Ne·symm cr)) (distinct-two (o, some (val w)) (r, some (val w)) (omega arith)) (sr, (sc, tt)) room
