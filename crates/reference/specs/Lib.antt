@@ -13,3 +13,4 @@ pub mod GateFiring
 pub mod BehindGate
 pub mod RingGates
 pub mod LoopLayout
+pub mod LoopGates
