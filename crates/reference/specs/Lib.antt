@@ -14,3 +14,4 @@ pub mod BehindGate
 pub mod RingGates
 pub mod LoopLayout
 pub mod LoopGates
+pub mod LoopRounds
