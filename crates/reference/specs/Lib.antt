@@ -15,3 +15,4 @@ pub mod RingGates
 pub mod LoopLayout
 pub mod LoopGates
 pub mod LoopRounds
+pub mod LoopCore
