@@ -16,3 +16,4 @@ pub mod LoopLayout
 pub mod LoopGates
 pub mod LoopRounds
 pub mod LoopCore
+pub mod Bareness
