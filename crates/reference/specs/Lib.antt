@@ -17,3 +17,4 @@ pub mod LoopGates
 pub mod LoopRounds
 pub mod LoopCore
 pub mod Bareness
+pub mod GraphLayout
