@@ -6,7 +6,7 @@ use mathlib.Core.Logic.{_≢_, _⊎_, inl, inr, ⊎-elim}
 use mathlib.Core.Bool.{Bool, true, false, cond, _||_, false≢true}
 use mathlib.Core.List.{List, [], _∷_, _++_}
 use mathlib.Core.Option.{Option, none, some}
-use lib.ListN.{length}
+use lib.ListN.{length, take}
 use lib.Dec.{eqb}
 use native.Mathlib.Decide.{ℕ-discrete}
 use native.Mathlib.Omega.{arith}
@@ -16,7 +16,7 @@ use Rattle.network.specs.Net.{Links}
 use Rattle.network.specs.Uses.{In}
 use Rattle.pieces.specs.Sets.{Different}
 use Rattle.graph.specs.Assembly.{Env, nameCount, memberOf, named}
-use Rattle.graph.specs.Yields.{Values, bound, present}
+use Rattle.graph.specs.Yields.{Values, bound, absent, present}
 use Rattle.graph.specs.Fit.{Different as DifferentNames}
 use Rattle.reference.specs.NameSets.{either, not-both, or-left, member-head, member-tail, member-cases, member-nil}
 use Rattle.reference.specs.Plan.{tokens, Hold}
@@ -67,6 +67,13 @@ named-any (y ∷ ns) (l ∷ ls) env env′ x le e = go (λ h. named-any ns ls en
         ap (named (y ∷ ns) (l ∷ ls) env) (sym z) ∙ named-here y ns l ls env ∙ sym (named-here y ns l ls env′) ∙ ap (named (y ∷ ns) (l ∷ ls) env′) z
     go ih (no z) (inl w) = absurd (z w)
     go ih (no z) (inr w) = named-later y ns l ls env x z ∙ ih w ∙ sym (named-later y ns l ls env′ x z)
+
+-- Links beyond the names do not count.
+pub named-front : (ns ls : List ℕ) (env : Env) (x : ℕ) → length ns ≤ length ls → named ns (take (length ns) ls) env x ≡ named ns ls env x
+unfolding named
+named-front [] ls env x le = refl
+named-front (y ∷ ns) [] env x le = absurd (omega arith)
+named-front (y ∷ ns) (l ∷ ls) env x le = ap (λ w. cond (eqb y x) l w) (named-front ns ls env x (omega arith))
 
 pub named-differ : (ns ls : List ℕ) (env : Env) (x y : ℕ) → length ns ≤ length ls → Different ls → memberOf ns x ≡ true → memberOf ns y ≡ true → named ns ls env x ≡ named ns ls env y → x ≡ y
 named-differ [] ls env x y le d a b e = absurd (member-nil x a)
@@ -158,3 +165,13 @@ bound-present (y ∷ ns) (u ∷ us) ρ x e m = go (λ k. bound-present ns us ρ 
     go ih (yes z) d = (u, ap (bound (y ∷ ns) (some u ∷ present us) ρ) (sym z) ∙ bound-here y ns (some u) (present us) ρ)
     go ih (no z) (inl w) = absurd (z w)
     go ih (no z) (inr w) = let r = ih w in (r .0, bound-later y ns (some u) (present us) ρ x z ∙ r .1)
+
+pub bound-absent : (ns : List ℕ) (k : ℕ) (ρ : Values) (x : ℕ) → length ns ≤ k → memberOf ns x ≡ true → bound ns (absent k) ρ x ≡ none
+bound-absent [] k ρ x le m = absurd (member-nil x m)
+bound-absent (y ∷ ns) zero ρ x le m = absurd (omega arith)
+bound-absent (y ∷ ns) (suc k) ρ x le m = go (λ w. bound-absent ns k ρ x (omega arith) w) (ℕ-discrete y x) (member-cases y ns x m)
+  where
+    go : (memberOf ns x ≡ true → bound ns (absent k) ρ x ≡ none) → Dec (y ≡ x) → (y ≡ x) ⊎ (memberOf ns x ≡ true) → bound (y ∷ ns) (none ∷ absent k) ρ x ≡ none
+    go ih (yes z) d = ap (bound (y ∷ ns) (none ∷ absent k) ρ) (sym z) ∙ bound-here y ns none (absent k) ρ
+    go ih (no z) (inl w) = absurd (z w)
+    go ih (no z) (inr w) = bound-later y ns none (absent k) ρ x z ∙ ih w

@@ -109,7 +109,7 @@ loop-count : (ns : List ℕ) (a b : Graph) (m : ℕ) → outputCount b ≡ suc m
 unfolding outputCount
 loop-count ns a b m e = rw e refl
 
-loop-length : (ns : List ℕ) (a b : Graph) (ob : List ℕ) → length ob ≡ outputCount b → suc (length ns) ≤ outputCount b → length (drop (suc (length ns)) ob) ≡ outputCount (loop ns a b)
+pub loop-length : (ns : List ℕ) (a b : Graph) (ob : List ℕ) → length ob ≡ outputCount b → suc (length ns) ≤ outputCount b → length (drop (suc (length ns)) ob) ≡ outputCount (loop ns a b)
 loop-length ns a b ob e le =
     let d = length-drop (suc (length ns)) ob in
     let c = loop-count ns a b (outputCount b - 1) (omega arith) in
@@ -153,19 +153,19 @@ fore-fits n a g h = omega arith
 pub body-fits : (n s a t b c : ℕ) → n + (s + (a + (t + (b + c)))) ≤ nowhere → n + s + a + t + b ≤ nowhere
 body-fits n s a t b c h = omega arith
 
-up-to : (m k : ℕ) → m ≤ m + k
+pub up-to : (m k : ℕ) → m ≤ m + k
 up-to m k = omega arith
 
 behind-own : (n a g l : ℕ) → Between (n + a) g l → Between n (a + g) l
 behind-own n a g l b = (omega arith, omega arith)
 
-envs-up : (f : Names) (env : Env) (n m : ℕ) → n ≤ m → Envs f env n → Envs f env m
+pub envs-up : (f : Names) (env : Env) (n m : ℕ) → n ≤ m → Envs f env n → Envs f env m
 envs-up f env n m le E = record { below = λ x e. let q = E .below x e in omega arith; differ = E .differ; small = E .small }
 
-never-bare : (b : Graph) (n : ℕ) (env : Env) → Straight (bare b) (planOf b n env) → ((x : ℕ) → bare b x ≡ false) → (l : ℕ) → In l (outputs b n env) → Between n (linksOf b) l
+pub never-bare : (b : Graph) (n : ℕ) (env : Env) → Straight (bare b) (planOf b n env) → ((x : ℕ) → bare b x ≡ false) → (l : ℕ) → In l (outputs b n env) → Between n (linksOf b) l
 never-bare b n env st no-bare l i = ⊎-elim (λ (w : Between n (linksOf b) l). w) (λ (w : (x : ℕ) × (bare b x ≡ true) × (l ≡ env x)). absurd (not-both (bare b (w .0)) (w .1) (no-bare (w .0)))) (st l i)
 
-enough : {k c d : ℕ} → d ≡ c → suc k ≤ c → suc k ≤ d
+pub enough : {k c d : ℕ} → d ≡ c → suc k ≤ c → suc k ≤ d
 enough e le = omega arith
 
 inner-own : (n s a t b c l : ℕ) → Between (n + s + a + t) b l → Between n (s + (a + (t + (b + c)))) l

@@ -18,3 +18,4 @@ pub mod LoopRounds
 pub mod LoopCore
 pub mod Bareness
 pub mod GraphLayout
+pub mod Schedule
