@@ -19,3 +19,4 @@ pub mod LoopCore
 pub mod Bareness
 pub mod GraphLayout
 pub mod Schedule
+pub mod Bystanders
