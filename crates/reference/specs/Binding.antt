@@ -114,11 +114,11 @@ names-small [] x d e = absurd (member-nil x e)
 names-small (y ∷ ns) x d e = ⊎-elim (λ (z : y ≡ x). subst (λ w. w < nameCount) z (d .0)) (λ (z : memberOf ns x ≡ true). names-small ns x (d .2) z) (member-cases y ns x e)
 
 -- Values.
-bound-here : (y : ℕ) (ns : List ℕ) (v : Option Value) (vs : List (Option Value)) (ρ : Values) → bound (y ∷ ns) (v ∷ vs) ρ y ≡ v
+pub bound-here : (y : ℕ) (ns : List ℕ) (v : Option Value) (vs : List (Option Value)) (ρ : Values) → bound (y ∷ ns) (v ∷ vs) ρ y ≡ v
 unfolding bound
 bound-here y ns v vs ρ = ap (λ b. cond b v (bound ns vs ρ y)) (eq-eqb y y refl)
 
-bound-later : (y : ℕ) (ns : List ℕ) (v : Option Value) (vs : List (Option Value)) (ρ : Values) (x : ℕ) → (y ≡ x → ⊥) → bound (y ∷ ns) (v ∷ vs) ρ x ≡ bound ns vs ρ x
+pub bound-later : (y : ℕ) (ns : List ℕ) (v : Option Value) (vs : List (Option Value)) (ρ : Values) (x : ℕ) → (y ≡ x → ⊥) → bound (y ∷ ns) (v ∷ vs) ρ x ≡ bound ns vs ρ x
 unfolding bound
 bound-later y ns v vs ρ x ne = ap (λ b. cond b v (bound ns vs ρ x)) (ne-eqb y x ne)
 

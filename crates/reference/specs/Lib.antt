@@ -20,3 +20,4 @@ pub mod Bareness
 pub mod GraphLayout
 pub mod Schedule
 pub mod Bystanders
+pub mod WrittenOut
