@@ -21,3 +21,4 @@ pub mod GraphLayout
 pub mod Schedule
 pub mod Bystanders
 pub mod WrittenOut
+pub mod WholeGraph
