@@ -22,7 +22,7 @@ use Rattle.graph.specs.Assembly.{Gate, const, oper, T, F, M, E, IC, Graph, wire
 use Rattle.graph.specs.Yields.{Values, Answer, Yields, outputCount, absent, present, bound, Sequel, stops, goes-on, Looped, rests, spins}
 use Rattle.graph.specs.Fit.{Fit, bare, gateInputs}
 use Rattle.reference.specs.NameSets.{either}
-use Rattle.reference.specs.Plugged.{nowhere, registers, Somewhere, Has, has-first, has-rest, ring-of-name}
+use Rattle.reference.specs.Plugged.{nowhere, registers, Somewhere, Has, each-first, each-rest, each-ring}
 use Rattle.reference.specs.Plan.{tokens, Between, Plan, Own, Port, Zone, Envs, Sound, Before, After, Leads, Serves}
 use Rattle.reference.specs.Sharing.{envs-first, envs-second}
 use Rattle.reference.specs.Binding.{named-others, named-any, named-front, bound-others, bound-absent}
@@ -118,10 +118,10 @@ module _ (net : ℕ → Demand) where
       let fb : m + linksOf a + linksOf b ≤ nowhere = second-fits n (sharedLinks f g) (linksOf a) (linksOf b) fits in
       let opa = operatorsOf a m ea in
       let opb = operatorsOf b (m + linksOf a) eb in
-      let Hp : Has net (opa ++ opb) = has-rest net (sharing f g n env) (opa ++ opb) H in
+      let Hp : Has net (opa ++ opb) = each-rest (Somewhere net) (sharing f g n env) (opa ++ opb) H in
       Side.beside-serves f g n (linksOf a) (linksOf b) env (outputs a m ea) (outputs b (m + linksOf a) eb) (RingOf a m) (RingOf b (m + linksOf a)) En fits
-      (layout a (ft .0) m ea Ea fa .sound) (layout b (ft .1) (m + linksOf a) eb Eb fb .sound) net (has-first net (sharing f g n env) (opa ++ opb) H) (Yields a) (Yields b)
-      (serves a (ft .0) m ea Ea fa (has-first net opa opb Hp)) (serves b (ft .1) (m + linksOf a) eb Eb fb (has-rest net opa opb Hp))
+      (layout a (ft .0) m ea Ea fa .sound) (layout b (ft .1) (m + linksOf a) eb Eb fb .sound) net (each-first (Somewhere net) (sharing f g n env) (opa ++ opb) H) (Yields a) (Yields b)
+      (serves a (ft .0) m ea Ea fa (each-first (Somewhere net) opa opb Hp)) (serves b (ft .1) (m + linksOf a) eb Eb fb (each-rest (Somewhere net) opa opb Hp))
   serves (bind ns a b) ft n env En le H =
       let f : Names = free a in
       let g : Names = without (free b) (memberOf ns) in
@@ -140,10 +140,10 @@ module _ (net : ℕ → Demand) where
       = Follow.user-envs ns f (free b) n (linksOf a) (linksOf b) env oa ob (RingOf a m) (RingOf b (m + linksOf a)) En fits (la .sound) many (ft .3) (ft .4) in
       let opa = operatorsOf a m ea in
       let opb = operatorsOf b (m + linksOf a) eb in
-      let Hp : Has net (opa ++ opb) = has-rest net (sharing f g n env) (opa ++ opb) H in
+      let Hp : Has net (opa ++ opb) = each-rest (Somewhere net) (sharing f g n env) (opa ++ opb) H in
       Follow.bind-serves ns f (free b) n (linksOf a) (linksOf b) env oa ob (RingOf a m) (RingOf b (m + linksOf a)) En fits (la .sound) many (ft .3) (ft .4)
-      (layout b (ft .1) (m + linksOf a) eb Eb fb .sound) net (has-first net (sharing f g n env) (opa ++ opb) H) (Yields a) (Yields b)
-      (serves a (ft .0) m ea Ea fa (has-first net opa opb Hp)) (serves b (ft .1) (m + linksOf a) eb Eb fb (has-rest net opa opb Hp))
+      (layout b (ft .1) (m + linksOf a) eb Eb fb .sound) net (each-first (Somewhere net) (sharing f g n env) (opa ++ opb) H) (Yields a) (Yields b)
+      (serves a (ft .0) m ea Ea fa (each-first (Somewhere net) opa opb Hp)) (serves b (ft .1) (m + linksOf a) eb Eb fb (each-rest (Somewhere net) opa opb Hp))
   serves (gate g a) ft n env En le H =
       let fits : n + (linksOf a + gateOutputs g) ≤ nowhere = le in
       let fa : n + linksOf a ≤ nowhere = fore-fits n (linksOf a) (gateOutputs g) fits in
@@ -151,7 +151,7 @@ module _ (net : ℕ → Demand) where
       let opa = operatorsOf a n env in
       let opg = gateOf g (outputs a n env) (n + linksOf a) in
       Gates.gate-serves g (free a) n (linksOf a) env (outputs a n env) (RingOf a n) (la .sound) fits (few (la .count) (ft .1) (few-inputs g)) net
-      (has-rest net opa (opg ∷ []) H .0) (Yields a) (serves a (ft .0) n env En fa (has-first net opa (opg ∷ []) H))
+      (each-rest (Somewhere net) opa (opg ∷ []) H .0) (Yields a) (serves a (ft .0) n env En fa (each-first (Somewhere net) opa (opg ∷ []) H))
   serves (loop ns a b) ft n env En le H =
       let f : Names = free a in
       let h : Names = free b in
@@ -186,17 +186,17 @@ module _ (net : ℕ → Demand) where
       let opb = operatorsOf b (o + s) (spread h o) in
       let opc = chain it (o + s + linksOf b) s in
       let opr = ring (listed h) (memberOf ns) (chainEnds it (o + s + linksOf b) s) (named ns (drop 1 ob) env) (named ns oa env) e₂ (spread h o) in
-      let Hp : Has net (opa ++ (opb ++ (opc ++ opr))) = has-rest net (sharing f g n env) (opa ++ (opb ++ (opc ++ opr))) H in
-      let Hq : Has net (opb ++ (opc ++ opr)) = has-rest net opa (opb ++ (opc ++ opr)) Hp in
-      let Hr : Has net (opc ++ opr) = has-rest net opb (opc ++ opr) Hq in
+      let Hp : Has net (opa ++ (opb ++ (opc ++ opr))) = each-rest (Somewhere net) (sharing f g n env) (opa ++ (opb ++ (opc ++ opr))) H in
+      let Hq : Has net (opb ++ (opc ++ opr)) = each-rest (Somewhere net) opa (opb ++ (opc ++ opr)) Hp in
+      let Hr : Has net (opc ++ opr) = each-rest (Somewhere net) opb (opc ++ opr) Hq in
       let body : Serves net (bodyPlan h o (linksOf b) RB (it ∷ (is ++ rs))) (Yields b)
-      = subst (λ os. Serves net (bodyPlan h o (linksOf b) RB os) (Yields b)) (outs-parts (length ns) ob long) (serves b (ft .1) (o + s) (spread h o) Es fb (has-first net opb (opc ++ opr) Hq)) in
+      = subst (λ os. Serves net (bodyPlan h o (linksOf b) RB os) (Yields b)) (outs-parts (length ns) ob long) (serves b (ft .1) (o + s) (spread h o) Es fb (each-first (Somewhere net) opb (opc ++ opr) Hq)) in
       let core : Serves net (Lay.Core ns h o (linksOf b) it is rs RB link) (Core-yields ns h (length rs) (Yields b))
       = Core.core-serves ns h o (linksOf b) it is rs RB link K net (named ns (drop 1 ob) env) (named ns oa env) e₂
       (λ x e k. named-any ns oa env e₂ x (no-more many) k) (λ x e k. sym (named-others ns oa e₂ x k))
       (λ x k. sym (named-front ns (drop 1 ob) env x (rest-long (length ns) ob long)) ∙ named-any ns is env link x (no-more (iterated-length (length ns) ob long)) k)
-      (λ x e. ring-of-name net h (memberOf ns) (chainEnds it (o + s + linksOf b) s) (named ns (drop 1 ob) env) (named ns oa env) e₂ (spread h o) (no-more (ends-length s it (o + s + linksOf b)))
-      (has-rest net opc opr Hr) x (free-small b (ft .1) x e) e) (has-first net opc opr Hr) (Yields b) body in
+      (λ x e. each-ring (Somewhere net) h (memberOf ns) (chainEnds it (o + s + linksOf b) s) (named ns (drop 1 ob) env) (named ns oa env) e₂ (spread h o) (no-more (ends-length s it (o + s + linksOf b)))
+      (each-rest (Somewhere net) opc opr Hr) x (free-small b (ft .1) x e) e) (each-first (Somewhere net) opc opr Hr) (Yields b) body in
       let whole = Follow.bind-serves ns f h n (linksOf a) kc env oa rs (RingOf a m) RC En fits (la .sound) many (ft .3) (ft .4) (Lay.core-sound ns h o (linksOf b) it is rs RB link K) net
-      (has-first net (sharing f g n env) (opa ++ (opb ++ (opc ++ opr))) H) (Yields a) (Core-yields ns h (length rs) (Yields b)) (serves a (ft .0) m ea Ea fa (has-first net opa (opb ++ (opc ++ opr)) Hp)) core in
+      (each-first (Somewhere net) (sharing f g n env) (opa ++ (opb ++ (opc ++ opr))) H) (Yields a) (Core-yields ns h (length rs) (Yields b)) (serves a (ft .0) m ea Ea fa (each-first (Somewhere net) opa (opb ++ (opc ++ opr)) Hp)) core in
       λ ρ c v y. whole ρ c v (looped ns h (length rs) (outputCount (loop ns a b)) ρ (Yields a ρ) (Yields b) (loop-length ns a b ob (lb .count) (ft .5)) c v y)

@@ -15,7 +15,7 @@ use Rattle.pieces.specs.Goes.{Steps, stay}
 use Rattle.graph.specs.Assembly.{Env, nameCount, rank, total, sharedLinks, firstUse, secondUse, sharing, copyOf}
 use Rattle.graph.specs.Yields.{Values}
 use Rattle.reference.specs.NameSets.{either, and-left, and-right, and-both, or-left, or-right, or-cases, not-both, rank-total, rank-differs, rank-onto}
-use Rattle.reference.specs.Plugged.{Somewhere, Has, copy-of-name}
+use Rattle.reference.specs.Plugged.{Somewhere, Has, each-copy}
 use Rattle.reference.specs.Plan.{tokens, Laid, Between, Envs, fewer}
 use Rattle.reference.specs.NameRows.{Works, tally, row-works}
 use Rattle.reference.specs.Copies.{copy-fires}
@@ -239,7 +239,7 @@ module _ (f g : Names) (n : ℕ) (env : Env) where
                 let u = E .below x (in-first x (shared-first x e)) in
                 let p = first-shared x e in
                 let q = second-shared x e in
-                let w = copy-fires net (env x) (e₁ x) (e₂ x) v s (copy-of-name net f g n env H x (E .small x (in-first x (shared-first x e))) e) (omega arith) (omega arith) (omega arith) a b c in
+                let w = copy-fires net (env x) (e₁ x) (e₂ x) v s (each-copy (Somewhere net) f g n env H x (E .small x (in-first x (shared-first x e))) e) (omega arith) (omega arith) (omega arith) a b c in
                 (w .0, fewer net s (w .0) 1 0 (omega arith) (w .1), w .2, w .3)
 
         pres : (x : ℕ) → Shared x → Pre x s
