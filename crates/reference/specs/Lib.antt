@@ -22,3 +22,4 @@ pub mod Schedule
 pub mod Bystanders
 pub mod WrittenOut
 pub mod WholeGraph
+pub mod Marks
