@@ -23,3 +23,4 @@ pub mod Bystanders
 pub mod WrittenOut
 pub mod WholeGraph
 pub mod Marks
+pub mod GraphBench
