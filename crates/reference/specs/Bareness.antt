@@ -1,10 +1,10 @@
 -- Which outputs of a graph are links of its own, and which are bare: the link of a name passes straight through. For parts side by
 -- side and one after another; a loop's body must have no bare output.
-use Prim.Native.Nat.{ℕ, zero, suc, _+_, _*_, _-_, _≤_, _<_}
-use mathlib.Core.Path.{_≡_, refl, sym, _∙_, ap, subst}
-use mathlib.Core.Logic.{_≢_, _⊎_, inl, inr, ⊎-elim}
-use mathlib.Core.Bool.{Bool, true, false, cond, _&&_, _||_, false≢true}
-use mathlib.Core.List.{List, [], _∷_, _++_}
+use Prim.Native.Nat.{ℕ, _+_, _-_, _<_}
+use mathlib.Core.Path.{_≡_, sym, _∙_, ap, subst}
+use mathlib.Core.Logic.{_⊎_, inl, inr, ⊎-elim}
+use mathlib.Core.Bool.{true, false, cond}
+use mathlib.Core.List.{List, _++_}
 use lib.ListN.{length}
 use lib.Dec.{eqb}
 use native.Mathlib.Omega.{arith}
@@ -12,11 +12,10 @@ use borrow.Author.Tests.{ne-eqb}
 use Rattle.names.specs.Names.{Names, none as noNames, union, common, without}
 use Rattle.network.specs.Uses.{In}
 use Rattle.pieces.specs.Rows.{in-app}
-use Rattle.graph.specs.Assembly.{Env, nameCount, memberOf, named, total, sharedLinks, firstUse, secondUse}
+use Rattle.graph.specs.Assembly.{Env, memberOf, named, total, sharedLinks, firstUse, secondUse}
 use Rattle.graph.specs.Fit.{Different as DifferentNames}
 use Rattle.reference.specs.NameSets.{either, and-both, or-left, or-right, without-in, rank-total}
-use Rattle.reference.specs.Plugged.{nowhere}
-use Rattle.reference.specs.Plan.{Plan, Own, Zone, Envs, Sound}
+use Rattle.reference.specs.Plan.{Plan, Own, Envs}
 use Rattle.reference.specs.Sharing.{Spot, first-spot, second-spot, envs-first, envs-second}
 use Rattle.reference.specs.Parts as Parts
 use Rattle.reference.specs.OneAfterAnother as After

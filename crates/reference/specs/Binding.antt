@@ -1,16 +1,16 @@
 -- A list of names bound to a list of links and to a list of values: each name of the list has its own link and value, the others keep
 -- theirs. Assumes as many links as names.
-use Prim.Native.Nat.{ℕ, zero, suc, _+_, _*_, _-_, _≤_, _<_}
+use Prim.Native.Nat.{ℕ, zero, suc, _-_, _≤_, _<_}
 use mathlib.Core.Path.{_≡_, refl, sym, _∙_, ap, subst}
-use mathlib.Core.Logic.{_≢_, _⊎_, inl, inr, ⊎-elim}
-use mathlib.Core.Bool.{Bool, true, false, cond, _||_, false≢true}
-use mathlib.Core.List.{List, [], _∷_, _++_}
+use mathlib.Core.Logic.{_⊎_, inl, inr, ⊎-elim}
+use mathlib.Core.Bool.{true, false, cond}
+use mathlib.Core.List.{List, [], _∷_}
 use mathlib.Core.Option.{Option, none, some}
 use lib.ListN.{length, take}
 use lib.Dec.{eqb}
 use native.Mathlib.Decide.{ℕ-discrete}
 use native.Mathlib.Omega.{arith}
-use borrow.Author.Tests.{eqb-true, eqb-false, eq-eqb, ne-eqb}
+use borrow.Author.Tests.{eq-eqb, ne-eqb}
 use Rattle.value.specs.declared.Value.{Value}
 use Rattle.network.specs.Net.{Links}
 use Rattle.network.specs.Uses.{In}
@@ -18,7 +18,7 @@ use Rattle.pieces.specs.Sets.{Different}
 use Rattle.graph.specs.Assembly.{Env, nameCount, memberOf, named}
 use Rattle.graph.specs.Yields.{Values, bound, absent, present}
 use Rattle.graph.specs.Fit.{Different as DifferentNames}
-use Rattle.reference.specs.NameSets.{either, not-both, or-left, member-head, member-tail, member-cases, member-nil}
+use Rattle.reference.specs.NameSets.{either, not-both, member-head, member-tail, member-cases, member-nil}
 use Rattle.reference.specs.Plan.{tokens, Hold}
 
 not-in-tail : (y : ℕ) (ns : List ℕ) (x : ℕ) → memberOf (y ∷ ns) x ≡ false → (y ≡ x → ⊥) × (memberOf ns x ≡ false)
@@ -145,14 +145,6 @@ named-holds (y ∷ ns) (l ∷ ls) (v ∷ vs) env ρ s x le h e = go (λ m. named
         ∙ ap tokens (sym (bound-here y ns v vs ρ) ∙ ap (bound (y ∷ ns) (v ∷ vs) ρ) z)
     go ih (no z) (inl w) = absurd (z w)
     go ih (no z) (inr w) = ap s (named-later y ns l ls env x z) ∙ ih w ∙ ap tokens (sym (bound-later y ns v vs ρ x z))
-
--- Values beyond the names do not count.
-pub bound-front : (ns : List ℕ) (us : List Value) (zs : List (Option Value)) (ρ : Values) (x : ℕ) → length us ≡ length ns → bound ns (present us ++ zs) ρ x ≡ bound ns (present us) ρ x
-unfolding bound
-bound-front [] [] zs ρ x e = refl
-bound-front [] (u ∷ us) zs ρ x e = absurd (omega arith)
-bound-front (y ∷ ns) [] zs ρ x e = absurd (omega arith)
-bound-front (y ∷ ns) (u ∷ us) zs ρ x e = ap (λ w. cond (eqb y x) (some u) w) (bound-front ns us zs ρ x (omega arith))
 
 -- A name bound to present values has one.
 pub bound-present : (ns : List ℕ) (us : List Value) (ρ : Values) (x : ℕ) → length us ≡ length ns → memberOf ns x ≡ true → (v : Value) × (bound ns (present us) ρ x ≡ some v)

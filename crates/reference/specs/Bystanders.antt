@@ -2,12 +2,11 @@
 -- no link held more than one token, none does afterwards. Know of no graph.
 use Prim.Native.Nat.{ℕ, _<_, _≤_}
 use mathlib.Core.Path.{_≡_, refl, sym, _∙_, ap, subst}
-use mathlib.Core.Logic.{ite}
 use mathlib.Core.List.{List, [], _∷_, _++_}
 use lib.ListN.{length, length-append}
 use native.Mathlib.Decide.{ℕ-discrete}
 use native.Mathlib.Omega.{arith}
-use Rattle.network.specs.Net.{Token, Demand, ask, fire, halt, Links, head, tail, pop, pop-shortens, append, append-same, append-other, Room, Able, appends, act}
+use Rattle.network.specs.Net.{Token, Demand, ask, fire, halt, Links, head, pop, pop-shortens, append, append-same, append-other, Room, Able, appends, act}
 use Rattle.network.specs.Commute.{Never-asks, Never-emits}
 use Rattle.pieces.specs.Load.{set-link}
 use Rattle.pieces.specs.Goes.{one-place, Feasible, led-to, Steps, Long}

@@ -2,16 +2,15 @@
 -- two-way copies"). Assumes that the copy's links are different.
 use Prim.Native.Nat.{ℕ, zero, suc, _+_, _*_, _-_, _≤_, _<_}
 use mathlib.Core.Path.{_≡_, refl, sym, _∙_, ap, subst}
-use mathlib.Core.Logic.{_≢_, _⊎_, inl, inr, ⊎-elim}
-use mathlib.Core.List.{List, [], _∷_, _++_}
-use mathlib.Core.Option.{Option, none, some}
+use mathlib.Core.Logic.{_≢_, _⊎_, inl, inr}
+use mathlib.Core.List.{[], _∷_}
+use mathlib.Core.Option.{some}
 use lib.ListN.{length, getD}
 use native.Mathlib.Decide.{ℕ-discrete}
 use native.Mathlib.Omega.{arith}
 use Rattle.value.specs.declared.Value.{Value}
-use Rattle.network.specs.Net.{Token, val, Demand, Links}
+use Rattle.network.specs.Net.{val, Demand, Links}
 use Rattle.network.specs.Uses.{In}
-use Rattle.pieces.specs.Load.{On}
 use Rattle.pieces.specs.Goes.{Steps, stay, steps-then}
 use Rattle.pieces.specs.Gate.{distinct-two}
 use Rattle.graph.specs.Assembly.{copyOf, chain, chainEnds, chainLinks, nth}

@@ -1,11 +1,10 @@
 -- What the schedule lemma gives to the machine over a fit graph: the bench of pieces/specs/Sets, from which both halves of demand 3 follow
 -- (pieces/specs/Made, Calls), and the load that start leaves. Assumes of the net that it has the graph's operators, that push and take are none
 -- of them, and that source and credit link lie beyond the graph's links and registers and are used by no operator (crate wiring).
-use Prim.Native.Nat.{ℕ, zero, suc, _+_, _≤_, _<_}
-use mathlib.Core.Path.{_≡_, refl, sym, _∙_}
-use mathlib.Core.Logic.{_≢_, _⊎_, inl, inr}
-use mathlib.Core.Bool.{Bool, true, false}
-use mathlib.Core.List.{List}
+use Prim.Native.Nat.{ℕ, _+_, _≤_, _<_}
+use mathlib.Core.Path.{_≡_}
+use mathlib.Core.Logic.{_≢_, inl, inr}
+use mathlib.Core.Bool.{true}
 use native.Mathlib.Omega.{arith}
 use Rattle.names.specs.Names.{Names}
 use Rattle.network.specs.Net.{Demand, halt}

@@ -1,24 +1,23 @@
 -- The layout of every fit graph (graph, Assembly.antt): where its outputs lie, that they are different and as many as `outputCount`
 -- says, and which links and registers the gates of its loops have.
-use Prim.Native.Nat.{ℕ, zero, suc, _+_, _*_, _-_, _≤_, _<_}
+use Prim.Native.Nat.{ℕ, zero, suc, _+_, _-_, _≤_, _<_}
 use mathlib.Core.Path.{_≡_, refl, sym, _∙_, ap, ap₂, subst}
 use mathlib.Core.Logic.{_≢_, _⊎_, inl, inr, ⊎-elim}
-use mathlib.Core.Bool.{Bool, true, false, cond, _&&_, _||_, false≢true}
+use mathlib.Core.Bool.{Bool, true, false, cond, false≢true}
 use mathlib.Core.List.{List, [], _∷_, _++_}
 use lib.ListN.{length, getD, take, drop, length-append, length-drop, take-append-drop}
 use lib.Dec.{eqb}
 use native.Mathlib.Omega.{arith}
 use borrow.Author.Tests.{eqb-true, eq-eqb}
-use Rattle.names.specs.Names.{Names, none as noNames, one, union, common, without}
+use Rattle.names.specs.Names.{Names, none as noNames, union, common, without}
 use Rattle.network.specs.Uses.{In}
-use Rattle.graph.specs.Assembly.{Gate, Graph, wire, nothing, beside, bind, gate, loop, Env, nameCount, memberOf, named, spread, rank, total, free, linksOf, outputs, gateOutputs, sharedLinks, firstUse, secondUse, chainEnds, chainLinks, upFrom}
+use Rattle.graph.specs.Assembly.{Graph, wire, nothing, beside, bind, gate, loop, Env, nameCount, memberOf, named, spread, rank, total, free, linksOf, outputs, gateOutputs, sharedLinks, firstUse, secondUse, chainEnds, chainLinks}
 use Rattle.graph.specs.Yields.{outputCount}
-use Rattle.graph.specs.Fit.{Fit, bare, gateInputs, Different as DifferentNames}
-use Rattle.reference.specs.NameSets.{either, not-both, or-left, or-right, or-cases, without-in, without-here, without-there}
+use Rattle.graph.specs.Fit.{Fit, bare, Different as DifferentNames}
+use Rattle.reference.specs.NameSets.{not-both, or-left, or-right, or-cases, without-in, without-here, without-there}
 use Rattle.reference.specs.Plugged.{nowhere, registers}
-use Rattle.reference.specs.Plan.{Between, Plan, Own, Register, Port, Zone, Control, Envs, Sound}
+use Rattle.reference.specs.Plan.{Between, Plan, Envs, Sound}
 use Rattle.reference.specs.Sharing.{envs-first, envs-second}
-use Rattle.reference.specs.Binding.{names-small}
 use Rattle.reference.specs.Parts as Parts
 use Rattle.reference.specs.SideBySide as Side
 use Rattle.reference.specs.OneAfterAnother as After
@@ -26,7 +25,7 @@ use Rattle.reference.specs.BehindGate as Gates
 use Rattle.reference.specs.BehindGate.{upFrom-length, in-upFrom}
 use Rattle.reference.specs.LoopLayout as Lay
 use Rattle.reference.specs.LoopLayout.{spread-envs}
-use Rattle.reference.specs.Bareness.{Straight, beside-straight, bare-bound, bound-straight}
+use Rattle.reference.specs.Bareness.{Straight, beside-straight, bound-straight}
 
 -- The gates of a graph's loops: control link and register link.
 abbrev pub RingOf : Graph → ℕ → ℕ → ℕ → Type 0

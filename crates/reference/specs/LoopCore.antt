@@ -1,24 +1,24 @@
 -- A loop without what starts it: nothing comes and it rests, or every name of the body has a value and it spins. With the start bound
 -- to its identifiers (OneAfterAnother.antt) it is the whole loop.
-use Prim.Native.Nat.{ℕ, zero, suc, _+_, _*_, _-_, _≤_, _<_}
+use Prim.Native.Nat.{ℕ, _+_, _-_, _<_}
 use mathlib.Core.Path.{_≡_, refl, sym, _∙_, ap, subst}
-use mathlib.Core.Logic.{_≢_, _⊎_, inl, inr, ⊎-elim}
-use mathlib.Core.Bool.{Bool, true, false, cond, false≢true}
-use mathlib.Core.List.{List, [], _∷_, _++_}
-use mathlib.Core.Option.{Option, none, some}
+use mathlib.Core.Logic.{_⊎_, inl, inr, ⊎-elim}
+use mathlib.Core.Bool.{true, false}
+use mathlib.Core.List.{List, [], _∷_}
+use mathlib.Core.Option.{none, some}
 use lib.ListN.{length}
 use native.Mathlib.Omega.{arith}
 use Rattle.value.specs.declared.Value.{Value}
 use Rattle.names.specs.Names.{Names}
-use Rattle.network.specs.Net.{Token, val, mark, Demand, Links}
+use Rattle.network.specs.Net.{Demand, Links}
 use Rattle.network.specs.Uses.{In}
-use Rattle.pieces.specs.Goes.{Steps, Long, stay, steps-then, steps-long}
-use Rattle.pieces.specs.Rows.{dec-in, in-front, in-back}
+use Rattle.pieces.specs.Goes.{Steps, stay, steps-then, steps-long}
+use Rattle.pieces.specs.Rows.{dec-in}
 use Rattle.graph.specs.Assembly.{Env, memberOf, total, ringGate, chain, chainLinks}
 use Rattle.graph.specs.Yields.{Values, Answer, absent, present, bound, Spins}
 use Rattle.reference.specs.NameSets.{either}
 use Rattle.reference.specs.Plugged.{nowhere, registers, Somewhere, Has}
-use Rattle.reference.specs.Plan.{tokens, Hold, Between, Plan, Own, Register, Port, Zone, Control, Outside, Ready, Before, After, Leads, Serves, fewer, fewer-long, ready-same}
+use Rattle.reference.specs.Plan.{tokens, Hold, Between, Plan, Own, Port, Zone, Control, Outside, Ready, Before, After, Leads, Serves, fewer, fewer-long, ready-same}
 use Rattle.reference.specs.Binding.{bound-others, bound-present}
 use Rattle.reference.specs.LoopLayout as Lay
 use Rattle.reference.specs.LoopGates as Gates
@@ -138,9 +138,11 @@ module _ (ns : List ℕ) (h : Names) (o kb it : ℕ) (is rs : List ℕ) (RB : �
 
         finish : (d : ℕ) (a : Answer) → Steps net s 1 s₁ → Rounds.Comes ns h o kb it is rs RB env K net s₁ (d - 1) a → Leads net Core s d a
         finish d none t L = fewer-long net s (1 + (d - 1)) d (omega arith) (steps-long net s s₁ 1 (d - 1) t L)
-        finish d (some us) t (s₂, u, E) =
-            (s₂, fewer net s s₂ (1 + (d - 1)) d (omega arith) (steps-then net s s₁ s₂ 1 (d - 1) t u),
-            record { gives = E .gives; clear = clear; ready = E .ready; same = same })
+        finish d (some us) t (s₂, u, E) = (
+          s₂,
+          fewer net s s₂ (1 + (d - 1)) d (omega arith) (steps-then net s s₁ s₂ 1 (d - 1) t u),
+          record { gives = E .gives; clear = clear; ready = E .ready; same = same },
+        )
           where
             clear : (l : ℕ) → Zone Core l → (Control Core l → ⊥) → (In l rs → ⊥) → s₂ l ≡ []
             clear l (inl b) c n = E .clear l b c n

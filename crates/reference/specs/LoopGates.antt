@@ -1,24 +1,22 @@
 -- All gates of a loop at work: at the start of a set each takes the value that comes in; in a further round each FM takes its iterated value and
 -- each FS repeats. In both cases the body's names then have their values, every control is empty, and every register holds a value.
-use Prim.Native.Nat.{ℕ, zero, suc, _+_, _*_, _-_, _≤_, _<_}
+use Prim.Native.Nat.{ℕ, _+_, _-_, _≤_, _<_}
 use mathlib.Core.Path.{_≡_, refl, sym, _∙_, ap, subst}
 use mathlib.Core.Logic.{_≢_, _⊎_, inl, inr, ⊎-elim}
-use mathlib.Core.Bool.{Bool, true, false, cond, false≢true}
-use mathlib.Core.List.{List, [], _∷_, _++_}
-use mathlib.Core.Option.{Option, none, some}
-use lib.ListN.{length}
+use mathlib.Core.Bool.{Bool, true, false, cond}
+use mathlib.Core.List.{List, [], _∷_}
+use mathlib.Core.Option.{some}
 use native.Mathlib.Omega.{arith}
 use Rattle.value.specs.declared.Value.{Value}
 use Rattle.names.specs.Names.{Names}
-use Rattle.network.specs.Values.{true-value, false-value}
-use Rattle.network.specs.Net.{Token, val, mark, Demand, Links}
-use Rattle.network.specs.Uses.{In}
+use Rattle.network.specs.Values.{true-value}
+use Rattle.network.specs.Net.{val, Demand, Links}
 use Rattle.pieces.specs.Goes.{Steps}
 use Rattle.graph.specs.Assembly.{Env, nameCount, memberOf, total, ringGate, chainLinks}
-use Rattle.graph.specs.Yields.{Values, bound, present}
-use Rattle.reference.specs.NameSets.{either, not-both, rank-onto}
+use Rattle.graph.specs.Yields.{Values}
+use Rattle.reference.specs.NameSets.{not-both, rank-onto}
 use Rattle.reference.specs.Plugged.{nowhere, registers, Somewhere}
-use Rattle.reference.specs.Plan.{tokens, Between, Plan, Own, Register, Ready, fewer}
+use Rattle.reference.specs.Plan.{tokens, Between, Plan, Own, Ready, fewer}
 use Rattle.reference.specs.NameRows.{Works, tally, tally-one, row-works}
 use Rattle.reference.specs.RingGates.{Passed, Touched, start-gate, again-moves, again-repeats}
 use Rattle.reference.specs.LoopLayout as Lay

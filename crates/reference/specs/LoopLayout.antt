@@ -1,23 +1,23 @@
 -- The gates of a loop round its body, laid out: behind the links of the gates' outputs, one for each name of the body, lie the body's
 -- own and those of the copies of iter?. The body's outputs are iter?, the iterated and the returned values, all its own links.
-use Prim.Native.Nat.{ℕ, zero, suc, _+_, _*_, _-_, _≤_, _<_}
+use Prim.Native.Nat.{ℕ, _+_, _-_, _≤_, _<_}
 use mathlib.Core.Path.{_≡_, refl, sym, _∙_, ap, subst}
-use mathlib.Core.Logic.{_≢_, _⊎_, inl, inr, ⊎-elim}
-use mathlib.Core.Bool.{Bool, true, false}
+use mathlib.Core.Logic.{_⊎_, inl, inr}
+use mathlib.Core.Bool.{true}
 use mathlib.Core.List.{List, [], _∷_, _++_}
 use lib.ListN.{length, getD}
-use native.Mathlib.Decide.{ℕ-discrete, decLt}
+use native.Mathlib.Decide.{decLt}
 use native.Mathlib.Omega.{arith}
 use Rattle.names.specs.Names.{Names}
 use Rattle.network.specs.Uses.{In}
-use Rattle.pieces.specs.Rows.{in-front, in-back, in-app}
+use Rattle.pieces.specs.Rows.{in-front, in-back}
 use Rattle.pieces.specs.Sets.{Different}
 use Rattle.graph.specs.Assembly.{Env, nameCount, memberOf, named, spread, rank, total, chainEnds, chainLinks}
 use Rattle.graph.specs.Fit.{Different as DifferentNames}
 use Rattle.reference.specs.NameSets.{rank-total, rank-differs, rank-onto}
 use Rattle.reference.specs.Plugged.{nowhere, registers}
-use Rattle.reference.specs.Plan.{Between, Plan, Own, Register, Port, Zone, Control, Outside, Envs, Sound}
-use Rattle.reference.specs.Copies.{ends-length, end-in, end-at, end-own, ends-differ}
+use Rattle.reference.specs.Plan.{Between, Plan, Own, Register, Port, Control, Outside, Envs, Sound}
+use Rattle.reference.specs.Copies.{end-in, end-at, end-own, ends-differ}
 use Rattle.reference.specs.Binding.{named-in, named-differ, named-onto}
 
 pub spread-is : (h : Names) (o x : ℕ) → spread h o x ≡ o + rank h x

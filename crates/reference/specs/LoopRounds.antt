@@ -1,9 +1,9 @@
 -- The rounds of a loop: from the values of the body's names the body is served, iter? passes its copies, and the gates either take the next
 -- values or are ready for the next set, each with one false on its control. Every further round has at least one firing.
-use Prim.Native.Nat.{ℕ, zero, suc, _+_, _*_, _-_, _≤_, _<_}
+use Prim.Native.Nat.{ℕ, suc, _+_, _-_}
 use mathlib.Core.Path.{_≡_, refl, sym, _∙_, ap, subst}
 use mathlib.Core.Logic.{_≢_, _⊎_, inl, inr, ⊎-elim}
-use mathlib.Core.Bool.{Bool, true, false, cond, false≢true}
+use mathlib.Core.Bool.{true, false}
 use mathlib.Core.List.{List, [], _∷_, _++_}
 use mathlib.Core.Option.{Option, none, some}
 use lib.ListN.{length, length-replicate}
@@ -12,16 +12,16 @@ use native.Mathlib.Omega.{arith}
 use Rattle.value.specs.declared.Value.{Value}
 use Rattle.names.specs.Names.{Names}
 use Rattle.network.specs.Values.{true-value, false-value}
-use Rattle.network.specs.Net.{Token, val, mark, Demand, Links}
+use Rattle.network.specs.Net.{val, Demand, Links}
 use Rattle.network.specs.Uses.{In}
 use Rattle.pieces.specs.Goes.{Steps, Long, steps-then, steps-long}
 use Rattle.pieces.specs.Rows.{in-front, in-back, in-app, dec-in}
 use Rattle.graph.specs.Assembly.{Env, memberOf, total, ringGate, chain, chainLinks}
 use Rattle.graph.specs.Yields.{Values, Answer, absent, present, bound, Spins, spent, stops, returns, again}
 use Rattle.reference.specs.Plugged.{nowhere, registers, Somewhere, Has}
-use Rattle.reference.specs.Plan.{tokens, Hold, Between, Plan, Own, Register, Port, Zone, Control, Outside, Ready, Before, After, Leads, Serves, fewer, fewer-long, ready-same, hold-same, hold-parts}
+use Rattle.reference.specs.Plan.{tokens, Hold, Between, Plan, Own, Register, Control, Ready, Before, After, Leads, Serves, fewer, fewer-long, ready-same, hold-same, hold-parts}
 use Rattle.reference.specs.Copies.{fans-out}
-use Rattle.reference.specs.Binding.{named-holds, bound-front, bound-others, bound-present}
+use Rattle.reference.specs.Binding.{named-holds, bound-others, bound-present}
 use Rattle.reference.specs.BehindGate.{absent-empty}
 use Rattle.reference.specs.LoopLayout as Lay
 use Rattle.reference.specs.LoopGates as Gates
@@ -83,15 +83,17 @@ module _ (ns : List ℕ) (h : Names) (o kb it : ℕ) (is rs : List ℕ) (RB : �
       (s₂ : Links) × Steps net s₁ 0 s₂ × Fanned v s₁ s₂
   fan net H v s₁ e dry =
       let two = K .two in
-      let f = fans-out net (total h) it copies v s₁ (omega arith) (Lay.iter-low ns h o kb it is rs RB env K) H e dry in
-      (f .0, f .1,
-      record {
-        controls = λ x k. f .2 (control x) (Lay.control-in ns h o kb it is rs RB env K x k);
-        others = λ l b n. f .3 l (inr b) n;
-        iter = f .3 it (inl refl)
-            (λ i. let b = Lay.end-copies ns h o kb it is rs RB env K it i in let c = Lay.iter-low ns h o kb it is rs RB env K in omega arith);
-        same = f .4;
-      })
+      let f = fans-out net (total h) it copies v s₁ (omega arith) (Lay.iter-low ns h o kb it is rs RB env K) H e dry in (
+        f .0,
+        f .1,
+        record {
+          controls = λ x k. f .2 (control x) (Lay.control-in ns h o kb it is rs RB env K x k);
+          others = λ l b n. f .3 l (inr b) n;
+          iter = f .3 it (inl refl)
+              (λ i. let b = Lay.end-copies ns h o kb it is rs RB env K it i in let c = Lay.iter-low ns h o kb it is rs RB env K in omega arith);
+          same = f .4;
+        },
+      )
 
   module _ (ρ : Values) (ws : List Value) (s : Links) (T : Turn ρ ws s) (v : Value) (us : List (Option Value)) (s₁ : Links) (X : After Body s s₁ (some v ∷ us)) (s₂ : Links) (F : Fanned v s₁ s₂) where
     own-not-copy : (l : ℕ) → Own Body l → Copy l → ⊥
@@ -133,10 +135,11 @@ module _ (ns : List ℕ) (h : Names) (o kb it : ℕ) (is rs : List ℕ) (RB : �
         let w = T .held x e in
         let b = Lay.inner-between ns h o kb it is rs RB env K x e in
         let i = K .inside it (inl refl) in
-        let ft = K .fits in
-        (w .0,
-        F .same (registers + inner x) (λ z. omega arith) (λ z. omega arith) ∙ X .same (registers + inner x) (Lay.register-outside ns h o kb it is rs RB env K x (registers + inner x) e refl) ∙ w .1,
-        w .2)
+        let ft = K .fits in (
+          w .0,
+          F .same (registers + inner x) (λ z. omega arith) (λ z. omega arith) ∙ X .same (registers + inner x) (Lay.register-outside ns h o kb it is rs RB env K x (registers + inner x) e refl) ∙ w .1,
+          w .2,
+        )
 
     void-kept : s₂ nowhere ≡ []
     void-kept =
@@ -300,9 +303,11 @@ module _ (ns : List ℕ) (h : Names) (o kb it : ℕ) (is rs : List ℕ) (RB : �
 
       after-turn : (s s₃ : Links) (c d : ℕ) (a : Answer) → Steps net s (c + 1) s₃ → ((l : ℕ) → (Own Core l → ⊥) → (Register Core l → ⊥) → s₃ l ≡ s l) → Comes net s₃ (d - 1) a → Comes net s (suc (c + d) - 1) a
       after-turn s s₃ c d none t fr L = fewer-long net s (c + 1 + (d - 1)) (suc (c + d) - 1) (omega arith) (steps-long net s s₃ (c + 1) (d - 1) t L)
-      after-turn s s₃ c d (some vs) t fr (s₄, u, E) =
-          (s₄, fewer net s s₄ (c + 1 + (d - 1)) (suc (c + d) - 1) (omega arith) (steps-then net s s₃ s₄ (c + 1) (d - 1) t u),
-          record { gives = E .gives; clear = E .clear; ready = E .ready; same = λ l p q. E .same l p q ∙ fr l p q })
+      after-turn s s₃ c d (some vs) t fr (s₄, u, E) = (
+        s₄,
+        fewer net s s₄ (c + 1 + (d - 1)) (suc (c + d) - 1) (omega arith) (steps-then net s s₃ s₄ (c + 1) (d - 1) t u),
+        record { gives = E .gives; clear = E .clear; ready = E .ready; same = λ l p q. E .same l p q ∙ fr l p q },
+      )
 
       -- The entry into the first body is not counted here.
       pub rounds : (ws : List Value) (d : ℕ) (a : Answer) → Spins (length ns) Round ws d a → (s : Links) → Turn ρ ws s → Comes net s (d - 1) a

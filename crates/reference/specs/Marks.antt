@@ -1,19 +1,19 @@
 -- The start: the register of each gate of a loop holds the mark ("first firing"), everything else is empty. The load of these marks is read off
 -- the list of operators; it lies on register links of the graph's own, and every gate of a loop has its mark in it.
-use Prim.Native.Nat.{ℕ, zero, suc, _+_, _*_, _-_, _≤_, _<_}
+use Prim.Native.Nat.{ℕ, zero, suc, _+_, _-_, _≤_, _<_}
 use mathlib.Core.Path.{_≡_, refl, sym, _∙_, ap, subst}
 use mathlib.Core.Logic.{_≢_, _⊎_, inl, inr, ⊎-elim}
-use mathlib.Core.Bool.{Bool, true, false, cond, false≢true}
+use mathlib.Core.Bool.{Bool, true, false, false≢true}
 use mathlib.Core.List.{List, [], _∷_, _++_}
-use mathlib.Core.Option.{Option, none, some}
-use lib.ListN.{length, getD, drop}
+use mathlib.Core.Option.{some}
+use lib.ListN.{getD, drop}
 use native.Mathlib.Decide.{ℕ-discrete}
 use native.Mathlib.Omega.{arith}
 use Rattle.names.specs.Names.{Names, common, without}
-use Rattle.network.specs.Net.{Token, mark, Links}
+use Rattle.network.specs.Net.{mark, Links}
 use Rattle.network.specs.Fill.{remembering}
 use Rattle.pieces.specs.Load.{Load, set-link, set-same, set-other, put, On}
-use Rattle.graph.specs.Assembly.{Gate, const, oper, T, F, M, E, IC, Graph, wire, nothing, beside, bind, gate, loop, Env, nameCount, memberOf, named, spread, rank, total, free, linksOf, outputs, operatorsOf, Operator, copyOf, copiesFor, sharing, sharedLinks, firstUse, secondUse, gateOf, gateOutputs, chain, chainEnds, chainLinks, ringGate, ring, listed, nth}
+use Rattle.graph.specs.Assembly.{Gate, const, oper, T, F, M, E, IC, Graph, wire, nothing, beside, bind, gate, loop, Env, memberOf, named, spread, rank, total, free, linksOf, outputs, operatorsOf, Operator, copiesFor, sharing, sharedLinks, firstUse, secondUse, gateOf, gateOutputs, chain, chainEnds, chainLinks, ringGate, ring, listed}
 use Rattle.graph.specs.Fit.{Fit}
 use Rattle.reference.specs.NameSets.{member-head, member-tail, listed-only, rank-total}
 use Rattle.reference.specs.Plugged.{registers, link-of, Each, each-first, each-rest, each-ring}

@@ -1,17 +1,16 @@
 -- Laws of sets of names as the layout uses them: membership in unions and differences, and the rank of a name among the members,
 -- which is below their number, different for different names, and takes every value. Assumes nothing.
-use Prim.Native.Nat.{ℕ, zero, suc, _+_, _*_, _≤_, _<_}
+use Prim.Native.Nat.{ℕ, zero, suc, _+_, _≤_, _<_}
 use mathlib.Core.Path.{_≡_, refl, sym, _∙_, ap, subst}
 use mathlib.Core.Logic.{_≢_, _⊎_, inl, inr, ⊎-elim}
-use mathlib.Core.Bool.{Bool, true, false, cond, _&&_, _||_, not, false≢true}
+use mathlib.Core.Bool.{Bool, true, false, _&&_, _||_, not, false≢true}
 use mathlib.Core.List.{List, [], _∷_}
 use lib.Dec.{eqb}
 use native.Mathlib.Omega.{arith}
-use native.Mathlib.Decide.{ℕ-discrete, decLt}
-use borrow.Author.Tests.{eqb-true, eqb-false, eq-eqb, ne-eqb}
-use Rattle.names.specs.Names.{Names, union, common, without, sizeFrom, membersFrom, later, put, bit}
+use native.Mathlib.Decide.{decLt}
+use borrow.Author.Tests.{eqb-true, eq-eqb}
+use Rattle.names.specs.Names.{Names, without, sizeFrom, membersFrom, later, put, bit}
 use Rattle.names.proofs.Counts.{sizeFrom-suc, sizeFrom-mono, Member, member-of}
-use Rattle.network.specs.Uses.{In}
 use Rattle.graph.specs.Assembly.{nameCount, memberOf, rank, total, listed}
 use Rattle.graph.specs.Fit.{Different as DifferentNames}
 

@@ -1,11 +1,11 @@
 -- One gate of a loop (document 01: FM and FS), link by link. From ready it takes what comes in, whether it has fired before or not; with a
 -- true control FM takes the iterated value and FS repeats what it remembers. Its register then holds a value, FS's the one it passed on.
-use Prim.Native.Nat.{ℕ, zero, suc, _+_, _≤_, _<_}
+use Prim.Native.Nat.{ℕ, _+_}
 use mathlib.Core.Path.{_≡_, refl, sym, _∙_, ap, subst}
-use mathlib.Core.Logic.{_≢_, Ne·symm, _⊎_, inl, inr, ⊎-elim}
+use mathlib.Core.Logic.{_≢_, Ne·symm, _⊎_, inl, inr}
 use mathlib.Core.Bool.{Bool, true, false, cond, false≢true}
-use mathlib.Core.List.{List, [], _∷_, _++_}
-use mathlib.Core.Option.{Option, none, some}
+use mathlib.Core.List.{List, [], _∷_}
+use mathlib.Core.Option.{some}
 use native.Mathlib.Omega.{arith}
 use Rattle.value.specs.declared.Value.{Value}
 use Rattle.network.specs.Values.{true-value, false-value}
@@ -14,7 +14,7 @@ use Rattle.pieces.specs.Load.{Load, On}
 use Rattle.pieces.specs.Gate.{Distinct, distinct-two, distinct-three, emitted, Consumes}
 use Rattle.graph.specs.Assembly.{ringGate, nth}
 use Rattle.reference.specs.Plugged.{registers, demandOf, Somewhere}
-use Rattle.reference.specs.Firings.{Wait, Fired, fires-at}
+use Rattle.reference.specs.Firings.{Fired, fires-at}
 use Rattle.reference.specs.Plan.{Ready}
 use Rattle.reference.specs.NameRows.{Works}
 

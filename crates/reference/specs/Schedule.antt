@@ -2,28 +2,26 @@
 -- names' values and its gates ready, a schedule that is possible with one place a link, of at least as many firings as rounds, leads
 -- to the yielded values on its outputs, everything else of it empty and its gates ready again, and nothing outside touched; or,
 -- where the rounds lent do not suffice, there is a schedule of that many firings.
-use Prim.Native.Nat.{ℕ, zero, suc, _+_, _*_, _-_, _≤_, _<_}
+use Prim.Native.Nat.{ℕ, suc, _+_, _-_, _≤_}
 use mathlib.Core.Path.{_≡_, refl, sym, _∙_, ap, subst}
 use mathlib.Core.Logic.{_≢_, _⊎_, inl, inr, ⊎-elim}
-use mathlib.Core.Bool.{Bool, true, false, cond, _&&_, _||_, false≢true}
+use mathlib.Core.Bool.{Bool, true, false, _||_, false≢true}
 use mathlib.Core.List.{List, [], _∷_, _++_}
-use mathlib.Core.Option.{Option, none, some}
+use mathlib.Core.Option.{none, some}
 use lib.ListN.{length, getD, take, drop}
 use lib.Dec.{eqb}
 use native.Mathlib.Omega.{arith}
 use borrow.Author.Tests.{eqb-true, eq-eqb}
-use Rattle.value.specs.declared.Value.{Value}
 use Rattle.value.specs.Operators.{operands, pick}
-use Rattle.names.specs.Names.{Names, one, union, common, without}
-use Rattle.network.specs.Net.{Demand, Links}
-use Rattle.network.specs.Uses.{In}
+use Rattle.names.specs.Names.{Names, without}
+use Rattle.network.specs.Net.{Demand}
 use Rattle.pieces.specs.Goes.{stay}
-use Rattle.graph.specs.Assembly.{Gate, const, oper, T, F, M, E, IC, Graph, wire, nothing, beside, bind, gate, loop, Env, nameCount, memberOf, named, spread, rank, total, free, linksOf, outputs, operatorsOf, gateOutputs, gateOf, sharing, sharedLinks, firstUse, secondUse, chain, chainEnds, chainLinks, ring, listed}
+use Rattle.graph.specs.Assembly.{Gate, const, oper, T, F, M, E, IC, Graph, wire, nothing, beside, bind, gate, loop, Env, memberOf, named, spread, rank, total, free, linksOf, outputs, operatorsOf, gateOutputs, gateOf, sharing, sharedLinks, firstUse, secondUse, chain, chainEnds, chainLinks, ring, listed}
 use Rattle.graph.specs.Yields.{Values, Answer, Yields, outputCount, absent, present, bound, Sequel, stops, goes-on, Looped, rests, spins}
-use Rattle.graph.specs.Fit.{Fit, bare, gateInputs}
+use Rattle.graph.specs.Fit.{Fit, gateInputs}
 use Rattle.reference.specs.NameSets.{either}
 use Rattle.reference.specs.Plugged.{nowhere, registers, Somewhere, Has, each-first, each-rest, each-ring}
-use Rattle.reference.specs.Plan.{tokens, Between, Plan, Own, Port, Zone, Envs, Sound, Before, After, Leads, Serves}
+use Rattle.reference.specs.Plan.{Between, Envs, Leads, Serves}
 use Rattle.reference.specs.Sharing.{envs-first, envs-second}
 use Rattle.reference.specs.Binding.{named-others, named-any, named-front, bound-others, bound-absent}
 use Rattle.reference.specs.Copies.{ends-length}
@@ -65,27 +63,31 @@ module _ (net : ℕ → Demand) where
   unfolding free linksOf outputs
   serve-wire x n env ρ c a (ec, ea) s bef =
       subst (λ d. Leads net (planOf (wire x) n env) s d a) (sym ec)
-      (subst (Leads net (planOf (wire x) n env) s 0) (sym ea)
-      (s, stay net s,
-      record {
-        gives = (bef .laid x (eq-eqb x x refl), tt);
-        clear = λ l z c n. ⊎-elim (λ (o : Between _ 0 l). absurd (omega arith)) (λ (p : (y : ℕ) × (eqb x y ≡ true) × (l ≡ env y)). absurd (n (inl (p .2 ∙ ap env (sym (eqb-true x (p .0) (p .1))))))) z;
-        ready = bef .ready;
-        same = λ l u. refl;
-      }))
+      (subst (Leads net (planOf (wire x) n env) s 0) (sym ea) (
+        s,
+        stay net s,
+        record {
+          gives = (bef .laid x (eq-eqb x x refl), tt);
+          clear = λ l z c n. ⊎-elim (λ (o : Between _ 0 l). absurd (omega arith)) (λ (p : (y : ℕ) × (eqb x y ≡ true) × (l ≡ env y)). absurd (n (inl (p .2 ∙ ap env (sym (eqb-true x (p .0) (p .1))))))) z;
+          ready = bef .ready;
+          same = λ l u. refl;
+        },
+      ))
 
   serve-nothing : (n : ℕ) (env : Env) → Serves net (planOf nothing n env) (Yields nothing)
   unfolding free linksOf outputs
   serve-nothing n env ρ c a (ec, ea) s bef =
       subst (λ d. Leads net (planOf nothing n env) s d a) (sym ec)
-      (subst (Leads net (planOf nothing n env) s 0) (sym ea)
-      (s, stay net s,
-      record {
-        gives = tt;
-        clear = λ l z c m. ⊎-elim (λ (o : Between n 0 l). absurd (omega arith)) (λ (p : (y : ℕ) × (false ≡ true) × (l ≡ env y)). absurd (false≢true (p .1))) z;
-        ready = bef .ready;
-        same = λ l u. refl;
-      }))
+      (subst (Leads net (planOf nothing n env) s 0) (sym ea) (
+        s,
+        stay net s,
+        record {
+          gives = tt;
+          clear = λ l z c m. ⊎-elim (λ (o : Between n 0 l). absurd (omega arith)) (λ (p : (y : ℕ) × (false ≡ true) × (l ≡ env y)). absurd (false≢true (p .1))) z;
+          ready = bef .ready;
+          same = λ l u. refl;
+        },
+      ))
 
   -- A loop is its start, bound to its identifiers, and the rest of it.
   looped : (ns : List ℕ) (h : Names) (k r : ℕ) (ρ : Values) (P : ℕ → Answer → Type 0) (B : Values → ℕ → Answer → Type 0) → k ≡ r → (c : ℕ) (a : Answer) →

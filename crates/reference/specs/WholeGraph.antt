@@ -1,18 +1,16 @@
 -- A whole fit graph as a piece with the schedule lemma (pieces, Piece.antt), so that both halves of demand 3 follow (pieces, Made.antt and
 -- Calls.antt). Its inputs are the links of its free names, rising; an idle load says what lies on its own links and registers
 -- between two sets. Assumes that source and credit are no links of the graph and that no operator of the net uses them.
-use Prim.Native.Nat.{ℕ, zero, suc, _+_, _≤_, _<_}
+use Prim.Native.Nat.{ℕ, _+_, _≤_, _<_}
 use mathlib.Core.Path.{_≡_, refl, sym, _∙_, ap, subst, fun-ext}
 use mathlib.Core.Logic.{_≢_, _⊎_, inl, inr, ⊎-elim}
-use mathlib.Core.Bool.{Bool, true, false}
 use mathlib.Core.List.{List, [], _∷_, _++_}
 use mathlib.Core.Option.{Option, none, some}
 use lib.ListN.{length}
 use native.Mathlib.Decide.{ℕ-discrete, decLt}
 use native.Mathlib.Omega.{arith}
 use Rattle.value.specs.declared.Value.{Value}
-use Rattle.names.specs.Names.{Names}
-use Rattle.network.specs.Net.{Token, val, mark, Demand, Links}
+use Rattle.network.specs.Net.{Token, mark, Demand, Links}
 use Rattle.network.specs.Uses.{In}
 use Rattle.pieces.specs.Load.{Load, opt, set-link, set-same, set-other, set-ext, put, put-app, put-off, put-set, On, on-app, Clear}
 use Rattle.pieces.specs.Goes.{Steps, Long}
@@ -20,12 +18,12 @@ use Rattle.pieces.specs.Piece.{load, load-in, Piece, Region, Neat, Means}
 use Rattle.pieces.specs.Piece as Pieces
 use Rattle.pieces.specs.Sets.{Different}
 use Rattle.pieces.specs.Rows.{in-front, in-back, in-app, dec-in}
-use Rattle.graph.specs.Assembly.{Graph, Env, nameCount, memberOf, free, linksOf, outputs, operatorsOf, listed, upFrom}
+use Rattle.graph.specs.Assembly.{Graph, Env, free, linksOf, outputs, operatorsOf, listed, upFrom}
 use Rattle.graph.specs.Yields.{Values, Answer, Yields, bound}
 use Rattle.graph.specs.Fit.{Fit}
 use Rattle.reference.specs.NameSets.{listed-has, listed-only, listed-differ}
 use Rattle.reference.specs.Plugged.{nowhere, registers, Has}
-use Rattle.reference.specs.Plan.{tokens, Hold, hold-same, Between, Plan, Own, Register, Port, Zone, Control, Outside, Envs, Sound, Ready, ready-same, Before, After, Leads}
+use Rattle.reference.specs.Plan.{Hold, hold-same, Between, Plan, Own, Register, Port, Zone, Control, Envs, Sound, Ready, ready-same, Before, After, Leads}
 use Rattle.reference.specs.BehindGate.{in-upFrom, upFrom-in}
 use Rattle.reference.specs.GraphLayout.{planOf, layout, RingOf}
 use Rattle.reference.specs.Schedule.{serves}
@@ -333,8 +331,11 @@ module _ (g : Graph) (n : ℕ) (env : Env) (source credit : ℕ) where
             subst (λ q. Long net q c) (sym (based vs σ I b cl))
             (long-beside net source Us (b source) (set-link credit (b credit) (s₀ vs σ I)) c (long-beside net credit Uc (b credit) (s₀ vs σ I) c L))
         go (some ws) (s′, t, X) =
-            let one : Single s′ = steps-single net (s₀ vs σ I) s′ c t (put-single (load inputs vs ++ σ) bare-state (λ l. omega arith)) in
-            (τ vs σ I ws s′ X one, idle-again vs σ I ws s′ X one, λ b cl.
-            subst (λ q. Steps net q c (put (load results ws ++ τ vs σ I ws s′ X one) b)) (sym (based vs σ I b cl))
-            (subst (Steps net (set-link source (b source) (set-link credit (b credit) (s₀ vs σ I))) c) (ended vs σ I ws s′ X one b cl)
-            (steps-beside net source Us (b source) (set-link credit (b credit) (s₀ vs σ I)) (set-link credit (b credit) s′) c (steps-beside net credit Uc (b credit) (s₀ vs σ I) s′ c t))))
+            let one : Single s′ = steps-single net (s₀ vs σ I) s′ c t (put-single (load inputs vs ++ σ) bare-state (λ l. omega arith)) in (
+              τ vs σ I ws s′ X one,
+              idle-again vs σ I ws s′ X one,
+              λ b cl.
+                  subst (λ q. Steps net q c (put (load results ws ++ τ vs σ I ws s′ X one) b)) (sym (based vs σ I b cl))
+                  (subst (Steps net (set-link source (b source) (set-link credit (b credit) (s₀ vs σ I))) c) (ended vs σ I ws s′ X one b cl)
+                  (steps-beside net source Us (b source) (set-link credit (b credit) (s₀ vs σ I)) (set-link credit (b credit) s′) c (steps-beside net credit Uc (b credit) (s₀ vs σ I) s′ c t))),
+            )

@@ -1,10 +1,10 @@
 -- States written out as loads: values laid on the links of names, values that lie on a list of links, and what lies on the links of a list but
 -- for some of them.
-use Prim.Native.Nat.{ℕ, zero, suc, _+_, _≤_, _<_}
+use Prim.Native.Nat.{ℕ, _≤_}
 use mathlib.Core.Path.{_≡_, refl, sym, _∙_, ap, subst}
-use mathlib.Core.Logic.{_≢_, _⊎_, inl, inr, ⊎-elim}
-use mathlib.Core.Bool.{Bool, true, false}
-use mathlib.Core.List.{List, [], _∷_, _++_}
+use mathlib.Core.Logic.{_⊎_, inl, inr, ⊎-elim}
+use mathlib.Core.Bool.{true}
+use mathlib.Core.List.{List, [], _∷_}
 use mathlib.Core.Option.{Option, none, some}
 use lib.ListN.{length}
 use native.Mathlib.Decide.{ℕ-discrete}
@@ -39,10 +39,11 @@ links-in (y ∷ ns) env x e = ⊎-elim (λ (z : y ≡ x). inl (ap env (sym z))) 
 
 pub links-differ : (ns : List ℕ) (env : Env) → DifferentNames ns → ((x y : ℕ) → memberOf ns x ≡ true → memberOf ns y ≡ true → env x ≡ env y → x ≡ y) → Different (links-of ns env)
 links-differ [] env d inj = tt
-links-differ (y ∷ ns) env d inj =
-    (λ i. let h = in-links ns env (env y) i in
-    not-both (memberOf ns y) (subst (λ z. memberOf ns z ≡ true) (sym (inj y (h .0) (member-head y ns) (member-tail y ns (h .0) (h .1)) (h .2))) (h .1)) (d .1),
-    links-differ ns env (d .2) (λ x z a b e. inj x z (member-tail y ns x a) (member-tail y ns z b) e))
+links-differ (y ∷ ns) env d inj = (
+  λ i. let h = in-links ns env (env y) i in
+      not-both (memberOf ns y) (subst (λ z. memberOf ns z ≡ true) (sym (inj y (h .0) (member-head y ns) (member-tail y ns (h .0) (h .1)) (h .2))) (h .1)) (d .1),
+  links-differ ns env (d .2) (λ x z a b e. inj x z (member-tail y ns x a) (member-tail y ns z b) e),
+)
 
 -- No value for any name.
 abbrev pub no-values : Values
