@@ -1,0 +1,27 @@
+-- The root of the specs, in the order of reading: names and layout, single firings, each way of composing graphs, loops, then the whole.
+pub mod NameSets
+pub mod Plugged
+pub mod Firings
+pub mod Plan
+pub mod NameRows
+pub mod Copies
+pub mod Sharing
+pub mod Parts
+pub mod SideBySide
+pub mod Binding
+pub mod OneAfterAnother
+pub mod GateFiring
+pub mod BehindGate
+pub mod RingGates
+pub mod LoopLayout
+pub mod LoopGates
+pub mod LoopRounds
+pub mod LoopCore
+pub mod Bareness
+pub mod GraphLayout
+pub mod Schedule
+pub mod Bystanders
+pub mod WrittenOut
+pub mod WholeGraph
+pub mod Marks
+pub mod GraphBench
