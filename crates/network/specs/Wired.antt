@@ -37,7 +37,8 @@ module _ (R W R′ W′ : ℕ → Type 0) (ra : (l : ℕ) → R l → ¬ (R′ l
   free-emissions [] u = tt
   free-emissions (x ∷ es) u = (never-emits R′ W′ e ue (x .0) (wa (x .0) (u .0)), free-emissions es (u .1))
 
-  free-of : (d : Demand) → Uses R W d → Free d e
+  -- What the one takes from and puts onto, the other does not.
+  pub free-of : (d : Demand) → Uses R W d → Free d e
   free-of (ask l k) u = (never-asks R′ W′ e ue l (ra l (u .0)), λ t. free-of (k t) (u .1 t))
   free-of (fire es r) u = free-emissions es u
   free-of halt u = tt

@@ -1,0 +1,27 @@
+-- The root of the specs.
+pub mod Load
+pub mod Goes
+pub mod Gate
+pub mod Piece
+pub mod Rows
+pub mod LoadSets
+pub mod Gates
+pub mod Ring
+pub mod DataRows
+pub mod Fan
+pub mod MergeRows
+pub mod Joins
+pub mod Arm
+pub mod BodyIf
+pub mod ExpIf
+pub mod Loop
+pub mod LoopFan
+pub mod Share
+pub mod Sequence
+pub mod Parallel
+pub mod Compose
+pub mod Paint
+pub mod Operators
+pub mod Sets
+pub mod Demand3
+pub mod Made

@@ -1,0 +1,13 @@
+pub mod NameSets
+pub mod Plugged
+pub mod Firings
+pub mod Plan
+pub mod NameRows
+pub mod Copies
+pub mod Sharing
+pub mod Parts
+pub mod SideBySide
+pub mod Binding
+pub mod OneAfterAnother
+pub mod GateFiring
+pub mod BehindGate

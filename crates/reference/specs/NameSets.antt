@@ -1,0 +1,106 @@
+-- Laws of sets of names as the layout uses them: membership in unions and differences, and the rank of a name among the members,
+-- which is below their number, different for different names, and takes every value. Assumes nothing.
+use Prim.Native.Nat.{ℕ, zero, suc, _+_, _*_, _≤_, _<_}
+use mathlib.Core.Path.{_≡_, refl, sym, _∙_, ap, subst}
+use mathlib.Core.Logic.{_≢_, _⊎_, inl, inr, ⊎-elim}
+use mathlib.Core.Bool.{Bool, true, false, cond, _&&_, _||_, not, false≢true}
+use mathlib.Core.List.{List, [], _∷_}
+use lib.Dec.{eqb}
+use native.Mathlib.Omega.{arith}
+use native.Mathlib.Decide.{ℕ-discrete, decLt}
+use borrow.Author.Tests.{eqb-true, eqb-false, eq-eqb, ne-eqb}
+use Rattle.names.specs.Names.{Names, union, common, without, sizeFrom, bit}
+use Rattle.names.proofs.Counts.{sizeFrom-suc, sizeFrom-mono, Member, member-of}
+use Rattle.network.specs.Uses.{In}
+use Rattle.graph.specs.Assembly.{nameCount, memberOf, rank, total}
+
+-- Truths.
+pub either : (b : Bool) → (b ≡ true) ⊎ (b ≡ false)
+either true = inl refl
+either false = inr refl
+
+pub and-left : (p q : Bool) → p && q ≡ true → p ≡ true
+and-left true q e = refl
+and-left false q e = e
+
+pub and-right : (p q : Bool) → p && q ≡ true → q ≡ true
+and-right true q e = e
+and-right false q e = absurd (false≢true e)
+
+pub and-both : (p q : Bool) → p ≡ true → q ≡ true → p && q ≡ true
+and-both true q e f = f
+and-both false q e f = e
+
+pub or-left : (p q : Bool) → p ≡ true → p || q ≡ true
+or-left true q e = refl
+or-left false q e = absurd (false≢true e)
+
+pub or-right : (p q : Bool) → q ≡ true → p || q ≡ true
+or-right true q e = refl
+or-right false q e = e
+
+pub or-cases : (p q : Bool) → p || q ≡ true → (p ≡ true) ⊎ (q ≡ true)
+or-cases true q e = inl refl
+or-cases false q e = inr e
+
+pub not-both : (b : Bool) → b ≡ true → b ≡ false → ⊥
+not-both b e f = false≢true (sym f ∙ e)
+
+pub without-in : (f h : Names) (x : ℕ) → f x ≡ true → h x ≡ false → without f h x ≡ true
+without-in f h x e k = and-both (f x) (not (h x)) e (ap not k)
+
+pub without-here : (f h : Names) (x : ℕ) → without f h x ≡ true → f x ≡ true
+without-here f h x e = and-left (f x) (not (h x)) e
+
+not-true : (b : Bool) → not b ≡ true → b ≡ false
+not-true true e = sym e
+not-true false e = refl
+
+pub without-there : (f h : Names) (x : ℕ) → without f h x ≡ true → h x ≡ false
+without-there f h x e = not-true (h x) (and-right (f x) (not (h x)) e)
+
+-- The members of a list.
+pub member-head : (x : ℕ) (ns : List ℕ) → memberOf (x ∷ ns) x ≡ true
+unfolding memberOf
+member-head x ns = or-left (eqb x x) (memberOf ns x) (eq-eqb x x refl)
+
+pub member-tail : (y : ℕ) (ns : List ℕ) (x : ℕ) → memberOf ns x ≡ true → memberOf (y ∷ ns) x ≡ true
+unfolding memberOf
+member-tail y ns x e = or-right (eqb y x) (memberOf ns x) e
+
+pub member-cases : (y : ℕ) (ns : List ℕ) (x : ℕ) → memberOf (y ∷ ns) x ≡ true → (y ≡ x) ⊎ (memberOf ns x ≡ true)
+unfolding memberOf
+member-cases y ns x e = ⊎-elim (λ (z : eqb y x ≡ true). inl (eqb-true y x z)) (λ (z : memberOf ns x ≡ true). inr z) (or-cases (eqb y x) (memberOf ns x) e)
+
+pub member-nil : (x : ℕ) → memberOf [] x ≡ true → ⊥
+unfolding memberOf
+member-nil x e = false≢true e
+
+-- Ranks.
+pub rank-below : (f : Names) (x y : ℕ) → f x ≡ true → x < y → rank f x < sizeFrom y f
+unfolding rank
+rank-below f x y e h =
+    let a = sizeFrom-suc x f in
+    let b = sizeFrom-mono (suc x) y f h in
+    let c : bit (f x) ≡ 1 = ap bit e in
+    omega arith
+
+pub rank-total : (f : Names) (x : ℕ) → f x ≡ true → x < nameCount → rank f x < total f
+unfolding total
+rank-total f x e h = rank-below f x nameCount e h
+
+pub rank-differs : (f : Names) (x y : ℕ) → f x ≡ true → f y ≡ true → rank f x ≡ rank f y → x ≡ y
+unfolding rank
+rank-differs f x y e k h = go (decLt x y) (decLt y x)
+  where
+    size-is : (z : ℕ) → rank f z ≡ sizeFrom z f
+    size-is z = refl
+
+    go : Dec (x < y) → Dec (y < x) → x ≡ y
+    go (yes p) d = let a = rank-below f x y e p in let b = size-is y in absurd (omega arith)
+    go (no p) (yes q) = let a = rank-below f y x k q in let b = size-is x in absurd (omega arith)
+    go (no p) (no q) = omega arith
+
+pub rank-onto : (f : Names) (k : ℕ) → k < total f → (x : ℕ) × (x < nameCount) × (f x ≡ true) × (rank f x ≡ k)
+unfolding total rank
+rank-onto f k h = let m : Member nameCount 0 k f = member-of nameCount 0 k f h in (m .place, m .inside, m .is-in, m .rank)
