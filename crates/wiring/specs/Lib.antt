@@ -1,3 +1,4 @@
 pub mod Tally
 pub mod Links
 pub mod Conservation
+pub mod Wiring
