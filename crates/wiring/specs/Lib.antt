@@ -2,3 +2,4 @@ pub mod Tally
 pub mod Links
 pub mod Conservation
 pub mod Wiring
+pub mod Layout
