@@ -128,7 +128,7 @@ module _ (l : ℕ) where
 
 -- ---- as many outputs as counted
 
-small-gate : (g : Gate) → gateInputs g ≤ 3
+pub small-gate : (g : Gate) → gateInputs g ≤ 3
 unfolding gateInputs operands
 small-gate (const v) = omega arith
 small-gate (oper k) = go (eqb k 10 || eqb k 11)

@@ -3,3 +3,5 @@ pub mod Links
 pub mod Conservation
 pub mod Wiring
 pub mod Layout
+pub mod Ports
+pub mod PortedGraphs
