@@ -5,3 +5,4 @@ pub mod Wiring
 pub mod Layout
 pub mod Ports
 pub mod PortedGraphs
+pub mod Machine
