@@ -6,3 +6,5 @@ pub mod Layout
 pub mod Ports
 pub mod PortedGraphs
 pub mod Machine
+pub mod Counts
+pub mod RowCounts
