@@ -8,3 +8,4 @@ pub mod PortedGraphs
 pub mod Machine
 pub mod Counts
 pub mod RowCounts
+pub mod ChoiceCounts
