@@ -9,3 +9,4 @@ pub mod Machine
 pub mod Counts
 pub mod RowCounts
 pub mod ChoiceCounts
+pub mod JoinCounts

@@ -117,3 +117,19 @@ module _ (c : ℕ) (f : ℕ → Graph) where
         let w = e x (or-left (eqb x x) (memberOf (y ∷ xs) x) (eq-eqb x x refl)) in
         let r = count-row p (y ∷ xs) (d .2) (tail-shares x (y ∷ xs) h) (λ t m. e t (or-right (eqb x t) (memberOf (y ∷ xs) t) m)) in
         (grown _ _ _ p (length xs) z (w .0) (r .0), grown-links _ _ _ p (length xs) z (w .1) (r .1))
+
+  -- where none of them has c either, nothing is shared
+  pub count-plain : (xs : List ℕ) → Different xs → ShareOnly xs → ((x : ℕ) → memberOf xs x ≡ true → Same (countG (f x)) (gates 0))
+      → ((x : ℕ) → memberOf xs x ≡ true → free (f x) c ≡ false) → Same (countG (row f xs)) (gates 0)
+  unfolding countG row memberOf
+  count-plain [] d h e l = (refl, refl)
+  count-plain (x ∷ xs) d h e l =
+      let z : total (common (free (f x)) (free (row f xs))) ≡ 0 = apart-none (free (f x)) (free (row f xs)) (λ k p. apart k p (eqb c k) refl) in
+      let w = e x (or-left (eqb x x) (memberOf xs x) (eq-eqb x x refl)) in
+      let r = count-plain xs (d .2) (tail-shares x xs h) (λ t m. e t (or-right (eqb x t) (memberOf xs t) m)) (λ t m. l t (or-right (eqb x t) (memberOf xs t) m)) in
+      (omega (arith, z, w, r), omega (arith, z, w, r))
+    where
+      apart : (k : ℕ) → free (f x) k ≡ true → (b : Bool) → eqb c k ≡ b → free (row f xs) k ≡ false
+      apart k p true q =
+          absurd (not-both (free (f x) k) p (ap (free (f x)) (sym (eqb-true c k q)) ∙ l x (or-left (eqb x x) (memberOf xs x) (eq-eqb x x refl))))
+      apart k p false q = head-apart x xs (d .1) h k (λ z. eqb-false c k q (sym z)) p
