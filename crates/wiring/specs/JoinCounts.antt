@@ -189,7 +189,7 @@ outside : (s w k : ℕ) → w ≤ 16 → (k < s) ⊎ (s + 16 ≤ k) → memberOf
 outside s w k h (inl p) = below-upFrom s w k p
 outside s w k h (inr p) = above-upFrom s w k (omega arith)
 
-merging : (c w : ℕ) (s : Bool → ℕ) → c < nameCount → w ≤ 16 → s true + 16 ≤ s false → (c < s true) ⊎ (s false + 16 ≤ c) → Merging c s w
+pub merging : (c w : ℕ) (s : Bool → ℕ) → c < nameCount → w ≤ 16 → s true + 16 ≤ s false → (c < s true) ⊎ (s false + 16 ≤ c) → Merging c s w
 merging c w s p q r (inl z) = record { control = p; sides = omega arith; room = omega arith; not-first = λ i l e. omega arith; not-second = λ i l e. omega arith }
 merging c w s p q r (inr z) = record { control = p; sides = omega arith; room = omega arith; not-first = λ i l e. omega arith; not-second = λ i l e. omega arith }
 

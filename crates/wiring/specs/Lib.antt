@@ -10,3 +10,4 @@ pub mod Counts
 pub mod RowCounts
 pub mod ChoiceCounts
 pub mod JoinCounts
+pub mod FormulaCounts
