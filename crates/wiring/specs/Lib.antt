@@ -11,3 +11,4 @@ pub mod RowCounts
 pub mod ChoiceCounts
 pub mod JoinCounts
 pub mod FormulaCounts
+pub mod MadeGraph

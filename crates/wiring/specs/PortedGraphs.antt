@@ -115,7 +115,7 @@ in-head : (ls : List ℕ) → 1 ≤ length ls → In (getD ls 0 0) ls
 in-head [] h = absurd (omega arith)
 in-head (x ∷ ls) h = inl refl
 
-zone-low : (g : Graph) (n : ℕ) (env : Env) → Fit g → Envs (free g) env n → (l : ℕ) → In l (outputs g n env) → l < n + linksOf g
+pub zone-low : (g : Graph) (n : ℕ) (env : Env) → Fit g → Envs (free g) env n → (l : ℕ) → In l (outputs g n env) → l < n + linksOf g
 zone-low g n env F E l i = go (outputs-zone g n env F E l i)
   where
     go : Zone g n env l → l < n + linksOf g
