@@ -218,8 +218,7 @@ module _ (t : Graph) (ns : List ℕ) (f : Names) (a : Graph) (ms : List ℕ) (g 
       let y = arm-count F refl g b sg eb in
       let u = arm-uses T refl f a sf ea in
       let v = arm-uses F refl g b sg eb in
-      let q′ = q ∙ ap (λ (k : ℕ). k + bit (free (arm F g b) testName)) z in
-      (
+      let q′ = q ∙ ap (λ (k : ℕ). k + bit (free (arm F g b) testName)) z in (
         sum-choice _ _ _ _ (size f) (size g) _ _ _ _ _ _ _ _ _ o p q′ u v (x .0) (y .0),
         sum-choice-links _ _ _ _ (size f) (size g) _ _ _ _ _ _ _ _ _ o p q′ u v (x .1) (y .1),
       )

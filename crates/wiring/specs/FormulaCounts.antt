@@ -121,8 +121,7 @@ mutual
       let j = merge-count (width x) w in
       let p = count-E t (h .1) in
       let q = count-E x (h .2) in
-      let r = count-E y (h .3) in
-      (
+      let r = count-E y (h .3) in (
         c .0 ∙ sum-if _ _ _ _ (width x) _ _ _ _ _ _ _ l s (p .0) (q .0) (r .0) (j .0),
         c .1 ∙ sum-if-links _ _ _ _ (width x) _ _ _ _ _ _ _ l s (p .1) (q .1) (r .1) (j .1),
       )
@@ -150,8 +149,7 @@ mutual
       let j = joined-count w x y (iterated-16 x (h .2)) (iterated-16 y (h .3)) l in
       let p = count-E t (h .1) in
       let q = count-B w x (h .2) l in
-      let r = count-B w y (h .3) l in
-      (
+      let r = count-B w y (h .3) l in (
         c .0 ∙ sum-body _ _ _ _ _ _ _ _ _ _ _ _ s (p .0) (q .0) (r .0) (j .0),
         c .1 ∙ sum-body-links _ _ _ _ _ _ _ _ _ _ _ _ s (p .1) (q .1) (r .1) (j .1),
       )

@@ -12,3 +12,4 @@ pub mod ChoiceCounts
 pub mod JoinCounts
 pub mod FormulaCounts
 pub mod MadeGraph
+pub mod LesserOfTwo

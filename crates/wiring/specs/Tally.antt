@@ -133,7 +133,6 @@ sum-one (suc k) (suc x) φ h =
     let z : amount (eqb (suc x) 0) (φ 0) ≡ 0 = ap (λ (b : Bool). amount b (φ 0)) (ne-eqb (suc x) 0 (λ e. omega arith)) in
     omega (arith, sum-cong k (later (one (suc x))) (one x) (λ i. φ (suc i)) (λ i. φ (suc i)) (λ i l. eqb·suc-suc x i) (λ i l m. refl), sum-one k x (λ i. φ (suc i)) (omega arith))
 
-
 -- one place more
 pub sum-end : (k : ℕ) (f : Names) (φ : ℕ → ℕ) → sumOver (suc k) f φ ≡ sumOver k f φ + amount (f k) (φ k)
 unfolding sumOver
