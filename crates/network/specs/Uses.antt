@@ -1,7 +1,7 @@
 -- Which links an operator, push and take use: what Wired.antt asks of each of them, once for every kind. An operator takes only from the
 -- inputs that its kind has and puts only onto its output links; a register link belongs to its gate on both sides.
 use Prim.Native.Nat.{ℕ}
-use mathlib.Core.Path.{_≡_, refl, sym, _∙_, ap, subst}
+use mathlib.Core.Path.{_≡_, refl, sym, _∙_, subst}
 use mathlib.Core.Logic.{_≢_, ite, _⊎_, inl, inr}
 use mathlib.Core.Bool.{Bool, true, false}
 use mathlib.Core.List.{List, [], _∷_, _++_}
@@ -11,7 +11,7 @@ use native.Mathlib.Decide.{ℕ-discrete}
 use Rattle.value.specs.declared.Value.{Value}
 use Rattle.network.specs.Values.{true-value, Sense, is-true, is-false, is-neither, sense, one-operand}
 use Rattle.network.specs.Rules.{Kind, constant, copy, operator, T-gate, F-gate, M-gate, E-gate, IC-gate, FM-gate, FS-gate, Register, Firing, takes, gives, never, Input, first, second, third, T-rule, F-rule, M-rule, E-rule, chosen, IC-table, fired, FS-rule, operator-rule, rule}
-use Rattle.network.specs.Net.{Token, val, Demand, ask, fire, halt}
+use Rattle.network.specs.Net.{Token, val, Demand, ask, fire}
 use Rattle.network.specs.Wired.{Emits-in, Uses, free-of}
 use Rattle.network.specs.Fill.{Ports, input, value-of, register-of, register-token, emission, emissions, wire, remembering, kept, filled, fill}
 use Rattle.network.specs.Ends.{draw, collect, push-demand, take-demand, machine}

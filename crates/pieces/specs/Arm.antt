@@ -1,20 +1,20 @@
 -- The chosen arm of a body if: the arm runs, IC fires, the iterated or the returned results are joined. Stated once for both arms, over the
 -- control that chooses it; what differs between the shapes of a body if is in the fields `join-iterated` and `join-returned`.
 -- An arm such as `iter i` has bare outputs, so that one link may be its input and its output; hence two colourings.
-use Prim.Native.Nat.{ℕ, zero, suc, _<_, _≤_, _+_}
+use Prim.Native.Nat.{ℕ, _+_}
 use mathlib.Core.Path.{_≡_, refl, sym, _∙_, ap, subst}
-use mathlib.Core.Logic.{_≢_, ite, _⊎_, inl, inr, ⊎-elim}
+use mathlib.Core.Logic.{ite, _⊎_, inl, inr, ⊎-elim}
 use mathlib.Core.List.{List, [], _∷_, _++_}
-use mathlib.Core.Option.{Option, none, some}
+use mathlib.Core.Option.{none, some}
 use native.Mathlib.Decide.{ℕ-discrete}
 use native.Mathlib.Omega.{arith}
 use Rattle.value.specs.declared.Value.{Value}
-use Rattle.network.specs.Values.{true-value, false-value, err-value}
-use Rattle.network.specs.Net.{Token, val, mark, Demand, Links}
+use Rattle.network.specs.Values.{true-value, false-value}
+use Rattle.network.specs.Net.{val, Demand}
 use Rattle.network.specs.Uses.{In}
-use Rattle.pieces.specs.Load.{Load, put, On, on-app, Clear, Off, Apart, Within, Nones, cat, pull, pulls, Far, Pair, Tint, Tints, pair-of, Among, among-not, off-tints, apart-cat, app-assoc}
-use Rattle.pieces.specs.Goes.{Goes, Goes-on, Alike, go-then, go-wide, go-wide-on, go-less, go-from, go-to, go-from-on, alike-pulls, alike-sym, alike-nones, go-two, go-two-on, go-order}
-use Rattle.pieces.specs.Piece.{Values, token-of, load, Piece, Region, Answer, Means, Serves, none-of, some-of, load-in, load-app-none, none-of-nones, load-app-fit, same-of, Fits}
+use Rattle.pieces.specs.Load.{Load, put, Off, Within, cat, Pair, Tint, pair-of, Among, among-not, off-tints, apart-cat, cut-outputs}
+use Rattle.pieces.specs.Goes.{Goes, Goes-on, Alike, go-then, go-wide, go-wide-on, go-less, go-from, go-to, go-from-on, alike-pulls, alike-nones, go-two, go-two-on}
+use Rattle.pieces.specs.Piece.{Values, load, Piece, Region, Answer, Means, Serves, none-of, some-of, load-in, load-app-none, none-of-nones, load-app-fit, same-of, Fits}
 use Rattle.pieces.specs.Rows.{in-app}
 
 -- What an arm's answer makes of the whole's: its iterated links `IX` and returned links `RX` become the whole's `I` and `R`. `itX`, `reX` say which
@@ -27,20 +27,21 @@ module _ (IX RX I R : List ℕ) (MX : Means) (itX reX : List Value → Type 0) w
     arm-returns : (xs : List Value) (c : ℕ) (ws : List Value) → reX ws → MX (some-of xs) c (some (some false-value ∷ (none-of IX ++ some-of ws))) →
         Chosen xs c (some (some false-value ∷ (none-of I ++ some-of ws)))
 
+-- The arm, a body: its inputs, its iter?, iterated and returned links.
+abbrev pub Arm-piece : List ℕ → ℕ → List ℕ → List ℕ → (ℕ → Type 0) → (Load → Type 0) → Piece
+Arm-piece ins ix IX RX own Idle = record { ins = ins; outs = ix ∷ (IX ++ RX); own = own; Idle = Idle }
+
+-- IC with the arm's iter?.
+abbrev pub IC-region : ℕ → ℕ → ℕ → ℕ → List ℕ → ℕ → Type 0
+IC-region ci ix o₁ o₃ os₂ l = In l (ci ∷ ix ∷ o₁ ∷ o₃ ∷ os₂)
+
 -- Colours: 0 IC's control, 3 the arm's inputs (an arm such as `iter i` has bare outputs: such an input has its output's colour), 7 its iter?, 9 its iterated, 11 its returned links, 18 its own, 19 the other arm's own,
 -- 13 iter?, 14 IC's second and 15 its third output. Where an iterated result passes straight, the link of the whole is that of the arm; where
 -- neither arm returns and one value does, it is IC's third output. So the links of the whole have colours of their own, `hue`: 16 and 17.
 module _ (net : ℕ → Demand) (colour hue : ℕ → ℕ) (ci o₁ o₃ : ℕ) (os₂ I R : List ℕ) (D DI DR : ℕ → Type 0) (t : Value)
     (ins : List ℕ) (ix : ℕ) (IX RX : List ℕ) (own : ℕ → Type 0) (Idle : Load → Type 0) (MX : Means) (itX reX : List Value → Type 0) where
-  -- the arm: a body; `itX`, `reX` say which values it may iterate or return (none, for an arm that never does)
-  abbrev pub Arm-piece : Piece
-  Arm-piece = record { ins = ins; outs = ix ∷ (IX ++ RX); own = own; Idle = Idle }
-
-  abbrev pub IC-region : ℕ → Type 0
-  IC-region l = In l (ci ∷ ix ∷ o₁ ∷ o₃ ∷ os₂)
-
   pub record Arm : Type 0 where
-    pub serves : Serves net Arm-piece MX
+    pub serves : Serves net (Arm-piece ins ix IX RX own Idle) MX
     pub idle-own : (σ : Load) → Idle σ → Within σ own
     pub h-ci : colour ci ≡ 0
     pub h-ins : (l : ℕ) → In l ins → (colour l ≡ 3) ⊎ ((colour l ≡ 9) ⊎ (colour l ≡ 11))
@@ -55,8 +56,8 @@ module _ (net : ℕ → Demand) (colour hue : ℕ → ℕ) (ci o₁ o₃ : ℕ) 
     pub w-o₁ : hue o₁ ≡ 13
     pub w-I : (l : ℕ) → In l I → hue l ≡ 16
     pub w-R : (l : ℕ) → In l R → hue l ≡ 17
-    pub up-X : (l : ℕ) → Region Arm-piece l → D l
-    pub up-ic : (l : ℕ) → IC-region l → D l
+    pub up-X : (l : ℕ) → Region (Arm-piece ins ix IX RX own Idle) l → D l
+    pub up-ic : (l : ℕ) → (IC-region ci ix o₁ o₃ os₂) l → D l
     pub up-I : (l : ℕ) → DI l → D l
     pub up-R : (l : ℕ) → DR l → D l
     pub in-I : (l : ℕ) → In l I → D l
@@ -66,8 +67,8 @@ module _ (net : ℕ → Demand) (colour hue : ℕ → ℕ) (ci o₁ o₃ : ℕ) 
     pub fit-it : (us : List Value) → itX us → Fits IX us
     pub fit-I : (us : List Value) → itX us → Fits I us
     -- IC fires; the joins
-    pub IC-iterates : Goes net IC-region (((ci, some (val t)) ∷ []) ++ ((ix, some (val true-value)) ∷ [])) 1 (((o₁, some (val true-value)) ∷ []) ++ load os₂ (some-of (same-of os₂ t)))
-    pub IC-returns : Goes net IC-region (((ci, some (val t)) ∷ []) ++ ((ix, some (val false-value)) ∷ [])) 1 (((o₁, some (val false-value)) ∷ []) ++ ((o₃, some (val t)) ∷ []))
+    pub IC-iterates : Goes net (IC-region ci ix o₁ o₃ os₂) (((ci, some (val t)) ∷ []) ++ ((ix, some (val true-value)) ∷ [])) 1 (((o₁, some (val true-value)) ∷ []) ++ load os₂ (some-of (same-of os₂ t)))
+    pub IC-returns : Goes net (IC-region ci ix o₁ o₃ os₂) (((ci, some (val t)) ∷ []) ++ ((ix, some (val false-value)) ∷ [])) 1 (((o₁, some (val false-value)) ∷ []) ++ ((o₃, some (val t)) ∷ []))
     pub join-iterated : (us : List Value) → itX us → Goes net DI (load os₂ (some-of (same-of os₂ t)) ++ load IX (some-of us)) 0 (load I (some-of us) ++ [])
     pub join-returned : (ws : List Value) → reX ws → Goes net DR (((o₃, some (val t)) ∷ []) ++ load RX (some-of ws)) 0 (load R (some-of ws) ++ [])
 
@@ -131,7 +132,7 @@ module _ (net : ℕ → Demand) (colour hue : ℕ → ℕ) (ci o₁ o₃ : ℕ) 
     t-o₃ v l (inl e) = ap colour e ∙ A .h-o₃
     t-o₃ v l (inr e) = absurd e
 
-    no-X : (l : ℕ) → Region Arm-piece l → Among colour (colour l) (0 ∷ 19 ∷ []) → ⊥
+    no-X : (l : ℕ) → Region (Arm-piece ins ix IX RX own Idle) l → Among colour (colour l) (0 ∷ 19 ∷ []) → ⊥
     unfolding ℕ-discrete
     no-X l (inl o) = among-not colour (colour l) 18 (0 ∷ 19 ∷ []) (A .h-own l o) refl
     no-X l (inr (inl i)) = go (A .h-ins l i)
@@ -146,7 +147,7 @@ module _ (net : ℕ → Demand) (colour hue : ℕ → ℕ) (ci o₁ o₃ : ℕ) 
         (λ (z : In l RX). among-not colour (colour l) 11 (0 ∷ 19 ∷ []) (A .h-RX l z) refl) (in-app l IX RX i)
 
     -- of the links of IC none is one of these colours
-    no-ic : (is : List ℕ) (l : ℕ) → IC-region l → ((k : ℕ) → colour l ≡ k → (k ≡ 0) ⊎ ((k ≡ 7) ⊎ ((k ≡ 13) ⊎ ((k ≡ 15) ⊎ (k ≡ 14)))) → Among colour (colour l) is → ⊥) →
+    no-ic : (is : List ℕ) (l : ℕ) → (IC-region ci ix o₁ o₃ os₂) l → ((k : ℕ) → colour l ≡ k → (k ≡ 0) ⊎ ((k ≡ 7) ⊎ ((k ≡ 13) ⊎ ((k ≡ 15) ⊎ (k ≡ 14)))) → Among colour (colour l) is → ⊥) →
         Among colour (colour l) is → ⊥
     no-ic is l (inl e) f = f 0 (ap colour e ∙ A .h-ci) (inl refl)
     no-ic is l (inr (inl e)) f = f 7 (ap colour e ∙ A .h-ix) (inr (inl refl))
@@ -154,12 +155,12 @@ module _ (net : ℕ → Demand) (colour hue : ℕ → ℕ) (ci o₁ o₃ : ℕ) 
     no-ic is l (inr (inr (inr (inl e)))) f = f 15 (ap colour e ∙ A .h-o₃) (inr (inr (inr (inl refl))))
     no-ic is l (inr (inr (inr (inr i)))) f = f 14 (A .h-os₂ l i) (inr (inr (inr (inr refl))))
 
-    five : (is : List ℕ) → ((k : ℕ) → (k ≡ 0) ⊎ ((k ≡ 7) ⊎ ((k ≡ 13) ⊎ ((k ≡ 15) ⊎ (k ≡ 14)))) → Among colour k is → ⊥) → (l : ℕ) → IC-region l → Among colour (colour l) is → ⊥
+    five : (is : List ℕ) → ((k : ℕ) → (k ≡ 0) ⊎ ((k ≡ 7) ⊎ ((k ≡ 13) ⊎ ((k ≡ 15) ⊎ (k ≡ 14)))) → Among colour k is → ⊥) → (l : ℕ) → (IC-region ci ix o₁ o₃ os₂) l → Among colour (colour l) is → ⊥
     five is g l d = no-ic is l d (λ k e z m. g k z (subst (λ x. Among colour x is) e m))
 
-    ic9 : (l : ℕ) → IC-region l → Among colour (colour l) (9 ∷ 18 ∷ 19 ∷ []) → ⊥
+    off-iterated : (l : ℕ) → (IC-region ci ix o₁ o₃ os₂) l → Among colour (colour l) (9 ∷ 18 ∷ 19 ∷ []) → ⊥
     unfolding ℕ-discrete
-    ic9 = five (9 ∷ 18 ∷ 19 ∷ []) (λ k z m. go k z m)
+    off-iterated = five (9 ∷ 18 ∷ 19 ∷ []) (λ k z m. go k z m)
       where
         go : (k : ℕ) → (k ≡ 0) ⊎ ((k ≡ 7) ⊎ ((k ≡ 13) ⊎ ((k ≡ 15) ⊎ (k ≡ 14)))) → Among colour k (9 ∷ 18 ∷ 19 ∷ []) → ⊥
         go k (inl e) = among-not colour k 0 (9 ∷ 18 ∷ 19 ∷ []) e refl
@@ -168,9 +169,9 @@ module _ (net : ℕ → Demand) (colour hue : ℕ → ℕ) (ci o₁ o₃ : ℕ) 
         go k (inr (inr (inr (inl e)))) = among-not colour k 15 (9 ∷ 18 ∷ 19 ∷ []) e refl
         go k (inr (inr (inr (inr e)))) = among-not colour k 14 (9 ∷ 18 ∷ 19 ∷ []) e refl
 
-    ic11 : (l : ℕ) → IC-region l → Among colour (colour l) (11 ∷ 18 ∷ 19 ∷ []) → ⊥
+    off-returned : (l : ℕ) → (IC-region ci ix o₁ o₃ os₂) l → Among colour (colour l) (11 ∷ 18 ∷ 19 ∷ []) → ⊥
     unfolding ℕ-discrete
-    ic11 = five (11 ∷ 18 ∷ 19 ∷ []) (λ k z m. go k z m)
+    off-returned = five (11 ∷ 18 ∷ 19 ∷ []) (λ k z m. go k z m)
       where
         go : (k : ℕ) → (k ≡ 0) ⊎ ((k ≡ 7) ⊎ ((k ≡ 13) ⊎ ((k ≡ 15) ⊎ (k ≡ 14)))) → Among colour k (11 ∷ 18 ∷ 19 ∷ []) → ⊥
         go k (inl e) = among-not colour k 0 (11 ∷ 18 ∷ 19 ∷ []) e refl
@@ -187,18 +188,15 @@ module _ (net : ℕ → Demand) (colour hue : ℕ → ℕ) (ci o₁ o₃ : ℕ) 
         (pair-of (λ l. fold (colour l)) (0 ∷ 3 ∷ 18 ∷ 19 ∷ []) (K ∷ load ins (some-of xs) ∷ σ ∷ τ ∷ [])
         (λ l o. ap fold (tK l o), (t-ins (some-of xs), (λ l o. ap fold (tσ σ i l o), (λ l o. ap fold (tτ l o), tt)))) refl)
 
-    off-arm : Off (cat (K ∷ τ ∷ [])) (Region Arm-piece)
-    off-arm = off-tints colour (0 ∷ 19 ∷ []) (K ∷ τ ∷ []) (Region Arm-piece) (tK, (tτ, tt)) no-X
+    off-arm : Off (cat (K ∷ τ ∷ [])) (Region (Arm-piece ins ix IX RX own Idle))
+    off-arm = off-tints colour (0 ∷ 19 ∷ []) (K ∷ τ ∷ []) (Region (Arm-piece ins ix IX RX own Idle)) (tK, (tτ, tt)) no-X
 
-    arm-step : (xs : List Value) (c : ℕ) (X σ σ′ : Load) → Idle σ → Goes net (Region Arm-piece) (load ins (some-of xs) ++ σ) c (X ++ σ′) →
+    arm-step : (xs : List Value) (c : ℕ) (X σ σ′ : Load) → Idle σ → Goes net (Region (Arm-piece ins ix IX RX own Idle)) (load ins (some-of xs) ++ σ) c (X ++ σ′) →
         Goes net D (Begin xs σ) c (cat (X ∷ σ′ ∷ K ∷ τ ∷ []))
     arm-step xs c X σ σ′ i f =
         go-from net D (cat (load ins (some-of xs) ∷ σ ∷ K ∷ τ ∷ [])) (Begin xs σ) (cat (X ∷ σ′ ∷ K ∷ τ ∷ [])) c (begin-alike xs σ i)
-        (go-wide net (Region Arm-piece) D (cat (load ins (some-of xs) ∷ σ ∷ K ∷ τ ∷ [])) (cat (X ∷ σ′ ∷ K ∷ τ ∷ [])) c (A .up-X)
-        (go-two net (Region Arm-piece) (load ins (some-of xs)) σ X σ′ c (K ∷ τ ∷ []) off-arm f))
-
-    cut3 : (x : ℕ × Option Token) (P Q : Load) (bs : List Load) → cat ((x ∷ (P ++ Q)) ∷ bs) ≡ cat ((x ∷ []) ∷ P ∷ Q ∷ bs)
-    cut3 x P Q bs = ap (λ z. x ∷ z) (app-assoc P Q (cat bs))
+        (go-wide net (Region (Arm-piece ins ix IX RX own Idle)) D (cat (load ins (some-of xs) ∷ σ ∷ K ∷ τ ∷ [])) (cat (X ∷ σ′ ∷ K ∷ τ ∷ [])) c (A .up-X)
+        (go-two net (Region (Arm-piece ins ix IX RX own Idle)) (load ins (some-of xs)) σ X σ′ c (K ∷ τ ∷ []) off-arm f))
 
     -- the arm iterates
     module _ (us : List Value) (iu : itX us) (σ′ : Load) (jσ : Idle σ′) where
@@ -217,9 +215,9 @@ module _ (net : ℕ → Demand) (colour hue : ℕ → ℕ) (ci o₁ o₃ : ℕ) 
       abbrev J : Load
       J = load I (some-of us)
 
-      it-1 : Alike net D (cat (K ∷ ((ix, some (val true-value)) ∷ []) ∷ U ∷ σ′ ∷ τ ∷ [])) (cat (((ix, some (val true-value)) ∷ []) ∷ U ∷ N ∷ σ′ ∷ K ∷ τ ∷ []))
+      iterating-begins : Alike net D (cat (K ∷ ((ix, some (val true-value)) ∷ []) ∷ U ∷ σ′ ∷ τ ∷ [])) (cat (((ix, some (val true-value)) ∷ []) ∷ U ∷ N ∷ σ′ ∷ K ∷ τ ∷ []))
       unfolding ℕ-discrete
-      it-1 b cl =
+      iterating-begins b cl =
           sym (alike-nones net D N (cat (K ∷ ((ix, some (val true-value)) ∷ []) ∷ U ∷ σ′ ∷ τ ∷ [])) (none-of-nones RX)
           (λ l o. A .up-X l (inr (inr (inr (right l (load-in RX (none-of RX) l o))))))
           (apart-cat N (K ∷ ((ix, some (val true-value)) ∷ []) ∷ U ∷ σ′ ∷ τ ∷ [])
@@ -236,15 +234,15 @@ module _ (net : ℕ → Demand) (colour hue : ℕ → ℕ) (ci o₁ o₃ : ℕ) 
               in-right l [] i = i
               in-right l (x ∷ xs) i = inr (in-right l xs i)
 
-      it-2 : Goes net D (cat (K ∷ ((ix, some (val true-value)) ∷ []) ∷ U ∷ σ′ ∷ τ ∷ [])) 1 (cat (T₁ ∷ S₂ ∷ U ∷ σ′ ∷ τ ∷ []))
-      it-2 =
-          go-wide net IC-region D (cat (K ∷ ((ix, some (val true-value)) ∷ []) ∷ U ∷ σ′ ∷ τ ∷ [])) (cat (T₁ ∷ S₂ ∷ U ∷ σ′ ∷ τ ∷ [])) 1 (A .up-ic)
-          (go-two net IC-region K ((ix, some (val true-value)) ∷ []) T₁ S₂ 1 (U ∷ σ′ ∷ τ ∷ [])
-          (off-tints colour (9 ∷ 18 ∷ 19 ∷ []) (U ∷ σ′ ∷ τ ∷ []) IC-region (t-IX (some-of us), (tσ σ′ jσ, (tτ, tt))) ic9) (A .IC-iterates))
+      iterating-fires : Goes net D (cat (K ∷ ((ix, some (val true-value)) ∷ []) ∷ U ∷ σ′ ∷ τ ∷ [])) 1 (cat (T₁ ∷ S₂ ∷ U ∷ σ′ ∷ τ ∷ []))
+      iterating-fires =
+          go-wide net (IC-region ci ix o₁ o₃ os₂) D (cat (K ∷ ((ix, some (val true-value)) ∷ []) ∷ U ∷ σ′ ∷ τ ∷ [])) (cat (T₁ ∷ S₂ ∷ U ∷ σ′ ∷ τ ∷ [])) 1 (A .up-ic)
+          (go-two net (IC-region ci ix o₁ o₃ os₂) K ((ix, some (val true-value)) ∷ []) T₁ S₂ 1 (U ∷ σ′ ∷ τ ∷ [])
+          (off-tints colour (9 ∷ 18 ∷ 19 ∷ []) (U ∷ σ′ ∷ τ ∷ []) (IC-region ci ix o₁ o₃ os₂) (t-IX (some-of us), (tσ σ′ jσ, (tτ, tt))) off-iterated) (A .IC-iterates))
 
-      it-3 : Goes net D (cat (T₁ ∷ S₂ ∷ U ∷ σ′ ∷ τ ∷ [])) 0 (cat (J ∷ T₁ ∷ σ′ ∷ τ ∷ []))
+      iterating-joins : Goes net D (cat (T₁ ∷ S₂ ∷ U ∷ σ′ ∷ τ ∷ [])) 0 (cat (J ∷ T₁ ∷ σ′ ∷ τ ∷ []))
       unfolding ℕ-discrete
-      it-3 =
+      iterating-joins =
           go-from net D (cat (S₂ ∷ U ∷ T₁ ∷ σ′ ∷ τ ∷ [])) (cat (T₁ ∷ S₂ ∷ U ∷ σ′ ∷ τ ∷ [])) (cat (J ∷ T₁ ∷ σ′ ∷ τ ∷ [])) 0
           (alike-pulls net D (2 ∷ 2 ∷ []) (T₁ ∷ S₂ ∷ U ∷ σ′ ∷ τ ∷ [])
           (pair-of colour (13 ∷ 14 ∷ 9 ∷ 18 ∷ 19 ∷ []) (T₁ ∷ S₂ ∷ U ∷ σ′ ∷ τ ∷ []) (t-o₁ true-value, (t-os₂ (some-of (same-of os₂ t)), (t-IX (some-of us), (tσ σ′ jσ, (tτ, tt))))) refl))
@@ -252,13 +250,13 @@ module _ (net : ℕ → Demand) (colour hue : ℕ → ℕ) (ci o₁ o₃ : ℕ) 
           (go-two net DI S₂ U J [] 0 (T₁ ∷ σ′ ∷ τ ∷ [])
           (off-tints colour (13 ∷ 18 ∷ 19 ∷ []) (T₁ ∷ σ′ ∷ τ ∷ []) DI (t-o₁ true-value, (tσ σ′ jσ, (tτ, tt))) (A .no-I)) (A .join-iterated us iu)))
 
-      it-4 : Alike net D (cat (J ∷ T₁ ∷ σ′ ∷ τ ∷ [])) (cat (load (o₁ ∷ (I ++ R)) (some true-value ∷ (some-of us ++ none-of R)) ∷ σ′ ∷ τ ∷ []))
+      iterating-ends : Alike net D (cat (J ∷ T₁ ∷ σ′ ∷ τ ∷ [])) (cat (load (o₁ ∷ (I ++ R)) (some true-value ∷ (some-of us ++ none-of R)) ∷ σ′ ∷ τ ∷ []))
       unfolding ℕ-discrete
-      it-4 b cl =
+      iterating-ends b cl =
           sym (alike-nones net D E (cat (J ∷ T₁ ∷ σ′ ∷ τ ∷ [])) (none-of-nones R) (λ l o. A .in-R l (load-in R (none-of R) l o))
           (apart-cat E (J ∷ T₁ ∷ σ′ ∷ τ ∷ []) (pr .0)) b cl)
           ∙ sym (alike-pulls net D (1 ∷ 2 ∷ []) (E ∷ J ∷ T₁ ∷ σ′ ∷ τ ∷ []) pr b cl)
-          ∙ ap (λ z. put z b) (sym (cut3 (o₁, some (val true-value)) J E (σ′ ∷ τ ∷ [])))
+          ∙ ap (λ z. put z b) (sym (cut-outputs (o₁, some (val true-value)) J E (σ′ ∷ τ ∷ [])))
           ∙ ap (λ z. put (cat (((o₁, some (val true-value)) ∷ z) ∷ σ′ ∷ τ ∷ [])) b) (sym (load-app-fit I R us (none-of R) (A .fit-I us iu)))
         where
           E : Load
@@ -272,13 +270,13 @@ module _ (net : ℕ → Demand) (colour hue : ℕ → ℕ) (ci o₁ o₃ : ℕ) 
           (cat (load (o₁ ∷ (I ++ R)) (some true-value ∷ (some-of us ++ none-of R)) ∷ σ′ ∷ τ ∷ []))
       iterates =
           subst (λ z. Goes net D z 1 (cat (load (o₁ ∷ (I ++ R)) (some true-value ∷ (some-of us ++ none-of R)) ∷ σ′ ∷ τ ∷ [])))
-          (sym (ap (λ z. cat (((ix, some (val true-value)) ∷ z) ∷ σ′ ∷ K ∷ τ ∷ [])) (load-app-fit IX RX us (none-of RX) (A .fit-it us iu)) ∙ cut3 (ix, some (val true-value)) U N (σ′ ∷ K ∷ τ ∷ [])))
+          (sym (ap (λ z. cat (((ix, some (val true-value)) ∷ z) ∷ σ′ ∷ K ∷ τ ∷ [])) (load-app-fit IX RX us (none-of RX) (A .fit-it us iu)) ∙ cut-outputs (ix, some (val true-value)) U N (σ′ ∷ K ∷ τ ∷ [])))
           (go-from net D (cat (K ∷ ((ix, some (val true-value)) ∷ []) ∷ U ∷ σ′ ∷ τ ∷ [])) (cat (((ix, some (val true-value)) ∷ []) ∷ U ∷ N ∷ σ′ ∷ K ∷ τ ∷ []))
-          (cat (load (o₁ ∷ (I ++ R)) (some true-value ∷ (some-of us ++ none-of R)) ∷ σ′ ∷ τ ∷ [])) 1 it-1
+          (cat (load (o₁ ∷ (I ++ R)) (some true-value ∷ (some-of us ++ none-of R)) ∷ σ′ ∷ τ ∷ [])) 1 iterating-begins
           (go-to net D (cat (K ∷ ((ix, some (val true-value)) ∷ []) ∷ U ∷ σ′ ∷ τ ∷ [])) (cat (J ∷ T₁ ∷ σ′ ∷ τ ∷ []))
-          (cat (load (o₁ ∷ (I ++ R)) (some true-value ∷ (some-of us ++ none-of R)) ∷ σ′ ∷ τ ∷ [])) 1 it-4
+          (cat (load (o₁ ∷ (I ++ R)) (some true-value ∷ (some-of us ++ none-of R)) ∷ σ′ ∷ τ ∷ [])) 1 iterating-ends
           (go-less net D (cat (K ∷ ((ix, some (val true-value)) ∷ []) ∷ U ∷ σ′ ∷ τ ∷ [])) (cat (J ∷ T₁ ∷ σ′ ∷ τ ∷ [])) (1 + 0) 1 (omega arith)
-          (go-then net D (cat (K ∷ ((ix, some (val true-value)) ∷ []) ∷ U ∷ σ′ ∷ τ ∷ [])) (cat (T₁ ∷ S₂ ∷ U ∷ σ′ ∷ τ ∷ [])) (cat (J ∷ T₁ ∷ σ′ ∷ τ ∷ [])) 1 0 it-2 it-3))))
+          (go-then net D (cat (K ∷ ((ix, some (val true-value)) ∷ []) ∷ U ∷ σ′ ∷ τ ∷ [])) (cat (T₁ ∷ S₂ ∷ U ∷ σ′ ∷ τ ∷ [])) (cat (J ∷ T₁ ∷ σ′ ∷ τ ∷ [])) 1 0 iterating-fires iterating-joins))))
 
     -- the arm returns
     module _ (ws : List Value) (rw′ : reX ws) (σ′ : Load) (jσ : Idle σ′) where
@@ -297,9 +295,9 @@ module _ (net : ℕ → Demand) (colour hue : ℕ → ℕ) (ci o₁ o₃ : ℕ) 
       abbrev J′ : Load
       J′ = load R (some-of ws)
 
-      re-1 : Alike net D (cat (K ∷ ((ix, some (val false-value)) ∷ []) ∷ U′ ∷ σ′ ∷ τ ∷ [])) (cat (((ix, some (val false-value)) ∷ []) ∷ N′ ∷ U′ ∷ σ′ ∷ K ∷ τ ∷ []))
+      returning-begins : Alike net D (cat (K ∷ ((ix, some (val false-value)) ∷ []) ∷ U′ ∷ σ′ ∷ τ ∷ [])) (cat (((ix, some (val false-value)) ∷ []) ∷ N′ ∷ U′ ∷ σ′ ∷ K ∷ τ ∷ []))
       unfolding ℕ-discrete
-      re-1 b cl =
+      returning-begins b cl =
           sym (alike-nones net D N′ (cat (K ∷ ((ix, some (val false-value)) ∷ []) ∷ U′ ∷ σ′ ∷ τ ∷ [])) (none-of-nones IX)
           (λ l o. A .up-X l (inr (inr (inr (left l IX (load-in IX (none-of IX) l o))))))
           (apart-cat N′ (K ∷ ((ix, some (val false-value)) ∷ []) ∷ U′ ∷ σ′ ∷ τ ∷ [])
@@ -314,15 +312,15 @@ module _ (net : ℕ → Demand) (colour hue : ℕ → ℕ) (ci o₁ o₃ : ℕ) 
           left l (x ∷ xs) (inl e) = inl e
           left l (x ∷ xs) (inr i) = inr (left l xs i)
 
-      re-2 : Goes net D (cat (K ∷ ((ix, some (val false-value)) ∷ []) ∷ U′ ∷ σ′ ∷ τ ∷ [])) 1 (cat (F₁ ∷ S₃ ∷ U′ ∷ σ′ ∷ τ ∷ []))
-      re-2 =
-          go-wide net IC-region D (cat (K ∷ ((ix, some (val false-value)) ∷ []) ∷ U′ ∷ σ′ ∷ τ ∷ [])) (cat (F₁ ∷ S₃ ∷ U′ ∷ σ′ ∷ τ ∷ [])) 1 (A .up-ic)
-          (go-two net IC-region K ((ix, some (val false-value)) ∷ []) F₁ S₃ 1 (U′ ∷ σ′ ∷ τ ∷ [])
-          (off-tints colour (11 ∷ 18 ∷ 19 ∷ []) (U′ ∷ σ′ ∷ τ ∷ []) IC-region (t-RX (some-of ws), (tσ σ′ jσ, (tτ, tt))) ic11) (A .IC-returns))
+      returning-fires : Goes net D (cat (K ∷ ((ix, some (val false-value)) ∷ []) ∷ U′ ∷ σ′ ∷ τ ∷ [])) 1 (cat (F₁ ∷ S₃ ∷ U′ ∷ σ′ ∷ τ ∷ []))
+      returning-fires =
+          go-wide net (IC-region ci ix o₁ o₃ os₂) D (cat (K ∷ ((ix, some (val false-value)) ∷ []) ∷ U′ ∷ σ′ ∷ τ ∷ [])) (cat (F₁ ∷ S₃ ∷ U′ ∷ σ′ ∷ τ ∷ [])) 1 (A .up-ic)
+          (go-two net (IC-region ci ix o₁ o₃ os₂) K ((ix, some (val false-value)) ∷ []) F₁ S₃ 1 (U′ ∷ σ′ ∷ τ ∷ [])
+          (off-tints colour (11 ∷ 18 ∷ 19 ∷ []) (U′ ∷ σ′ ∷ τ ∷ []) (IC-region ci ix o₁ o₃ os₂) (t-RX (some-of ws), (tσ σ′ jσ, (tτ, tt))) off-returned) (A .IC-returns))
 
-      re-3 : Goes net D (cat (F₁ ∷ S₃ ∷ U′ ∷ σ′ ∷ τ ∷ [])) 0 (cat (J′ ∷ F₁ ∷ σ′ ∷ τ ∷ []))
+      returning-joins : Goes net D (cat (F₁ ∷ S₃ ∷ U′ ∷ σ′ ∷ τ ∷ [])) 0 (cat (J′ ∷ F₁ ∷ σ′ ∷ τ ∷ []))
       unfolding ℕ-discrete
-      re-3 =
+      returning-joins =
           go-from net D (cat (S₃ ∷ U′ ∷ F₁ ∷ σ′ ∷ τ ∷ [])) (cat (F₁ ∷ S₃ ∷ U′ ∷ σ′ ∷ τ ∷ [])) (cat (J′ ∷ F₁ ∷ σ′ ∷ τ ∷ [])) 0
           (alike-pulls net D (2 ∷ 2 ∷ []) (F₁ ∷ S₃ ∷ U′ ∷ σ′ ∷ τ ∷ [])
           (pair-of colour (13 ∷ 15 ∷ 11 ∷ 18 ∷ 19 ∷ []) (F₁ ∷ S₃ ∷ U′ ∷ σ′ ∷ τ ∷ []) (t-o₁ false-value, (t-o₃ t, (t-RX (some-of ws), (tσ σ′ jσ, (tτ, tt))))) refl))
@@ -330,13 +328,13 @@ module _ (net : ℕ → Demand) (colour hue : ℕ → ℕ) (ci o₁ o₃ : ℕ) 
           (go-two net DR S₃ U′ J′ [] 0 (F₁ ∷ σ′ ∷ τ ∷ [])
           (off-tints colour (13 ∷ 18 ∷ 19 ∷ []) (F₁ ∷ σ′ ∷ τ ∷ []) DR (t-o₁ false-value, (tσ σ′ jσ, (tτ, tt))) (A .no-R)) (A .join-returned ws rw′)))
 
-      re-4 : Alike net D (cat (J′ ∷ F₁ ∷ σ′ ∷ τ ∷ [])) (cat (load (o₁ ∷ (I ++ R)) (some false-value ∷ (none-of I ++ some-of ws)) ∷ σ′ ∷ τ ∷ []))
+      returning-ends : Alike net D (cat (J′ ∷ F₁ ∷ σ′ ∷ τ ∷ [])) (cat (load (o₁ ∷ (I ++ R)) (some false-value ∷ (none-of I ++ some-of ws)) ∷ σ′ ∷ τ ∷ []))
       unfolding ℕ-discrete
-      re-4 b cl =
+      returning-ends b cl =
           sym (alike-nones net D E (cat (J′ ∷ F₁ ∷ σ′ ∷ τ ∷ [])) (none-of-nones I) (λ l o. A .in-I l (load-in I (none-of I) l o))
           (apart-cat E (J′ ∷ F₁ ∷ σ′ ∷ τ ∷ []) (pr .0)) b cl)
           ∙ sym (alike-pulls net D (2 ∷ []) (E ∷ J′ ∷ F₁ ∷ σ′ ∷ τ ∷ []) pr b cl)
-          ∙ ap (λ z. put z b) (sym (cut3 (o₁, some (val false-value)) E J′ (σ′ ∷ τ ∷ [])))
+          ∙ ap (λ z. put z b) (sym (cut-outputs (o₁, some (val false-value)) E J′ (σ′ ∷ τ ∷ [])))
           ∙ ap (λ z. put (cat (((o₁, some (val false-value)) ∷ z) ∷ σ′ ∷ τ ∷ [])) b) (sym (load-app-none I R (some-of ws)))
         where
           E : Load
@@ -350,20 +348,20 @@ module _ (net : ℕ → Demand) (colour hue : ℕ → ℕ) (ci o₁ o₃ : ℕ) 
           (cat (load (o₁ ∷ (I ++ R)) (some false-value ∷ (none-of I ++ some-of ws)) ∷ σ′ ∷ τ ∷ []))
       returns =
           subst (λ z. Goes net D z 1 (cat (load (o₁ ∷ (I ++ R)) (some false-value ∷ (none-of I ++ some-of ws)) ∷ σ′ ∷ τ ∷ [])))
-          (sym (ap (λ z. cat (((ix, some (val false-value)) ∷ z) ∷ σ′ ∷ K ∷ τ ∷ [])) (load-app-none IX RX (some-of ws)) ∙ cut3 (ix, some (val false-value)) N′ U′ (σ′ ∷ K ∷ τ ∷ [])))
+          (sym (ap (λ z. cat (((ix, some (val false-value)) ∷ z) ∷ σ′ ∷ K ∷ τ ∷ [])) (load-app-none IX RX (some-of ws)) ∙ cut-outputs (ix, some (val false-value)) N′ U′ (σ′ ∷ K ∷ τ ∷ [])))
           (go-from net D (cat (K ∷ ((ix, some (val false-value)) ∷ []) ∷ U′ ∷ σ′ ∷ τ ∷ [])) (cat (((ix, some (val false-value)) ∷ []) ∷ N′ ∷ U′ ∷ σ′ ∷ K ∷ τ ∷ []))
-          (cat (load (o₁ ∷ (I ++ R)) (some false-value ∷ (none-of I ++ some-of ws)) ∷ σ′ ∷ τ ∷ [])) 1 re-1
+          (cat (load (o₁ ∷ (I ++ R)) (some false-value ∷ (none-of I ++ some-of ws)) ∷ σ′ ∷ τ ∷ [])) 1 returning-begins
           (go-to net D (cat (K ∷ ((ix, some (val false-value)) ∷ []) ∷ U′ ∷ σ′ ∷ τ ∷ [])) (cat (J′ ∷ F₁ ∷ σ′ ∷ τ ∷ []))
-          (cat (load (o₁ ∷ (I ++ R)) (some false-value ∷ (none-of I ++ some-of ws)) ∷ σ′ ∷ τ ∷ [])) 1 re-4
+          (cat (load (o₁ ∷ (I ++ R)) (some false-value ∷ (none-of I ++ some-of ws)) ∷ σ′ ∷ τ ∷ [])) 1 returning-ends
           (go-less net D (cat (K ∷ ((ix, some (val false-value)) ∷ []) ∷ U′ ∷ σ′ ∷ τ ∷ [])) (cat (J′ ∷ F₁ ∷ σ′ ∷ τ ∷ [])) (1 + 0) 1 (omega arith)
-          (go-then net D (cat (K ∷ ((ix, some (val false-value)) ∷ []) ∷ U′ ∷ σ′ ∷ τ ∷ [])) (cat (F₁ ∷ S₃ ∷ U′ ∷ σ′ ∷ τ ∷ [])) (cat (J′ ∷ F₁ ∷ σ′ ∷ τ ∷ [])) 1 0 re-2 re-3))))
+          (go-then net D (cat (K ∷ ((ix, some (val false-value)) ∷ []) ∷ U′ ∷ σ′ ∷ τ ∷ [])) (cat (F₁ ∷ S₃ ∷ U′ ∷ σ′ ∷ τ ∷ [])) (cat (J′ ∷ F₁ ∷ σ′ ∷ τ ∷ [])) 1 0 returning-fires returning-joins))))
 
     -- The chosen arm: it iterates, returns or runs on.
     pub chosen : {xs : List Value} {c : ℕ} {a : Answer} → Chosen IX RX I R MX itX reX xs c a → (σ : Load) → Idle σ → Arm-result xs σ c a
     chosen (arm-lost xs c m) σ i =
         go-from-on net D (cat (load ins (some-of xs) ∷ σ ∷ K ∷ τ ∷ [])) (Begin xs σ) c (begin-alike xs σ i)
-        (go-wide-on net (Region Arm-piece) D (cat (load ins (some-of xs) ∷ σ ∷ K ∷ τ ∷ [])) c (A .up-X)
-        (go-two-on net (Region Arm-piece) (load ins (some-of xs)) σ c (K ∷ τ ∷ []) off-arm (A .serves (some-of xs) c none m σ i)))
+        (go-wide-on net (Region (Arm-piece ins ix IX RX own Idle)) D (cat (load ins (some-of xs) ∷ σ ∷ K ∷ τ ∷ [])) c (A .up-X)
+        (go-two-on net (Region (Arm-piece ins ix IX RX own Idle)) (load ins (some-of xs)) σ c (K ∷ τ ∷ []) off-arm (A .serves (some-of xs) c none m σ i)))
     chosen (arm-iterates xs c us iu m) σ i =
         let h = A .serves (some-of xs) c (some (some true-value ∷ (some-of us ++ none-of RX))) m σ i in
         let X = load (ix ∷ (IX ++ RX)) (some true-value ∷ (some-of us ++ none-of RX)) in

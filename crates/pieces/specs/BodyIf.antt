@@ -1,21 +1,21 @@
 -- The body if (Brock, Figure 2.12 and the paragraph below his table): T and F gates on the names of the arms, the arms, IC, and the joins. What
 -- differs between its shapes is in the fields `join-iterated` and `join-returned` of each arm and in `join-err` here, which Joins.antt gives for M, E,
 -- copies of the third output and results that pass straight. Where the test is no truth nothing stays behind on any link.
-use Prim.Native.Nat.{ℕ, zero, suc, _<_, _≤_, _+_}
-use mathlib.Core.Path.{_≡_, refl, sym, _∙_, ap, subst}
-use mathlib.Core.Logic.{_≢_, ite, _⊎_, inl, inr, ⊎-elim}
+use Prim.Native.Nat.{ℕ, _+_}
+use mathlib.Core.Path.{_≡_, refl, sym, _∙_, ap}
+use mathlib.Core.Logic.{_⊎_, inl, inr}
 use mathlib.Core.List.{List, [], _∷_, _++_}
-use mathlib.Core.Option.{Option, none, some}
+use mathlib.Core.Option.{none, some}
 use native.Mathlib.Decide.{ℕ-discrete}
 use native.Mathlib.Omega.{arith}
 use Rattle.value.specs.declared.Value.{Value}
 use Rattle.network.specs.Values.{true-value, false-value, err-value}
-use Rattle.network.specs.Net.{Token, val, mark, Demand, Links}
+use Rattle.network.specs.Net.{val, Demand}
 use Rattle.network.specs.Uses.{In}
-use Rattle.pieces.specs.Load.{Load, put, put-app, put-swap, On, on-app, Clear, Off, Apart, Within, Nones, cat, pull, pulls, Far, Pair, Tint, Tints, pair-of, Among, among-not, off-tints, apart-cat, app-assoc}
-use Rattle.pieces.specs.Goes.{Goes, Goes-on, Alike, go-then, go-then-on, go-wide, go-less, go-less-on, go-from, go-to, go-by, alike-pulls, alike-sym, alike-nones, alike-cat, go-two, go-order, go-first, go-first-on}
-use Rattle.pieces.specs.Piece.{Values, token-of, load, Piece, Region, Answer, Means, Leads, Serves, none-of, some-of, load-in, load-app-none, none-of-nones, same-of, Fits, Both-idle}
-use Rattle.pieces.specs.Rows.{join, in-app}
+use Rattle.pieces.specs.Load.{Load, put, put-app, put-swap, Apart, Within, cat, Pair, Tint, pair-of, Among, among-not, off-tints, apart-cat, app-assoc}
+use Rattle.pieces.specs.Goes.{Goes, Alike, go-then, go-wide, go-less, go-from, go-to, go-by, alike-pulls, alike-nones, alike-cat, go-two, go-order, go-first, go-first-on}
+use Rattle.pieces.specs.Piece.{load, Answer, Means, Leads, none-of, some-of, load-in, load-app-none, none-of-nones, same-of, Fits, Both-idle}
+use Rattle.pieces.specs.Rows.{join}
 use Rattle.pieces.specs.DataRows.{Gated, controls, data-of, outs-of, row-links, each, Bad, Separate, row-link}
 use Rattle.pieces.specs.Joins.{passes-blocks, absorbs-blocks, All-T, All-F, T-pass, T-absorb, T-bad, F-pass, F-absorb, F-bad}
 use Rattle.pieces.specs.Arm.{Arm, Chosen, Arm-result, chosen}

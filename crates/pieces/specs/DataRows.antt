@@ -1,22 +1,22 @@
 -- Rows of gates with one control and one datum each: T, F, E, and M on its chosen side. By the control a row passes its data, takes it and gives
 -- nothing, or gives err and takes no data. What a single gate does is computed from the table of rules.
-use Prim.Native.Nat.{ℕ, zero, suc, _<_, _≤_, _+_}
+use Prim.Native.Nat.{ℕ, _+_}
 use mathlib.Core.Path.{_≡_, refl, sym, _∙_, ap, subst}
-use mathlib.Core.Logic.{_≢_, _⊎_, inl, inr, ⊎-elim}
+use mathlib.Core.Logic.{_≢_, _⊎_, inl, inr}
 use mathlib.Core.List.{List, [], _∷_, _++_}
-use mathlib.Core.Option.{Option, none, some}
+use mathlib.Core.Option.{none, some}
 use lib.ListN.{length}
 use native.Mathlib.Omega.{arith}
 use Rattle.value.specs.declared.Value.{Value}
 use Rattle.network.specs.Values.{true-value, false-value, err-value, is-neither, sense}
 use Rattle.network.specs.Rules.{T-rule, F-rule, M-rule, E-rule}
-use Rattle.network.specs.Net.{Token, val, mark, Demand, Links}
+use Rattle.network.specs.Net.{val, Demand, Links}
 use Rattle.network.specs.Uses.{In}
-use Rattle.pieces.specs.Load.{Load, put, On, Off, Apart, Within, cat, app-nil}
-use Rattle.pieces.specs.Goes.{Goes, go-from, go-less, go-to}
-use Rattle.pieces.specs.Gate.{Distinct, emitted, Consumes, fires, distinct-two}
-use Rattle.pieces.specs.Piece.{Values, token-of, load, some-of, load-in, Fits}
-use Rattle.pieces.specs.Rows.{join, zip-blocks, zip-two, single-blocks, cat-single, Row, row, in-app}
+use Rattle.pieces.specs.Load.{Load, put, On, Apart, cat, app-nil}
+use Rattle.pieces.specs.Goes.{Goes, go-from, go-less}
+use Rattle.pieces.specs.Gate.{Consumes, fires, distinct-two}
+use Rattle.pieces.specs.Piece.{Values, load, some-of, Fits}
+use Rattle.pieces.specs.Rows.{join, zip-blocks, zip-two, single-blocks, cat-single, Row, row}
 use Rattle.pieces.specs.Gates.{T-at, F-at, E-at, M-at, plain}
 
 -- operator number, control, data, output

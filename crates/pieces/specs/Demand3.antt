@@ -1,27 +1,27 @@
 -- Both halves of demand 3 for a machine over any piece that has the schedule lemma, at every capacity of at least one place: the reference is
 -- push, the piece's schedule, take, for one set after another; the residual (crate schedule) carries its results over to every list of events.
 -- Assumes that operators commute (network, Commute.antt and Wired.antt).
-use Prim.Native.Nat.{ℕ, zero, suc, _<_, _≤_, _+_, _-_}
+use Prim.Native.Nat.{ℕ, suc, _<_, _≤_, _+_, _-_}
 use mathlib.Core.Path.{_≡_, refl, sym, _∙_, ap, subst}
-use mathlib.Core.Logic.{_≢_, ite, if-pos, if-neg, Ne·symm, _⊎_, inl, inr, ⊎-elim}
+use mathlib.Core.Logic.{_≢_, if-pos, if-neg, Ne·symm, _⊎_, inl, inr}
 use mathlib.Core.List.{List, [], _∷_, _++_}
-use mathlib.Core.Option.{Option, none, some}
+use mathlib.Core.Option.{none, some}
 use lib.ListN.{length, length-append}
-use native.Mathlib.Decide.{ℕ-discrete, decLe}
+use native.Mathlib.Decide.{ℕ-discrete}
 use native.Mathlib.Omega.{arith}
 use Rattle.schedule.specs.Schedules.{Possible, reached, outputs, Diamond, Agree, outputs-agree, possible-append, reached-append, outputs-append}
 use Rattle.schedule.specs.Counts.{count, count-append}
 use Rattle.schedule.specs.Progress.{progress, endless}
 use Rattle.value.specs.declared.Value.{Value}
-use Rattle.network.specs.Values.{true-value, false-value, err-value}
-use Rattle.network.specs.Net.{Token, val, mark, Demand, ask, fire, halt, Links, head, tail, pop, append, Room, Able, appends, act, label}
+use Rattle.network.specs.Values.{true-value}
+use Rattle.network.specs.Net.{Token, val, Demand, Links, tail, Able, act, label}
 use Rattle.network.specs.Ends.{machine-push, machine-take, machine-graph}
 use Rattle.network.specs.Commute.{Free, enabled, next, output, diamond}
 use Rattle.network.specs.Uses.{In}
-use Rattle.pieces.specs.Load.{Load, opt, set-link, set-same, set-other, set-ext, set-swap, put, put-app, put-off, put-set, put-swap, On, on-app, Clear, Within, app-assoc}
-use Rattle.pieces.specs.Goes.{one-place, Feasible, led-to, Steps, Long, Goes}
-use Rattle.pieces.specs.Piece.{Values, token-of, load, Piece, Region, Neat, Answer, Means, Serves, some-of, load-in, Fits}
-use Rattle.pieces.specs.Sets.{tokens-of, Different, able-with-more, push-it, take-it, net, Bench, Resting, graph-ne, push-set, take-set}
+use Rattle.pieces.specs.Load.{Load, set-link, set-same, set-other, set-ext, put, put-app, put-off, put-set, On, Clear}
+use Rattle.pieces.specs.Goes.{one-place, Feasible, led-to}
+use Rattle.pieces.specs.Piece.{load, Piece, Region, Means, some-of, load-in, Fits}
+use Rattle.pieces.specs.Sets.{tokens-of, able-with-more, push-it, take-it, net, Bench, Resting, graph-ne, push-set, take-set}
 
 -- the tape of the sets to come
 abbrev pub tape-of : List (List Value) → List Token → List Token

@@ -1,19 +1,19 @@
 -- The expression if (Brock, Figure 2.8) at any width: T and F gates on the names of the arms, the arms, and an M gate on each result, all under
 -- copies of one test. Where the test is no truth, the data are absorbed and each result is err.
-use Prim.Native.Nat.{ℕ, zero, suc, _<_, _≤_, _+_}
+use Prim.Native.Nat.{ℕ, _+_}
 use mathlib.Core.Path.{_≡_, refl, sym, _∙_, ap, subst}
-use mathlib.Core.Logic.{_≢_, ite, _⊎_, inl, inr, ⊎-elim}
+use mathlib.Core.Logic.{ite, _⊎_, inl, inr, ⊎-elim}
 use mathlib.Core.List.{List, [], _∷_, _++_}
-use mathlib.Core.Option.{Option, none, some}
+use mathlib.Core.Option.{none, some}
 use native.Mathlib.Decide.{ℕ-discrete}
 use native.Mathlib.Omega.{arith}
 use Rattle.value.specs.declared.Value.{Value}
 use Rattle.network.specs.Values.{true-value, false-value, err-value}
-use Rattle.network.specs.Net.{Token, val, mark, Demand, Links}
+use Rattle.network.specs.Net.{Demand}
 use Rattle.network.specs.Uses.{In}
-use Rattle.pieces.specs.Load.{Load, put, put-app, put-swap, On, on-app, Off, Apart, Within, cat, pull, pulls, Far, Pair, Tint, Tints, pair-of, Among, among-not, off-tints, app-assoc, app-nil}
-use Rattle.pieces.specs.Goes.{Goes, Goes-on, Alike, go-then, go-then-on, go-wide, go-wide-on, go-less, go-from, go-to, go-from-on, go-by, alike-pulls, alike-cat, go-two, go-two-on, go-order, go-first, go-first-on}
-use Rattle.pieces.specs.Piece.{Values, token-of, load, Piece, Region, Answer, Means, Leads, Serves, some-of, load-in, Fits, Both-idle}
+use Rattle.pieces.specs.Load.{Load, put, put-app, put-swap, On, Apart, Within, cat, Tint, pair-of, Among, among-not, off-tints}
+use Rattle.pieces.specs.Goes.{Goes, go-then, go-wide, go-wide-on, go-less, go-from, go-to, go-from-on, go-by, alike-pulls, alike-cat, go-two, go-two-on, go-order, go-first, go-first-on}
+use Rattle.pieces.specs.Piece.{Values, load, Piece, Region, Answer, Means, Leads, Serves, some-of, load-in, Fits, Both-idle}
 use Rattle.pieces.specs.Rows.{join}
 use Rattle.pieces.specs.DataRows.{Gated, controls, data-of, outs-of, row-links, each, Bad, Separate, Pass, Spoil, spoils, row-link}
 use Rattle.pieces.specs.Joins.{passes-blocks, absorbs-blocks, All-T, All-F, T-pass, T-absorb, T-bad, F-pass, F-absorb, F-bad}

@@ -1,19 +1,17 @@
 -- The chain of two-way copies that hands one value to several links (document 01: "used k times, k above 1, passes k-1 two-way copies"); for one
 -- link it is the link itself.
-use Prim.Native.Nat.{ℕ, zero, suc, _<_, _≤_, _+_}
-use mathlib.Core.Path.{_≡_, refl, sym, _∙_, ap, subst}
-use mathlib.Core.Logic.{_≢_, _⊎_, inl, inr, ⊎-elim}
+use Prim.Native.Nat.{ℕ, _+_}
+use mathlib.Core.Path.{_≡_, refl, sym, subst}
+use mathlib.Core.Logic.{_⊎_, inl, inr, ⊎-elim}
 use mathlib.Core.List.{List, [], _∷_, _++_}
-use mathlib.Core.Option.{Option, none, some}
+use mathlib.Core.Option.{some}
 use native.Mathlib.Omega.{arith}
 use Rattle.value.specs.declared.Value.{Value}
-use Rattle.network.specs.Values.{true-value, false-value, err-value}
-use Rattle.network.specs.Net.{Token, val, mark, Demand, Links}
+use Rattle.network.specs.Net.{val, Demand}
 use Rattle.network.specs.Uses.{In}
-use Rattle.pieces.specs.Load.{Load, On, Off, Within, Apart}
 use Rattle.pieces.specs.Goes.{Goes, go-stay, go-then, go-wide, go-less}
-use Rattle.pieces.specs.Gate.{Consumes, fires}
-use Rattle.pieces.specs.Piece.{Values, load, some-of, load-in, same-of}
+use Rattle.pieces.specs.Gate.{fires}
+use Rattle.pieces.specs.Piece.{load, some-of, load-in, same-of}
 use Rattle.pieces.specs.Rows.{in-front, in-back, in-app, go-left}
 use Rattle.pieces.specs.Gates.{copy-at}
 

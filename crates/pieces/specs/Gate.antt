@@ -1,18 +1,14 @@
 -- One firing as a rule on loads: a gate that takes every token of a load turns it into what it emits. That it takes them is a tuple which
 -- computes from the firing itself, so each gate in each of its cases is one line where it is used.
-use Prim.Native.Nat.{ℕ, zero, suc, _<_, _≤_, _+_}
-use mathlib.Core.Path.{_≡_, refl, sym, _∙_, ap, subst, fun-ext}
-use mathlib.Core.Logic.{_≢_, ite, Ne·symm, _⊎_, inl, inr, ⊎-elim}
+use Prim.Native.Nat.{ℕ, zero, suc, _+_}
+use mathlib.Core.Path.{_≡_, refl, sym, _∙_, ap, subst}
+use mathlib.Core.Logic.{_≢_, _⊎_, inl, inr, ⊎-elim}
 use mathlib.Core.List.{List, [], _∷_, _++_}
 use mathlib.Core.Option.{Option, none, some}
-use lib.ListN.{length}
-use native.Mathlib.Decide.{ℕ-discrete}
 use native.Mathlib.Omega.{arith}
-use Rattle.value.specs.declared.Value.{Value}
-use Rattle.network.specs.Values.{true-value, false-value, err-value}
-use Rattle.network.specs.Net.{Token, val, mark, Demand, ask, fire, halt, Links, head, tail, pop, append, pop-same, pop-other, append-same, append-other, Room, Able, appends, act}
-use Rattle.pieces.specs.Load.{Load, opt, set-link, set-same, set-other, set-ext, put, put-set, put-off, On, Clear, Within, Nones, put-nones}
-use Rattle.pieces.specs.Goes.{one-place, Steps, Goes}
+use Rattle.network.specs.Net.{Token, Demand, ask, fire, halt, Links, head, tail, pop, append, pop-same, pop-other, append-same, append-other, Room, Able, appends, act}
+use Rattle.pieces.specs.Load.{Load, opt, set-link, set-same, set-other, set-ext, put, put-set, On, Within, Nones, put-nones}
+use Rattle.pieces.specs.Goes.{one-place, Goes}
 
 -- the token at place p of a load, and the load without it
 abbrev pub Holds-at : ℕ → Load → ℕ → Token → Type 0
@@ -33,12 +29,12 @@ pub distinct-two : (x y : ℕ × Option Token) → x .0 ≢ y .0 → Distinct (x
 distinct-two x y ne = (λ o. ⊎-elim ne (λ (z : ⊥). z) o, (λ o. o, tt))
 
 pub distinct-three : (x y z : ℕ × Option Token) → x .0 ≢ y .0 → x .0 ≢ z .0 → y .0 ≢ z .0 → Distinct (x ∷ y ∷ z ∷ [])
-distinct-three x y z xy xz yz = (λ o. no3 o, distinct-two y z yz)
+distinct-three x y z xy xz yz = (λ o. none-alike o, distinct-two y z yz)
   where
-    no3 : (x .0 ≡ y .0) ⊎ ((x .0 ≡ z .0) ⊎ ⊥) → ⊥
-    no3 (inl e) = xy e
-    no3 (inr (inl e)) = xz e
-    no3 (inr (inr e)) = e
+    none-alike : (x .0 ≡ y .0) ⊎ ((x .0 ≡ z .0) ⊎ ⊥) → ⊥
+    none-alike (inl e) = xy e
+    none-alike (inr (inl e)) = xz e
+    none-alike (inr (inr e)) = e
 
 abbrev pub emitted : List (ℕ × Token) → Load
 emitted [] = []

@@ -1,18 +1,15 @@
 -- The judgement of all schedules (demand 3's one good order of firings): from one load to another, on every base that is empty in a region, by
 -- a list of firings that is possible with one place a link and has at least a given length. The length is what an evaluation that needs more
 -- rounds than were lent leaves behind. Knows of no gate and no formula.
-use Prim.Native.Nat.{ℕ, zero, suc, _<_, _≤_, _+_}
-use mathlib.Core.Path.{_≡_, refl, sym, _∙_, ap, subst, fun-ext}
-use mathlib.Core.Logic.{_≢_, ite, Ne·symm, _⊎_, inl, inr, ⊎-elim}
+use Prim.Native.Nat.{ℕ, _≤_, _+_}
+use mathlib.Core.Path.{_≡_, refl, sym, _∙_, ap, subst}
 use mathlib.Core.List.{List, [], _∷_, _++_}
-use mathlib.Core.Option.{Option, none, some}
 use lib.ListN.{length, length-append}
 use native.Mathlib.Omega.{arith}
-use Rattle.value.specs.declared.Value.{Value}
-use Rattle.network.specs.Net.{Token, val, mark, Demand, Links, Able, act}
+use Rattle.network.specs.Net.{Demand, Links}
 use Rattle.network.specs.Commute.{enabled, next, output}
 use Rattle.schedule.specs.Schedules.{Possible, reached, possible-append, reached-append}
-use Rattle.pieces.specs.Load.{Load, opt, put, put-app, On, Clear, Off, Apart, Within, put-off, put-clear, put-swap, Nones, put-nones, cat, pull, pulls, Pair, put-pulls, app-assoc}
+use Rattle.pieces.specs.Load.{Load, put, put-app, Clear, Off, Apart, Within, put-off, put-clear, Nones, put-nones, cat, pulls, Pair, put-pulls, app-assoc}
 
 -- The capacity is one at every link.
 abbrev pub one-place : ℕ → ℕ

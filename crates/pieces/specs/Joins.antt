@@ -1,25 +1,24 @@
 -- The joins of a body if (document 01: "Its iterated results join by M .. else pass straight. Its returned results .. join by M .., by E ..; where
 -- neither does, each is a copy of that third output"), and the IC gate in each row of Brock's table.
-use Prim.Native.Nat.{ℕ, zero, suc, _<_, _≤_, _+_}
+use Prim.Native.Nat.{ℕ, _+_}
 use mathlib.Core.Path.{_≡_, refl, sym, _∙_, ap, subst}
 use mathlib.Core.Logic.{_≢_, _⊎_, inl, inr, ⊎-elim}
 use mathlib.Core.Bool.{false}
 use mathlib.Core.List.{List, [], _∷_, _++_}
 use mathlib.Core.Option.{Option, none, some}
-use native.Mathlib.Omega.{arith}
 use Rattle.value.specs.declared.Value.{Value}
 use Rattle.network.specs.Values.{true-value, false-value, err-value}
 use Rattle.network.specs.Rules.{chosen, IC-table}
 use Rattle.network.specs.Fill.{Ports, emission, wire, kept}
-use Rattle.network.specs.Net.{Token, val, mark, Demand, Links}
+use Rattle.network.specs.Net.{val, Demand}
 use Rattle.network.specs.Uses.{In}
-use Rattle.pieces.specs.Load.{Load, On, Off, Within, Apart, cat, app-nil}
-use Rattle.pieces.specs.Goes.{Goes, go-stay, go-then, go-wide, go-less, go-by}
+use Rattle.pieces.specs.Load.{Load, On, Apart, app-nil}
+use Rattle.pieces.specs.Goes.{Goes, go-stay, go-then, go-wide, go-by}
 use Rattle.pieces.specs.Gate.{Distinct, emitted, Consumes, fires, distinct-two}
-use Rattle.pieces.specs.Piece.{Values, load, some-of, load-in, same-of, Fits}
-use Rattle.pieces.specs.Rows.{join, in-front, in-back, in-app}
-use Rattle.pieces.specs.Gates.{ports, IC-at, listed, T-at, F-at, M-at, E-at}
-use Rattle.pieces.specs.DataRows.{Gated, controls, data-of, outs-of, row-links, each, Bad, Separate, Pass, Absorb, Spoil, passes, absorbs, spoils, one-T-true, one-T-false, one-T-bad, one-F-false, one-F-true, one-F-bad, one-M-true, one-M-false, one-E-true, one-E-false}
+use Rattle.pieces.specs.Piece.{load, some-of, load-in, same-of, Fits}
+use Rattle.pieces.specs.Rows.{join, in-back}
+use Rattle.pieces.specs.Gates.{ports, IC-at, listed, T-at, F-at}
+use Rattle.pieces.specs.DataRows.{Gated, controls, data-of, outs-of, row-links, each, Bad, Separate, Pass, Absorb, Spoil, passes, absorbs, spoils, one-T-true, one-T-false, one-T-bad, one-F-false, one-F-true, one-F-bad}
 use Rattle.pieces.specs.Fan.{Chain, Chain-region, chain}
 
 each-cs : (qs : List Gated) (v : Value) → load (controls qs) (some-of (same-of (controls qs) v)) ≡ load (controls qs) (each qs v)
@@ -45,34 +44,34 @@ module _ (net : ℕ → Demand) where
       subst (λ z. Goes net (λ l. In l (join (row-links qs))) (load (controls qs) (each qs t) ++ z) 0 []) (app-nil (load (data-of qs) (some-of vs)))
       (absorbs net t qs vs p g f a)
 
-  -- a control through its copies to a row
+  -- A control through its copies to a row.
+  abbrev pub Join-region : ℕ → List ℕ → List Gated → ℕ → Type 0
+  Join-region x ms qs l = Chain-region net x ms (controls qs) l ⊎ In l (join (row-links qs))
+
   module _ (x : ℕ) (ms : List ℕ) (qs : List Gated) (ch : Chain net x ms (controls qs)) (gd : Separate net qs)
       (off : (l : ℕ) → In l (data-of qs) → Chain-region net x ms (controls qs) l → ⊥) where
-    abbrev pub Join-region : ℕ → Type 0
-    Join-region l = Chain-region net x ms (controls qs) l ⊎ In l (join (row-links qs))
-
     -- M on the chosen side, E on a truth
     pub pass-join : (t : Value) (us : List Value) → Pass net t qs → Fits qs us →
-        Goes net Join-region (((x, some (val t)) ∷ []) ++ load (data-of qs) (some-of us)) 0 (load (outs-of qs) (some-of us) ++ [])
+        Goes net (Join-region x ms qs) (((x, some (val t)) ∷ []) ++ load (data-of qs) (some-of us)) 0 (load (outs-of qs) (some-of us) ++ [])
     pass-join t us p f =
-        go-then net Join-region (((x, some (val t)) ∷ []) ++ U) (load (controls qs) (each qs t) ++ U) (load (outs-of qs) (some-of us) ++ []) 0 0
-        (go-wide net (Chain-region net x ms (controls qs)) Join-region (((x, some (val t)) ∷ []) ++ U) (load (controls qs) (each qs t) ++ U) 0 (λ l d. inl d)
+        go-then net (Join-region x ms qs) (((x, some (val t)) ∷ []) ++ U) (load (controls qs) (each qs t) ++ U) (load (outs-of qs) (some-of us) ++ []) 0 0
+        (go-wide net (Chain-region net x ms (controls qs)) (Join-region x ms qs) (((x, some (val t)) ∷ []) ++ U) (load (controls qs) (each qs t) ++ U) 0 (λ l d. inl d)
         (go-by net (Chain-region net x ms (controls qs)) ((x, some (val t)) ∷ []) (load (controls qs) (each qs t)) U 0 (λ l o d. off l (load-in (data-of qs) (some-of us) l o) d)
         (subst (λ z. Goes net (Chain-region net x ms (controls qs)) ((x, some (val t)) ∷ []) 0 z) (each-cs qs t) (chain net ch t))))
-        (go-wide net (λ l. In l (join (row-links qs))) Join-region (load (controls qs) (each qs t) ++ U) (load (outs-of qs) (some-of us) ++ []) 0 (λ l d. inr d)
+        (go-wide net (λ l. In l (join (row-links qs))) (Join-region x ms qs) (load (controls qs) (each qs t) ++ U) (load (outs-of qs) (some-of us) ++ []) 0 (λ l d. inr d)
         (passes-blocks t qs us p gd f (λ l o o′. off l (load-in (data-of qs) (some-of us) l o′) (inr (in-back l ms (controls qs) (load-in (controls qs) (each qs t) l o))))))
       where
         U : Load
         U = load (data-of qs) (some-of us)
 
     -- M and E on err
-    pub spoil-join : Spoil net err-value qs → Goes net Join-region ((x, some (val err-value)) ∷ []) 0 (load (outs-of qs) (some-of (same-of (outs-of qs) err-value)) ++ [])
+    pub spoil-join : Spoil net err-value qs → Goes net (Join-region x ms qs) ((x, some (val err-value)) ∷ []) 0 (load (outs-of qs) (some-of (same-of (outs-of qs) err-value)) ++ [])
     spoil-join p =
-        subst (λ z. Goes net Join-region ((x, some (val err-value)) ∷ []) 0 z) (each-os qs err-value ∙ sym (app-nil (load (outs-of qs) (some-of (same-of (outs-of qs) err-value)))))
-        (go-then net Join-region ((x, some (val err-value)) ∷ []) (load (controls qs) (each qs err-value)) (load (outs-of qs) (each qs err-value)) 0 0
-        (go-wide net (Chain-region net x ms (controls qs)) Join-region ((x, some (val err-value)) ∷ []) (load (controls qs) (each qs err-value)) 0 (λ l d. inl d)
+        subst (λ z. Goes net (Join-region x ms qs) ((x, some (val err-value)) ∷ []) 0 z) (each-os qs err-value ∙ sym (app-nil (load (outs-of qs) (some-of (same-of (outs-of qs) err-value)))))
+        (go-then net (Join-region x ms qs) ((x, some (val err-value)) ∷ []) (load (controls qs) (each qs err-value)) (load (outs-of qs) (each qs err-value)) 0 0
+        (go-wide net (Chain-region net x ms (controls qs)) (Join-region x ms qs) ((x, some (val err-value)) ∷ []) (load (controls qs) (each qs err-value)) 0 (λ l d. inl d)
         (subst (λ z. Goes net (Chain-region net x ms (controls qs)) ((x, some (val err-value)) ∷ []) 0 z) (each-cs qs err-value) (chain net ch err-value)))
-        (go-wide net (λ l. In l (join (row-links qs))) Join-region (load (controls qs) (each qs err-value)) (load (outs-of qs) (each qs err-value)) 0 (λ l d. inr d) (spoils net err-value qs p gd)))
+        (go-wide net (λ l. In l (join (row-links qs))) (Join-region x ms qs) (load (controls qs) (each qs err-value)) (load (outs-of qs) (each qs err-value)) 0 (λ l d. inr d) (spoils net err-value qs p gd)))
 
   -- neither arm returns: the returned results are copies of IC's third output
   pub copy-join : (x : ℕ) (ms R : List ℕ) → Chain net x ms R → Goes net (Chain-region net x ms R) ((x, some (val err-value)) ∷ []) 0 (load R (some-of (same-of R err-value)) ++ [])
@@ -98,10 +97,10 @@ module _ (net : ℕ → Demand) where
 
   module _ (D : ℕ → Type 0) (a ci ia ib o₁ o₃ : ℕ) (o₂ : Option ℕ) (at : net a ≡ IC-at ci ia ib o₁ o₂ o₃) (d-ci : D ci) (d-o₁ : D o₁) (d-o₃ : D o₃)
       (d-os₂ : (l : ℕ) → In l (listed o₂) → D l) (ci-ia : ci ≢ ia) (ci-ib : ci ≢ ib) (o₁-o₃ : o₁ ≢ o₃) (o₁-os₂ : In o₁ (listed o₂) → ⊥) (os₂-d : (t : Value) → Distinct (load (listed o₂) (some-of (same-of (listed o₂) t)))) where
-    w2 : (i : ℕ) → D i → (l : ℕ) → (l ≡ ci) ⊎ ((l ≡ i) ⊎ ⊥) → D l
-    w2 i di l (inl e) = subst D (sym e) d-ci
-    w2 i di l (inr (inl e)) = subst D (sym e) di
-    w2 i di l (inr (inr e)) = absurd e
+    two-within : (i : ℕ) → D i → (l : ℕ) → (l ≡ ci) ⊎ ((l ≡ i) ⊎ ⊥) → D l
+    two-within i di l (inl e) = subst D (sym e) d-ci
+    two-within i di l (inr (inl e)) = subst D (sym e) di
+    two-within i di l (inr (inr e)) = absurd e
 
     wt : (t : Value) (l : ℕ) → (l ≡ o₁) ⊎ On l (emitted (emission o₂ (some t))) → D l
     wt t l (inl e) = subst D (sym e) d-o₁
@@ -122,25 +121,25 @@ module _ (net : ℕ → Demand) where
     IC-true-true d-ia =
         subst (λ z. Goes net D ((ci, some (val true-value)) ∷ (ia, some (val true-value)) ∷ []) 1 ((o₁, some (val true-value)) ∷ z)) (each-somes o₂ true-value)
         (fires net D a (IC-at ci ia ib o₁ o₂ o₃) ((ci, some (val true-value)) ∷ (ia, some (val true-value)) ∷ []) ((o₁, val true-value) ∷ emission o₂ (some true-value)) at
-        (0, val true-value, (refl, refl), (1, val true-value, (refl, refl), ((refl, (refl, tt)), second-emits o₁ o₂ true-value))) (distinct-two (ci, some (val true-value)) (ia, some (val true-value)) ci-ia) (dt true-value) (w2 ia d-ia) (wt true-value))
+        (0, val true-value, (refl, refl), (1, val true-value, (refl, refl), ((refl, (refl, tt)), second-emits o₁ o₂ true-value))) (distinct-two (ci, some (val true-value)) (ia, some (val true-value)) ci-ia) (dt true-value) (two-within ia d-ia) (wt true-value))
 
     pub IC-true-false : D ia → Goes net D (((ci, some (val true-value)) ∷ []) ++ ((ia, some (val false-value)) ∷ [])) 1 (((o₁, some (val false-value)) ∷ []) ++ ((o₃, some (val true-value)) ∷ []))
     IC-true-false d-ia =
         fires net D a (IC-at ci ia ib o₁ o₂ o₃) ((ci, some (val true-value)) ∷ (ia, some (val false-value)) ∷ []) ((o₁, val false-value) ∷ (o₃, val true-value) ∷ []) at
         (0, val true-value, (refl, refl), (1, val false-value, (refl, refl), ((refl, (refl, tt)), third-emits o₁ o₃ o₂ false-value true-value))) (distinct-two (ci, some (val true-value)) (ia, some (val false-value)) ci-ia)
-        (distinct-two (o₁, some (val false-value)) (o₃, some (val true-value)) o₁-o₃) (w2 ia d-ia) wf
+        (distinct-two (o₁, some (val false-value)) (o₃, some (val true-value)) o₁-o₃) (two-within ia d-ia) wf
 
     pub IC-false-true : D ib → Goes net D (((ci, some (val false-value)) ∷ []) ++ ((ib, some (val true-value)) ∷ [])) 1 (((o₁, some (val true-value)) ∷ []) ++ load (listed o₂) (some-of (same-of (listed o₂) false-value)))
     IC-false-true d-ib =
         subst (λ z. Goes net D ((ci, some (val false-value)) ∷ (ib, some (val true-value)) ∷ []) 1 ((o₁, some (val true-value)) ∷ z)) (each-somes o₂ false-value)
         (fires net D a (IC-at ci ia ib o₁ o₂ o₃) ((ci, some (val false-value)) ∷ (ib, some (val true-value)) ∷ []) ((o₁, val true-value) ∷ emission o₂ (some false-value)) at
-        (0, val false-value, (refl, refl), (1, val true-value, (refl, refl), ((refl, (refl, tt)), second-emits o₁ o₂ false-value))) (distinct-two (ci, some (val false-value)) (ib, some (val true-value)) ci-ib) (dt false-value) (w2 ib d-ib) (wt false-value))
+        (0, val false-value, (refl, refl), (1, val true-value, (refl, refl), ((refl, (refl, tt)), second-emits o₁ o₂ false-value))) (distinct-two (ci, some (val false-value)) (ib, some (val true-value)) ci-ib) (dt false-value) (two-within ib d-ib) (wt false-value))
 
     pub IC-false-false : D ib → Goes net D (((ci, some (val false-value)) ∷ []) ++ ((ib, some (val false-value)) ∷ [])) 1 (((o₁, some (val false-value)) ∷ []) ++ ((o₃, some (val false-value)) ∷ []))
     IC-false-false d-ib =
         fires net D a (IC-at ci ia ib o₁ o₂ o₃) ((ci, some (val false-value)) ∷ (ib, some (val false-value)) ∷ []) ((o₁, val false-value) ∷ (o₃, val false-value) ∷ []) at
         (0, val false-value, (refl, refl), (1, val false-value, (refl, refl), ((refl, (refl, tt)), third-emits o₁ o₃ o₂ false-value false-value))) (distinct-two (ci, some (val false-value)) (ib, some (val false-value)) ci-ib)
-        (distinct-two (o₁, some (val false-value)) (o₃, some (val false-value)) o₁-o₃) (w2 ib d-ib) wf
+        (distinct-two (o₁, some (val false-value)) (o₃, some (val false-value)) o₁-o₃) (two-within ib d-ib) wf
 
     abbrev IC-ports : Ports
     IC-ports = ports ci ia ib (some o₁) o₂ (some o₃) 0 none

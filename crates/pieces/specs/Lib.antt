@@ -7,6 +7,8 @@ pub mod Rows
 pub mod LoadSets
 pub mod Gates
 pub mod Ring
+pub mod RingRows
+pub mod LoopMeans
 pub mod DataRows
 pub mod Fan
 pub mod MergeRows
@@ -25,3 +27,10 @@ pub mod Operators
 pub mod Sets
 pub mod Demand3
 pub mod Made
+pub mod Tested
+pub mod Small
+pub mod SmallBodyIf
+pub mod SmallBothIterate
+pub mod Tape
+pub mod Calls
+pub mod Wiring

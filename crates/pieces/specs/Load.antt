@@ -1,16 +1,14 @@
 -- Loads: which tokens lie on which links. A state is a load put upon a base that is empty there; all reasoning about schedules is rewriting of
 -- loads, and what is not in the load is in the base, which nothing touches. A register, a waiting control and a datum are all load.
 -- Blocks of a load that share no link may change places; that they share none comes from colours of links, compared as numerals.
-use Prim.Native.Nat.{ℕ, zero, suc, _<_, _≤_, _+_}
-use mathlib.Core.Path.{_≡_, refl, sym, _∙_, ap, subst, fun-ext}
-use mathlib.Core.Logic.{_≢_, ite, Ne·symm, _⊎_, inl, inr, ⊎-elim}
+use Prim.Native.Nat.{ℕ, zero, suc, _+_}
+use mathlib.Core.Path.{_≡_, refl, sym, _∙_, ap, fun-ext}
+use mathlib.Core.Logic.{_≢_, ite, _⊎_, inl, inr, ⊎-elim}
 use mathlib.Core.List.{List, [], _∷_, _++_}
 use mathlib.Core.Option.{Option, none, some}
 use mathlib.Core.Bool.{Bool, true, false, _&&_, and-eq-true-iff, false≢true}
 use native.Mathlib.Decide.{ℕ-discrete}
-use native.Mathlib.Omega.{arith}
-use Rattle.value.specs.declared.Value.{Value}
-use Rattle.network.specs.Net.{Token, val, mark, Links}
+use Rattle.network.specs.Net.{Token, Links}
 
 -- A link and its token, if any: `(l, none)` says that `l` is empty.
 abbrev pub Load : Type 0
@@ -263,3 +261,7 @@ app-assoc (x ∷ xs) ys zs = ap (λ z. x ∷ z) (app-assoc xs ys zs)
 pub app-nil : (x : Load) → x ++ [] ≡ x
 app-nil [] = refl
 app-nil (y ∷ x) = ap (λ z. y ∷ z) (app-nil x)
+
+-- A first entry and two blocks, cut apart.
+pub cut-outputs : (x : ℕ × Option Token) (P Q : Load) (bs : List Load) → cat ((x ∷ (P ++ Q)) ∷ bs) ≡ cat ((x ∷ []) ∷ P ∷ Q ∷ bs)
+cut-outputs x P Q bs = ap (λ z. x ∷ z) (app-assoc P Q (cat bs))

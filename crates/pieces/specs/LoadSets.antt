@@ -1,16 +1,13 @@
 -- Loads as sets: two loads in which no link stands twice and that have the same entries are one and the same, so that no order of blocks matters.
-use Prim.Native.Nat.{ℕ, zero, suc, _<_, _≤_, _+_}
+use Prim.Native.Nat.{ℕ, _+_}
 use mathlib.Core.Path.{_≡_, refl, sym, _∙_, ap, subst, fun-ext}
-use mathlib.Core.Logic.{_≢_, ite, _⊎_, inl, inr, ⊎-elim}
-use mathlib.Core.List.{List, [], _∷_, _++_}
-use mathlib.Core.Option.{Option, none, some}
+use mathlib.Core.Logic.{_⊎_, inl, inr, ⊎-elim}
+use mathlib.Core.List.{[], _∷_, _++_}
+use mathlib.Core.Option.{Option}
 use native.Mathlib.Decide.{ℕ-discrete}
-use native.Mathlib.Omega.{arith}
-use Rattle.value.specs.declared.Value.{Value}
-use Rattle.network.specs.Net.{Token, val, Demand, Links}
+use Rattle.network.specs.Net.{Token, Links}
 use Rattle.pieces.specs.Load.{Load, opt, set-link, set-same, set-other, put, put-off, On, on-app, Apart}
 use Rattle.pieces.specs.Gate.{Distinct}
-use Rattle.pieces.specs.Goes.{Alike}
 
 abbrev pub Mem : ℕ → Option Token → Load → Type 0
 Mem l t [] = ⊥

@@ -1,61 +1,25 @@
 -- The for (Brock, Figure 2.13) at any width: FM and FS gates, the copies of iter?, and a body that is any piece. The loop starts from ready gates,
 -- goes round as often as the body iterates, and ends with a false on every control, which makes the gates ready for the next set: nothing of
 -- one set is left for another. Where rounds do not suffice there are as many firings, since each entry into the body fires a gate.
-use Prim.Native.Nat.{ℕ, zero, suc, _<_, _≤_, _+_}
+use Prim.Native.Nat.{ℕ, suc, _<_, _+_}
 use mathlib.Core.Path.{_≡_, refl, sym, _∙_, ap, subst}
 use mathlib.Core.Logic.{_≢_, ite, _⊎_, inl, inr, ⊎-elim}
 use mathlib.Core.List.{List, [], _∷_, _++_}
-use mathlib.Core.Option.{Option, none, some}
-use mathlib.Core.Bool.{Bool, true, false}
+use mathlib.Core.Option.{none, some}
 use lib.ListN.{length}
 use native.Mathlib.Decide.{ℕ-discrete}
 use native.Mathlib.Omega.{arith}
 use Rattle.value.specs.declared.Value.{Value}
-use Rattle.network.specs.Values.{true-value, false-value, err-value}
-use Rattle.network.specs.Net.{Token, val, mark, Demand, Links}
+use Rattle.network.specs.Values.{true-value, false-value}
+use Rattle.network.specs.Net.{val, Demand}
 use Rattle.network.specs.Uses.{In}
-use Rattle.pieces.specs.Load.{Load, put, put-app, On, on-app, Clear, Off, Apart, Within, Nones, cat, pull, pulls, Far, Pair, differs, Tint, Tints, pair-of, Among, tint-on, among-not, off-tints, apart-cat, app-assoc}
-use Rattle.pieces.specs.Goes.{Steps, Long, Goes, Goes-on, Alike, go-stay, go-then, go-then-on, go-wide, go-wide-on, go-less, go-by, go-from, go-to, go-from-on, alike-pulls, alike-sym, alike-then, alike-nones, alike-cat, go-two, go-two-on, go-order}
-use Rattle.pieces.specs.Piece.{Values, token-of, load, Piece, Region, Neat, Answer, Means, Leads, Serves, none-of, some-of, load-in, lead-after, lead-less, load-app-none, none-of-nones, Fits}
-use Rattle.pieces.specs.Rows.{join, in-front, in-back, in-app, zip-blocks, zip-two, zip-three, on-zip, single-blocks, cat-single, row}
-use Rattle.pieces.specs.Ring.{Ring-gate, fm, fs, number, control, start, output, demand, links, map-gates, Ready, register-blocks, iterated-blocks, iterated-links, iterated-values, Keeps, keeps-fit, to-each-gate, Ring-good, Outs, row-start, row-again, ready-again, hue-output, hue-control, hue-start, hue-iterated, hue-regs, iters-load, ready-hue, hue-links, links-up, some-row, load-app-iter}
-
--- The body: inputs are the outputs of the gates; outputs are iter?, the iterated and the returned values. It may hold loops: its idle loads
--- are any.
-abbrev pub Body-piece : List Ring-gate → ℕ → List ℕ → (ℕ → Type 0) → (Load → Type 0) → Piece
-Body-piece gs it rs own Idle = record { ins = map-gates output gs; outs = it ∷ (iterated-links gs ++ rs); own = own; Idle = Idle }
-
--- The copies of iter?, one for each gate. Where there is one gate they are a bare link.
-abbrev pub Fan-piece : List Ring-gate → ℕ → (ℕ → Type 0) → (Load → Type 0) → Piece
-Fan-piece gs it own Idle = record { ins = it ∷ []; outs = map-gates control gs; own = own; Idle = Idle }
-
-abbrev pub Fan-means : List Ring-gate → Means
-Fan-means gs vs c a = (v : Value) × (vs ≡ some v ∷ []) × (c ≡ 0) × (a ≡ some (to-each-gate gs v))
-
--- The loop: idle are the body, the copies and each gate.
-abbrev pub loop-own : (ℕ → ℕ) → ℕ → Type 0
-loop-own colour l = (colour l < 8) × (colour l ≢ 3)
-
-abbrev pub Loop-idle : List Ring-gate → (Load → Type 0) → (Load → Type 0) → Load → Type 0
-Loop-idle gs IdleB IdleF σ =
-    (σB : Load) × (σF : Load) × (rb : List Load) × IdleB σB × IdleF σF × Ready gs rb × (σ ≡ cat (σB ∷ σF ∷ cat rb ∷ []))
-
-abbrev pub Loop-piece : (ℕ → ℕ) → List Ring-gate → List ℕ → (Load → Type 0) → (Load → Type 0) → Piece
-Loop-piece colour gs rs IdleB IdleF = record { ins = map-gates start gs; outs = rs; own = loop-own colour; Idle = Loop-idle gs IdleB IdleF }
-
--- The rounds, from the values of a turn: enough of them; or the body itself runs on; or it ends with the returned values and nothing
--- iterated; or it goes round with other values and nothing returned. The number counts entries into bodies, here and further in.
-module _ (gs : List Ring-gate) (rs : List ℕ) (body : Means) where
-  pub data Rounds : List Value → ℕ → Answer → Type 0 where
-    enough : (vs : List Value) → Rounds vs 0 none
-    lost : (vs : List Value) (c : ℕ) → body (some-of vs) c none → Rounds vs c none
-    last : (vs : List Value) (c : ℕ) (ws : List Value) → body (some-of vs) c (some (some false-value ∷ (none-of (iterated-links gs) ++ some-of ws))) →
-        Rounds vs c (some (some-of ws))
-    more : (vs : List Value) (c : ℕ) (vs′ : List Value) (d : ℕ) (a : Answer) → Keeps gs vs vs′ →
-        body (some-of vs) c (some (some true-value ∷ (some-of (iterated-values gs vs′) ++ none-of rs))) → Rounds vs′ d a → Rounds vs (c + suc d) a
-
-  abbrev pub Loop-means : Means
-  Loop-means vs c a = (ws : List Value) × (d : ℕ) × (vs ≡ some-of ws) × Fits gs ws × Rounds ws d a × (c ≤ suc d)
+use Rattle.pieces.specs.Load.{Load, put, On, on-app, Within, cat, Far, Pair, Tint, pair-of, Among, among-not, off-tints, apart-cat, cut-outputs}
+use Rattle.pieces.specs.Goes.{Goes, Alike, go-then, go-wide, go-wide-on, go-less, go-by, go-from, go-to, alike-pulls, alike-nones, alike-cat, go-two, go-two-on}
+use Rattle.pieces.specs.Piece.{Values, load, Region, Neat, Answer, Means, Leads, Serves, none-of, some-of, load-in, lead-after, lead-less, load-app-none, none-of-nones, Fits}
+use Rattle.pieces.specs.Rows.{join, in-app, zip-blocks, zip-two, zip-three, single-blocks, cat-single, row}
+use Rattle.pieces.specs.Ring.{Ring-gate, control, start, output, links, map-gates, Ready, register-blocks, iterated-blocks, iterated-links, iterated-values, Keeps, keeps-fit, to-each-gate, Ring-good}
+use Rattle.pieces.specs.RingRows.{Outs, row-start, row-again, ready-again, hue-output, hue-control, hue-start, hue-iterated, hue-regs, iters-load, ready-hue, hue-links, links-up, some-row, load-app-iter}
+use Rattle.pieces.specs.LoopMeans.{Body-piece, Fan-piece, Fan-means, loop-own, Loop-idle, Loop-piece, Rounds, enough, lost, last, more, Loop-means}
 
 module _ (net : ℕ → Demand) (colour : ℕ → ℕ) (gs : List Ring-gate) (it : ℕ) (rs : List ℕ) (ownB ownF : ℕ → Type 0) (IdleB IdleF : Load → Type 0) (MB : Means) where
   -- What the maker owes: colours, freshness, and the lemma for the body and the copies.
@@ -288,9 +252,6 @@ module _ (net : ℕ → Demand) (colour : ℕ → ℕ) (gs : List Ring-gate) (it
             ∙ zip-two (register-blocks gs vs) (single-blocks (C false-value)) [] b (λ l o o′. omega (arith, tR vs l o, tC false-value l (subst (λ z. On l z) (cat-single (C false-value)) o′)))
 
     -- the body's outputs, cut into blocks
-    cut3 : (x : ℕ × Option Token) (I W : Load) (bs : List Load) → cat ((x ∷ (I ++ W)) ∷ bs) ≡ cat ((x ∷ []) ∷ I ∷ W ∷ bs)
-    cut3 x I W bs = ap (λ z. x ∷ z) (app-assoc I W (cat bs))
-
     pub spin : {vs : List Value} {c : ℕ} {a : Answer} → Rounds gs rs MB vs c a → Fits gs vs → (σB σF : Load) → IdleB σB → IdleF σF → Leads net DL (Turn vs σB σF) rs (Loop-idle gs IdleB IdleF) c a
     spin (enough vs) f σB σF iB iF = λ b cl. record { w = []; runs = tt; many = omega arith }
     spin (lost vs c m) f σB σF iB iF =
@@ -315,7 +276,7 @@ module _ (net : ℕ → Demand) (colour : ℕ → ℕ) (gs : List Ring-gate) (it
         ends c σB′ σF′ jB jF p r =
             let e : cat (load (it ∷ (iterated-links gs ++ rs)) (some false-value ∷ (none-of (iterated-links gs) ++ some-of ws)) ∷ σB′ ∷ σF ∷ Rg vs ∷ [])
             ≡ cat (((it, some (val false-value)) ∷ []) ∷ I ∷ W ∷ σB′ ∷ σF ∷ Rg vs ∷ [])
-            = ap (λ z. cat (((it, some (val false-value)) ∷ z) ∷ σB′ ∷ σF ∷ Rg vs ∷ [])) (load-app-none (iterated-links gs) rs (some-of ws)) ∙ cut3 (it, some (val false-value)) I W (σB′ ∷ σF ∷ Rg vs ∷ []) in
+            = ap (λ z. cat (((it, some (val false-value)) ∷ z) ∷ σB′ ∷ σF ∷ Rg vs ∷ [])) (load-app-none (iterated-links gs) rs (some-of ws)) ∙ cut-outputs (it, some (val false-value)) I W (σB′ ∷ σF ∷ Rg vs ∷ []) in
             let rb = zip-blocks (register-blocks gs vs) (single-blocks (C false-value)) in (
               cat (σB′ ∷ σF′ ∷ cat rb ∷ []),
               (σB′, σF′, rb, jB, jF, ready-again colour net gs vs f, refl),
@@ -345,7 +306,7 @@ module _ (net : ℕ → Demand) (colour : ℕ → ℕ) (gs : List Ring-gate) (it
             let e : cat (load (it ∷ (iterated-links gs ++ rs)) (some true-value ∷ (some-of (iterated-values gs vs′) ++ none-of rs)) ∷ σB′ ∷ σF ∷ Rg vs ∷ [])
             ≡ cat (((it, some (val true-value)) ∷ []) ∷ I ∷ W ∷ σB′ ∷ σF ∷ Rg vs ∷ [])
             = ap (λ z. cat (((it, some (val true-value)) ∷ z) ∷ σB′ ∷ σF ∷ Rg vs ∷ [])) (load-app-iter colour net gs vs′ rs (none-of rs) (keeps-fit gs vs vs′ k))
-            ∙ cut3 (it, some (val true-value)) I W (σB′ ∷ σF ∷ Rg vs ∷ []) in
+            ∙ cut-outputs (it, some (val true-value)) I W (σB′ ∷ σF ∷ Rg vs ∷ []) in
             lead-less net DL (Turn vs σB σF) rs (Loop-idle gs IdleB IdleF) ((c + (0 + 1)) + d) (c + suc d) a (omega arith)
             (lead-after net DL (Turn vs σB σF) (Turn vs′ σB′ σF′) rs (Loop-idle gs IdleB IdleF) (c + (0 + 1)) d a
             (go-then net DL (Turn vs σB σF) (cat (((it, some (val true-value)) ∷ []) ∷ I ∷ W ∷ σB′ ∷ σF ∷ Rg vs ∷ [])) (Turn vs′ σB′ σF′) c (0 + 1)
@@ -355,8 +316,8 @@ module _ (net : ℕ → Demand) (colour : ℕ → ℕ) (gs : List Ring-gate) (it
             tail)
 
     -- the first firings, of gates that are ready
-    abbrev fold7 : ℕ → ℕ
-    fold7 k = ite (ℕ-discrete k 6) 7 k
+    abbrev fold-ready : ℕ → ℕ
+    fold-ready k = ite (ℕ-discrete k 6) 7 k
 
     start-step : (vs : List Value) (σB σF : Load) (rb : List Load) → Fits gs vs → IdleB σB → IdleF σF → Ready gs rb →
         Goes net DL (load (map-gates start gs) (some-of vs) ++ cat (σB ∷ σF ∷ cat rb ∷ [])) 1 (Turn vs σB σF)
@@ -374,18 +335,18 @@ module _ (net : ℕ → Demand) (colour : ℕ → ℕ) (gs : List Ring-gate) (it
         onS : (l : ℕ) → On l S → colour l ≡ 8
         onS l o = hue-start colour net gs (R .good) l (load-in (map-gates start gs) (some-of vs) l o)
 
-        t7 : Tint (λ l. fold7 (colour l)) 7 (cat rb)
-        t7 l o = ⊎-elim (λ (e : colour l ≡ 7). ap fold7 e) (λ (e : colour l ≡ 6). ap fold7 e) (ready-hue colour net gs rb (R .good) rd l o)
+        ready-tint : Tint (λ l. fold-ready (colour l)) 7 (cat rb)
+        ready-tint l o = ⊎-elim (λ (e : colour l ≡ 7). ap fold-ready e) (λ (e : colour l ≡ 6). ap fold-ready e) (ready-hue colour net gs rb (R .good) rd l o)
 
         pr : Pair (S ∷ σB ∷ σF ∷ cat rb ∷ [])
-        pr = pair-of (λ l. fold7 (colour l)) (8 ∷ 4 ∷ 5 ∷ 7 ∷ []) (S ∷ σB ∷ σF ∷ cat rb ∷ [])
-            (λ l o. ap fold7 (onS l o), (λ l o. ap fold7 (tB σB iB l o), (λ l o. ap fold7 (tF σF iF l o), (t7, tt)))) refl
+        pr = pair-of (λ l. fold-ready (colour l)) (8 ∷ 4 ∷ 5 ∷ 7 ∷ []) (S ∷ σB ∷ σF ∷ cat rb ∷ [])
+            (λ l o. ap fold-ready (onS l o), (λ l o. ap fold-ready (tB σB iB l o), (λ l o. ap fold-ready (tF σF iF l o), (ready-tint, tt)))) refl
 
         back : Alike net DL (cat (zip-blocks rb (single-blocks S)) ++ Z) (cat (S ∷ σB ∷ σF ∷ cat rb ∷ []))
         back b cl =
             sym (zip-two rb (single-blocks S) Z b (λ l o o′.
-            let h : fold7 (colour l) ≡ 7 = t7 l o in
-            let k : fold7 (colour l) ≡ 8 = ap fold7 (onS l (subst (λ z. On l z) (cat-single S) o′)) in
+            let h : fold-ready (colour l) ≡ 7 = ready-tint l o in
+            let k : fold-ready (colour l) ≡ 8 = ap fold-ready (onS l (subst (λ z. On l z) (cat-single S) o′)) in
             let n : _≡_ {A = ℕ} 7 8 = sym h ∙ k in omega arith))
             ∙ ap (λ z. put (cat rb ++ (z ++ Z)) b) (cat-single S)
             ∙ alike-pulls net DL (3 ∷ []) (S ∷ σB ∷ σF ∷ cat rb ∷ []) pr b cl

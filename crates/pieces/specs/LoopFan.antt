@@ -3,18 +3,18 @@ use Prim.Native.Nat.{ℕ}
 use mathlib.Core.Path.{_≡_, refl, sym, _∙_, ap, subst}
 use mathlib.Core.Logic.{_⊎_, inl, inr, ⊎-elim}
 use mathlib.Core.List.{List, [], _∷_, _++_}
-use mathlib.Core.Option.{Option, none, some}
+use mathlib.Core.Option.{some}
 use Rattle.value.specs.declared.Value.{Value}
-use Rattle.network.specs.Net.{Token, val, Demand}
+use Rattle.network.specs.Net.{val, Demand}
 use Rattle.network.specs.Uses.{In}
-use Rattle.pieces.specs.Load.{Load, app-nil}
+use Rattle.pieces.specs.Load.{app-nil}
 use Rattle.pieces.specs.Goes.{Goes, go-wide}
-use Rattle.pieces.specs.Piece.{Values, load, Piece, Region, Means, Serves, some-of, same-of}
+use Rattle.pieces.specs.Piece.{load, Piece, Region, Serves, some-of, same-of}
 use Rattle.pieces.specs.Rows.{in-app}
 use Rattle.pieces.specs.Ring.{Ring-gate, control, map-gates, to-each-gate}
 use Rattle.pieces.specs.Fan.{Chain, Chain-region, chain}
 use Rattle.pieces.specs.Rows.{dec-in}
-use Rattle.pieces.specs.Loop.{Fan-piece, Fan-means}
+use Rattle.pieces.specs.LoopMeans.{Fan-piece, Fan-means}
 
 all-same : (gs : List Ring-gate) (v : Value) → load (map-gates control gs) (some-of (same-of (map-gates control gs) v)) ≡ load (map-gates control gs) (to-each-gate gs v)
 all-same [] v = refl

@@ -1,18 +1,17 @@
 -- What the maker of a graph owes (`Made`), and what follows from it: both halves of demand 3 in terms of the direct evaluator.
-use Prim.Native.Nat.{ℕ, zero, suc, _<_, _≤_, _+_}
-use mathlib.Core.Path.{_≡_, refl, sym, _∙_, ap, subst}
-use mathlib.Core.Logic.{_≢_, ite, _⊎_, inl, inr, ⊎-elim}
-use mathlib.Core.List.{List, [], _∷_, _++_}
+use Prim.Native.Nat.{ℕ, suc, _<_, _≤_}
+use mathlib.Core.Path.{_≡_, refl}
+use mathlib.Core.Logic.{_≢_, _⊎_, inl, inr}
+use mathlib.Core.List.{List, [], _∷_}
 use mathlib.Core.Option.{Option, none, some}
 use lib.ListN.{length}
-use native.Mathlib.Omega.{arith}
 use Rattle.schedule.specs.Schedules.{Possible, reached, outputs, Agree}
 use Rattle.schedule.specs.Counts.{count}
 use Rattle.value.specs.declared.Value.{Value}
 use Rattle.network.specs.Net.{Token, Demand, Links}
 use Rattle.network.specs.Commute.{Free}
-use Rattle.pieces.specs.Load.{Load, Clear}
-use Rattle.pieces.specs.Piece.{Piece, Region, Means, some-of, Fits}
+use Rattle.pieces.specs.Load.{Load}
+use Rattle.pieces.specs.Piece.{Piece, Means, some-of, Fits}
 use Rattle.pieces.specs.Sets.{net, Bench}
 use Rattle.pieces.specs.Demand3.{Enabled, Next, Output, Between, tape-of, each-tokens, Evaluated, Tried, results, ready}
 
@@ -42,13 +41,13 @@ module _ (graph : ℕ → Demand) (p k source credit : ℕ) (P : Piece) (M : Mea
   Fitting (v ∷ vss) = Fits (P .ins) v × Fitting vss
 
   module _ (F : Made) (cap : ℕ → ℕ) (roomy : (l : ℕ) → 1 ≤ cap l) where
-    abbrev E : ℕ → Links → Type 0
+    abbrev pub E : ℕ → Links → Type 0
     E = Enabled graph p k source credit P M (F .bench) cap roomy
 
-    abbrev X : ℕ → Links → Links
+    abbrev pub X : ℕ → Links → Links
     X = Next graph p k source credit P M (F .bench) cap roomy
 
-    abbrev O : ℕ → Links → List Token
+    abbrev pub O : ℕ → Links → List Token
     O = Output graph p k source credit P M (F .bench) cap roomy
 
     -- the machine as start leaves it, with the sets to come on the tape

@@ -1,15 +1,14 @@
 -- Rows of M and of E gates: what the ifs ask of them. An M gate is seen twice, with its second and with its third input.
 use Prim.Native.Nat.{ℕ}
-use mathlib.Core.Path.{_≡_, refl, sym, _∙_, ap, subst}
-use mathlib.Core.List.{List, [], _∷_, _++_}
-use mathlib.Core.Option.{Option, none, some}
+use mathlib.Core.Path.{_≡_, refl, ap}
+use mathlib.Core.List.{List, [], _∷_}
+use mathlib.Core.Option.{some}
 use Rattle.value.specs.declared.Value.{Value}
-use Rattle.network.specs.Values.{true-value, false-value, err-value}
-use Rattle.network.specs.Net.{Token, val, mark, Demand}
-use Rattle.pieces.specs.Gate.{Consumes}
+use Rattle.network.specs.Values.{true-value, false-value}
+use Rattle.network.specs.Net.{val, Demand}
 use Rattle.pieces.specs.Piece.{load}
 use Rattle.pieces.specs.Gates.{M-at, E-at}
-use Rattle.pieces.specs.DataRows.{Gated, controls, data-of, outs-of, each, Bad, Pass, Spoil, one-M-true, one-M-false, one-M-bad, one-E-true, one-E-false, one-E-bad}
+use Rattle.pieces.specs.DataRows.{Gated, controls, outs-of, each, Bad, Pass, Spoil, one-M-true, one-M-false, one-M-bad, one-E-true, one-E-false, one-E-bad}
 
 -- operator number, control, second and third input, output
 pub record Merge-gate : Type 0 where

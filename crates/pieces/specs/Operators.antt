@@ -1,18 +1,16 @@
 -- Identifiers, constants and operators as pieces. A constant or an operator takes one token from each of its inputs and gives one value (document
 -- 01: "every operand .. is evaluated, used or not"). What the operator of a code computes is `apply`, of which nothing else is known here.
-use Prim.Native.Nat.{ℕ, _≤_}
-use mathlib.Core.Path.{_≡_, refl, sym, _∙_, ap, subst}
+use Prim.Native.Nat.{ℕ}
+use mathlib.Core.Path.{_≡_, refl, sym, subst}
 use mathlib.Core.Logic.{_≢_, _⊎_, inl, inr, ⊎-elim}
-use mathlib.Core.Bool.{Bool, true, false}
-use mathlib.Core.List.{List, [], _∷_, _++_}
+use mathlib.Core.Bool.{true, false}
+use mathlib.Core.List.{[], _∷_, _++_}
 use mathlib.Core.Option.{Option, none, some}
 use native.Mathlib.Omega.{arith}
 use Rattle.value.specs.declared.Value.{Value}
 use Rattle.network.specs.Values.{err-value, one-operand, apply}
 use Rattle.network.specs.Rules.{operator-rule}
-use Rattle.network.specs.Net.{Token, val, Demand}
-use Rattle.network.specs.Uses.{In}
-use Rattle.pieces.specs.Load.{Load, On}
+use Rattle.network.specs.Net.{val, Demand}
 use Rattle.pieces.specs.Goes.{Goes, go-less, go-stay}
 use Rattle.pieces.specs.Gate.{Consumes, fires}
 use Rattle.pieces.specs.Piece.{load, Piece, Region, Serves}
@@ -40,53 +38,53 @@ binary-eats code e i j o v w = (
       (1, val w, (refl, refl), ((refl, (refl, tt)), refl)),
 )
 
-abbrev pub Op1 : ℕ → ℕ → Piece
-Op1 i o = record { ins = i ∷ []; outs = o ∷ []; own = λ x. ⊥; Idle = λ σ. σ ≡ [] }
+abbrev pub Unary-piece : ℕ → ℕ → Piece
+Unary-piece i o = record { ins = i ∷ []; outs = o ∷ []; own = λ x. ⊥; Idle = λ σ. σ ≡ [] }
 
 abbrev pub Bare : ℕ → Piece
 Bare l = record { ins = l ∷ []; outs = l ∷ []; own = λ x. ⊥; Idle = λ σ. σ ≡ [] }
 
-abbrev pub Op2 : ℕ → ℕ → ℕ → Piece
-Op2 i j o = record { ins = i ∷ j ∷ []; outs = o ∷ []; own = λ x. ⊥; Idle = λ σ. σ ≡ [] }
+abbrev pub Binary-piece : ℕ → ℕ → ℕ → Piece
+Binary-piece i j o = record { ins = i ∷ j ∷ []; outs = o ∷ []; own = λ x. ⊥; Idle = λ σ. σ ≡ [] }
 
 module _ (net : ℕ → Demand) where
   one-input : (f : Value → Value) (a i o : ℕ) → ((v : Value) → Consumes (net a) ((i, some (val v)) ∷ []) ((o, val (f v)) ∷ [])) →
-      Serves net (Op1 i o) (λ vs c r. (v : Value) × (vs ≡ some v ∷ []) × (c ≡ 0) × (r ≡ some (some (f v) ∷ [])))
+      Serves net (Unary-piece i o) (λ vs c r. (v : Value) × (vs ≡ some v ∷ []) × (c ≡ 0) × (r ≡ some (some (f v) ∷ [])))
   one-input f a i o eats vs c r (v, e, z, er) σ s =
       rw (er, z) (
         [],
         refl,
-        subst (λ u. Goes net (Region (Op1 i o)) (load (i ∷ []) u ++ σ) 0 ((o, some (val (f v))) ∷ [])) (sym e)
-            (subst (λ t. Goes net (Region (Op1 i o)) (((i, some (val v)) ∷ []) ++ t) 0 ((o, some (val (f v))) ∷ [])) (sym s)
-            (go-less net (Region (Op1 i o)) ((i, some (val v)) ∷ []) ((o, some (val (f v))) ∷ []) 1 0 (omega arith)
-            (fires net (Region (Op1 i o)) a (net a) ((i, some (val v)) ∷ []) ((o, val (f v)) ∷ []) refl (eats v) (λ x. x, tt) (λ x. x, tt)
+        subst (λ u. Goes net (Region (Unary-piece i o)) (load (i ∷ []) u ++ σ) 0 ((o, some (val (f v))) ∷ [])) (sym e)
+            (subst (λ t. Goes net (Region (Unary-piece i o)) (((i, some (val v)) ∷ []) ++ t) 0 ((o, some (val (f v))) ∷ [])) (sym s)
+            (go-less net (Region (Unary-piece i o)) ((i, some (val v)) ∷ []) ((o, some (val (f v))) ∷ []) 1 0 (omega arith)
+            (fires net (Region (Unary-piece i o)) a (net a) ((i, some (val v)) ∷ []) ((o, val (f v)) ∷ []) refl (eats v) (λ x. x, tt) (λ x. x, tt)
             (λ l x. inr (inl x)) (λ l x. inr (inr x))))),
       )
 
   two-inputs : (f : Value → Value → Value) (a i j o : ℕ) → i ≢ j →
       ((v w : Value) → Consumes (net a) ((i, some (val v)) ∷ (j, some (val w)) ∷ []) ((o, val (f v w)) ∷ [])) →
-      Serves net (Op2 i j o) (λ vs c r. (v : Value) × (w : Value) × (vs ≡ some v ∷ some w ∷ []) × (c ≡ 0) × (r ≡ some (some (f v w) ∷ [])))
+      Serves net (Binary-piece i j o) (λ vs c r. (v : Value) × (w : Value) × (vs ≡ some v ∷ some w ∷ []) × (c ≡ 0) × (r ≡ some (some (f v w) ∷ [])))
   two-inputs f a i j o ne eats vs c r (v, w, e, z, er) σ s =
       rw (er, z) (
         [],
         refl,
-        subst (λ u. Goes net (Region (Op2 i j o)) (load (i ∷ j ∷ []) u ++ σ) 0 ((o, some (val (f v w))) ∷ [])) (sym e)
-            (subst (λ t. Goes net (Region (Op2 i j o)) (((i, some (val v)) ∷ (j, some (val w)) ∷ []) ++ t) 0 ((o, some (val (f v w))) ∷ [])) (sym s)
-            (go-less net (Region (Op2 i j o)) ((i, some (val v)) ∷ (j, some (val w)) ∷ []) ((o, some (val (f v w))) ∷ []) 1 0 (omega arith)
-            (fires net (Region (Op2 i j o)) a (net a) ((i, some (val v)) ∷ (j, some (val w)) ∷ []) ((o, val (f v w)) ∷ []) refl (eats v w)
+        subst (λ u. Goes net (Region (Binary-piece i j o)) (load (i ∷ j ∷ []) u ++ σ) 0 ((o, some (val (f v w))) ∷ [])) (sym e)
+            (subst (λ t. Goes net (Region (Binary-piece i j o)) (((i, some (val v)) ∷ (j, some (val w)) ∷ []) ++ t) 0 ((o, some (val (f v w))) ∷ [])) (sym s)
+            (go-less net (Region (Binary-piece i j o)) ((i, some (val v)) ∷ (j, some (val w)) ∷ []) ((o, some (val (f v w))) ∷ []) 1 0 (omega arith)
+            (fires net (Region (Binary-piece i j o)) a (net a) ((i, some (val v)) ∷ (j, some (val w)) ∷ []) ((o, val (f v w)) ∷ []) refl (eats v w)
             (λ x. ⊎-elim ne (λ (y : ⊥). y) x, (λ x. x, tt)) (λ x. x, tt) (λ l x. inr (inl x)) (λ l x. inr (inr x))))),
       )
 
   pub constant-serves : (x : Value) (a i o : ℕ) → net a ≡ constant-at x i o →
-      Serves net (Op1 i o) (λ vs c r. (v : Value) × (vs ≡ some v ∷ []) × (c ≡ 0) × (r ≡ some (some x ∷ [])))
+      Serves net (Unary-piece i o) (λ vs c r. (v : Value) × (vs ≡ some v ∷ []) × (c ≡ 0) × (r ≡ some (some x ∷ [])))
   constant-serves x a i o at = one-input (λ v. x) a i o (λ v. rw at (constant-eats x i o v))
 
   pub unary-serves : (code : ℕ) → one-operand code ≡ true → (a i j o : ℕ) → net a ≡ operator-at code i j o →
-      Serves net (Op1 i o) (λ vs c r. (v : Value) × (vs ≡ some v ∷ []) × (c ≡ 0) × (r ≡ some (some (apply code v err-value) ∷ [])))
+      Serves net (Unary-piece i o) (λ vs c r. (v : Value) × (vs ≡ some v ∷ []) × (c ≡ 0) × (r ≡ some (some (apply code v err-value) ∷ [])))
   unary-serves code e a i j o at = one-input (λ v. apply code v err-value) a i o (λ v. rw at (unary-eats code e i j o v))
 
   pub binary-serves : (code : ℕ) → one-operand code ≡ false → (a i j o : ℕ) → i ≢ j → net a ≡ operator-at code i j o →
-      Serves net (Op2 i j o) (λ vs c r. (v : Value) × (w : Value) × (vs ≡ some v ∷ some w ∷ []) × (c ≡ 0) × (r ≡ some (some (apply code v w) ∷ [])))
+      Serves net (Binary-piece i j o) (λ vs c r. (v : Value) × (w : Value) × (vs ≡ some v ∷ some w ∷ []) × (c ≡ 0) × (r ≡ some (some (apply code v w) ∷ [])))
   binary-serves code e a i j o ne at = two-inputs (apply code) a i j o ne (λ v w. rw at (binary-eats code e i j o v w))
 
   -- "An identifier is a bare link": no operator; its output is its input.

@@ -1,9 +1,9 @@
 -- One lemma for all colourings of links: the links are cut at rising numbers; in each stretch there is one colour, or two by membership in a list.
-use Prim.Native.Nat.{ℕ, zero, suc, _<_, _≤_, _+_}
-use mathlib.Core.Path.{_≡_, refl, sym, _∙_, ap, subst}
-use mathlib.Core.Logic.{_≢_, ite, _⊎_, inl, inr, ⊎-elim}
-use mathlib.Core.List.{List, [], _∷_, _++_}
-use native.Mathlib.Decide.{ℕ-discrete, decLt}
+use Prim.Native.Nat.{ℕ, zero, suc, _<_, _≤_}
+use mathlib.Core.Path.{_≡_, refl, _∙_}
+use mathlib.Core.Logic.{ite}
+use mathlib.Core.List.{List, [], _∷_}
+use native.Mathlib.Decide.{decLt}
 use native.Mathlib.Omega.{arith}
 use Rattle.network.specs.Uses.{In}
 use Rattle.pieces.specs.Rows.{dec-in}

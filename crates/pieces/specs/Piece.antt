@@ -1,16 +1,16 @@
 -- The schedule lemma as a statement (`Serves`), for every piece of a graph at any width: from any idle load and the values on its inputs, a
 -- schedule to the values on its outputs with the piece idle again, or as many firings as anyone asks where the rounds do not suffice.
 -- A piece is known by its links alone; no numbering and no translation appears. What the other files prove of a kind of piece is `Serves`.
-use Prim.Native.Nat.{ℕ, zero, suc, _<_, _≤_, _+_}
-use mathlib.Core.Path.{_≡_, refl, sym, _∙_, ap, subst}
+use Prim.Native.Nat.{ℕ, _≤_, _+_}
+use mathlib.Core.Path.{_≡_, refl, ap, subst}
 use mathlib.Core.Logic.{_⊎_, inl, inr, ⊎-elim}
 use mathlib.Core.List.{List, [], _∷_, _++_}
 use mathlib.Core.Option.{Option, none, some}
 use Rattle.value.specs.declared.Value.{Value}
-use Rattle.network.specs.Net.{Token, val, mark, Demand, Links}
+use Rattle.network.specs.Net.{Token, val, Demand}
 use Rattle.network.specs.Uses.{In}
-use Rattle.pieces.specs.Load.{cat, Load, On, on-app, Apart, Off, Within, Nones}
-use Rattle.pieces.specs.Goes.{Goes, Goes-on, Alike, go-stay, go-then, go-then-on, go-less, go-less-on, go-from, go-to, alike-nones, alike-sym}
+use Rattle.pieces.specs.Load.{cat, Load, On, on-app, Within, Nones}
+use Rattle.pieces.specs.Goes.{Goes, Goes-on, Alike, go-stay, go-then, go-then-on, go-less, go-less-on, go-from, go-to, alike-nones, alike-sym, go-from-on}
 
 -- As many of the one as of the other: values for links, for gates, for names.
 abbrev pub Fits : {X Y : Type 0} → List X → List Y → Type 0
@@ -83,6 +83,11 @@ module _ (net : ℕ → Demand) where
   lead-less D xs os Idle c d none le g = go-less-on net D xs c d le g
   lead-less D xs os Idle c d (some rs) le (σ, i, g) = (σ, i, go-less net D xs (load os rs ++ σ) c d le g)
 
+  pub lead-from : (D : ℕ → Type 0) (xs xs′ : Load) (os : List ℕ) (Idle : Load → Type 0) (c : ℕ) (a : Answer) → Alike net D xs xs′ → Leads D xs os Idle c a →
+      Leads D xs′ os Idle c a
+  lead-from D xs xs′ os Idle c none e g = go-from-on net D xs xs′ c e g
+  lead-from D xs xs′ os Idle c (some rs) e (σ, i, g) = (σ, i, go-from net D xs xs′ (load os rs ++ σ) c e g)
+
 -- A body is a piece whose outputs are iter?, the iterated values and the returned values, and whose meaning has one of two forms.
 abbrev pub none-of : List ℕ → Values
 none-of [] = []
@@ -140,3 +145,9 @@ same-fit (l ∷ ls) v = same-fit ls v
 -- Two pieces idle, the one's load before the other's.
 abbrev pub Both-idle : (Load → Type 0) → (Load → Type 0) → Load → Type 0
 Both-idle I J σ = (σP : Load) × (σQ : Load) × I σP × J σQ × (σ ≡ cat (σP ∷ σQ ∷ []))
+
+pub both-idle-own : (I J : Load → Type 0) (A B own : ℕ → Type 0) → ((σ : Load) → I σ → Within σ A) → ((σ : Load) → J σ → Within σ B) → ((l : ℕ) → A l → own l) →
+    ((l : ℕ) → B l → own l) → (σ : Load) → Both-idle I J σ → Within σ own
+both-idle-own I J A B own wI wJ a b σ (σP, σQ, i, j, e) l o =
+    ⊎-elim (λ (z : On l σP). a l (wI σP i l z))
+    (λ (z : On l (σQ ++ [])). ⊎-elim (λ (y : On l σQ). b l (wJ σQ j l y)) (λ (y : ⊥). absurd y) (on-app l σQ [] z)) (on-app l σP (σQ ++ []) (subst (On l) e o))

@@ -1,15 +1,14 @@
 -- Rows of gates side by side, each keeping to its own links, and blocks laid gate by gate instead of kind by kind. Knows of no gate's rule.
-use Prim.Native.Nat.{ℕ, zero, suc, _<_, _≤_, _+_}
+use Prim.Native.Nat.{ℕ, suc, _+_}
 use mathlib.Core.Path.{_≡_, refl, sym, _∙_, ap, subst}
-use mathlib.Core.Logic.{_≢_, _⊎_, inl, inr, ⊎-elim}
+use mathlib.Core.Logic.{_⊎_, inl, inr, ⊎-elim}
 use mathlib.Core.List.{List, [], _∷_, _++_}
-use mathlib.Core.Option.{Option, none, some}
 use lib.ListN.{length}
 use native.Mathlib.Decide.{ℕ-discrete}
 use native.Mathlib.Omega.{arith}
 use Rattle.network.specs.Net.{Demand, Links}
 use Rattle.network.specs.Uses.{In}
-use Rattle.pieces.specs.Load.{Load, put, put-app, put-swap, put-clear, On, on-app, on-left, on-right, Clear, Off, Apart, Within, cat}
+use Rattle.pieces.specs.Load.{Load, put, put-app, put-swap, put-clear, On, on-app, on-left, on-right, Off, Apart, Within, cat}
 use Rattle.pieces.specs.Goes.{Steps, Goes, Alike, go-stay, go-then, go-wide, go-by}
 
 abbrev pub join : List (List ℕ) → List ℕ

@@ -1,19 +1,15 @@
 -- One piece after another: a let, operators over their operands, a test and its if, a loop after its starting values. Names that both use were
 -- copied before (Fan.antt), so nothing is shared but what is handed on.
-use Prim.Native.Nat.{ℕ, zero, suc, _<_, _≤_, _+_}
-use mathlib.Core.Path.{_≡_, refl, sym, _∙_, ap, subst}
-use mathlib.Core.Logic.{_≢_, _⊎_, inl, inr, ⊎-elim}
+use Prim.Native.Nat.{ℕ, _+_}
+use mathlib.Core.Path.{_≡_, refl, sym, ap, subst}
+use mathlib.Core.Logic.{_⊎_, inl, inr, ⊎-elim}
 use mathlib.Core.List.{List, [], _∷_, _++_}
-use mathlib.Core.Option.{Option, none, some}
-use native.Mathlib.Omega.{arith}
-use Rattle.value.specs.declared.Value.{Value}
-use Rattle.network.specs.Values.{true-value, false-value, err-value}
-use Rattle.network.specs.Net.{Token, val, mark, Demand, Links}
+use mathlib.Core.Option.{none, some}
+use Rattle.network.specs.Net.{Demand}
 use Rattle.network.specs.Uses.{In}
-use Rattle.pieces.specs.Load.{Load, put, On, on-app, Off, Apart, Within, cat, pull, pulls, Pair, app-assoc}
-use Rattle.pieces.specs.Goes.{Goes, Goes-on, Alike, go-stay, go-then, go-then-on, go-wide, go-wide-on, go-less, go-from, go-to, go-from-on, alike-pulls, alike-sym, go-two, go-two-on, go-order}
-use Rattle.pieces.specs.Gate.{Distinct, emitted, Consumes, fires}
-use Rattle.pieces.specs.Piece.{Values, token-of, load, Piece, Region, Neat, Answer, Means, Leads, Serves, load-in, lead-after, lead-less, Fits, Both-idle}
+use Rattle.pieces.specs.Load.{Load, On, on-app, Off, cat, Pair, app-assoc}
+use Rattle.pieces.specs.Goes.{Goes, Goes-on, Alike, go-wide, go-wide-on, go-from, go-from-on, alike-pulls, go-two, go-two-on, go-order}
+use Rattle.pieces.specs.Piece.{Values, token-of, load, Piece, Region, Neat, Answer, Means, Leads, Serves, load-in, lead-after, Fits, Both-idle}
 
 pub load-app : (xs zs : List ℕ) (us ws : Values) → Fits xs us → load (xs ++ zs) (us ++ ws) ≡ load xs us ++ load zs ws
 load-app [] zs [] ws f = refl
@@ -54,8 +50,8 @@ module _ (net : ℕ → Demand) (D : ℕ → Type 0) (P : Piece) (zs os : List �
     Bef : Values → Values → Load → Load → Load
     Bef us ws σP σQ = cat (load (P .ins) us ∷ load zs ws ∷ σP ∷ σQ ∷ [])
 
-    pr-1 : (us ws : Values) (σP σQ : Load) → P .Idle σP → IdleQ σQ → Pair (load (P .ins) us ∷ load zs ws ∷ σP ∷ σQ ∷ [])
-    pr-1 us ws σP σQ iP iQ = (
+    pairwise-before : (us ws : Values) (σP σQ : Load) → P .Idle σP → IdleQ σQ → Pair (load (P .ins) us ∷ load zs ws ∷ σP ∷ σQ ∷ [])
+    pairwise-before us ws σP σQ iP iQ = (
       (
         λ l o o′. Z .apart-z l (load-in zs ws l o′) (inr (inl (load-in (P .ins) us l o))),
         (
@@ -72,8 +68,8 @@ module _ (net : ℕ → Demand) (D : ℕ → Type 0) (P : Piece) (zs os : List �
       ),
     )
 
-    pr-2 : (rs ws : Values) (σP σQ : Load) → P .Idle σP → IdleQ σQ → Pair (load (P .outs) rs ∷ σP ∷ load zs ws ∷ σQ ∷ [])
-    pr-2 rs ws σP σQ iP iQ = (
+    pairwise-after : (rs ws : Values) (σP σQ : Load) → P .Idle σP → IdleQ σQ → Pair (load (P .outs) rs ∷ σP ∷ load zs ws ∷ σQ ∷ [])
+    pairwise-after rs ws σP σQ iP iQ = (
       (
         λ l o o′. Z .neat-P .off-outs l (Z .neat-P .idle-own σP iP l o′) (load-in (P .outs) rs l o),
         (
@@ -90,18 +86,18 @@ module _ (net : ℕ → Demand) (D : ℕ → Type 0) (P : Piece) (zs os : List �
       ),
     )
 
-    off-1 : (ws : Values) (σQ : Load) → IdleQ σQ → Off (cat (load zs ws ∷ σQ ∷ [])) (Region P)
-    off-1 ws σQ iQ l o d =
+    off-first : (ws : Values) (σQ : Load) → IdleQ σQ → Off (cat (load zs ws ∷ σQ ∷ [])) (Region P)
+    off-first ws σQ iQ l o d =
         ⊎-elim (λ (z : On l (load zs ws)). Z .apart-z l (load-in zs ws l z) d)
         (λ (z : On l (σQ ++ [])). ⊎-elim (λ (y : On l σQ). Z .apart-Q l (Z .neat-Q .idle-own σQ iQ l y) d) (λ (y : ⊥). y) (on-app l σQ [] z)) (on-app l (load zs ws) (σQ ++ []) o)
 
-    off-2 : (σP : Load) → P .Idle σP → Off (cat (σP ∷ [])) (Region PQ)
-    off-2 σP iP l o d = ⊎-elim (λ (z : On l σP). Z .apart-P l (Z .neat-P .idle-own σP iP l z) d) (λ (z : ⊥). z) (on-app l σP [] o)
+    off-second : (σP : Load) → P .Idle σP → Off (cat (σP ∷ [])) (Region PQ)
+    off-second σP iP l o d = ⊎-elim (λ (z : On l σP). Z .apart-P l (Z .neat-P .idle-own σP iP l z) d) (λ (z : ⊥). z) (on-app l σP [] o)
 
     -- P's turn
     first-alike : (us ws : Values) (σP σQ : Load) → P .Idle σP → IdleQ σQ → Alike net D (cat (load (P .ins) us ∷ σP ∷ load zs ws ∷ σQ ∷ [])) (Bef us ws σP σQ)
     unfolding Bef
-    first-alike us ws σP σQ iP iQ = alike-pulls net D (2 ∷ 1 ∷ []) (load (P .ins) us ∷ load zs ws ∷ σP ∷ σQ ∷ []) (pr-1 us ws σP σQ iP iQ)
+    first-alike us ws σP σQ iP iQ = alike-pulls net D (2 ∷ 1 ∷ []) (load (P .ins) us ∷ load zs ws ∷ σP ∷ σQ ∷ []) (pairwise-before us ws σP σQ iP iQ)
 
     pub sequence : {us ws : Values} {c : ℕ} {a : Answer} → Then (P .outs) MP MQ us ws c a → (σP σQ : Load) → P .Idle σP → IdleQ σQ →
         Leads net D (cat (load (P .ins) us ∷ load zs ws ∷ σP ∷ σQ ∷ [])) os (Both-idle (P .Idle) IdleQ) c a
@@ -109,7 +105,7 @@ module _ (net : ℕ → Demand) (D : ℕ → Type 0) (P : Piece) (zs os : List �
     sequence (first-lost us ws c m) σP σQ iP iQ =
         go-from-on net D (cat (load (P .ins) us ∷ σP ∷ load zs ws ∷ σQ ∷ [])) (Bef us ws σP σQ) c (first-alike us ws σP σQ iP iQ)
         (go-wide-on net (Region P) D (cat (load (P .ins) us ∷ σP ∷ load zs ws ∷ σQ ∷ [])) c (Z .up-P)
-        (go-two-on net (Region P) (load (P .ins) us) σP c (load zs ws ∷ σQ ∷ []) (off-1 ws σQ iQ) (Z .serve-P us c none m σP iP)))
+        (go-two-on net (Region P) (load (P .ins) us) σP c (load zs ws ∷ σQ ∷ []) (off-first ws σQ iQ) (Z .serve-P us c none m σP iP)))
     sequence (first-done us ws rs c d a m f n) σP σQ iP iQ =
         let h = Z .serve-P us c (some rs) m σP iP in
         lead-after net D (Bef us ws σP σQ) (cat ((load (P .outs) rs ++ load zs ws) ∷ σQ ∷ h .0 ∷ [])) os (Both-idle (P .Idle) IdleQ) c d a
@@ -119,16 +115,16 @@ module _ (net : ℕ → Demand) (D : ℕ → Type 0) (P : Piece) (zs os : List �
             Goes net D (Bef us ws σP σQ) c (cat ((load (P .outs) rs ++ load zs ws) ∷ σQ ∷ σ′ ∷ []))
         second σ′ i′ g =
             subst (λ z. Goes net D (Bef us ws σP σQ) c z) (sym (app-assoc (load (P .outs) rs) (load zs ws) (cat (σQ ∷ σ′ ∷ []))))
-            (go-order net D (Bef us ws σP σQ) c (1 ∷ 3 ∷ 3 ∷ 3 ∷ []) (load (P .outs) rs ∷ σ′ ∷ load zs ws ∷ σQ ∷ []) (pr-2 rs ws σ′ σQ i′ iQ)
+            (go-order net D (Bef us ws σP σQ) c (1 ∷ 3 ∷ 3 ∷ 3 ∷ []) (load (P .outs) rs ∷ σ′ ∷ load zs ws ∷ σQ ∷ []) (pairwise-after rs ws σ′ σQ i′ iQ)
             (go-from net D (cat (load (P .ins) us ∷ σP ∷ load zs ws ∷ σQ ∷ [])) (Bef us ws σP σQ) (cat (load (P .outs) rs ∷ σ′ ∷ load zs ws ∷ σQ ∷ [])) c (first-alike us ws σP σQ iP iQ)
             (go-wide net (Region P) D (cat (load (P .ins) us ∷ σP ∷ load zs ws ∷ σQ ∷ [])) (cat (load (P .outs) rs ∷ σ′ ∷ load zs ws ∷ σQ ∷ [])) c (Z .up-P)
-            (go-two net (Region P) (load (P .ins) us) σP (load (P .outs) rs) σ′ c (load zs ws ∷ σQ ∷ []) (off-1 ws σQ iQ) g))))
+            (go-two net (Region P) (load (P .ins) us) σP (load (P .outs) rs) σ′ c (load zs ws ∷ σQ ∷ []) (off-first ws σQ iQ) g))))
 
         third : (σ′ : Load) → P .Idle σ′ → (a : Answer) → Leads net (Region PQ) (load (P .outs ++ zs) (rs ++ ws) ++ σQ) os IdleQ d a →
             Leads net D (cat ((load (P .outs) rs ++ load zs ws) ∷ σQ ∷ σ′ ∷ [])) os (Both-idle (P .Idle) IdleQ) d a
         third σ′ i′ none g =
             go-wide-on net (Region PQ) D (cat ((load (P .outs) rs ++ load zs ws) ∷ σQ ∷ σ′ ∷ [])) d (Z .up-Q)
-            (go-two-on net (Region PQ) (load (P .outs) rs ++ load zs ws) σQ d (σ′ ∷ []) (off-2 σ′ i′) (subst (λ z. Goes-on net (Region PQ) (z ++ σQ) d) (load-app (P .outs) zs rs ws f) g))
+            (go-two-on net (Region PQ) (load (P .outs) rs ++ load zs ws) σQ d (σ′ ∷ []) (off-second σ′ i′) (subst (λ z. Goes-on net (Region PQ) (z ++ σQ) d) (load-app (P .outs) zs rs ws f) g))
         third σ′ i′ (some vs) (τ, j, g) = (
           cat (σ′ ∷ τ ∷ []),
           (σ′, τ, i′, j, refl),
@@ -140,6 +136,6 @@ module _ (net : ℕ → Demand) (D : ℕ → Type 0) (P : Piece) (zs os : List �
             ((λ l o o′. Z .apart-P l (Z .neat-P .idle-own σ′ i′ l o′) (inl (Z .neat-Q .idle-own τ j l o)), tt), (tt, tt)),
           )
               (go-wide net (Region PQ) D (cat ((load (P .outs) rs ++ load zs ws) ∷ σQ ∷ σ′ ∷ [])) (cat (load os vs ∷ τ ∷ σ′ ∷ [])) d (Z .up-Q)
-              (go-two net (Region PQ) (load (P .outs) rs ++ load zs ws) σQ (load os vs) τ d (σ′ ∷ []) (off-2 σ′ i′)
+              (go-two net (Region PQ) (load (P .outs) rs ++ load zs ws) σQ (load os vs) τ d (σ′ ∷ []) (off-second σ′ i′)
               (subst (λ z. Goes net (Region PQ) (z ++ σQ) d (load os vs ++ τ)) (load-app (P .outs) zs rs ws f) g))),
         )

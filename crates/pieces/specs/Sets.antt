@@ -1,28 +1,26 @@
 -- One set pushed and one set taken, on the machine over a piece (network, Ends.antt): what push makes of the tape, and what take hands out.
 -- Assumes of the numbers only that push and take are no operators of the graph and that source and credit are no links of it.
-use Prim.Native.Nat.{ℕ, zero, suc, _<_, _≤_, _+_, _-_}
+use Prim.Native.Nat.{ℕ, _≤_, _+_, _-_}
 use mathlib.Core.Path.{_≡_, refl, sym, _∙_, ap, subst}
-use mathlib.Core.Logic.{_≢_, ite, if-pos, if-neg, Ne·symm, _⊎_, inl, inr, ⊎-elim}
+use mathlib.Core.Logic.{_≢_, _⊎_, inl, inr}
 use mathlib.Core.List.{List, [], _∷_, _++_}
-use mathlib.Core.Option.{Option, none, some}
-use lib.ListN.{length, length-append}
-use native.Mathlib.Decide.{ℕ-discrete, decLe}
+use mathlib.Core.Option.{some}
 use native.Mathlib.Omega.{arith}
 use Rattle.value.specs.declared.Value.{Value}
-use Rattle.network.specs.Values.{true-value, false-value, err-value}
-use Rattle.network.specs.Net.{Token, val, mark, Demand, ask, fire, halt, Links, head, tail, pop, append, pop-same, pop-other, Room, Able, appends, act, label}
+use Rattle.network.specs.Values.{true-value}
+use Rattle.network.specs.Net.{Token, val, Demand, ask, fire, halt, Links, head, tail, pop, append, pop-same, pop-other, Room, Able, act, label}
 use Rattle.network.specs.Ends.{draw, collect, push-demand, take-demand, machine}
 use Rattle.network.specs.Uses.{In}
-use Rattle.pieces.specs.Load.{Load, opt, set-link, set-same, set-other, set-ext, set-swap, put, put-app, put-off, put-set, put-swap, On, on-app, Clear, Within, app-assoc}
-use Rattle.pieces.specs.Goes.{one-place, Feasible, led-to, Steps, Long, Goes}
+use Rattle.pieces.specs.Load.{Load, set-link, set-same, set-other, set-ext, put, put-off, On}
+use Rattle.pieces.specs.Goes.{one-place}
 use Rattle.pieces.specs.Gate.{Distinct, emitted, emits, pop-set}
-use Rattle.pieces.specs.Piece.{Values, token-of, load, Piece, Region, Neat, Answer, Means, Serves, some-of, load-in, Fits}
+use Rattle.pieces.specs.Piece.{Values, load, Piece, Region, Neat, Means, Serves, some-of, load-in, Fits}
 
 abbrev pub tokens-of : List Value → List Token
 tokens-of [] = []
 tokens-of (v ∷ vs) = val v ∷ tokens-of vs
 
-abbrev onto : List ℕ → List Value → List (ℕ × Token)
+abbrev pub onto : List ℕ → List Value → List (ℕ × Token)
 onto [] vs = []
 onto (i ∷ is) [] = []
 onto (i ∷ is) (v ∷ vs) = (i, val v) ∷ onto is vs
@@ -37,26 +35,26 @@ abbrev pub Different : List ℕ → Type 0
 Different [] = Unit {0}
 Different (l ∷ ls) = (In l ls → ⊥) × Different ls
 
-pop-set1 : (l : ℕ) (t : Token) (xs : List Token) (q : Links) → pop l (set-link l (t ∷ xs) q) ≡ set-link l xs q
-pop-set1 l t xs q =
+pop-set-link : (l : ℕ) (t : Token) (xs : List Token) (q : Links) → pop l (set-link l (t ∷ xs) q) ≡ set-link l xs q
+pop-set-link l t xs q =
     sym (set-ext l xs q (pop l (set-link l (t ∷ xs) q)) (pop-same l (set-link l (t ∷ xs) q) ∙ ap tail (set-same l (t ∷ xs) q))
     (λ j ne. sym (pop-other l j (set-link l (t ∷ xs) q) ne ∙ set-other l j (t ∷ xs) q ne)))
 
-draw-does : (source : ℕ) (is : List ℕ) (vs : List Value) (rs : List Token) (b : Links) (k : List (ℕ × Token) → Demand) → Fits is vs →
-    (Able one-place (k (onto is vs)) (set-link source rs b) → Able one-place (draw source is k) (set-link source (tokens-of vs ++ rs) b))
+pub draw-does : (cap : ℕ → ℕ) (source : ℕ) (is : List ℕ) (vs : List Value) (rs : List Token) (b : Links) (k : List (ℕ × Token) → Demand) → Fits is vs →
+    (Able cap (k (onto is vs)) (set-link source rs b) → Able cap (draw source is k) (set-link source (tokens-of vs ++ rs) b))
     × (act (draw source is k) (set-link source (tokens-of vs ++ rs) b) ≡ act (k (onto is vs)) (set-link source rs b))
-draw-does source [] [] rs b k f = (λ o. o, refl)
-draw-does source [] (v ∷ vs) rs b k f = absurd f
-draw-does source (i ∷ is) [] rs b k f = absurd f
-draw-does source (i ∷ is) (v ∷ vs) rs b k f =
+draw-does cap source [] [] rs b k f = (λ o. o, refl)
+draw-does cap source [] (v ∷ vs) rs b k f = absurd f
+draw-does cap source (i ∷ is) [] rs b k f = absurd f
+draw-does cap source (i ∷ is) (v ∷ vs) rs b k f =
     let at : set-link source (val v ∷ (tokens-of vs ++ rs)) b source ≡ val v ∷ (tokens-of vs ++ rs) = set-same source (val v ∷ (tokens-of vs ++ rs)) b in
-    let po : pop source (set-link source (val v ∷ (tokens-of vs ++ rs)) b) ≡ set-link source (tokens-of vs ++ rs) b = pop-set1 source (val v) (tokens-of vs ++ rs) b in
-    let h = draw-does source is vs rs b (λ es. k ((i, val v) ∷ es)) f in
+    let po : pop source (set-link source (val v ∷ (tokens-of vs ++ rs)) b) ≡ set-link source (tokens-of vs ++ rs) b = pop-set-link source (val v) (tokens-of vs ++ rs) b in
+    let h = draw-does cap source is vs rs b (λ es. k ((i, val v) ∷ es)) f in
     let g : head (set-link source (val v ∷ (tokens-of vs ++ rs)) b source) ≡ val v = ap head at in (
       λ o. (
         rw at (omega arith),
-        subst (λ u. Able one-place (draw source is (λ es. k ((i, u) ∷ es))) (pop source (set-link source (val v ∷ (tokens-of vs ++ rs)) b))) (sym g)
-            (subst (λ q. Able one-place (draw source is (λ es. k ((i, val v) ∷ es))) q) (sym po) (h .0 o)),
+        subst (λ u. Able cap (draw source is (λ es. k ((i, u) ∷ es))) (pop source (set-link source (val v ∷ (tokens-of vs ++ rs)) b))) (sym g)
+            (subst (λ q. Able cap (draw source is (λ es. k ((i, val v) ∷ es))) q) (sym po) (h .0 o)),
       ),
       ap (λ u. act (draw source is (λ es. k ((i, u) ∷ es))) (pop source (set-link source (val v ∷ (tokens-of vs ++ rs)) b))) g
           ∙ ap (act (draw source is (λ es. k ((i, val v) ∷ es)))) po ∙ h .1,
@@ -75,7 +73,7 @@ collect-does (o ∷ os) (r ∷ rs) b k f d c =
     let Q = put (load os (some-of rs)) b in
     let at : set-link o (val r ∷ []) Q o ≡ val r ∷ [] = set-same o (val r ∷ []) Q in
     let po : pop o (set-link o (val r ∷ []) Q) ≡ Q
-    = pop-set1 o (val r) [] Q ∙ set-clear o Q (put-off o (load os (some-of rs)) b (λ i. d .0 (load-in os (some-of rs) o i)) ∙ c o (inl refl)) in
+    = pop-set-link o (val r) [] Q ∙ set-clear o Q (put-off o (load os (some-of rs)) b (λ i. d .0 (load-in os (some-of rs) o i)) ∙ c o (inl refl)) in
     let h = collect-does os rs b (λ ts. k (val r ∷ ts)) f (d .1) (λ l i. c l (inr i)) in
     let g : head (set-link o (val r ∷ []) Q o) ≡ val r = ap head at in (
       λ x. (
@@ -147,7 +145,7 @@ module _ (graph : ℕ → Demand) (p k source credit : ℕ) (P : Piece) (M : Mea
     push-set vs tape b f ci cc =
         let es = onto (P .ins) vs in
         let z : emitted es ≡ load (P .ins) (some-of vs) = emitted-onto (P .ins) vs f in
-        let h = draw-does source (P .ins) vs tape b (λ es. fire ((credit, val true-value) ∷ es) []) f in
+        let h = draw-does one-place source (P .ins) vs tape b (λ es. fire ((credit, val true-value) ∷ es) []) f in
         let dd : Distinct ((credit, some (val true-value)) ∷ emitted es)
         = subst (λ x. Distinct ((credit, some (val true-value)) ∷ x)) (sym z)
         (λ o. B .credit-off (inr (inl (load-in (P .ins) (some-of vs) credit o))), differ-dist (P .ins) (some-of vs) (B .ins-differ)) in

@@ -1,17 +1,15 @@
 -- The names handed to their users: a row of chains of copies, one chain for each name, as many ends as the name has users.
-use Prim.Native.Nat.{ℕ, zero, suc, _<_, _≤_, _+_}
-use mathlib.Core.Path.{_≡_, refl, sym, _∙_, ap, subst}
-use mathlib.Core.Logic.{_≢_, _⊎_, inl, inr, ⊎-elim}
+use Prim.Native.Nat.{ℕ, _+_}
+use mathlib.Core.Logic.{_⊎_, inl, inr, ⊎-elim}
 use mathlib.Core.List.{List, [], _∷_, _++_}
-use mathlib.Core.Option.{Option, none, some}
-use native.Mathlib.Omega.{arith}
+use mathlib.Core.Option.{some}
 use Rattle.value.specs.declared.Value.{Value}
-use Rattle.network.specs.Net.{Token, val, Demand}
+use Rattle.network.specs.Net.{val, Demand}
 use Rattle.network.specs.Uses.{In}
-use Rattle.pieces.specs.Load.{Load, On, on-app, Off, Within}
+use Rattle.pieces.specs.Load.{Load, On, on-app}
 use Rattle.pieces.specs.Goes.{Goes, go-stay, go-wide, go-by, go-first}
-use Rattle.pieces.specs.Piece.{Values, load, some-of, same-of, load-in, Fits}
-use Rattle.pieces.specs.Rows.{in-front, in-back, in-app, go-left}
+use Rattle.pieces.specs.Piece.{load, some-of, same-of, load-in, Fits}
+use Rattle.pieces.specs.Rows.{in-front, in-back, go-left}
 use Rattle.pieces.specs.Fan.{Chain, Chain-region, chain}
 
 -- a name's link, the inner links of its copies, its users' links

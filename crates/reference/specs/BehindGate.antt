@@ -1,11 +1,11 @@
 -- A graph with a gate behind its outputs: nothing comes to the gate and it rests, or it fires once by the table of rules.
-use Prim.Native.Nat.{ℕ, zero, suc, _+_, _*_, _-_, _≤_, _<_}
-use mathlib.Core.Path.{_≡_, refl, sym, _∙_, ap, subst}
-use mathlib.Core.Logic.{_≢_, _⊎_, inl, inr, ⊎-elim}
-use mathlib.Core.Bool.{Bool, true, false, _&&_}
-use mathlib.Core.List.{List, [], _∷_, _++_}
+use Prim.Native.Nat.{ℕ, zero, suc, _+_, _-_, _≤_, _<_}
+use mathlib.Core.Path.{_≡_, refl, _∙_, ap}
+use mathlib.Core.Logic.{_⊎_, inl, inr, ⊎-elim}
+use mathlib.Core.Bool.{true, false}
+use mathlib.Core.List.{List, [], _∷_}
 use mathlib.Core.Option.{Option, none, some}
-use lib.ListN.{length, replicate}
+use lib.ListN.{length}
 use native.Mathlib.Decide.{ℕ-discrete, decLt}
 use native.Mathlib.Omega.{arith}
 use Rattle.value.specs.declared.Value.{Value}
@@ -16,13 +16,13 @@ use Rattle.network.specs.Fill.{remembering}
 use Rattle.network.specs.Decide.{Decision, decide}
 use Rattle.network.specs.Uses.{In}
 use Rattle.pieces.specs.Load.{set-link, set-same, set-other}
-use Rattle.pieces.specs.Goes.{Steps, Long, stay, steps-then, steps-long}
+use Rattle.pieces.specs.Goes.{Steps, steps-then}
 use Rattle.pieces.specs.Sets.{Different}
 use Rattle.pieces.specs.Rows.{dec-in}
 use Rattle.graph.specs.Assembly.{Gate, const, oper, T, F, M, E, IC, Env, gateOutputs, gateOf, made, upFrom}
 use Rattle.graph.specs.Yields.{Values, Answer, kindOf, heldBy, waiting, TakesAll, given, absent, Fires, rests, fires, Gated, stops, ends}
-use Rattle.reference.specs.Plugged.{nowhere, registers, Somewhere}
-use Rattle.reference.specs.Plan.{tokens, Hold, Laid, Between, Plan, Own, Register as RegisterOf, Port, Zone, Control, Outside, Envs, Sound, Ready, Before, After, Leads, Serves, fewer, fewer-long, ready-same, hold-same}
+use Rattle.reference.specs.Plugged.{nowhere, Somewhere}
+use Rattle.reference.specs.Plan.{tokens, Hold, Between, Plan, Own, Register as RegisterOf, Zone, Control, Outside, Sound, Ready, Before, After, Leads, Serves, fewer, ready-same}
 use Rattle.reference.specs.NameRows.{Works}
 use Rattle.reference.specs.GateFiring.{emptied, emptied-here, emptied-there, gate-fires}
 
@@ -79,23 +79,27 @@ module _ (net : ℕ → Demand) (ins : List ℕ) (vs : List (Option Value)) (d :
   one-output : (k : Kind) (g : Register) → remembering k ≡ false → Somewhere net (made k g ins (some o) none none) → ((l : ℕ) → Between o 1 l → s l ≡ []) → decide k g (waiting vs) ≡ some d →
       Does 1 (d .give1 ∷ [])
   unfolding r upFrom
-  one-output k g plain at dry e =
-      (set-link o (tokens (d .give1)) r,
-      gate-fires net k g (some o) none none ins vs d s plain at few held differ void e t (fresh o (omega arith) (dry o (omega arith, omega arith))) tt tt,
-      ((set-same o (tokens (d .give1)) r, tt), λ l i. set-other o l (tokens (d .give1)) r (λ z. let q = low l i in omega arith) ∙ emptied-here ins s l i),
-      λ l n. set-other o l (tokens (d .give1)) r (λ z. n (inr (omega arith, omega arith))) ∙ emptied-there ins s l (λ i. n (inl i)))
+  one-output k g plain at dry e = (
+    set-link o (tokens (d .give1)) r,
+    gate-fires net k g (some o) none none ins vs d s plain at few held differ void e t (fresh o (omega arith) (dry o (omega arith, omega arith))) tt tt,
+    ((set-same o (tokens (d .give1)) r, tt), λ l i. set-other o l (tokens (d .give1)) r (λ z. let q = low l i in omega arith) ∙ emptied-here ins s l i),
+    λ l n. set-other o l (tokens (d .give1)) r (λ z. n (inr (omega arith, omega arith))) ∙ emptied-there ins s l (λ i. n (inl i)),
+  )
 
   two-outputs : (k : Kind) (g : Register) → remembering k ≡ false → Somewhere net (made k g ins (some o) none (some (o + 1))) → ((l : ℕ) → Between o 2 l → s l ≡ []) → decide k g (waiting vs) ≡ some d →
       Does 2 (d .give1 ∷ d .give3 ∷ [])
   unfolding r upFrom
-  two-outputs k g plain at dry e =
-      (q₂,
-      gate-fires net k g (some o) none (some (o + 1)) ins vs d s plain at few held differ void e t (fresh o (omega arith) (dry o (omega arith, omega arith))) tt
-          (set-other o (o + 1) (tokens (d .give1)) r (omega arith) ∙ fresh (o + 1) (omega arith) (dry (o + 1) (omega arith, omega arith))),
-      ((set-other (o + 1) o (tokens (d .give3)) q₁ (omega arith) ∙ set-same o (tokens (d .give1)) r, (ap q₂ up ∙ set-same (o + 1) (tokens (d .give3)) q₁, tt)),
-          λ l i. let q = low l i in set-other (o + 1) l (tokens (d .give3)) q₁ (omega arith) ∙ set-other o l (tokens (d .give1)) r (omega arith) ∙ emptied-here ins s l i),
-      λ l n. set-other (o + 1) l (tokens (d .give3)) q₁ (λ z. n (inr (omega arith, omega arith))) ∙ set-other o l (tokens (d .give1)) r (λ z. n (inr (omega arith, omega arith)))
-          ∙ emptied-there ins s l (λ i. n (inl i)))
+  two-outputs k g plain at dry e = (
+    q₂,
+    gate-fires net k g (some o) none (some (o + 1)) ins vs d s plain at few held differ void e t (fresh o (omega arith) (dry o (omega arith, omega arith))) tt
+        (set-other o (o + 1) (tokens (d .give1)) r (omega arith) ∙ fresh (o + 1) (omega arith) (dry (o + 1) (omega arith, omega arith))),
+    (
+      (set-other (o + 1) o (tokens (d .give3)) q₁ (omega arith) ∙ set-same o (tokens (d .give1)) r, (ap q₂ up ∙ set-same (o + 1) (tokens (d .give3)) q₁, tt)),
+      λ l i. let q = low l i in set-other (o + 1) l (tokens (d .give3)) q₁ (omega arith) ∙ set-other o l (tokens (d .give1)) r (omega arith) ∙ emptied-here ins s l i,
+    ),
+    λ l n. set-other (o + 1) l (tokens (d .give3)) q₁ (λ z. n (inr (omega arith, omega arith))) ∙ set-other o l (tokens (d .give1)) r (λ z. n (inr (omega arith, omega arith)))
+        ∙ emptied-there ins s l (λ i. n (inl i)),
+  )
     where
       q₁ : Links
       q₁ = set-link o (tokens (d .give1)) r
@@ -109,18 +113,25 @@ module _ (net : ℕ → Demand) (ins : List ℕ) (vs : List (Option Value)) (d :
   three-outputs : (k : Kind) (g : Register) → remembering k ≡ false → Somewhere net (made k g ins (some o) (some (o + 1)) (some (o + 2))) → ((l : ℕ) → Between o 3 l → s l ≡ []) →
       decide k g (waiting vs) ≡ some d → Does 3 (d .give1 ∷ d .give2 ∷ d .give3 ∷ [])
   unfolding r upFrom
-  three-outputs k g plain at dry e =
-      (q₃,
-      gate-fires net k g (some o) (some (o + 1)) (some (o + 2)) ins vs d s plain at few held differ void e t (fresh o (omega arith) (dry o (omega arith, omega arith)))
-          (set-other o (o + 1) (tokens (d .give1)) r (omega arith) ∙ fresh (o + 1) (omega arith) (dry (o + 1) (omega arith, omega arith)))
-          (set-other (o + 1) (o + 2) (tokens (d .give2)) q₁ (omega arith) ∙ set-other o (o + 2) (tokens (d .give1)) r (omega arith) ∙ fresh (o + 2) (omega arith) (dry (o + 2) (omega arith, omega arith))),
-      ((set-other (o + 2) o (tokens (d .give3)) q₂ (omega arith) ∙ set-other (o + 1) o (tokens (d .give2)) q₁ (omega arith) ∙ set-same o (tokens (d .give1)) r,
-          (ap q₃ up ∙ set-other (o + 2) (o + 1) (tokens (d .give3)) q₂ (omega arith) ∙ set-same (o + 1) (tokens (d .give2)) q₁,
-          (ap q₃ upper ∙ set-same (o + 2) (tokens (d .give3)) q₂, tt))),
-          λ l i. let q = low l i in set-other (o + 2) l (tokens (d .give3)) q₂ (omega arith) ∙ set-other (o + 1) l (tokens (d .give2)) q₁ (omega arith) ∙ set-other o l (tokens (d .give1)) r (omega arith)
-          ∙ emptied-here ins s l i),
-      λ l n. set-other (o + 2) l (tokens (d .give3)) q₂ (λ z. n (inr (omega arith, omega arith))) ∙ set-other (o + 1) l (tokens (d .give2)) q₁ (λ z. n (inr (omega arith, omega arith)))
-          ∙ set-other o l (tokens (d .give1)) r (λ z. n (inr (omega arith, omega arith))) ∙ emptied-there ins s l (λ i. n (inl i)))
+  three-outputs k g plain at dry e = (
+    q₃,
+    gate-fires net k g (some o) (some (o + 1)) (some (o + 2)) ins vs d s plain at few held differ void e t (fresh o (omega arith) (dry o (omega arith, omega arith)))
+        (set-other o (o + 1) (tokens (d .give1)) r (omega arith) ∙ fresh (o + 1) (omega arith) (dry (o + 1) (omega arith, omega arith)))
+        (set-other (o + 1) (o + 2) (tokens (d .give2)) q₁ (omega arith) ∙ set-other o (o + 2) (tokens (d .give1)) r (omega arith) ∙ fresh (o + 2) (omega arith) (dry (o + 2) (omega arith, omega arith))),
+    (
+      (
+        set-other (o + 2) o (tokens (d .give3)) q₂ (omega arith) ∙ set-other (o + 1) o (tokens (d .give2)) q₁ (omega arith) ∙ set-same o (tokens (d .give1)) r,
+        (
+          ap q₃ up ∙ set-other (o + 2) (o + 1) (tokens (d .give3)) q₂ (omega arith) ∙ set-same (o + 1) (tokens (d .give2)) q₁,
+          (ap q₃ upper ∙ set-same (o + 2) (tokens (d .give3)) q₂, tt),
+        ),
+      ),
+      λ l i. let q = low l i in set-other (o + 2) l (tokens (d .give3)) q₂ (omega arith) ∙ set-other (o + 1) l (tokens (d .give2)) q₁ (omega arith) ∙ set-other o l (tokens (d .give1)) r (omega arith)
+          ∙ emptied-here ins s l i,
+    ),
+    λ l n. set-other (o + 2) l (tokens (d .give3)) q₂ (λ z. n (inr (omega arith, omega arith))) ∙ set-other (o + 1) l (tokens (d .give2)) q₁ (λ z. n (inr (omega arith, omega arith)))
+        ∙ set-other o l (tokens (d .give1)) r (λ z. n (inr (omega arith, omega arith))) ∙ emptied-there ins s l (λ i. n (inl i)),
+  )
     where
       q₁ : Links
       q₁ = set-link o (tokens (d .give1)) r

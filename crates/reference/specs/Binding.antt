@@ -1,24 +1,24 @@
 -- A list of names bound to a list of links and to a list of values: each name of the list has its own link and value, the others keep
 -- theirs. Assumes as many links as names.
-use Prim.Native.Nat.{ℕ, zero, suc, _+_, _*_, _-_, _≤_, _<_}
+use Prim.Native.Nat.{ℕ, zero, suc, _-_, _≤_, _<_}
 use mathlib.Core.Path.{_≡_, refl, sym, _∙_, ap, subst}
-use mathlib.Core.Logic.{_≢_, _⊎_, inl, inr, ⊎-elim}
-use mathlib.Core.Bool.{Bool, true, false, cond, _||_, false≢true}
-use mathlib.Core.List.{List, [], _∷_, _++_}
+use mathlib.Core.Logic.{_⊎_, inl, inr, ⊎-elim}
+use mathlib.Core.Bool.{true, false, cond}
+use mathlib.Core.List.{List, [], _∷_}
 use mathlib.Core.Option.{Option, none, some}
-use lib.ListN.{length}
+use lib.ListN.{length, take}
 use lib.Dec.{eqb}
 use native.Mathlib.Decide.{ℕ-discrete}
 use native.Mathlib.Omega.{arith}
-use borrow.Author.Tests.{eqb-true, eqb-false, eq-eqb, ne-eqb}
+use borrow.Author.Tests.{eq-eqb, ne-eqb}
 use Rattle.value.specs.declared.Value.{Value}
 use Rattle.network.specs.Net.{Links}
 use Rattle.network.specs.Uses.{In}
 use Rattle.pieces.specs.Sets.{Different}
 use Rattle.graph.specs.Assembly.{Env, nameCount, memberOf, named}
-use Rattle.graph.specs.Yields.{Values, bound, present}
+use Rattle.graph.specs.Yields.{Values, bound, absent, present}
 use Rattle.graph.specs.Fit.{Different as DifferentNames}
-use Rattle.reference.specs.NameSets.{either, not-both, or-left, member-head, member-tail, member-cases, member-nil}
+use Rattle.reference.specs.NameSets.{either, not-both, member-head, member-tail, member-cases, member-nil}
 use Rattle.reference.specs.Plan.{tokens, Hold}
 
 not-in-tail : (y : ℕ) (ns : List ℕ) (x : ℕ) → memberOf (y ∷ ns) x ≡ false → (y ≡ x → ⊥) × (memberOf ns x ≡ false)
@@ -68,6 +68,13 @@ named-any (y ∷ ns) (l ∷ ls) env env′ x le e = go (λ h. named-any ns ls en
     go ih (no z) (inl w) = absurd (z w)
     go ih (no z) (inr w) = named-later y ns l ls env x z ∙ ih w ∙ sym (named-later y ns l ls env′ x z)
 
+-- Links beyond the names do not count.
+pub named-front : (ns ls : List ℕ) (env : Env) (x : ℕ) → length ns ≤ length ls → named ns (take (length ns) ls) env x ≡ named ns ls env x
+unfolding named
+named-front [] ls env x le = refl
+named-front (y ∷ ns) [] env x le = absurd (omega arith)
+named-front (y ∷ ns) (l ∷ ls) env x le = ap (λ w. cond (eqb y x) l w) (named-front ns ls env x (omega arith))
+
 pub named-differ : (ns ls : List ℕ) (env : Env) (x y : ℕ) → length ns ≤ length ls → Different ls → memberOf ns x ≡ true → memberOf ns y ≡ true → named ns ls env x ≡ named ns ls env y → x ≡ y
 named-differ [] ls env x y le d a b e = absurd (member-nil x a)
 named-differ (z ∷ ns) [] env x y le d a b e = absurd (omega arith)
@@ -107,11 +114,11 @@ names-small [] x d e = absurd (member-nil x e)
 names-small (y ∷ ns) x d e = ⊎-elim (λ (z : y ≡ x). subst (λ w. w < nameCount) z (d .0)) (λ (z : memberOf ns x ≡ true). names-small ns x (d .2) z) (member-cases y ns x e)
 
 -- Values.
-bound-here : (y : ℕ) (ns : List ℕ) (v : Option Value) (vs : List (Option Value)) (ρ : Values) → bound (y ∷ ns) (v ∷ vs) ρ y ≡ v
+pub bound-here : (y : ℕ) (ns : List ℕ) (v : Option Value) (vs : List (Option Value)) (ρ : Values) → bound (y ∷ ns) (v ∷ vs) ρ y ≡ v
 unfolding bound
 bound-here y ns v vs ρ = ap (λ b. cond b v (bound ns vs ρ y)) (eq-eqb y y refl)
 
-bound-later : (y : ℕ) (ns : List ℕ) (v : Option Value) (vs : List (Option Value)) (ρ : Values) (x : ℕ) → (y ≡ x → ⊥) → bound (y ∷ ns) (v ∷ vs) ρ x ≡ bound ns vs ρ x
+pub bound-later : (y : ℕ) (ns : List ℕ) (v : Option Value) (vs : List (Option Value)) (ρ : Values) (x : ℕ) → (y ≡ x → ⊥) → bound (y ∷ ns) (v ∷ vs) ρ x ≡ bound ns vs ρ x
 unfolding bound
 bound-later y ns v vs ρ x ne = ap (λ b. cond b v (bound ns vs ρ x)) (ne-eqb y x ne)
 
@@ -139,14 +146,6 @@ named-holds (y ∷ ns) (l ∷ ls) (v ∷ vs) env ρ s x le h e = go (λ m. named
     go ih (no z) (inl w) = absurd (z w)
     go ih (no z) (inr w) = ap s (named-later y ns l ls env x z) ∙ ih w ∙ ap tokens (sym (bound-later y ns v vs ρ x z))
 
--- Values beyond the names do not count.
-pub bound-front : (ns : List ℕ) (us : List Value) (zs : List (Option Value)) (ρ : Values) (x : ℕ) → length us ≡ length ns → bound ns (present us ++ zs) ρ x ≡ bound ns (present us) ρ x
-unfolding bound
-bound-front [] [] zs ρ x e = refl
-bound-front [] (u ∷ us) zs ρ x e = absurd (omega arith)
-bound-front (y ∷ ns) [] zs ρ x e = absurd (omega arith)
-bound-front (y ∷ ns) (u ∷ us) zs ρ x e = ap (λ w. cond (eqb y x) (some u) w) (bound-front ns us zs ρ x (omega arith))
-
 -- A name bound to present values has one.
 pub bound-present : (ns : List ℕ) (us : List Value) (ρ : Values) (x : ℕ) → length us ≡ length ns → memberOf ns x ≡ true → (v : Value) × (bound ns (present us) ρ x ≡ some v)
 bound-present [] us ρ x e m = absurd (member-nil x m)
@@ -158,3 +157,13 @@ bound-present (y ∷ ns) (u ∷ us) ρ x e m = go (λ k. bound-present ns us ρ 
     go ih (yes z) d = (u, ap (bound (y ∷ ns) (some u ∷ present us) ρ) (sym z) ∙ bound-here y ns (some u) (present us) ρ)
     go ih (no z) (inl w) = absurd (z w)
     go ih (no z) (inr w) = let r = ih w in (r .0, bound-later y ns (some u) (present us) ρ x z ∙ r .1)
+
+pub bound-absent : (ns : List ℕ) (k : ℕ) (ρ : Values) (x : ℕ) → length ns ≤ k → memberOf ns x ≡ true → bound ns (absent k) ρ x ≡ none
+bound-absent [] k ρ x le m = absurd (member-nil x m)
+bound-absent (y ∷ ns) zero ρ x le m = absurd (omega arith)
+bound-absent (y ∷ ns) (suc k) ρ x le m = go (λ w. bound-absent ns k ρ x (omega arith) w) (ℕ-discrete y x) (member-cases y ns x m)
+  where
+    go : (memberOf ns x ≡ true → bound ns (absent k) ρ x ≡ none) → Dec (y ≡ x) → (y ≡ x) ⊎ (memberOf ns x ≡ true) → bound (y ∷ ns) (none ∷ absent k) ρ x ≡ none
+    go ih (yes z) d = ap (bound (y ∷ ns) (none ∷ absent k) ρ) (sym z) ∙ bound-here y ns none (absent k) ρ
+    go ih (no z) (inl w) = absurd (z w)
+    go ih (no z) (inr w) = bound-later y ns none (absent k) ρ x z ∙ ih w

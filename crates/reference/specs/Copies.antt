@@ -2,16 +2,15 @@
 -- two-way copies"). Assumes that the copy's links are different.
 use Prim.Native.Nat.{ℕ, zero, suc, _+_, _*_, _-_, _≤_, _<_}
 use mathlib.Core.Path.{_≡_, refl, sym, _∙_, ap, subst}
-use mathlib.Core.Logic.{_≢_, _⊎_, inl, inr, ⊎-elim}
-use mathlib.Core.List.{List, [], _∷_, _++_}
-use mathlib.Core.Option.{Option, none, some}
+use mathlib.Core.Logic.{_≢_, _⊎_, inl, inr}
+use mathlib.Core.List.{[], _∷_}
+use mathlib.Core.Option.{some}
 use lib.ListN.{length, getD}
 use native.Mathlib.Decide.{ℕ-discrete}
 use native.Mathlib.Omega.{arith}
 use Rattle.value.specs.declared.Value.{Value}
-use Rattle.network.specs.Net.{Token, val, Demand, Links}
+use Rattle.network.specs.Net.{val, Demand, Links}
 use Rattle.network.specs.Uses.{In}
-use Rattle.pieces.specs.Load.{On}
 use Rattle.pieces.specs.Goes.{Steps, stay, steps-then}
 use Rattle.pieces.specs.Gate.{distinct-two}
 use Rattle.graph.specs.Assembly.{copyOf, chain, chainEnds, chainLinks, nth}
@@ -121,6 +120,24 @@ module _ (net : ℕ → Demand) where
           here j m (inl z) = m (inl z)
           here j m (inr (inl z)) = m (inr (omega arith, omega arith))
           here j m (inr (inr z)) = m (inr (omega arith, omega arith))
+
+  -- The same by the number of users.
+  pub fans-out : (k l n : ℕ) (v : Value) (s : Links) → 1 ≤ k → l < n → Has net (chain l n k) → s l ≡ val v ∷ [] → ((j : ℕ) → Between n (chainLinks k) j → s j ≡ []) →
+      (s′ : Links) × Steps net s 0 s′ × ((j : ℕ) → In j (chainEnds l n k) → s′ j ≡ val v ∷ [])
+      × ((j : ℕ) → (j ≡ l) ⊎ Between n (chainLinks k) j → (In j (chainEnds l n k) → ⊥) → s′ j ≡ [])
+      × ((j : ℕ) → j ≢ l → (Between n (chainLinks k) j → ⊥) → s′ j ≡ s j)
+  fans-out zero l n v s le lt h sl e = absurd (omega arith)
+  fans-out (suc k) l n v s le lt h sl e =
+      let w = chain-works k l n v s lt h sl (λ j b. e j (omega arith, omega arith)) in
+      (w .0, w .1, w .2 .0, λ j i m. w .2 .1 j (to j i) m, λ j p q. w .3 j (λ z. no-span j p q z))
+    where
+      to : (j : ℕ) → (j ≡ l) ⊎ Between n (chainLinks (suc k)) j → Span l n k j
+      to j (inl z) = inl z
+      to j (inr z) = inr (omega arith, omega arith)
+
+      no-span : (j : ℕ) → j ≢ l → (Between n (chainLinks (suc k)) j → ⊥) → Span l n k j → ⊥
+      no-span j p q (inl z) = p z
+      no-span j p q (inr z) = q (omega arith, omega arith)
 
 -- The ends of a chain of two or more users are links of the chain, different from each other, as many as users.
 pub ends-length : (k l n : ℕ) → length (chainEnds l n k) ≡ k

@@ -1,13 +1,13 @@
 -- One firing, link by link: what it emits is there, what it took is gone, every other link is as it was. Assumes that the links of the
 -- tokens taken are different from each other, and those of the tokens emitted too.
-use Prim.Native.Nat.{ℕ, zero, suc, _+_, _≤_, _<_}
-use mathlib.Core.Path.{_≡_, refl, sym, _∙_, ap, subst, fun-ext}
-use mathlib.Core.Logic.{_≢_, _⊎_, inl, inr, ⊎-elim}
-use mathlib.Core.List.{List, [], _∷_, _++_}
+use Prim.Native.Nat.{ℕ}
+use mathlib.Core.Path.{_≡_, sym, _∙_, ap, subst, fun-ext}
+use mathlib.Core.Logic.{inl, inr}
+use mathlib.Core.List.{List, [], _∷_}
 use mathlib.Core.Option.{Option, none, some}
 use native.Mathlib.Decide.{ℕ-discrete}
 use native.Mathlib.Omega.{arith}
-use Rattle.network.specs.Net.{Token, val, mark, Demand, Links, Able, act}
+use Rattle.network.specs.Net.{Token, Demand, Links, Able, act}
 use Rattle.pieces.specs.Load.{Load, opt, set-link, set-same, set-other, put, put-off, On}
 use Rattle.pieces.specs.LoadSets.{Mem, on-mem, put-mem, dec-on}
 use Rattle.pieces.specs.Goes.{one-place, Steps}

@@ -1,9 +1,9 @@
 -- A gate between inputs and outputs fires once: it takes every token that waits, and what the table of rules decides lies on its
 -- outputs. From the law that a decision carried out is the firing (network, Firing.antt).
-use Prim.Native.Nat.{ℕ, zero, suc, _+_, _*_, _-_, _≤_, _<_}
+use Prim.Native.Nat.{ℕ, _+_, _-_, _≤_, _<_}
 use mathlib.Core.Path.{_≡_, refl, sym, _∙_, ap, subst, fun-ext}
-use mathlib.Core.Logic.{_≢_, _⊎_, inl, inr, ⊎-elim}
-use mathlib.Core.Bool.{Bool, true, false, false≢true}
+use mathlib.Core.Logic.{inl, inr}
+use mathlib.Core.Bool.{Bool, false}
 use mathlib.Core.List.{List, [], _∷_, _++_}
 use mathlib.Core.Option.{Option, none, some}
 use lib.ListN.{length}
@@ -13,16 +13,16 @@ use Rattle.value.specs.declared.Value.{Value}
 use Rattle.network.specs.Rules.{Kind, Input, first, second, third, Register}
 use Rattle.network.specs.Net.{Token, val, Demand, Links, append, append-same, append-other, Room, Able, appends, act}
 use Rattle.network.specs.Fill.{Ports, emission, remembering, kept, fill}
-use Rattle.network.specs.Decide.{Taken, Decision, decide}
+use Rattle.network.specs.Decide.{Decision, decide}
 use Rattle.network.specs.Firing.{first-token, pop-if, gone, heads, Apart, performed, Roomy, Holds, Own-register, unregistered, fill-acts, able-fill}
 use Rattle.network.specs.Uses.{In}
 use Rattle.pieces.specs.Load.{set-link, set-same, set-other, set-ext}
 use Rattle.pieces.specs.Goes.{one-place, Steps}
 use Rattle.pieces.specs.Gate.{pop-set}
 use Rattle.pieces.specs.Sets.{Different}
-use Rattle.graph.specs.Assembly.{Operator, made, nth}
+use Rattle.graph.specs.Assembly.{made, nth}
 use Rattle.graph.specs.Yields.{waiting, isThere, TakesAll}
-use Rattle.reference.specs.Plugged.{nowhere, registers, link-of, portsOf, demandOf, Somewhere}
+use Rattle.reference.specs.Plugged.{nowhere, portsOf, Somewhere}
 use Rattle.reference.specs.Plan.{tokens, Hold}
 
 -- The inputs emptied.

@@ -11,3 +11,16 @@ pub mod Binding
 pub mod OneAfterAnother
 pub mod GateFiring
 pub mod BehindGate
+pub mod RingGates
+pub mod LoopLayout
+pub mod LoopGates
+pub mod LoopRounds
+pub mod LoopCore
+pub mod Bareness
+pub mod GraphLayout
+pub mod Schedule
+pub mod Bystanders
+pub mod WrittenOut
+pub mod WholeGraph
+pub mod Marks
+pub mod GraphBench

@@ -2,9 +2,9 @@
 -- Assumes that links of different names are different. Knows of no gate.
 use Prim.Native.Nat.{ℕ, zero, suc, _+_, _≤_, _<_}
 use mathlib.Core.Path.{_≡_, refl, sym, _∙_, ap, subst}
-use mathlib.Core.Logic.{_≢_, _⊎_, inl, inr, ⊎-elim}
+use mathlib.Core.Logic.{_≢_}
 use mathlib.Core.Bool.{Bool, true, false, cond, false≢true}
-use native.Mathlib.Decide.{decLt, ℕ-discrete}
+use native.Mathlib.Decide.{ℕ-discrete}
 use native.Mathlib.Omega.{arith}
 use Rattle.names.specs.Names.{Names}
 use Rattle.network.specs.Net.{Demand, Links}
@@ -52,25 +52,27 @@ module _ (net : ℕ → Demand) (f : Names) (e : ℕ) (F : ℕ → ℕ → Type 
       lower x lt ne = omega arith
 
       go : (s₁ : Links) → Worked k s s₁ → (b : Bool) → f k ≡ b → (s′ : Links) × Worked (suc k) s s′
-      go s₁ w false no-k =
-          (s₁,
-          record {
-            steps = fewer net s s₁ (tally e f k) (tally e f (suc k)) (let z : cond (f k) e 0 ≡ 0 = ap (λ b. cond b e 0) no-k in omega arith) (w .steps);
-            posts = λ x lt h. w .posts x (lower x lt (λ q. false≢true (sym no-k ∙ ap f (sym q) ∙ h))) h;
-            pres = λ x le h. w .pres x (omega arith) h;
-            rest = w .rest;
-          })
+      go s₁ w false no-k = (
+        s₁,
+        record {
+          steps = fewer net s s₁ (tally e f k) (tally e f (suc k)) (let z : cond (f k) e 0 ≡ 0 = ap (λ b. cond b e 0) no-k in omega arith) (w .steps);
+          posts = λ x lt h. w .posts x (lower x lt (λ q. false≢true (sym no-k ∙ ap f (sym q) ∙ h))) h;
+          pres = λ x le h. w .pres x (omega arith) h;
+          rest = w .rest;
+        },
+      )
       go s₁ w true is-k =
           let r : Works net (F k) e (Post k) s₁ = step k is-k s₁ (w .pres k (omega arith) is-k) in
-          let s₂ : Links = r .0 in
-          (s₂,
-          record {
-            steps = fewer net s s₂ (tally e f k + e) (tally e f (suc k)) (let z : cond (f k) e 0 ≡ e = ap (λ b. cond b e 0) is-k in omega arith)
-                (steps-then net s s₁ s₂ (tally e f k) e (w .steps) (r .1));
-            posts = λ x lt h. done s₁ s₂ w (r .2) (r .3) x lt h (ℕ-discrete x k);
-            pres = λ x le h. pre-same x s₁ s₂ (λ l i. r .3 l (λ j. apart x k l h is-k (λ q. far x le q) i j)) (w .pres x (omega arith) h);
-            rest = λ l n. r .3 l (n k is-k) ∙ w .rest l n;
-          })
+          let s₂ : Links = r .0 in (
+            s₂,
+            record {
+              steps = fewer net s s₂ (tally e f k + e) (tally e f (suc k)) (let z : cond (f k) e 0 ≡ e = ap (λ b. cond b e 0) is-k in omega arith)
+                  (steps-then net s s₁ s₂ (tally e f k) e (w .steps) (r .1));
+              posts = λ x lt h. done s₁ s₂ w (r .2) (r .3) x lt h (ℕ-discrete x k);
+              pres = λ x le h. pre-same x s₁ s₂ (λ l i. r .3 l (λ j. apart x k l h is-k (λ q. far x le q) i j)) (w .pres x (omega arith) h);
+              rest = λ l n. r .3 l (n k is-k) ∙ w .rest l n;
+            },
+          )
         where
           far : (x : ℕ) → suc k ≤ x → x ≡ k → ⊥
           far x le q = omega arith

@@ -1,18 +1,18 @@
 -- Laws of sets of names as the layout uses them: membership in unions and differences, and the rank of a name among the members,
 -- which is below their number, different for different names, and takes every value. Assumes nothing.
-use Prim.Native.Nat.{ℕ, zero, suc, _+_, _*_, _≤_, _<_}
+use Prim.Native.Nat.{ℕ, zero, suc, _+_, _≤_, _<_}
 use mathlib.Core.Path.{_≡_, refl, sym, _∙_, ap, subst}
 use mathlib.Core.Logic.{_≢_, _⊎_, inl, inr, ⊎-elim}
-use mathlib.Core.Bool.{Bool, true, false, cond, _&&_, _||_, not, false≢true}
+use mathlib.Core.Bool.{Bool, true, false, _&&_, _||_, not, false≢true}
 use mathlib.Core.List.{List, [], _∷_}
 use lib.Dec.{eqb}
 use native.Mathlib.Omega.{arith}
-use native.Mathlib.Decide.{ℕ-discrete, decLt}
-use borrow.Author.Tests.{eqb-true, eqb-false, eq-eqb, ne-eqb}
-use Rattle.names.specs.Names.{Names, union, common, without, sizeFrom, bit}
+use native.Mathlib.Decide.{decLt}
+use borrow.Author.Tests.{eqb-true, eq-eqb}
+use Rattle.names.specs.Names.{Names, without, sizeFrom, membersFrom, later, put, bit}
 use Rattle.names.proofs.Counts.{sizeFrom-suc, sizeFrom-mono, Member, member-of}
-use Rattle.network.specs.Uses.{In}
-use Rattle.graph.specs.Assembly.{nameCount, memberOf, rank, total}
+use Rattle.graph.specs.Assembly.{nameCount, memberOf, rank, total, listed}
+use Rattle.graph.specs.Fit.{Different as DifferentNames}
 
 -- Truths.
 pub either : (b : Bool) → (b ≡ true) ⊎ (b ≡ false)
@@ -104,3 +104,63 @@ rank-differs f x y e k h = go (decLt x y) (decLt y x)
 pub rank-onto : (f : Names) (k : ℕ) → k < total f → (x : ℕ) × (x < nameCount) × (f x ≡ true) × (rank f x ≡ k)
 unfolding total rank
 rank-onto f k h = let m : Member nameCount 0 k f = member-of nameCount 0 k f h in (m .place, m .inside, m .is-in, m .rank)
+
+-- The members of a set as a list.
+members-have : (k at : ℕ) (f : Names) (x : ℕ) → x < k → f x ≡ true → memberOf (membersFrom k at f) (at + x) ≡ true
+unfolding membersFrom
+members-have zero at f x lt e = absurd (omega arith)
+members-have (suc k) at f zero lt e =
+    let z : at + 0 ≡ at = omega arith in
+    rw (z, e) (member-head at (membersFrom k (suc at) (later f)))
+members-have (suc k) at f (suc x) lt e =
+    let z : at + suc x ≡ suc at + x = omega arith in
+    rw z (go (f 0) (members-have k (suc at) (later f) x (omega arith) e))
+  where
+    go : (b : Bool) → memberOf (membersFrom k (suc at) (later f)) (suc at + x) ≡ true → memberOf (put b at (membersFrom k (suc at) (later f))) (suc at + x) ≡ true
+    go true h = member-tail at (membersFrom k (suc at) (later f)) (suc at + x) h
+    go false h = h
+
+members-only : (k at : ℕ) (f : Names) (y : ℕ) → memberOf (membersFrom k at f) y ≡ true → (x : ℕ) × (y ≡ at + x) × (x < k) × (f x ≡ true)
+unfolding membersFrom
+members-only zero at f y e = absurd (member-nil y e)
+members-only (suc k) at f y e = go (f 0) refl e (λ h. members-only k (suc at) (later f) y h)
+  where
+    Found : Type 0
+    Found = (x : ℕ) × (y ≡ at + x) × (x < suc k) × (f x ≡ true)
+
+    later-found : (x : ℕ) × (y ≡ suc at + x) × (x < k) × (later f x ≡ true) → Found
+    later-found (x, a, b, c) = (suc x, omega arith, omega arith, c)
+
+    go : (b : Bool) → f 0 ≡ b → memberOf (put b at (membersFrom k (suc at) (later f))) y ≡ true →
+        (memberOf (membersFrom k (suc at) (later f)) y ≡ true → (x : ℕ) × (y ≡ suc at + x) × (x < k) × (later f x ≡ true)) → Found
+    go true z h ih = ⊎-elim (λ (w : at ≡ y). (0, omega arith, omega arith, z)) (λ (w : memberOf (membersFrom k (suc at) (later f)) y ≡ true). later-found (ih w)) (member-cases at (membersFrom k (suc at) (later f)) y h)
+    go false z h ih = later-found (ih h)
+
+pub listed-has : (f : Names) (x : ℕ) → x < nameCount → f x ≡ true → memberOf (listed f) x ≡ true
+unfolding listed
+listed-has f x lt e = let z : 0 + x ≡ x = omega arith in subst (λ y. memberOf (membersFrom nameCount 0 f) y ≡ true) z (members-have nameCount 0 f x lt e)
+
+pub listed-only : (f : Names) (x : ℕ) → memberOf (listed f) x ≡ true → f x ≡ true
+unfolding listed
+listed-only f x e =
+    let m = members-only nameCount 0 f x e in
+    let z : m .0 ≡ x = omega (arith, m .1) in
+    subst (λ y. f y ≡ true) z (m .3)
+
+-- No name stands twice in it.
+members-differ : (k at : ℕ) (f : Names) → at + k ≤ nameCount → DifferentNames (membersFrom k at f)
+unfolding membersFrom
+members-differ zero at f le = tt
+members-differ (suc k) at f le = go (f 0) (members-differ k (suc at) (later f) (omega arith))
+  where
+    fresh : (b : Bool) → memberOf (membersFrom k (suc at) (later f)) at ≡ b → b ≡ false
+    fresh true h = let m = members-only k (suc at) (later f) at h in absurd (omega (arith, m .1))
+    fresh false h = refl
+
+    go : (b : Bool) → DifferentNames (membersFrom k (suc at) (later f)) → DifferentNames (put b at (membersFrom k (suc at) (later f)))
+    go true d = (omega arith, fresh (memberOf (membersFrom k (suc at) (later f)) at) refl, d)
+    go false d = d
+
+pub listed-differ : (f : Names) → DifferentNames (listed f)
+unfolding listed
+listed-differ f = members-differ nameCount 0 f (omega arith)

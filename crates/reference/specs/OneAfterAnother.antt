@@ -1,25 +1,25 @@
 -- One graph after another, its outputs bound to names of the second: the copies of the names that both use, then the first, then the
 -- second. Every bound name is used by the second, so nothing stays behind on an output of the first.
-use Prim.Native.Nat.{ℕ, zero, suc, _+_, _*_, _-_, _≤_, _<_}
+use Prim.Native.Nat.{ℕ, _+_, _-_, _≤_, _<_}
 use mathlib.Core.Path.{_≡_, refl, sym, _∙_, ap, subst}
-use mathlib.Core.Logic.{_≢_, _⊎_, inl, inr, ⊎-elim}
-use mathlib.Core.Bool.{Bool, true, false, _&&_}
-use mathlib.Core.List.{List, [], _∷_, _++_}
+use mathlib.Core.Logic.{_⊎_, inl, inr, ⊎-elim}
+use mathlib.Core.Bool.{true, false}
+use mathlib.Core.List.{List, []}
 use mathlib.Core.Option.{Option, none, some}
 use lib.ListN.{length}
 use native.Mathlib.Omega.{arith}
 use Rattle.value.specs.declared.Value.{Value}
-use Rattle.names.specs.Names.{Names, union, common, without}
+use Rattle.names.specs.Names.{Names, union, without}
 use Rattle.network.specs.Net.{Demand, Links}
 use Rattle.network.specs.Uses.{In}
-use Rattle.pieces.specs.Goes.{Steps, Long, steps-then, steps-long}
+use Rattle.pieces.specs.Goes.{Steps, steps-then, steps-long}
 use Rattle.pieces.specs.Rows.{dec-in}
-use Rattle.graph.specs.Assembly.{Env, nameCount, memberOf, named, sharedLinks, firstUse, secondUse, sharing}
+use Rattle.graph.specs.Assembly.{Env, nameCount, memberOf, named, sharedLinks, secondUse, sharing}
 use Rattle.graph.specs.Yields.{Values, Answer, bound, Sequel, stops, goes-on}
 use Rattle.graph.specs.Fit.{Different as DifferentNames}
 use Rattle.reference.specs.NameSets.{either, or-right, without-in, without-here, without-there}
-use Rattle.reference.specs.Plugged.{nowhere, registers, Has}
-use Rattle.reference.specs.Plan.{tokens, Hold, Laid, Between, Plan, Own, Register, Port, Zone, Control, Outside, Envs, Sound, Ready, Before, After, Leads, Serves, fewer, fewer-long, ready-same}
+use Rattle.reference.specs.Plugged.{nowhere, Has}
+use Rattle.reference.specs.Plan.{tokens, Plan, Own, Register, Port, Zone, Control, Outside, Envs, Sound, Ready, Before, After, Leads, Serves, fewer, fewer-long, ready-same}
 use Rattle.reference.specs.Sharing.{Split, envs-second}
 use Rattle.reference.specs.Parts as Parts
 use Rattle.reference.specs.SideBySide as Copied

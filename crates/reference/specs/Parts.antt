@@ -1,20 +1,18 @@
 -- Two parts of a graph laid out one behind the other, with the copies of the names that both use before them: where the links of the
 -- parts lie in the whole. Both users' links are different, and each link of the whole is one of a part or the link of a shared name.
-use Prim.Native.Nat.{ℕ, zero, suc, _+_, _*_, _-_, _≤_, _<_}
-use mathlib.Core.Path.{_≡_, refl, sym, _∙_, ap, subst}
-use mathlib.Core.Logic.{_≢_, _⊎_, inl, inr, ⊎-elim}
-use mathlib.Core.Bool.{Bool, true, false, cond, _&&_, _||_, not, false≢true}
-use mathlib.Core.List.{List, [], _∷_, _++_}
-use mathlib.Core.Option.{Option, none, some}
-use native.Mathlib.Decide.{ℕ-discrete, decLt}
+use Prim.Native.Nat.{ℕ, _+_, _-_, _≤_, _<_}
+use mathlib.Core.Path.{_≡_, sym, _∙_, subst}
+use mathlib.Core.Logic.{_⊎_, inl, inr, ⊎-elim}
+use mathlib.Core.Bool.{true, false, _&&_}
+use mathlib.Core.List.{List}
+use native.Mathlib.Decide.{decLt}
 use native.Mathlib.Omega.{arith}
-use Rattle.names.specs.Names.{Names, union, common}
-use Rattle.network.specs.Uses.{In}
+use Rattle.names.specs.Names.{Names, union}
 use Rattle.graph.specs.Assembly.{Env, sharedLinks, firstUse, secondUse}
 use Rattle.reference.specs.NameSets.{either, or-left, or-right, or-cases, and-left, and-right}
-use Rattle.reference.specs.Plugged.{nowhere, registers}
-use Rattle.reference.specs.Plan.{Between, Plan, Own, Register, Port, Zone, Control, Outside, Envs}
-use Rattle.reference.specs.Sharing.{Shared, first-alone, second-alone, Spot, first-spot, second-spot, envs-first, envs-second, uses-apart, first-left, second-left, copies-used, first-shared}
+use Rattle.reference.specs.Plugged.{nowhere}
+use Rattle.reference.specs.Plan.{Plan, Register, Zone, Outside, Envs}
+use Rattle.reference.specs.Sharing.{Shared, first-alone, second-alone, Spot, first-spot, second-spot, envs-first, envs-second, uses-apart, first-left, second-left, copies-used}
 
 module _ (f g : Names) (n ka kb : ℕ) (env : Env) (oa ob : List ℕ) (RA RB : ℕ → ℕ → Type 0) where
   abbrev sh : ℕ
@@ -155,7 +153,3 @@ module _ (f g : Names) (n ka kb : ℕ) (env : Env) (oa ob : List ℕ) (RA RB : �
       pub nowhere-outside-first : Outside First nowhere
       nowhere-outside-first =
           record { not-own = λ a. omega arith; not-register = λ a. omega arith; not-port = λ p. let q = first-low nowhere (inr p) in omega arith }
-
-      pub nowhere-outside-second : Outside Second nowhere
-      nowhere-outside-second =
-          record { not-own = λ a. omega arith; not-register = λ a. omega arith; not-port = λ p. let q = second-low nowhere (inr p) in omega arith }

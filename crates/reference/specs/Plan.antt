@@ -2,21 +2,21 @@
 -- interval, and its outputs; the registers of its loops' gates lie as far above them as `registers` says.
 -- Between two sets every own link is empty, except that each gate of a loop is ready: it has never fired and its control link is empty, or it
 -- has fired and its control link holds just one false. All is said of states link by link; no order of links or operators appears.
-use Prim.Native.Nat.{ℕ, zero, suc, _+_, _≤_, _<_}
-use mathlib.Core.Path.{_≡_, refl, sym, _∙_, ap, subst}
-use mathlib.Core.Logic.{_≢_, _⊎_, inl, inr, ⊎-elim}
-use mathlib.Core.Bool.{Bool, true, false}
+use Prim.Native.Nat.{ℕ, suc, _+_, _≤_, _<_}
+use mathlib.Core.Path.{_≡_, refl, _∙_, ap}
+use mathlib.Core.Logic.{_⊎_, inl, inr}
+use mathlib.Core.Bool.{true}
 use mathlib.Core.List.{List, [], _∷_, _++_}
 use mathlib.Core.Option.{Option, none, some}
 use lib.ListN.{length}
 use native.Mathlib.Omega.{arith}
 use Rattle.value.specs.declared.Value.{Value}
 use Rattle.names.specs.Names.{Names}
-use Rattle.network.specs.Values.{true-value, false-value}
+use Rattle.network.specs.Values.{false-value}
 use Rattle.network.specs.Net.{Token, val, mark, Demand, Links}
 use Rattle.network.specs.Uses.{In}
 use Rattle.pieces.specs.Load.{opt}
-use Rattle.pieces.specs.Goes.{Steps, Long, stay, steps-then, steps-long}
+use Rattle.pieces.specs.Goes.{Steps, Long}
 use Rattle.pieces.specs.Piece.{token-of}
 use Rattle.pieces.specs.Sets.{Different}
 use Rattle.graph.specs.Assembly.{Env, nameCount}
@@ -138,3 +138,9 @@ hold-length [] [] s h = refl
 hold-length [] (v ∷ vs) s h = absurd h
 hold-length (l ∷ ls) [] s h = absurd h
 hold-length (l ∷ ls) (v ∷ vs) s h = ap suc (hold-length ls vs s (h .1))
+
+pub hold-parts : (ls ms : List ℕ) (vs ws : List (Option Value)) (s : Links) → length vs ≡ length ls → Hold (ls ++ ms) (vs ++ ws) s → Hold ls vs s × Hold ms ws s
+hold-parts [] ms [] ws s e h = (tt, h)
+hold-parts [] ms (v ∷ vs) ws s e h = absurd (omega arith)
+hold-parts (l ∷ ls) ms [] ws s e h = absurd (omega arith)
+hold-parts (l ∷ ls) ms (v ∷ vs) ws s e h = let r = hold-parts ls ms vs ws s (omega arith) (h .1) in ((h .0, r .0), r .1)

@@ -1,21 +1,21 @@
 -- Sharing between two users: where the links of each lie, and the schedule of the copies. From the values of all names to those of the
 -- first user's names on its links and those of the second's on its own; a name that both use passes one copy, absent values none.
-use Prim.Native.Nat.{ℕ, zero, suc, _+_, _*_, _-_, _≤_, _<_, _/_, _%_, zero-le}
+use Prim.Native.Nat.{ℕ, _+_, _*_, _-_, _≤_, _<_, _/_, _%_, zero-le}
 use mathlib.Core.Path.{_≡_, refl, sym, _∙_, ap, subst}
-use mathlib.Core.Logic.{_≢_, _⊎_, inl, inr, ⊎-elim}
-use mathlib.Core.Bool.{Bool, true, false, cond, _&&_, _||_, not, false≢true}
-use mathlib.Core.List.{List, [], _∷_, _++_}
+use mathlib.Core.Logic.{_≢_, _⊎_, inl, inr}
+use mathlib.Core.Bool.{true, false, cond, _&&_}
+use mathlib.Core.List.{[]}
 use mathlib.Core.Option.{Option, none, some}
 use native.Mathlib.Decide.{ℕ-discrete}
 use native.Mathlib.Omega.{arith}
 use Rattle.value.specs.declared.Value.{Value}
 use Rattle.names.specs.Names.{Names, union, common}
-use Rattle.network.specs.Net.{Token, val, Demand, Links}
+use Rattle.network.specs.Net.{Demand, Links}
 use Rattle.pieces.specs.Goes.{Steps, stay}
-use Rattle.graph.specs.Assembly.{Env, nameCount, rank, total, sharedLinks, firstUse, secondUse, sharing, copyOf}
+use Rattle.graph.specs.Assembly.{Env, nameCount, rank, total, sharedLinks, firstUse, secondUse, sharing}
 use Rattle.graph.specs.Yields.{Values}
-use Rattle.reference.specs.NameSets.{either, and-left, and-right, and-both, or-left, or-right, or-cases, not-both, rank-total, rank-differs, rank-onto}
-use Rattle.reference.specs.Plugged.{Somewhere, Has, copy-of-name}
+use Rattle.reference.specs.NameSets.{either, and-left, and-both, or-left, or-right, not-both, rank-total, rank-differs, rank-onto}
+use Rattle.reference.specs.Plugged.{Somewhere, Has, each-copy}
 use Rattle.reference.specs.Plan.{tokens, Laid, Between, Envs, fewer}
 use Rattle.reference.specs.NameRows.{Works, tally, row-works}
 use Rattle.reference.specs.Copies.{copy-fires}
@@ -62,9 +62,6 @@ module _ (f g : Names) (n : ℕ) (env : Env) where
 
     shared-first : (x : ℕ) → Shared x → f x ≡ true
     shared-first x e = and-left (f x) (g x) e
-
-    shared-second : (x : ℕ) → Shared x → g x ≡ true
-    shared-second x e = and-right (f x) (g x) e
 
     rank-small : (x : ℕ) → Shared x → (2 * rank (common f g) x + 2 ≤ sh)
     rank-small x e =
@@ -173,15 +170,16 @@ module _ (f g : Names) (n : ℕ) (env : Env) where
     pub split : (net : ℕ → Demand) (ρ : Values) (s : Links) → Has net (sharing f g n env) → Laid (union f g) env ρ s → ((l : ℕ) → Between n sh l → s l ≡ []) →
         (s′ : Links) × Split net ρ s s′
     split net ρ s H laid dry =
-        let r = row-works net (common f g) 0 F Pre Post apart pre-same post-same step nameCount (λ x e. E .small x (in-first x (shared-first x e))) s pres in
-        (r .0,
-        record {
-          steps = fewer net s (r .0) (tally 0 (common f g) nameCount) 0 zero-le (r .1);
-          first = λ x a. at-first (r .0) (r .2) (r .3) x a (either (f x && g x));
-          second = λ x a. at-second (r .0) (r .2) (r .3) x a (either (f x && g x));
-          emptied = λ x e. r .2 x e .0;
-          same = λ l no-copy no-name. r .3 l (λ x e i. away l no-copy no-name x e i);
-        })
+        let r = row-works net (common f g) 0 F Pre Post apart pre-same post-same step nameCount (λ x e. E .small x (in-first x (shared-first x e))) s pres in (
+          r .0,
+          record {
+            steps = fewer net s (r .0) (tally 0 (common f g) nameCount) 0 zero-le (r .1);
+            first = λ x a. at-first (r .0) (r .2) (r .3) x a (either (f x && g x));
+            second = λ x a. at-second (r .0) (r .2) (r .3) x a (either (f x && g x));
+            emptied = λ x e. r .2 x e .0;
+            same = λ l no-copy no-name. r .3 l (λ x e i. away l no-copy no-name x e i);
+          },
+        )
       where
         F : ℕ → ℕ → Type 0
         F x l = (l ≡ env x) ⊎ ((l ≡ e₁ x) ⊎ (l ≡ e₂ x))
@@ -239,7 +237,7 @@ module _ (f g : Names) (n : ℕ) (env : Env) where
                 let u = E .below x (in-first x (shared-first x e)) in
                 let p = first-shared x e in
                 let q = second-shared x e in
-                let w = copy-fires net (env x) (e₁ x) (e₂ x) v s (copy-of-name net f g n env H x (E .small x (in-first x (shared-first x e))) e) (omega arith) (omega arith) (omega arith) a b c in
+                let w = copy-fires net (env x) (e₁ x) (e₂ x) v s (each-copy (Somewhere net) f g n env H x (E .small x (in-first x (shared-first x e))) e) (omega arith) (omega arith) (omega arith) a b c in
                 (w .0, fewer net s (w .0) 1 0 (omega arith) (w .1), w .2, w .3)
 
         pres : (x : ℕ) → Shared x → Pre x s

@@ -1,24 +1,23 @@
 -- Two graphs side by side: the copies of the names that both use, then the first, then the second.
-use Prim.Native.Nat.{ℕ, zero, suc, _+_, _*_, _-_, _≤_, _<_}
-use mathlib.Core.Path.{_≡_, refl, sym, _∙_, ap, subst}
-use mathlib.Core.Logic.{_≢_, _⊎_, inl, inr, ⊎-elim}
-use mathlib.Core.Bool.{Bool, true, false, _&&_}
+use Prim.Native.Nat.{ℕ, _+_, _-_, _≤_}
+use mathlib.Core.Path.{_≡_, refl, _∙_, ap}
+use mathlib.Core.Logic.{_⊎_, inl, inr, ⊎-elim}
 use mathlib.Core.List.{List, [], _∷_, _++_}
 use mathlib.Core.Option.{Option, none, some}
 use native.Mathlib.Omega.{arith}
 use Rattle.value.specs.declared.Value.{Value}
-use Rattle.names.specs.Names.{Names, union, common}
+use Rattle.names.specs.Names.{Names, union}
 use Rattle.network.specs.Net.{Demand, Links}
 use Rattle.network.specs.Uses.{In}
-use Rattle.pieces.specs.Goes.{Steps, Long, steps-then, steps-long}
+use Rattle.pieces.specs.Goes.{Steps, steps-then, steps-long}
 use Rattle.pieces.specs.Rows.{in-front, in-back, in-app}
 use Rattle.pieces.specs.Sets.{Different}
-use Rattle.graph.specs.Assembly.{Env, sharedLinks, firstUse, secondUse, sharing}
+use Rattle.graph.specs.Assembly.{Env, sharedLinks, secondUse, sharing}
 use Rattle.graph.specs.Yields.{Values, Answer, Beside, stops, goes-on, before}
 use Rattle.reference.specs.NameSets.{and-left, or-left}
-use Rattle.reference.specs.Plugged.{nowhere, registers, Has}
-use Rattle.reference.specs.Plan.{Hold, Laid, Between, Plan, Own, Register, Port, Zone, Control, Outside, Envs, Sound, Ready, Before, After, Leads, Serves, fewer, fewer-long, ready-same, hold-same, hold-both}
-use Rattle.reference.specs.Sharing.{Shared, Split, split}
+use Rattle.reference.specs.Plugged.{nowhere, Has}
+use Rattle.reference.specs.Plan.{Hold, Between, Plan, Own, Register, Zone, Control, Outside, Envs, Sound, Ready, Before, After, Leads, Serves, fewer, fewer-long, ready-same, hold-same, hold-both}
+use Rattle.reference.specs.Sharing.{Split, split}
 use Rattle.reference.specs.Parts as Parts
 
 pub different-app : (xs ys : List ℕ) → Different xs → Different ys → ((l : ℕ) → In l xs → In l ys → ⊥) → Different (xs ++ ys)

@@ -1,6 +1,6 @@
 -- How much of a reference is left after a run: of each event what the run has not done, and in all at least the difference in length.
 -- Facts about lists of events alone (document 02's bound on rounds and its counts of firings rest on the same two laws).
-use Prim.Native.Nat.{ℕ, zero, suc, _<_, _≤_, _+_, _-_}
+use Prim.Native.Nat.{ℕ, suc, _<_, _≤_, _+_, _-_}
 use mathlib.Core.Path.{_≡_, refl, sym, _∙_, ap}
 use mathlib.Core.Logic.{_≢_, ite, if-neg, if-pos}
 use mathlib.Core.List.{List, [], _∷_, _++_}
