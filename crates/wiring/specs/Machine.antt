@@ -1,26 +1,32 @@
 -- The network of a graph's operators, the i-th of the list under the number i, with push and take beside them (network/specs/Ends): of every link
--- at most one of them takes and at most one puts, so that any two firings commute (network/specs/Commute). Register links are those of
--- reference/specs/Plugged. Assumes a fit graph whose names have different links below its own, all links below the absent one, and a source
--- and a credit link that are none of them.
+-- at most one of them takes and at most one puts, so that any two firings commute (network/specs/Commute): the maker's debt of pieces/specs/Wiring,
+-- and the bench of the schedule lemma (reference/specs/GraphBench) with this network. Assumes a fit graph whose names have different links below
+-- its own, all links below the absent one, and a source and a credit link that are none of them and no register links.
 use Prim.Native.Nat.{ℕ, zero, suc, _+_, _*_, _-_, _≤_, _<_}
 use mathlib.Core.Path.{_≡_, refl, sym, ap, _∙_, subst}
 use mathlib.Core.Logic.{_≢_, _⊎_, inl, inr}
 use mathlib.Core.Bool.{Bool, true, false}
 use mathlib.Core.List.{List, [], _∷_, _++_}
 use mathlib.Core.Option.{Option, none, some}
+use lib.ListN.{length}
 use native.Mathlib.Omega.{arith}
 use Rattle.network.specs.Rules.{Input, first as input₁, second as input₂, third as input₃}
 use Rattle.network.specs.Net.{Demand, halt}
 use Rattle.network.specs.Fill.{Ports, input}
 use Rattle.network.specs.Commute.{Free}
-use Rattle.network.specs.Wired.{Uses}
+use Rattle.network.specs.Wired.{Uses, never-asks, never-emits}
 use Rattle.network.specs.Ends.{machine}
-use Rattle.network.specs.Uses.{In, inputs, has-input, Takes-from, Puts-onto, fill-uses, Apart-ends, machine-free}
+use Rattle.network.specs.Uses.{In, inputs, has-input, Takes-from, Puts-onto, fill-uses}
 use Rattle.pieces.specs.Rows.{in-front, in-back}
+use Rattle.pieces.specs.Sets.{Bench}
+use Rattle.pieces.specs.Wiring.{Wiring, wiring-free}
 use Rattle.graph.specs.Assembly.{Graph, free, Env, Operator, linksOf, outputs, operatorsOf}
 use Rattle.graph.specs.Fit.{Fit}
 use Rattle.reference.specs.Plan.{Between, Envs}
 use Rattle.reference.specs.Plugged.{nowhere, registers, link-of, portsOf, demandOf, Numbered, Has, numbered-has}
+use Rattle.reference.specs.Bystanders.{Unused}
+use Rattle.reference.specs.WholeGraph.{whole, yields}
+use Rattle.reference.specs.GraphBench.{ends-apart, graph-bench}
 use Rattle.wiring.specs.Links.{optional, inputLinks, outputLinks}
 use Rattle.wiring.specs.Wiring.{Own, Port, Zone, inputsAt, outputsAt, outputs-zone, Wired, wired}
 use Rattle.wiring.specs.Ports.{port, Linked, Ported, All}
@@ -40,6 +46,12 @@ numbered-from net m (o ∷ os) h =
 -- It has them all, each under its position.
 pub net-has : (os : List Operator) → Has (netOf os) os
 net-has os = numbered-has (netOf os) 0 os (numbered-from (netOf os) 0 os (λ i. ap (netOf os) (omega arith)))
+
+-- A number past the last is no operator.
+pub net-past : (os : List Operator) (i : ℕ) → length os ≤ i → netOf os i ≡ halt
+net-past [] i h = refl
+net-past (o ∷ os) zero h = absurd (omega arith)
+net-past (o ∷ os) (suc i) h = net-past os i (omega arith)
 
 -- The links that the i-th operator takes from and puts onto, its register link among both.
 abbrev pub TakesAt : List Operator → ℕ → ℕ → Type 0
@@ -220,24 +232,67 @@ module _ (g : Graph) (n : ℕ) (env : Env) (fit : Fit g) (E : Envs (free g) env 
       go (inl p) = not-low l n (W .puts-own i l p .0) h
       go (inr (k, p, e)) = clash l k top (below-top l n (linksOf g) h) room e
 
-  -- Push and take beside the graph: the inputs are links below the graph's own, the results its outputs.
-  module _ (push take source credit : ℕ) (ins : List ℕ) (below-own : (l : ℕ) → In l ins → l < n) (spare-source : Spare source)
-      (spare-credit : Spare credit) (two : source ≢ credit) where
-    pub apart-ends : Apart-ends (netOf ops) push take source credit ins outs (TakesAt ops) (PutsAt ops)
-    apart-ends =
+  -- No operator uses a spare link.
+  pub spare-unused : (l : ℕ) → Spare l → Unused (netOf ops) l
+  spare-unused l s =
+      record {
+        asks = λ i. never-asks (TakesAt ops i) (PutsAt ops i) (netOf ops i) (net-uses ops i) l (takes-no-spare i l s);
+        emits = λ i. never-emits (TakesAt ops i) (PutsAt ops i) (netOf ops i) (net-uses ops i) l (puts-no-spare i l s);
+      }
+
+  -- Push and take beside the graph: they have numbers past the last operator, the inputs are links below the graph's own, the results its outputs.
+  pub record Ends (push take source credit : ℕ) (ins : List ℕ) : Type 0 where
+    pub push-past : length ops ≤ push
+    pub take-past : length ops ≤ take
+    pub push-not-take : push ≢ take
+    pub spare-source : Spare source
+    pub spare-credit : Spare credit
+    pub source-not-credit : source ≢ credit
+    pub inputs-below : (l : ℕ) → In l ins → l < n
+
+  module _ (push take source credit : ℕ) (ins : List ℕ) (H : Ends push take source credit ins) where
+    spare-no-input : (l : ℕ) → Spare l → In l ins → ⊥
+    spare-no-input l s i = apart l n (linksOf g) (s .0) (H .inputs-below l i)
+      where
+        apart : (l n k : ℕ) → n + k ≤ l → l < n → ⊥
+        apart l n k p q = omega arith
+
+    spare-no-result : (l : ℕ) → Spare l → In l outs → ⊥
+    spare-no-result l s o = not-low l top (s .0) (zone-low l (outputs-zone g n env fit E l o))
+
+    -- What the maker owes about numbers.
+    pub graph-wiring : Wiring (netOf ops) push take source credit ins outs (TakesAt ops) (PutsAt ops)
+    graph-wiring =
         record {
-          graph-uses = net-uses ops;
-          one-taker = one-taker;
-          one-putter = one-putter;
-          takes-no-result = takes-no-result;
-          takes-no-source = λ i t. takes-no-spare i source spare-source t;
-          takes-no-credit = λ i t. takes-no-spare i credit spare-credit t;
-          puts-no-input = λ i l t j. puts-no-input i l t (below-own l j);
-          puts-no-credit = λ i t. puts-no-spare i credit spare-credit t;
-          source-no-result = λ o. not-low source top (spare-source .0) (zone-low source (outputs-zone g n env fit E source o));
-          source-no-credit = two;
+          ends = record {
+            graph-uses = net-uses ops;
+            one-taker = one-taker;
+            one-putter = one-putter;
+            takes-no-result = takes-no-result;
+            takes-no-source = λ i t. takes-no-spare i source (H .spare-source) t;
+            takes-no-credit = λ i t. takes-no-spare i credit (H .spare-credit) t;
+            puts-no-input = λ i l t j. puts-no-input i l t (H .inputs-below l j);
+            puts-no-credit = λ i t. puts-no-spare i credit (H .spare-credit) t;
+            source-no-result = spare-no-result source (H .spare-source);
+            source-no-credit = H .source-not-credit;
+          };
+          puts-no-source = λ i t. puts-no-spare i source (H .spare-source) t;
+          push-halts = net-past ops push (H .push-past);
+          take-halts = net-past ops take (H .take-past);
+          push-not-take = H .push-not-take;
+          source-no-input = spare-no-input source (H .spare-source);
+          credit-no-input = spare-no-input credit (H .spare-credit);
+          credit-no-result = spare-no-result credit (H .spare-credit);
         }
 
     -- Any two firings of the machine are free of one another.
     pub machine-commutes : (a b : ℕ) → a ≢ b → Free (machine (netOf ops) push take source credit ins outs a) (machine (netOf ops) push take source credit ins outs b)
-    machine-commutes = machine-free (netOf ops) push take source credit ins outs (TakesAt ops) (PutsAt ops) apart-ends
+    machine-commutes = wiring-free (netOf ops) push take source credit ins outs (TakesAt ops) (PutsAt ops) graph-wiring
+
+    -- The bench of the schedule lemma.
+    pub bench : Bench (netOf ops) push take source credit (whole g n env source credit) (yields g n env source credit)
+    bench =
+        graph-bench g fit n env E room source credit
+        (ends-apart g fit n env E room source credit (H .spare-source) (H .spare-credit) (H .source-not-credit)) (netOf ops) push take (net-has ops)
+        (spare-unused source (H .spare-source)) (spare-unused credit (H .spare-credit)) (net-past ops push (H .push-past)) (net-past ops take (H .take-past))
+        (H .push-not-take)

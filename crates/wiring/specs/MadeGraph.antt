@@ -11,7 +11,8 @@ use lib.Dec.{eqb}
 use borrow.Author.Tests.{ne-eqb, eq-eqb}
 use native.Mathlib.Omega.{arith}
 use native.Mathlib.Decide.{decLt}
-use Rattle.names.specs.Names.{Names, trigger, one, without, bit, size, sizeFrom, members, below}
+use native.Mathlib.Nat.{zero-add}
+use Rattle.names.specs.Names.{Names, trigger, one, without, later, bit, put, size, sizeFrom, members, membersFrom, below}
 use Rattle.names.proofs.Counts.{Member, sizeFrom-cong, sizeFrom-suc}
 use Rattle.names.proofs.Sets.{below-lt, below-suc, below-all, below-cong, length-members, nth-member}
 use Rattle.formula.specs.Tree.{Exp}
@@ -21,14 +22,17 @@ use Rattle.formula.specs.Widths.{width}
 use Rattle.formula.specs.Admitted.{AdmittedE}
 use Rattle.network.specs.Commute.{Free}
 use Rattle.network.specs.Ends.{machine}
-use Rattle.network.specs.Uses.{In, Apart-ends}
-use Rattle.pieces.specs.Sets.{Different}
-use Rattle.graph.specs.Assembly.{Operator, free, upFrom, rank, nameCount, linksOf, outputs, operatorsOf}
+use Rattle.network.specs.Uses.{In}
+use Rattle.pieces.specs.Sets.{Different, Bench}
+use Rattle.pieces.specs.Wiring.{Wiring}
+use Rattle.graph.specs.Assembly.{Env, Operator, free, upFrom, rank, total, listed, nameCount, linksOf, outputs, operatorsOf}
 use Rattle.graph.specs.Translation.{graphE, portOf, Made, madeOf}
 use Rattle.graph.specs.Fit.{Fit}
 use Rattle.reference.specs.NameSets.{rank-differs, without-here, without-there, not-both, without-in}
 use Rattle.reference.specs.Plan.{Between, Envs}
-use Rattle.reference.specs.Plugged.{nowhere, registers, Has}
+use Rattle.reference.specs.Plugged.{nowhere, registers}
+use Rattle.reference.specs.WrittenOut.{links-of}
+use Rattle.reference.specs.WholeGraph.{whole, yields}
 use Rattle.yields.specs.Naming.{Small}
 use Rattle.yields.specs.Choice.{kept, gone}
 use Rattle.yields.specs.FreeNames.{small-E, free-E}
@@ -38,8 +42,9 @@ use Rattle.wiring.specs.Wiring.{inputsAt, outputsAt, Zone, wired, output
 use Rattle.wiring.specs.Layout.{in-upFrom}
 use Rattle.wiring.specs.Ports.{Ported, All}
 use Rattle.wiring.specs.PortedGraphs.{ported}
-use Rattle.wiring.specs.Machine.{netOf, TakesAt, PutsAt, net-has, apart-ends, machine-commutes}
-use Rattle.wiring.specs.FormulaCounts.{made-links-bound}
+use Rattle.wiring.specs.Machine.{netOf, TakesAt, PutsAt, Ends, graph-wiring, machine-commutes, bench}
+use Rattle.wiring.specs.RowCounts.{total-size}
+use Rattle.wiring.specs.FormulaCounts.{made-operators, made-links-bound}
 
 -- ---- the links of inputs and trigger
 
@@ -97,6 +102,30 @@ module _ (x : Exp) (h : AdmittedE x) where
 
       far : (k : ℕ) → k < 33 → k < nameCount
       far k p = omega arith
+
+-- The links of the members of a set, numbered by rank.
+links-members : (k at m : ℕ) (f : Names) (env : Env) → ((i : ℕ) → i < k → f i ≡ true → env (at + i) ≡ m + sizeFrom i f)
+    → links-of (membersFrom k at f) env ≡ upFrom m (sizeFrom k f)
+unfolding membersFrom sizeFrom upFrom
+links-members zero at m f env h = refl
+links-members (suc k) at m f env h = go (f 0) refl (λ m′ e. links-members k (suc at) m′ (later f) env e)
+  where
+    go : (b : Bool) → f 0 ≡ b
+        → ((m′ : ℕ) → ((i : ℕ) → i < k → later f i ≡ true → env (suc at + i) ≡ m′ + sizeFrom i (later f)) → links-of (membersFrom k (suc at) (later f)) env ≡ upFrom m′ (sizeFrom k (later f)))
+        → links-of (put b at (membersFrom k (suc at) (later f))) env ≡ upFrom m (bit b + sizeFrom k (later f))
+    go true e ih =
+        let z : 1 + sizeFrom k (later f) ≡ suc (sizeFrom k (later f)) = omega arith in
+        let a : env at ≡ m = ap env (omega arith) ∙ h 0 (omega arith) e ∙ omega arith in
+        rw z
+        (ap₂ (λ (y : ℕ) (ys : List ℕ). y ∷ ys) a
+        (ih (suc m) (λ i l p. ap env (omega arith) ∙ h (suc i) (omega arith) p ∙ ap (λ (c : Bool). m + (bit c + sizeFrom i (later f))) e ∙ omega arith)))
+    go false e ih =
+        let z : 0 + sizeFrom k (later f) ≡ sizeFrom k (later f) = omega arith in
+        rw z (ih m (λ i l p. ap env (omega arith) ∙ h (suc i) (omega arith) p ∙ ap (λ (c : Bool). m + (bit c + sizeFrom i (later f))) e ∙ omega arith))
+
+total-is : (f : Names) → total f ≡ sizeFrom nameCount f
+unfolding total
+total-is f = refl
 
 -- ---- the wiring of the made graph
 
@@ -165,8 +194,8 @@ module _ (x : Exp) (h : AdmittedE x) where
   abbrev pub Spare : ℕ → Type 0
   Spare l = (madeOf x .links ≤ l) × (Between registers (madeOf x .links) l → ⊥)
 
-  module _ (few : countE x .operators ≤ 1024) (push take source credit : ℕ) (spare-source : Spare source) (spare-credit : Spare credit) (two : source ≢ credit) where
-    room : n + linksOf (graphE x) ≤ nowhere
+  module _ (few : countE x .operators ≤ 1024) where
+    pub room : n + linksOf (graphE x) ≤ nowhere
     unfolding madeOf
     room = within (madeOf x .links) (made-links-bound x h few)
       where
@@ -180,19 +209,62 @@ module _ (x : Exp) (h : AdmittedE x) where
         under : (l k : ℕ) → Between 0 k l → l < k
         under l k b = omega arith
 
-    -- One taker and one putter of each link, push and take counted as operators.
-    pub made-apart : Apart-ends (netOf (madeOf x .operators)) push take source credit (pushLinks (madeOf x)) (madeOf x .results)
-        (TakesAt (madeOf x .operators)) (PutsAt (madeOf x .operators))
-    unfolding madeOf
-    made-apart = apart-ends (graphE x) n (portOf x) (fit-E x h) E room push take source credit (pushLinks (madeOf x)) ins-below spare-source spare-credit two
+    -- Push and take have numbers past the last operator; source and credit link are spare.
+    pub record Numbers (push take source credit : ℕ) : Type 0 where
+      pub push-past : 1024 ≤ push
+      pub take-past : 1024 ≤ take
+      pub push-not-take : push ≢ take
+      pub spare-source : Spare source
+      pub spare-credit : Spare credit
+      pub source-not-credit : source ≢ credit
 
-    -- Any two firings, push and take among them, are free of one another.
-    pub made-commutes : (a b : ℕ) → a ≢ b
-        → Free (machine (netOf (madeOf x .operators)) push take source credit (pushLinks (madeOf x)) (madeOf x .results) a)
-        (machine (netOf (madeOf x .operators)) push take source credit (pushLinks (madeOf x)) (madeOf x .results) b)
-    unfolding madeOf
-    made-commutes = machine-commutes (graphE x) n (portOf x) (fit-E x h) E room push take source credit (pushLinks (madeOf x)) ins-below spare-source spare-credit two
+    module _ (push take source credit : ℕ) (N : Numbers push take source credit) where
+      past : (k : ℕ) → 1024 ≤ k → length (madeOf x .operators) ≤ k
+      past k p = through (length (madeOf x .operators)) (countE x .operators) k (made-operators x h) few p
+        where
+          through : (l c k : ℕ) → l ≡ c → c ≤ 1024 → 1024 ≤ k → l ≤ k
+          through l c k p q r = omega arith
 
-  -- The network has all of the made graph's operators, each under its number.
-  pub made-has : Has (netOf (madeOf x .operators)) (madeOf x .operators)
-  made-has = net-has (madeOf x .operators)
+      made-ends : Ends (graphE x) n (portOf x) (fit-E x h) E room push take source credit (pushLinks (madeOf x))
+      unfolding madeOf
+      made-ends =
+          record {
+            push-past = past push (N .push-past);
+            take-past = past take (N .take-past);
+            push-not-take = N .push-not-take;
+            spare-source = N .spare-source;
+            spare-credit = N .spare-credit;
+            source-not-credit = N .source-not-credit;
+            inputs-below = ins-below;
+          }
+
+      -- What the maker owes about numbers: one taker and one putter of each link, push and take counted as operators.
+      pub made-wiring : Wiring (netOf (madeOf x .operators)) push take source credit (pushLinks (madeOf x)) (madeOf x .results) (TakesAt (madeOf x .operators))
+          (PutsAt (madeOf x .operators))
+      unfolding madeOf
+      made-wiring = graph-wiring (graphE x) n (portOf x) (fit-E x h) E room push take source credit (pushLinks (madeOf x)) made-ends
+
+      -- Any two firings, push and take among them, are free of one another.
+      pub made-commutes : (a b : ℕ) → a ≢ b
+          → Free (machine (netOf (madeOf x .operators)) push take source credit (pushLinks (madeOf x)) (madeOf x .results) a)
+          (machine (netOf (madeOf x .operators)) push take source credit (pushLinks (madeOf x)) (madeOf x .results) b)
+      unfolding madeOf
+      made-commutes = machine-commutes (graphE x) n (portOf x) (fit-E x h) E room push take source credit (pushLinks (madeOf x)) made-ends
+
+      -- The bench of the schedule lemma, with the network of the made graph.
+      pub made-bench : Bench (netOf (madeOf x .operators)) push take source credit (whole (graphE x) n (portOf x) source credit) (yields (graphE x) n (portOf x) source credit)
+      unfolding madeOf
+      made-bench = bench (graphE x) n (portOf x) (fit-E x h) E room push take source credit (pushLinks (madeOf x)) made-ends
+
+  -- The inputs of that piece are push's links.
+  pub whole-inputs : links-of (listed (free (graphE x))) (portOf x) ≡ pushLinks (madeOf x)
+  unfolding madeOf portOf listed below
+  whole-inputs =
+      links-members nameCount 0 0 (free (graphE x)) (portOf x) ports
+      ∙ ap (upFrom 0) (all-names ∙ port-count x)
+    where
+      ports : (i : ℕ) → i < nameCount → free (graphE x) i ≡ true → sizeFrom (0 + i) (freeE x) ≡ 0 + sizeFrom i (free (graphE x))
+      ports i l e = ap (λ (k : ℕ). sizeFrom k (freeE x)) (zero-add i) ∙ sizeFrom-cong i (freeE x) (free (graphE x)) (λ k _. sym (free-E x h k)) ∙ sym (zero-add (sizeFrom i (free (graphE x))))
+
+      all-names : sizeFrom nameCount (free (graphE x)) ≡ size (freeE x)
+      all-names = sym (total-is (free (graphE x))) ∙ total-size (free (graphE x)) (freeE x) (free-E x h) (small-E x h)
