@@ -23,13 +23,13 @@ use Rattle.pieces.specs.Wiring.{Wiring, wiring-free}
 use Rattle.graph.specs.Assembly.{Graph, free, Env, Operator, linksOf, outputs, operatorsOf}
 use Rattle.graph.specs.Fit.{Fit}
 use Rattle.reference.specs.Plan.{Between, Envs}
-use Rattle.reference.specs.Plugged.{nowhere, registers, link-of, portsOf, demandOf, Numbered, Has, numbered-has}
+use Rattle.reference.specs.Plugged.{nowhere, registers, link-of, portsOf, demandOf, Each, Numbered, Has, numbered-has}
 use Rattle.reference.specs.Bystanders.{Unused}
 use Rattle.reference.specs.WholeGraph.{whole, yields}
 use Rattle.reference.specs.GraphBench.{ends-apart, graph-bench}
 use Rattle.wiring.specs.Links.{optional, inputLinks, outputLinks}
 use Rattle.wiring.specs.Wiring.{Own, Port, Zone, inputsAt, outputsAt, outputs-zone, Wired, wired}
-use Rattle.wiring.specs.Ports.{port, Linked, Ported, All}
+use Rattle.wiring.specs.Ports.{port, Linked, Ported}
 use Rattle.wiring.specs.PortedGraphs.{ported}
 
 -- The network of a list of operators; a number past the last is no operator.
@@ -114,13 +114,13 @@ puts-in o p l (inr (inl e)) = inl (out-in o l (inr (inl e)))
 puts-in o p l (inr (inr (inl e))) = inl (out-in o l (inr (inr e)))
 puts-in o p l (inr (inr (inr (r, e)))) = inr (register-is o l p e)
 
-takes-at : (os : List Operator) → All Ported os → (i l : ℕ) → TakesAt os i l → In l (inputsAt os i) ⊎ RegisterOf (outputsAt os i) l
+takes-at : (os : List Operator) → Each Ported os → (i l : ℕ) → TakesAt os i l → In l (inputsAt os i) ⊎ RegisterOf (outputsAt os i) l
 unfolding inputsAt outputsAt
 takes-at [] p i l t = absurd t
 takes-at (o ∷ os) p zero l t = takes-in o (p .0) l t
 takes-at (o ∷ os) p (suc i) l t = takes-at os (p .1) i l t
 
-puts-at : (os : List Operator) → All Ported os → (i l : ℕ) → PutsAt os i l → In l (outputsAt os i) ⊎ RegisterOf (outputsAt os i) l
+puts-at : (os : List Operator) → Each Ported os → (i l : ℕ) → PutsAt os i l → In l (outputsAt os i) ⊎ RegisterOf (outputsAt os i) l
 unfolding inputsAt outputsAt
 puts-at [] p i l t = absurd t
 puts-at (o ∷ os) p zero l t = puts-in o (p .0) l t
@@ -141,8 +141,8 @@ module _ (g : Graph) (n : ℕ) (env : Env) (fit : Fit g) (E : Envs (free g) env 
   W : Wired g n env fit E
   W = wired g n env fit E
 
-  all-ported : All Ported ops
-  all-ported = ported g n env fit E
+  all-ported : Each Ported ops
+  all-ported = ported g n env fit E room
 
   port-low : (l k x : ℕ) → l ≡ env x → env x < n → l < n + k
   port-low l k x e h = omega arith

@@ -30,7 +30,8 @@ use Rattle.graph.specs.Translation.{graphE, portOf, Made, madeOf}
 use Rattle.graph.specs.Fit.{Fit}
 use Rattle.reference.specs.NameSets.{rank-differs, without-here, without-there, not-both, without-in}
 use Rattle.reference.specs.Plan.{Between, Envs}
-use Rattle.reference.specs.Plugged.{nowhere, registers}
+use Rattle.reference.specs.Plugged.{nowhere, registers, Each}
+use Rattle.reference.specs.BehindGate.{in-upFrom}
 use Rattle.reference.specs.WrittenOut.{links-of}
 use Rattle.reference.specs.WholeGraph.{whole, yields}
 use Rattle.yields.specs.Naming.{Small}
@@ -39,8 +40,7 @@ use Rattle.yields.specs.FreeNames.{small-E, free-E}
 use Rattle.yields.specs.FitGraphs.{fit-E, count-E}
 use Rattle.wiring.specs.Conservation.{length-outputs}
 use Rattle.wiring.specs.Wiring.{inputsAt, outputsAt, Zone, wired, outputs-different, outputs-zone}
-use Rattle.wiring.specs.Layout.{in-upFrom}
-use Rattle.wiring.specs.Ports.{Ported, All}
+use Rattle.wiring.specs.Ports.{Ported}
 use Rattle.wiring.specs.PortedGraphs.{ported}
 use Rattle.wiring.specs.Machine.{netOf, TakesAt, PutsAt, Ends, graph-wiring, machine-commutes, bench}
 use Rattle.wiring.specs.RowCounts.{total-size}
@@ -145,9 +145,9 @@ pub record WellWired (m : Made) : Type 0 where
   pub takes-no-result : (i l : ℕ) → In l (inputsAt (m .operators) i) → In l (m .results) → ⊥
   pub results-differ : Different (m .results)
   pub results-below : (l : ℕ) → In l (m .results) → l < m .links
-  pub all-ported : All Ported (m .operators)
+  pub all-ported : Each Ported (m .operators)
 
-ports-apart-at : (os : List Operator) → All Ported os → (i l : ℕ) → In l (inputsAt os i) → In l (outputsAt os i) → ⊥
+ports-apart-at : (os : List Operator) → Each Ported os → (i l : ℕ) → In l (inputsAt os i) → In l (outputsAt os i) → ⊥
 unfolding inputsAt outputsAt
 ports-apart-at [] p i l a b = a
 ports-apart-at (o ∷ os) p zero l a b = p .0 .apart l a b
@@ -167,24 +167,6 @@ module _ (x : Exp) (h : AdmittedE x) where
       under : (l p n k : ℕ) → l ≡ p → p < n → l < n + k
       under l p n k e q = omega arith
 
-  pub well-wired : WellWired (madeOf x)
-  unfolding madeOf
-  well-wired =
-      let W = wired (graphE x) n (portOf x) (fit-E x h) E in
-      record {
-        one-taker = W .one-taker;
-        one-putter = W .one-putter;
-        inputs-differ = W .inputs-differ;
-        outputs-differ = W .outputs-differ;
-        ports-apart = ports-apart-at (operatorsOf (graphE x) n (portOf x)) (ported (graphE x) n (portOf x) (fit-E x h) E);
-        takes-below = λ i l p. zone-below l (W .takes-in-zone i l p);
-        puts-below = λ i l p. let o = W .puts-own i l p in (subst (λ k. k ≤ l) (port-count x) (o .0), o .1);
-        takes-no-result = W .takes-no-output;
-        results-differ = outputs-different (graphE x) n (portOf x) (fit-E x h) E;
-        results-below = λ l i. zone-below l (outputs-zone (graphE x) n (portOf x) (fit-E x h) E l i);
-        all-ported = ported (graphE x) n (portOf x) (fit-E x h) E;
-      }
-
   -- As many results as the formula's width.
   pub result-count : length (madeOf x .results) ≡ width x
   unfolding madeOf
@@ -202,9 +184,27 @@ module _ (x : Exp) (h : AdmittedE x) where
         within : (l : ℕ) → l ≤ 3105 → l ≤ nowhere
         within l p = omega arith
 
+    pub well-wired : WellWired (madeOf x)
+    unfolding madeOf
+    well-wired =
+        let W = wired (graphE x) n (portOf x) (fit-E x h) E in
+        record {
+          one-taker = W .one-taker;
+          one-putter = W .one-putter;
+          inputs-differ = W .inputs-differ;
+          outputs-differ = W .outputs-differ;
+          ports-apart = ports-apart-at (operatorsOf (graphE x) n (portOf x)) (ported (graphE x) n (portOf x) (fit-E x h) E room);
+          takes-below = λ i l p. zone-below l (W .takes-in-zone i l p);
+          puts-below = λ i l p. let o = W .puts-own i l p in (subst (λ k. k ≤ l) (port-count x) (o .0), o .1);
+          takes-no-result = W .takes-no-output;
+          results-differ = outputs-different (graphE x) n (portOf x) (fit-E x h) E;
+          results-below = λ l i. zone-below l (outputs-zone (graphE x) n (portOf x) (fit-E x h) E l i);
+          all-ported = ported (graphE x) n (portOf x) (fit-E x h) E room;
+        }
+
     ins-below : (l : ℕ) → In l (pushLinks (madeOf x)) → l < n
     unfolding madeOf
-    ins-below l i = subst (λ k. l < k) (sym (port-count x)) (under l (length (inputsOf x) + bit (freeE x trigger)) (in-upFrom l 0 (length (inputsOf x) + bit (freeE x trigger)) i))
+    ins-below l i = subst (λ k. l < k) (sym (port-count x)) (under l (length (inputsOf x) + bit (freeE x trigger)) (in-upFrom 0 (length (inputsOf x) + bit (freeE x trigger)) l i))
       where
         under : (l k : ℕ) → Between 0 k l → l < k
         under l k b = omega arith

@@ -1,5 +1,6 @@
 -- Each operator of a fit graph has the ports of its kind and takes from no link that it puts onto: with Wiring.antt, "a link named twice by one
--- operator" (refusal 31) is not met in a graph that was made. Assumes that the links of the names are different and lie below the graph's own.
+-- operator" (refusal 31) is not met in a graph that was made. Assumes that the links of the names are different and lie below the graph's own,
+-- and that all lie below the absent link.
 use Prim.Native.Nat.{ℕ, zero, suc, _+_, _*_, _-_, _≤_, _<_}
 use mathlib.Core.Path.{_≡_, refl, sym, ap, _∙_, subst}
 use mathlib.Core.Logic.{_⊎_, inl, inr}
@@ -9,17 +10,20 @@ use lib.ListN.{length, drop, getD, length-drop}
 use native.Mathlib.Omega.{arith}
 use Rattle.names.specs.Names.{Names, common, union, without, later, put, membersFrom}
 use Rattle.network.specs.Uses.{In}
-use Rattle.graph.specs.Assembly.{Graph, wire, nothing, beside, bind, gate, loop, free, memberOf, Env, Operator, copyOf, gateOf, copiesFor, sharing, sharedLinks, firstUse, secondUse, named, spread, chain, chainEnds, ringGate, ring, nameCount, rank, total, listed, linksOf, outputs, operatorsOf}
+use Rattle.graph.specs.Assembly.{Graph, wire, nothing, beside, bind, gate, loop, free, memberOf, gateOutputs, chainLinks, Env, Operator, copyOf, gateOf, copiesFor, sharing, sharedLinks, firstUse, secondUse, named, spread, chain, chainEnds, ringGate, ring, nameCount, rank, total, listed, linksOf, outputs, operatorsOf}
 use Rattle.graph.specs.Yields.{outputCount}
 use Rattle.graph.specs.Fit.{Fit, bare}
+use Rattle.reference.specs.Plugged.{nowhere, Each}
 use Rattle.reference.specs.NameSets.{or-left, and-left, not-both, without-in}
 use Rattle.reference.specs.Plan.{Between, Envs}
 use Rattle.reference.specs.Sharing.{first-shared, second-shared, envs-first, envs-second}
 use Rattle.reference.specs.Binding.{named-in}
+use Rattle.reference.specs.OneAfterAnother.{user-envs}
+use Rattle.reference.specs.LoopLayout.{spread-envs}
+use Rattle.reference.specs.GraphLayout.{Layout, RingOf, layout, free-small, never-bare, envs-up, up-to, first-fits, second-fits, fore-fits, body-fits}
 use Rattle.wiring.specs.Conservation.{length-outputs}
 use Rattle.wiring.specs.Wiring.{Zone, outputs-zone}
-use Rattle.wiring.specs.Layout.{in-drop, fit-names, envs-spread, rest, start, first, bound, envs-bound, raised, BareOrOwn, outputs-bare}
-use Rattle.wiring.specs.Ports.{Ported, All, all-append, copy-ported, gate-ported, FM-ported, FS-ported}
+use Rattle.wiring.specs.Ports.{Ported, each-append, copy-ported, gate-ported, FM-ported, FS-ported}
 
 -- ---- rows of operators on names
 
@@ -46,10 +50,10 @@ in-listed f x i =
     let z : w .0 ≡ x = omega (arith, w .3) in
     (subst (λ y. f y ≡ true) z (w .2), subst (λ y. y < nameCount) z (w .1))
 
-copies-all : (xs : List ℕ) (env e₁ e₂ : Env) → ((x : ℕ) → In x xs → Ported (copyOf (env x) (e₁ x) (e₂ x))) → All Ported (copiesFor xs env e₁ e₂)
+copies-each : (xs : List ℕ) (env e₁ e₂ : Env) → ((x : ℕ) → In x xs → Ported (copyOf (env x) (e₁ x) (e₂ x))) → Each Ported (copiesFor xs env e₁ e₂)
 unfolding copiesFor
-copies-all [] env e₁ e₂ h = tt
-copies-all (x ∷ xs) env e₁ e₂ h = (h x (inl refl), copies-all xs env e₁ e₂ (λ y i. h y (inr i)))
+copies-each [] env e₁ e₂ h = tt
+copies-each (x ∷ xs) env e₁ e₂ h = (h x (inl refl), copies-each xs env e₁ e₂ (λ y i. h y (inr i)))
 
 below-copies : (a b n r : ℕ) → a < n → b ≡ n + 2 * r → a ≡ b → ⊥
 below-copies a b n r p q e = omega arith
@@ -57,10 +61,10 @@ below-copies a b n r p q e = omega arith
 below-copies-second : (a b n r : ℕ) → a < n → b ≡ n + 2 * r + 1 → a ≡ b → ⊥
 below-copies-second a b n r p q e = omega arith
 
-sharing-ported : (f g : Names) (n : ℕ) (env : Env) → Envs (union f g) env n → All Ported (sharing f g n env)
+sharing-ported : (f g : Names) (n : ℕ) (env : Env) → Envs (union f g) env n → Each Ported (sharing f g n env)
 unfolding sharing
 sharing-ported f g n env E =
-    copies-all (listed (common f g)) env (firstUse f g n env) (secondUse f g n env)
+    copies-each (listed (common f g)) env (firstUse f g n env) (secondUse f g n env)
     (λ x i.
     let w = in-listed (common f g) x i in
     let u = E .below x (or-left (f x) (g x) (and-left (f x) (g x) (w .0))) in
@@ -69,7 +73,7 @@ sharing-ported f g n env E =
     (below-copies-second (env x) (secondUse f g n env x) n (rank (common f g) x) u (second-shared f g n env x (w .0)))
     )
 
-chain-ported : (a n k : ℕ) → a < n → All Ported (chain a n k)
+chain-ported : (a n k : ℕ) → a < n → Each Ported (chain a n k)
 unfolding chain
 chain-ported a n zero h = tt
 chain-ported a n (suc zero) h = tt
@@ -87,13 +91,13 @@ chain-ends a n (suc (suc k)) c (inr i) = inr (go (chain-ends (suc n) (suc (suc n
     go (inl e) = omega arith
     go (inr e) = omega arith
 
-ring-all : (xs cs : List ℕ) (ids : Names) (it st ow out : Env)
-    → ((x c : ℕ) → In x xs → In c cs → Ported (ringGate (ids x) c (it x) (st x) (ow x) (out x))) → All Ported (ring xs ids cs it st ow out)
+ring-each : (xs cs : List ℕ) (ids : Names) (it st ow out : Env)
+    → ((x c : ℕ) → In x xs → In c cs → Ported (ringGate (ids x) c (it x) (st x) (ow x) (out x))) → Each Ported (ring xs ids cs it st ow out)
 unfolding ring
-ring-all [] cs ids it st ow out h = tt
-ring-all (x ∷ xs) [] ids it st ow out h = tt
-ring-all (x ∷ xs) (c ∷ cs) ids it st ow out h =
-    (h x c (inl refl) (inl refl), ring-all xs cs ids it st ow out (λ y d i j. h y d (inr i) (inr j)))
+ring-each [] cs ids it st ow out h = tt
+ring-each (x ∷ xs) [] ids it st ow out h = tt
+ring-each (x ∷ xs) (c ∷ cs) ids it st ow out h =
+    (h x c (inl refl) (inl refl), ring-each xs cs ids it st ow out (λ y d i j. h y d (inr i) (inr j)))
 
 -- The links of a loop's gates: their outputs lie in an interval, all their inputs outside it.
 abbrev Away : ℕ → ℕ → ℕ → Type 0
@@ -125,14 +129,13 @@ zone-low g n env F E l i = go (outputs-zone g n env F E l i)
         low : (a l n k : ℕ) → l ≡ a → a < n → l < n + k
         low a l n k p q = omega arith
 
-own-body : (b : Graph) (n : ℕ) (env : Env) → Fit b → Envs (free b) env n → ((x : ℕ) → bare b x ≡ false) → (l : ℕ) → In l (outputs b n env) → Between n (linksOf b) l
-own-body b n env F E nb l i = go (outputs-bare b n env F E l i)
-  where
-    go : BareOrOwn b n env l → Between n (linksOf b) l
-    go (inl o) = o
-    go (inr (x, e, z)) = absurd (not-both (bare b x) e (nb x))
+in-drop : (l k : ℕ) (ls : List ℕ) → In l (drop k ls) → In l ls
+in-drop l zero ls i = i
+in-drop l (suc k) [] i = i
+in-drop l (suc k) (x ∷ ls) i = inr (in-drop l k ls i)
 
-module _ (ns : List ℕ) (a b : Graph) (n : ℕ) (env : Env) (F : Fit (loop ns a b)) (E : Envs (union (free a) (without (free b) (memberOf ns))) env n) where
+module _ (ns : List ℕ) (a b : Graph) (n : ℕ) (env : Env) (F : Fit (loop ns a b)) (E : Envs (union (free a) (without (free b) (memberOf ns))) env n)
+    (fits : n + (sharedLinks (free a) (without (free b) (memberOf ns)) + (linksOf a + (total (free b) + (linksOf b + chainLinks (total (free b)))))) ≤ nowhere) where
   abbrev g : Names
   g = without (free b) (memberOf ns)
 
@@ -170,10 +173,13 @@ module _ (ns : List ℕ) (a b : Graph) (n : ℕ) (env : Env) (F : Fit (loop ns a
   started = named ns (outputs a m e₁) env
 
   body-envs : Envs (free b) inner (o + s)
-  body-envs = envs-spread (free b) o (fit-names b (F .1))
+  body-envs = spread-envs (free b) o (free-small b (F .1))
+
+  body-room : o + s + linksOf b ≤ nowhere
+  body-room = body-fits n (sharedLinks (free a) g) (linksOf a) s (linksOf b) (chainLinks s) fits
 
   body-own : (l : ℕ) → In l outs → Between (o + s) (linksOf b) l
-  body-own = own-body b (o + s) inner (F .1) body-envs (F .7)
+  body-own = never-bare b (o + s) inner (layout b (F .1) (o + s) inner body-envs body-room .straight) (F .7)
 
   many : suc (length ns) ≤ length outs
   many = subst (λ k. suc (length ns) ≤ k) (sym (length-outputs b (o + s) inner (F .1))) (F .5)
@@ -238,48 +244,73 @@ module _ (ns : List ℕ) (a b : Graph) (n : ℕ) (env : Env) (F : Fit (loop ns a
   abbrev pub loopRing : List Operator
   loopRing = ring (listed (free b)) (memberOf ns) (chainEnds it c s) iterated started e₂ inner
 
-  pub ring-ported : All Ported loopRing
+  pub ring-ported : Each Ported loopRing
   ring-ported =
-      ring-all (listed (free b)) (chainEnds it c s) (memberOf ns) iterated started e₂ inner
+      ring-each (listed (free b)) (chainEnds it c s) (memberOf ns) iterated started e₂ inner
       (λ x k i j.
       let e = in-listed (free b) x i .0 in
       ring-gate-ported o s (memberOf ns x) k (iterated x) (started x) (e₂ x) (inner x) (inner-own x e) (control-away k j)
       (λ t. (iterated-away x t, started-away x t)) (own-away x e)
       )
 
-  pub loop-chain-ported : All Ported loopChain
+  pub loop-chain-ported : Each Ported loopChain
   loop-chain-ported = chain-ported it c s (it-own .1)
 
   pub loop-body-envs : Envs (free b) inner (o + s)
   loop-body-envs = body-envs
 
-pub ported : (g : Graph) (n : ℕ) (env : Env) → Fit g → Envs (free g) env n → All Ported (operatorsOf g n env)
-unfolding operatorsOf free
-ported (wire x) n env F E = tt
-ported nothing n env F E = tt
-ported (beside a b) n env F E =
-    let m : ℕ = n + sharedLinks (free a) (free b) in
-    let A : List Operator = operatorsOf a m (firstUse (free a) (free b) n env) in
-    let B : List Operator = operatorsOf b (m + linksOf a) (secondUse (free a) (free b) n env) in
-    all-append Ported (sharing (free a) (free b) n env) (A ++ B) (sharing-ported (free a) (free b) n env E)
-    (all-append Ported A B (ported a m (firstUse (free a) (free b) n env) (F .0) (envs-first (free a) (free b) n env E))
-    (ported b (m + linksOf a) (secondUse (free a) (free b) n env) (F .1) (raised (free b) (secondUse (free a) (free b) n env) m (linksOf a) (envs-second (free a) (free b) n env E))))
-ported (bind ns a b) n env F E =
-    let A : List Operator = operatorsOf a (start ns a (free b) n env) (first ns a (free b) n env) in
-    let B : List Operator = operatorsOf b (start ns a (free b) n env + linksOf a) (bound ns a (free b) n env) in
-    all-append Ported (sharing (free a) (rest ns a (free b) n env) n env) (A ++ B) (sharing-ported (free a) (rest ns a (free b) n env) n env E)
-    (all-append Ported A B (ported a (start ns a (free b) n env) (first ns a (free b) n env) (F .0) (envs-first (free a) (rest ns a (free b) n env) n env E))
-    (ported b (start ns a (free b) n env + linksOf a) (bound ns a (free b) n env) (F .1) (envs-bound ns a (free b) n env (F .0) E (F .2) (F .3))))
-ported (gate g a) n env F E =
-    all-append Ported (operatorsOf a n env) (gateOf g (outputs a n env) (n + linksOf a) ∷ []) (ported a n env (F .0) E)
+  pub loop-body-room : o + s + linksOf b ≤ nowhere
+  loop-body-room = body-room
+
+pub ported : (g : Graph) (n : ℕ) (env : Env) → Fit g → Envs (free g) env n → n + linksOf g ≤ nowhere → Each Ported (operatorsOf g n env)
+unfolding operatorsOf free linksOf
+ported (wire x) n env F E fits = tt
+ported nothing n env F E fits = tt
+ported (beside a b) n env F E fits =
+    let f : Names = free a in
+    let g : Names = free b in
+    let m : ℕ = n + sharedLinks f g in
+    let e₁ : Env = firstUse f g n env in
+    let e₂ : Env = secondUse f g n env in
+    let A : List Operator = operatorsOf a m e₁ in
+    let B : List Operator = operatorsOf b (m + linksOf a) e₂ in
+    each-append Ported (sharing f g n env) (A ++ B) (sharing-ported f g n env E)
+    (each-append Ported A B (ported a m e₁ (F .0) (envs-first f g n env E) (first-fits n (sharedLinks f g) (linksOf a) (linksOf b) fits))
+    (ported b (m + linksOf a) e₂ (F .1) (envs-up g e₂ m (m + linksOf a) (up-to m (linksOf a)) (envs-second f g n env E))
+    (second-fits n (sharedLinks f g) (linksOf a) (linksOf b) fits)))
+ported (bind ns a b) n env F E fits =
+    let f : Names = free a in
+    let g : Names = without (free b) (memberOf ns) in
+    let m : ℕ = n + sharedLinks f g in
+    let e₁ : Env = firstUse f g n env in
+    let oa : List ℕ = outputs a m e₁ in
+    let link : Env = named ns oa (secondUse f g n env) in
+    let ra : n + sharedLinks f g + linksOf a ≤ nowhere = first-fits n (sharedLinks f g) (linksOf a) (linksOf b) fits in
+    let la : Layout a m e₁ = layout a (F .0) m e₁ (envs-first f g n env E) ra in
+    let A : List Operator = operatorsOf a m e₁ in
+    let B : List Operator = operatorsOf b (m + linksOf a) link in
+    each-append Ported (sharing f g n env) (A ++ B) (sharing-ported f g n env E)
+    (each-append Ported A B (ported a m e₁ (F .0) (envs-first f g n env E) ra)
+    (ported b (m + linksOf a) link (F .1)
+    (user-envs ns f (free b) n (linksOf a) (linksOf b) env oa (outputs b (m + linksOf a) link) (RingOf a m) (RingOf b (m + linksOf a)) E fits (la .sound) (la .count ∙ F .2)
+    (F .3) (F .4))
+    (second-fits n (sharedLinks f g) (linksOf a) (linksOf b) fits)))
+ported (gate g a) n env F E fits =
+    each-append Ported (operatorsOf a n env) (gateOf g (outputs a n env) (n + linksOf a) ∷ [])
+    (ported a n env (F .0) E (fore-fits n (linksOf a) (gateOutputs g) fits))
     (gate-ported (outputs a n env) (n + linksOf a) g (length-outputs a n env (F .0) ∙ F .1) (zone-low a n env (F .0) E), tt)
-ported (loop ns a b) n env F E =
-    let A : List Operator = loopStart ns a b n env F E in
-    let B : List Operator = loopBody ns a b n env F E in
-    let C : List Operator = loopChain ns a b n env F E in
-    let R : List Operator = loopRing ns a b n env F E in
-    all-append Ported (sharing (free a) (rest ns a (free b) n env) n env) (A ++ (B ++ (C ++ R))) (sharing-ported (free a) (rest ns a (free b) n env) n env E)
-    (all-append Ported A (B ++ (C ++ R)) (ported a (start ns a (free b) n env) (first ns a (free b) n env) (F .0) (envs-first (free a) (rest ns a (free b) n env) n env E))
-    (all-append Ported B (C ++ R)
-    (ported b (start ns a (free b) n env + linksOf a + total (free b)) (spread (free b) (start ns a (free b) n env + linksOf a)) (F .1) (loop-body-envs ns a b n env F E))
-    (all-append Ported C R (loop-chain-ported ns a b n env F E) (ring-ported ns a b n env F E))))
+ported (loop ns a b) n env F E fits =
+    let f : Names = free a in
+    let g : Names = without (free b) (memberOf ns) in
+    let m : ℕ = n + sharedLinks f g in
+    let s : ℕ = total (free b) in
+    let A : List Operator = loopStart ns a b n env F E fits in
+    let B : List Operator = loopBody ns a b n env F E fits in
+    let C : List Operator = loopChain ns a b n env F E fits in
+    let R : List Operator = loopRing ns a b n env F E fits in
+    each-append Ported (sharing f g n env) (A ++ (B ++ (C ++ R))) (sharing-ported f g n env E)
+    (each-append Ported A (B ++ (C ++ R))
+    (ported a m (firstUse f g n env) (F .0) (envs-first f g n env E) (first-fits n (sharedLinks f g) (linksOf a) (s + (linksOf b + chainLinks s)) fits))
+    (each-append Ported B (C ++ R)
+    (ported b (m + linksOf a + s) (spread (free b) (m + linksOf a)) (F .1) (loop-body-envs ns a b n env F E fits) (loop-body-room ns a b n env F E fits))
+    (each-append Ported C R (loop-chain-ported ns a b n env F E fits) (ring-ported ns a b n env F E fits))))

@@ -16,9 +16,10 @@ use Rattle.network.specs.Rules.{Kind, constant, copy, operator, T-gate, F-gate,
 use Rattle.network.specs.Uses.{In, inputs, has-input, operand-inputs}
 use Rattle.graph.specs.Assembly.{Gate, const, oper, T, F, M, E, IC, gateOutputs, Operator, nth, copyOf, gateOf, ringGate, upFrom}
 use Rattle.graph.specs.Fit.{gateInputs}
+use Rattle.reference.specs.Plugged.{Each}
+use Rattle.reference.specs.BehindGate.{in-upFrom}
 use Rattle.wiring.specs.Links.{optional, inputLinks, outputLinks, gate-inputs, gate-outputs}
 use Rattle.wiring.specs.Conservation.{small-gate}
-use Rattle.wiring.specs.Layout.{in-upFrom}
 
 -- The link of an input port, where there is one.
 abbrev pub port : Operator → Input → Option ℕ
@@ -34,13 +35,9 @@ pub record Ported (o : Operator) : Type 0 where
   pub emits : Linked (o .out1)
   pub apart : (l : ℕ) → In l (inputLinks o) → In l (outputLinks o) → ⊥
 
-abbrev pub All : (Operator → Type 0) → List Operator → Type 0
-All P [] = Unit {0}
-All P (o ∷ os) = P o × All P os
-
-pub all-append : (P : Operator → Type 0) (xs ys : List Operator) → All P xs → All P ys → All P (xs ++ ys)
-all-append P [] ys p q = q
-all-append P (x ∷ xs) ys p q = (p .0, all-append P xs ys (p .1) q)
+pub each-append : (P : Operator → Type 0) (xs ys : List Operator) → Each P xs → Each P ys → Each P (xs ++ ys)
+each-append P [] ys p q = q
+each-append P (x ∷ xs) ys p q = (p .0, each-append P xs ys (p .1) q)
 
 -- ---- a copy
 
@@ -164,5 +161,5 @@ module _ (ins : List ℕ) (n : ℕ) where
         apart = λ l p q.
             let i : In l ins = subst (In l) (gate-inputs g ins n (omega (arith, e, small-gate g))) p in
             let o : In l (upFrom n (gateOutputs g)) = subst (In l) (gate-outputs g ins n) q in
-            omega (arith, low l i, in-upFrom l n (gateOutputs g) o);
+            omega (arith, low l i, in-upFrom n (gateOutputs g) l o);
       }
