@@ -1,23 +1,23 @@
 -- Counting an if behind its test (yields/specs/Choice): a T gate on each free name of one arm and an F gate on each of the other, as many copies
 -- of the test's output as there are gates, and the copies of the names that test and arms share. Assumes arms over the 33 places, and that what
 -- joins them uses the test's output and the arms' outputs alone.
-use Prim.Native.Nat.{ℕ, zero, suc, _+_, _*_, _-_, _≤_, _<_}
+use Prim.Native.Nat.{ℕ, suc, _+_, _*_, _-_, _≤_, _<_}
 use mathlib.Core.Path.{_≡_, refl, sym, ap, ap₂, _∙_}
 use mathlib.Core.Logic.{_⊎_, inl, inr}
-use mathlib.Core.Bool.{Bool, true, false, cond, _&&_, _||_, not, false≢true}
-use mathlib.Core.List.{List, [], _∷_, _++_}
+use mathlib.Core.Bool.{Bool, true, false, _&&_, _||_, not}
+use mathlib.Core.List.{List, [], _∷_}
 use lib.ListN.{length}
 use lib.Dec.{eqb, ltb}
-use borrow.Author.Tests.{eqb-true, eqb-false, eq-eqb, ne-eqb, ltb-true, ltb-false}
+use borrow.Author.Tests.{eqb-true, eq-eqb, ne-eqb, ltb-true, ltb-false}
 use native.Mathlib.Omega.{arith}
 use Rattle.names.specs.Names.{Names, none as noNames, one, common, union, without, bit, size, members}
 use Rattle.names.proofs.Sets.{length-members, size-empty}
-use Rattle.formula.specs.Count.{Count, _⊕_, gates, copies}
-use Rattle.graph.specs.Assembly.{Gate, T, F, Graph, wire, nothing, beside, bind, gate, loop, gateOutputs, free, memberOf, total, nameCount}
+use Rattle.formula.specs.Count.{_⊕_, gates, copies}
+use Rattle.graph.specs.Assembly.{Gate, T, F, Graph, bind, gateOutputs, free, memberOf, total}
 use Rattle.graph.specs.Translation.{testName, row, gated, arm}
-use Rattle.reference.specs.NameSets.{either, and-left, and-right, and-both, not-both, or-cases}
-use Rattle.yields.specs.Naming.{or-false, or-left, or-right, or-neither, Small, member-members, different-members}
-use Rattle.yields.specs.Choice.{choice, From, Has, Joining, row-lacks, row-has, arm-free, unseen, kept, gone, or-none}
+use Rattle.reference.specs.NameSets.{not-both, or-cases}
+use Rattle.yields.specs.Naming.{or-false, or-left, or-right, Small, member-members, different-members}
+use Rattle.yields.specs.Choice.{choice, From, Has, Joining, row-has, arm-free, unseen, kept, gone, or-none}
 use Rattle.wiring.specs.Counts.{countG}
 use Rattle.wiring.specs.RowCounts.{Same, total-size, total-test, total-none, apart-none, ShareOnly, count-row}
 

@@ -4,25 +4,24 @@
 use Prim.Native.Nat.{ℕ, zero, suc, _+_, _*_, _-_, _≤_, _<_}
 use mathlib.Core.Path.{_≡_, refl, sym, ap, ap₂, _∙_}
 use mathlib.Core.Logic.{_⊎_, inl, inr}
-use mathlib.Core.Bool.{Bool, true, false, cond, _&&_, _||_, not, false≢true}
+use mathlib.Core.Bool.{Bool, true, false, cond, _&&_, _||_, false≢true}
 use mathlib.Core.List.{List, [], _∷_, _++_}
-use mathlib.Core.Option.{Option, none, some}
 use lib.ListN.{length, take, drop, getD, length-append, length-drop}
 use lib.Dec.{eqb}
-use borrow.Author.Tests.{eqb-true, eqb-false, eq-eqb, ne-eqb}
+use borrow.Author.Tests.{eqb-true, eq-eqb, ne-eqb}
 use native.Mathlib.Omega.{arith}
-use native.Mathlib.Nat.{zero-add}
 use Rattle.value.specs.Operators.{pick, operands}
 use Rattle.names.specs.Names.{Names, none as noNames, one, common, union, without, bit, sizeFrom}
-use Rattle.graph.specs.Assembly.{Gate, const, oper, T, F, M, E, IC, Graph, wire, nothing, beside, bind, gate, loop, free, memberOf, gateOutputs, Env, Operator, gateOf, copiesFor, sharing, sharedLinks, firstUse, secondUse, named, spread, chain, chainEnds, chainLinks, ring, upFrom, nameCount, rank, total, listed, linksOf, outputs, operatorsOf}
+use Rattle.graph.specs.Assembly.{Gate, const, oper, T, F, M, E, IC, Graph, wire, nothing, beside, bind, gate, loop, free, memberOf, gateOutputs, Env, Operator, gateOf, sharing, sharedLinks, firstUse, secondUse, named, spread, chain, chainEnds, chainLinks, ring, upFrom, nameCount, rank, total, listed, linksOf, outputs, operatorsOf}
 use Rattle.graph.specs.Yields.{outputCount}
-use Rattle.graph.specs.Fit.{Fit, Different, Used, gateInputs}
-use Rattle.reference.specs.NameSets.{either, and-left, and-right, not-both, without-there}
+use Rattle.graph.specs.Fit.{Fit, Different, gateInputs}
+use Rattle.reference.specs.NameSets.{either, not-both, without-there}
 use Rattle.reference.specs.Binding.{named-others}
 use Rattle.yields.specs.Naming.{length-upFrom}
 use Rattle.yields.specs.FitGraphs.{count-loop}
-use Rattle.wiring.specs.Tally.{times, times-append, times-nil, times-head, times-one, times-cut, times-upFrom, amount, sumOver, sum-cong, sum-same, sum-none, sum-one, sum-plus, sum-union, sum-without, sum-shared, sum-single, sum-double}
-use Rattle.wiring.specs.Links.{inputLinks, outputLinks, taken, emitted, taken-append, emitted-append, hits, taken-copies-of, emitted-copies-of, chain-taken, chain-emitted, ring-taken-of, ring-emitted-of, gate-inputs, gate-outputs, length-chainEnds, length-listed}
+use Rattle.reference.specs.Copies.{ends-length}
+use Rattle.wiring.specs.Tally.{times, times-append, times-nil, times-one, times-cut, times-upFrom, sumOver, sum-cong, sum-same, sum-none, sum-one, sum-plus, sum-union, sum-without, sum-shared, sum-single, sum-double}
+use Rattle.wiring.specs.Links.{inputLinks, outputLinks, taken, emitted, taken-append, emitted-append, hits, taken-copies-of, emitted-copies-of, chain-taken, chain-emitted, ring-taken-of, ring-emitted-of, gate-inputs, gate-outputs}
 
 -- ---- sharing
 
@@ -301,7 +300,7 @@ module _ (l : ℕ) where
       let R = ring (listed (free b)) (memberOf ns) (chainEnds it c s) iterated started own inner in
       regrouped (emitted-five (sharing f g n env) A B C R) (stretch-five n (sharedLinks f g) (linksOf a) s (linksOf b) (chainLinks s))
       (sharing-emitted l f g n env) (emitted-once a m e₁ (h .0)) (emitted-once b (o + s) inner (h .1)) (chain-emits it c s (some-names s (h .6)))
-      (ring-emitted-of l (free b) (memberOf ns) (chainEnds it c s) iterated started own inner (length-chainEnds it c s) ∙ spread-sum l (free b) o)
+      (ring-emitted-of l (free b) (memberOf ns) (chainEnds it c s) iterated started own inner (ends-length s it c) ∙ spread-sum l (free b) o)
 
   head-tail : (ls : List ℕ) → 1 ≤ length ls → times l ls ≡ bit (eqb (getD ls 0 0) l) + times l (drop 1 ls)
   unfolding times
@@ -378,8 +377,8 @@ module _ (l : ℕ) where
       balanced _ _ _ _ _ _ _ _ _ _ _ _ _ _ _ _ _ _ _ _ _ _ _ _ _ _ _ _ (taken-five (sharing f g n env) A B C R) (emitted-five (sharing f g n env) A B C R)
       (sharing-conserved l f g n env) (conserved a m e₁ (h .0)) (conserved b (o + s) inner (h .1))
       (chain-takes it c s (some-names s (h .6)))
-      (ring-taken-of l (free b) (memberOf ns) (chainEnds it c s) iterated started own inner (length-chainEnds it c s))
-      (ring-emitted-of l (free b) (memberOf ns) (chainEnds it c s) iterated started own inner (length-chainEnds it c s))
+      (ring-taken-of l (free b) (memberOf ns) (chainEnds it c s) iterated started own inner (ends-length s it c))
+      (ring-emitted-of l (free b) (memberOf ns) (chainEnds it c s) iterated started own inner (ends-length s it c))
       (bound-names l (free b) ns (hits l iterated) (h .4) ∙ named-sum l ns (drop 1 outs) env (h .3) (enough-iterated (length ns) (length outs) (length (drop 1 outs)) (outputCount b) kb kd (h .5)))
       (bound-names l (free b) ns (hits l started) (h .4) ∙ named-sum l ns first env (h .3) (enough (length ns) (length first) (outputCount a) ka (h .2)))
       (times-cut l (length ns) first) (behind l (length ns) first (none-over (length ns) (length first) (outputCount a) ka (h .2)))

@@ -1,17 +1,18 @@
 -- How many operators and links a graph of the assembly language has, by its parts (formula/specs/Count has the same for formulas), and that
 -- its layout has just so many: the list of its operators is so long, and its own links are so many. At most three links an operator.
 -- Assumes a fit graph for the operators.
-use Prim.Native.Nat.{ℕ, zero, suc, _+_, _*_, _-_, _≤_, _<_}
+use Prim.Native.Nat.{ℕ, zero, suc, _+_, _*_, _-_, _≤_}
 use mathlib.Core.Path.{_≡_, refl, sym, ap, ap₂, _∙_}
-use mathlib.Core.Bool.{Bool, true, false, cond}
+use mathlib.Core.Bool.{true, false}
 use mathlib.Core.List.{List, [], _∷_, _++_}
 use lib.ListN.{length, drop, getD, length-append}
 use native.Mathlib.Omega.{arith}
 use Rattle.names.specs.Names.{Names, common, without}
 use Rattle.formula.specs.Count.{Count, _⊕_, gates, copies}
-use Rattle.graph.specs.Assembly.{Gate, const, oper, T, F, M, E, IC, Graph, wire, nothing, beside, bind, gate, loop, free, memberOf, gateOutputs, Env, Operator, copiesFor, sharing, sharedLinks, chainLinks, firstUse, secondUse, named, spread, chain, chainEnds, ring, total, listed, linksOf, outputs, operatorsOf}
+use Rattle.graph.specs.Assembly.{Gate, const, oper, T, F, M, E, IC, Graph, wire, nothing, beside, bind, gate, loop, free, memberOf, gateOutputs, Env, Operator, copiesFor, sharing, sharedLinks, firstUse, secondUse, named, spread, chain, chainEnds, ring, total, listed, linksOf, outputs, operatorsOf}
 use Rattle.graph.specs.Fit.{Fit}
-use Rattle.wiring.specs.Links.{length-chainEnds, length-listed}
+use Rattle.reference.specs.Copies.{ends-length}
+use Rattle.wiring.specs.Links.{length-listed}
 
 abbrev pub gateCount : Gate → Count
 gateCount g = record { operators = 1; links = gateOutputs g }
@@ -106,7 +107,7 @@ operators-are (loop ns a b) n env h =
     (ring (listed (free b)) (memberOf ns) (chainEnds it c s) iterated started own inner)
     (total (common (free a) g)) (countG a .operators) (countG b .operators) (s - 1) s
     (length-sharing (free a) g n env) (operators-are a m e₁ (h .0)) (operators-are b (o + s) inner (h .1)) (length-chain it c s)
-    (length-ring (listed (free b)) (chainEnds it c s) (memberOf ns) iterated started own inner (length-chainEnds it c s ∙ sym (length-listed (free b)))
+    (length-ring (listed (free b)) (chainEnds it c s) (memberOf ns) iterated started own inner (ends-length s it c ∙ sym (length-listed (free b)))
     ∙ length-listed (free b))
 
 -- ---- at most three links an operator

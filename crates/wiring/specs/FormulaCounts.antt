@@ -1,19 +1,18 @@
 -- The graph of an admitted formula has just the operators and links that formula/specs/Count counts (document 01, "The graph", and test 10): the list
 -- of its operators is so long and its own links are so many. At most 1,024 operators have at most 3,105 links, the inputs' included.
-use Prim.Native.Nat.{ℕ, zero, suc, _+_, _*_, _-_, _≤_, _<_}
-use mathlib.Core.Path.{_≡_, refl, sym, ap, ap₂, _∙_}
+use Prim.Native.Nat.{ℕ, _+_, _*_, _-_, _≤_}
+use mathlib.Core.Path.{_≡_, refl, ap, ap₂, _∙_}
 use mathlib.Core.Bool.{Bool, true, false, not, _&&_, _||_}
-use mathlib.Core.Logic.{inl, inr}
-use mathlib.Core.List.{List, [], _∷_}
+use mathlib.Core.Logic.{inl}
 use lib.ListN.{length}
 use native.Mathlib.Omega.{arith}
 use Rattle.value.specs.declared.Value.the-variants.{Truth}
 use Rattle.names.specs.Names.{Names, trigger, one, union, common, without, range, size}
 use Rattle.names.proofs.Sets.{size-cong, size-le}
 use Rattle.formula.specs.Tree.{Exp, identifier, whole, truth, pair, operator, letE, ifE, forE, Body, ret, iter, letB, ifB}
-use Rattle.formula.specs.Widths.{width, returned, iterated}
+use Rattle.formula.specs.Widths.{width, returned}
 use Rattle.formula.specs.Free.{freeE, freeB}
-use Rattle.formula.specs.Count.{Count, _⊕_, gates, copies, shared, gated as gatedCount, joined as joinedCount, countE, countB}
+use Rattle.formula.specs.Count.{_⊕_, gates, copies, shared, gated as gatedCount, countE, countB}
 use Rattle.formula.specs.Admitted.{AdmittedE, AdmittedB}
 use Rattle.graph.specs.Assembly.{Graph, beside, gateOutputs, free, memberOf, upFrom, total, Env, linksOf, operatorsOf}
 use Rattle.graph.specs.Translation.{testName, returnedName, constantOf, mergeRow, armNames, joined, graphE, graphB, madeOf, portOf}

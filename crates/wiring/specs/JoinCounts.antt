@@ -1,28 +1,40 @@
 -- Counting what joins the arms of an if (graph/specs/Translation): rows of M and E gates, results that pass straight, copies, and the IC gate of
 -- a body's if, as formula/specs/Count has them. Assumes at most sixteen results.
-use Prim.Native.Nat.{ℕ, zero, suc, _+_, _*_, _-_, _≤_, _<_}
-use mathlib.Core.Path.{_≡_, refl, sym, ap, ap₂, _∙_}
+use Prim.Native.Nat.{ℕ, _+_, _*_, _-_, _≤_, _<_}
+use mathlib.Core.Path.{_≡_, refl, sym, ap, _∙_}
 use mathlib.Core.Logic.{_⊎_, inl, inr}
-use mathlib.Core.Bool.{Bool, true, false, cond, _&&_, _||_, not, false≢true}
-use mathlib.Core.List.{List, [], _∷_, _++_}
+use mathlib.Core.Bool.{Bool, true, false, cond, _&&_, _||_, not}
 use lib.ListN.{length}
-use lib.Dec.{eqb, ltb}
-use borrow.Author.Tests.{eqb-true, eqb-false, eq-eqb, ne-eqb, ltb-true, ltb-false}
+use lib.Dec.{eqb}
+use borrow.Author.Tests.{eqb-true, eq-eqb, ne-eqb}
 use native.Mathlib.Omega.{arith}
 use native.Mathlib.Decide.{ℕ-discrete, decLt}
 use Rattle.names.specs.Names.{Names, one, common, union, without}
-use Rattle.formula.specs.Tree.{Exp, Body, ifB}
+use Rattle.formula.specs.Tree.{Body}
 use Rattle.formula.specs.Widths.{iterated}
-use Rattle.formula.specs.Count.{Count, _⊕_, gates, copies, joins, returns, iterates, joined as joinedCount}
-use Rattle.graph.specs.Assembly.{Gate, M, E, IC, Graph, wire, nothing, beside, bind, gate, loop, gateOutputs, free, memberOf, upFrom, total, nameCount}
-use Rattle.graph.specs.Translation.{testName, iterName, iteratedName, returnedName, joinName, row, merged, excepted, mergeRow, exceptRow, straight, copied, iteratedJoin, returnedJoin, joinNames, joined}
-use Rattle.reference.specs.NameSets.{either, and-left, and-right, and-both, not-both, or-cases}
-use Rattle.yields.specs.Naming.{or-false, or-left, or-right, or-neither, length-upFrom, upFrom-holds, below-upFrom, above-upFrom, different-upFrom}
-use Rattle.yields.specs.Choice.{unseen, kept, gone, or-none}
+use Rattle.formula.specs.Count.{_⊕_, gates, copies, returns, iterates, joined as joinedCount}
+use Rattle.graph.specs.Assembly.{Graph, wire, gateOutputs, free, memberOf, upFrom, total, nameCount}
+use Rattle.graph.specs.Translation.{testName, iterName, iteratedName, returnedName, joinName, merged, excepted, mergeRow, exceptRow, straight, copied, iteratedJoin, returnedJoin, joinNames, joined}
+use Rattle.reference.specs.NameSets.{not-both, or-cases}
+use Rattle.yields.specs.Naming.{or-false, or-left, length-upFrom, upFrom-holds, below-upFrom, above-upFrom, different-upFrom}
+use Rattle.yields.specs.Choice.{unseen}
 use Rattle.yields.specs.Joins.{joinI, joinR, joinI-is, joinR-is, merge-lacks, except-lacks, straight-lacks, copied-lacks}
-use Rattle.yields.specs.ArmNames.{join-from, join-has-first}
 use Rattle.wiring.specs.Counts.{countG}
-use Rattle.wiring.specs.RowCounts.{Same, total-none, apart-none, ShareOnly, count-row, count-plain}
+use Rattle.wiring.specs.RowCounts.{Same, apart-none, ShareOnly, count-row, count-plain}
+
+-- ---- sums of rows, by the length of the row
+
+row-gates : (k w a : ℕ) → k ≡ w → a ≡ 1 * k + (k - 1) → a ≡ w + (w - 1)
+row-gates k w a p q = omega arith
+
+row-links : (k w a : ℕ) → k ≡ w → a ≡ 1 * k + 2 * (k - 1) → a ≡ w + 2 * (w - 1)
+row-links k w a p q = omega arith
+
+row-copies : (k w a : ℕ) → k ≡ w → a ≡ 0 * k + (k - 1) → a ≡ w - 1
+row-copies k w a p q = omega arith
+
+row-copy-links : (k w a : ℕ) → k ≡ w → a ≡ 0 * k + 2 * (k - 1) → a ≡ 2 * (w - 1)
+row-copy-links k w a p q = omega arith
 
 -- ---- rows of M
 
@@ -87,13 +99,7 @@ module _ (c : ℕ) (s : Bool → ℕ) (w : ℕ) (m : Merging c s w) where
       (λ i h. merged-count i (omega (arith, upFrom-holds 0 w i h)))
       in
       let l = length-upFrom 0 w in
-      (sum-of (length (upFrom 0 w)) w _ l (r .0), sum-links (length (upFrom 0 w)) w _ l (r .1))
-    where
-      sum-of : (k w a : ℕ) → k ≡ w → a ≡ 1 * k + (k - 1) → a ≡ w + (w - 1)
-      sum-of k w a p q = omega arith
-
-      sum-links : (k w a : ℕ) → k ≡ w → a ≡ 1 * k + 2 * (k - 1) → a ≡ w + 2 * (w - 1)
-      sum-links k w a p q = omega arith
+      (row-gates (length (upFrom 0 w)) w _ l (r .0), row-links (length (upFrom 0 w)) w _ l (r .1))
 
 -- ---- rows of E
 
@@ -129,13 +135,7 @@ module _ (c s w : ℕ) (cb : c < nameCount) (room : w ≤ nameCount) (nc : (i : 
       (λ i h. excepted-count i (omega (arith, upFrom-holds 0 w i h)))
       in
       let l = length-upFrom 0 w in
-      (sum-of (length (upFrom 0 w)) w _ l (r .0), sum-links (length (upFrom 0 w)) w _ l (r .1))
-    where
-      sum-of : (k w a : ℕ) → k ≡ w → a ≡ 1 * k + (k - 1) → a ≡ w + (w - 1)
-      sum-of k w a p q = omega arith
-
-      sum-links : (k w a : ℕ) → k ≡ w → a ≡ 1 * k + 2 * (k - 1) → a ≡ w + 2 * (w - 1)
-      sum-links k w a p q = omega arith
+      (row-gates (length (upFrom 0 w)) w _ l (r .0), row-links (length (upFrom 0 w)) w _ l (r .1))
 
 -- ---- copies, and results that pass straight
 
@@ -157,13 +157,7 @@ module _ (c w : ℕ) (cb : c < nameCount) (room : w ≤ nameCount) where
   count-copied =
       let r = count-row c (λ i. wire c) cb copied-has 0 (upFrom 0 w) (different-upFrom 0 w (omega arith)) copied-shares wire-count in
       let l = length-upFrom 0 w in
-      (sum-of (length (upFrom 0 w)) w _ l (r .0), sum-links (length (upFrom 0 w)) w _ l (r .1))
-    where
-      sum-of : (k w a : ℕ) → k ≡ w → a ≡ 0 * k + (k - 1) → a ≡ w - 1
-      sum-of k w a p q = omega arith
-
-      sum-links : (k w a : ℕ) → k ≡ w → a ≡ 0 * k + 2 * (k - 1) → a ≡ 2 * (w - 1)
-      sum-links k w a p q = omega arith
+      (row-copies (length (upFrom 0 w)) w _ l (r .0), row-copy-links (length (upFrom 0 w)) w _ l (r .1))
 
 module _ (s w : ℕ) (room : s + w ≤ nameCount) where
   straight-shares : ShareOnly nameCount (λ i. wire (s + i)) (upFrom 0 w)

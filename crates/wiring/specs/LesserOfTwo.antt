@@ -2,13 +2,13 @@
 -- inputs; both names are shared by test and arms, and the test's output by the T, the F and the M gate, so that it passes two copies.
 use Prim.Native.Nat.{ℕ}
 use mathlib.Core.Path.{_≡_, refl}
-use mathlib.Core.Bool.{true, false}
+use mathlib.Core.Bool.{false}
 use mathlib.Core.List.{List, [], _∷_}
-use mathlib.Core.Option.{Option, none, some}
-use Rattle.network.specs.Rules.{Kind, copy, operator as operatorKind, T-gate, F-gate, M-gate}
+use mathlib.Core.Option.{none, some}
+use Rattle.network.specs.Rules.{Kind, operator as operatorKind, T-gate, F-gate, M-gate}
 use Rattle.formula.specs.Tree.{Exp, identifier, pair, operator, ifE, formulaOf}
 use Rattle.graph.specs.Assembly.{Operator, copyOf, made, nth}
-use Rattle.graph.specs.Translation.{Made, madeOf}
+use Rattle.graph.specs.Translation.{madeOf}
 use Rattle.cases.specs.Sheets.{bytes, lesser}
 
 abbrev pub lesserOfTwo : Exp

@@ -1,18 +1,18 @@
 -- The links that operators take from and put onto (graph/specs/Assembly), with how often each link stands among them: for the copies of
 -- shared names, the chain of copies of iter?, the gates of a loop, and a gate. Assumes nothing.
-use Prim.Native.Nat.{ℕ, zero, suc, _+_, _*_, _-_, _≤_, _<_}
+use Prim.Native.Nat.{ℕ, zero, suc, _+_, _*_, _-_, _≤_}
 use mathlib.Core.Path.{_≡_, refl, sym, ap, ap₂, _∙_}
-use mathlib.Core.Bool.{Bool, true, false, cond, _&&_, _||_, not, false≢true}
+use mathlib.Core.Bool.{Bool, true, false, not}
 use mathlib.Core.List.{List, [], _∷_, _++_}
 use mathlib.Core.Option.{Option, none, some}
-use lib.ListN.{length, take, drop}
+use lib.ListN.{length}
 use lib.Dec.{eqb}
 use native.Mathlib.Omega.{arith}
 use native.Mathlib.Nat.{zero-add}
-use Rattle.names.specs.Names.{Names, common, union, without, bit, sizeFrom}
-use Rattle.names.proofs.Counts.{sizeFrom-suc, length-membersFrom}
-use Rattle.graph.specs.Assembly.{Gate, const, oper, T, F, M, E, IC, gateOutputs, Env, Operator, nth, made, copyOf, gateOf, copiesFor, chain, chainEnds, chainLinks, ringGate, ring, upFrom, nameCount, rank, total, listed}
-use Rattle.wiring.specs.Tally.{times, times-append, times-nil, times-head, times-one, times-upFrom, amount, sumOver, sum-plus, sum-where, listSum, listSum-listed}
+use Rattle.names.specs.Names.{Names, common, without, bit}
+use Rattle.names.proofs.Counts.{length-membersFrom}
+use Rattle.graph.specs.Assembly.{Gate, const, oper, T, F, M, E, IC, gateOutputs, Env, Operator, nth, gateOf, copiesFor, chain, chainEnds, ringGate, ring, upFrom, nameCount, total, listed}
+use Rattle.wiring.specs.Tally.{times, times-append, times-nil, amount, sumOver, sum-plus, sum-where, listSum, listSum-listed}
 
 abbrev pub optional : Option ℕ → List ℕ
 optional none = []
@@ -122,12 +122,6 @@ module _ (l : ℕ) where
       ∙ ap₂ _+_ (gate-emitted (ids x) c (it x) (st x) (ow x) (out x)) (ring-emitted xs cs ids it st ow out (omega arith))
 
 -- ---- lengths
-
-pub length-chainEnds : (a n k : ℕ) → length (chainEnds a n k) ≡ k
-unfolding chainEnds
-length-chainEnds a n zero = refl
-length-chainEnds a n (suc zero) = refl
-length-chainEnds a n (suc (suc k)) = ap suc (length-chainEnds (suc n) (suc (suc n)) (suc k))
 
 pub length-listed : (f : Names) → length (listed f) ≡ total f
 unfolding listed total

@@ -2,21 +2,20 @@
 -- at most one of them takes and at most one puts, so that any two firings commute (network/specs/Commute): the maker's debt of pieces/specs/Wiring,
 -- and the bench of the schedule lemma (reference/specs/GraphBench) with this network. Assumes a fit graph whose names have different links below
 -- its own, all links below the absent one, and a source and a credit link that are none of them and no register links.
-use Prim.Native.Nat.{ℕ, zero, suc, _+_, _*_, _-_, _≤_, _<_}
+use Prim.Native.Nat.{ℕ, zero, suc, _+_, _-_, _≤_, _<_}
 use mathlib.Core.Path.{_≡_, refl, sym, ap, _∙_, subst}
 use mathlib.Core.Logic.{_≢_, _⊎_, inl, inr}
-use mathlib.Core.Bool.{Bool, true, false}
 use mathlib.Core.List.{List, [], _∷_, _++_}
-use mathlib.Core.Option.{Option, none, some}
+use mathlib.Core.Option.{Option, some}
 use lib.ListN.{length}
 use native.Mathlib.Omega.{arith}
 use Rattle.network.specs.Rules.{Input, first as input₁, second as input₂, third as input₃}
 use Rattle.network.specs.Net.{Demand, halt}
-use Rattle.network.specs.Fill.{Ports, input}
+use Rattle.network.specs.Fill.{input}
 use Rattle.network.specs.Commute.{Free}
 use Rattle.network.specs.Wired.{Uses, never-asks, never-emits}
 use Rattle.network.specs.Ends.{machine}
-use Rattle.network.specs.Uses.{In, inputs, has-input, Takes-from, Puts-onto, fill-uses}
+use Rattle.network.specs.Uses.{In, inputs, Takes-from, Puts-onto, fill-uses}
 use Rattle.pieces.specs.Rows.{in-front, in-back}
 use Rattle.pieces.specs.Sets.{Bench}
 use Rattle.pieces.specs.Wiring.{Wiring, wiring-free}
@@ -28,8 +27,8 @@ use Rattle.reference.specs.Bystanders.{Unused}
 use Rattle.reference.specs.WholeGraph.{whole, yields}
 use Rattle.reference.specs.GraphBench.{ends-apart, graph-bench}
 use Rattle.wiring.specs.Links.{optional, inputLinks, outputLinks}
-use Rattle.wiring.specs.Wiring.{Own, Port, Zone, inputsAt, outputsAt, outputs-zone, Wired, wired}
-use Rattle.wiring.specs.Ports.{port, Linked, Ported}
+use Rattle.wiring.specs.Wiring.{Zone, inputsAt, outputsAt, outputs-zone, Wired, wired}
+use Rattle.wiring.specs.Ports.{port, Ported}
 use Rattle.wiring.specs.PortedGraphs.{ported}
 
 -- The network of a list of operators; a number past the last is no operator.

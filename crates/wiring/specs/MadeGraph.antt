@@ -1,20 +1,20 @@
 -- The made graph of an admitted formula (graph/specs/Translation: madeOf): its inputs have the links 0, 1, .. and the trigger the next, where it is a
 -- free name; its wiring; and that push, take and its operators commute, which is what network/specs/Commute asks. Document 01, "Running": "Push
 -- gives one value to each input link, and one trigger if that link exists .. Take removes one value from each result port."
-use Prim.Native.Nat.{ℕ, zero, suc, _+_, _*_, _-_, _≤_, _<_}
+use Prim.Native.Nat.{ℕ, zero, suc, _+_, _-_, _≤_, _<_}
 use mathlib.Core.Path.{_≡_, refl, sym, ap, ap₂, _∙_, subst}
-use mathlib.Core.Logic.{_≢_, _⊎_, inl, inr}
-use mathlib.Core.Bool.{Bool, true, false, not, _&&_, false≢true}
+use mathlib.Core.Logic.{_≢_, inl, inr}
+use mathlib.Core.Bool.{Bool, true, false}
 use mathlib.Core.List.{List, [], _∷_}
 use lib.ListN.{length, getD}
 use lib.Dec.{eqb}
-use borrow.Author.Tests.{ne-eqb, eq-eqb}
+use borrow.Author.Tests.{ne-eqb}
 use native.Mathlib.Omega.{arith}
 use native.Mathlib.Decide.{decLt}
 use native.Mathlib.Nat.{zero-add}
 use Rattle.names.specs.Names.{Names, trigger, one, without, later, bit, put, size, sizeFrom, members, membersFrom, below}
 use Rattle.names.proofs.Counts.{Member, sizeFrom-cong, sizeFrom-suc}
-use Rattle.names.proofs.Sets.{below-lt, below-suc, below-all, below-cong, length-members, nth-member}
+use Rattle.names.proofs.Sets.{below-lt, below-suc, below-all, length-members, nth-member}
 use Rattle.formula.specs.Tree.{Exp}
 use Rattle.formula.specs.Free.{freeE, inputsOf}
 use Rattle.formula.specs.Count.{countE}
@@ -27,8 +27,7 @@ use Rattle.pieces.specs.Sets.{Different, Bench}
 use Rattle.pieces.specs.Wiring.{Wiring}
 use Rattle.graph.specs.Assembly.{Env, Operator, free, upFrom, rank, total, listed, nameCount, linksOf, outputs, operatorsOf}
 use Rattle.graph.specs.Translation.{graphE, portOf, Made, madeOf}
-use Rattle.graph.specs.Fit.{Fit}
-use Rattle.reference.specs.NameSets.{rank-differs, without-here, without-there, not-both, without-in}
+use Rattle.reference.specs.NameSets.{rank-differs, not-both}
 use Rattle.reference.specs.Plan.{Between, Envs}
 use Rattle.reference.specs.Plugged.{nowhere, registers, Each}
 use Rattle.reference.specs.BehindGate.{in-upFrom}

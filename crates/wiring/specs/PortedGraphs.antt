@@ -2,19 +2,19 @@
 -- operator" (refusal 31) is not met in a graph that was made. Assumes that the links of the names are different and lie below the graph's own,
 -- and that all lie below the absent link.
 use Prim.Native.Nat.{ℕ, zero, suc, _+_, _*_, _-_, _≤_, _<_}
-use mathlib.Core.Path.{_≡_, refl, sym, ap, _∙_, subst}
+use mathlib.Core.Path.{_≡_, refl, sym, _∙_, subst}
 use mathlib.Core.Logic.{_⊎_, inl, inr}
 use mathlib.Core.Bool.{Bool, true, false}
 use mathlib.Core.List.{List, [], _∷_, _++_}
 use lib.ListN.{length, drop, getD, length-drop}
 use native.Mathlib.Omega.{arith}
-use Rattle.names.specs.Names.{Names, common, union, without, later, put, membersFrom}
+use Rattle.names.specs.Names.{Names, common, union, without}
 use Rattle.network.specs.Uses.{In}
-use Rattle.graph.specs.Assembly.{Graph, wire, nothing, beside, bind, gate, loop, free, memberOf, gateOutputs, chainLinks, Env, Operator, copyOf, gateOf, copiesFor, sharing, sharedLinks, firstUse, secondUse, named, spread, chain, chainEnds, ringGate, ring, nameCount, rank, total, listed, linksOf, outputs, operatorsOf}
+use Rattle.graph.specs.Assembly.{Graph, wire, nothing, beside, bind, gate, loop, free, memberOf, gateOutputs, chainLinks, Env, Operator, copyOf, gateOf, copiesFor, sharing, sharedLinks, firstUse, secondUse, named, spread, chain, chainEnds, ringGate, ring, rank, total, listed, linksOf, outputs, operatorsOf}
 use Rattle.graph.specs.Yields.{outputCount}
-use Rattle.graph.specs.Fit.{Fit, bare}
+use Rattle.graph.specs.Fit.{Fit}
 use Rattle.reference.specs.Plugged.{nowhere, Each}
-use Rattle.reference.specs.NameSets.{or-left, and-left, not-both, without-in}
+use Rattle.reference.specs.NameSets.{or-left, and-left, without-in, member-head, member-tail, listed-only}
 use Rattle.reference.specs.Plan.{Between, Envs}
 use Rattle.reference.specs.Sharing.{first-shared, second-shared, envs-first, envs-second}
 use Rattle.reference.specs.Binding.{named-in}
@@ -27,33 +27,10 @@ use Rattle.wiring.specs.Ports.{Ported, each-append, copy-ported, gate-po
 
 -- ---- rows of operators on names
 
-in-put : (x y : ℕ) (b : Bool) (l : List ℕ) → In x (put b y l) → ((b ≡ true) × (x ≡ y)) ⊎ In x l
-in-put x y true l (inl e) = inl (refl, e)
-in-put x y true l (inr i) = inr i
-in-put x y false l i = inr i
-
-in-members : (k at : ℕ) (f : Names) (x : ℕ) → In x (membersFrom k at f) → (i : ℕ) × (i < k) × (f i ≡ true) × (x ≡ at + i)
-unfolding membersFrom
-in-members zero at f x i = absurd i
-in-members (suc k) at f x i = go (in-put x at (f 0) (membersFrom k (suc at) (later f)) i) (λ j. in-members k (suc at) (later f) x j)
-  where
-    go : ((f 0 ≡ true) × (x ≡ at)) ⊎ In x (membersFrom k (suc at) (later f))
-        → (In x (membersFrom k (suc at) (later f)) → (i : ℕ) × (i < k) × (later f i ≡ true) × (x ≡ suc at + i))
-        → (i : ℕ) × (i < suc k) × (f i ≡ true) × (x ≡ at + i)
-    go (inl (e, z)) ih = (0, omega arith, e, omega arith)
-    go (inr j) ih = let w = ih j in (suc (w .0), omega (arith, w .1), w .2, omega (arith, w .3))
-
-pub in-listed : (f : Names) (x : ℕ) → In x (listed f) → (f x ≡ true) × (x < nameCount)
-unfolding listed
-in-listed f x i =
-    let w = in-members nameCount 0 f x i in
-    let z : w .0 ≡ x = omega (arith, w .3) in
-    (subst (λ y. f y ≡ true) z (w .2), subst (λ y. y < nameCount) z (w .1))
-
-copies-each : (xs : List ℕ) (env e₁ e₂ : Env) → ((x : ℕ) → In x xs → Ported (copyOf (env x) (e₁ x) (e₂ x))) → Each Ported (copiesFor xs env e₁ e₂)
+copies-each : (xs : List ℕ) (env e₁ e₂ : Env) → ((x : ℕ) → memberOf xs x ≡ true → Ported (copyOf (env x) (e₁ x) (e₂ x))) → Each Ported (copiesFor xs env e₁ e₂)
 unfolding copiesFor
 copies-each [] env e₁ e₂ h = tt
-copies-each (x ∷ xs) env e₁ e₂ h = (h x (inl refl), copies-each xs env e₁ e₂ (λ y i. h y (inr i)))
+copies-each (x ∷ xs) env e₁ e₂ h = (h x (member-head x xs), copies-each xs env e₁ e₂ (λ y i. h y (member-tail x xs y i)))
 
 below-copies : (a b n r : ℕ) → a < n → b ≡ n + 2 * r → a ≡ b → ⊥
 below-copies a b n r p q e = omega arith
@@ -66,11 +43,11 @@ unfolding sharing
 sharing-ported f g n env E =
     copies-each (listed (common f g)) env (firstUse f g n env) (secondUse f g n env)
     (λ x i.
-    let w = in-listed (common f g) x i in
-    let u = E .below x (or-left (f x) (g x) (and-left (f x) (g x) (w .0))) in
+    let w = listed-only (common f g) x i in
+    let u = E .below x (or-left (f x) (g x) (and-left (f x) (g x) w)) in
     copy-ported (env x) (firstUse f g n env x) (secondUse f g n env x)
-    (below-copies (env x) (firstUse f g n env x) n (rank (common f g) x) u (first-shared f g n env x (w .0)))
-    (below-copies-second (env x) (secondUse f g n env x) n (rank (common f g) x) u (second-shared f g n env x (w .0)))
+    (below-copies (env x) (firstUse f g n env x) n (rank (common f g) x) u (first-shared f g n env x w))
+    (below-copies-second (env x) (secondUse f g n env x) n (rank (common f g) x) u (second-shared f g n env x w))
     )
 
 chain-ported : (a n k : ℕ) → a < n → Each Ported (chain a n k)
@@ -92,12 +69,12 @@ chain-ends a n (suc (suc k)) c (inr i) = inr (go (chain-ends (suc n) (suc (suc n
     go (inr e) = omega arith
 
 ring-each : (xs cs : List ℕ) (ids : Names) (it st ow out : Env)
-    → ((x c : ℕ) → In x xs → In c cs → Ported (ringGate (ids x) c (it x) (st x) (ow x) (out x))) → Each Ported (ring xs ids cs it st ow out)
+    → ((x c : ℕ) → memberOf xs x ≡ true → In c cs → Ported (ringGate (ids x) c (it x) (st x) (ow x) (out x))) → Each Ported (ring xs ids cs it st ow out)
 unfolding ring
 ring-each [] cs ids it st ow out h = tt
 ring-each (x ∷ xs) [] ids it st ow out h = tt
 ring-each (x ∷ xs) (c ∷ cs) ids it st ow out h =
-    (h x c (inl refl) (inl refl), ring-each xs cs ids it st ow out (λ y d i j. h y d (inr i) (inr j)))
+    (h x c (member-head x xs) (inl refl), ring-each xs cs ids it st ow out (λ y d i j. h y d (member-tail x xs y i) (inr j)))
 
 -- The links of a loop's gates: their outputs lie in an interval, all their inputs outside it.
 abbrev Away : ℕ → ℕ → ℕ → Type 0
@@ -248,7 +225,7 @@ module _ (ns : List ℕ) (a b : Graph) (n : ℕ) (env : Env) (F : Fit (loop ns a
   ring-ported =
       ring-each (listed (free b)) (chainEnds it c s) (memberOf ns) iterated started e₂ inner
       (λ x k i j.
-      let e = in-listed (free b) x i .0 in
+      let e = listed-only (free b) x i in
       ring-gate-ported o s (memberOf ns x) k (iterated x) (started x) (e₂ x) (inner x) (inner-own x e) (control-away k j)
       (λ t. (iterated-away x t, started-away x t)) (own-away x e)
       )

@@ -1,24 +1,23 @@
 -- The ports of one operator (graph/specs/Assembly): it has a link for each input of its kind and a first output, and it takes from no link that
 -- it puts onto. Here for a copy, a gate and the gates of a loop, each from what is known of its links. Assumes nothing.
-use Prim.Native.Nat.{ℕ, zero, suc, _+_, _*_, _-_, _≤_, _<_}
-use mathlib.Core.Path.{_≡_, refl, sym, ap, ap₂, _∙_, subst}
-use mathlib.Core.Logic.{_⊎_, inl, inr}
-use mathlib.Core.Bool.{Bool, true, false, cond, _&&_, _||_, not, false≢true}
+use Prim.Native.Nat.{ℕ, zero, suc, _+_, _-_, _<_}
+use mathlib.Core.Path.{_≡_, refl, sym, _∙_, subst}
+use mathlib.Core.Logic.{inl, inr}
+use mathlib.Core.Bool.{Bool, true, false, false≢true}
 use mathlib.Core.List.{List, [], _∷_, _++_}
-use mathlib.Core.Option.{Option, none, some}
+use mathlib.Core.Option.{Option, some}
 use lib.ListN.{length}
-use lib.Dec.{eqb, leb}
 use borrow.Author.Tests.{leb-true}
 use native.Mathlib.Omega.{arith}
 use Rattle.value.specs.Operators.{pick, operands}
 use Rattle.network.specs.Values.{one-operand}
-use Rattle.network.specs.Rules.{Kind, constant, copy, operator, T-gate, F-gate, M-gate, E-gate, IC-gate, FM-gate, FS-gate, Input, first as input₁, second as input₂, third as input₃}
+use Rattle.network.specs.Rules.{Input, first as input₁, second as input₂, third as input₃}
 use Rattle.network.specs.Uses.{In, inputs, has-input, operand-inputs}
 use Rattle.graph.specs.Assembly.{Gate, const, oper, T, F, M, E, IC, gateOutputs, Operator, nth, copyOf, gateOf, ringGate, upFrom}
 use Rattle.graph.specs.Fit.{gateInputs}
 use Rattle.reference.specs.Plugged.{Each}
 use Rattle.reference.specs.BehindGate.{in-upFrom}
-use Rattle.wiring.specs.Links.{optional, inputLinks, outputLinks, gate-inputs, gate-outputs}
+use Rattle.wiring.specs.Links.{inputLinks, outputLinks, gate-inputs, gate-outputs}
 use Rattle.wiring.specs.Conservation.{small-gate}
 
 -- The link of an input port, where there is one.

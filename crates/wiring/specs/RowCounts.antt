@@ -2,24 +2,22 @@
 -- A set's size over the 33 places is its total over all names where it has no other names. Assumes nothing.
 use Prim.Native.Nat.{ℕ, zero, suc, _+_, _*_, _-_, _≤_, _<_}
 use mathlib.Core.Path.{_≡_, refl, sym, ap, ap₂, _∙_}
-use mathlib.Core.Logic.{_⊎_, inl, inr}
-use mathlib.Core.Bool.{Bool, true, false, cond, _&&_, _||_, not, false≢true}
-use mathlib.Core.List.{List, [], _∷_, _++_}
+use mathlib.Core.Bool.{Bool, true, false, _&&_}
+use mathlib.Core.List.{List, [], _∷_}
 use lib.ListN.{length}
-use lib.Dec.{eqb, ltb}
-use borrow.Author.Tests.{eqb-true, eqb-false, eq-eqb, ne-eqb, ltb-true, ltb-false}
+use lib.Dec.{eqb}
+use borrow.Author.Tests.{eqb-true, eqb-false, eq-eqb}
 use native.Mathlib.Omega.{arith}
-use Rattle.names.specs.Names.{Names, one, common, union, without, bit, size, sizeFrom, members}
+use Rattle.names.specs.Names.{Names, one, common, bit, size, sizeFrom}
 use Rattle.names.proofs.Counts.{sizeFrom-cong, sizeFrom-none, sizeFrom-one, sizeFrom-suc}
-use Rattle.names.proofs.Sets.{length-members}
 use Rattle.formula.specs.Count.{Count, _⊕_, gates, copies}
-use Rattle.graph.specs.Assembly.{Gate, T, F, Graph, wire, nothing, beside, bind, gate, loop, gateOutputs, free, memberOf, total, nameCount}
+use Rattle.graph.specs.Assembly.{Graph, nothing, free, memberOf, total, nameCount}
 use Rattle.graph.specs.Fit.{Different}
-use Rattle.graph.specs.Translation.{testName, row, gated, arm}
-use Rattle.reference.specs.NameSets.{either, and-left, and-right, not-both}
-use Rattle.yields.specs.Naming.{or-false, or-left, or-right, Small, member-members, different-members}
-use Rattle.yields.specs.Choice.{choice, From, Has, row-lacks, row-has, arm-free, unseen, kept, gone, or-none}
-use Rattle.wiring.specs.Counts.{countG, sharedCount}
+use Rattle.graph.specs.Translation.{testName, row}
+use Rattle.reference.specs.NameSets.{not-both}
+use Rattle.yields.specs.Naming.{or-left, or-right, Small}
+use Rattle.yields.specs.Choice.{row-lacks, row-has}
+use Rattle.wiring.specs.Counts.{countG}
 
 -- Two counts are the same.
 abbrev pub Same : Count → Count → Type 0

@@ -3,9 +3,9 @@
 use Prim.Native.Nat.{ℕ, zero, suc, _+_, _*_, _-_, _≤_, _<_}
 use mathlib.Core.Path.{_≡_, refl, sym, ap, ap₂, _∙_}
 use mathlib.Core.Logic.{_⊎_, inl, inr}
-use mathlib.Core.Bool.{Bool, true, false, cond, _&&_, _||_, not, false≢true}
+use mathlib.Core.Bool.{Bool, true, false, _&&_, _||_, not}
 use mathlib.Core.List.{List, [], _∷_, _++_}
-use lib.ListN.{length, take, drop}
+use lib.ListN.{take, drop}
 use lib.Dec.{eqb, eqb·suc-suc}
 use borrow.Author.Tests.{eqb-true, eqb-false, eq-eqb, ne-eqb}
 use native.Mathlib.Omega.{arith}
@@ -13,7 +13,7 @@ use native.Mathlib.Nat.{zero-add}
 use Rattle.names.specs.Names.{Names, one, union, common, without, later, bit, put, sizeFrom, membersFrom}
 use Rattle.names.proofs.Counts.{sizeFrom-suc}
 use Rattle.network.specs.Uses.{In}
-use Rattle.graph.specs.Assembly.{nameCount, upFrom, listed, total}
+use Rattle.graph.specs.Assembly.{nameCount, upFrom, listed}
 
 -- ---- how often a link stands in a list
 

@@ -1,15 +1,13 @@
 -- Each link of a fit graph has at most one taker and at most one putter among its operators (document 01, "The graph"; an operator's number is
 -- its position in the list). Operators put onto own links only; they take from own links and from the links of names; no operator takes
 -- from an output. Assumes that the links of the names are different and lie below the graph's own.
-use Prim.Native.Nat.{ℕ, zero, suc, _+_, _*_, _-_, _≤_, _<_}
-use mathlib.Core.Path.{_≡_, refl, sym, ap, ap₂, _∙_, subst}
+use Prim.Native.Nat.{ℕ, zero, suc, _+_, _-_, _≤_, _<_}
+use mathlib.Core.Path.{_≡_, refl, sym, ap, _∙_}
 use mathlib.Core.Logic.{_⊎_, inl, inr}
-use mathlib.Core.Bool.{Bool, true, false, cond, _&&_, _||_, not, false≢true}
-use mathlib.Core.List.{List, [], _∷_, _++_}
-use mathlib.Core.Option.{Option, none, some}
-use lib.ListN.{length}
+use mathlib.Core.Bool.{Bool, true, false}
+use mathlib.Core.List.{List, [], _∷_}
 use lib.Dec.{eqb}
-use borrow.Author.Tests.{eqb-true, eqb-false, eq-eqb, ne-eqb}
+use borrow.Author.Tests.{eqb-true, eq-eqb}
 use native.Mathlib.Omega.{arith}
 use native.Mathlib.Decide.{decLt}
 use Rattle.names.specs.Names.{Names, bit}
@@ -18,7 +16,7 @@ use Rattle.pieces.specs.Sets.{Different}
 use Rattle.graph.specs.Assembly.{Graph, free, Env, Operator, upFrom, nameCount, linksOf, outputs, operatorsOf}
 use Rattle.graph.specs.Fit.{Fit}
 use Rattle.reference.specs.Plan.{Between, Envs}
-use Rattle.wiring.specs.Tally.{times, times-append, times-nil, times-head, in-times, times-in, before-times, behind-times, within-times, amount, sumOver, sum-end}
+use Rattle.wiring.specs.Tally.{times, times-append, times-nil, in-times, before-times, behind-times, within-times, amount, sumOver, sum-end}
 use Rattle.wiring.specs.Links.{inputLinks, outputLinks, taken, emitted, hits}
 use Rattle.wiring.specs.Conservation.{emitted-once, conserved}
 
