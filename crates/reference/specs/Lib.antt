@@ -1,3 +1,4 @@
+-- The root of the specs, in the order of reading: names and layout, single firings, each way of composing graphs, loops, then the whole.
 pub mod NameSets
 pub mod Plugged
 pub mod Firings
