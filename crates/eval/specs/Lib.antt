@@ -1,2 +1,5 @@
 pub mod Words
 pub mod Rows
+pub mod Needs
+pub mod Told
+pub mod ToldBody

@@ -1,5 +1,6 @@
 // Direct evaluation of a formula sheet (document 01, "The meaning" and "Direct evaluation is lent rounds and tells those
 // used").
+pub mod cycle; // cycle.rt: the expression and body evaluators
 pub mod words; // words.rt: values as words in lent arrays
 
 // Which arm of an if a test's value chooses: the first on true, the second on false, neither where it is no truth.
@@ -7,4 +8,28 @@ pub enum Choice {
     First,
     Second,
     Neither,
+}
+
+// What evaluating an expression leaves: the rounds left, or more are needed than were lent.
+pub enum Rest {
+    Left(u32),
+    Short,
+}
+
+// How one round of a body ends, with the rounds left: with an iter, with values to return, or more rounds are needed.
+pub enum Turn {
+    Again(u32),
+    Back(u32),
+    Short,
+}
+
+// A row of a body: an iter, a let, an if, or an expression that ends the body.
+pub enum Way {
+    // a: the row of the values
+    Iter(usize),
+    // the first identifier, the row bound, the row inside
+    Let(u32, usize, usize),
+    // the test's row and the arms'
+    If(usize, usize, usize),
+    End,
 }

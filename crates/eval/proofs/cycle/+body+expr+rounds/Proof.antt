@@ -1,0 +1,3841 @@
+use Prim.Native.Nat.{ℕ, _<_}
+use borrow.Fn.Kinds.{In}
+use borrow.Fn.PlainCycle.{Measures, is, falls, and}
+use Rattle.eval.proofs.cycle.body.Reads as body
+use Rattle.eval.proofs.cycle.body.Kinds as body-kinds
+use Rattle.eval.proofs.cycle.+body+expr+rounds.Lts-body as body-lts
+use Rattle.eval.proofs.cycle.expr.Reads as expr
+use Rattle.eval.proofs.cycle.expr.Kinds as expr-kinds
+use Rattle.eval.proofs.cycle.+body+expr+rounds.Lts-expr as expr-lts
+use Rattle.eval.proofs.cycle.rounds.Reads as rounds
+use Rattle.eval.proofs.cycle.rounds.Kinds as rounds-kinds
+use Rattle.eval.proofs.cycle.+body+expr+rounds.Lts-rounds as rounds-lts
+use Rattle.eval.proofs.cycle.way_at.Reads as way-at-reads
+use Rattle.eval.proofs.words.choose.Reads as choose-reads
+use Rattle.eval.proofs.words.copied.Reads as copied-reads
+use Rattle.eval.proofs.words.copy.Reads as copy-reads
+use Rattle.eval.proofs.words.put_errs.Reads as put-errs-reads
+use Rattle.eval.proofs.words.put_name.Reads as put-name-reads
+use Rattle.eval.proofs.words.put_operator.Reads as put-operator-reads
+use Rattle.eval.proofs.words.put_truth.Reads as put-truth-reads
+use Rattle.eval.proofs.words.put_whole.Reads as put-whole-reads
+use Rattle.eval.proofs.words.wide.Reads as wide-reads
+use Rattle.eval.proofs.words.width_at.Reads as width-at-reads
+use Rattle.sheet.proofs.shape.shape_at.Reads as shape-at-reads
+use Rattle.eval.proofs.cycle.+body+expr+rounds.{statement}
+use Rattle.eval.proofs.cycle.+body+expr+rounds.Tie.{close}
+use Prim.Native.Nat.{_+_, _*_, _-_, _≤_, _<_}
+use mathlib.Core.Path.{_≡_, refl, sym, ap, _∙_}
+use lib.ListN.{length}
+use Rattle.formula.specs.Tree.{bodyOf}
+use Rattle.eval.specs.ToldBody.{Turning}
+use borrow.Author.Needs.{needs}
+
+
+
+abbrev μ-body : Measures 4 body-kinds.ps ℕ
+μ-body κs a = 3 * a .1 .1 .0 + 1
+
+abbrev μ-expr : Measures 4 expr-kinds.ps ℕ
+μ-expr κs a = 3 * a .1 .1 .0
+
+abbrev μ-rounds : Measures 4 rounds-kinds.ps ℕ
+μ-rounds κs a = 3 * a .1 .1 .0 + 2
+
+abbrev body-at : ℕ → In 4 body-kinds.ps
+body-at t = and 4 body-kinds.ps (is 4 body-kinds.ps μ-body t) body.Pre
+
+abbrev body-below : ℕ → In 4 body-kinds.ps
+body-below t = and 4 body-kinds.ps (falls 4 body-kinds.ps _<_ μ-body t) body.Pre
+
+abbrev expr-at : ℕ → In 4 expr-kinds.ps
+expr-at t = and 4 expr-kinds.ps (is 4 expr-kinds.ps μ-expr t) expr.Pre
+
+abbrev expr-below : ℕ → In 4 expr-kinds.ps
+expr-below t = and 4 expr-kinds.ps (falls 4 expr-kinds.ps _<_ μ-expr t) expr.Pre
+
+abbrev rounds-at : ℕ → In 4 rounds-kinds.ps
+rounds-at t = and 4 rounds-kinds.ps (is 4 rounds-kinds.ps μ-rounds t) rounds.Pre
+
+abbrev rounds-below : ℕ → In 4 rounds-kinds.ps
+rounds-below t = and 4 rounds-kinds.ps (falls 4 rounds-kinds.ps _<_ μ-rounds t) rounds.Pre
+
+-- src/cycle.rt:151:11  { ⏎ match way_at(t, r) {
+body-way-at-requires : (t : ℕ) → body-lts.Need-way-at-requires (
+  way-at-reads.Asked,
+  way-at-reads.Learnt,
+  expr-below t,
+  expr.Post,
+  copied-reads.Asked,
+  copied-reads.Learnt,
+  wide-reads.Asked,
+  wide-reads.Learnt,
+  body-below t,
+  body.Post,
+  choose-reads.Asked,
+  choose-reads.Learnt,
+  put-errs-reads.Asked,
+  put-errs-reads.Learnt,
+) (body-at t) body.Post
+body-way-at-requires t c κs = search needs
+
+-- src/cycle.rt:152:19  match way_at(t, r) { ⏎ Way::Iter(a) => match expr(t, widths, a, env, out, 0, left) {
+body-enum-known-a : (t : ℕ) → body-lts.Need-enum-known-a (
+  way-at-reads.Asked,
+  way-at-reads.Learnt,
+  expr-below t,
+  expr.Post,
+  copied-reads.Asked,
+  copied-reads.Learnt,
+  wide-reads.Asked,
+  wide-reads.Learnt,
+  body-below t,
+  body.Post,
+  choose-reads.Asked,
+  choose-reads.Learnt,
+  put-errs-reads.Asked,
+  put-errs-reads.Learnt,
+) (body-at t) body.Post
+body-enum-known-a t c = search needs
+
+-- src/cycle.rt:152:31  match way_at(t, r) { ⏎ Way::Iter(a) => match expr(t, widths, a, env, out, 0, left) {
+body-expr-requires : (t : ℕ) → body-lts.Need-expr-requires (
+  way-at-reads.Asked,
+  way-at-reads.Learnt,
+  expr-below t,
+  expr.Post,
+  copied-reads.Asked,
+  copied-reads.Learnt,
+  wide-reads.Asked,
+  wide-reads.Learnt,
+  body-below t,
+  body.Post,
+  choose-reads.Asked,
+  choose-reads.Learnt,
+  put-errs-reads.Asked,
+  put-errs-reads.Learnt,
+) (body-at t) body.Post
+body-expr-requires t c κs = search needs
+
+-- src/cycle.rt:153:28  Way::Iter(a) => match expr(t, widths, a, env, out, 0, left) { ⏎ Rest::Short => Turn::Short,
+body-enum-told : (t : ℕ) → body-lts.Need-enum-told (
+  way-at-reads.Asked,
+  way-at-reads.Learnt,
+  expr-below t,
+  expr.Post,
+  copied-reads.Asked,
+  copied-reads.Learnt,
+  wide-reads.Asked,
+  wide-reads.Learnt,
+  body-below t,
+  body.Post,
+  choose-reads.Asked,
+  choose-reads.Learnt,
+  put-errs-reads.Asked,
+  put-errs-reads.Learnt,
+) (body-at t) body.Post
+body-enum-told t c = search needs
+
+-- src/cycle.rt:154:24  Rest::Short => Turn::Short, ⏎ Rest::Left(l) => Turn::Again(l),
+body-enum-known-l : (t : ℕ) → body-lts.Need-enum-known-l (
+  way-at-reads.Asked,
+  way-at-reads.Learnt,
+  expr-below t,
+  expr.Post,
+  copied-reads.Asked,
+  copied-reads.Learnt,
+  wide-reads.Asked,
+  wide-reads.Learnt,
+  body-below t,
+  body.Post,
+  choose-reads.Asked,
+  choose-reads.Learnt,
+  put-errs-reads.Asked,
+  put-errs-reads.Learnt,
+) (body-at t) body.Post
+body-enum-known-l t c = search needs
+
+-- src/cycle.rt:156:18  }, ⏎ Way::Let(a, c, d) => {
+body-enum-known-a-2 : (t : ℕ) → body-lts.Need-enum-known-a-2 (
+  way-at-reads.Asked,
+  way-at-reads.Learnt,
+  expr-below t,
+  expr.Post,
+  copied-reads.Asked,
+  copied-reads.Learnt,
+  wide-reads.Asked,
+  wide-reads.Learnt,
+  body-below t,
+  body.Post,
+  choose-reads.Asked,
+  choose-reads.Learnt,
+  put-errs-reads.Asked,
+  put-errs-reads.Learnt,
+) (body-at t) body.Post
+body-enum-known-a-2 t c = search needs
+
+-- src/cycle.rt:157:29  Way::Let(a, c, d) => { ⏎ let mut inner = copied(env);
+body-copied-requires : (t : ℕ) → body-lts.Need-copied-requires (
+  way-at-reads.Asked,
+  way-at-reads.Learnt,
+  expr-below t,
+  expr.Post,
+  copied-reads.Asked,
+  copied-reads.Learnt,
+  wide-reads.Asked,
+  wide-reads.Learnt,
+  body-below t,
+  body.Post,
+  choose-reads.Asked,
+  choose-reads.Learnt,
+  put-errs-reads.Asked,
+  put-errs-reads.Learnt,
+) (body-at t) body.Post
+body-copied-requires t c κs = search needs
+
+-- src/cycle.rt:158:43  let mut inner = copied(env); ⏎ match expr(t, widths, c, env, &mut inner, wide(a), left) {
+body-slice-aggregate-expr : (t : ℕ) → body-lts.Need-slice-aggregate-expr (
+  way-at-reads.Asked,
+  way-at-reads.Learnt,
+  expr-below t,
+  expr.Post,
+  copied-reads.Asked,
+  copied-reads.Learnt,
+  wide-reads.Asked,
+  wide-reads.Learnt,
+  body-below t,
+  body.Post,
+  choose-reads.Asked,
+  choose-reads.Learnt,
+  put-errs-reads.Asked,
+  put-errs-reads.Learnt,
+) (body-at t) body.Post
+body-slice-aggregate-expr t c = search needs
+
+-- src/cycle.rt:158:55  let mut inner = copied(env); ⏎ match expr(t, widths, c, env, &mut inner, wide(a), left) {
+body-wide-requires : (t : ℕ) → body-lts.Need-wide-requires (
+  way-at-reads.Asked,
+  way-at-reads.Learnt,
+  expr-below t,
+  expr.Post,
+  copied-reads.Asked,
+  copied-reads.Learnt,
+  wide-reads.Asked,
+  wide-reads.Learnt,
+  body-below t,
+  body.Post,
+  choose-reads.Asked,
+  choose-reads.Learnt,
+  put-errs-reads.Asked,
+  put-errs-reads.Learnt,
+) (body-at t) body.Post
+body-wide-requires t c κs = search needs
+
+-- src/cycle.rt:158:19  let mut inner = copied(env); ⏎ match expr(t, widths, c, env, &mut inner, wide(a), left) {
+body-expr-requires-2 : (t : ℕ) → body-lts.Need-expr-requires-2 (
+  way-at-reads.Asked,
+  way-at-reads.Learnt,
+  expr-below t,
+  expr.Post,
+  copied-reads.Asked,
+  copied-reads.Learnt,
+  wide-reads.Asked,
+  wide-reads.Learnt,
+  body-below t,
+  body.Post,
+  choose-reads.Asked,
+  choose-reads.Learnt,
+  put-errs-reads.Asked,
+  put-errs-reads.Learnt,
+) (body-at t) body.Post
+body-expr-requires-2 t c κs = search needs
+
+-- src/cycle.rt:159:32  match expr(t, widths, c, env, &mut inner, wide(a), left) { ⏎ Rest::Short => Turn::Short,
+body-enum-told-2 : (t : ℕ) → body-lts.Need-enum-told-2 (
+  way-at-reads.Asked,
+  way-at-reads.Learnt,
+  expr-below t,
+  expr.Post,
+  copied-reads.Asked,
+  copied-reads.Learnt,
+  wide-reads.Asked,
+  wide-reads.Learnt,
+  body-below t,
+  body.Post,
+  choose-reads.Asked,
+  choose-reads.Learnt,
+  put-errs-reads.Asked,
+  put-errs-reads.Learnt,
+) (body-at t) body.Post
+body-enum-told-2 t c = search needs
+
+-- src/cycle.rt:160:28  Rest::Short => Turn::Short, ⏎ Rest::Left(l) => body(t, widths, d, w, &inner, out, l),
+body-enum-known-l-2 : (t : ℕ) → body-lts.Need-enum-known-l-2 (
+  way-at-reads.Asked,
+  way-at-reads.Learnt,
+  expr-below t,
+  expr.Post,
+  copied-reads.Asked,
+  copied-reads.Learnt,
+  wide-reads.Asked,
+  wide-reads.Learnt,
+  body-below t,
+  body.Post,
+  choose-reads.Asked,
+  choose-reads.Learnt,
+  put-errs-reads.Asked,
+  put-errs-reads.Learnt,
+) (body-at t) body.Post
+body-enum-known-l-2 t c = search needs
+
+-- src/cycle.rt:160:56  Rest::Short => Turn::Short, ⏎ Rest::Left(l) => body(t, widths, d, w, &inner, out, l),
+body-slice-aggregate-body : (t : ℕ) → body-lts.Need-slice-aggregate-body (
+  way-at-reads.Asked,
+  way-at-reads.Learnt,
+  expr-below t,
+  expr.Post,
+  copied-reads.Asked,
+  copied-reads.Learnt,
+  wide-reads.Asked,
+  wide-reads.Learnt,
+  body-below t,
+  body.Post,
+  choose-reads.Asked,
+  choose-reads.Learnt,
+  put-errs-reads.Asked,
+  put-errs-reads.Learnt,
+) (body-at t) body.Post
+body-slice-aggregate-body t c = search needs
+
+-- src/cycle.rt:160:34  Rest::Short => Turn::Short, ⏎ Rest::Left(l) => body(t, widths, d, w, &inner, out, l),
+body-body-requires : (t : ℕ) → body-lts.Need-body-requires (
+  way-at-reads.Asked,
+  way-at-reads.Learnt,
+  expr-below t,
+  expr.Post,
+  copied-reads.Asked,
+  copied-reads.Learnt,
+  wide-reads.Asked,
+  wide-reads.Learnt,
+  body-below t,
+  body.Post,
+  choose-reads.Asked,
+  choose-reads.Learnt,
+  put-errs-reads.Asked,
+  put-errs-reads.Learnt,
+) (body-at t) body.Post
+body-body-requires t c κs = search needs
+
+-- src/cycle.rt:163:17  } ⏎ Way::If(a, b, c) => {
+body-enum-known-a-3 : (t : ℕ) → body-lts.Need-enum-known-a-3 (
+  way-at-reads.Asked,
+  way-at-reads.Learnt,
+  expr-below t,
+  expr.Post,
+  copied-reads.Asked,
+  copied-reads.Learnt,
+  wide-reads.Asked,
+  wide-reads.Learnt,
+  body-below t,
+  body.Post,
+  choose-reads.Asked,
+  choose-reads.Learnt,
+  put-errs-reads.Asked,
+  put-errs-reads.Learnt,
+) (body-at t) body.Post
+body-enum-known-a-3 t c = search needs
+
+-- src/cycle.rt:165:43  let mut test = [0; 1]; ⏎ match expr(t, widths, a, env, &mut test, 0, left) {
+body-slice-aggregate-expr-2 : (t : ℕ) → body-lts.Need-slice-aggregate-expr-2 (
+  way-at-reads.Asked,
+  way-at-reads.Learnt,
+  expr-below t,
+  expr.Post,
+  copied-reads.Asked,
+  copied-reads.Learnt,
+  wide-reads.Asked,
+  wide-reads.Learnt,
+  body-below t,
+  body.Post,
+  choose-reads.Asked,
+  choose-reads.Learnt,
+  put-errs-reads.Asked,
+  put-errs-reads.Learnt,
+) (body-at t) body.Post
+body-slice-aggregate-expr-2 t c = search needs
+
+-- src/cycle.rt:165:19  let mut test = [0; 1]; ⏎ match expr(t, widths, a, env, &mut test, 0, left) {
+body-expr-requires-3 : (t : ℕ) → body-lts.Need-expr-requires-3 (
+  way-at-reads.Asked,
+  way-at-reads.Learnt,
+  expr-below t,
+  expr.Post,
+  copied-reads.Asked,
+  copied-reads.Learnt,
+  wide-reads.Asked,
+  wide-reads.Learnt,
+  body-below t,
+  body.Post,
+  choose-reads.Asked,
+  choose-reads.Learnt,
+  put-errs-reads.Asked,
+  put-errs-reads.Learnt,
+) (body-at t) body.Post
+body-expr-requires-3 t c κs = search needs
+
+-- src/cycle.rt:166:32  match expr(t, widths, a, env, &mut test, 0, left) { ⏎ Rest::Short => Turn::Short,
+body-enum-told-3 : (t : ℕ) → body-lts.Need-enum-told-3 (
+  way-at-reads.Asked,
+  way-at-reads.Learnt,
+  expr-below t,
+  expr.Post,
+  copied-reads.Asked,
+  copied-reads.Learnt,
+  wide-reads.Asked,
+  wide-reads.Learnt,
+  body-below t,
+  body.Post,
+  choose-reads.Asked,
+  choose-reads.Learnt,
+  put-errs-reads.Asked,
+  put-errs-reads.Learnt,
+) (body-at t) body.Post
+body-enum-told-3 t c = search needs
+
+-- src/cycle.rt:167:28  Rest::Short => Turn::Short, ⏎ Rest::Left(l) => match choose(&test) {
+body-enum-known-l-3 : (t : ℕ) → body-lts.Need-enum-known-l-3 (
+  way-at-reads.Asked,
+  way-at-reads.Learnt,
+  expr-below t,
+  expr.Post,
+  copied-reads.Asked,
+  copied-reads.Learnt,
+  wide-reads.Asked,
+  wide-reads.Learnt,
+  body-below t,
+  body.Post,
+  choose-reads.Asked,
+  choose-reads.Learnt,
+  put-errs-reads.Asked,
+  put-errs-reads.Learnt,
+) (body-at t) body.Post
+body-enum-known-l-3 t c = search needs
+
+-- src/cycle.rt:167:47  Rest::Short => Turn::Short, ⏎ Rest::Left(l) => match choose(&test) {
+body-slice-aggregate-choose : (t : ℕ) → body-lts.Need-slice-aggregate-choose (
+  way-at-reads.Asked,
+  way-at-reads.Learnt,
+  expr-below t,
+  expr.Post,
+  copied-reads.Asked,
+  copied-reads.Learnt,
+  wide-reads.Asked,
+  wide-reads.Learnt,
+  body-below t,
+  body.Post,
+  choose-reads.Asked,
+  choose-reads.Learnt,
+  put-errs-reads.Asked,
+  put-errs-reads.Learnt,
+) (body-at t) body.Post
+body-slice-aggregate-choose t c = search needs
+
+-- src/cycle.rt:167:40  Rest::Short => Turn::Short, ⏎ Rest::Left(l) => match choose(&test) {
+body-choose-requires : (t : ℕ) → body-lts.Need-choose-requires (
+  way-at-reads.Asked,
+  way-at-reads.Learnt,
+  expr-below t,
+  expr.Post,
+  copied-reads.Asked,
+  copied-reads.Learnt,
+  wide-reads.Asked,
+  wide-reads.Learnt,
+  body-below t,
+  body.Post,
+  choose-reads.Asked,
+  choose-reads.Learnt,
+  put-errs-reads.Asked,
+  put-errs-reads.Learnt,
+) (body-at t) body.Post
+body-choose-requires t c κs = search needs
+
+-- src/cycle.rt:168:65  Rest::Left(l) => match choose(&test) { ⏎ Choice::First => body(t, widths, b, w, env, out, l),
+body-enum-told-4 : (t : ℕ) → body-lts.Need-enum-told-4 (
+  way-at-reads.Asked,
+  way-at-reads.Learnt,
+  expr-below t,
+  expr.Post,
+  copied-reads.Asked,
+  copied-reads.Learnt,
+  wide-reads.Asked,
+  wide-reads.Learnt,
+  body-below t,
+  body.Post,
+  choose-reads.Asked,
+  choose-reads.Learnt,
+  put-errs-reads.Asked,
+  put-errs-reads.Learnt,
+) (body-at t) body.Post
+body-enum-told-4 t c = search needs
+
+-- src/cycle.rt:168:38  Rest::Left(l) => match choose(&test) { ⏎ Choice::First => body(t, widths, b, w, env, out, l),
+body-body-requires-2 : (t : ℕ) → body-lts.Need-body-requires-2 (
+  way-at-reads.Asked,
+  way-at-reads.Learnt,
+  expr-below t,
+  expr.Post,
+  copied-reads.Asked,
+  copied-reads.Learnt,
+  wide-reads.Asked,
+  wide-reads.Learnt,
+  body-below t,
+  body.Post,
+  choose-reads.Asked,
+  choose-reads.Learnt,
+  put-errs-reads.Asked,
+  put-errs-reads.Learnt,
+) (body-at t) body.Post
+body-body-requires-2 t c κs = search needs
+
+-- src/cycle.rt:169:66  Choice::First => body(t, widths, b, w, env, out, l), ⏎ Choice::Second => body(t, widths, c, w, env, out, l),
+body-enum-told-5 : (t : ℕ) → body-lts.Need-enum-told-5 (
+  way-at-reads.Asked,
+  way-at-reads.Learnt,
+  expr-below t,
+  expr.Post,
+  copied-reads.Asked,
+  copied-reads.Learnt,
+  wide-reads.Asked,
+  wide-reads.Learnt,
+  body-below t,
+  body.Post,
+  choose-reads.Asked,
+  choose-reads.Learnt,
+  put-errs-reads.Asked,
+  put-errs-reads.Learnt,
+) (body-at t) body.Post
+body-enum-told-5 t c = search needs
+
+-- src/cycle.rt:169:39  Choice::First => body(t, widths, b, w, env, out, l), ⏎ Choice::Second => body(t, widths, c, w, env, out, l),
+body-body-requires-3 : (t : ℕ) → body-lts.Need-body-requires-3 (
+  way-at-reads.Asked,
+  way-at-reads.Learnt,
+  expr-below t,
+  expr.Post,
+  copied-reads.Asked,
+  copied-reads.Learnt,
+  wide-reads.Asked,
+  wide-reads.Learnt,
+  body-below t,
+  body.Post,
+  choose-reads.Asked,
+  choose-reads.Learnt,
+  put-errs-reads.Asked,
+  put-errs-reads.Learnt,
+) (body-at t) body.Post
+body-body-requires-3 t c κs = search needs
+
+-- src/cycle.rt:171:34  Choice::Neither => { ⏎ put_errs(out, 0, w);
+body-enum-told-6 : (t : ℕ) → body-lts.Need-enum-told-6 (
+  way-at-reads.Asked,
+  way-at-reads.Learnt,
+  expr-below t,
+  expr.Post,
+  copied-reads.Asked,
+  copied-reads.Learnt,
+  wide-reads.Asked,
+  wide-reads.Learnt,
+  body-below t,
+  body.Post,
+  choose-reads.Asked,
+  choose-reads.Learnt,
+  put-errs-reads.Asked,
+  put-errs-reads.Learnt,
+) (body-at t) body.Post
+body-enum-told-6 t c = search needs
+
+-- src/cycle.rt:171:25  Choice::Neither => { ⏎ put_errs(out, 0, w);
+body-put-errs-requires : (t : ℕ) → body-lts.Need-put-errs-requires (
+  way-at-reads.Asked,
+  way-at-reads.Learnt,
+  expr-below t,
+  expr.Post,
+  copied-reads.Asked,
+  copied-reads.Learnt,
+  wide-reads.Asked,
+  wide-reads.Learnt,
+  body-below t,
+  body.Post,
+  choose-reads.Asked,
+  choose-reads.Learnt,
+  put-errs-reads.Asked,
+  put-errs-reads.Learnt,
+) (body-at t) body.Post
+body-put-errs-requires t c κs = search needs
+
+-- src/cycle.rt:177:51  } ⏎ Way::End => match expr(t, widths, r, env, out, 0, left) {
+body-enum-told-7 : (t : ℕ) → body-lts.Need-enum-told-7 (
+  way-at-reads.Asked,
+  way-at-reads.Learnt,
+  expr-below t,
+  expr.Post,
+  copied-reads.Asked,
+  copied-reads.Learnt,
+  wide-reads.Asked,
+  wide-reads.Learnt,
+  body-below t,
+  body.Post,
+  choose-reads.Asked,
+  choose-reads.Learnt,
+  put-errs-reads.Asked,
+  put-errs-reads.Learnt,
+) (body-at t) body.Post
+body-enum-told-7 t c = search needs
+
+-- src/cycle.rt:177:27  } ⏎ Way::End => match expr(t, widths, r, env, out, 0, left) {
+body-expr-requires-4 : (t : ℕ) → body-lts.Need-expr-requires-4 (
+  way-at-reads.Asked,
+  way-at-reads.Learnt,
+  expr-below t,
+  expr.Post,
+  copied-reads.Asked,
+  copied-reads.Learnt,
+  wide-reads.Asked,
+  wide-reads.Learnt,
+  body-below t,
+  body.Post,
+  choose-reads.Asked,
+  choose-reads.Learnt,
+  put-errs-reads.Asked,
+  put-errs-reads.Learnt,
+) (body-at t) body.Post
+body-expr-requires-4 t c κs = search needs
+
+-- src/cycle.rt:178:28  Way::End => match expr(t, widths, r, env, out, 0, left) { ⏎ Rest::Short => Turn::Short,
+body-enum-told-8 : (t : ℕ) → body-lts.Need-enum-told-8 (
+  way-at-reads.Asked,
+  way-at-reads.Learnt,
+  expr-below t,
+  expr.Post,
+  copied-reads.Asked,
+  copied-reads.Learnt,
+  wide-reads.Asked,
+  wide-reads.Learnt,
+  body-below t,
+  body.Post,
+  choose-reads.Asked,
+  choose-reads.Learnt,
+  put-errs-reads.Asked,
+  put-errs-reads.Learnt,
+) (body-at t) body.Post
+body-enum-told-8 t c = search needs
+
+-- src/cycle.rt:179:24  Rest::Short => Turn::Short, ⏎ Rest::Left(l) => Turn::Back(l),
+body-enum-known-l-4 : (t : ℕ) → body-lts.Need-enum-known-l-4 (
+  way-at-reads.Asked,
+  way-at-reads.Learnt,
+  expr-below t,
+  expr.Post,
+  copied-reads.Asked,
+  copied-reads.Learnt,
+  wide-reads.Asked,
+  wide-reads.Learnt,
+  body-below t,
+  body.Post,
+  choose-reads.Asked,
+  choose-reads.Learnt,
+  put-errs-reads.Asked,
+  put-errs-reads.Learnt,
+) (body-at t) body.Post
+body-enum-known-l-4 t c = search needs
+
+-- src/cycle.rt:147:1  // `out`. ⏎ fn body(t: &[u32], widths: &[u8], r: usize, w: usize, env: &[u64], out: &mut [u64], left: u32) -> Turn
+body-same-length : (t : ℕ) → body-lts.Need-same-length (
+  way-at-reads.Asked,
+  way-at-reads.Learnt,
+  expr-below t,
+  expr.Post,
+  copied-reads.Asked,
+  copied-reads.Learnt,
+  wide-reads.Asked,
+  wide-reads.Learnt,
+  body-below t,
+  body.Post,
+  choose-reads.Asked,
+  choose-reads.Learnt,
+  put-errs-reads.Asked,
+  put-errs-reads.Learnt,
+) (body-at t) body.Post
+body-same-length t c = search needs
+
+-- src/cycle.rt:147:1  // `out`. ⏎ fn body(t: &[u32], widths: &[u8], r: usize, w: usize, env: &[u64], out: &mut [u64], left: u32) -> Turn
+body-returns : (t : ℕ) → body-lts.Need-returns (
+  way-at-reads.Asked,
+  way-at-reads.Learnt,
+  expr-below t,
+  expr.Post,
+  copied-reads.Asked,
+  copied-reads.Learnt,
+  wide-reads.Asked,
+  wide-reads.Learnt,
+  body-below t,
+  body.Post,
+  choose-reads.Asked,
+  choose-reads.Learnt,
+  put-errs-reads.Asked,
+  put-errs-reads.Learnt,
+) (body-at t) body.Post
+body-returns t c = search needs
+
+-- src/cycle.rt:147:1  // `out`. ⏎ fn body(t: &[u32], widths: &[u8], r: usize, w: usize, env: &[u64], out: &mut [u64], left: u32) -> Turn
+body-same-length-2 : (t : ℕ) → body-lts.Need-same-length-2 (
+  way-at-reads.Asked,
+  way-at-reads.Learnt,
+  expr-below t,
+  expr.Post,
+  copied-reads.Asked,
+  copied-reads.Learnt,
+  wide-reads.Asked,
+  wide-reads.Learnt,
+  body-below t,
+  body.Post,
+  choose-reads.Asked,
+  choose-reads.Learnt,
+  put-errs-reads.Asked,
+  put-errs-reads.Learnt,
+) (body-at t) body.Post
+body-same-length-2 t c = search needs
+
+-- src/cycle.rt:147:1  // `out`. ⏎ fn body(t: &[u32], widths: &[u8], r: usize, w: usize, env: &[u64], out: &mut [u64], left: u32) -> Turn
+body-returns-2 : (t : ℕ) → body-lts.Need-returns-2 (
+  way-at-reads.Asked,
+  way-at-reads.Learnt,
+  expr-below t,
+  expr.Post,
+  copied-reads.Asked,
+  copied-reads.Learnt,
+  wide-reads.Asked,
+  wide-reads.Learnt,
+  body-below t,
+  body.Post,
+  choose-reads.Asked,
+  choose-reads.Learnt,
+  put-errs-reads.Asked,
+  put-errs-reads.Learnt,
+) (body-at t) body.Post
+body-returns-2 t c = search needs
+
+-- src/cycle.rt:147:1  // `out`. ⏎ fn body(t: &[u32], widths: &[u8], r: usize, w: usize, env: &[u64], out: &mut [u64], left: u32) -> Turn
+body-returns-3 : (t : ℕ) → body-lts.Need-returns-3 (
+  way-at-reads.Asked,
+  way-at-reads.Learnt,
+  expr-below t,
+  expr.Post,
+  copied-reads.Asked,
+  copied-reads.Learnt,
+  wide-reads.Asked,
+  wide-reads.Learnt,
+  body-below t,
+  body.Post,
+  choose-reads.Asked,
+  choose-reads.Learnt,
+  put-errs-reads.Asked,
+  put-errs-reads.Learnt,
+) (body-at t) body.Post
+body-returns-3 t c = search needs
+
+-- src/cycle.rt:147:1  // `out`. ⏎ fn body(t: &[u32], widths: &[u8], r: usize, w: usize, env: &[u64], out: &mut [u64], left: u32) -> Turn
+body-same-length-3 : (t : ℕ) → body-lts.Need-same-length-3 (
+  way-at-reads.Asked,
+  way-at-reads.Learnt,
+  expr-below t,
+  expr.Post,
+  copied-reads.Asked,
+  copied-reads.Learnt,
+  wide-reads.Asked,
+  wide-reads.Learnt,
+  body-below t,
+  body.Post,
+  choose-reads.Asked,
+  choose-reads.Learnt,
+  put-errs-reads.Asked,
+  put-errs-reads.Learnt,
+) (body-at t) body.Post
+body-same-length-3 t c = search needs
+
+-- src/cycle.rt:147:1  // `out`. ⏎ fn body(t: &[u32], widths: &[u8], r: usize, w: usize, env: &[u64], out: &mut [u64], left: u32) -> Turn
+body-returns-4 : (t : ℕ) → body-lts.Need-returns-4 (
+  way-at-reads.Asked,
+  way-at-reads.Learnt,
+  expr-below t,
+  expr.Post,
+  copied-reads.Asked,
+  copied-reads.Learnt,
+  wide-reads.Asked,
+  wide-reads.Learnt,
+  body-below t,
+  body.Post,
+  choose-reads.Asked,
+  choose-reads.Learnt,
+  put-errs-reads.Asked,
+  put-errs-reads.Learnt,
+) (body-at t) body.Post
+body-returns-4 t c = search needs
+
+-- src/cycle.rt:147:1  // `out`. ⏎ fn body(t: &[u32], widths: &[u8], r: usize, w: usize, env: &[u64], out: &mut [u64], left: u32) -> Turn
+body-returns-5 : (t : ℕ) → body-lts.Need-returns-5 (
+  way-at-reads.Asked,
+  way-at-reads.Learnt,
+  expr-below t,
+  expr.Post,
+  copied-reads.Asked,
+  copied-reads.Learnt,
+  wide-reads.Asked,
+  wide-reads.Learnt,
+  body-below t,
+  body.Post,
+  choose-reads.Asked,
+  choose-reads.Learnt,
+  put-errs-reads.Asked,
+  put-errs-reads.Learnt,
+) (body-at t) body.Post
+body-returns-5 t c = search needs
+
+-- src/cycle.rt:147:1  // `out`. ⏎ fn body(t: &[u32], widths: &[u8], r: usize, w: usize, env: &[u64], out: &mut [u64], left: u32) -> Turn
+body-same-length-4 : (t : ℕ) → body-lts.Need-same-length-4 (
+  way-at-reads.Asked,
+  way-at-reads.Learnt,
+  expr-below t,
+  expr.Post,
+  copied-reads.Asked,
+  copied-reads.Learnt,
+  wide-reads.Asked,
+  wide-reads.Learnt,
+  body-below t,
+  body.Post,
+  choose-reads.Asked,
+  choose-reads.Learnt,
+  put-errs-reads.Asked,
+  put-errs-reads.Learnt,
+) (body-at t) body.Post
+body-same-length-4 t c = search needs
+
+-- src/cycle.rt:147:1  // `out`. ⏎ fn body(t: &[u32], widths: &[u8], r: usize, w: usize, env: &[u64], out: &mut [u64], left: u32) -> Turn
+body-returns-6 : (t : ℕ) → body-lts.Need-returns-6 (
+  way-at-reads.Asked,
+  way-at-reads.Learnt,
+  expr-below t,
+  expr.Post,
+  copied-reads.Asked,
+  copied-reads.Learnt,
+  wide-reads.Asked,
+  wide-reads.Learnt,
+  body-below t,
+  body.Post,
+  choose-reads.Asked,
+  choose-reads.Learnt,
+  put-errs-reads.Asked,
+  put-errs-reads.Learnt,
+) (body-at t) body.Post
+body-returns-6 t c = search needs
+
+-- src/cycle.rt:147:1  // `out`. ⏎ fn body(t: &[u32], widths: &[u8], r: usize, w: usize, env: &[u64], out: &mut [u64], left: u32) -> Turn
+body-same-length-5 : (t : ℕ) → body-lts.Need-same-length-5 (
+  way-at-reads.Asked,
+  way-at-reads.Learnt,
+  expr-below t,
+  expr.Post,
+  copied-reads.Asked,
+  copied-reads.Learnt,
+  wide-reads.Asked,
+  wide-reads.Learnt,
+  body-below t,
+  body.Post,
+  choose-reads.Asked,
+  choose-reads.Learnt,
+  put-errs-reads.Asked,
+  put-errs-reads.Learnt,
+) (body-at t) body.Post
+body-same-length-5 t c = search needs
+
+-- src/cycle.rt:147:1  // `out`. ⏎ fn body(t: &[u32], widths: &[u8], r: usize, w: usize, env: &[u64], out: &mut [u64], left: u32) -> Turn
+body-returns-7 : (t : ℕ) → body-lts.Need-returns-7 (
+  way-at-reads.Asked,
+  way-at-reads.Learnt,
+  expr-below t,
+  expr.Post,
+  copied-reads.Asked,
+  copied-reads.Learnt,
+  wide-reads.Asked,
+  wide-reads.Learnt,
+  body-below t,
+  body.Post,
+  choose-reads.Asked,
+  choose-reads.Learnt,
+  put-errs-reads.Asked,
+  put-errs-reads.Learnt,
+) (body-at t) body.Post
+body-returns-7 t c = search needs
+
+-- src/cycle.rt:147:1  // `out`. ⏎ fn body(t: &[u32], widths: &[u8], r: usize, w: usize, env: &[u64], out: &mut [u64], left: u32) -> Turn
+body-same-length-6 : (t : ℕ) → body-lts.Need-same-length-6 (
+  way-at-reads.Asked,
+  way-at-reads.Learnt,
+  expr-below t,
+  expr.Post,
+  copied-reads.Asked,
+  copied-reads.Learnt,
+  wide-reads.Asked,
+  wide-reads.Learnt,
+  body-below t,
+  body.Post,
+  choose-reads.Asked,
+  choose-reads.Learnt,
+  put-errs-reads.Asked,
+  put-errs-reads.Learnt,
+) (body-at t) body.Post
+body-same-length-6 t c = search needs
+
+-- src/cycle.rt:147:1  // `out`. ⏎ fn body(t: &[u32], widths: &[u8], r: usize, w: usize, env: &[u64], out: &mut [u64], left: u32) -> Turn
+body-returns-8 : (t : ℕ) → body-lts.Need-returns-8 (
+  way-at-reads.Asked,
+  way-at-reads.Learnt,
+  expr-below t,
+  expr.Post,
+  copied-reads.Asked,
+  copied-reads.Learnt,
+  wide-reads.Asked,
+  wide-reads.Learnt,
+  body-below t,
+  body.Post,
+  choose-reads.Asked,
+  choose-reads.Learnt,
+  put-errs-reads.Asked,
+  put-errs-reads.Learnt,
+) (body-at t) body.Post
+body-returns-8 t c = search needs
+
+-- src/cycle.rt:147:1  // `out`. ⏎ fn body(t: &[u32], widths: &[u8], r: usize, w: usize, env: &[u64], out: &mut [u64], left: u32) -> Turn
+body-same-length-7 : (t : ℕ) → body-lts.Need-same-length-7 (
+  way-at-reads.Asked,
+  way-at-reads.Learnt,
+  expr-below t,
+  expr.Post,
+  copied-reads.Asked,
+  copied-reads.Learnt,
+  wide-reads.Asked,
+  wide-reads.Learnt,
+  body-below t,
+  body.Post,
+  choose-reads.Asked,
+  choose-reads.Learnt,
+  put-errs-reads.Asked,
+  put-errs-reads.Learnt,
+) (body-at t) body.Post
+body-same-length-7 t c = search needs
+
+-- src/cycle.rt:147:1  // `out`. ⏎ fn body(t: &[u32], widths: &[u8], r: usize, w: usize, env: &[u64], out: &mut [u64], left: u32) -> Turn
+body-returns-9 : (t : ℕ) → body-lts.Need-returns-9 (
+  way-at-reads.Asked,
+  way-at-reads.Learnt,
+  expr-below t,
+  expr.Post,
+  copied-reads.Asked,
+  copied-reads.Learnt,
+  wide-reads.Asked,
+  wide-reads.Learnt,
+  body-below t,
+  body.Post,
+  choose-reads.Asked,
+  choose-reads.Learnt,
+  put-errs-reads.Asked,
+  put-errs-reads.Learnt,
+) (body-at t) body.Post
+body-returns-9 t c = search needs
+
+-- src/cycle.rt:147:1  // `out`. ⏎ fn body(t: &[u32], widths: &[u8], r: usize, w: usize, env: &[u64], out: &mut [u64], left: u32) -> Turn
+body-same-length-8 : (t : ℕ) → body-lts.Need-same-length-8 (
+  way-at-reads.Asked,
+  way-at-reads.Learnt,
+  expr-below t,
+  expr.Post,
+  copied-reads.Asked,
+  copied-reads.Learnt,
+  wide-reads.Asked,
+  wide-reads.Learnt,
+  body-below t,
+  body.Post,
+  choose-reads.Asked,
+  choose-reads.Learnt,
+  put-errs-reads.Asked,
+  put-errs-reads.Learnt,
+) (body-at t) body.Post
+body-same-length-8 t c = search needs
+
+-- src/cycle.rt:147:1  // `out`. ⏎ fn body(t: &[u32], widths: &[u8], r: usize, w: usize, env: &[u64], out: &mut [u64], left: u32) -> Turn
+body-returns-10 : (t : ℕ) → body-lts.Need-returns-10 (
+  way-at-reads.Asked,
+  way-at-reads.Learnt,
+  expr-below t,
+  expr.Post,
+  copied-reads.Asked,
+  copied-reads.Learnt,
+  wide-reads.Asked,
+  wide-reads.Learnt,
+  body-below t,
+  body.Post,
+  choose-reads.Asked,
+  choose-reads.Learnt,
+  put-errs-reads.Asked,
+  put-errs-reads.Learnt,
+) (body-at t) body.Post
+body-returns-10 t c = search needs
+
+-- src/cycle.rt:59:11  { ⏎ match shape_at(t, r) {
+expr-shape-at-requires : (t : ℕ) → expr-lts.Need-shape-at-requires (
+  shape-at-reads.Asked,
+  shape-at-reads.Learnt,
+  put-name-reads.Asked,
+  put-name-reads.Learnt,
+  put-whole-reads.Asked,
+  put-whole-reads.Learnt,
+  put-truth-reads.Asked,
+  put-truth-reads.Learnt,
+  expr-below t,
+  expr.Post,
+  width-at-reads.Asked,
+  width-at-reads.Learnt,
+  put-operator-reads.Asked,
+  put-operator-reads.Learnt,
+  copied-reads.Asked,
+  copied-reads.Learnt,
+  wide-reads.Asked,
+  wide-reads.Learnt,
+  choose-reads.Asked,
+  choose-reads.Learnt,
+  put-errs-reads.Asked,
+  put-errs-reads.Learnt,
+  rounds-below t,
+  rounds.Post,
+) (expr-at t) expr.Post
+expr-shape-at-requires t c κs = search needs
+
+-- src/cycle.rt:60:27  match shape_at(t, r) { ⏎ Shape::Identifier(a) => {
+expr-enum-known-a : (t : ℕ) → expr-lts.Need-enum-known-a (
+  shape-at-reads.Asked,
+  shape-at-reads.Learnt,
+  put-name-reads.Asked,
+  put-name-reads.Learnt,
+  put-whole-reads.Asked,
+  put-whole-reads.Learnt,
+  put-truth-reads.Asked,
+  put-truth-reads.Learnt,
+  expr-below t,
+  expr.Post,
+  width-at-reads.Asked,
+  width-at-reads.Learnt,
+  put-operator-reads.Asked,
+  put-operator-reads.Learnt,
+  copied-reads.Asked,
+  copied-reads.Learnt,
+  wide-reads.Asked,
+  wide-reads.Learnt,
+  choose-reads.Asked,
+  choose-reads.Learnt,
+  put-errs-reads.Asked,
+  put-errs-reads.Learnt,
+  rounds-below t,
+  rounds.Post,
+) (expr-at t) expr.Post
+expr-enum-known-a t c = search needs
+
+-- src/cycle.rt:61:13  Shape::Identifier(a) => { ⏎ put_name(out, at, env, a);
+expr-put-name-requires : (t : ℕ) → expr-lts.Need-put-name-requires (
+  shape-at-reads.Asked,
+  shape-at-reads.Learnt,
+  put-name-reads.Asked,
+  put-name-reads.Learnt,
+  put-whole-reads.Asked,
+  put-whole-reads.Learnt,
+  put-truth-reads.Asked,
+  put-truth-reads.Learnt,
+  expr-below t,
+  expr.Post,
+  width-at-reads.Asked,
+  width-at-reads.Learnt,
+  put-operator-reads.Asked,
+  put-operator-reads.Learnt,
+  copied-reads.Asked,
+  copied-reads.Learnt,
+  wide-reads.Asked,
+  wide-reads.Learnt,
+  choose-reads.Asked,
+  choose-reads.Learnt,
+  put-errs-reads.Asked,
+  put-errs-reads.Learnt,
+  rounds-below t,
+  rounds.Post,
+) (expr-at t) expr.Post
+expr-put-name-requires t c κs = search needs
+
+-- src/cycle.rt:64:22  } ⏎ Shape::Whole(a) => {
+expr-enum-known-a-2 : (t : ℕ) → expr-lts.Need-enum-known-a-2 (
+  shape-at-reads.Asked,
+  shape-at-reads.Learnt,
+  put-name-reads.Asked,
+  put-name-reads.Learnt,
+  put-whole-reads.Asked,
+  put-whole-reads.Learnt,
+  put-truth-reads.Asked,
+  put-truth-reads.Learnt,
+  expr-below t,
+  expr.Post,
+  width-at-reads.Asked,
+  width-at-reads.Learnt,
+  put-operator-reads.Asked,
+  put-operator-reads.Learnt,
+  copied-reads.Asked,
+  copied-reads.Learnt,
+  wide-reads.Asked,
+  wide-reads.Learnt,
+  choose-reads.Asked,
+  choose-reads.Learnt,
+  put-errs-reads.Asked,
+  put-errs-reads.Learnt,
+  rounds-below t,
+  rounds.Post,
+) (expr-at t) expr.Post
+expr-enum-known-a-2 t c = search needs
+
+-- src/cycle.rt:65:13  Shape::Whole(a) => { ⏎ put_whole(out, at, a);
+expr-put-whole-requires : (t : ℕ) → expr-lts.Need-put-whole-requires (
+  shape-at-reads.Asked,
+  shape-at-reads.Learnt,
+  put-name-reads.Asked,
+  put-name-reads.Learnt,
+  put-whole-reads.Asked,
+  put-whole-reads.Learnt,
+  put-truth-reads.Asked,
+  put-truth-reads.Learnt,
+  expr-below t,
+  expr.Post,
+  width-at-reads.Asked,
+  width-at-reads.Learnt,
+  put-operator-reads.Asked,
+  put-operator-reads.Learnt,
+  copied-reads.Asked,
+  copied-reads.Learnt,
+  wide-reads.Asked,
+  wide-reads.Learnt,
+  choose-reads.Asked,
+  choose-reads.Learnt,
+  put-errs-reads.Asked,
+  put-errs-reads.Learnt,
+  rounds-below t,
+  rounds.Post,
+) (expr-at t) expr.Post
+expr-put-whole-requires t c κs = search needs
+
+-- src/cycle.rt:68:22  } ⏎ Shape::Truth(a) => {
+expr-enum-known-a-3 : (t : ℕ) → expr-lts.Need-enum-known-a-3 (
+  shape-at-reads.Asked,
+  shape-at-reads.Learnt,
+  put-name-reads.Asked,
+  put-name-reads.Learnt,
+  put-whole-reads.Asked,
+  put-whole-reads.Learnt,
+  put-truth-reads.Asked,
+  put-truth-reads.Learnt,
+  expr-below t,
+  expr.Post,
+  width-at-reads.Asked,
+  width-at-reads.Learnt,
+  put-operator-reads.Asked,
+  put-operator-reads.Learnt,
+  copied-reads.Asked,
+  copied-reads.Learnt,
+  wide-reads.Asked,
+  wide-reads.Learnt,
+  choose-reads.Asked,
+  choose-reads.Learnt,
+  put-errs-reads.Asked,
+  put-errs-reads.Learnt,
+  rounds-below t,
+  rounds.Post,
+) (expr-at t) expr.Post
+expr-enum-known-a-3 t c = search needs
+
+-- src/cycle.rt:69:13  Shape::Truth(a) => { ⏎ put_truth(out, at, a);
+expr-put-truth-requires : (t : ℕ) → expr-lts.Need-put-truth-requires (
+  shape-at-reads.Asked,
+  shape-at-reads.Learnt,
+  put-name-reads.Asked,
+  put-name-reads.Learnt,
+  put-whole-reads.Asked,
+  put-whole-reads.Learnt,
+  put-truth-reads.Asked,
+  put-truth-reads.Learnt,
+  expr-below t,
+  expr.Post,
+  width-at-reads.Asked,
+  width-at-reads.Learnt,
+  put-operator-reads.Asked,
+  put-operator-reads.Learnt,
+  copied-reads.Asked,
+  copied-reads.Learnt,
+  wide-reads.Asked,
+  wide-reads.Learnt,
+  choose-reads.Asked,
+  choose-reads.Learnt,
+  put-errs-reads.Asked,
+  put-errs-reads.Learnt,
+  rounds-below t,
+  rounds.Post,
+) (expr-at t) expr.Post
+expr-put-truth-requires t c κs = search needs
+
+-- src/cycle.rt:72:21  } ⏎ Shape::Pair(a, b) => match expr(t, widths, a, env, out, at, left) {
+expr-enum-known-a-4 : (t : ℕ) → expr-lts.Need-enum-known-a-4 (
+  shape-at-reads.Asked,
+  shape-at-reads.Learnt,
+  put-name-reads.Asked,
+  put-name-reads.Learnt,
+  put-whole-reads.Asked,
+  put-whole-reads.Learnt,
+  put-truth-reads.Asked,
+  put-truth-reads.Learnt,
+  expr-below t,
+  expr.Post,
+  width-at-reads.Asked,
+  width-at-reads.Learnt,
+  put-operator-reads.Asked,
+  put-operator-reads.Learnt,
+  copied-reads.Asked,
+  copied-reads.Learnt,
+  wide-reads.Asked,
+  wide-reads.Learnt,
+  choose-reads.Asked,
+  choose-reads.Learnt,
+  put-errs-reads.Asked,
+  put-errs-reads.Learnt,
+  rounds-below t,
+  rounds.Post,
+) (expr-at t) expr.Post
+expr-enum-known-a-4 t c = search needs
+
+-- src/cycle.rt:72:36  } ⏎ Shape::Pair(a, b) => match expr(t, widths, a, env, out, at, left) {
+expr-expr-requires : (t : ℕ) → expr-lts.Need-expr-requires (
+  shape-at-reads.Asked,
+  shape-at-reads.Learnt,
+  put-name-reads.Asked,
+  put-name-reads.Learnt,
+  put-whole-reads.Asked,
+  put-whole-reads.Learnt,
+  put-truth-reads.Asked,
+  put-truth-reads.Learnt,
+  expr-below t,
+  expr.Post,
+  width-at-reads.Asked,
+  width-at-reads.Learnt,
+  put-operator-reads.Asked,
+  put-operator-reads.Learnt,
+  copied-reads.Asked,
+  copied-reads.Learnt,
+  wide-reads.Asked,
+  wide-reads.Learnt,
+  choose-reads.Asked,
+  choose-reads.Learnt,
+  put-errs-reads.Asked,
+  put-errs-reads.Learnt,
+  rounds-below t,
+  rounds.Post,
+) (expr-at t) expr.Post
+expr-expr-requires t c κs = search needs
+
+-- src/cycle.rt:73:28  Shape::Pair(a, b) => match expr(t, widths, a, env, out, at, left) { ⏎ Rest::Short => Rest::Short,
+expr-enum-told : (t : ℕ) → expr-lts.Need-enum-told (
+  shape-at-reads.Asked,
+  shape-at-reads.Learnt,
+  put-name-reads.Asked,
+  put-name-reads.Learnt,
+  put-whole-reads.Asked,
+  put-whole-reads.Learnt,
+  put-truth-reads.Asked,
+  put-truth-reads.Learnt,
+  expr-below t,
+  expr.Post,
+  width-at-reads.Asked,
+  width-at-reads.Learnt,
+  put-operator-reads.Asked,
+  put-operator-reads.Learnt,
+  copied-reads.Asked,
+  copied-reads.Learnt,
+  wide-reads.Asked,
+  wide-reads.Learnt,
+  choose-reads.Asked,
+  choose-reads.Learnt,
+  put-errs-reads.Asked,
+  put-errs-reads.Learnt,
+  rounds-below t,
+  rounds.Post,
+) (expr-at t) expr.Post
+expr-enum-told t c = search needs
+
+-- src/cycle.rt:74:24  Rest::Short => Rest::Short, ⏎ Rest::Left(l) => expr(t, widths, b, env, out, at + width_at(widths, a), l),
+expr-enum-known-l : (t : ℕ) → expr-lts.Need-enum-known-l (
+  shape-at-reads.Asked,
+  shape-at-reads.Learnt,
+  put-name-reads.Asked,
+  put-name-reads.Learnt,
+  put-whole-reads.Asked,
+  put-whole-reads.Learnt,
+  put-truth-reads.Asked,
+  put-truth-reads.Learnt,
+  expr-below t,
+  expr.Post,
+  width-at-reads.Asked,
+  width-at-reads.Learnt,
+  put-operator-reads.Asked,
+  put-operator-reads.Learnt,
+  copied-reads.Asked,
+  copied-reads.Learnt,
+  wide-reads.Asked,
+  wide-reads.Learnt,
+  choose-reads.Asked,
+  choose-reads.Learnt,
+  put-errs-reads.Asked,
+  put-errs-reads.Learnt,
+  rounds-below t,
+  rounds.Post,
+) (expr-at t) expr.Post
+expr-enum-known-l t c = search needs
+
+-- src/cycle.rt:74:64  Rest::Short => Rest::Short, ⏎ Rest::Left(l) => expr(t, widths, b, env, out, at + width_at(widths, a), l),
+expr-width-at-requires : (t : ℕ) → expr-lts.Need-width-at-requires (
+  shape-at-reads.Asked,
+  shape-at-reads.Learnt,
+  put-name-reads.Asked,
+  put-name-reads.Learnt,
+  put-whole-reads.Asked,
+  put-whole-reads.Learnt,
+  put-truth-reads.Asked,
+  put-truth-reads.Learnt,
+  expr-below t,
+  expr.Post,
+  width-at-reads.Asked,
+  width-at-reads.Learnt,
+  put-operator-reads.Asked,
+  put-operator-reads.Learnt,
+  copied-reads.Asked,
+  copied-reads.Learnt,
+  wide-reads.Asked,
+  wide-reads.Learnt,
+  choose-reads.Asked,
+  choose-reads.Learnt,
+  put-errs-reads.Asked,
+  put-errs-reads.Learnt,
+  rounds-below t,
+  rounds.Post,
+) (expr-at t) expr.Post
+expr-width-at-requires t c κs = search needs
+
+-- src/cycle.rt:74:59  Rest::Short => Rest::Short, ⏎ Rest::Left(l) => expr(t, widths, b, env, out, at + width_at(widths, a), l),
+expr-add-expr : (t : ℕ) → expr-lts.Need-add-expr (
+  shape-at-reads.Asked,
+  shape-at-reads.Learnt,
+  put-name-reads.Asked,
+  put-name-reads.Learnt,
+  put-whole-reads.Asked,
+  put-whole-reads.Learnt,
+  put-truth-reads.Asked,
+  put-truth-reads.Learnt,
+  expr-below t,
+  expr.Post,
+  width-at-reads.Asked,
+  width-at-reads.Learnt,
+  put-operator-reads.Asked,
+  put-operator-reads.Learnt,
+  copied-reads.Asked,
+  copied-reads.Learnt,
+  wide-reads.Asked,
+  wide-reads.Learnt,
+  choose-reads.Asked,
+  choose-reads.Learnt,
+  put-errs-reads.Asked,
+  put-errs-reads.Learnt,
+  rounds-below t,
+  rounds.Post,
+) (expr-at t) expr.Post
+expr-add-expr t c = search needs
+
+-- src/cycle.rt:74:30  Rest::Short => Rest::Short, ⏎ Rest::Left(l) => expr(t, widths, b, env, out, at + width_at(widths, a), l),
+expr-expr-requires-2 : (t : ℕ) → expr-lts.Need-expr-requires-2 (
+  shape-at-reads.Asked,
+  shape-at-reads.Learnt,
+  put-name-reads.Asked,
+  put-name-reads.Learnt,
+  put-whole-reads.Asked,
+  put-whole-reads.Learnt,
+  put-truth-reads.Asked,
+  put-truth-reads.Learnt,
+  expr-below t,
+  expr.Post,
+  width-at-reads.Asked,
+  width-at-reads.Learnt,
+  put-operator-reads.Asked,
+  put-operator-reads.Learnt,
+  copied-reads.Asked,
+  copied-reads.Learnt,
+  wide-reads.Asked,
+  wide-reads.Learnt,
+  choose-reads.Asked,
+  choose-reads.Learnt,
+  put-errs-reads.Asked,
+  put-errs-reads.Learnt,
+  rounds-below t,
+  rounds.Post,
+) (expr-at t) expr.Post
+expr-expr-requires-2 t c κs = search needs
+
+-- src/cycle.rt:76:25  }, ⏎ Shape::Operator(code, b) => {
+expr-enum-known-code : (t : ℕ) → expr-lts.Need-enum-known-code (
+  shape-at-reads.Asked,
+  shape-at-reads.Learnt,
+  put-name-reads.Asked,
+  put-name-reads.Learnt,
+  put-whole-reads.Asked,
+  put-whole-reads.Learnt,
+  put-truth-reads.Asked,
+  put-truth-reads.Learnt,
+  expr-below t,
+  expr.Post,
+  width-at-reads.Asked,
+  width-at-reads.Learnt,
+  put-operator-reads.Asked,
+  put-operator-reads.Learnt,
+  copied-reads.Asked,
+  copied-reads.Learnt,
+  wide-reads.Asked,
+  wide-reads.Learnt,
+  choose-reads.Asked,
+  choose-reads.Learnt,
+  put-errs-reads.Asked,
+  put-errs-reads.Learnt,
+  rounds-below t,
+  rounds.Post,
+) (expr-at t) expr.Post
+expr-enum-known-code t c = search needs
+
+-- src/cycle.rt:78:43  let mut operands = [0; 2]; ⏎ match expr(t, widths, b, env, &mut operands, 0, left) {
+expr-slice-aggregate-expr : (t : ℕ) → expr-lts.Need-slice-aggregate-expr (
+  shape-at-reads.Asked,
+  shape-at-reads.Learnt,
+  put-name-reads.Asked,
+  put-name-reads.Learnt,
+  put-whole-reads.Asked,
+  put-whole-reads.Learnt,
+  put-truth-reads.Asked,
+  put-truth-reads.Learnt,
+  expr-below t,
+  expr.Post,
+  width-at-reads.Asked,
+  width-at-reads.Learnt,
+  put-operator-reads.Asked,
+  put-operator-reads.Learnt,
+  copied-reads.Asked,
+  copied-reads.Learnt,
+  wide-reads.Asked,
+  wide-reads.Learnt,
+  choose-reads.Asked,
+  choose-reads.Learnt,
+  put-errs-reads.Asked,
+  put-errs-reads.Learnt,
+  rounds-below t,
+  rounds.Post,
+) (expr-at t) expr.Post
+expr-slice-aggregate-expr t c = search needs
+
+-- src/cycle.rt:78:19  let mut operands = [0; 2]; ⏎ match expr(t, widths, b, env, &mut operands, 0, left) {
+expr-expr-requires-3 : (t : ℕ) → expr-lts.Need-expr-requires-3 (
+  shape-at-reads.Asked,
+  shape-at-reads.Learnt,
+  put-name-reads.Asked,
+  put-name-reads.Learnt,
+  put-whole-reads.Asked,
+  put-whole-reads.Learnt,
+  put-truth-reads.Asked,
+  put-truth-reads.Learnt,
+  expr-below t,
+  expr.Post,
+  width-at-reads.Asked,
+  width-at-reads.Learnt,
+  put-operator-reads.Asked,
+  put-operator-reads.Learnt,
+  copied-reads.Asked,
+  copied-reads.Learnt,
+  wide-reads.Asked,
+  wide-reads.Learnt,
+  choose-reads.Asked,
+  choose-reads.Learnt,
+  put-errs-reads.Asked,
+  put-errs-reads.Learnt,
+  rounds-below t,
+  rounds.Post,
+) (expr-at t) expr.Post
+expr-expr-requires-3 t c κs = search needs
+
+-- src/cycle.rt:79:32  match expr(t, widths, b, env, &mut operands, 0, left) { ⏎ Rest::Short => Rest::Short,
+expr-enum-told-2 : (t : ℕ) → expr-lts.Need-enum-told-2 (
+  shape-at-reads.Asked,
+  shape-at-reads.Learnt,
+  put-name-reads.Asked,
+  put-name-reads.Learnt,
+  put-whole-reads.Asked,
+  put-whole-reads.Learnt,
+  put-truth-reads.Asked,
+  put-truth-reads.Learnt,
+  expr-below t,
+  expr.Post,
+  width-at-reads.Asked,
+  width-at-reads.Learnt,
+  put-operator-reads.Asked,
+  put-operator-reads.Learnt,
+  copied-reads.Asked,
+  copied-reads.Learnt,
+  wide-reads.Asked,
+  wide-reads.Learnt,
+  choose-reads.Asked,
+  choose-reads.Learnt,
+  put-errs-reads.Asked,
+  put-errs-reads.Learnt,
+  rounds-below t,
+  rounds.Post,
+) (expr-at t) expr.Post
+expr-enum-told-2 t c = search needs
+
+-- src/cycle.rt:80:28  Rest::Short => Rest::Short, ⏎ Rest::Left(l) => {
+expr-enum-known-l-2 : (t : ℕ) → expr-lts.Need-enum-known-l-2 (
+  shape-at-reads.Asked,
+  shape-at-reads.Learnt,
+  put-name-reads.Asked,
+  put-name-reads.Learnt,
+  put-whole-reads.Asked,
+  put-whole-reads.Learnt,
+  put-truth-reads.Asked,
+  put-truth-reads.Learnt,
+  expr-below t,
+  expr.Post,
+  width-at-reads.Asked,
+  width-at-reads.Learnt,
+  put-operator-reads.Asked,
+  put-operator-reads.Learnt,
+  copied-reads.Asked,
+  copied-reads.Learnt,
+  wide-reads.Asked,
+  wide-reads.Learnt,
+  choose-reads.Asked,
+  choose-reads.Learnt,
+  put-errs-reads.Asked,
+  put-errs-reads.Learnt,
+  rounds-below t,
+  rounds.Post,
+) (expr-at t) expr.Post
+expr-enum-known-l-2 t c = search needs
+
+-- src/cycle.rt:81:49  Rest::Left(l) => { ⏎ put_operator(out, at, code, &operands);
+expr-slice-aggregate-put-operator : (t : ℕ) → expr-lts.Need-slice-aggregate-put-operator (
+  shape-at-reads.Asked,
+  shape-at-reads.Learnt,
+  put-name-reads.Asked,
+  put-name-reads.Learnt,
+  put-whole-reads.Asked,
+  put-whole-reads.Learnt,
+  put-truth-reads.Asked,
+  put-truth-reads.Learnt,
+  expr-below t,
+  expr.Post,
+  width-at-reads.Asked,
+  width-at-reads.Learnt,
+  put-operator-reads.Asked,
+  put-operator-reads.Learnt,
+  copied-reads.Asked,
+  copied-reads.Learnt,
+  wide-reads.Asked,
+  wide-reads.Learnt,
+  choose-reads.Asked,
+  choose-reads.Learnt,
+  put-errs-reads.Asked,
+  put-errs-reads.Learnt,
+  rounds-below t,
+  rounds.Post,
+) (expr-at t) expr.Post
+expr-slice-aggregate-put-operator t c = search needs
+
+-- src/cycle.rt:81:21  Rest::Left(l) => { ⏎ put_operator(out, at, code, &operands);
+expr-put-operator-requires : (t : ℕ) → expr-lts.Need-put-operator-requires (
+  shape-at-reads.Asked,
+  shape-at-reads.Learnt,
+  put-name-reads.Asked,
+  put-name-reads.Learnt,
+  put-whole-reads.Asked,
+  put-whole-reads.Learnt,
+  put-truth-reads.Asked,
+  put-truth-reads.Learnt,
+  expr-below t,
+  expr.Post,
+  width-at-reads.Asked,
+  width-at-reads.Learnt,
+  put-operator-reads.Asked,
+  put-operator-reads.Learnt,
+  copied-reads.Asked,
+  copied-reads.Learnt,
+  wide-reads.Asked,
+  wide-reads.Learnt,
+  choose-reads.Asked,
+  choose-reads.Learnt,
+  put-errs-reads.Asked,
+  put-errs-reads.Learnt,
+  rounds-below t,
+  rounds.Post,
+) (expr-at t) expr.Post
+expr-put-operator-requires t c κs = search needs
+
+-- src/cycle.rt:86:20  } ⏎ Shape::Let(a, _, c, d) => {
+expr-enum-known-a-5 : (t : ℕ) → expr-lts.Need-enum-known-a-5 (
+  shape-at-reads.Asked,
+  shape-at-reads.Learnt,
+  put-name-reads.Asked,
+  put-name-reads.Learnt,
+  put-whole-reads.Asked,
+  put-whole-reads.Learnt,
+  put-truth-reads.Asked,
+  put-truth-reads.Learnt,
+  expr-below t,
+  expr.Post,
+  width-at-reads.Asked,
+  width-at-reads.Learnt,
+  put-operator-reads.Asked,
+  put-operator-reads.Learnt,
+  copied-reads.Asked,
+  copied-reads.Learnt,
+  wide-reads.Asked,
+  wide-reads.Learnt,
+  choose-reads.Asked,
+  choose-reads.Learnt,
+  put-errs-reads.Asked,
+  put-errs-reads.Learnt,
+  rounds-below t,
+  rounds.Post,
+) (expr-at t) expr.Post
+expr-enum-known-a-5 t c = search needs
+
+-- src/cycle.rt:87:29  Shape::Let(a, _, c, d) => { ⏎ let mut inner = copied(env);
+expr-copied-requires : (t : ℕ) → expr-lts.Need-copied-requires (
+  shape-at-reads.Asked,
+  shape-at-reads.Learnt,
+  put-name-reads.Asked,
+  put-name-reads.Learnt,
+  put-whole-reads.Asked,
+  put-whole-reads.Learnt,
+  put-truth-reads.Asked,
+  put-truth-reads.Learnt,
+  expr-below t,
+  expr.Post,
+  width-at-reads.Asked,
+  width-at-reads.Learnt,
+  put-operator-reads.Asked,
+  put-operator-reads.Learnt,
+  copied-reads.Asked,
+  copied-reads.Learnt,
+  wide-reads.Asked,
+  wide-reads.Learnt,
+  choose-reads.Asked,
+  choose-reads.Learnt,
+  put-errs-reads.Asked,
+  put-errs-reads.Learnt,
+  rounds-below t,
+  rounds.Post,
+) (expr-at t) expr.Post
+expr-copied-requires t c κs = search needs
+
+-- src/cycle.rt:88:43  let mut inner = copied(env); ⏎ match expr(t, widths, c, env, &mut inner, wide(a), left) {
+expr-slice-aggregate-expr-2 : (t : ℕ) → expr-lts.Need-slice-aggregate-expr-2 (
+  shape-at-reads.Asked,
+  shape-at-reads.Learnt,
+  put-name-reads.Asked,
+  put-name-reads.Learnt,
+  put-whole-reads.Asked,
+  put-whole-reads.Learnt,
+  put-truth-reads.Asked,
+  put-truth-reads.Learnt,
+  expr-below t,
+  expr.Post,
+  width-at-reads.Asked,
+  width-at-reads.Learnt,
+  put-operator-reads.Asked,
+  put-operator-reads.Learnt,
+  copied-reads.Asked,
+  copied-reads.Learnt,
+  wide-reads.Asked,
+  wide-reads.Learnt,
+  choose-reads.Asked,
+  choose-reads.Learnt,
+  put-errs-reads.Asked,
+  put-errs-reads.Learnt,
+  rounds-below t,
+  rounds.Post,
+) (expr-at t) expr.Post
+expr-slice-aggregate-expr-2 t c = search needs
+
+-- src/cycle.rt:88:55  let mut inner = copied(env); ⏎ match expr(t, widths, c, env, &mut inner, wide(a), left) {
+expr-wide-requires : (t : ℕ) → expr-lts.Need-wide-requires (
+  shape-at-reads.Asked,
+  shape-at-reads.Learnt,
+  put-name-reads.Asked,
+  put-name-reads.Learnt,
+  put-whole-reads.Asked,
+  put-whole-reads.Learnt,
+  put-truth-reads.Asked,
+  put-truth-reads.Learnt,
+  expr-below t,
+  expr.Post,
+  width-at-reads.Asked,
+  width-at-reads.Learnt,
+  put-operator-reads.Asked,
+  put-operator-reads.Learnt,
+  copied-reads.Asked,
+  copied-reads.Learnt,
+  wide-reads.Asked,
+  wide-reads.Learnt,
+  choose-reads.Asked,
+  choose-reads.Learnt,
+  put-errs-reads.Asked,
+  put-errs-reads.Learnt,
+  rounds-below t,
+  rounds.Post,
+) (expr-at t) expr.Post
+expr-wide-requires t c κs = search needs
+
+-- src/cycle.rt:88:19  let mut inner = copied(env); ⏎ match expr(t, widths, c, env, &mut inner, wide(a), left) {
+expr-expr-requires-4 : (t : ℕ) → expr-lts.Need-expr-requires-4 (
+  shape-at-reads.Asked,
+  shape-at-reads.Learnt,
+  put-name-reads.Asked,
+  put-name-reads.Learnt,
+  put-whole-reads.Asked,
+  put-whole-reads.Learnt,
+  put-truth-reads.Asked,
+  put-truth-reads.Learnt,
+  expr-below t,
+  expr.Post,
+  width-at-reads.Asked,
+  width-at-reads.Learnt,
+  put-operator-reads.Asked,
+  put-operator-reads.Learnt,
+  copied-reads.Asked,
+  copied-reads.Learnt,
+  wide-reads.Asked,
+  wide-reads.Learnt,
+  choose-reads.Asked,
+  choose-reads.Learnt,
+  put-errs-reads.Asked,
+  put-errs-reads.Learnt,
+  rounds-below t,
+  rounds.Post,
+) (expr-at t) expr.Post
+expr-expr-requires-4 t c κs = search needs
+
+-- src/cycle.rt:89:32  match expr(t, widths, c, env, &mut inner, wide(a), left) { ⏎ Rest::Short => Rest::Short,
+expr-enum-told-3 : (t : ℕ) → expr-lts.Need-enum-told-3 (
+  shape-at-reads.Asked,
+  shape-at-reads.Learnt,
+  put-name-reads.Asked,
+  put-name-reads.Learnt,
+  put-whole-reads.Asked,
+  put-whole-reads.Learnt,
+  put-truth-reads.Asked,
+  put-truth-reads.Learnt,
+  expr-below t,
+  expr.Post,
+  width-at-reads.Asked,
+  width-at-reads.Learnt,
+  put-operator-reads.Asked,
+  put-operator-reads.Learnt,
+  copied-reads.Asked,
+  copied-reads.Learnt,
+  wide-reads.Asked,
+  wide-reads.Learnt,
+  choose-reads.Asked,
+  choose-reads.Learnt,
+  put-errs-reads.Asked,
+  put-errs-reads.Learnt,
+  rounds-below t,
+  rounds.Post,
+) (expr-at t) expr.Post
+expr-enum-told-3 t c = search needs
+
+-- src/cycle.rt:90:28  Rest::Short => Rest::Short, ⏎ Rest::Left(l) => expr(t, widths, d, &inner, out, at, l),
+expr-enum-known-l-3 : (t : ℕ) → expr-lts.Need-enum-known-l-3 (
+  shape-at-reads.Asked,
+  shape-at-reads.Learnt,
+  put-name-reads.Asked,
+  put-name-reads.Learnt,
+  put-whole-reads.Asked,
+  put-whole-reads.Learnt,
+  put-truth-reads.Asked,
+  put-truth-reads.Learnt,
+  expr-below t,
+  expr.Post,
+  width-at-reads.Asked,
+  width-at-reads.Learnt,
+  put-operator-reads.Asked,
+  put-operator-reads.Learnt,
+  copied-reads.Asked,
+  copied-reads.Learnt,
+  wide-reads.Asked,
+  wide-reads.Learnt,
+  choose-reads.Asked,
+  choose-reads.Learnt,
+  put-errs-reads.Asked,
+  put-errs-reads.Learnt,
+  rounds-below t,
+  rounds.Post,
+) (expr-at t) expr.Post
+expr-enum-known-l-3 t c = search needs
+
+-- src/cycle.rt:90:53  Rest::Short => Rest::Short, ⏎ Rest::Left(l) => expr(t, widths, d, &inner, out, at, l),
+expr-slice-aggregate-expr-3 : (t : ℕ) → expr-lts.Need-slice-aggregate-expr-3 (
+  shape-at-reads.Asked,
+  shape-at-reads.Learnt,
+  put-name-reads.Asked,
+  put-name-reads.Learnt,
+  put-whole-reads.Asked,
+  put-whole-reads.Learnt,
+  put-truth-reads.Asked,
+  put-truth-reads.Learnt,
+  expr-below t,
+  expr.Post,
+  width-at-reads.Asked,
+  width-at-reads.Learnt,
+  put-operator-reads.Asked,
+  put-operator-reads.Learnt,
+  copied-reads.Asked,
+  copied-reads.Learnt,
+  wide-reads.Asked,
+  wide-reads.Learnt,
+  choose-reads.Asked,
+  choose-reads.Learnt,
+  put-errs-reads.Asked,
+  put-errs-reads.Learnt,
+  rounds-below t,
+  rounds.Post,
+) (expr-at t) expr.Post
+expr-slice-aggregate-expr-3 t c = search needs
+
+-- src/cycle.rt:90:34  Rest::Short => Rest::Short, ⏎ Rest::Left(l) => expr(t, widths, d, &inner, out, at, l),
+expr-expr-requires-5 : (t : ℕ) → expr-lts.Need-expr-requires-5 (
+  shape-at-reads.Asked,
+  shape-at-reads.Learnt,
+  put-name-reads.Asked,
+  put-name-reads.Learnt,
+  put-whole-reads.Asked,
+  put-whole-reads.Learnt,
+  put-truth-reads.Asked,
+  put-truth-reads.Learnt,
+  expr-below t,
+  expr.Post,
+  width-at-reads.Asked,
+  width-at-reads.Learnt,
+  put-operator-reads.Asked,
+  put-operator-reads.Learnt,
+  copied-reads.Asked,
+  copied-reads.Learnt,
+  wide-reads.Asked,
+  wide-reads.Learnt,
+  choose-reads.Asked,
+  choose-reads.Learnt,
+  put-errs-reads.Asked,
+  put-errs-reads.Learnt,
+  rounds-below t,
+  rounds.Post,
+) (expr-at t) expr.Post
+expr-expr-requires-5 t c κs = search needs
+
+-- src/cycle.rt:93:19  } ⏎ Shape::If(a, b, c) => {
+expr-enum-known-a-6 : (t : ℕ) → expr-lts.Need-enum-known-a-6 (
+  shape-at-reads.Asked,
+  shape-at-reads.Learnt,
+  put-name-reads.Asked,
+  put-name-reads.Learnt,
+  put-whole-reads.Asked,
+  put-whole-reads.Learnt,
+  put-truth-reads.Asked,
+  put-truth-reads.Learnt,
+  expr-below t,
+  expr.Post,
+  width-at-reads.Asked,
+  width-at-reads.Learnt,
+  put-operator-reads.Asked,
+  put-operator-reads.Learnt,
+  copied-reads.Asked,
+  copied-reads.Learnt,
+  wide-reads.Asked,
+  wide-reads.Learnt,
+  choose-reads.Asked,
+  choose-reads.Learnt,
+  put-errs-reads.Asked,
+  put-errs-reads.Learnt,
+  rounds-below t,
+  rounds.Post,
+) (expr-at t) expr.Post
+expr-enum-known-a-6 t c = search needs
+
+-- src/cycle.rt:95:43  let mut test = [0; 1]; ⏎ match expr(t, widths, a, env, &mut test, 0, left) {
+expr-slice-aggregate-expr-4 : (t : ℕ) → expr-lts.Need-slice-aggregate-expr-4 (
+  shape-at-reads.Asked,
+  shape-at-reads.Learnt,
+  put-name-reads.Asked,
+  put-name-reads.Learnt,
+  put-whole-reads.Asked,
+  put-whole-reads.Learnt,
+  put-truth-reads.Asked,
+  put-truth-reads.Learnt,
+  expr-below t,
+  expr.Post,
+  width-at-reads.Asked,
+  width-at-reads.Learnt,
+  put-operator-reads.Asked,
+  put-operator-reads.Learnt,
+  copied-reads.Asked,
+  copied-reads.Learnt,
+  wide-reads.Asked,
+  wide-reads.Learnt,
+  choose-reads.Asked,
+  choose-reads.Learnt,
+  put-errs-reads.Asked,
+  put-errs-reads.Learnt,
+  rounds-below t,
+  rounds.Post,
+) (expr-at t) expr.Post
+expr-slice-aggregate-expr-4 t c = search needs
+
+-- src/cycle.rt:95:19  let mut test = [0; 1]; ⏎ match expr(t, widths, a, env, &mut test, 0, left) {
+expr-expr-requires-6 : (t : ℕ) → expr-lts.Need-expr-requires-6 (
+  shape-at-reads.Asked,
+  shape-at-reads.Learnt,
+  put-name-reads.Asked,
+  put-name-reads.Learnt,
+  put-whole-reads.Asked,
+  put-whole-reads.Learnt,
+  put-truth-reads.Asked,
+  put-truth-reads.Learnt,
+  expr-below t,
+  expr.Post,
+  width-at-reads.Asked,
+  width-at-reads.Learnt,
+  put-operator-reads.Asked,
+  put-operator-reads.Learnt,
+  copied-reads.Asked,
+  copied-reads.Learnt,
+  wide-reads.Asked,
+  wide-reads.Learnt,
+  choose-reads.Asked,
+  choose-reads.Learnt,
+  put-errs-reads.Asked,
+  put-errs-reads.Learnt,
+  rounds-below t,
+  rounds.Post,
+) (expr-at t) expr.Post
+expr-expr-requires-6 t c κs = search needs
+
+-- src/cycle.rt:96:32  match expr(t, widths, a, env, &mut test, 0, left) { ⏎ Rest::Short => Rest::Short,
+expr-enum-told-4 : (t : ℕ) → expr-lts.Need-enum-told-4 (
+  shape-at-reads.Asked,
+  shape-at-reads.Learnt,
+  put-name-reads.Asked,
+  put-name-reads.Learnt,
+  put-whole-reads.Asked,
+  put-whole-reads.Learnt,
+  put-truth-reads.Asked,
+  put-truth-reads.Learnt,
+  expr-below t,
+  expr.Post,
+  width-at-reads.Asked,
+  width-at-reads.Learnt,
+  put-operator-reads.Asked,
+  put-operator-reads.Learnt,
+  copied-reads.Asked,
+  copied-reads.Learnt,
+  wide-reads.Asked,
+  wide-reads.Learnt,
+  choose-reads.Asked,
+  choose-reads.Learnt,
+  put-errs-reads.Asked,
+  put-errs-reads.Learnt,
+  rounds-below t,
+  rounds.Post,
+) (expr-at t) expr.Post
+expr-enum-told-4 t c = search needs
+
+-- src/cycle.rt:97:28  Rest::Short => Rest::Short, ⏎ Rest::Left(l) => match choose(&test) {
+expr-enum-known-l-4 : (t : ℕ) → expr-lts.Need-enum-known-l-4 (
+  shape-at-reads.Asked,
+  shape-at-reads.Learnt,
+  put-name-reads.Asked,
+  put-name-reads.Learnt,
+  put-whole-reads.Asked,
+  put-whole-reads.Learnt,
+  put-truth-reads.Asked,
+  put-truth-reads.Learnt,
+  expr-below t,
+  expr.Post,
+  width-at-reads.Asked,
+  width-at-reads.Learnt,
+  put-operator-reads.Asked,
+  put-operator-reads.Learnt,
+  copied-reads.Asked,
+  copied-reads.Learnt,
+  wide-reads.Asked,
+  wide-reads.Learnt,
+  choose-reads.Asked,
+  choose-reads.Learnt,
+  put-errs-reads.Asked,
+  put-errs-reads.Learnt,
+  rounds-below t,
+  rounds.Post,
+) (expr-at t) expr.Post
+expr-enum-known-l-4 t c = search needs
+
+-- src/cycle.rt:97:47  Rest::Short => Rest::Short, ⏎ Rest::Left(l) => match choose(&test) {
+expr-slice-aggregate-choose : (t : ℕ) → expr-lts.Need-slice-aggregate-choose (
+  shape-at-reads.Asked,
+  shape-at-reads.Learnt,
+  put-name-reads.Asked,
+  put-name-reads.Learnt,
+  put-whole-reads.Asked,
+  put-whole-reads.Learnt,
+  put-truth-reads.Asked,
+  put-truth-reads.Learnt,
+  expr-below t,
+  expr.Post,
+  width-at-reads.Asked,
+  width-at-reads.Learnt,
+  put-operator-reads.Asked,
+  put-operator-reads.Learnt,
+  copied-reads.Asked,
+  copied-reads.Learnt,
+  wide-reads.Asked,
+  wide-reads.Learnt,
+  choose-reads.Asked,
+  choose-reads.Learnt,
+  put-errs-reads.Asked,
+  put-errs-reads.Learnt,
+  rounds-below t,
+  rounds.Post,
+) (expr-at t) expr.Post
+expr-slice-aggregate-choose t c = search needs
+
+-- src/cycle.rt:97:40  Rest::Short => Rest::Short, ⏎ Rest::Left(l) => match choose(&test) {
+expr-choose-requires : (t : ℕ) → expr-lts.Need-choose-requires (
+  shape-at-reads.Asked,
+  shape-at-reads.Learnt,
+  put-name-reads.Asked,
+  put-name-reads.Learnt,
+  put-whole-reads.Asked,
+  put-whole-reads.Learnt,
+  put-truth-reads.Asked,
+  put-truth-reads.Learnt,
+  expr-below t,
+  expr.Post,
+  width-at-reads.Asked,
+  width-at-reads.Learnt,
+  put-operator-reads.Asked,
+  put-operator-reads.Learnt,
+  copied-reads.Asked,
+  copied-reads.Learnt,
+  wide-reads.Asked,
+  wide-reads.Learnt,
+  choose-reads.Asked,
+  choose-reads.Learnt,
+  put-errs-reads.Asked,
+  put-errs-reads.Learnt,
+  rounds-below t,
+  rounds.Post,
+) (expr-at t) expr.Post
+expr-choose-requires t c κs = search needs
+
+-- src/cycle.rt:98:62  Rest::Left(l) => match choose(&test) { ⏎ Choice::First => expr(t, widths, b, env, out, at, l),
+expr-enum-told-5 : (t : ℕ) → expr-lts.Need-enum-told-5 (
+  shape-at-reads.Asked,
+  shape-at-reads.Learnt,
+  put-name-reads.Asked,
+  put-name-reads.Learnt,
+  put-whole-reads.Asked,
+  put-whole-reads.Learnt,
+  put-truth-reads.Asked,
+  put-truth-reads.Learnt,
+  expr-below t,
+  expr.Post,
+  width-at-reads.Asked,
+  width-at-reads.Learnt,
+  put-operator-reads.Asked,
+  put-operator-reads.Learnt,
+  copied-reads.Asked,
+  copied-reads.Learnt,
+  wide-reads.Asked,
+  wide-reads.Learnt,
+  choose-reads.Asked,
+  choose-reads.Learnt,
+  put-errs-reads.Asked,
+  put-errs-reads.Learnt,
+  rounds-below t,
+  rounds.Post,
+) (expr-at t) expr.Post
+expr-enum-told-5 t c = search needs
+
+-- src/cycle.rt:98:38  Rest::Left(l) => match choose(&test) { ⏎ Choice::First => expr(t, widths, b, env, out, at, l),
+expr-expr-requires-7 : (t : ℕ) → expr-lts.Need-expr-requires-7 (
+  shape-at-reads.Asked,
+  shape-at-reads.Learnt,
+  put-name-reads.Asked,
+  put-name-reads.Learnt,
+  put-whole-reads.Asked,
+  put-whole-reads.Learnt,
+  put-truth-reads.Asked,
+  put-truth-reads.Learnt,
+  expr-below t,
+  expr.Post,
+  width-at-reads.Asked,
+  width-at-reads.Learnt,
+  put-operator-reads.Asked,
+  put-operator-reads.Learnt,
+  copied-reads.Asked,
+  copied-reads.Learnt,
+  wide-reads.Asked,
+  wide-reads.Learnt,
+  choose-reads.Asked,
+  choose-reads.Learnt,
+  put-errs-reads.Asked,
+  put-errs-reads.Learnt,
+  rounds-below t,
+  rounds.Post,
+) (expr-at t) expr.Post
+expr-expr-requires-7 t c κs = search needs
+
+-- src/cycle.rt:99:63  Choice::First => expr(t, widths, b, env, out, at, l), ⏎ Choice::Second => expr(t, widths, c, env, out, at, l),
+expr-enum-told-6 : (t : ℕ) → expr-lts.Need-enum-told-6 (
+  shape-at-reads.Asked,
+  shape-at-reads.Learnt,
+  put-name-reads.Asked,
+  put-name-reads.Learnt,
+  put-whole-reads.Asked,
+  put-whole-reads.Learnt,
+  put-truth-reads.Asked,
+  put-truth-reads.Learnt,
+  expr-below t,
+  expr.Post,
+  width-at-reads.Asked,
+  width-at-reads.Learnt,
+  put-operator-reads.Asked,
+  put-operator-reads.Learnt,
+  copied-reads.Asked,
+  copied-reads.Learnt,
+  wide-reads.Asked,
+  wide-reads.Learnt,
+  choose-reads.Asked,
+  choose-reads.Learnt,
+  put-errs-reads.Asked,
+  put-errs-reads.Learnt,
+  rounds-below t,
+  rounds.Post,
+) (expr-at t) expr.Post
+expr-enum-told-6 t c = search needs
+
+-- src/cycle.rt:99:39  Choice::First => expr(t, widths, b, env, out, at, l), ⏎ Choice::Second => expr(t, widths, c, env, out, at, l),
+expr-expr-requires-8 : (t : ℕ) → expr-lts.Need-expr-requires-8 (
+  shape-at-reads.Asked,
+  shape-at-reads.Learnt,
+  put-name-reads.Asked,
+  put-name-reads.Learnt,
+  put-whole-reads.Asked,
+  put-whole-reads.Learnt,
+  put-truth-reads.Asked,
+  put-truth-reads.Learnt,
+  expr-below t,
+  expr.Post,
+  width-at-reads.Asked,
+  width-at-reads.Learnt,
+  put-operator-reads.Asked,
+  put-operator-reads.Learnt,
+  copied-reads.Asked,
+  copied-reads.Learnt,
+  wide-reads.Asked,
+  wide-reads.Learnt,
+  choose-reads.Asked,
+  choose-reads.Learnt,
+  put-errs-reads.Asked,
+  put-errs-reads.Learnt,
+  rounds-below t,
+  rounds.Post,
+) (expr-at t) expr.Post
+expr-expr-requires-8 t c κs = search needs
+
+-- src/cycle.rt:101:34  Choice::Neither => { ⏎ put_errs(out, at, width_at(widths, b));
+expr-enum-told-7 : (t : ℕ) → expr-lts.Need-enum-told-7 (
+  shape-at-reads.Asked,
+  shape-at-reads.Learnt,
+  put-name-reads.Asked,
+  put-name-reads.Learnt,
+  put-whole-reads.Asked,
+  put-whole-reads.Learnt,
+  put-truth-reads.Asked,
+  put-truth-reads.Learnt,
+  expr-below t,
+  expr.Post,
+  width-at-reads.Asked,
+  width-at-reads.Learnt,
+  put-operator-reads.Asked,
+  put-operator-reads.Learnt,
+  copied-reads.Asked,
+  copied-reads.Learnt,
+  wide-reads.Asked,
+  wide-reads.Learnt,
+  choose-reads.Asked,
+  choose-reads.Learnt,
+  put-errs-reads.Asked,
+  put-errs-reads.Learnt,
+  rounds-below t,
+  rounds.Post,
+) (expr-at t) expr.Post
+expr-enum-told-7 t c = search needs
+
+-- src/cycle.rt:101:43  Choice::Neither => { ⏎ put_errs(out, at, width_at(widths, b));
+expr-width-at-requires-2 : (t : ℕ) → expr-lts.Need-width-at-requires-2 (
+  shape-at-reads.Asked,
+  shape-at-reads.Learnt,
+  put-name-reads.Asked,
+  put-name-reads.Learnt,
+  put-whole-reads.Asked,
+  put-whole-reads.Learnt,
+  put-truth-reads.Asked,
+  put-truth-reads.Learnt,
+  expr-below t,
+  expr.Post,
+  width-at-reads.Asked,
+  width-at-reads.Learnt,
+  put-operator-reads.Asked,
+  put-operator-reads.Learnt,
+  copied-reads.Asked,
+  copied-reads.Learnt,
+  wide-reads.Asked,
+  wide-reads.Learnt,
+  choose-reads.Asked,
+  choose-reads.Learnt,
+  put-errs-reads.Asked,
+  put-errs-reads.Learnt,
+  rounds-below t,
+  rounds.Post,
+) (expr-at t) expr.Post
+expr-width-at-requires-2 t c κs = search needs
+
+-- src/cycle.rt:101:25  Choice::Neither => { ⏎ put_errs(out, at, width_at(widths, b));
+expr-put-errs-requires : (t : ℕ) → expr-lts.Need-put-errs-requires (
+  shape-at-reads.Asked,
+  shape-at-reads.Learnt,
+  put-name-reads.Asked,
+  put-name-reads.Learnt,
+  put-whole-reads.Asked,
+  put-whole-reads.Learnt,
+  put-truth-reads.Asked,
+  put-truth-reads.Learnt,
+  expr-below t,
+  expr.Post,
+  width-at-reads.Asked,
+  width-at-reads.Learnt,
+  put-operator-reads.Asked,
+  put-operator-reads.Learnt,
+  copied-reads.Asked,
+  copied-reads.Learnt,
+  wide-reads.Asked,
+  wide-reads.Learnt,
+  choose-reads.Asked,
+  choose-reads.Learnt,
+  put-errs-reads.Asked,
+  put-errs-reads.Learnt,
+  rounds-below t,
+  rounds.Post,
+) (expr-at t) expr.Post
+expr-put-errs-requires t c κs = search needs
+
+-- src/cycle.rt:107:20  } ⏎ Shape::For(a, b, c, d) => {
+expr-enum-known-a-7 : (t : ℕ) → expr-lts.Need-enum-known-a-7 (
+  shape-at-reads.Asked,
+  shape-at-reads.Learnt,
+  put-name-reads.Asked,
+  put-name-reads.Learnt,
+  put-whole-reads.Asked,
+  put-whole-reads.Learnt,
+  put-truth-reads.Asked,
+  put-truth-reads.Learnt,
+  expr-below t,
+  expr.Post,
+  width-at-reads.Asked,
+  width-at-reads.Learnt,
+  put-operator-reads.Asked,
+  put-operator-reads.Learnt,
+  copied-reads.Asked,
+  copied-reads.Learnt,
+  wide-reads.Asked,
+  wide-reads.Learnt,
+  choose-reads.Asked,
+  choose-reads.Learnt,
+  put-errs-reads.Asked,
+  put-errs-reads.Learnt,
+  rounds-below t,
+  rounds.Post,
+) (expr-at t) expr.Post
+expr-enum-known-a-7 t c = search needs
+
+-- src/cycle.rt:108:29  Shape::For(a, b, c, d) => { ⏎ let mut inner = copied(env);
+expr-copied-requires-2 : (t : ℕ) → expr-lts.Need-copied-requires-2 (
+  shape-at-reads.Asked,
+  shape-at-reads.Learnt,
+  put-name-reads.Asked,
+  put-name-reads.Learnt,
+  put-whole-reads.Asked,
+  put-whole-reads.Learnt,
+  put-truth-reads.Asked,
+  put-truth-reads.Learnt,
+  expr-below t,
+  expr.Post,
+  width-at-reads.Asked,
+  width-at-reads.Learnt,
+  put-operator-reads.Asked,
+  put-operator-reads.Learnt,
+  copied-reads.Asked,
+  copied-reads.Learnt,
+  wide-reads.Asked,
+  wide-reads.Learnt,
+  choose-reads.Asked,
+  choose-reads.Learnt,
+  put-errs-reads.Asked,
+  put-errs-reads.Learnt,
+  rounds-below t,
+  rounds.Post,
+) (expr-at t) expr.Post
+expr-copied-requires-2 t c κs = search needs
+
+-- src/cycle.rt:109:43  let mut inner = copied(env); ⏎ match expr(t, widths, c, env, &mut inner, wide(a), left) {
+expr-slice-aggregate-expr-5 : (t : ℕ) → expr-lts.Need-slice-aggregate-expr-5 (
+  shape-at-reads.Asked,
+  shape-at-reads.Learnt,
+  put-name-reads.Asked,
+  put-name-reads.Learnt,
+  put-whole-reads.Asked,
+  put-whole-reads.Learnt,
+  put-truth-reads.Asked,
+  put-truth-reads.Learnt,
+  expr-below t,
+  expr.Post,
+  width-at-reads.Asked,
+  width-at-reads.Learnt,
+  put-operator-reads.Asked,
+  put-operator-reads.Learnt,
+  copied-reads.Asked,
+  copied-reads.Learnt,
+  wide-reads.Asked,
+  wide-reads.Learnt,
+  choose-reads.Asked,
+  choose-reads.Learnt,
+  put-errs-reads.Asked,
+  put-errs-reads.Learnt,
+  rounds-below t,
+  rounds.Post,
+) (expr-at t) expr.Post
+expr-slice-aggregate-expr-5 t c = search needs
+
+-- src/cycle.rt:109:55  let mut inner = copied(env); ⏎ match expr(t, widths, c, env, &mut inner, wide(a), left) {
+expr-wide-requires-2 : (t : ℕ) → expr-lts.Need-wide-requires-2 (
+  shape-at-reads.Asked,
+  shape-at-reads.Learnt,
+  put-name-reads.Asked,
+  put-name-reads.Learnt,
+  put-whole-reads.Asked,
+  put-whole-reads.Learnt,
+  put-truth-reads.Asked,
+  put-truth-reads.Learnt,
+  expr-below t,
+  expr.Post,
+  width-at-reads.Asked,
+  width-at-reads.Learnt,
+  put-operator-reads.Asked,
+  put-operator-reads.Learnt,
+  copied-reads.Asked,
+  copied-reads.Learnt,
+  wide-reads.Asked,
+  wide-reads.Learnt,
+  choose-reads.Asked,
+  choose-reads.Learnt,
+  put-errs-reads.Asked,
+  put-errs-reads.Learnt,
+  rounds-below t,
+  rounds.Post,
+) (expr-at t) expr.Post
+expr-wide-requires-2 t c κs = search needs
+
+-- src/cycle.rt:109:19  let mut inner = copied(env); ⏎ match expr(t, widths, c, env, &mut inner, wide(a), left) {
+expr-expr-requires-9 : (t : ℕ) → expr-lts.Need-expr-requires-9 (
+  shape-at-reads.Asked,
+  shape-at-reads.Learnt,
+  put-name-reads.Asked,
+  put-name-reads.Learnt,
+  put-whole-reads.Asked,
+  put-whole-reads.Learnt,
+  put-truth-reads.Asked,
+  put-truth-reads.Learnt,
+  expr-below t,
+  expr.Post,
+  width-at-reads.Asked,
+  width-at-reads.Learnt,
+  put-operator-reads.Asked,
+  put-operator-reads.Learnt,
+  copied-reads.Asked,
+  copied-reads.Learnt,
+  wide-reads.Asked,
+  wide-reads.Learnt,
+  choose-reads.Asked,
+  choose-reads.Learnt,
+  put-errs-reads.Asked,
+  put-errs-reads.Learnt,
+  rounds-below t,
+  rounds.Post,
+) (expr-at t) expr.Post
+expr-expr-requires-9 t c κs = search needs
+
+-- src/cycle.rt:110:32  match expr(t, widths, c, env, &mut inner, wide(a), left) { ⏎ Rest::Short => Rest::Short,
+expr-enum-told-8 : (t : ℕ) → expr-lts.Need-enum-told-8 (
+  shape-at-reads.Asked,
+  shape-at-reads.Learnt,
+  put-name-reads.Asked,
+  put-name-reads.Learnt,
+  put-whole-reads.Asked,
+  put-whole-reads.Learnt,
+  put-truth-reads.Asked,
+  put-truth-reads.Learnt,
+  expr-below t,
+  expr.Post,
+  width-at-reads.Asked,
+  width-at-reads.Learnt,
+  put-operator-reads.Asked,
+  put-operator-reads.Learnt,
+  copied-reads.Asked,
+  copied-reads.Learnt,
+  wide-reads.Asked,
+  wide-reads.Learnt,
+  choose-reads.Asked,
+  choose-reads.Learnt,
+  put-errs-reads.Asked,
+  put-errs-reads.Learnt,
+  rounds-below t,
+  rounds.Post,
+) (expr-at t) expr.Post
+expr-enum-told-8 t c = search needs
+
+-- src/cycle.rt:111:28  Rest::Short => Rest::Short, ⏎ Rest::Left(l) => rounds(t, widths, d, width_at(widths, r), wide(a), wide(b), &mut inner, out, at, l),
+expr-enum-known-l-5 : (t : ℕ) → expr-lts.Need-enum-known-l-5 (
+  shape-at-reads.Asked,
+  shape-at-reads.Learnt,
+  put-name-reads.Asked,
+  put-name-reads.Learnt,
+  put-whole-reads.Asked,
+  put-whole-reads.Learnt,
+  put-truth-reads.Asked,
+  put-truth-reads.Learnt,
+  expr-below t,
+  expr.Post,
+  width-at-reads.Asked,
+  width-at-reads.Learnt,
+  put-operator-reads.Asked,
+  put-operator-reads.Learnt,
+  copied-reads.Asked,
+  copied-reads.Learnt,
+  wide-reads.Asked,
+  wide-reads.Learnt,
+  choose-reads.Asked,
+  choose-reads.Learnt,
+  put-errs-reads.Asked,
+  put-errs-reads.Learnt,
+  rounds-below t,
+  rounds.Post,
+) (expr-at t) expr.Post
+expr-enum-known-l-5 t c = search needs
+
+-- src/cycle.rt:111:55  Rest::Short => Rest::Short, ⏎ Rest::Left(l) => rounds(t, widths, d, width_at(widths, r), wide(a), wide(b), &mut inner, out, at, l),
+expr-width-at-requires-3 : (t : ℕ) → expr-lts.Need-width-at-requires-3 (
+  shape-at-reads.Asked,
+  shape-at-reads.Learnt,
+  put-name-reads.Asked,
+  put-name-reads.Learnt,
+  put-whole-reads.Asked,
+  put-whole-reads.Learnt,
+  put-truth-reads.Asked,
+  put-truth-reads.Learnt,
+  expr-below t,
+  expr.Post,
+  width-at-reads.Asked,
+  width-at-reads.Learnt,
+  put-operator-reads.Asked,
+  put-operator-reads.Learnt,
+  copied-reads.Asked,
+  copied-reads.Learnt,
+  wide-reads.Asked,
+  wide-reads.Learnt,
+  choose-reads.Asked,
+  choose-reads.Learnt,
+  put-errs-reads.Asked,
+  put-errs-reads.Learnt,
+  rounds-below t,
+  rounds.Post,
+) (expr-at t) expr.Post
+expr-width-at-requires-3 t c κs = search needs
+
+-- src/cycle.rt:111:76  Rest::Short => Rest::Short, ⏎ Rest::Left(l) => rounds(t, widths, d, width_at(widths, r), wide(a), wide(b), &mut inner, out, at, l),
+expr-wide-requires-3 : (t : ℕ) → expr-lts.Need-wide-requires-3 (
+  shape-at-reads.Asked,
+  shape-at-reads.Learnt,
+  put-name-reads.Asked,
+  put-name-reads.Learnt,
+  put-whole-reads.Asked,
+  put-whole-reads.Learnt,
+  put-truth-reads.Asked,
+  put-truth-reads.Learnt,
+  expr-below t,
+  expr.Post,
+  width-at-reads.Asked,
+  width-at-reads.Learnt,
+  put-operator-reads.Asked,
+  put-operator-reads.Learnt,
+  copied-reads.Asked,
+  copied-reads.Learnt,
+  wide-reads.Asked,
+  wide-reads.Learnt,
+  choose-reads.Asked,
+  choose-reads.Learnt,
+  put-errs-reads.Asked,
+  put-errs-reads.Learnt,
+  rounds-below t,
+  rounds.Post,
+) (expr-at t) expr.Post
+expr-wide-requires-3 t c κs = search needs
+
+-- src/cycle.rt:111:85  Rest::Short => Rest::Short, ⏎ Rest::Left(l) => rounds(t, widths, d, width_at(widths, r), wide(a), wide(b), &mut inner, out, at, l),
+expr-wide-requires-4 : (t : ℕ) → expr-lts.Need-wide-requires-4 (
+  shape-at-reads.Asked,
+  shape-at-reads.Learnt,
+  put-name-reads.Asked,
+  put-name-reads.Learnt,
+  put-whole-reads.Asked,
+  put-whole-reads.Learnt,
+  put-truth-reads.Asked,
+  put-truth-reads.Learnt,
+  expr-below t,
+  expr.Post,
+  width-at-reads.Asked,
+  width-at-reads.Learnt,
+  put-operator-reads.Asked,
+  put-operator-reads.Learnt,
+  copied-reads.Asked,
+  copied-reads.Learnt,
+  wide-reads.Asked,
+  wide-reads.Learnt,
+  choose-reads.Asked,
+  choose-reads.Learnt,
+  put-errs-reads.Asked,
+  put-errs-reads.Learnt,
+  rounds-below t,
+  rounds.Post,
+) (expr-at t) expr.Post
+expr-wide-requires-4 t c κs = search needs
+
+-- src/cycle.rt:111:94  Rest::Short => Rest::Short, ⏎ Rest::Left(l) => rounds(t, widths, d, width_at(widths, r), wide(a), wide(b), &mut inner, out, at, l),
+expr-slice-aggregate-rounds : (t : ℕ) → expr-lts.Need-slice-aggregate-rounds (
+  shape-at-reads.Asked,
+  shape-at-reads.Learnt,
+  put-name-reads.Asked,
+  put-name-reads.Learnt,
+  put-whole-reads.Asked,
+  put-whole-reads.Learnt,
+  put-truth-reads.Asked,
+  put-truth-reads.Learnt,
+  expr-below t,
+  expr.Post,
+  width-at-reads.Asked,
+  width-at-reads.Learnt,
+  put-operator-reads.Asked,
+  put-operator-reads.Learnt,
+  copied-reads.Asked,
+  copied-reads.Learnt,
+  wide-reads.Asked,
+  wide-reads.Learnt,
+  choose-reads.Asked,
+  choose-reads.Learnt,
+  put-errs-reads.Asked,
+  put-errs-reads.Learnt,
+  rounds-below t,
+  rounds.Post,
+) (expr-at t) expr.Post
+expr-slice-aggregate-rounds t c = search needs
+
+-- src/cycle.rt:111:34  Rest::Short => Rest::Short, ⏎ Rest::Left(l) => rounds(t, widths, d, width_at(widths, r), wide(a), wide(b), &mut inner, out, at, l),
+expr-rounds-requires : (t : ℕ) → expr-lts.Need-rounds-requires (
+  shape-at-reads.Asked,
+  shape-at-reads.Learnt,
+  put-name-reads.Asked,
+  put-name-reads.Learnt,
+  put-whole-reads.Asked,
+  put-whole-reads.Learnt,
+  put-truth-reads.Asked,
+  put-truth-reads.Learnt,
+  expr-below t,
+  expr.Post,
+  width-at-reads.Asked,
+  width-at-reads.Learnt,
+  put-operator-reads.Asked,
+  put-operator-reads.Learnt,
+  copied-reads.Asked,
+  copied-reads.Learnt,
+  wide-reads.Asked,
+  wide-reads.Learnt,
+  choose-reads.Asked,
+  choose-reads.Learnt,
+  put-errs-reads.Asked,
+  put-errs-reads.Learnt,
+  rounds-below t,
+  rounds.Post,
+) (expr-at t) expr.Post
+expr-rounds-requires t c κs = search needs
+
+-- src/cycle.rt:115:27  // refused by 7 ⏎ Shape::Iter(_) => Rest::Short,
+expr-enum-told-9 : (t : ℕ) → expr-lts.Need-enum-told-9 (
+  shape-at-reads.Asked,
+  shape-at-reads.Learnt,
+  put-name-reads.Asked,
+  put-name-reads.Learnt,
+  put-whole-reads.Asked,
+  put-whole-reads.Learnt,
+  put-truth-reads.Asked,
+  put-truth-reads.Learnt,
+  expr-below t,
+  expr.Post,
+  width-at-reads.Asked,
+  width-at-reads.Learnt,
+  put-operator-reads.Asked,
+  put-operator-reads.Learnt,
+  copied-reads.Asked,
+  copied-reads.Learnt,
+  wide-reads.Asked,
+  wide-reads.Learnt,
+  choose-reads.Asked,
+  choose-reads.Learnt,
+  put-errs-reads.Asked,
+  put-errs-reads.Learnt,
+  rounds-below t,
+  rounds.Post,
+) (expr-at t) expr.Post
+expr-enum-told-9 t c = search needs
+
+-- src/cycle.rt:55:1  // Row r as an expression: its values go to the words of `out` from `at` on. ⏎ pub fn expr(t: &[u32], widths: &[u8], r: usize, env: &[u64], out: &mut [u64], at: usize, left: u32) -> Rest
+expr-same-length : (t : ℕ) → expr-lts.Need-same-length (
+  shape-at-reads.Asked,
+  shape-at-reads.Learnt,
+  put-name-reads.Asked,
+  put-name-reads.Learnt,
+  put-whole-reads.Asked,
+  put-whole-reads.Learnt,
+  put-truth-reads.Asked,
+  put-truth-reads.Learnt,
+  expr-below t,
+  expr.Post,
+  width-at-reads.Asked,
+  width-at-reads.Learnt,
+  put-operator-reads.Asked,
+  put-operator-reads.Learnt,
+  copied-reads.Asked,
+  copied-reads.Learnt,
+  wide-reads.Asked,
+  wide-reads.Learnt,
+  choose-reads.Asked,
+  choose-reads.Learnt,
+  put-errs-reads.Asked,
+  put-errs-reads.Learnt,
+  rounds-below t,
+  rounds.Post,
+) (expr-at t) expr.Post
+expr-same-length t c = search needs
+
+-- src/cycle.rt:55:1  // Row r as an expression: its values go to the words of `out` from `at` on. ⏎ pub fn expr(t: &[u32], widths: &[u8], r: usize, env: &[u64], out: &mut [u64], at: usize, left: u32) -> Rest
+expr-returns : (t : ℕ) → expr-lts.Need-returns (
+  shape-at-reads.Asked,
+  shape-at-reads.Learnt,
+  put-name-reads.Asked,
+  put-name-reads.Learnt,
+  put-whole-reads.Asked,
+  put-whole-reads.Learnt,
+  put-truth-reads.Asked,
+  put-truth-reads.Learnt,
+  expr-below t,
+  expr.Post,
+  width-at-reads.Asked,
+  width-at-reads.Learnt,
+  put-operator-reads.Asked,
+  put-operator-reads.Learnt,
+  copied-reads.Asked,
+  copied-reads.Learnt,
+  wide-reads.Asked,
+  wide-reads.Learnt,
+  choose-reads.Asked,
+  choose-reads.Learnt,
+  put-errs-reads.Asked,
+  put-errs-reads.Learnt,
+  rounds-below t,
+  rounds.Post,
+) (expr-at t) expr.Post
+expr-returns t c = search needs
+
+-- src/cycle.rt:55:1  // Row r as an expression: its values go to the words of `out` from `at` on. ⏎ pub fn expr(t: &[u32], widths: &[u8], r: usize, env: &[u64], out: &mut [u64], at: usize, left: u32) -> Rest
+expr-same-length-2 : (t : ℕ) → expr-lts.Need-same-length-2 (
+  shape-at-reads.Asked,
+  shape-at-reads.Learnt,
+  put-name-reads.Asked,
+  put-name-reads.Learnt,
+  put-whole-reads.Asked,
+  put-whole-reads.Learnt,
+  put-truth-reads.Asked,
+  put-truth-reads.Learnt,
+  expr-below t,
+  expr.Post,
+  width-at-reads.Asked,
+  width-at-reads.Learnt,
+  put-operator-reads.Asked,
+  put-operator-reads.Learnt,
+  copied-reads.Asked,
+  copied-reads.Learnt,
+  wide-reads.Asked,
+  wide-reads.Learnt,
+  choose-reads.Asked,
+  choose-reads.Learnt,
+  put-errs-reads.Asked,
+  put-errs-reads.Learnt,
+  rounds-below t,
+  rounds.Post,
+) (expr-at t) expr.Post
+expr-same-length-2 t c = search needs
+
+-- src/cycle.rt:55:1  // Row r as an expression: its values go to the words of `out` from `at` on. ⏎ pub fn expr(t: &[u32], widths: &[u8], r: usize, env: &[u64], out: &mut [u64], at: usize, left: u32) -> Rest
+expr-returns-2 : (t : ℕ) → expr-lts.Need-returns-2 (
+  shape-at-reads.Asked,
+  shape-at-reads.Learnt,
+  put-name-reads.Asked,
+  put-name-reads.Learnt,
+  put-whole-reads.Asked,
+  put-whole-reads.Learnt,
+  put-truth-reads.Asked,
+  put-truth-reads.Learnt,
+  expr-below t,
+  expr.Post,
+  width-at-reads.Asked,
+  width-at-reads.Learnt,
+  put-operator-reads.Asked,
+  put-operator-reads.Learnt,
+  copied-reads.Asked,
+  copied-reads.Learnt,
+  wide-reads.Asked,
+  wide-reads.Learnt,
+  choose-reads.Asked,
+  choose-reads.Learnt,
+  put-errs-reads.Asked,
+  put-errs-reads.Learnt,
+  rounds-below t,
+  rounds.Post,
+) (expr-at t) expr.Post
+expr-returns-2 t c = search needs
+
+-- src/cycle.rt:55:1  // Row r as an expression: its values go to the words of `out` from `at` on. ⏎ pub fn expr(t: &[u32], widths: &[u8], r: usize, env: &[u64], out: &mut [u64], at: usize, left: u32) -> Rest
+expr-same-length-3 : (t : ℕ) → expr-lts.Need-same-length-3 (
+  shape-at-reads.Asked,
+  shape-at-reads.Learnt,
+  put-name-reads.Asked,
+  put-name-reads.Learnt,
+  put-whole-reads.Asked,
+  put-whole-reads.Learnt,
+  put-truth-reads.Asked,
+  put-truth-reads.Learnt,
+  expr-below t,
+  expr.Post,
+  width-at-reads.Asked,
+  width-at-reads.Learnt,
+  put-operator-reads.Asked,
+  put-operator-reads.Learnt,
+  copied-reads.Asked,
+  copied-reads.Learnt,
+  wide-reads.Asked,
+  wide-reads.Learnt,
+  choose-reads.Asked,
+  choose-reads.Learnt,
+  put-errs-reads.Asked,
+  put-errs-reads.Learnt,
+  rounds-below t,
+  rounds.Post,
+) (expr-at t) expr.Post
+expr-same-length-3 t c = search needs
+
+-- src/cycle.rt:55:1  // Row r as an expression: its values go to the words of `out` from `at` on. ⏎ pub fn expr(t: &[u32], widths: &[u8], r: usize, env: &[u64], out: &mut [u64], at: usize, left: u32) -> Rest
+expr-returns-3 : (t : ℕ) → expr-lts.Need-returns-3 (
+  shape-at-reads.Asked,
+  shape-at-reads.Learnt,
+  put-name-reads.Asked,
+  put-name-reads.Learnt,
+  put-whole-reads.Asked,
+  put-whole-reads.Learnt,
+  put-truth-reads.Asked,
+  put-truth-reads.Learnt,
+  expr-below t,
+  expr.Post,
+  width-at-reads.Asked,
+  width-at-reads.Learnt,
+  put-operator-reads.Asked,
+  put-operator-reads.Learnt,
+  copied-reads.Asked,
+  copied-reads.Learnt,
+  wide-reads.Asked,
+  wide-reads.Learnt,
+  choose-reads.Asked,
+  choose-reads.Learnt,
+  put-errs-reads.Asked,
+  put-errs-reads.Learnt,
+  rounds-below t,
+  rounds.Post,
+) (expr-at t) expr.Post
+expr-returns-3 t c = search needs
+
+-- src/cycle.rt:55:1  // Row r as an expression: its values go to the words of `out` from `at` on. ⏎ pub fn expr(t: &[u32], widths: &[u8], r: usize, env: &[u64], out: &mut [u64], at: usize, left: u32) -> Rest
+expr-same-length-4 : (t : ℕ) → expr-lts.Need-same-length-4 (
+  shape-at-reads.Asked,
+  shape-at-reads.Learnt,
+  put-name-reads.Asked,
+  put-name-reads.Learnt,
+  put-whole-reads.Asked,
+  put-whole-reads.Learnt,
+  put-truth-reads.Asked,
+  put-truth-reads.Learnt,
+  expr-below t,
+  expr.Post,
+  width-at-reads.Asked,
+  width-at-reads.Learnt,
+  put-operator-reads.Asked,
+  put-operator-reads.Learnt,
+  copied-reads.Asked,
+  copied-reads.Learnt,
+  wide-reads.Asked,
+  wide-reads.Learnt,
+  choose-reads.Asked,
+  choose-reads.Learnt,
+  put-errs-reads.Asked,
+  put-errs-reads.Learnt,
+  rounds-below t,
+  rounds.Post,
+) (expr-at t) expr.Post
+expr-same-length-4 t c = search needs
+
+-- src/cycle.rt:55:1  // Row r as an expression: its values go to the words of `out` from `at` on. ⏎ pub fn expr(t: &[u32], widths: &[u8], r: usize, env: &[u64], out: &mut [u64], at: usize, left: u32) -> Rest
+expr-returns-4 : (t : ℕ) → expr-lts.Need-returns-4 (
+  shape-at-reads.Asked,
+  shape-at-reads.Learnt,
+  put-name-reads.Asked,
+  put-name-reads.Learnt,
+  put-whole-reads.Asked,
+  put-whole-reads.Learnt,
+  put-truth-reads.Asked,
+  put-truth-reads.Learnt,
+  expr-below t,
+  expr.Post,
+  width-at-reads.Asked,
+  width-at-reads.Learnt,
+  put-operator-reads.Asked,
+  put-operator-reads.Learnt,
+  copied-reads.Asked,
+  copied-reads.Learnt,
+  wide-reads.Asked,
+  wide-reads.Learnt,
+  choose-reads.Asked,
+  choose-reads.Learnt,
+  put-errs-reads.Asked,
+  put-errs-reads.Learnt,
+  rounds-below t,
+  rounds.Post,
+) (expr-at t) expr.Post
+expr-returns-4 t c = search needs
+
+-- src/cycle.rt:55:1  // Row r as an expression: its values go to the words of `out` from `at` on. ⏎ pub fn expr(t: &[u32], widths: &[u8], r: usize, env: &[u64], out: &mut [u64], at: usize, left: u32) -> Rest
+expr-same-length-5 : (t : ℕ) → expr-lts.Need-same-length-5 (
+  shape-at-reads.Asked,
+  shape-at-reads.Learnt,
+  put-name-reads.Asked,
+  put-name-reads.Learnt,
+  put-whole-reads.Asked,
+  put-whole-reads.Learnt,
+  put-truth-reads.Asked,
+  put-truth-reads.Learnt,
+  expr-below t,
+  expr.Post,
+  width-at-reads.Asked,
+  width-at-reads.Learnt,
+  put-operator-reads.Asked,
+  put-operator-reads.Learnt,
+  copied-reads.Asked,
+  copied-reads.Learnt,
+  wide-reads.Asked,
+  wide-reads.Learnt,
+  choose-reads.Asked,
+  choose-reads.Learnt,
+  put-errs-reads.Asked,
+  put-errs-reads.Learnt,
+  rounds-below t,
+  rounds.Post,
+) (expr-at t) expr.Post
+expr-same-length-5 t c = search needs
+
+-- src/cycle.rt:55:1  // Row r as an expression: its values go to the words of `out` from `at` on. ⏎ pub fn expr(t: &[u32], widths: &[u8], r: usize, env: &[u64], out: &mut [u64], at: usize, left: u32) -> Rest
+expr-returns-5 : (t : ℕ) → expr-lts.Need-returns-5 (
+  shape-at-reads.Asked,
+  shape-at-reads.Learnt,
+  put-name-reads.Asked,
+  put-name-reads.Learnt,
+  put-whole-reads.Asked,
+  put-whole-reads.Learnt,
+  put-truth-reads.Asked,
+  put-truth-reads.Learnt,
+  expr-below t,
+  expr.Post,
+  width-at-reads.Asked,
+  width-at-reads.Learnt,
+  put-operator-reads.Asked,
+  put-operator-reads.Learnt,
+  copied-reads.Asked,
+  copied-reads.Learnt,
+  wide-reads.Asked,
+  wide-reads.Learnt,
+  choose-reads.Asked,
+  choose-reads.Learnt,
+  put-errs-reads.Asked,
+  put-errs-reads.Learnt,
+  rounds-below t,
+  rounds.Post,
+) (expr-at t) expr.Post
+expr-returns-5 t c = search needs
+
+-- src/cycle.rt:55:1  // Row r as an expression: its values go to the words of `out` from `at` on. ⏎ pub fn expr(t: &[u32], widths: &[u8], r: usize, env: &[u64], out: &mut [u64], at: usize, left: u32) -> Rest
+expr-returns-6 : (t : ℕ) → expr-lts.Need-returns-6 (
+  shape-at-reads.Asked,
+  shape-at-reads.Learnt,
+  put-name-reads.Asked,
+  put-name-reads.Learnt,
+  put-whole-reads.Asked,
+  put-whole-reads.Learnt,
+  put-truth-reads.Asked,
+  put-truth-reads.Learnt,
+  expr-below t,
+  expr.Post,
+  width-at-reads.Asked,
+  width-at-reads.Learnt,
+  put-operator-reads.Asked,
+  put-operator-reads.Learnt,
+  copied-reads.Asked,
+  copied-reads.Learnt,
+  wide-reads.Asked,
+  wide-reads.Learnt,
+  choose-reads.Asked,
+  choose-reads.Learnt,
+  put-errs-reads.Asked,
+  put-errs-reads.Learnt,
+  rounds-below t,
+  rounds.Post,
+) (expr-at t) expr.Post
+expr-returns-6 t c = search needs
+
+-- src/cycle.rt:55:1  // Row r as an expression: its values go to the words of `out` from `at` on. ⏎ pub fn expr(t: &[u32], widths: &[u8], r: usize, env: &[u64], out: &mut [u64], at: usize, left: u32) -> Rest
+expr-same-length-6 : (t : ℕ) → expr-lts.Need-same-length-6 (
+  shape-at-reads.Asked,
+  shape-at-reads.Learnt,
+  put-name-reads.Asked,
+  put-name-reads.Learnt,
+  put-whole-reads.Asked,
+  put-whole-reads.Learnt,
+  put-truth-reads.Asked,
+  put-truth-reads.Learnt,
+  expr-below t,
+  expr.Post,
+  width-at-reads.Asked,
+  width-at-reads.Learnt,
+  put-operator-reads.Asked,
+  put-operator-reads.Learnt,
+  copied-reads.Asked,
+  copied-reads.Learnt,
+  wide-reads.Asked,
+  wide-reads.Learnt,
+  choose-reads.Asked,
+  choose-reads.Learnt,
+  put-errs-reads.Asked,
+  put-errs-reads.Learnt,
+  rounds-below t,
+  rounds.Post,
+) (expr-at t) expr.Post
+expr-same-length-6 t c = search needs
+
+-- src/cycle.rt:55:1  // Row r as an expression: its values go to the words of `out` from `at` on. ⏎ pub fn expr(t: &[u32], widths: &[u8], r: usize, env: &[u64], out: &mut [u64], at: usize, left: u32) -> Rest
+expr-returns-7 : (t : ℕ) → expr-lts.Need-returns-7 (
+  shape-at-reads.Asked,
+  shape-at-reads.Learnt,
+  put-name-reads.Asked,
+  put-name-reads.Learnt,
+  put-whole-reads.Asked,
+  put-whole-reads.Learnt,
+  put-truth-reads.Asked,
+  put-truth-reads.Learnt,
+  expr-below t,
+  expr.Post,
+  width-at-reads.Asked,
+  width-at-reads.Learnt,
+  put-operator-reads.Asked,
+  put-operator-reads.Learnt,
+  copied-reads.Asked,
+  copied-reads.Learnt,
+  wide-reads.Asked,
+  wide-reads.Learnt,
+  choose-reads.Asked,
+  choose-reads.Learnt,
+  put-errs-reads.Asked,
+  put-errs-reads.Learnt,
+  rounds-below t,
+  rounds.Post,
+) (expr-at t) expr.Post
+expr-returns-7 t c = search needs
+
+-- src/cycle.rt:55:1  // Row r as an expression: its values go to the words of `out` from `at` on. ⏎ pub fn expr(t: &[u32], widths: &[u8], r: usize, env: &[u64], out: &mut [u64], at: usize, left: u32) -> Rest
+expr-returns-8 : (t : ℕ) → expr-lts.Need-returns-8 (
+  shape-at-reads.Asked,
+  shape-at-reads.Learnt,
+  put-name-reads.Asked,
+  put-name-reads.Learnt,
+  put-whole-reads.Asked,
+  put-whole-reads.Learnt,
+  put-truth-reads.Asked,
+  put-truth-reads.Learnt,
+  expr-below t,
+  expr.Post,
+  width-at-reads.Asked,
+  width-at-reads.Learnt,
+  put-operator-reads.Asked,
+  put-operator-reads.Learnt,
+  copied-reads.Asked,
+  copied-reads.Learnt,
+  wide-reads.Asked,
+  wide-reads.Learnt,
+  choose-reads.Asked,
+  choose-reads.Learnt,
+  put-errs-reads.Asked,
+  put-errs-reads.Learnt,
+  rounds-below t,
+  rounds.Post,
+) (expr-at t) expr.Post
+expr-returns-8 t c = search needs
+
+-- src/cycle.rt:55:1  // Row r as an expression: its values go to the words of `out` from `at` on. ⏎ pub fn expr(t: &[u32], widths: &[u8], r: usize, env: &[u64], out: &mut [u64], at: usize, left: u32) -> Rest
+expr-same-length-7 : (t : ℕ) → expr-lts.Need-same-length-7 (
+  shape-at-reads.Asked,
+  shape-at-reads.Learnt,
+  put-name-reads.Asked,
+  put-name-reads.Learnt,
+  put-whole-reads.Asked,
+  put-whole-reads.Learnt,
+  put-truth-reads.Asked,
+  put-truth-reads.Learnt,
+  expr-below t,
+  expr.Post,
+  width-at-reads.Asked,
+  width-at-reads.Learnt,
+  put-operator-reads.Asked,
+  put-operator-reads.Learnt,
+  copied-reads.Asked,
+  copied-reads.Learnt,
+  wide-reads.Asked,
+  wide-reads.Learnt,
+  choose-reads.Asked,
+  choose-reads.Learnt,
+  put-errs-reads.Asked,
+  put-errs-reads.Learnt,
+  rounds-below t,
+  rounds.Post,
+) (expr-at t) expr.Post
+expr-same-length-7 t c = search needs
+
+-- src/cycle.rt:55:1  // Row r as an expression: its values go to the words of `out` from `at` on. ⏎ pub fn expr(t: &[u32], widths: &[u8], r: usize, env: &[u64], out: &mut [u64], at: usize, left: u32) -> Rest
+expr-returns-9 : (t : ℕ) → expr-lts.Need-returns-9 (
+  shape-at-reads.Asked,
+  shape-at-reads.Learnt,
+  put-name-reads.Asked,
+  put-name-reads.Learnt,
+  put-whole-reads.Asked,
+  put-whole-reads.Learnt,
+  put-truth-reads.Asked,
+  put-truth-reads.Learnt,
+  expr-below t,
+  expr.Post,
+  width-at-reads.Asked,
+  width-at-reads.Learnt,
+  put-operator-reads.Asked,
+  put-operator-reads.Learnt,
+  copied-reads.Asked,
+  copied-reads.Learnt,
+  wide-reads.Asked,
+  wide-reads.Learnt,
+  choose-reads.Asked,
+  choose-reads.Learnt,
+  put-errs-reads.Asked,
+  put-errs-reads.Learnt,
+  rounds-below t,
+  rounds.Post,
+) (expr-at t) expr.Post
+expr-returns-9 t c = search needs
+
+-- src/cycle.rt:55:1  // Row r as an expression: its values go to the words of `out` from `at` on. ⏎ pub fn expr(t: &[u32], widths: &[u8], r: usize, env: &[u64], out: &mut [u64], at: usize, left: u32) -> Rest
+expr-returns-10 : (t : ℕ) → expr-lts.Need-returns-10 (
+  shape-at-reads.Asked,
+  shape-at-reads.Learnt,
+  put-name-reads.Asked,
+  put-name-reads.Learnt,
+  put-whole-reads.Asked,
+  put-whole-reads.Learnt,
+  put-truth-reads.Asked,
+  put-truth-reads.Learnt,
+  expr-below t,
+  expr.Post,
+  width-at-reads.Asked,
+  width-at-reads.Learnt,
+  put-operator-reads.Asked,
+  put-operator-reads.Learnt,
+  copied-reads.Asked,
+  copied-reads.Learnt,
+  wide-reads.Asked,
+  wide-reads.Learnt,
+  choose-reads.Asked,
+  choose-reads.Learnt,
+  put-errs-reads.Asked,
+  put-errs-reads.Learnt,
+  rounds-below t,
+  rounds.Post,
+) (expr-at t) expr.Post
+expr-returns-10 t c = search needs
+
+-- src/cycle.rt:55:1  // Row r as an expression: its values go to the words of `out` from `at` on. ⏎ pub fn expr(t: &[u32], widths: &[u8], r: usize, env: &[u64], out: &mut [u64], at: usize, left: u32) -> Rest
+expr-same-length-8 : (t : ℕ) → expr-lts.Need-same-length-8 (
+  shape-at-reads.Asked,
+  shape-at-reads.Learnt,
+  put-name-reads.Asked,
+  put-name-reads.Learnt,
+  put-whole-reads.Asked,
+  put-whole-reads.Learnt,
+  put-truth-reads.Asked,
+  put-truth-reads.Learnt,
+  expr-below t,
+  expr.Post,
+  width-at-reads.Asked,
+  width-at-reads.Learnt,
+  put-operator-reads.Asked,
+  put-operator-reads.Learnt,
+  copied-reads.Asked,
+  copied-reads.Learnt,
+  wide-reads.Asked,
+  wide-reads.Learnt,
+  choose-reads.Asked,
+  choose-reads.Learnt,
+  put-errs-reads.Asked,
+  put-errs-reads.Learnt,
+  rounds-below t,
+  rounds.Post,
+) (expr-at t) expr.Post
+expr-same-length-8 t c = search needs
+
+-- src/cycle.rt:55:1  // Row r as an expression: its values go to the words of `out` from `at` on. ⏎ pub fn expr(t: &[u32], widths: &[u8], r: usize, env: &[u64], out: &mut [u64], at: usize, left: u32) -> Rest
+expr-returns-11 : (t : ℕ) → expr-lts.Need-returns-11 (
+  shape-at-reads.Asked,
+  shape-at-reads.Learnt,
+  put-name-reads.Asked,
+  put-name-reads.Learnt,
+  put-whole-reads.Asked,
+  put-whole-reads.Learnt,
+  put-truth-reads.Asked,
+  put-truth-reads.Learnt,
+  expr-below t,
+  expr.Post,
+  width-at-reads.Asked,
+  width-at-reads.Learnt,
+  put-operator-reads.Asked,
+  put-operator-reads.Learnt,
+  copied-reads.Asked,
+  copied-reads.Learnt,
+  wide-reads.Asked,
+  wide-reads.Learnt,
+  choose-reads.Asked,
+  choose-reads.Learnt,
+  put-errs-reads.Asked,
+  put-errs-reads.Learnt,
+  rounds-below t,
+  rounds.Post,
+) (expr-at t) expr.Post
+expr-returns-11 t c = search needs
+
+-- src/cycle.rt:55:1  // Row r as an expression: its values go to the words of `out` from `at` on. ⏎ pub fn expr(t: &[u32], widths: &[u8], r: usize, env: &[u64], out: &mut [u64], at: usize, left: u32) -> Rest
+expr-same-length-9 : (t : ℕ) → expr-lts.Need-same-length-9 (
+  shape-at-reads.Asked,
+  shape-at-reads.Learnt,
+  put-name-reads.Asked,
+  put-name-reads.Learnt,
+  put-whole-reads.Asked,
+  put-whole-reads.Learnt,
+  put-truth-reads.Asked,
+  put-truth-reads.Learnt,
+  expr-below t,
+  expr.Post,
+  width-at-reads.Asked,
+  width-at-reads.Learnt,
+  put-operator-reads.Asked,
+  put-operator-reads.Learnt,
+  copied-reads.Asked,
+  copied-reads.Learnt,
+  wide-reads.Asked,
+  wide-reads.Learnt,
+  choose-reads.Asked,
+  choose-reads.Learnt,
+  put-errs-reads.Asked,
+  put-errs-reads.Learnt,
+  rounds-below t,
+  rounds.Post,
+) (expr-at t) expr.Post
+expr-same-length-9 t c = search needs
+
+-- src/cycle.rt:55:1  // Row r as an expression: its values go to the words of `out` from `at` on. ⏎ pub fn expr(t: &[u32], widths: &[u8], r: usize, env: &[u64], out: &mut [u64], at: usize, left: u32) -> Rest
+expr-returns-12 : (t : ℕ) → expr-lts.Need-returns-12 (
+  shape-at-reads.Asked,
+  shape-at-reads.Learnt,
+  put-name-reads.Asked,
+  put-name-reads.Learnt,
+  put-whole-reads.Asked,
+  put-whole-reads.Learnt,
+  put-truth-reads.Asked,
+  put-truth-reads.Learnt,
+  expr-below t,
+  expr.Post,
+  width-at-reads.Asked,
+  width-at-reads.Learnt,
+  put-operator-reads.Asked,
+  put-operator-reads.Learnt,
+  copied-reads.Asked,
+  copied-reads.Learnt,
+  wide-reads.Asked,
+  wide-reads.Learnt,
+  choose-reads.Asked,
+  choose-reads.Learnt,
+  put-errs-reads.Asked,
+  put-errs-reads.Learnt,
+  rounds-below t,
+  rounds.Post,
+) (expr-at t) expr.Post
+expr-returns-12 t c = search needs
+
+-- src/cycle.rt:55:1  // Row r as an expression: its values go to the words of `out` from `at` on. ⏎ pub fn expr(t: &[u32], widths: &[u8], r: usize, env: &[u64], out: &mut [u64], at: usize, left: u32) -> Rest
+expr-same-length-10 : (t : ℕ) → expr-lts.Need-same-length-10 (
+  shape-at-reads.Asked,
+  shape-at-reads.Learnt,
+  put-name-reads.Asked,
+  put-name-reads.Learnt,
+  put-whole-reads.Asked,
+  put-whole-reads.Learnt,
+  put-truth-reads.Asked,
+  put-truth-reads.Learnt,
+  expr-below t,
+  expr.Post,
+  width-at-reads.Asked,
+  width-at-reads.Learnt,
+  put-operator-reads.Asked,
+  put-operator-reads.Learnt,
+  copied-reads.Asked,
+  copied-reads.Learnt,
+  wide-reads.Asked,
+  wide-reads.Learnt,
+  choose-reads.Asked,
+  choose-reads.Learnt,
+  put-errs-reads.Asked,
+  put-errs-reads.Learnt,
+  rounds-below t,
+  rounds.Post,
+) (expr-at t) expr.Post
+expr-same-length-10 t c = search needs
+
+-- src/cycle.rt:55:1  // Row r as an expression: its values go to the words of `out` from `at` on. ⏎ pub fn expr(t: &[u32], widths: &[u8], r: usize, env: &[u64], out: &mut [u64], at: usize, left: u32) -> Rest
+expr-returns-13 : (t : ℕ) → expr-lts.Need-returns-13 (
+  shape-at-reads.Asked,
+  shape-at-reads.Learnt,
+  put-name-reads.Asked,
+  put-name-reads.Learnt,
+  put-whole-reads.Asked,
+  put-whole-reads.Learnt,
+  put-truth-reads.Asked,
+  put-truth-reads.Learnt,
+  expr-below t,
+  expr.Post,
+  width-at-reads.Asked,
+  width-at-reads.Learnt,
+  put-operator-reads.Asked,
+  put-operator-reads.Learnt,
+  copied-reads.Asked,
+  copied-reads.Learnt,
+  wide-reads.Asked,
+  wide-reads.Learnt,
+  choose-reads.Asked,
+  choose-reads.Learnt,
+  put-errs-reads.Asked,
+  put-errs-reads.Learnt,
+  rounds-below t,
+  rounds.Post,
+) (expr-at t) expr.Post
+expr-returns-13 t c = search needs
+
+-- src/cycle.rt:55:1  // Row r as an expression: its values go to the words of `out` from `at` on. ⏎ pub fn expr(t: &[u32], widths: &[u8], r: usize, env: &[u64], out: &mut [u64], at: usize, left: u32) -> Rest
+expr-returns-14 : (t : ℕ) → expr-lts.Need-returns-14 (
+  shape-at-reads.Asked,
+  shape-at-reads.Learnt,
+  put-name-reads.Asked,
+  put-name-reads.Learnt,
+  put-whole-reads.Asked,
+  put-whole-reads.Learnt,
+  put-truth-reads.Asked,
+  put-truth-reads.Learnt,
+  expr-below t,
+  expr.Post,
+  width-at-reads.Asked,
+  width-at-reads.Learnt,
+  put-operator-reads.Asked,
+  put-operator-reads.Learnt,
+  copied-reads.Asked,
+  copied-reads.Learnt,
+  wide-reads.Asked,
+  wide-reads.Learnt,
+  choose-reads.Asked,
+  choose-reads.Learnt,
+  put-errs-reads.Asked,
+  put-errs-reads.Learnt,
+  rounds-below t,
+  rounds.Post,
+) (expr-at t) expr.Post
+expr-returns-14 t c = search needs
+
+-- src/cycle.rt:55:1  // Row r as an expression: its values go to the words of `out` from `at` on. ⏎ pub fn expr(t: &[u32], widths: &[u8], r: usize, env: &[u64], out: &mut [u64], at: usize, left: u32) -> Rest
+expr-same-length-11 : (t : ℕ) → expr-lts.Need-same-length-11 (
+  shape-at-reads.Asked,
+  shape-at-reads.Learnt,
+  put-name-reads.Asked,
+  put-name-reads.Learnt,
+  put-whole-reads.Asked,
+  put-whole-reads.Learnt,
+  put-truth-reads.Asked,
+  put-truth-reads.Learnt,
+  expr-below t,
+  expr.Post,
+  width-at-reads.Asked,
+  width-at-reads.Learnt,
+  put-operator-reads.Asked,
+  put-operator-reads.Learnt,
+  copied-reads.Asked,
+  copied-reads.Learnt,
+  wide-reads.Asked,
+  wide-reads.Learnt,
+  choose-reads.Asked,
+  choose-reads.Learnt,
+  put-errs-reads.Asked,
+  put-errs-reads.Learnt,
+  rounds-below t,
+  rounds.Post,
+) (expr-at t) expr.Post
+expr-same-length-11 t c = search needs
+
+-- src/cycle.rt:55:1  // Row r as an expression: its values go to the words of `out` from `at` on. ⏎ pub fn expr(t: &[u32], widths: &[u8], r: usize, env: &[u64], out: &mut [u64], at: usize, left: u32) -> Rest
+expr-returns-15 : (t : ℕ) → expr-lts.Need-returns-15 (
+  shape-at-reads.Asked,
+  shape-at-reads.Learnt,
+  put-name-reads.Asked,
+  put-name-reads.Learnt,
+  put-whole-reads.Asked,
+  put-whole-reads.Learnt,
+  put-truth-reads.Asked,
+  put-truth-reads.Learnt,
+  expr-below t,
+  expr.Post,
+  width-at-reads.Asked,
+  width-at-reads.Learnt,
+  put-operator-reads.Asked,
+  put-operator-reads.Learnt,
+  copied-reads.Asked,
+  copied-reads.Learnt,
+  wide-reads.Asked,
+  wide-reads.Learnt,
+  choose-reads.Asked,
+  choose-reads.Learnt,
+  put-errs-reads.Asked,
+  put-errs-reads.Learnt,
+  rounds-below t,
+  rounds.Post,
+) (expr-at t) expr.Post
+expr-returns-15 t c = search needs
+
+-- src/cycle.rt:55:1  // Row r as an expression: its values go to the words of `out` from `at` on. ⏎ pub fn expr(t: &[u32], widths: &[u8], r: usize, env: &[u64], out: &mut [u64], at: usize, left: u32) -> Rest
+expr-returns-16 : (t : ℕ) → expr-lts.Need-returns-16 (
+  shape-at-reads.Asked,
+  shape-at-reads.Learnt,
+  put-name-reads.Asked,
+  put-name-reads.Learnt,
+  put-whole-reads.Asked,
+  put-whole-reads.Learnt,
+  put-truth-reads.Asked,
+  put-truth-reads.Learnt,
+  expr-below t,
+  expr.Post,
+  width-at-reads.Asked,
+  width-at-reads.Learnt,
+  put-operator-reads.Asked,
+  put-operator-reads.Learnt,
+  copied-reads.Asked,
+  copied-reads.Learnt,
+  wide-reads.Asked,
+  wide-reads.Learnt,
+  choose-reads.Asked,
+  choose-reads.Learnt,
+  put-errs-reads.Asked,
+  put-errs-reads.Learnt,
+  rounds-below t,
+  rounds.Post,
+) (expr-at t) expr.Post
+expr-returns-16 t c = search needs
+
+abbrev rounds-Inv-loop : rounds-lts.InvT-loop
+rounds-Inv-loop t widths d w a b inner₀ out₀ at left values₀ l₀ inner out values l = Turning (bodyOf t d) a b inner₀ inner left l × (length inner ≡ 32) × (length values ≡ 16) × (out ≡ out₀)
+
+abbrev rounds-μ-loop : rounds-lts.MeasureT-loop
+rounds-μ-loop t widths d w a b inner₀ out₀ at left values₀ l₀ inner out values l = l
+
+-- src/cycle.rt:127:5  let mut l = left; ⏎ while 0 < l {
+rounds-loop-holds : (t : ℕ) → rounds-lts.Need-loop-holds (
+  body-below t,
+  body.Post,
+  copy-reads.Asked,
+  copy-reads.Learnt,
+) (rounds-at t) rounds.Post rounds-Inv-loop rounds-μ-loop
+rounds-loop-holds t c = search needs
+
+-- src/cycle.rt:128:44  while 0 < l { ⏎ match body(t, widths, d, w, inner, &mut values, l - 1) {
+rounds-slice-aggregate-body : (t : ℕ) → rounds-lts.Need-slice-aggregate-body (
+  body-below t,
+  body.Post,
+  copy-reads.Asked,
+  copy-reads.Learnt,
+) (rounds-at t) rounds.Post rounds-Inv-loop rounds-μ-loop
+rounds-slice-aggregate-body t c = search needs
+
+-- src/cycle.rt:128:57  while 0 < l { ⏎ match body(t, widths, d, w, inner, &mut values, l - 1) {
+rounds-sub-body : (t : ℕ) → rounds-lts.Need-sub-body (
+  body-below t,
+  body.Post,
+  copy-reads.Asked,
+  copy-reads.Learnt,
+) (rounds-at t) rounds.Post rounds-Inv-loop rounds-μ-loop
+rounds-sub-body t c = search needs
+
+-- src/cycle.rt:128:15  while 0 < l { ⏎ match body(t, widths, d, w, inner, &mut values, l - 1) {
+rounds-body-requires : (t : ℕ) → rounds-lts.Need-body-requires (
+  body-below t,
+  body.Post,
+  copy-reads.Asked,
+  copy-reads.Learnt,
+) (rounds-at t) rounds.Post rounds-Inv-loop rounds-μ-loop
+rounds-body-requires t c κs = search needs
+
+-- src/cycle.rt:130:17  Turn::Short => { ⏎ return Rest::Short;
+rounds-enum-told : (t : ℕ) → rounds-lts.Need-enum-told (
+  body-below t,
+  body.Post,
+  copy-reads.Asked,
+  copy-reads.Learnt,
+) (rounds-at t) rounds.Post rounds-Inv-loop rounds-μ-loop
+rounds-enum-told t c = search needs
+
+-- src/cycle.rt:130:17  Turn::Short => { ⏎ return Rest::Short;
+rounds-same-length : (t : ℕ) → rounds-lts.Need-same-length (
+  body-below t,
+  body.Post,
+  copy-reads.Asked,
+  copy-reads.Learnt,
+) (rounds-at t) rounds.Post rounds-Inv-loop rounds-μ-loop
+rounds-same-length t c = search needs
+
+-- src/cycle.rt:130:17  Turn::Short => { ⏎ return Rest::Short;
+rounds-same-length-2 : (t : ℕ) → rounds-lts.Need-same-length-2 (
+  body-below t,
+  body.Post,
+  copy-reads.Asked,
+  copy-reads.Learnt,
+) (rounds-at t) rounds.Post rounds-Inv-loop rounds-μ-loop
+rounds-same-length-2 t c = search needs
+
+-- src/cycle.rt:130:17  Turn::Short => { ⏎ return Rest::Short;
+rounds-returns : (t : ℕ) → rounds-lts.Need-returns (
+  body-below t,
+  body.Post,
+  copy-reads.Asked,
+  copy-reads.Learnt,
+) (rounds-at t) rounds.Post rounds-Inv-loop rounds-μ-loop
+rounds-returns t c = search needs
+
+-- src/cycle.rt:132:24  } ⏎ Turn::Back(m) => {
+rounds-enum-known-m : (t : ℕ) → rounds-lts.Need-enum-known-m (
+  body-below t,
+  body.Post,
+  copy-reads.Asked,
+  copy-reads.Learnt,
+) (rounds-at t) rounds.Post rounds-Inv-loop rounds-μ-loop
+rounds-enum-known-m t c = search needs
+
+-- src/cycle.rt:133:31  Turn::Back(m) => { ⏎ copy(out, at, &values, w);
+rounds-slice-aggregate-copy : (t : ℕ) → rounds-lts.Need-slice-aggregate-copy (
+  body-below t,
+  body.Post,
+  copy-reads.Asked,
+  copy-reads.Learnt,
+) (rounds-at t) rounds.Post rounds-Inv-loop rounds-μ-loop
+rounds-slice-aggregate-copy t c = search needs
+
+-- src/cycle.rt:133:17  Turn::Back(m) => { ⏎ copy(out, at, &values, w);
+rounds-copy-requires : (t : ℕ) → rounds-lts.Need-copy-requires (
+  body-below t,
+  body.Post,
+  copy-reads.Asked,
+  copy-reads.Learnt,
+) (rounds-at t) rounds.Post rounds-Inv-loop rounds-μ-loop
+rounds-copy-requires t c κs = search needs
+
+-- src/cycle.rt:134:17  copy(out, at, &values, w); ⏎ return Rest::Left(m);
+rounds-same-length-3 : (t : ℕ) → rounds-lts.Need-same-length-3 (
+  body-below t,
+  body.Post,
+  copy-reads.Asked,
+  copy-reads.Learnt,
+) (rounds-at t) rounds.Post rounds-Inv-loop rounds-μ-loop
+rounds-same-length-3 t c = search needs
+
+-- src/cycle.rt:134:17  copy(out, at, &values, w); ⏎ return Rest::Left(m);
+rounds-same-length-4 : (t : ℕ) → rounds-lts.Need-same-length-4 (
+  body-below t,
+  body.Post,
+  copy-reads.Asked,
+  copy-reads.Learnt,
+) (rounds-at t) rounds.Post rounds-Inv-loop rounds-μ-loop
+rounds-same-length-4 t c = search needs
+
+-- src/cycle.rt:134:17  copy(out, at, &values, w); ⏎ return Rest::Left(m);
+rounds-returns-2 : (t : ℕ) → rounds-lts.Need-returns-2 (
+  body-below t,
+  body.Post,
+  copy-reads.Asked,
+  copy-reads.Learnt,
+) (rounds-at t) rounds.Post rounds-Inv-loop rounds-μ-loop
+rounds-returns-2 t c = search needs
+
+-- src/cycle.rt:136:25  } ⏎ Turn::Again(m) => {
+rounds-enum-known-m-2 : (t : ℕ) → rounds-lts.Need-enum-known-m-2 (
+  body-below t,
+  body.Post,
+  copy-reads.Asked,
+  copy-reads.Learnt,
+) (rounds-at t) rounds.Post rounds-Inv-loop rounds-μ-loop
+rounds-enum-known-m-2 t c = search needs
+
+-- src/cycle.rt:137:32  Turn::Again(m) => { ⏎ copy(inner, a, &values, b);
+rounds-slice-aggregate-copy-2 : (t : ℕ) → rounds-lts.Need-slice-aggregate-copy-2 (
+  body-below t,
+  body.Post,
+  copy-reads.Asked,
+  copy-reads.Learnt,
+) (rounds-at t) rounds.Post rounds-Inv-loop rounds-μ-loop
+rounds-slice-aggregate-copy-2 t c = search needs
+
+-- src/cycle.rt:137:17  Turn::Again(m) => { ⏎ copy(inner, a, &values, b);
+rounds-copy-requires-2 : (t : ℕ) → rounds-lts.Need-copy-requires-2 (
+  body-below t,
+  body.Post,
+  copy-reads.Asked,
+  copy-reads.Learnt,
+) (rounds-at t) rounds.Post rounds-Inv-loop rounds-μ-loop
+rounds-copy-requires-2 t c κs = search needs
+
+-- src/cycle.rt:127:5  let mut l = left; ⏎ while 0 < l {
+rounds-loop-less : (t : ℕ) → rounds-lts.Need-loop-less (
+  body-below t,
+  body.Post,
+  copy-reads.Asked,
+  copy-reads.Learnt,
+) (rounds-at t) rounds.Post rounds-Inv-loop rounds-μ-loop
+rounds-loop-less t c = search needs
+
+-- src/cycle.rt:127:5  let mut l = left; ⏎ while 0 < l {
+rounds-loop-again : (t : ℕ) → rounds-lts.Need-loop-again (
+  body-below t,
+  body.Post,
+  copy-reads.Asked,
+  copy-reads.Learnt,
+) (rounds-at t) rounds.Post rounds-Inv-loop rounds-μ-loop
+rounds-loop-again t c = search needs
+
+-- src/cycle.rt:121:1  // w values go to the words of `out` from `at` on. ⏎ fn rounds(t: &[u32], widths: &[u8], d: usize, w: usize, a: usize, b: usize, inner: &mut [u64], out: &mut [u64], at: usize, left: u32) -> Rest
+rounds-same-length-5 : (t : ℕ) → rounds-lts.Need-same-length-5 (
+  body-below t,
+  body.Post,
+  copy-reads.Asked,
+  copy-reads.Learnt,
+) (rounds-at t) rounds.Post rounds-Inv-loop rounds-μ-loop
+rounds-same-length-5 t c = search needs
+
+-- src/cycle.rt:121:1  // w values go to the words of `out` from `at` on. ⏎ fn rounds(t: &[u32], widths: &[u8], d: usize, w: usize, a: usize, b: usize, inner: &mut [u64], out: &mut [u64], at: usize, left: u32) -> Rest
+rounds-same-length-6 : (t : ℕ) → rounds-lts.Need-same-length-6 (
+  body-below t,
+  body.Post,
+  copy-reads.Asked,
+  copy-reads.Learnt,
+) (rounds-at t) rounds.Post rounds-Inv-loop rounds-μ-loop
+rounds-same-length-6 t c = search needs
+
+-- src/cycle.rt:121:1  // w values go to the words of `out` from `at` on. ⏎ fn rounds(t: &[u32], widths: &[u8], d: usize, w: usize, a: usize, b: usize, inner: &mut [u64], out: &mut [u64], at: usize, left: u32) -> Rest
+rounds-returns-3 : (t : ℕ) → rounds-lts.Need-returns-3 (
+  body-below t,
+  body.Post,
+  copy-reads.Asked,
+  copy-reads.Learnt,
+) (rounds-at t) rounds.Post rounds-Inv-loop rounds-μ-loop
+rounds-returns-3 t c = search needs
+
+pub +body+expr+rounds-spec : {M : Type 1} → statement M
++body+expr+rounds-spec = close μ-body μ-expr μ-rounds (λ t. body-lts.spec (
+  way-at-reads.Asked,
+  way-at-reads.Learnt,
+  expr-below t,
+  expr.Post,
+  copied-reads.Asked,
+  copied-reads.Learnt,
+  wide-reads.Asked,
+  wide-reads.Learnt,
+  body-below t,
+  body.Post,
+  choose-reads.Asked,
+  choose-reads.Learnt,
+  put-errs-reads.Asked,
+  put-errs-reads.Learnt,
+)
+    (body-at t)
+    body.Post
+    (body-way-at-requires t)
+    (body-enum-known-a t)
+    (body-expr-requires t)
+    (body-enum-told t)
+    (body-enum-known-l t)
+    (body-enum-known-a-2 t)
+    (body-copied-requires t)
+    (body-slice-aggregate-expr t)
+    (body-wide-requires t)
+    (body-expr-requires-2 t)
+    (body-enum-told-2 t)
+    (body-enum-known-l-2 t)
+    (body-slice-aggregate-body t)
+    (body-body-requires t)
+    (body-enum-known-a-3 t)
+    (body-slice-aggregate-expr-2 t)
+    (body-expr-requires-3 t)
+    (body-enum-told-3 t)
+    (body-enum-known-l-3 t)
+    (body-slice-aggregate-choose t)
+    (body-choose-requires t)
+    (body-enum-told-4 t)
+    (body-body-requires-2 t)
+    (body-enum-told-5 t)
+    (body-body-requires-3 t)
+    (body-enum-told-6 t)
+    (body-put-errs-requires t)
+    (body-enum-told-7 t)
+    (body-expr-requires-4 t)
+    (body-enum-told-8 t)
+    (body-enum-known-l-4 t)
+    (body-same-length t)
+    (body-returns t)
+    (body-same-length-2 t)
+    (body-returns-2 t)
+    (body-returns-3 t)
+    (body-same-length-3 t)
+    (body-returns-4 t)
+    (body-returns-5 t)
+    (body-same-length-4 t)
+    (body-returns-6 t)
+    (body-same-length-5 t)
+    (body-returns-7 t)
+    (body-same-length-6 t)
+    (body-returns-8 t)
+    (body-same-length-7 t)
+    (body-returns-9 t)
+    (body-same-length-8 t)
+    (body-returns-10 t))
+    (λ t. expr-lts.spec (
+      shape-at-reads.Asked,
+      shape-at-reads.Learnt,
+      put-name-reads.Asked,
+      put-name-reads.Learnt,
+      put-whole-reads.Asked,
+      put-whole-reads.Learnt,
+      put-truth-reads.Asked,
+      put-truth-reads.Learnt,
+      expr-below t,
+      expr.Post,
+      width-at-reads.Asked,
+      width-at-reads.Learnt,
+      put-operator-reads.Asked,
+      put-operator-reads.Learnt,
+      copied-reads.Asked,
+      copied-reads.Learnt,
+      wide-reads.Asked,
+      wide-reads.Learnt,
+      choose-reads.Asked,
+      choose-reads.Learnt,
+      put-errs-reads.Asked,
+      put-errs-reads.Learnt,
+      rounds-below t,
+      rounds.Post,
+    )
+    (expr-at t)
+    expr.Post
+    (expr-shape-at-requires t)
+    (expr-enum-known-a t)
+    (expr-put-name-requires t)
+    (expr-enum-known-a-2 t)
+    (expr-put-whole-requires t)
+    (expr-enum-known-a-3 t)
+    (expr-put-truth-requires t)
+    (expr-enum-known-a-4 t)
+    (expr-expr-requires t)
+    (expr-enum-told t)
+    (expr-enum-known-l t)
+    (expr-width-at-requires t)
+    (expr-add-expr t)
+    (expr-expr-requires-2 t)
+    (expr-enum-known-code t)
+    (expr-slice-aggregate-expr t)
+    (expr-expr-requires-3 t)
+    (expr-enum-told-2 t)
+    (expr-enum-known-l-2 t)
+    (expr-slice-aggregate-put-operator t)
+    (expr-put-operator-requires t)
+    (expr-enum-known-a-5 t)
+    (expr-copied-requires t)
+    (expr-slice-aggregate-expr-2 t)
+    (expr-wide-requires t)
+    (expr-expr-requires-4 t)
+    (expr-enum-told-3 t)
+    (expr-enum-known-l-3 t)
+    (expr-slice-aggregate-expr-3 t)
+    (expr-expr-requires-5 t)
+    (expr-enum-known-a-6 t)
+    (expr-slice-aggregate-expr-4 t)
+    (expr-expr-requires-6 t)
+    (expr-enum-told-4 t)
+    (expr-enum-known-l-4 t)
+    (expr-slice-aggregate-choose t)
+    (expr-choose-requires t)
+    (expr-enum-told-5 t)
+    (expr-expr-requires-7 t)
+    (expr-enum-told-6 t)
+    (expr-expr-requires-8 t)
+    (expr-enum-told-7 t)
+    (expr-width-at-requires-2 t)
+    (expr-put-errs-requires t)
+    (expr-enum-known-a-7 t)
+    (expr-copied-requires-2 t)
+    (expr-slice-aggregate-expr-5 t)
+    (expr-wide-requires-2 t)
+    (expr-expr-requires-9 t)
+    (expr-enum-told-8 t)
+    (expr-enum-known-l-5 t)
+    (expr-width-at-requires-3 t)
+    (expr-wide-requires-3 t)
+    (expr-wide-requires-4 t)
+    (expr-slice-aggregate-rounds t)
+    (expr-rounds-requires t)
+    (expr-enum-told-9 t)
+    (expr-same-length t)
+    (expr-returns t)
+    (expr-same-length-2 t)
+    (expr-returns-2 t)
+    (expr-same-length-3 t)
+    (expr-returns-3 t)
+    (expr-same-length-4 t)
+    (expr-returns-4 t)
+    (expr-same-length-5 t)
+    (expr-returns-5 t)
+    (expr-returns-6 t)
+    (expr-same-length-6 t)
+    (expr-returns-7 t)
+    (expr-returns-8 t)
+    (expr-same-length-7 t)
+    (expr-returns-9 t)
+    (expr-returns-10 t)
+    (expr-same-length-8 t)
+    (expr-returns-11 t)
+    (expr-same-length-9 t)
+    (expr-returns-12 t)
+    (expr-same-length-10 t)
+    (expr-returns-13 t)
+    (expr-returns-14 t)
+    (expr-same-length-11 t)
+    (expr-returns-15 t)
+    (expr-returns-16 t))
+    λ t. rounds-lts.spec
+    (body-below t, body.Post, copy-reads.Asked, copy-reads.Learnt)
+    (rounds-at t)
+    rounds.Post
+    rounds-Inv-loop
+    rounds-μ-loop
+    (rounds-loop-holds t)
+    (rounds-slice-aggregate-body t)
+    (rounds-sub-body t)
+    (rounds-body-requires t)
+    (rounds-enum-told t)
+    (rounds-same-length t)
+    (rounds-same-length-2 t)
+    (rounds-returns t)
+    (rounds-enum-known-m t)
+    (rounds-slice-aggregate-copy t)
+    (rounds-copy-requires t)
+    (rounds-same-length-3 t)
+    (rounds-same-length-4 t)
+    (rounds-returns-2 t)
+    (rounds-enum-known-m-2 t)
+    (rounds-slice-aggregate-copy-2 t)
+    (rounds-copy-requires-2 t)
+    (rounds-loop-less t)
+    (rounds-loop-again t)
+    (rounds-same-length-5 t)
+    (rounds-same-length-6 t)
+    (rounds-returns-3 t)
