@@ -89,12 +89,12 @@ module _ (t ws : List ℕ) where
       go (For a b x y) c i w f =
           let k : (width (expOf t x) ≡ b) × (iterated (bodyOf t y) ≡ b) × (1 ≤ returned (bodyOf t y)) =
           for-fits a b (expOf t x) (bodyOf t y) f
-          in
-          ( table x (c .0 .0) ∙ k .0
-          , i
-          , omega (arith, wide-16-B (bodyOf t y) (body-wide t ws y (c .1 .0)) .0, k .1)
-          , sym w
-          , k .1
+          in (
+            table x (c .0 .0) ∙ k .0,
+            i,
+            omega (arith, wide-16-B (bodyOf t y) (body-wide t ws y (c .1 .0)) .0, k .1),
+            sym w,
+            k .1,
           )
       go (Iter a) c i w f = c
 
@@ -117,11 +117,11 @@ module _ (t ws : List ℕ) where
       go (Operator a b) c i w f = tt
       go (Let a b x y) c i w f =
           (table x (c .0 .0) ∙ let-fits-B a b (expOf t x) (bodyOf t y) f, i, sym w)
-      go (If a x y) c i w f =
-          ( table a (c .0 .0) ∙ if-fits-B (expOf t a) (bodyOf t x) (bodyOf t y) f .0
-          , (λ v p.
+      go (If a x y) c i w f = (
+        table a (c .0 .0) ∙ if-fits-B (expOf t a) (bodyOf t x) (bodyOf t y) f .0,
+        (λ v p.
             arms-suit (returned (bodyOf t x)) (returned (bodyOf t y)) v
-            (if-fits-B (expOf t a) (bodyOf t x) (bodyOf t y) f .2) (rw w at p))
-          )
+            (if-fits-B (expOf t a) (bodyOf t x) (bodyOf t y) f .2) (rw w at p)),
+      )
       go (For a b x y) c i w f = tt
       go (Iter a) c i w f = narrow a (c .0)

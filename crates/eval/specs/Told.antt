@@ -94,13 +94,13 @@ tell-append : (o : Outcome) (ans : Rest) (vs : List Value) (at : ℕ) (b m a : L
     → envOf m ≡ bind at (length vs) vs (envOf b) → Told o ans (at + length vs) m a
     → Told (then o (λ ws l. yields (vs ++ ws) l)) ans at b a
 unfolding then
-tell-append (yields ws l) (Left k) vs at b m a e h =
-    ( h .0
-    , h .1
+tell-append (yields ws l) (Left k) vs at b m a e h = (
+  h .0,
+  h .1
       ∙ ap (bind (at + length vs) (length ws) ws) e
       ∙ bind-append at vs ws (envOf b)
-      ∙ ap (λ (n : ℕ). bind at n (vs ++ ws) (envOf b)) (sym (length-append vs ws))
-    )
+      ∙ ap (λ (n : ℕ). bind at n (vs ++ ws) (envOf b)) (sym (length-append vs ws)),
+)
 tell-append (yields ws l) Short vs at b m a e h = absurd h
 tell-append Outcome.unfinished (Left k) vs at b m a e h = absurd h
 tell-append Outcome.unfinished Short vs at b m a e h = tt
@@ -228,11 +228,11 @@ module _ (t ws : List ℕ) (r : ℕ) (h : ExpRow t ws r) (env : Env) (left at : 
     chosen =
         by-shape t ws r h env left (If a b c) e
         ∙ then-yields
-          (λ vs l₁.
-          branch (getD vs 0 Err) (yields (replicate (width (expOf t b)) Err) l₁) (λ _. evalE (expOf t b) env l₁)
-          (λ _. evalE (expOf t c) env l₁)
-          )
-          (tested .is)
+        (λ vs l₁.
+        branch (getD vs 0 Err) (yields (replicate (width (expOf t b)) Err) l₁) (λ _. evalE (expOf t b) env l₁)
+        (λ _. evalE (expOf t c) env l₁)
+        )
+        (tested .is)
         ∙ ap (λ (v : Value). branch v bad (λ _. evalE (expOf t b) env l) (λ _. evalE (expOf t c) env l)) (sym (read tested i 0))
 
     pub tell-first : (ans : Rest) → choiceOf (envOf z′ 0) ≡ First → Told (evalE (expOf t b) env l) ans at o o′

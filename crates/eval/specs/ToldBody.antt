@@ -137,13 +137,13 @@ module _ (t ws : List ℕ) (r : ℕ) (h : BodyRow t ws r) (w : ℕ) (env : Env) 
       chosen =
           by-shape (If a b c) e
           ∙ then-yields-B
-            (λ vs l₁.
-            branch (getD vs 0 Err) (returns (replicate w Err) l₁) (λ _. evalB (bodyOf t b) w env l₁)
-            (λ _. evalB (bodyOf t c) w env l₁)
-            )
-            (tested .is)
+          (λ vs l₁.
+          branch (getD vs 0 Err) (returns (replicate w Err) l₁) (λ _. evalB (bodyOf t b) w env l₁)
+          (λ _. evalB (bodyOf t c) w env l₁)
+          )
+          (tested .is)
           ∙ ap (λ (v : Value). branch v bad (λ _. evalB (bodyOf t b) w env l) (λ _. evalB (bodyOf t c) w env l))
-            (sym (read tested i 0))
+          (sym (read tested i 0))
 
       pub tell-first-B : (ans : Turn) → choiceOf (envOf z′ 0) ≡ First → ToldB (evalB (bodyOf t b) w env l) ans o o′
           → ToldB (evalB (bodyOf t r) w env left) ans o o′
@@ -268,10 +268,10 @@ module _ (t ws : List ℕ) (d : ℕ) (row : BodyRow t ws d) (a b w : ℕ)
       ∙ ap (λ (k : ℕ). turns (bodyOf t d) a b (envOf z₀) (envOf z) k) e
       ∙ turns-step (bodyOf t d) a b (envOf z₀) (envOf z) (l - 1)
       ∙ ap
-        (λ (k : ℕ).
-        after (evalB (bodyOf t d) k (envOf z) (l - 1)) (λ vs m. turns (bodyOf t d) a b (envOf z₀) (bind a b vs (envOf z₀)) m)
-        )
-        back
+      (λ (k : ℕ).
+      after (evalB (bodyOf t d) k (envOf z) (l - 1)) (λ vs m. turns (bodyOf t d) a b (envOf z₀) (bind a b vs (envOf z₀)) m)
+      )
+      back
 
   sizes : SizedB b w round
   unfolding round
@@ -309,12 +309,12 @@ module _ (t ws : List ℕ) (d : ℕ) (row : BodyRow t ws d) (a b w : ℕ)
       paste-binds z a q′ b room given (v .values) (λ i j. held-at q q′ (v .values) b (v .held) i j)
       in
       let over : envOf (paste z a q′ b) ≡ bind a b (v .values) (envOf z₀) = bound ∙ h .forgets (v .values) in
-      let fewer : m ≤ l - 1 = within-again b w m q q′ round (l - 1) (within-B (bodyOf t d) w (envOf z) (l - 1)) p in
-      ( record {
+      let fewer : m ≤ l - 1 = within-again b w m q q′ round (l - 1) (within-B (bodyOf t d) w (envOf z) (l - 1)) p in (
+        record {
           same =
-            ap (λ (f : Env). turns (bodyOf t d) a b (envOf z₀) f m) over
-            ∙ sym (step ∙ ap (λ (x : Ending). after x (λ vs k. turns (bodyOf t d) a b (envOf z₀) (bind a b vs (envOf z₀)) k)) (v .is));
+              ap (λ (f : Env). turns (bodyOf t d) a b (envOf z₀) f m) over
+              ∙ sym (step ∙ ap (λ (x : Ending). after x (λ vs k. turns (bodyOf t d) a b (envOf z₀) (bind a b vs (envOf z₀)) k)) (v .is));
           forgets = λ vs. ap (bind a b vs) over ∙ bind-again a b (v .values) vs (envOf z₀);
-        }
-      , omega arith
+        },
+        omega arith,
       )

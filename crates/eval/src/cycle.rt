@@ -2,7 +2,6 @@
 // each other; row number and rounds left fall"). They read the tables of an accepted sheet (specs/Rows): five fields a row,
 // and each row's width. An environment is 32 words; values are written to lent words, so that an operand, a let's row c or
 // a loop's identifiers are written where they are used.
-use formula::Shape;
 use crate::Choice;
 use crate::Rest;
 use crate::Turn;
@@ -17,6 +16,7 @@ use crate::words::put_truth;
 use crate::words::put_whole;
 use crate::words::wide;
 use crate::words::width_at;
+use formula::Shape;
 use sheet::shape::shape_at;
 ghost use mathlib.Core.Path.{_≡_};
 ghost use Prim.Native.Nat.{ℕ, _+_, _*_, _-_, _≤_, _<_};
@@ -52,7 +52,15 @@ fn way_at(t: &[u32], r: usize) -> Way
 }
 
 // Row r as an expression: its values go to the words of `out` from `at` on.
-pub fn expr(t: &[u32], widths: &[u8], r: usize, env: &[u64], out: &mut [u64], at: usize, left: u32) -> Rest
+pub fn expr(
+    t: &[u32],
+    widths: &[u8],
+    r: usize,
+    env: &[u64],
+    out: &mut [u64],
+    at: usize,
+    left: u32,
+) -> Rest
     requires { ⌜ ExpRow (now t) (now widths) r × (length (now env) ≡ 32) × (at + W (now widths) r ≤ length (now out)) ⌝ }
     ensures { λ a. ⌜ Told (evalE (expOf (now (t .entry)) r) (envOf (now (env .entry))) left) a at (now (out .entry)) (now (out .exit)) × (length (now (out .exit)) ≡ length (now (out .entry))) ⌝ }
 {
@@ -108,7 +116,18 @@ pub fn expr(t: &[u32], widths: &[u8], r: usize, env: &[u64], out: &mut [u64], at
             let mut inner = copied(env);
             match expr(t, widths, c, env, &mut inner, wide(a), left) {
                 Rest::Short => Rest::Short,
-                Rest::Left(l) => rounds(t, widths, d, width_at(widths, r), wide(a), wide(b), &mut inner, out, at, l),
+                Rest::Left(l) => rounds(
+                    t,
+                    widths,
+                    d,
+                    width_at(widths, r),
+                    wide(a),
+                    wide(b),
+                    &mut inner,
+                    out,
+                    at,
+                    l,
+                ),
             }
         }
         // refused by 7
@@ -118,7 +137,18 @@ pub fn expr(t: &[u32], widths: &[u8], r: usize, env: &[u64], out: &mut [u64], at
 
 // The rounds of the loop whose body is row d and whose identifiers are a to a+b-1, started with them bound in `inner`: its
 // w values go to the words of `out` from `at` on.
-fn rounds(t: &[u32], widths: &[u8], d: usize, w: usize, a: usize, b: usize, inner: &mut [u64], out: &mut [u64], at: usize, left: u32) -> Rest
+fn rounds(
+    t: &[u32],
+    widths: &[u8],
+    d: usize,
+    w: usize,
+    a: usize,
+    b: usize,
+    inner: &mut [u64],
+    out: &mut [u64],
+    at: usize,
+    left: u32,
+) -> Rest
     requires { ⌜ BodyRow (now t) (now widths) d × (returned (bodyOf (now t) d) ≡ w) × (iterated (bodyOf (now t) d) ≡ b) × (w ≤ 16) × (b ≤ 16) × (a + b ≤ 32) × (length (now inner) ≡ 32) × (at + w ≤ length (now out)) ⌝ }
     ensures { λ r. ⌜ Told (turns (bodyOf (now (t .entry)) d) a b (envOf (now (inner .entry))) (envOf (now (inner .entry))) left) r at (now (out .entry)) (now (out .exit)) × (length (now (out .exit)) ≡ length (now (out .entry))) ⌝ }
 {
@@ -144,7 +174,15 @@ fn rounds(t: &[u32], widths: &[u8], d: usize, w: usize, a: usize, b: usize, inne
 
 // Row r as a body of a loop that returns w values: the values of its iter, or those returned, go to the first words of
 // `out`.
-fn body(t: &[u32], widths: &[u8], r: usize, w: usize, env: &[u64], out: &mut [u64], left: u32) -> Turn
+fn body(
+    t: &[u32],
+    widths: &[u8],
+    r: usize,
+    w: usize,
+    env: &[u64],
+    out: &mut [u64],
+    left: u32,
+) -> Turn
     requires { ⌜ BodyRow (now t) (now widths) r × Suits (returned (bodyOf (now t) r)) w × (w ≤ 16) × (length (now env) ≡ 32) × (length (now out) ≡ 16) ⌝ }
     ensures { λ a. ⌜ ToldB (evalB (bodyOf (now (t .entry)) r) w (envOf (now (env .entry))) left) a (now (out .entry)) (now (out .exit)) × (length (now (out .exit)) ≡ length (now (out .entry))) ⌝ }
 {

@@ -1,8 +1,8 @@
 // Values as words in lent arrays (specs/Words): each function says what its array holds afterwards, as a binding of the
 // values it wrote over what the array held before.
-use value::Value;
-use value::Decoded;
 use crate::Choice;
+use value::Decoded;
+use value::Value;
 ghost use mathlib.Core.Path.{_≡_};
 ghost use mathlib.Core.List.{[], _∷_};
 ghost use Prim.Native.Nat.{ℕ, _+_, _-_, _≤_, _<_};
@@ -76,7 +76,11 @@ pub fn put_operator(out: &mut [u64], at: usize, code: u32, ops: &[u64])
     requires { ⌜ (at < length (now out)) × (code < 256) × (2 ≤ length (now ops)) ⌝ }
     ensures { λ _. ⌜ (envOf (now (out .exit)) ≡ bind at 1 (apply code (envOf (now (ops .entry)) 0) (envOf (now (ops .entry)) 1) ∷ []) (envOf (now (out .entry)))) × (length (now (out .exit)) ≡ length (now (out .entry))) ⌝ }
 {
-    put(out, at, value::apply_code(code as u8, held(ops[0]), held(ops[1])));
+    put(
+        out,
+        at,
+        value::apply_code(code as u8, held(ops[0]), held(ops[1])),
+    );
 }
 
 // The arm that the first value of `test` chooses.

@@ -1,3 +1,4 @@
+use native.Mathlib.Omega.{arith}
 use Prim.Native.Nat.{ℕ, _<_}
 use borrow.Fn.Kinds.{In}
 use borrow.Fn.PlainCycle.{Measures, is, falls, and}
@@ -24,14 +25,23 @@ use Rattle.eval.proofs.words.width_at.Reads as width-at-reads
 use Rattle.sheet.proofs.shape.shape_at.Reads as shape-at-reads
 use Rattle.eval.proofs.cycle.+body+expr+rounds.{statement}
 use Rattle.eval.proofs.cycle.+body+expr+rounds.Tie.{close}
-use Prim.Native.Nat.{_+_, _*_, _-_, _≤_, _<_}
-use mathlib.Core.Path.{_≡_, refl, sym, ap, _∙_}
+use Prim.Native.Nat.{ℕ, _+_, _*_, _-_, _≤_, _<_}
+use mathlib.Core.Path.{_≡_, refl, sym, ap, _∙_, subst}
+use mathlib.Core.List.{List, [], _∷_}
 use lib.ListN.{length}
+use lib.Seq.{paste}
+use Rattle.formula.specs.declared.Shape.the-variants.{Identifier, Whole, Truth, Pair, Operator, Let, If, For, Iter}
+use Rattle.formula.specs.Sheet.{shapeAt}
 use Rattle.formula.specs.Tree.{bodyOf}
-use Rattle.eval.specs.ToldBody.{Turning}
+use Rattle.meaning.specs.Rounds.{turns}
+use Rattle.eval.specs.declared.Rest.the-variants.{Left}
+use Rattle.eval.specs.declared.Way.the-variants.{Iter as iter-way, Let as let-way, If as if-way, End}
+use Rattle.eval.specs.Words.{envOf, zeros-err}
+use Rattle.eval.specs.Rows.{ExpChildren, BodyChildren, exp-children, body-children, ending-row}
+use Rattle.eval.specs.Needs.{W, ExpNeeds, BodyNeeds, exp-needs, body-needs, narrow}
+use Rattle.eval.specs.Told.{Told, tell-identifier, tell-whole, tell-truth, tell-pair, tell-operator, tell-let, tell-for, tell-first, tell-second, tell-neither, tell-stopped}
+use Rattle.eval.specs.ToldBody.{Turning, turning-start, turning-none, round-short, round-back, round-again, shaped-as, tell-iter, tell-ending, tell-ending-stopped, tell-let-B, tell-first-B, tell-second-B, tell-neither-B, tell-stopped-B}
 use borrow.Author.Needs.{needs}
-
-
 
 abbrev μ-body : Measures 4 body-kinds.ps ℕ
 μ-body κs a = 3 * a .1 .1 .0 + 1
@@ -115,7 +125,7 @@ body-expr-requires : (t : ℕ) → body-lts.Need-expr-requires (
   put-errs-reads.Asked,
   put-errs-reads.Learnt,
 ) (body-at t) body.Post
-body-expr-requires t c κs = search needs
+body-expr-requires t c κs = let k : BodyChildren (c .before .before .before .before .before .before .before .before .before .args .t .now) (c .before .before .before .before .before .before .before .before .before .args .widths .now) (c .before .before .before .before .before .before .before .before .before .args .r) (Iter (c .before .before .a .given .0 .0)) = body-children (c .before .before .before .before .before .before .before .before .before .args .t .now) (c .before .before .before .before .before .before .before .before .before .args .widths .now) (c .before .before .before .before .before .before .before .before .before .args .r) (c .before .before .before .before .before .before .before .before .before .pre .1 .0) (Iter (c .before .before .a .given .0 .0)) (shaped-as (shapeAt (c .before .before .before .before .before .before .before .before .before .args .t .now) (c .before .before .before .before .before .before .before .before .before .args .r)) (iter-way (c .before .before .a .given .0 .0)) (sym (c .before .before .a .given .1) ∙ c .before .before .before .before .way-at .ensures)) in let f : BodyNeeds (c .before .before .before .before .before .before .before .before .before .args .t .now) (c .before .before .before .before .before .before .before .before .before .args .widths .now) (c .before .before .before .before .before .before .before .before .before .args .r) (Iter (c .before .before .a .given .0 .0)) = body-needs (c .before .before .before .before .before .before .before .before .before .args .t .now) (c .before .before .before .before .before .before .before .before .before .args .widths .now) (c .before .before .before .before .before .before .before .before .before .args .r) (c .before .before .before .before .before .before .before .before .before .pre .1 .0) (Iter (c .before .before .a .given .0 .0)) (shaped-as (shapeAt (c .before .before .before .before .before .before .before .before .before .args .t .now) (c .before .before .before .before .before .before .before .before .before .args .r)) (iter-way (c .before .before .a .given .0 .0)) (sym (c .before .before .a .given .1) ∙ c .before .before .before .before .way-at .ensures)) in (omega (arith, k .1), (k .0, c .before .before .before .before .before .before .before .before .before .pre .1 .3, omega (arith, f, c .before .before .before .before .before .before .before .before .before .pre .1 .4)))
 
 -- src/cycle.rt:153:28  Way::Iter(a) => match expr(t, widths, a, env, out, 0, left) { ⏎ Rest::Short => Turn::Short,
 body-enum-told : (t : ℕ) → body-lts.Need-enum-told (
@@ -248,7 +258,7 @@ body-expr-requires-2 : (t : ℕ) → body-lts.Need-expr-requires-2 (
   put-errs-reads.Asked,
   put-errs-reads.Learnt,
 ) (body-at t) body.Post
-body-expr-requires-2 t c κs = search needs
+body-expr-requires-2 t c κs = let k : BodyChildren (c .before .before .before .before .before .before .before .before .before .before .before .args .t .now) (c .before .before .before .before .before .before .before .before .before .before .before .args .widths .now) (c .before .before .before .before .before .before .before .before .before .before .before .args .r) (Let (c .before .before .before .before .a2 .given .0 .0) ((shaped-as (shapeAt (c .before .before .before .before .before .before .before .before .before .before .before .args .t .now) (c .before .before .before .before .before .before .before .before .before .before .before .args .r)) (let-way (c .before .before .before .before .a2 .given .0 .0) (c .before .before .before .before .a2 .given .0 .1 .0) (c .before .before .before .before .a2 .given .0 .1 .1 .0)) (sym (c .before .before .before .before .a2 .given .1) ∙ c .before .before .before .before .before .before .way-at .ensures)) .width) (c .before .before .before .before .a2 .given .0 .1 .0) (c .before .before .before .before .a2 .given .0 .1 .1 .0)) = body-children (c .before .before .before .before .before .before .before .before .before .before .before .args .t .now) (c .before .before .before .before .before .before .before .before .before .before .before .args .widths .now) (c .before .before .before .before .before .before .before .before .before .before .before .args .r) (c .before .before .before .before .before .before .before .before .before .before .before .pre .1 .0) (Let (c .before .before .before .before .a2 .given .0 .0) ((shaped-as (shapeAt (c .before .before .before .before .before .before .before .before .before .before .before .args .t .now) (c .before .before .before .before .before .before .before .before .before .before .before .args .r)) (let-way (c .before .before .before .before .a2 .given .0 .0) (c .before .before .before .before .a2 .given .0 .1 .0) (c .before .before .before .before .a2 .given .0 .1 .1 .0)) (sym (c .before .before .before .before .a2 .given .1) ∙ c .before .before .before .before .before .before .way-at .ensures)) .width) (c .before .before .before .before .a2 .given .0 .1 .0) (c .before .before .before .before .a2 .given .0 .1 .1 .0)) ((shaped-as (shapeAt (c .before .before .before .before .before .before .before .before .before .before .before .args .t .now) (c .before .before .before .before .before .before .before .before .before .before .before .args .r)) (let-way (c .before .before .before .before .a2 .given .0 .0) (c .before .before .before .before .a2 .given .0 .1 .0) (c .before .before .before .before .a2 .given .0 .1 .1 .0)) (sym (c .before .before .before .before .a2 .given .1) ∙ c .before .before .before .before .before .before .way-at .ensures)) .shape) in let f : BodyNeeds (c .before .before .before .before .before .before .before .before .before .before .before .args .t .now) (c .before .before .before .before .before .before .before .before .before .before .before .args .widths .now) (c .before .before .before .before .before .before .before .before .before .before .before .args .r) (Let (c .before .before .before .before .a2 .given .0 .0) ((shaped-as (shapeAt (c .before .before .before .before .before .before .before .before .before .before .before .args .t .now) (c .before .before .before .before .before .before .before .before .before .before .before .args .r)) (let-way (c .before .before .before .before .a2 .given .0 .0) (c .before .before .before .before .a2 .given .0 .1 .0) (c .before .before .before .before .a2 .given .0 .1 .1 .0)) (sym (c .before .before .before .before .a2 .given .1) ∙ c .before .before .before .before .before .before .way-at .ensures)) .width) (c .before .before .before .before .a2 .given .0 .1 .0) (c .before .before .before .before .a2 .given .0 .1 .1 .0)) = body-needs (c .before .before .before .before .before .before .before .before .before .before .before .args .t .now) (c .before .before .before .before .before .before .before .before .before .before .before .args .widths .now) (c .before .before .before .before .before .before .before .before .before .before .before .args .r) (c .before .before .before .before .before .before .before .before .before .before .before .pre .1 .0) (Let (c .before .before .before .before .a2 .given .0 .0) ((shaped-as (shapeAt (c .before .before .before .before .before .before .before .before .before .before .before .args .t .now) (c .before .before .before .before .before .before .before .before .before .before .before .args .r)) (let-way (c .before .before .before .before .a2 .given .0 .0) (c .before .before .before .before .a2 .given .0 .1 .0) (c .before .before .before .before .a2 .given .0 .1 .1 .0)) (sym (c .before .before .before .before .a2 .given .1) ∙ c .before .before .before .before .before .before .way-at .ensures)) .width) (c .before .before .before .before .a2 .given .0 .1 .0) (c .before .before .before .before .a2 .given .0 .1 .1 .0)) ((shaped-as (shapeAt (c .before .before .before .before .before .before .before .before .before .before .before .args .t .now) (c .before .before .before .before .before .before .before .before .before .before .before .args .r)) (let-way (c .before .before .before .before .a2 .given .0 .0) (c .before .before .before .before .a2 .given .0 .1 .0) (c .before .before .before .before .a2 .given .0 .1 .1 .0)) (sym (c .before .before .before .before .a2 .given .1) ∙ c .before .before .before .before .before .before .way-at .ensures)) .shape) in (omega (arith, k .0 .1), (k .0 .0, c .before .before .before .before .before .before .before .before .before .before .before .pre .1 .3, omega (arith, f .0, f .1, c .wide .ensures, ap length (c .before .before .copied .ensures), c .before .before .before .before .before .before .before .before .before .before .before .pre .1 .3)))
 
 -- src/cycle.rt:159:32  match expr(t, widths, c, env, &mut inner, wide(a), left) { ⏎ Rest::Short => Turn::Short,
 body-enum-told-2 : (t : ℕ) → body-lts.Need-enum-told-2 (
@@ -324,7 +334,7 @@ body-body-requires : (t : ℕ) → body-lts.Need-body-requires (
   put-errs-reads.Asked,
   put-errs-reads.Learnt,
 ) (body-at t) body.Post
-body-body-requires t c κs = search needs
+body-body-requires t c κs = let k : BodyChildren (c .before .before .before .before .before .before .before .before .before .before .before .before .before .before .before .before .before .before .args .t .now) (c .before .before .before .before .before .before .before .before .before .before .before .before .before .before .before .before .before .before .args .widths .now) (c .before .before .before .before .before .before .before .before .before .before .before .before .before .before .before .before .before .before .args .r) (Let (c .before .before .before .before .before .before .before .before .before .before .before .a2 .given .0 .0) ((shaped-as (shapeAt (c .before .before .before .before .before .before .before .before .before .before .before .before .before .before .before .before .before .before .args .t .now) (c .before .before .before .before .before .before .before .before .before .before .before .before .before .before .before .before .before .before .args .r)) (let-way (c .before .before .before .before .before .before .before .before .before .before .before .a2 .given .0 .0) (c .before .before .before .before .before .before .before .before .before .before .before .a2 .given .0 .1 .0) (c .before .before .before .before .before .before .before .before .before .before .before .a2 .given .0 .1 .1 .0)) (sym (c .before .before .before .before .before .before .before .before .before .before .before .a2 .given .1) ∙ c .before .before .before .before .before .before .before .before .before .before .before .before .before .way-at .ensures)) .width) (c .before .before .before .before .before .before .before .before .before .before .before .a2 .given .0 .1 .0) (c .before .before .before .before .before .before .before .before .before .before .before .a2 .given .0 .1 .1 .0)) = body-children (c .before .before .before .before .before .before .before .before .before .before .before .before .before .before .before .before .before .before .args .t .now) (c .before .before .before .before .before .before .before .before .before .before .before .before .before .before .before .before .before .before .args .widths .now) (c .before .before .before .before .before .before .before .before .before .before .before .before .before .before .before .before .before .before .args .r) (c .before .before .before .before .before .before .before .before .before .before .before .before .before .before .before .before .before .before .pre .1 .0) (Let (c .before .before .before .before .before .before .before .before .before .before .before .a2 .given .0 .0) ((shaped-as (shapeAt (c .before .before .before .before .before .before .before .before .before .before .before .before .before .before .before .before .before .before .args .t .now) (c .before .before .before .before .before .before .before .before .before .before .before .before .before .before .before .before .before .before .args .r)) (let-way (c .before .before .before .before .before .before .before .before .before .before .before .a2 .given .0 .0) (c .before .before .before .before .before .before .before .before .before .before .before .a2 .given .0 .1 .0) (c .before .before .before .before .before .before .before .before .before .before .before .a2 .given .0 .1 .1 .0)) (sym (c .before .before .before .before .before .before .before .before .before .before .before .a2 .given .1) ∙ c .before .before .before .before .before .before .before .before .before .before .before .before .before .way-at .ensures)) .width) (c .before .before .before .before .before .before .before .before .before .before .before .a2 .given .0 .1 .0) (c .before .before .before .before .before .before .before .before .before .before .before .a2 .given .0 .1 .1 .0)) ((shaped-as (shapeAt (c .before .before .before .before .before .before .before .before .before .before .before .before .before .before .before .before .before .before .args .t .now) (c .before .before .before .before .before .before .before .before .before .before .before .before .before .before .before .before .before .before .args .r)) (let-way (c .before .before .before .before .before .before .before .before .before .before .before .a2 .given .0 .0) (c .before .before .before .before .before .before .before .before .before .before .before .a2 .given .0 .1 .0) (c .before .before .before .before .before .before .before .before .before .before .before .a2 .given .0 .1 .1 .0)) (sym (c .before .before .before .before .before .before .before .before .before .before .before .a2 .given .1) ∙ c .before .before .before .before .before .before .before .before .before .before .before .before .before .way-at .ensures)) .shape) in let f : BodyNeeds (c .before .before .before .before .before .before .before .before .before .before .before .before .before .before .before .before .before .before .args .t .now) (c .before .before .before .before .before .before .before .before .before .before .before .before .before .before .before .before .before .before .args .widths .now) (c .before .before .before .before .before .before .before .before .before .before .before .before .before .before .before .before .before .before .args .r) (Let (c .before .before .before .before .before .before .before .before .before .before .before .a2 .given .0 .0) ((shaped-as (shapeAt (c .before .before .before .before .before .before .before .before .before .before .before .before .before .before .before .before .before .before .args .t .now) (c .before .before .before .before .before .before .before .before .before .before .before .before .before .before .before .before .before .before .args .r)) (let-way (c .before .before .before .before .before .before .before .before .before .before .before .a2 .given .0 .0) (c .before .before .before .before .before .before .before .before .before .before .before .a2 .given .0 .1 .0) (c .before .before .before .before .before .before .before .before .before .before .before .a2 .given .0 .1 .1 .0)) (sym (c .before .before .before .before .before .before .before .before .before .before .before .a2 .given .1) ∙ c .before .before .before .before .before .before .before .before .before .before .before .before .before .way-at .ensures)) .width) (c .before .before .before .before .before .before .before .before .before .before .before .a2 .given .0 .1 .0) (c .before .before .before .before .before .before .before .before .before .before .before .a2 .given .0 .1 .1 .0)) = body-needs (c .before .before .before .before .before .before .before .before .before .before .before .before .before .before .before .before .before .before .args .t .now) (c .before .before .before .before .before .before .before .before .before .before .before .before .before .before .before .before .before .before .args .widths .now) (c .before .before .before .before .before .before .before .before .before .before .before .before .before .before .before .before .before .before .args .r) (c .before .before .before .before .before .before .before .before .before .before .before .before .before .before .before .before .before .before .pre .1 .0) (Let (c .before .before .before .before .before .before .before .before .before .before .before .a2 .given .0 .0) ((shaped-as (shapeAt (c .before .before .before .before .before .before .before .before .before .before .before .before .before .before .before .before .before .before .args .t .now) (c .before .before .before .before .before .before .before .before .before .before .before .before .before .before .before .before .before .before .args .r)) (let-way (c .before .before .before .before .before .before .before .before .before .before .before .a2 .given .0 .0) (c .before .before .before .before .before .before .before .before .before .before .before .a2 .given .0 .1 .0) (c .before .before .before .before .before .before .before .before .before .before .before .a2 .given .0 .1 .1 .0)) (sym (c .before .before .before .before .before .before .before .before .before .before .before .a2 .given .1) ∙ c .before .before .before .before .before .before .before .before .before .before .before .before .before .way-at .ensures)) .width) (c .before .before .before .before .before .before .before .before .before .before .before .a2 .given .0 .1 .0) (c .before .before .before .before .before .before .before .before .before .before .before .a2 .given .0 .1 .1 .0)) ((shaped-as (shapeAt (c .before .before .before .before .before .before .before .before .before .before .before .before .before .before .before .before .before .before .args .t .now) (c .before .before .before .before .before .before .before .before .before .before .before .before .before .before .before .before .before .before .args .r)) (let-way (c .before .before .before .before .before .before .before .before .before .before .before .a2 .given .0 .0) (c .before .before .before .before .before .before .before .before .before .before .before .a2 .given .0 .1 .0) (c .before .before .before .before .before .before .before .before .before .before .before .a2 .given .0 .1 .1 .0)) (sym (c .before .before .before .before .before .before .before .before .before .before .before .a2 .given .1) ∙ c .before .before .before .before .before .before .before .before .before .before .before .before .before .way-at .ensures)) .shape) in (omega (arith, k .1 .1), (k .1 .0, rw (f .2) (c .before .before .before .before .before .before .before .before .before .before .before .before .before .before .before .before .before .before .pre .1 .1), c .before .before .before .before .before .before .before .before .before .before .before .before .before .before .before .before .before .before .pre .1 .2, c .before .before .before .before .before .before .expr2 .ensures .1 ∙ ap length (c .before .before .before .before .before .before .before .before .before .copied .ensures) ∙ c .before .before .before .before .before .before .before .before .before .before .before .before .before .before .before .before .before .before .pre .1 .3, c .before .before .before .before .before .before .before .before .before .before .before .before .before .before .before .before .before .before .pre .1 .4))
 
 -- src/cycle.rt:163:17  } ⏎ Way::If(a, b, c) => {
 body-enum-known-a-3 : (t : ℕ) → body-lts.Need-enum-known-a-3 (
@@ -381,7 +391,7 @@ body-expr-requires-3 : (t : ℕ) → body-lts.Need-expr-requires-3 (
   put-errs-reads.Asked,
   put-errs-reads.Learnt,
 ) (body-at t) body.Post
-body-expr-requires-3 t c κs = search needs
+body-expr-requires-3 t c κs = let k : BodyChildren (c .before .before .before .before .before .before .before .before .before .args .t .now) (c .before .before .before .before .before .before .before .before .before .args .widths .now) (c .before .before .before .before .before .before .before .before .before .args .r) (If (c .before .before .a3 .given .0 .0) (c .before .before .a3 .given .0 .1 .0) (c .before .before .a3 .given .0 .1 .1 .0)) = body-children (c .before .before .before .before .before .before .before .before .before .args .t .now) (c .before .before .before .before .before .before .before .before .before .args .widths .now) (c .before .before .before .before .before .before .before .before .before .args .r) (c .before .before .before .before .before .before .before .before .before .pre .1 .0) (If (c .before .before .a3 .given .0 .0) (c .before .before .a3 .given .0 .1 .0) (c .before .before .a3 .given .0 .1 .1 .0)) (shaped-as (shapeAt (c .before .before .before .before .before .before .before .before .before .args .t .now) (c .before .before .before .before .before .before .before .before .before .args .r)) (if-way (c .before .before .a3 .given .0 .0) (c .before .before .a3 .given .0 .1 .0) (c .before .before .a3 .given .0 .1 .1 .0)) (sym (c .before .before .a3 .given .1) ∙ c .before .before .before .before .way-at .ensures)) in let f : BodyNeeds (c .before .before .before .before .before .before .before .before .before .args .t .now) (c .before .before .before .before .before .before .before .before .before .args .widths .now) (c .before .before .before .before .before .before .before .before .before .args .r) (If (c .before .before .a3 .given .0 .0) (c .before .before .a3 .given .0 .1 .0) (c .before .before .a3 .given .0 .1 .1 .0)) = body-needs (c .before .before .before .before .before .before .before .before .before .args .t .now) (c .before .before .before .before .before .before .before .before .before .args .widths .now) (c .before .before .before .before .before .before .before .before .before .args .r) (c .before .before .before .before .before .before .before .before .before .pre .1 .0) (If (c .before .before .a3 .given .0 .0) (c .before .before .a3 .given .0 .1 .0) (c .before .before .a3 .given .0 .1 .1 .0)) (shaped-as (shapeAt (c .before .before .before .before .before .before .before .before .before .args .t .now) (c .before .before .before .before .before .before .before .before .before .args .r)) (if-way (c .before .before .a3 .given .0 .0) (c .before .before .a3 .given .0 .1 .0) (c .before .before .a3 .given .0 .1 .1 .0)) (sym (c .before .before .a3 .given .1) ∙ c .before .before .before .before .way-at .ensures)) in (omega (arith, k .0 .1), (k .0 .0, c .before .before .before .before .before .before .before .before .before .pre .1 .3, omega (arith, f .0)))
 
 -- src/cycle.rt:166:32  match expr(t, widths, a, env, &mut test, 0, left) { ⏎ Rest::Short => Turn::Short,
 body-enum-told-3 : (t : ℕ) → body-lts.Need-enum-told-3 (
@@ -495,7 +505,7 @@ body-body-requires-2 : (t : ℕ) → body-lts.Need-body-requires-2 (
   put-errs-reads.Asked,
   put-errs-reads.Learnt,
 ) (body-at t) body.Post
-body-body-requires-2 t c κs = search needs
+body-body-requires-2 t c κs = let k : BodyChildren (c .before .before .before .before .before .before .before .before .before .before .before .before .before .before .before .before .before .before .before .args .t .now) (c .before .before .before .before .before .before .before .before .before .before .before .before .before .before .before .before .before .before .before .args .widths .now) (c .before .before .before .before .before .before .before .before .before .before .before .before .before .before .before .before .before .before .before .args .r) (If (c .before .before .before .before .before .before .before .before .before .before .before .before .a3 .given .0 .0) (c .before .before .before .before .before .before .before .before .before .before .before .before .a3 .given .0 .1 .0) (c .before .before .before .before .before .before .before .before .before .before .before .before .a3 .given .0 .1 .1 .0)) = body-children (c .before .before .before .before .before .before .before .before .before .before .before .before .before .before .before .before .before .before .before .args .t .now) (c .before .before .before .before .before .before .before .before .before .before .before .before .before .before .before .before .before .before .before .args .widths .now) (c .before .before .before .before .before .before .before .before .before .before .before .before .before .before .before .before .before .before .before .args .r) (c .before .before .before .before .before .before .before .before .before .before .before .before .before .before .before .before .before .before .before .pre .1 .0) (If (c .before .before .before .before .before .before .before .before .before .before .before .before .a3 .given .0 .0) (c .before .before .before .before .before .before .before .before .before .before .before .before .a3 .given .0 .1 .0) (c .before .before .before .before .before .before .before .before .before .before .before .before .a3 .given .0 .1 .1 .0)) (shaped-as (shapeAt (c .before .before .before .before .before .before .before .before .before .before .before .before .before .before .before .before .before .before .before .args .t .now) (c .before .before .before .before .before .before .before .before .before .before .before .before .before .before .before .before .before .before .before .args .r)) (if-way (c .before .before .before .before .before .before .before .before .before .before .before .before .a3 .given .0 .0) (c .before .before .before .before .before .before .before .before .before .before .before .before .a3 .given .0 .1 .0) (c .before .before .before .before .before .before .before .before .before .before .before .before .a3 .given .0 .1 .1 .0)) (sym (c .before .before .before .before .before .before .before .before .before .before .before .before .a3 .given .1) ∙ c .before .before .before .before .before .before .before .before .before .before .before .before .before .before .way-at .ensures)) in let f : BodyNeeds (c .before .before .before .before .before .before .before .before .before .before .before .before .before .before .before .before .before .before .before .args .t .now) (c .before .before .before .before .before .before .before .before .before .before .before .before .before .before .before .before .before .before .before .args .widths .now) (c .before .before .before .before .before .before .before .before .before .before .before .before .before .before .before .before .before .before .before .args .r) (If (c .before .before .before .before .before .before .before .before .before .before .before .before .a3 .given .0 .0) (c .before .before .before .before .before .before .before .before .before .before .before .before .a3 .given .0 .1 .0) (c .before .before .before .before .before .before .before .before .before .before .before .before .a3 .given .0 .1 .1 .0)) = body-needs (c .before .before .before .before .before .before .before .before .before .before .before .before .before .before .before .before .before .before .before .args .t .now) (c .before .before .before .before .before .before .before .before .before .before .before .before .before .before .before .before .before .before .before .args .widths .now) (c .before .before .before .before .before .before .before .before .before .before .before .before .before .before .before .before .before .before .before .args .r) (c .before .before .before .before .before .before .before .before .before .before .before .before .before .before .before .before .before .before .before .pre .1 .0) (If (c .before .before .before .before .before .before .before .before .before .before .before .before .a3 .given .0 .0) (c .before .before .before .before .before .before .before .before .before .before .before .before .a3 .given .0 .1 .0) (c .before .before .before .before .before .before .before .before .before .before .before .before .a3 .given .0 .1 .1 .0)) (shaped-as (shapeAt (c .before .before .before .before .before .before .before .before .before .before .before .before .before .before .before .before .before .before .before .args .t .now) (c .before .before .before .before .before .before .before .before .before .before .before .before .before .before .before .before .before .before .before .args .r)) (if-way (c .before .before .before .before .before .before .before .before .before .before .before .before .a3 .given .0 .0) (c .before .before .before .before .before .before .before .before .before .before .before .before .a3 .given .0 .1 .0) (c .before .before .before .before .before .before .before .before .before .before .before .before .a3 .given .0 .1 .1 .0)) (sym (c .before .before .before .before .before .before .before .before .before .before .before .before .a3 .given .1) ∙ c .before .before .before .before .before .before .before .before .before .before .before .before .before .before .way-at .ensures)) in (omega (arith, k .1 .1), (k .1 .0, f .1 (c .before .before .before .before .before .before .before .before .before .before .before .before .before .before .before .before .before .before .before .args .w) (c .before .before .before .before .before .before .before .before .before .before .before .before .before .before .before .before .before .before .before .pre .1 .1) .0, c .before .before .before .before .before .before .before .before .before .before .before .before .before .before .before .before .before .before .before .pre .1 .2, c .before .before .before .before .before .before .before .before .before .before .before .before .before .before .before .before .before .before .before .pre .1 .3, c .before .before .before .before .before .before .before .before .before .before .before .before .before .before .before .before .before .before .before .pre .1 .4))
 
 -- src/cycle.rt:169:66  Choice::First => body(t, widths, b, w, env, out, l), ⏎ Choice::Second => body(t, widths, c, w, env, out, l),
 body-enum-told-5 : (t : ℕ) → body-lts.Need-enum-told-5 (
@@ -533,7 +543,7 @@ body-body-requires-3 : (t : ℕ) → body-lts.Need-body-requires-3 (
   put-errs-reads.Asked,
   put-errs-reads.Learnt,
 ) (body-at t) body.Post
-body-body-requires-3 t c κs = search needs
+body-body-requires-3 t c κs = let k : BodyChildren (c .before .before .before .before .before .before .before .before .before .before .before .before .before .before .before .before .before .before .before .args .t .now) (c .before .before .before .before .before .before .before .before .before .before .before .before .before .before .before .before .before .before .before .args .widths .now) (c .before .before .before .before .before .before .before .before .before .before .before .before .before .before .before .before .before .before .before .args .r) (If (c .before .before .before .before .before .before .before .before .before .before .before .before .a3 .given .0 .0) (c .before .before .before .before .before .before .before .before .before .before .before .before .a3 .given .0 .1 .0) (c .before .before .before .before .before .before .before .before .before .before .before .before .a3 .given .0 .1 .1 .0)) = body-children (c .before .before .before .before .before .before .before .before .before .before .before .before .before .before .before .before .before .before .before .args .t .now) (c .before .before .before .before .before .before .before .before .before .before .before .before .before .before .before .before .before .before .before .args .widths .now) (c .before .before .before .before .before .before .before .before .before .before .before .before .before .before .before .before .before .before .before .args .r) (c .before .before .before .before .before .before .before .before .before .before .before .before .before .before .before .before .before .before .before .pre .1 .0) (If (c .before .before .before .before .before .before .before .before .before .before .before .before .a3 .given .0 .0) (c .before .before .before .before .before .before .before .before .before .before .before .before .a3 .given .0 .1 .0) (c .before .before .before .before .before .before .before .before .before .before .before .before .a3 .given .0 .1 .1 .0)) (shaped-as (shapeAt (c .before .before .before .before .before .before .before .before .before .before .before .before .before .before .before .before .before .before .before .args .t .now) (c .before .before .before .before .before .before .before .before .before .before .before .before .before .before .before .before .before .before .before .args .r)) (if-way (c .before .before .before .before .before .before .before .before .before .before .before .before .a3 .given .0 .0) (c .before .before .before .before .before .before .before .before .before .before .before .before .a3 .given .0 .1 .0) (c .before .before .before .before .before .before .before .before .before .before .before .before .a3 .given .0 .1 .1 .0)) (sym (c .before .before .before .before .before .before .before .before .before .before .before .before .a3 .given .1) ∙ c .before .before .before .before .before .before .before .before .before .before .before .before .before .before .way-at .ensures)) in let f : BodyNeeds (c .before .before .before .before .before .before .before .before .before .before .before .before .before .before .before .before .before .before .before .args .t .now) (c .before .before .before .before .before .before .before .before .before .before .before .before .before .before .before .before .before .before .before .args .widths .now) (c .before .before .before .before .before .before .before .before .before .before .before .before .before .before .before .before .before .before .before .args .r) (If (c .before .before .before .before .before .before .before .before .before .before .before .before .a3 .given .0 .0) (c .before .before .before .before .before .before .before .before .before .before .before .before .a3 .given .0 .1 .0) (c .before .before .before .before .before .before .before .before .before .before .before .before .a3 .given .0 .1 .1 .0)) = body-needs (c .before .before .before .before .before .before .before .before .before .before .before .before .before .before .before .before .before .before .before .args .t .now) (c .before .before .before .before .before .before .before .before .before .before .before .before .before .before .before .before .before .before .before .args .widths .now) (c .before .before .before .before .before .before .before .before .before .before .before .before .before .before .before .before .before .before .before .args .r) (c .before .before .before .before .before .before .before .before .before .before .before .before .before .before .before .before .before .before .before .pre .1 .0) (If (c .before .before .before .before .before .before .before .before .before .before .before .before .a3 .given .0 .0) (c .before .before .before .before .before .before .before .before .before .before .before .before .a3 .given .0 .1 .0) (c .before .before .before .before .before .before .before .before .before .before .before .before .a3 .given .0 .1 .1 .0)) (shaped-as (shapeAt (c .before .before .before .before .before .before .before .before .before .before .before .before .before .before .before .before .before .before .before .args .t .now) (c .before .before .before .before .before .before .before .before .before .before .before .before .before .before .before .before .before .before .before .args .r)) (if-way (c .before .before .before .before .before .before .before .before .before .before .before .before .a3 .given .0 .0) (c .before .before .before .before .before .before .before .before .before .before .before .before .a3 .given .0 .1 .0) (c .before .before .before .before .before .before .before .before .before .before .before .before .a3 .given .0 .1 .1 .0)) (sym (c .before .before .before .before .before .before .before .before .before .before .before .before .a3 .given .1) ∙ c .before .before .before .before .before .before .before .before .before .before .before .before .before .before .way-at .ensures)) in (omega (arith, k .2 .1), (k .2 .0, f .1 (c .before .before .before .before .before .before .before .before .before .before .before .before .before .before .before .before .before .before .before .args .w) (c .before .before .before .before .before .before .before .before .before .before .before .before .before .before .before .before .before .before .before .pre .1 .1) .1, c .before .before .before .before .before .before .before .before .before .before .before .before .before .before .before .before .before .before .before .pre .1 .2, c .before .before .before .before .before .before .before .before .before .before .before .before .before .before .before .before .before .before .before .pre .1 .3, c .before .before .before .before .before .before .before .before .before .before .before .before .before .before .before .before .before .before .before .pre .1 .4))
 
 -- src/cycle.rt:171:34  Choice::Neither => { ⏎ put_errs(out, 0, w);
 body-enum-told-6 : (t : ℕ) → body-lts.Need-enum-told-6 (
@@ -609,7 +619,7 @@ body-expr-requires-4 : (t : ℕ) → body-lts.Need-expr-requires-4 (
   put-errs-reads.Asked,
   put-errs-reads.Learnt,
 ) (body-at t) body.Post
-body-expr-requires-4 t c κs = search needs
+body-expr-requires-4 t c κs = (omega arith, ((ending-row (c .before .before .before .before .before .before .before .before .args .t .now) (c .before .before .before .before .before .before .before .before .args .widths .now) (c .before .before .before .before .before .before .before .before .args .r) (c .before .before .before .before .before .before .before .before .pre .1 .0) (shaped-as (shapeAt (c .before .before .before .before .before .before .before .before .args .t .now) (c .before .before .before .before .before .before .before .before .args .r)) End (sym (c .before .enum-told7 .given .1) ∙ c .before .before .before .way-at .ensures))), c .before .before .before .before .before .before .before .before .pre .1 .3, omega (arith, narrow (c .before .before .before .before .before .before .before .before .args .t .now) (c .before .before .before .before .before .before .before .before .args .widths .now) (c .before .before .before .before .before .before .before .before .args .r) (ending-row (c .before .before .before .before .before .before .before .before .args .t .now) (c .before .before .before .before .before .before .before .before .args .widths .now) (c .before .before .before .before .before .before .before .before .args .r) (c .before .before .before .before .before .before .before .before .pre .1 .0) (shaped-as (shapeAt (c .before .before .before .before .before .before .before .before .args .t .now) (c .before .before .before .before .before .before .before .before .args .r)) End (sym (c .before .enum-told7 .given .1) ∙ c .before .before .before .way-at .ensures))), c .before .before .before .before .before .before .before .before .pre .1 .4)))
 
 -- src/cycle.rt:178:28  Way::End => match expr(t, widths, r, env, out, 0, left) { ⏎ Rest::Short => Turn::Short,
 body-enum-told-8 : (t : ℕ) → body-lts.Need-enum-told-8 (
@@ -685,7 +695,7 @@ body-returns : (t : ℕ) → body-lts.Need-returns (
   put-errs-reads.Asked,
   put-errs-reads.Learnt,
 ) (body-at t) body.Post
-body-returns t c = search needs
+body-returns t c = (tell-stopped-B (c .before .before .before .before .before .before .before .before .before .before .before .before .before .before .args .t .now) (c .before .before .before .before .before .before .before .before .before .before .before .before .before .before .args .widths .now) (c .before .before .before .before .before .before .before .before .before .before .before .before .before .before .args .r) (c .before .before .before .before .before .before .before .before .before .before .before .before .before .before .pre .1 .0) (c .before .before .before .before .before .before .before .before .before .before .before .before .before .before .args .w) (envOf (c .before .before .before .before .before .before .before .before .before .before .before .before .before .before .args .env .now)) (c .before .before .before .before .before .before .before .before .before .before .before .before .before .before .args .left) (Iter (c .before .before .before .before .before .before .before .a .given .0 .0)) (shaped-as (shapeAt (c .before .before .before .before .before .before .before .before .before .before .before .before .before .before .args .t .now) (c .before .before .before .before .before .before .before .before .before .before .before .before .before .before .args .r)) (iter-way (c .before .before .before .before .before .before .before .a .given .0 .0)) (sym (c .before .before .before .before .before .before .before .a .given .1) ∙ c .before .before .before .before .before .before .before .before .before .way-at .ensures)) (c .before .before .before .before .before .before .before .a .given .0 .0) refl 0 (c .before .before .before .before .before .before .before .before .before .before .before .before .before .before .args .out .now) (c .before .before .before .before .expr .last .1 .1 .1 .1 .0) (c .before .before .before .before .before .before .before .before .before .before .before .before .before .before .args .out .now) (c .before .before .before .before .expr .last .1 .1 .1 .1 .0) (rw (c .enum-told .given .1) at (c .before .before .before .before .expr .ensures .0)), c .before .before .before .before .expr .ensures .1)
 
 -- src/cycle.rt:147:1  // `out`. ⏎ fn body(t: &[u32], widths: &[u8], r: usize, w: usize, env: &[u64], out: &mut [u64], left: u32) -> Turn
 body-same-length-2 : (t : ℕ) → body-lts.Need-same-length-2 (
@@ -723,7 +733,7 @@ body-returns-2 : (t : ℕ) → body-lts.Need-returns-2 (
   put-errs-reads.Asked,
   put-errs-reads.Learnt,
 ) (body-at t) body.Post
-body-returns-2 t c = search needs
+body-returns-2 t c = (tell-iter (c .before .before .before .before .before .before .before .before .before .before .before .before .before .before .before .args .t .now) (c .before .before .before .before .before .before .before .before .before .before .before .before .before .before .before .args .widths .now) (c .before .before .before .before .before .before .before .before .before .before .before .before .before .before .before .args .r) (c .before .before .before .before .before .before .before .before .before .before .before .before .before .before .before .pre .1 .0) (c .before .before .before .before .before .before .before .before .before .before .before .before .before .before .before .args .w) (envOf (c .before .before .before .before .before .before .before .before .before .before .before .before .before .before .before .args .env .now)) (c .before .before .before .before .before .before .before .before .before .before .before .before .before .before .before .args .left) (c .before .before .before .before .before .before .before .before .before .before .before .before .before .before .before .args .out .now) (c .before .before .before .before .before .expr .last .1 .1 .1 .1 .0) (c .before .before .before .before .before .before .before .before .a .given .0 .0) (shaped-as (shapeAt (c .before .before .before .before .before .before .before .before .before .before .before .before .before .before .before .args .t .now) (c .before .before .before .before .before .before .before .before .before .before .before .before .before .before .before .args .r)) (iter-way (c .before .before .before .before .before .before .before .before .a .given .0 .0)) (sym (c .before .before .before .before .before .before .before .before .a .given .1) ∙ c .before .before .before .before .before .before .before .before .before .before .way-at .ensures)) (c .before .l .given .0 .0) (rw (c .before .l .given .1) at (c .before .before .before .before .before .expr .ensures .0)), c .before .before .before .before .before .expr .ensures .1)
 
 -- src/cycle.rt:147:1  // `out`. ⏎ fn body(t: &[u32], widths: &[u8], r: usize, w: usize, env: &[u64], out: &mut [u64], left: u32) -> Turn
 body-returns-3 : (t : ℕ) → body-lts.Need-returns-3 (
@@ -742,7 +752,7 @@ body-returns-3 : (t : ℕ) → body-lts.Need-returns-3 (
   put-errs-reads.Asked,
   put-errs-reads.Learnt,
 ) (body-at t) body.Post
-body-returns-3 t c = search needs
+body-returns-3 t c = (tell-stopped-B (c .before .before .before .before .before .before .before .before .before .before .before .before .before .before .before .args .t .now) (c .before .before .before .before .before .before .before .before .before .before .before .before .before .before .before .args .widths .now) (c .before .before .before .before .before .before .before .before .before .before .before .before .before .before .before .args .r) (c .before .before .before .before .before .before .before .before .before .before .before .before .before .before .before .pre .1 .0) (c .before .before .before .before .before .before .before .before .before .before .before .before .before .before .before .args .w) (envOf (c .before .before .before .before .before .before .before .before .before .before .before .before .before .before .before .args .env .now)) (c .before .before .before .before .before .before .before .before .before .before .before .before .before .before .before .args .left) (Let (c .before .before .before .before .before .before .before .before .a2 .given .0 .0) ((shaped-as (shapeAt (c .before .before .before .before .before .before .before .before .before .before .before .before .before .before .before .args .t .now) (c .before .before .before .before .before .before .before .before .before .before .before .before .before .before .before .args .r)) (let-way (c .before .before .before .before .before .before .before .before .a2 .given .0 .0) (c .before .before .before .before .before .before .before .before .a2 .given .0 .1 .0) (c .before .before .before .before .before .before .before .before .a2 .given .0 .1 .1 .0)) (sym (c .before .before .before .before .before .before .before .before .a2 .given .1) ∙ c .before .before .before .before .before .before .before .before .before .before .way-at .ensures)) .width) (c .before .before .before .before .before .before .before .before .a2 .given .0 .1 .0) (c .before .before .before .before .before .before .before .before .a2 .given .0 .1 .1 .0)) ((shaped-as (shapeAt (c .before .before .before .before .before .before .before .before .before .before .before .before .before .before .before .args .t .now) (c .before .before .before .before .before .before .before .before .before .before .before .before .before .before .before .args .r)) (let-way (c .before .before .before .before .before .before .before .before .a2 .given .0 .0) (c .before .before .before .before .before .before .before .before .a2 .given .0 .1 .0) (c .before .before .before .before .before .before .before .before .a2 .given .0 .1 .1 .0)) (sym (c .before .before .before .before .before .before .before .before .a2 .given .1) ∙ c .before .before .before .before .before .before .before .before .before .before .way-at .ensures)) .shape) (c .before .before .before .before .before .before .before .before .a2 .given .0 .1 .0) refl (c .before .before .before .before .wide .result) (c .before .before .before .before .before .before .before .before .before .before .before .before .before .before .before .args .out .now) (c .before .before .before .before .before .before .before .before .before .before .before .before .before .before .before .args .out .now) (c .before .before .before .before .before .before .copied .result) (c .before .before .before .expr2 .last .1 .1 .1 .1 .0) (rw (c .enum-told2 .given .1) at (c .before .before .before .expr2 .ensures .0)), refl)
 
 -- src/cycle.rt:147:1  // `out`. ⏎ fn body(t: &[u32], widths: &[u8], r: usize, w: usize, env: &[u64], out: &mut [u64], left: u32) -> Turn
 body-same-length-3 : (t : ℕ) → body-lts.Need-same-length-3 (
@@ -780,7 +790,7 @@ body-returns-4 : (t : ℕ) → body-lts.Need-returns-4 (
   put-errs-reads.Asked,
   put-errs-reads.Learnt,
 ) (body-at t) body.Post
-body-returns-4 t c = search needs
+body-returns-4 t c = (tell-let-B (c .before .before .before .before .before .before .before .before .before .before .before .before .before .before .before .before .before .before .before .before .before .args .t .now) (c .before .before .before .before .before .before .before .before .before .before .before .before .before .before .before .before .before .before .before .before .before .args .widths .now) (c .before .before .before .before .before .before .before .before .before .before .before .before .before .before .before .before .before .before .before .before .before .args .r) (c .before .before .before .before .before .before .before .before .before .before .before .before .before .before .before .before .before .before .before .before .before .pre .1 .0) (c .before .before .before .before .before .before .before .before .before .before .before .before .before .before .before .before .before .before .before .before .before .args .w) (envOf (c .before .before .before .before .before .before .before .before .before .before .before .before .before .before .before .before .before .before .before .before .before .args .env .now)) (c .before .before .before .before .before .before .before .before .before .before .before .before .before .before .before .before .before .before .before .before .before .args .left) (c .before .before .before .before .before .before .before .before .before .before .before .before .before .before .before .before .before .before .before .before .before .args .out .now) (c .before .before .body .last .1 .1 .1 .1 .1 .0) (c .before .before .before .before .before .before .before .before .before .before .before .before .before .before .a2 .given .0 .0) ((shaped-as (shapeAt (c .before .before .before .before .before .before .before .before .before .before .before .before .before .before .before .before .before .before .before .before .before .args .t .now) (c .before .before .before .before .before .before .before .before .before .before .before .before .before .before .before .before .before .before .before .before .before .args .r)) (let-way (c .before .before .before .before .before .before .before .before .before .before .before .before .before .before .a2 .given .0 .0) (c .before .before .before .before .before .before .before .before .before .before .before .before .before .before .a2 .given .0 .1 .0) (c .before .before .before .before .before .before .before .before .before .before .before .before .before .before .a2 .given .0 .1 .1 .0)) (sym (c .before .before .before .before .before .before .before .before .before .before .before .before .before .before .a2 .given .1) ∙ c .before .before .before .before .before .before .before .before .before .before .before .before .before .before .before .before .way-at .ensures)) .width) (c .before .before .before .before .before .before .before .before .before .before .before .before .before .before .a2 .given .0 .1 .0) (c .before .before .before .before .before .before .before .before .before .before .before .before .before .before .a2 .given .0 .1 .1 .0) ((shaped-as (shapeAt (c .before .before .before .before .before .before .before .before .before .before .before .before .before .before .before .before .before .before .before .before .before .args .t .now) (c .before .before .before .before .before .before .before .before .before .before .before .before .before .before .before .before .before .before .before .before .before .args .r)) (let-way (c .before .before .before .before .before .before .before .before .before .before .before .before .before .before .a2 .given .0 .0) (c .before .before .before .before .before .before .before .before .before .before .before .before .before .before .a2 .given .0 .1 .0) (c .before .before .before .before .before .before .before .before .before .before .before .before .before .before .a2 .given .0 .1 .1 .0)) (sym (c .before .before .before .before .before .before .before .before .before .before .before .before .before .before .a2 .given .1) ∙ c .before .before .before .before .before .before .before .before .before .before .before .before .before .before .before .before .way-at .ensures)) .shape) (c .before .before .before .before .before .before .before .before .before .before .before .before .copied .result) (c .before .before .before .before .before .before .before .before .before .expr2 .last .1 .1 .1 .1 .0) (c .before .before .before .before .before .before .l2 .given .0 .0) (c .before .before .body .result) (ap envOf (c .before .before .before .before .before .before .before .before .before .before .before .before .copied .ensures)) (rw (c .before .before .before .before .before .before .before .before .before .before .wide .ensures, c .before .before .before .before .before .before .l2 .given .1) at (c .before .before .before .before .before .before .before .before .before .expr2 .ensures .0)) (c .before .before .body .ensures .0), c .before .before .body .ensures .1)
 
 -- src/cycle.rt:147:1  // `out`. ⏎ fn body(t: &[u32], widths: &[u8], r: usize, w: usize, env: &[u64], out: &mut [u64], left: u32) -> Turn
 body-returns-5 : (t : ℕ) → body-lts.Need-returns-5 (
@@ -799,7 +809,7 @@ body-returns-5 : (t : ℕ) → body-lts.Need-returns-5 (
   put-errs-reads.Asked,
   put-errs-reads.Learnt,
 ) (body-at t) body.Post
-body-returns-5 t c = search needs
+body-returns-5 t c = (tell-stopped-B (c .before .before .before .before .before .before .before .before .before .before .before .before .before .args .t .now) (c .before .before .before .before .before .before .before .before .before .before .before .before .before .args .widths .now) (c .before .before .before .before .before .before .before .before .before .before .before .before .before .args .r) (c .before .before .before .before .before .before .before .before .before .before .before .before .before .pre .1 .0) (c .before .before .before .before .before .before .before .before .before .before .before .before .before .args .w) (envOf (c .before .before .before .before .before .before .before .before .before .before .before .before .before .args .env .now)) (c .before .before .before .before .before .before .before .before .before .before .before .before .before .args .left) (If (c .before .before .before .before .before .before .a3 .given .0 .0) (c .before .before .before .before .before .before .a3 .given .0 .1 .0) (c .before .before .before .before .before .before .a3 .given .0 .1 .1 .0)) (shaped-as (shapeAt (c .before .before .before .before .before .before .before .before .before .before .before .before .before .args .t .now) (c .before .before .before .before .before .before .before .before .before .before .before .before .before .args .r)) (if-way (c .before .before .before .before .before .before .a3 .given .0 .0) (c .before .before .before .before .before .before .a3 .given .0 .1 .0) (c .before .before .before .before .before .before .a3 .given .0 .1 .1 .0)) (sym (c .before .before .before .before .before .before .a3 .given .1) ∙ c .before .before .before .before .before .before .before .before .way-at .ensures)) (c .before .before .before .before .before .before .a3 .given .0 .0) refl 0 (c .before .before .before .before .before .before .before .before .before .before .before .before .before .args .out .now) (c .before .before .before .before .before .before .before .before .before .before .before .before .before .args .out .now) (0 ∷ []) (c .before .before .before .expr3 .last .1 .1 .1 .1 .0) (rw (c .enum-told3 .given .1) at (c .before .before .before .expr3 .ensures .0)), refl)
 
 -- src/cycle.rt:147:1  // `out`. ⏎ fn body(t: &[u32], widths: &[u8], r: usize, w: usize, env: &[u64], out: &mut [u64], left: u32) -> Turn
 body-same-length-4 : (t : ℕ) → body-lts.Need-same-length-4 (
@@ -837,7 +847,7 @@ body-returns-6 : (t : ℕ) → body-lts.Need-returns-6 (
   put-errs-reads.Asked,
   put-errs-reads.Learnt,
 ) (body-at t) body.Post
-body-returns-6 t c = search needs
+body-returns-6 t c = (tell-first-B (c .before .before .before .before .before .before .before .before .before .before .before .before .before .before .before .before .before .before .before .before .before .before .args .t .now) (c .before .before .before .before .before .before .before .before .before .before .before .before .before .before .before .before .before .before .before .before .before .before .args .widths .now) (c .before .before .before .before .before .before .before .before .before .before .before .before .before .before .before .before .before .before .before .before .before .before .args .r) (c .before .before .before .before .before .before .before .before .before .before .before .before .before .before .before .before .before .before .before .before .before .before .pre .1 .0) (c .before .before .before .before .before .before .before .before .before .before .before .before .before .before .before .before .before .before .before .before .before .before .args .w) (envOf (c .before .before .before .before .before .before .before .before .before .before .before .before .before .before .before .before .before .before .before .before .before .before .args .env .now)) (c .before .before .before .before .before .before .before .before .before .before .before .before .before .before .before .before .before .before .before .before .before .before .args .left) (c .before .before .before .before .before .before .before .before .before .before .before .before .before .before .before .before .before .before .before .before .before .before .args .out .now) (c .before .before .body2 .last .1 .1 .1 .1 .1 .0) (c .before .before .before .before .before .before .before .before .before .before .before .before .before .before .before .a3 .given .0 .0) (c .before .before .before .before .before .before .before .before .before .before .before .before .before .before .before .a3 .given .0 .1 .0) (c .before .before .before .before .before .before .before .before .before .before .before .before .before .before .before .a3 .given .0 .1 .1 .0) (shaped-as (shapeAt (c .before .before .before .before .before .before .before .before .before .before .before .before .before .before .before .before .before .before .before .before .before .before .args .t .now) (c .before .before .before .before .before .before .before .before .before .before .before .before .before .before .before .before .before .before .before .before .before .before .args .r)) (if-way (c .before .before .before .before .before .before .before .before .before .before .before .before .before .before .before .a3 .given .0 .0) (c .before .before .before .before .before .before .before .before .before .before .before .before .before .before .before .a3 .given .0 .1 .0) (c .before .before .before .before .before .before .before .before .before .before .before .before .before .before .before .a3 .given .0 .1 .1 .0)) (sym (c .before .before .before .before .before .before .before .before .before .before .before .before .before .before .before .a3 .given .1) ∙ c .before .before .before .before .before .before .before .before .before .before .before .before .before .before .before .before .before .way-at .ensures)) (0 ∷ []) (c .before .before .before .before .before .before .before .before .before .before .before .before .expr3 .last .1 .1 .1 .1 .0) (c .before .before .before .before .before .before .before .before .before .l3 .given .0 .0) (zeros-err 1) (rw (c .before .before .before .before .before .before .before .before .before .l3 .given .1) at (c .before .before .before .before .before .before .before .before .before .before .before .before .expr3 .ensures .0)) (c .before .before .body2 .result) (sym (c .before .before .before .before .before .before .choose .ensures) ∙ c .before .before .before .before .enum-told4 .given .1) (c .before .before .body2 .ensures .0), c .before .before .body2 .ensures .1)
 
 -- src/cycle.rt:147:1  // `out`. ⏎ fn body(t: &[u32], widths: &[u8], r: usize, w: usize, env: &[u64], out: &mut [u64], left: u32) -> Turn
 body-same-length-5 : (t : ℕ) → body-lts.Need-same-length-5 (
@@ -875,7 +885,7 @@ body-returns-7 : (t : ℕ) → body-lts.Need-returns-7 (
   put-errs-reads.Asked,
   put-errs-reads.Learnt,
 ) (body-at t) body.Post
-body-returns-7 t c = search needs
+body-returns-7 t c = (tell-second-B (c .before .before .before .before .before .before .before .before .before .before .before .before .before .before .before .before .before .before .before .before .before .before .args .t .now) (c .before .before .before .before .before .before .before .before .before .before .before .before .before .before .before .before .before .before .before .before .before .before .args .widths .now) (c .before .before .before .before .before .before .before .before .before .before .before .before .before .before .before .before .before .before .before .before .before .before .args .r) (c .before .before .before .before .before .before .before .before .before .before .before .before .before .before .before .before .before .before .before .before .before .before .pre .1 .0) (c .before .before .before .before .before .before .before .before .before .before .before .before .before .before .before .before .before .before .before .before .before .before .args .w) (envOf (c .before .before .before .before .before .before .before .before .before .before .before .before .before .before .before .before .before .before .before .before .before .before .args .env .now)) (c .before .before .before .before .before .before .before .before .before .before .before .before .before .before .before .before .before .before .before .before .before .before .args .left) (c .before .before .before .before .before .before .before .before .before .before .before .before .before .before .before .before .before .before .before .before .before .before .args .out .now) (c .before .before .body3 .last .1 .1 .1 .1 .1 .0) (c .before .before .before .before .before .before .before .before .before .before .before .before .before .before .before .a3 .given .0 .0) (c .before .before .before .before .before .before .before .before .before .before .before .before .before .before .before .a3 .given .0 .1 .0) (c .before .before .before .before .before .before .before .before .before .before .before .before .before .before .before .a3 .given .0 .1 .1 .0) (shaped-as (shapeAt (c .before .before .before .before .before .before .before .before .before .before .before .before .before .before .before .before .before .before .before .before .before .before .args .t .now) (c .before .before .before .before .before .before .before .before .before .before .before .before .before .before .before .before .before .before .before .before .before .before .args .r)) (if-way (c .before .before .before .before .before .before .before .before .before .before .before .before .before .before .before .a3 .given .0 .0) (c .before .before .before .before .before .before .before .before .before .before .before .before .before .before .before .a3 .given .0 .1 .0) (c .before .before .before .before .before .before .before .before .before .before .before .before .before .before .before .a3 .given .0 .1 .1 .0)) (sym (c .before .before .before .before .before .before .before .before .before .before .before .before .before .before .before .a3 .given .1) ∙ c .before .before .before .before .before .before .before .before .before .before .before .before .before .before .before .before .before .way-at .ensures)) (0 ∷ []) (c .before .before .before .before .before .before .before .before .before .before .before .before .expr3 .last .1 .1 .1 .1 .0) (c .before .before .before .before .before .before .before .before .before .l3 .given .0 .0) (zeros-err 1) (rw (c .before .before .before .before .before .before .before .before .before .l3 .given .1) at (c .before .before .before .before .before .before .before .before .before .before .before .before .expr3 .ensures .0)) (c .before .before .body3 .result) (sym (c .before .before .before .before .before .before .choose .ensures) ∙ c .before .before .before .before .enum-told5 .given .1) (c .before .before .body3 .ensures .0), c .before .before .body3 .ensures .1)
 
 -- src/cycle.rt:147:1  // `out`. ⏎ fn body(t: &[u32], widths: &[u8], r: usize, w: usize, env: &[u64], out: &mut [u64], left: u32) -> Turn
 body-same-length-6 : (t : ℕ) → body-lts.Need-same-length-6 (
@@ -913,7 +923,7 @@ body-returns-8 : (t : ℕ) → body-lts.Need-returns-8 (
   put-errs-reads.Asked,
   put-errs-reads.Learnt,
 ) (body-at t) body.Post
-body-returns-8 t c = search needs
+body-returns-8 t c = (tell-neither-B (c .before .before .before .before .before .before .before .before .before .before .before .before .before .before .before .before .before .before .before .before .before .before .args .t .now) (c .before .before .before .before .before .before .before .before .before .before .before .before .before .before .before .before .before .before .before .before .before .before .args .widths .now) (c .before .before .before .before .before .before .before .before .before .before .before .before .before .before .before .before .before .before .before .before .before .before .args .r) (c .before .before .before .before .before .before .before .before .before .before .before .before .before .before .before .before .before .before .before .before .before .before .pre .1 .0) (c .before .before .before .before .before .before .before .before .before .before .before .before .before .before .before .before .before .before .before .before .before .before .args .w) (envOf (c .before .before .before .before .before .before .before .before .before .before .before .before .before .before .before .before .before .before .before .before .before .before .args .env .now)) (c .before .before .before .before .before .before .before .before .before .before .before .before .before .before .before .before .before .before .before .before .before .before .args .left) (c .before .before .before .before .before .before .before .before .before .before .before .before .before .before .before .before .before .before .before .before .before .before .args .out .now) (c .before .before .put-errs .last .0) (c .before .before .before .before .before .before .before .before .before .before .before .before .before .before .before .a3 .given .0 .0) (c .before .before .before .before .before .before .before .before .before .before .before .before .before .before .before .a3 .given .0 .1 .0) (c .before .before .before .before .before .before .before .before .before .before .before .before .before .before .before .a3 .given .0 .1 .1 .0) (shaped-as (shapeAt (c .before .before .before .before .before .before .before .before .before .before .before .before .before .before .before .before .before .before .before .before .before .before .args .t .now) (c .before .before .before .before .before .before .before .before .before .before .before .before .before .before .before .before .before .before .before .before .before .before .args .r)) (if-way (c .before .before .before .before .before .before .before .before .before .before .before .before .before .before .before .a3 .given .0 .0) (c .before .before .before .before .before .before .before .before .before .before .before .before .before .before .before .a3 .given .0 .1 .0) (c .before .before .before .before .before .before .before .before .before .before .before .before .before .before .before .a3 .given .0 .1 .1 .0)) (sym (c .before .before .before .before .before .before .before .before .before .before .before .before .before .before .before .a3 .given .1) ∙ c .before .before .before .before .before .before .before .before .before .before .before .before .before .before .before .before .before .way-at .ensures)) (0 ∷ []) (c .before .before .before .before .before .before .before .before .before .before .before .before .expr3 .last .1 .1 .1 .1 .0) (c .before .before .before .before .before .before .before .before .before .l3 .given .0 .0) (zeros-err 1) (rw (c .before .before .before .before .before .before .before .before .before .l3 .given .1) at (c .before .before .before .before .before .before .before .before .before .before .before .before .expr3 .ensures .0)) (sym (c .before .before .before .before .before .before .choose .ensures) ∙ c .before .before .before .before .enum-told6 .given .1) (c .before .before .put-errs .ensures .0), c .before .before .put-errs .ensures .1)
 
 -- src/cycle.rt:147:1  // `out`. ⏎ fn body(t: &[u32], widths: &[u8], r: usize, w: usize, env: &[u64], out: &mut [u64], left: u32) -> Turn
 body-same-length-7 : (t : ℕ) → body-lts.Need-same-length-7 (
@@ -951,7 +961,7 @@ body-returns-9 : (t : ℕ) → body-lts.Need-returns-9 (
   put-errs-reads.Asked,
   put-errs-reads.Learnt,
 ) (body-at t) body.Post
-body-returns-9 t c = search needs
+body-returns-9 t c = (tell-ending-stopped (c .before .before .before .before .before .before .before .before .before .before .before .before .before .args .t .now) (c .before .before .before .before .before .before .before .before .before .before .before .before .before .args .widths .now) (c .before .before .before .before .before .before .before .before .before .before .before .before .before .args .r) (c .before .before .before .before .before .before .before .before .before .before .before .before .before .pre .1 .0) (c .before .before .before .before .before .before .before .before .before .before .before .before .before .args .w) (envOf (c .before .before .before .before .before .before .before .before .before .before .before .before .before .args .env .now)) (c .before .before .before .before .before .before .before .before .before .before .before .before .before .args .left) (c .before .before .before .before .before .before .before .before .before .before .before .before .before .args .out .now) (c .before .before .before .before .expr4 .last .1 .1 .1 .1 .0) (shaped-as (shapeAt (c .before .before .before .before .before .before .before .before .before .before .before .before .before .args .t .now) (c .before .before .before .before .before .before .before .before .before .before .before .before .before .args .r)) End (sym (c .before .before .before .before .before .before .enum-told7 .given .1) ∙ c .before .before .before .before .before .before .before .before .way-at .ensures)) (c .before .before .before .before .before .before .before .before .before .before .before .before .before .args .out .now) (c .before .before .before .before .expr4 .last .1 .1 .1 .1 .0) (rw (c .enum-told8 .given .1) at (c .before .before .before .before .expr4 .ensures .0)), c .before .before .before .before .expr4 .ensures .1)
 
 -- src/cycle.rt:147:1  // `out`. ⏎ fn body(t: &[u32], widths: &[u8], r: usize, w: usize, env: &[u64], out: &mut [u64], left: u32) -> Turn
 body-same-length-8 : (t : ℕ) → body-lts.Need-same-length-8 (
@@ -989,7 +999,7 @@ body-returns-10 : (t : ℕ) → body-lts.Need-returns-10 (
   put-errs-reads.Asked,
   put-errs-reads.Learnt,
 ) (body-at t) body.Post
-body-returns-10 t c = search needs
+body-returns-10 t c = (tell-ending (c .before .before .before .before .before .before .before .before .before .before .before .before .before .before .args .t .now) (c .before .before .before .before .before .before .before .before .before .before .before .before .before .before .args .widths .now) (c .before .before .before .before .before .before .before .before .before .before .before .before .before .before .args .r) (c .before .before .before .before .before .before .before .before .before .before .before .before .before .before .pre .1 .0) (c .before .before .before .before .before .before .before .before .before .before .before .before .before .before .args .w) (envOf (c .before .before .before .before .before .before .before .before .before .before .before .before .before .before .args .env .now)) (c .before .before .before .before .before .before .before .before .before .before .before .before .before .before .args .left) (c .before .before .before .before .before .before .before .before .before .before .before .before .before .before .args .out .now) (c .before .before .before .before .before .expr4 .last .1 .1 .1 .1 .0) (shaped-as (shapeAt (c .before .before .before .before .before .before .before .before .before .before .before .before .before .before .args .t .now) (c .before .before .before .before .before .before .before .before .before .before .before .before .before .before .args .r)) End (sym (c .before .before .before .before .before .before .before .enum-told7 .given .1) ∙ c .before .before .before .before .before .before .before .before .before .way-at .ensures)) (c .before .l4 .given .0 .0) (rw (c .before .l4 .given .1) at (c .before .before .before .before .before .expr4 .ensures .0)), c .before .before .before .before .before .expr4 .ensures .1)
 
 -- src/cycle.rt:59:11  { ⏎ match shape_at(t, r) {
 expr-shape-at-requires : (t : ℕ) → expr-lts.Need-shape-at-requires (
@@ -1076,7 +1086,7 @@ expr-put-name-requires : (t : ℕ) → expr-lts.Need-put-name-requires (
   rounds-below t,
   rounds.Post,
 ) (expr-at t) expr.Post
-expr-put-name-requires t c κs = search needs
+expr-put-name-requires t c κs = let k : ExpChildren (c .before .before .before .before .before .before .before .before .before .args .t .now) (c .before .before .before .before .before .before .before .before .before .args .widths .now) (c .before .before .before .before .before .before .before .before .before .args .r) (Identifier (c .before .before .a .given .0 .0)) = exp-children (c .before .before .before .before .before .before .before .before .before .args .t .now) (c .before .before .before .before .before .before .before .before .before .args .widths .now) (c .before .before .before .before .before .before .before .before .before .args .r) (c .before .before .before .before .before .before .before .before .before .pre .1 .0) (Identifier (c .before .before .a .given .0 .0)) (sym (c .before .before .before .before .shape-at .ensures) ∙ c .before .before .a .given .1) in let f : ExpNeeds (c .before .before .before .before .before .before .before .before .before .args .t .now) (c .before .before .before .before .before .before .before .before .before .args .widths .now) (c .before .before .before .before .before .before .before .before .before .args .r) (Identifier (c .before .before .a .given .0 .0)) = exp-needs (c .before .before .before .before .before .before .before .before .before .args .t .now) (c .before .before .before .before .before .before .before .before .before .args .widths .now) (c .before .before .before .before .before .before .before .before .before .args .r) (c .before .before .before .before .before .before .before .before .before .pre .1 .0) (Identifier (c .before .before .a .given .0 .0)) (sym (c .before .before .before .before .shape-at .ensures) ∙ c .before .before .a .given .1) in (omega (arith, f .0, c .before .before .before .before .before .before .before .before .before .pre .1 .2), omega (arith, f .1, c .before .before .before .before .before .before .before .before .before .pre .1 .1))
 
 -- src/cycle.rt:64:22  } ⏎ Shape::Whole(a) => {
 expr-enum-known-a-2 : (t : ℕ) → expr-lts.Need-enum-known-a-2 (
@@ -1134,7 +1144,7 @@ expr-put-whole-requires : (t : ℕ) → expr-lts.Need-put-whole-requires (
   rounds-below t,
   rounds.Post,
 ) (expr-at t) expr.Post
-expr-put-whole-requires t c κs = search needs
+expr-put-whole-requires t c κs = let k : ExpChildren (c .before .before .before .before .before .before .before .before .before .args .t .now) (c .before .before .before .before .before .before .before .before .before .args .widths .now) (c .before .before .before .before .before .before .before .before .before .args .r) (Whole (c .before .before .a2 .given .0 .0)) = exp-children (c .before .before .before .before .before .before .before .before .before .args .t .now) (c .before .before .before .before .before .before .before .before .before .args .widths .now) (c .before .before .before .before .before .before .before .before .before .args .r) (c .before .before .before .before .before .before .before .before .before .pre .1 .0) (Whole (c .before .before .a2 .given .0 .0)) (sym (c .before .before .before .before .shape-at .ensures) ∙ c .before .before .a2 .given .1) in let f : ExpNeeds (c .before .before .before .before .before .before .before .before .before .args .t .now) (c .before .before .before .before .before .before .before .before .before .args .widths .now) (c .before .before .before .before .before .before .before .before .before .args .r) (Whole (c .before .before .a2 .given .0 .0)) = exp-needs (c .before .before .before .before .before .before .before .before .before .args .t .now) (c .before .before .before .before .before .before .before .before .before .args .widths .now) (c .before .before .before .before .before .before .before .before .before .args .r) (c .before .before .before .before .before .before .before .before .before .pre .1 .0) (Whole (c .before .before .a2 .given .0 .0)) (sym (c .before .before .before .before .shape-at .ensures) ∙ c .before .before .a2 .given .1) in (omega (arith, f .0, c .before .before .before .before .before .before .before .before .before .pre .1 .2), f .1)
 
 -- src/cycle.rt:68:22  } ⏎ Shape::Truth(a) => {
 expr-enum-known-a-3 : (t : ℕ) → expr-lts.Need-enum-known-a-3 (
@@ -1192,7 +1202,7 @@ expr-put-truth-requires : (t : ℕ) → expr-lts.Need-put-truth-requires (
   rounds-below t,
   rounds.Post,
 ) (expr-at t) expr.Post
-expr-put-truth-requires t c κs = search needs
+expr-put-truth-requires t c κs = let k : ExpChildren (c .before .before .before .before .before .before .before .before .before .args .t .now) (c .before .before .before .before .before .before .before .before .before .args .widths .now) (c .before .before .before .before .before .before .before .before .before .args .r) (Truth (c .before .before .a3 .given .0 .0)) = exp-children (c .before .before .before .before .before .before .before .before .before .args .t .now) (c .before .before .before .before .before .before .before .before .before .args .widths .now) (c .before .before .before .before .before .before .before .before .before .args .r) (c .before .before .before .before .before .before .before .before .before .pre .1 .0) (Truth (c .before .before .a3 .given .0 .0)) (sym (c .before .before .before .before .shape-at .ensures) ∙ c .before .before .a3 .given .1) in let f : ExpNeeds (c .before .before .before .before .before .before .before .before .before .args .t .now) (c .before .before .before .before .before .before .before .before .before .args .widths .now) (c .before .before .before .before .before .before .before .before .before .args .r) (Truth (c .before .before .a3 .given .0 .0)) = exp-needs (c .before .before .before .before .before .before .before .before .before .args .t .now) (c .before .before .before .before .before .before .before .before .before .args .widths .now) (c .before .before .before .before .before .before .before .before .before .args .r) (c .before .before .before .before .before .before .before .before .before .pre .1 .0) (Truth (c .before .before .a3 .given .0 .0)) (sym (c .before .before .before .before .shape-at .ensures) ∙ c .before .before .a3 .given .1) in omega (arith, f, c .before .before .before .before .before .before .before .before .before .pre .1 .2)
 
 -- src/cycle.rt:72:21  } ⏎ Shape::Pair(a, b) => match expr(t, widths, a, env, out, at, left) {
 expr-enum-known-a-4 : (t : ℕ) → expr-lts.Need-enum-known-a-4 (
@@ -1250,7 +1260,7 @@ expr-expr-requires : (t : ℕ) → expr-lts.Need-expr-requires (
   rounds-below t,
   rounds.Post,
 ) (expr-at t) expr.Post
-expr-expr-requires t c κs = search needs
+expr-expr-requires t c κs = let k : ExpChildren (c .before .before .before .before .before .before .before .before .before .args .t .now) (c .before .before .before .before .before .before .before .before .before .args .widths .now) (c .before .before .before .before .before .before .before .before .before .args .r) (Pair (c .before .before .a4 .given .0 .0) (c .before .before .a4 .given .0 .1 .0)) = exp-children (c .before .before .before .before .before .before .before .before .before .args .t .now) (c .before .before .before .before .before .before .before .before .before .args .widths .now) (c .before .before .before .before .before .before .before .before .before .args .r) (c .before .before .before .before .before .before .before .before .before .pre .1 .0) (Pair (c .before .before .a4 .given .0 .0) (c .before .before .a4 .given .0 .1 .0)) (sym (c .before .before .before .before .shape-at .ensures) ∙ c .before .before .a4 .given .1) in let f : ExpNeeds (c .before .before .before .before .before .before .before .before .before .args .t .now) (c .before .before .before .before .before .before .before .before .before .args .widths .now) (c .before .before .before .before .before .before .before .before .before .args .r) (Pair (c .before .before .a4 .given .0 .0) (c .before .before .a4 .given .0 .1 .0)) = exp-needs (c .before .before .before .before .before .before .before .before .before .args .t .now) (c .before .before .before .before .before .before .before .before .before .args .widths .now) (c .before .before .before .before .before .before .before .before .before .args .r) (c .before .before .before .before .before .before .before .before .before .pre .1 .0) (Pair (c .before .before .a4 .given .0 .0) (c .before .before .a4 .given .0 .1 .0)) (sym (c .before .before .before .before .shape-at .ensures) ∙ c .before .before .a4 .given .1) in (omega (arith, k .0 .1), (k .0 .0, c .before .before .before .before .before .before .before .before .before .pre .1 .1, omega (arith, f, c .before .before .before .before .before .before .before .before .before .pre .1 .2)))
 
 -- src/cycle.rt:73:28  Shape::Pair(a, b) => match expr(t, widths, a, env, out, at, left) { ⏎ Rest::Short => Rest::Short,
 expr-enum-told : (t : ℕ) → expr-lts.Need-enum-told (
@@ -1337,7 +1347,7 @@ expr-width-at-requires : (t : ℕ) → expr-lts.Need-width-at-requires (
   rounds-below t,
   rounds.Post,
 ) (expr-at t) expr.Post
-expr-width-at-requires t c κs = search needs
+expr-width-at-requires t c κs = let k : ExpChildren (c .before .before .before .before .before .before .before .before .before .before .before .before .before .before .before .before .args .t .now) (c .before .before .before .before .before .before .before .before .before .before .before .before .before .before .before .before .args .widths .now) (c .before .before .before .before .before .before .before .before .before .before .before .before .before .before .before .before .args .r) (Pair (c .before .before .before .before .before .before .before .before .before .a4 .given .0 .0) (c .before .before .before .before .before .before .before .before .before .a4 .given .0 .1 .0)) = exp-children (c .before .before .before .before .before .before .before .before .before .before .before .before .before .before .before .before .args .t .now) (c .before .before .before .before .before .before .before .before .before .before .before .before .before .before .before .before .args .widths .now) (c .before .before .before .before .before .before .before .before .before .before .before .before .before .before .before .before .args .r) (c .before .before .before .before .before .before .before .before .before .before .before .before .before .before .before .before .pre .1 .0) (Pair (c .before .before .before .before .before .before .before .before .before .a4 .given .0 .0) (c .before .before .before .before .before .before .before .before .before .a4 .given .0 .1 .0)) (sym (c .before .before .before .before .before .before .before .before .before .before .before .shape-at .ensures) ∙ c .before .before .before .before .before .before .before .before .before .a4 .given .1) in let f : ExpNeeds (c .before .before .before .before .before .before .before .before .before .before .before .before .before .before .before .before .args .t .now) (c .before .before .before .before .before .before .before .before .before .before .before .before .before .before .before .before .args .widths .now) (c .before .before .before .before .before .before .before .before .before .before .before .before .before .before .before .before .args .r) (Pair (c .before .before .before .before .before .before .before .before .before .a4 .given .0 .0) (c .before .before .before .before .before .before .before .before .before .a4 .given .0 .1 .0)) = exp-needs (c .before .before .before .before .before .before .before .before .before .before .before .before .before .before .before .before .args .t .now) (c .before .before .before .before .before .before .before .before .before .before .before .before .before .before .before .before .args .widths .now) (c .before .before .before .before .before .before .before .before .before .before .before .before .before .before .before .before .args .r) (c .before .before .before .before .before .before .before .before .before .before .before .before .before .before .before .before .pre .1 .0) (Pair (c .before .before .before .before .before .before .before .before .before .a4 .given .0 .0) (c .before .before .before .before .before .before .before .before .before .a4 .given .0 .1 .0)) (sym (c .before .before .before .before .before .before .before .before .before .before .before .shape-at .ensures) ∙ c .before .before .before .before .before .before .before .before .before .a4 .given .1) in (k .0 .0 .low, omega (arith, k .0 .0 .high, k .0 .0 .accepted .table))
 
 -- src/cycle.rt:74:59  Rest::Short => Rest::Short, ⏎ Rest::Left(l) => expr(t, widths, b, env, out, at + width_at(widths, a), l),
 expr-add-expr : (t : ℕ) → expr-lts.Need-add-expr (
@@ -1395,7 +1405,7 @@ expr-expr-requires-2 : (t : ℕ) → expr-lts.Need-expr-requires-2 (
   rounds-below t,
   rounds.Post,
 ) (expr-at t) expr.Post
-expr-expr-requires-2 t c κs = search needs
+expr-expr-requires-2 t c κs = let k : ExpChildren (c .before .before .before .before .before .before .before .before .before .before .before .before .before .before .before .before .before .args .t .now) (c .before .before .before .before .before .before .before .before .before .before .before .before .before .before .before .before .before .args .widths .now) (c .before .before .before .before .before .before .before .before .before .before .before .before .before .before .before .before .before .args .r) (Pair (c .before .before .before .before .before .before .before .before .before .before .a4 .given .0 .0) (c .before .before .before .before .before .before .before .before .before .before .a4 .given .0 .1 .0)) = exp-children (c .before .before .before .before .before .before .before .before .before .before .before .before .before .before .before .before .before .args .t .now) (c .before .before .before .before .before .before .before .before .before .before .before .before .before .before .before .before .before .args .widths .now) (c .before .before .before .before .before .before .before .before .before .before .before .before .before .before .before .before .before .args .r) (c .before .before .before .before .before .before .before .before .before .before .before .before .before .before .before .before .before .pre .1 .0) (Pair (c .before .before .before .before .before .before .before .before .before .before .a4 .given .0 .0) (c .before .before .before .before .before .before .before .before .before .before .a4 .given .0 .1 .0)) (sym (c .before .before .before .before .before .before .before .before .before .before .before .before .shape-at .ensures) ∙ c .before .before .before .before .before .before .before .before .before .before .a4 .given .1) in let f : ExpNeeds (c .before .before .before .before .before .before .before .before .before .before .before .before .before .before .before .before .before .args .t .now) (c .before .before .before .before .before .before .before .before .before .before .before .before .before .before .before .before .before .args .widths .now) (c .before .before .before .before .before .before .before .before .before .before .before .before .before .before .before .before .before .args .r) (Pair (c .before .before .before .before .before .before .before .before .before .before .a4 .given .0 .0) (c .before .before .before .before .before .before .before .before .before .before .a4 .given .0 .1 .0)) = exp-needs (c .before .before .before .before .before .before .before .before .before .before .before .before .before .before .before .before .before .args .t .now) (c .before .before .before .before .before .before .before .before .before .before .before .before .before .before .before .before .before .args .widths .now) (c .before .before .before .before .before .before .before .before .before .before .before .before .before .before .before .before .before .args .r) (c .before .before .before .before .before .before .before .before .before .before .before .before .before .before .before .before .before .pre .1 .0) (Pair (c .before .before .before .before .before .before .before .before .before .before .a4 .given .0 .0) (c .before .before .before .before .before .before .before .before .before .before .a4 .given .0 .1 .0)) (sym (c .before .before .before .before .before .before .before .before .before .before .before .before .shape-at .ensures) ∙ c .before .before .before .before .before .before .before .before .before .before .a4 .given .1) in (omega (arith, k .1 .1), (k .1 .0, c .before .before .before .before .before .before .before .before .before .before .before .before .before .before .before .before .before .pre .1 .1, omega (arith, f, c .before .before .before .before .before .before .before .before .before .before .before .before .before .before .before .before .before .pre .1 .2, c .width-at .ensures .0, c .before .before .before .before .before .before .before .expr .ensures .1)))
 
 -- src/cycle.rt:76:25  }, ⏎ Shape::Operator(code, b) => {
 expr-enum-known-code : (t : ℕ) → expr-lts.Need-enum-known-code (
@@ -1482,7 +1492,7 @@ expr-expr-requires-3 : (t : ℕ) → expr-lts.Need-expr-requires-3 (
   rounds-below t,
   rounds.Post,
 ) (expr-at t) expr.Post
-expr-expr-requires-3 t c κs = search needs
+expr-expr-requires-3 t c κs = let k : ExpChildren (c .before .before .before .before .before .before .before .before .before .args .t .now) (c .before .before .before .before .before .before .before .before .before .args .widths .now) (c .before .before .before .before .before .before .before .before .before .args .r) (Operator (c .before .before .code .given .0 .0) (c .before .before .code .given .0 .1 .0)) = exp-children (c .before .before .before .before .before .before .before .before .before .args .t .now) (c .before .before .before .before .before .before .before .before .before .args .widths .now) (c .before .before .before .before .before .before .before .before .before .args .r) (c .before .before .before .before .before .before .before .before .before .pre .1 .0) (Operator (c .before .before .code .given .0 .0) (c .before .before .code .given .0 .1 .0)) (sym (c .before .before .before .before .shape-at .ensures) ∙ c .before .before .code .given .1) in let f : ExpNeeds (c .before .before .before .before .before .before .before .before .before .args .t .now) (c .before .before .before .before .before .before .before .before .before .args .widths .now) (c .before .before .before .before .before .before .before .before .before .args .r) (Operator (c .before .before .code .given .0 .0) (c .before .before .code .given .0 .1 .0)) = exp-needs (c .before .before .before .before .before .before .before .before .before .args .t .now) (c .before .before .before .before .before .before .before .before .before .args .widths .now) (c .before .before .before .before .before .before .before .before .before .args .r) (c .before .before .before .before .before .before .before .before .before .pre .1 .0) (Operator (c .before .before .code .given .0 .0) (c .before .before .code .given .0 .1 .0)) (sym (c .before .before .before .before .shape-at .ensures) ∙ c .before .before .code .given .1) in (omega (arith, k .1), (k .0, c .before .before .before .before .before .before .before .before .before .pre .1 .1, omega (arith, f .1)))
 
 -- src/cycle.rt:79:32  match expr(t, widths, b, env, &mut operands, 0, left) { ⏎ Rest::Short => Rest::Short,
 expr-enum-told-2 : (t : ℕ) → expr-lts.Need-enum-told-2 (
@@ -1598,7 +1608,7 @@ expr-put-operator-requires : (t : ℕ) → expr-lts.Need-put-operator-requires (
   rounds-below t,
   rounds.Post,
 ) (expr-at t) expr.Post
-expr-put-operator-requires t c κs = search needs
+expr-put-operator-requires t c κs = let k : ExpChildren (c .before .before .before .before .before .before .before .before .before .before .before .before .before .before .before .before .args .t .now) (c .before .before .before .before .before .before .before .before .before .before .before .before .before .before .before .before .args .widths .now) (c .before .before .before .before .before .before .before .before .before .before .before .before .before .before .before .before .args .r) (Operator (c .before .before .before .before .before .before .before .before .before .code .given .0 .0) (c .before .before .before .before .before .before .before .before .before .code .given .0 .1 .0)) = exp-children (c .before .before .before .before .before .before .before .before .before .before .before .before .before .before .before .before .args .t .now) (c .before .before .before .before .before .before .before .before .before .before .before .before .before .before .before .before .args .widths .now) (c .before .before .before .before .before .before .before .before .before .before .before .before .before .before .before .before .args .r) (c .before .before .before .before .before .before .before .before .before .before .before .before .before .before .before .before .pre .1 .0) (Operator (c .before .before .before .before .before .before .before .before .before .code .given .0 .0) (c .before .before .before .before .before .before .before .before .before .code .given .0 .1 .0)) (sym (c .before .before .before .before .before .before .before .before .before .before .before .shape-at .ensures) ∙ c .before .before .before .before .before .before .before .before .before .code .given .1) in let f : ExpNeeds (c .before .before .before .before .before .before .before .before .before .before .before .before .before .before .before .before .args .t .now) (c .before .before .before .before .before .before .before .before .before .before .before .before .before .before .before .before .args .widths .now) (c .before .before .before .before .before .before .before .before .before .before .before .before .before .before .before .before .args .r) (Operator (c .before .before .before .before .before .before .before .before .before .code .given .0 .0) (c .before .before .before .before .before .before .before .before .before .code .given .0 .1 .0)) = exp-needs (c .before .before .before .before .before .before .before .before .before .before .before .before .before .before .before .before .args .t .now) (c .before .before .before .before .before .before .before .before .before .before .before .before .before .before .before .before .args .widths .now) (c .before .before .before .before .before .before .before .before .before .before .before .before .before .before .before .before .args .r) (c .before .before .before .before .before .before .before .before .before .before .before .before .before .before .before .before .pre .1 .0) (Operator (c .before .before .before .before .before .before .before .before .before .code .given .0 .0) (c .before .before .before .before .before .before .before .before .before .code .given .0 .1 .0)) (sym (c .before .before .before .before .before .before .before .before .before .before .before .shape-at .ensures) ∙ c .before .before .before .before .before .before .before .before .before .code .given .1) in (omega (arith, f .0, c .before .before .before .before .before .before .before .before .before .before .before .before .before .before .before .before .pre .1 .2), f .2, omega (arith, c .before .before .before .before .before .before .expr3 .ensures .1))
 
 -- src/cycle.rt:86:20  } ⏎ Shape::Let(a, _, c, d) => {
 expr-enum-known-a-5 : (t : ℕ) → expr-lts.Need-enum-known-a-5 (
@@ -1743,7 +1753,7 @@ expr-expr-requires-4 : (t : ℕ) → expr-lts.Need-expr-requires-4 (
   rounds-below t,
   rounds.Post,
 ) (expr-at t) expr.Post
-expr-expr-requires-4 t c κs = search needs
+expr-expr-requires-4 t c κs = let k : ExpChildren (c .before .before .before .before .before .before .before .before .before .before .before .args .t .now) (c .before .before .before .before .before .before .before .before .before .before .before .args .widths .now) (c .before .before .before .before .before .before .before .before .before .before .before .args .r) (Let (c .before .before .before .before .a5 .given .0 .0) (c .before .before .before .before .a5 .given .0 .1 .0) (c .before .before .before .before .a5 .given .0 .1 .1 .0) (c .before .before .before .before .a5 .given .0 .1 .1 .1 .0)) = exp-children (c .before .before .before .before .before .before .before .before .before .before .before .args .t .now) (c .before .before .before .before .before .before .before .before .before .before .before .args .widths .now) (c .before .before .before .before .before .before .before .before .before .before .before .args .r) (c .before .before .before .before .before .before .before .before .before .before .before .pre .1 .0) (Let (c .before .before .before .before .a5 .given .0 .0) (c .before .before .before .before .a5 .given .0 .1 .0) (c .before .before .before .before .a5 .given .0 .1 .1 .0) (c .before .before .before .before .a5 .given .0 .1 .1 .1 .0)) (sym (c .before .before .before .before .before .before .shape-at .ensures) ∙ c .before .before .before .before .a5 .given .1) in let f : ExpNeeds (c .before .before .before .before .before .before .before .before .before .before .before .args .t .now) (c .before .before .before .before .before .before .before .before .before .before .before .args .widths .now) (c .before .before .before .before .before .before .before .before .before .before .before .args .r) (Let (c .before .before .before .before .a5 .given .0 .0) (c .before .before .before .before .a5 .given .0 .1 .0) (c .before .before .before .before .a5 .given .0 .1 .1 .0) (c .before .before .before .before .a5 .given .0 .1 .1 .1 .0)) = exp-needs (c .before .before .before .before .before .before .before .before .before .before .before .args .t .now) (c .before .before .before .before .before .before .before .before .before .before .before .args .widths .now) (c .before .before .before .before .before .before .before .before .before .before .before .args .r) (c .before .before .before .before .before .before .before .before .before .before .before .pre .1 .0) (Let (c .before .before .before .before .a5 .given .0 .0) (c .before .before .before .before .a5 .given .0 .1 .0) (c .before .before .before .before .a5 .given .0 .1 .1 .0) (c .before .before .before .before .a5 .given .0 .1 .1 .1 .0)) (sym (c .before .before .before .before .before .before .shape-at .ensures) ∙ c .before .before .before .before .a5 .given .1) in (omega (arith, k .0 .1), (k .0 .0, c .before .before .before .before .before .before .before .before .before .before .before .pre .1 .1, omega (arith, f .0, f .1, c .wide .ensures, ap length (c .before .before .copied .ensures), c .before .before .before .before .before .before .before .before .before .before .before .pre .1 .1)))
 
 -- src/cycle.rt:89:32  match expr(t, widths, c, env, &mut inner, wide(a), left) { ⏎ Rest::Short => Rest::Short,
 expr-enum-told-3 : (t : ℕ) → expr-lts.Need-enum-told-3 (
@@ -1859,7 +1869,7 @@ expr-expr-requires-5 : (t : ℕ) → expr-lts.Need-expr-requires-5 (
   rounds-below t,
   rounds.Post,
 ) (expr-at t) expr.Post
-expr-expr-requires-5 t c κs = search needs
+expr-expr-requires-5 t c κs = let k : ExpChildren (c .before .before .before .before .before .before .before .before .before .before .before .before .before .before .before .before .before .before .args .t .now) (c .before .before .before .before .before .before .before .before .before .before .before .before .before .before .before .before .before .before .args .widths .now) (c .before .before .before .before .before .before .before .before .before .before .before .before .before .before .before .before .before .before .args .r) (Let (c .before .before .before .before .before .before .before .before .before .before .before .a5 .given .0 .0) (c .before .before .before .before .before .before .before .before .before .before .before .a5 .given .0 .1 .0) (c .before .before .before .before .before .before .before .before .before .before .before .a5 .given .0 .1 .1 .0) (c .before .before .before .before .before .before .before .before .before .before .before .a5 .given .0 .1 .1 .1 .0)) = exp-children (c .before .before .before .before .before .before .before .before .before .before .before .before .before .before .before .before .before .before .args .t .now) (c .before .before .before .before .before .before .before .before .before .before .before .before .before .before .before .before .before .before .args .widths .now) (c .before .before .before .before .before .before .before .before .before .before .before .before .before .before .before .before .before .before .args .r) (c .before .before .before .before .before .before .before .before .before .before .before .before .before .before .before .before .before .before .pre .1 .0) (Let (c .before .before .before .before .before .before .before .before .before .before .before .a5 .given .0 .0) (c .before .before .before .before .before .before .before .before .before .before .before .a5 .given .0 .1 .0) (c .before .before .before .before .before .before .before .before .before .before .before .a5 .given .0 .1 .1 .0) (c .before .before .before .before .before .before .before .before .before .before .before .a5 .given .0 .1 .1 .1 .0)) (sym (c .before .before .before .before .before .before .before .before .before .before .before .before .before .shape-at .ensures) ∙ c .before .before .before .before .before .before .before .before .before .before .before .a5 .given .1) in let f : ExpNeeds (c .before .before .before .before .before .before .before .before .before .before .before .before .before .before .before .before .before .before .args .t .now) (c .before .before .before .before .before .before .before .before .before .before .before .before .before .before .before .before .before .before .args .widths .now) (c .before .before .before .before .before .before .before .before .before .before .before .before .before .before .before .before .before .before .args .r) (Let (c .before .before .before .before .before .before .before .before .before .before .before .a5 .given .0 .0) (c .before .before .before .before .before .before .before .before .before .before .before .a5 .given .0 .1 .0) (c .before .before .before .before .before .before .before .before .before .before .before .a5 .given .0 .1 .1 .0) (c .before .before .before .before .before .before .before .before .before .before .before .a5 .given .0 .1 .1 .1 .0)) = exp-needs (c .before .before .before .before .before .before .before .before .before .before .before .before .before .before .before .before .before .before .args .t .now) (c .before .before .before .before .before .before .before .before .before .before .before .before .before .before .before .before .before .before .args .widths .now) (c .before .before .before .before .before .before .before .before .before .before .before .before .before .before .before .before .before .before .args .r) (c .before .before .before .before .before .before .before .before .before .before .before .before .before .before .before .before .before .before .pre .1 .0) (Let (c .before .before .before .before .before .before .before .before .before .before .before .a5 .given .0 .0) (c .before .before .before .before .before .before .before .before .before .before .before .a5 .given .0 .1 .0) (c .before .before .before .before .before .before .before .before .before .before .before .a5 .given .0 .1 .1 .0) (c .before .before .before .before .before .before .before .before .before .before .before .a5 .given .0 .1 .1 .1 .0)) (sym (c .before .before .before .before .before .before .before .before .before .before .before .before .before .shape-at .ensures) ∙ c .before .before .before .before .before .before .before .before .before .before .before .a5 .given .1) in (omega (arith, k .1 .1), (k .1 .0, c .before .before .before .before .before .before .expr4 .ensures .1 ∙ ap length (c .before .before .before .before .before .before .before .before .before .copied .ensures) ∙ c .before .before .before .before .before .before .before .before .before .before .before .before .before .before .before .before .before .before .pre .1 .1, omega (arith, f .2, c .before .before .before .before .before .before .before .before .before .before .before .before .before .before .before .before .before .before .pre .1 .2)))
 
 -- src/cycle.rt:93:19  } ⏎ Shape::If(a, b, c) => {
 expr-enum-known-a-6 : (t : ℕ) → expr-lts.Need-enum-known-a-6 (
@@ -1946,7 +1956,7 @@ expr-expr-requires-6 : (t : ℕ) → expr-lts.Need-expr-requires-6 (
   rounds-below t,
   rounds.Post,
 ) (expr-at t) expr.Post
-expr-expr-requires-6 t c κs = search needs
+expr-expr-requires-6 t c κs = let k : ExpChildren (c .before .before .before .before .before .before .before .before .before .args .t .now) (c .before .before .before .before .before .before .before .before .before .args .widths .now) (c .before .before .before .before .before .before .before .before .before .args .r) (If (c .before .before .a6 .given .0 .0) (c .before .before .a6 .given .0 .1 .0) (c .before .before .a6 .given .0 .1 .1 .0)) = exp-children (c .before .before .before .before .before .before .before .before .before .args .t .now) (c .before .before .before .before .before .before .before .before .before .args .widths .now) (c .before .before .before .before .before .before .before .before .before .args .r) (c .before .before .before .before .before .before .before .before .before .pre .1 .0) (If (c .before .before .a6 .given .0 .0) (c .before .before .a6 .given .0 .1 .0) (c .before .before .a6 .given .0 .1 .1 .0)) (sym (c .before .before .before .before .shape-at .ensures) ∙ c .before .before .a6 .given .1) in let f : ExpNeeds (c .before .before .before .before .before .before .before .before .before .args .t .now) (c .before .before .before .before .before .before .before .before .before .args .widths .now) (c .before .before .before .before .before .before .before .before .before .args .r) (If (c .before .before .a6 .given .0 .0) (c .before .before .a6 .given .0 .1 .0) (c .before .before .a6 .given .0 .1 .1 .0)) = exp-needs (c .before .before .before .before .before .before .before .before .before .args .t .now) (c .before .before .before .before .before .before .before .before .before .args .widths .now) (c .before .before .before .before .before .before .before .before .before .args .r) (c .before .before .before .before .before .before .before .before .before .pre .1 .0) (If (c .before .before .a6 .given .0 .0) (c .before .before .a6 .given .0 .1 .0) (c .before .before .a6 .given .0 .1 .1 .0)) (sym (c .before .before .before .before .shape-at .ensures) ∙ c .before .before .a6 .given .1) in (omega (arith, k .0 .1), (k .0 .0, c .before .before .before .before .before .before .before .before .before .pre .1 .1, omega (arith, f .0)))
 
 -- src/cycle.rt:96:32  match expr(t, widths, a, env, &mut test, 0, left) { ⏎ Rest::Short => Rest::Short,
 expr-enum-told-4 : (t : ℕ) → expr-lts.Need-enum-told-4 (
@@ -2120,7 +2130,7 @@ expr-expr-requires-7 : (t : ℕ) → expr-lts.Need-expr-requires-7 (
   rounds-below t,
   rounds.Post,
 ) (expr-at t) expr.Post
-expr-expr-requires-7 t c κs = search needs
+expr-expr-requires-7 t c κs = let k : ExpChildren (c .before .before .before .before .before .before .before .before .before .before .before .before .before .before .before .before .before .before .before .args .t .now) (c .before .before .before .before .before .before .before .before .before .before .before .before .before .before .before .before .before .before .before .args .widths .now) (c .before .before .before .before .before .before .before .before .before .before .before .before .before .before .before .before .before .before .before .args .r) (If (c .before .before .before .before .before .before .before .before .before .before .before .before .a6 .given .0 .0) (c .before .before .before .before .before .before .before .before .before .before .before .before .a6 .given .0 .1 .0) (c .before .before .before .before .before .before .before .before .before .before .before .before .a6 .given .0 .1 .1 .0)) = exp-children (c .before .before .before .before .before .before .before .before .before .before .before .before .before .before .before .before .before .before .before .args .t .now) (c .before .before .before .before .before .before .before .before .before .before .before .before .before .before .before .before .before .before .before .args .widths .now) (c .before .before .before .before .before .before .before .before .before .before .before .before .before .before .before .before .before .before .before .args .r) (c .before .before .before .before .before .before .before .before .before .before .before .before .before .before .before .before .before .before .before .pre .1 .0) (If (c .before .before .before .before .before .before .before .before .before .before .before .before .a6 .given .0 .0) (c .before .before .before .before .before .before .before .before .before .before .before .before .a6 .given .0 .1 .0) (c .before .before .before .before .before .before .before .before .before .before .before .before .a6 .given .0 .1 .1 .0)) (sym (c .before .before .before .before .before .before .before .before .before .before .before .before .before .before .shape-at .ensures) ∙ c .before .before .before .before .before .before .before .before .before .before .before .before .a6 .given .1) in let f : ExpNeeds (c .before .before .before .before .before .before .before .before .before .before .before .before .before .before .before .before .before .before .before .args .t .now) (c .before .before .before .before .before .before .before .before .before .before .before .before .before .before .before .before .before .before .before .args .widths .now) (c .before .before .before .before .before .before .before .before .before .before .before .before .before .before .before .before .before .before .before .args .r) (If (c .before .before .before .before .before .before .before .before .before .before .before .before .a6 .given .0 .0) (c .before .before .before .before .before .before .before .before .before .before .before .before .a6 .given .0 .1 .0) (c .before .before .before .before .before .before .before .before .before .before .before .before .a6 .given .0 .1 .1 .0)) = exp-needs (c .before .before .before .before .before .before .before .before .before .before .before .before .before .before .before .before .before .before .before .args .t .now) (c .before .before .before .before .before .before .before .before .before .before .before .before .before .before .before .before .before .before .before .args .widths .now) (c .before .before .before .before .before .before .before .before .before .before .before .before .before .before .before .before .before .before .before .args .r) (c .before .before .before .before .before .before .before .before .before .before .before .before .before .before .before .before .before .before .before .pre .1 .0) (If (c .before .before .before .before .before .before .before .before .before .before .before .before .a6 .given .0 .0) (c .before .before .before .before .before .before .before .before .before .before .before .before .a6 .given .0 .1 .0) (c .before .before .before .before .before .before .before .before .before .before .before .before .a6 .given .0 .1 .1 .0)) (sym (c .before .before .before .before .before .before .before .before .before .before .before .before .before .before .shape-at .ensures) ∙ c .before .before .before .before .before .before .before .before .before .before .before .before .a6 .given .1) in (omega (arith, k .1 .1), (k .1 .0, c .before .before .before .before .before .before .before .before .before .before .before .before .before .before .before .before .before .before .before .pre .1 .1, omega (arith, f .1, c .before .before .before .before .before .before .before .before .before .before .before .before .before .before .before .before .before .before .before .pre .1 .2)))
 
 -- src/cycle.rt:99:63  Choice::First => expr(t, widths, b, env, out, at, l), ⏎ Choice::Second => expr(t, widths, c, env, out, at, l),
 expr-enum-told-6 : (t : ℕ) → expr-lts.Need-enum-told-6 (
@@ -2178,7 +2188,7 @@ expr-expr-requires-8 : (t : ℕ) → expr-lts.Need-expr-requires-8 (
   rounds-below t,
   rounds.Post,
 ) (expr-at t) expr.Post
-expr-expr-requires-8 t c κs = search needs
+expr-expr-requires-8 t c κs = let k : ExpChildren (c .before .before .before .before .before .before .before .before .before .before .before .before .before .before .before .before .before .before .before .args .t .now) (c .before .before .before .before .before .before .before .before .before .before .before .before .before .before .before .before .before .before .before .args .widths .now) (c .before .before .before .before .before .before .before .before .before .before .before .before .before .before .before .before .before .before .before .args .r) (If (c .before .before .before .before .before .before .before .before .before .before .before .before .a6 .given .0 .0) (c .before .before .before .before .before .before .before .before .before .before .before .before .a6 .given .0 .1 .0) (c .before .before .before .before .before .before .before .before .before .before .before .before .a6 .given .0 .1 .1 .0)) = exp-children (c .before .before .before .before .before .before .before .before .before .before .before .before .before .before .before .before .before .before .before .args .t .now) (c .before .before .before .before .before .before .before .before .before .before .before .before .before .before .before .before .before .before .before .args .widths .now) (c .before .before .before .before .before .before .before .before .before .before .before .before .before .before .before .before .before .before .before .args .r) (c .before .before .before .before .before .before .before .before .before .before .before .before .before .before .before .before .before .before .before .pre .1 .0) (If (c .before .before .before .before .before .before .before .before .before .before .before .before .a6 .given .0 .0) (c .before .before .before .before .before .before .before .before .before .before .before .before .a6 .given .0 .1 .0) (c .before .before .before .before .before .before .before .before .before .before .before .before .a6 .given .0 .1 .1 .0)) (sym (c .before .before .before .before .before .before .before .before .before .before .before .before .before .before .shape-at .ensures) ∙ c .before .before .before .before .before .before .before .before .before .before .before .before .a6 .given .1) in let f : ExpNeeds (c .before .before .before .before .before .before .before .before .before .before .before .before .before .before .before .before .before .before .before .args .t .now) (c .before .before .before .before .before .before .before .before .before .before .before .before .before .before .before .before .before .before .before .args .widths .now) (c .before .before .before .before .before .before .before .before .before .before .before .before .before .before .before .before .before .before .before .args .r) (If (c .before .before .before .before .before .before .before .before .before .before .before .before .a6 .given .0 .0) (c .before .before .before .before .before .before .before .before .before .before .before .before .a6 .given .0 .1 .0) (c .before .before .before .before .before .before .before .before .before .before .before .before .a6 .given .0 .1 .1 .0)) = exp-needs (c .before .before .before .before .before .before .before .before .before .before .before .before .before .before .before .before .before .before .before .args .t .now) (c .before .before .before .before .before .before .before .before .before .before .before .before .before .before .before .before .before .before .before .args .widths .now) (c .before .before .before .before .before .before .before .before .before .before .before .before .before .before .before .before .before .before .before .args .r) (c .before .before .before .before .before .before .before .before .before .before .before .before .before .before .before .before .before .before .before .pre .1 .0) (If (c .before .before .before .before .before .before .before .before .before .before .before .before .a6 .given .0 .0) (c .before .before .before .before .before .before .before .before .before .before .before .before .a6 .given .0 .1 .0) (c .before .before .before .before .before .before .before .before .before .before .before .before .a6 .given .0 .1 .1 .0)) (sym (c .before .before .before .before .before .before .before .before .before .before .before .before .before .before .shape-at .ensures) ∙ c .before .before .before .before .before .before .before .before .before .before .before .before .a6 .given .1) in (omega (arith, k .2 .1), (k .2 .0, c .before .before .before .before .before .before .before .before .before .before .before .before .before .before .before .before .before .before .before .pre .1 .1, omega (arith, f .2, c .before .before .before .before .before .before .before .before .before .before .before .before .before .before .before .before .before .before .before .pre .1 .2)))
 
 -- src/cycle.rt:101:34  Choice::Neither => { ⏎ put_errs(out, at, width_at(widths, b));
 expr-enum-told-7 : (t : ℕ) → expr-lts.Need-enum-told-7 (
@@ -2236,7 +2246,7 @@ expr-width-at-requires-2 : (t : ℕ) → expr-lts.Need-width-at-requires-2 (
   rounds-below t,
   rounds.Post,
 ) (expr-at t) expr.Post
-expr-width-at-requires-2 t c κs = search needs
+expr-width-at-requires-2 t c κs = let k : ExpChildren (c .before .before .before .before .before .before .before .before .before .before .before .before .before .before .before .before .before .before .before .args .t .now) (c .before .before .before .before .before .before .before .before .before .before .before .before .before .before .before .before .before .before .before .args .widths .now) (c .before .before .before .before .before .before .before .before .before .before .before .before .before .before .before .before .before .before .before .args .r) (If (c .before .before .before .before .before .before .before .before .before .before .before .before .a6 .given .0 .0) (c .before .before .before .before .before .before .before .before .before .before .before .before .a6 .given .0 .1 .0) (c .before .before .before .before .before .before .before .before .before .before .before .before .a6 .given .0 .1 .1 .0)) = exp-children (c .before .before .before .before .before .before .before .before .before .before .before .before .before .before .before .before .before .before .before .args .t .now) (c .before .before .before .before .before .before .before .before .before .before .before .before .before .before .before .before .before .before .before .args .widths .now) (c .before .before .before .before .before .before .before .before .before .before .before .before .before .before .before .before .before .before .before .args .r) (c .before .before .before .before .before .before .before .before .before .before .before .before .before .before .before .before .before .before .before .pre .1 .0) (If (c .before .before .before .before .before .before .before .before .before .before .before .before .a6 .given .0 .0) (c .before .before .before .before .before .before .before .before .before .before .before .before .a6 .given .0 .1 .0) (c .before .before .before .before .before .before .before .before .before .before .before .before .a6 .given .0 .1 .1 .0)) (sym (c .before .before .before .before .before .before .before .before .before .before .before .before .before .before .shape-at .ensures) ∙ c .before .before .before .before .before .before .before .before .before .before .before .before .a6 .given .1) in let f : ExpNeeds (c .before .before .before .before .before .before .before .before .before .before .before .before .before .before .before .before .before .before .before .args .t .now) (c .before .before .before .before .before .before .before .before .before .before .before .before .before .before .before .before .before .before .before .args .widths .now) (c .before .before .before .before .before .before .before .before .before .before .before .before .before .before .before .before .before .before .before .args .r) (If (c .before .before .before .before .before .before .before .before .before .before .before .before .a6 .given .0 .0) (c .before .before .before .before .before .before .before .before .before .before .before .before .a6 .given .0 .1 .0) (c .before .before .before .before .before .before .before .before .before .before .before .before .a6 .given .0 .1 .1 .0)) = exp-needs (c .before .before .before .before .before .before .before .before .before .before .before .before .before .before .before .before .before .before .before .args .t .now) (c .before .before .before .before .before .before .before .before .before .before .before .before .before .before .before .before .before .before .before .args .widths .now) (c .before .before .before .before .before .before .before .before .before .before .before .before .before .before .before .before .before .before .before .args .r) (c .before .before .before .before .before .before .before .before .before .before .before .before .before .before .before .before .before .before .before .pre .1 .0) (If (c .before .before .before .before .before .before .before .before .before .before .before .before .a6 .given .0 .0) (c .before .before .before .before .before .before .before .before .before .before .before .before .a6 .given .0 .1 .0) (c .before .before .before .before .before .before .before .before .before .before .before .before .a6 .given .0 .1 .1 .0)) (sym (c .before .before .before .before .before .before .before .before .before .before .before .before .before .before .shape-at .ensures) ∙ c .before .before .before .before .before .before .before .before .before .before .before .before .a6 .given .1) in (k .1 .0 .low, omega (arith, k .1 .0 .high, k .1 .0 .accepted .table))
 
 -- src/cycle.rt:101:25  Choice::Neither => { ⏎ put_errs(out, at, width_at(widths, b));
 expr-put-errs-requires : (t : ℕ) → expr-lts.Need-put-errs-requires (
@@ -2265,7 +2275,7 @@ expr-put-errs-requires : (t : ℕ) → expr-lts.Need-put-errs-requires (
   rounds-below t,
   rounds.Post,
 ) (expr-at t) expr.Post
-expr-put-errs-requires t c κs = search needs
+expr-put-errs-requires t c κs = let k : ExpChildren (c .before .before .before .before .before .before .before .before .before .before .before .before .before .before .before .before .before .before .before .before .args .t .now) (c .before .before .before .before .before .before .before .before .before .before .before .before .before .before .before .before .before .before .before .before .args .widths .now) (c .before .before .before .before .before .before .before .before .before .before .before .before .before .before .before .before .before .before .before .before .args .r) (If (c .before .before .before .before .before .before .before .before .before .before .before .before .before .a6 .given .0 .0) (c .before .before .before .before .before .before .before .before .before .before .before .before .before .a6 .given .0 .1 .0) (c .before .before .before .before .before .before .before .before .before .before .before .before .before .a6 .given .0 .1 .1 .0)) = exp-children (c .before .before .before .before .before .before .before .before .before .before .before .before .before .before .before .before .before .before .before .before .args .t .now) (c .before .before .before .before .before .before .before .before .before .before .before .before .before .before .before .before .before .before .before .before .args .widths .now) (c .before .before .before .before .before .before .before .before .before .before .before .before .before .before .before .before .before .before .before .before .args .r) (c .before .before .before .before .before .before .before .before .before .before .before .before .before .before .before .before .before .before .before .before .pre .1 .0) (If (c .before .before .before .before .before .before .before .before .before .before .before .before .before .a6 .given .0 .0) (c .before .before .before .before .before .before .before .before .before .before .before .before .before .a6 .given .0 .1 .0) (c .before .before .before .before .before .before .before .before .before .before .before .before .before .a6 .given .0 .1 .1 .0)) (sym (c .before .before .before .before .before .before .before .before .before .before .before .before .before .before .before .shape-at .ensures) ∙ c .before .before .before .before .before .before .before .before .before .before .before .before .before .a6 .given .1) in let f : ExpNeeds (c .before .before .before .before .before .before .before .before .before .before .before .before .before .before .before .before .before .before .before .before .args .t .now) (c .before .before .before .before .before .before .before .before .before .before .before .before .before .before .before .before .before .before .before .before .args .widths .now) (c .before .before .before .before .before .before .before .before .before .before .before .before .before .before .before .before .before .before .before .before .args .r) (If (c .before .before .before .before .before .before .before .before .before .before .before .before .before .a6 .given .0 .0) (c .before .before .before .before .before .before .before .before .before .before .before .before .before .a6 .given .0 .1 .0) (c .before .before .before .before .before .before .before .before .before .before .before .before .before .a6 .given .0 .1 .1 .0)) = exp-needs (c .before .before .before .before .before .before .before .before .before .before .before .before .before .before .before .before .before .before .before .before .args .t .now) (c .before .before .before .before .before .before .before .before .before .before .before .before .before .before .before .before .before .before .before .before .args .widths .now) (c .before .before .before .before .before .before .before .before .before .before .before .before .before .before .before .before .before .before .before .before .args .r) (c .before .before .before .before .before .before .before .before .before .before .before .before .before .before .before .before .before .before .before .before .pre .1 .0) (If (c .before .before .before .before .before .before .before .before .before .before .before .before .before .a6 .given .0 .0) (c .before .before .before .before .before .before .before .before .before .before .before .before .before .a6 .given .0 .1 .0) (c .before .before .before .before .before .before .before .before .before .before .before .before .before .a6 .given .0 .1 .1 .0)) (sym (c .before .before .before .before .before .before .before .before .before .before .before .before .before .before .before .shape-at .ensures) ∙ c .before .before .before .before .before .before .before .before .before .before .before .before .before .a6 .given .1) in (omega (arith, f .1, c .before .before .before .before .before .before .before .before .before .before .before .before .before .before .before .before .before .before .before .before .pre .1 .2, c .width-at2 .ensures .0), omega (arith, narrow (c .before .before .before .before .before .before .before .before .before .before .before .before .before .before .before .before .before .before .before .before .args .t .now) (c .before .before .before .before .before .before .before .before .before .before .before .before .before .before .before .before .before .before .before .before .args .widths .now) (c .before .before .before .before .before .before .before .before .before .before .before .before .before .a6 .given .0 .1 .0) (k .1 .0), c .width-at2 .ensures .0))
 
 -- src/cycle.rt:107:20  } ⏎ Shape::For(a, b, c, d) => {
 expr-enum-known-a-7 : (t : ℕ) → expr-lts.Need-enum-known-a-7 (
@@ -2410,7 +2420,7 @@ expr-expr-requires-9 : (t : ℕ) → expr-lts.Need-expr-requires-9 (
   rounds-below t,
   rounds.Post,
 ) (expr-at t) expr.Post
-expr-expr-requires-9 t c κs = search needs
+expr-expr-requires-9 t c κs = let k : ExpChildren (c .before .before .before .before .before .before .before .before .before .before .before .args .t .now) (c .before .before .before .before .before .before .before .before .before .before .before .args .widths .now) (c .before .before .before .before .before .before .before .before .before .before .before .args .r) (For (c .before .before .before .before .a7 .given .0 .0) (c .before .before .before .before .a7 .given .0 .1 .0) (c .before .before .before .before .a7 .given .0 .1 .1 .0) (c .before .before .before .before .a7 .given .0 .1 .1 .1 .0)) = exp-children (c .before .before .before .before .before .before .before .before .before .before .before .args .t .now) (c .before .before .before .before .before .before .before .before .before .before .before .args .widths .now) (c .before .before .before .before .before .before .before .before .before .before .before .args .r) (c .before .before .before .before .before .before .before .before .before .before .before .pre .1 .0) (For (c .before .before .before .before .a7 .given .0 .0) (c .before .before .before .before .a7 .given .0 .1 .0) (c .before .before .before .before .a7 .given .0 .1 .1 .0) (c .before .before .before .before .a7 .given .0 .1 .1 .1 .0)) (sym (c .before .before .before .before .before .before .shape-at .ensures) ∙ c .before .before .before .before .a7 .given .1) in let f : ExpNeeds (c .before .before .before .before .before .before .before .before .before .before .before .args .t .now) (c .before .before .before .before .before .before .before .before .before .before .before .args .widths .now) (c .before .before .before .before .before .before .before .before .before .before .before .args .r) (For (c .before .before .before .before .a7 .given .0 .0) (c .before .before .before .before .a7 .given .0 .1 .0) (c .before .before .before .before .a7 .given .0 .1 .1 .0) (c .before .before .before .before .a7 .given .0 .1 .1 .1 .0)) = exp-needs (c .before .before .before .before .before .before .before .before .before .before .before .args .t .now) (c .before .before .before .before .before .before .before .before .before .before .before .args .widths .now) (c .before .before .before .before .before .before .before .before .before .before .before .args .r) (c .before .before .before .before .before .before .before .before .before .before .before .pre .1 .0) (For (c .before .before .before .before .a7 .given .0 .0) (c .before .before .before .before .a7 .given .0 .1 .0) (c .before .before .before .before .a7 .given .0 .1 .1 .0) (c .before .before .before .before .a7 .given .0 .1 .1 .1 .0)) (sym (c .before .before .before .before .before .before .shape-at .ensures) ∙ c .before .before .before .before .a7 .given .1) in (omega (arith, k .0 .1), (k .0 .0, c .before .before .before .before .before .before .before .before .before .before .before .pre .1 .1, omega (arith, f .0, f .1, c .wide2 .ensures, ap length (c .before .before .copied2 .ensures), c .before .before .before .before .before .before .before .before .before .before .before .pre .1 .1)))
 
 -- src/cycle.rt:110:32  match expr(t, widths, c, env, &mut inner, wide(a), left) { ⏎ Rest::Short => Rest::Short,
 expr-enum-told-8 : (t : ℕ) → expr-lts.Need-enum-told-8 (
@@ -2613,7 +2623,7 @@ expr-rounds-requires : (t : ℕ) → expr-lts.Need-rounds-requires (
   rounds-below t,
   rounds.Post,
 ) (expr-at t) expr.Post
-expr-rounds-requires t c κs = search needs
+expr-rounds-requires t c κs = let k : ExpChildren (c .before .before .before .before .before .before .before .before .before .before .before .before .before .before .before .before .before .before .before .before .before .args .t .now) (c .before .before .before .before .before .before .before .before .before .before .before .before .before .before .before .before .before .before .before .before .before .args .widths .now) (c .before .before .before .before .before .before .before .before .before .before .before .before .before .before .before .before .before .before .before .before .before .args .r) (For (c .before .before .before .before .before .before .before .before .before .before .before .before .before .before .a7 .given .0 .0) (c .before .before .before .before .before .before .before .before .before .before .before .before .before .before .a7 .given .0 .1 .0) (c .before .before .before .before .before .before .before .before .before .before .before .before .before .before .a7 .given .0 .1 .1 .0) (c .before .before .before .before .before .before .before .before .before .before .before .before .before .before .a7 .given .0 .1 .1 .1 .0)) = exp-children (c .before .before .before .before .before .before .before .before .before .before .before .before .before .before .before .before .before .before .before .before .before .args .t .now) (c .before .before .before .before .before .before .before .before .before .before .before .before .before .before .before .before .before .before .before .before .before .args .widths .now) (c .before .before .before .before .before .before .before .before .before .before .before .before .before .before .before .before .before .before .before .before .before .args .r) (c .before .before .before .before .before .before .before .before .before .before .before .before .before .before .before .before .before .before .before .before .before .pre .1 .0) (For (c .before .before .before .before .before .before .before .before .before .before .before .before .before .before .a7 .given .0 .0) (c .before .before .before .before .before .before .before .before .before .before .before .before .before .before .a7 .given .0 .1 .0) (c .before .before .before .before .before .before .before .before .before .before .before .before .before .before .a7 .given .0 .1 .1 .0) (c .before .before .before .before .before .before .before .before .before .before .before .before .before .before .a7 .given .0 .1 .1 .1 .0)) (sym (c .before .before .before .before .before .before .before .before .before .before .before .before .before .before .before .before .shape-at .ensures) ∙ c .before .before .before .before .before .before .before .before .before .before .before .before .before .before .a7 .given .1) in let f : ExpNeeds (c .before .before .before .before .before .before .before .before .before .before .before .before .before .before .before .before .before .before .before .before .before .args .t .now) (c .before .before .before .before .before .before .before .before .before .before .before .before .before .before .before .before .before .before .before .before .before .args .widths .now) (c .before .before .before .before .before .before .before .before .before .before .before .before .before .before .before .before .before .before .before .before .before .args .r) (For (c .before .before .before .before .before .before .before .before .before .before .before .before .before .before .a7 .given .0 .0) (c .before .before .before .before .before .before .before .before .before .before .before .before .before .before .a7 .given .0 .1 .0) (c .before .before .before .before .before .before .before .before .before .before .before .before .before .before .a7 .given .0 .1 .1 .0) (c .before .before .before .before .before .before .before .before .before .before .before .before .before .before .a7 .given .0 .1 .1 .1 .0)) = exp-needs (c .before .before .before .before .before .before .before .before .before .before .before .before .before .before .before .before .before .before .before .before .before .args .t .now) (c .before .before .before .before .before .before .before .before .before .before .before .before .before .before .before .before .before .before .before .before .before .args .widths .now) (c .before .before .before .before .before .before .before .before .before .before .before .before .before .before .before .before .before .before .before .before .before .args .r) (c .before .before .before .before .before .before .before .before .before .before .before .before .before .before .before .before .before .before .before .before .before .pre .1 .0) (For (c .before .before .before .before .before .before .before .before .before .before .before .before .before .before .a7 .given .0 .0) (c .before .before .before .before .before .before .before .before .before .before .before .before .before .before .a7 .given .0 .1 .0) (c .before .before .before .before .before .before .before .before .before .before .before .before .before .before .a7 .given .0 .1 .1 .0) (c .before .before .before .before .before .before .before .before .before .before .before .before .before .before .a7 .given .0 .1 .1 .1 .0)) (sym (c .before .before .before .before .before .before .before .before .before .before .before .before .before .before .before .before .shape-at .ensures) ∙ c .before .before .before .before .before .before .before .before .before .before .before .before .before .before .a7 .given .1) in (omega (arith, k .1 .1), (k .1 .0, f .3 ∙ sym (c .before .before .before .before .width-at3 .ensures .0), f .4 ∙ sym (c .before .before .wide4 .ensures), omega (arith, narrow (c .before .before .before .before .before .before .before .before .before .before .before .before .before .before .before .before .before .before .before .before .before .args .t .now) (c .before .before .before .before .before .before .before .before .before .before .before .before .before .before .before .before .before .before .before .before .before .args .widths .now) (c .before .before .before .before .before .before .before .before .before .before .before .before .before .before .before .before .before .before .before .before .before .args .r) (c .before .before .before .before .before .before .before .before .before .before .before .before .before .before .before .before .before .before .before .before .before .pre .1 .0), c .before .before .before .before .width-at3 .ensures .0), omega (arith, f .2, c .before .before .wide4 .ensures), omega (arith, f .1, c .before .before .before .wide3 .ensures, c .before .before .wide4 .ensures), c .before .before .before .before .before .before .before .before .before .expr9 .ensures .1 ∙ ap length (c .before .before .before .before .before .before .before .before .before .before .before .before .copied2 .ensures) ∙ c .before .before .before .before .before .before .before .before .before .before .before .before .before .before .before .before .before .before .before .before .before .pre .1 .1, omega (arith, c .before .before .before .before .before .before .before .before .before .before .before .before .before .before .before .before .before .before .before .before .before .pre .1 .2, c .before .before .before .before .width-at3 .ensures .0)))
 
 -- src/cycle.rt:115:27  // refused by 7 ⏎ Shape::Iter(_) => Rest::Short,
 expr-enum-told-9 : (t : ℕ) → expr-lts.Need-enum-told-9 (
@@ -2700,7 +2710,7 @@ expr-returns : (t : ℕ) → expr-lts.Need-returns (
   rounds-below t,
   rounds.Post,
 ) (expr-at t) expr.Post
-expr-returns t c = search needs
+expr-returns t c = (tell-identifier (c .before .before .before .before .before .before .before .before .before .before .before .before .args .t .now) (c .before .before .before .before .before .before .before .before .before .before .before .before .args .widths .now) (c .before .before .before .before .before .before .before .before .before .before .before .before .args .r) (c .before .before .before .before .before .before .before .before .before .before .before .before .pre .1 .0) (envOf (c .before .before .before .before .before .before .before .before .before .before .before .before .args .env .now)) (c .before .before .before .before .before .before .before .before .before .before .before .before .args .left) (c .before .before .before .before .before .before .before .before .before .before .before .before .args .at) (c .before .before .before .before .before .before .before .before .before .before .before .before .args .out .now) (c .before .before .put-name .last .0) (c .before .before .before .before .before .a .given .0 .0) (sym (c .before .before .before .before .before .before .before .shape-at .ensures) ∙ c .before .before .before .before .before .a .given .1) (c .before .before .put-name .ensures .0), c .before .before .put-name .ensures .1)
 
 -- src/cycle.rt:55:1  // Row r as an expression: its values go to the words of `out` from `at` on. ⏎ pub fn expr(t: &[u32], widths: &[u8], r: usize, env: &[u64], out: &mut [u64], at: usize, left: u32) -> Rest
 expr-same-length-2 : (t : ℕ) → expr-lts.Need-same-length-2 (
@@ -2758,7 +2768,7 @@ expr-returns-2 : (t : ℕ) → expr-lts.Need-returns-2 (
   rounds-below t,
   rounds.Post,
 ) (expr-at t) expr.Post
-expr-returns-2 t c = search needs
+expr-returns-2 t c = (tell-whole (c .before .before .before .before .before .before .before .before .before .before .before .before .args .t .now) (c .before .before .before .before .before .before .before .before .before .before .before .before .args .widths .now) (c .before .before .before .before .before .before .before .before .before .before .before .before .args .r) (c .before .before .before .before .before .before .before .before .before .before .before .before .pre .1 .0) (envOf (c .before .before .before .before .before .before .before .before .before .before .before .before .args .env .now)) (c .before .before .before .before .before .before .before .before .before .before .before .before .args .left) (c .before .before .before .before .before .before .before .before .before .before .before .before .args .at) (c .before .before .before .before .before .before .before .before .before .before .before .before .args .out .now) (c .before .before .put-whole .last .0) (c .before .before .before .before .before .a2 .given .0 .0) (sym (c .before .before .before .before .before .before .before .shape-at .ensures) ∙ c .before .before .before .before .before .a2 .given .1) (c .before .before .put-whole .ensures .0), c .before .before .put-whole .ensures .1)
 
 -- src/cycle.rt:55:1  // Row r as an expression: its values go to the words of `out` from `at` on. ⏎ pub fn expr(t: &[u32], widths: &[u8], r: usize, env: &[u64], out: &mut [u64], at: usize, left: u32) -> Rest
 expr-same-length-3 : (t : ℕ) → expr-lts.Need-same-length-3 (
@@ -2816,7 +2826,7 @@ expr-returns-3 : (t : ℕ) → expr-lts.Need-returns-3 (
   rounds-below t,
   rounds.Post,
 ) (expr-at t) expr.Post
-expr-returns-3 t c = search needs
+expr-returns-3 t c = (tell-truth (c .before .before .before .before .before .before .before .before .before .before .before .before .args .t .now) (c .before .before .before .before .before .before .before .before .before .before .before .before .args .widths .now) (c .before .before .before .before .before .before .before .before .before .before .before .before .args .r) (c .before .before .before .before .before .before .before .before .before .before .before .before .pre .1 .0) (envOf (c .before .before .before .before .before .before .before .before .before .before .before .before .args .env .now)) (c .before .before .before .before .before .before .before .before .before .before .before .before .args .left) (c .before .before .before .before .before .before .before .before .before .before .before .before .args .at) (c .before .before .before .before .before .before .before .before .before .before .before .before .args .out .now) (c .before .before .put-truth .last .0) (c .before .before .before .before .before .a3 .given .0 .0) (sym (c .before .before .before .before .before .before .before .shape-at .ensures) ∙ c .before .before .before .before .before .a3 .given .1) (c .before .before .put-truth .ensures .0), c .before .before .put-truth .ensures .1)
 
 -- src/cycle.rt:55:1  // Row r as an expression: its values go to the words of `out` from `at` on. ⏎ pub fn expr(t: &[u32], widths: &[u8], r: usize, env: &[u64], out: &mut [u64], at: usize, left: u32) -> Rest
 expr-same-length-4 : (t : ℕ) → expr-lts.Need-same-length-4 (
@@ -2874,7 +2884,7 @@ expr-returns-4 : (t : ℕ) → expr-lts.Need-returns-4 (
   rounds-below t,
   rounds.Post,
 ) (expr-at t) expr.Post
-expr-returns-4 t c = search needs
+expr-returns-4 t c = (tell-stopped (c .before .before .before .before .before .before .before .before .before .before .before .before .before .before .args .t .now) (c .before .before .before .before .before .before .before .before .before .before .before .before .before .before .args .widths .now) (c .before .before .before .before .before .before .before .before .before .before .before .before .before .before .args .r) (c .before .before .before .before .before .before .before .before .before .before .before .before .before .before .pre .1 .0) (envOf (c .before .before .before .before .before .before .before .before .before .before .before .before .before .before .args .env .now)) (c .before .before .before .before .before .before .before .before .before .before .before .before .before .before .args .left) (Pair (c .before .before .before .before .before .before .before .a4 .given .0 .0) (c .before .before .before .before .before .before .before .a4 .given .0 .1 .0)) (sym (c .before .before .before .before .before .before .before .before .before .shape-at .ensures) ∙ c .before .before .before .before .before .before .before .a4 .given .1) (c .before .before .before .before .before .before .before .a4 .given .0 .0) refl (c .before .before .before .before .before .before .before .before .before .before .before .before .before .before .args .at) (c .before .before .before .before .before .before .before .before .before .before .before .before .before .before .args .at) (c .before .before .before .before .before .before .before .before .before .before .before .before .before .before .args .out .now) (c .before .before .before .before .expr .last .1 .1 .1 .1 .0) (c .before .before .before .before .before .before .before .before .before .before .before .before .before .before .args .out .now) (c .before .before .before .before .expr .last .1 .1 .1 .1 .0) (rw (c .enum-told .given .1) at (c .before .before .before .before .expr .ensures .0)), c .before .before .before .before .expr .ensures .1)
 
 -- src/cycle.rt:55:1  // Row r as an expression: its values go to the words of `out` from `at` on. ⏎ pub fn expr(t: &[u32], widths: &[u8], r: usize, env: &[u64], out: &mut [u64], at: usize, left: u32) -> Rest
 expr-same-length-5 : (t : ℕ) → expr-lts.Need-same-length-5 (
@@ -2932,7 +2942,7 @@ expr-returns-5 : (t : ℕ) → expr-lts.Need-returns-5 (
   rounds-below t,
   rounds.Post,
 ) (expr-at t) expr.Post
-expr-returns-5 t c = search needs
+expr-returns-5 t c = (tell-pair (c .before .before .before .before .before .before .before .before .before .before .before .before .before .before .before .before .before .before .before .before .args .t .now) (c .before .before .before .before .before .before .before .before .before .before .before .before .before .before .before .before .before .before .before .before .args .widths .now) (c .before .before .before .before .before .before .before .before .before .before .before .before .before .before .before .before .before .before .before .before .args .r) (c .before .before .before .before .before .before .before .before .before .before .before .before .before .before .before .before .before .before .before .before .pre .1 .0) (envOf (c .before .before .before .before .before .before .before .before .before .before .before .before .before .before .before .before .before .before .before .before .args .env .now)) (c .before .before .before .before .before .before .before .before .before .before .before .before .before .before .before .before .before .before .before .before .args .left) (c .before .before .before .before .before .before .before .before .before .before .before .before .before .before .before .before .before .before .before .before .args .at) (c .before .before .before .before .before .before .before .before .before .before .before .before .before .before .before .before .before .before .before .before .args .out .now) (c .before .before .expr2 .last .1 .1 .1 .1 .0) (c .before .before .before .before .before .before .before .before .before .before .before .before .before .a4 .given .0 .0) (c .before .before .before .before .before .before .before .before .before .before .before .before .before .a4 .given .0 .1 .0) (sym (c .before .before .before .before .before .before .before .before .before .before .before .before .before .before .before .shape-at .ensures) ∙ c .before .before .before .before .before .before .before .before .before .before .before .before .before .a4 .given .1) (c .before .before .before .before .before .before .before .before .before .before .expr .last .1 .1 .1 .1 .0) (c .before .before .before .before .before .before .l .given .0 .0) (c .before .before .expr2 .result) (rw (c .before .before .before .before .before .before .l .given .1) at (c .before .before .before .before .before .before .before .before .before .before .expr .ensures .0)) (rw (c .before .before .before .width-at .ensures .0) at (c .before .before .expr2 .ensures .0)), c .before .before .expr2 .ensures .1 ∙ c .before .before .before .before .before .before .before .before .before .before .expr .ensures .1)
 
 -- src/cycle.rt:55:1  // Row r as an expression: its values go to the words of `out` from `at` on. ⏎ pub fn expr(t: &[u32], widths: &[u8], r: usize, env: &[u64], out: &mut [u64], at: usize, left: u32) -> Rest
 expr-returns-6 : (t : ℕ) → expr-lts.Need-returns-6 (
@@ -2961,7 +2971,7 @@ expr-returns-6 : (t : ℕ) → expr-lts.Need-returns-6 (
   rounds-below t,
   rounds.Post,
 ) (expr-at t) expr.Post
-expr-returns-6 t c = search needs
+expr-returns-6 t c = (tell-stopped (c .before .before .before .before .before .before .before .before .before .before .before .before .before .args .t .now) (c .before .before .before .before .before .before .before .before .before .before .before .before .before .args .widths .now) (c .before .before .before .before .before .before .before .before .before .before .before .before .before .args .r) (c .before .before .before .before .before .before .before .before .before .before .before .before .before .pre .1 .0) (envOf (c .before .before .before .before .before .before .before .before .before .before .before .before .before .args .env .now)) (c .before .before .before .before .before .before .before .before .before .before .before .before .before .args .left) (Operator (c .before .before .before .before .before .before .code .given .0 .0) (c .before .before .before .before .before .before .code .given .0 .1 .0)) (sym (c .before .before .before .before .before .before .before .before .shape-at .ensures) ∙ c .before .before .before .before .before .before .code .given .1) (c .before .before .before .before .before .before .code .given .0 .1 .0) refl (c .before .before .before .before .before .before .before .before .before .before .before .before .before .args .at) 0 (c .before .before .before .before .before .before .before .before .before .before .before .before .before .args .out .now) (c .before .before .before .before .before .before .before .before .before .before .before .before .before .args .out .now) (0 ∷ 0 ∷ []) (c .before .before .before .expr3 .last .1 .1 .1 .1 .0) (rw (c .enum-told2 .given .1) at (c .before .before .before .expr3 .ensures .0)), refl)
 
 -- src/cycle.rt:55:1  // Row r as an expression: its values go to the words of `out` from `at` on. ⏎ pub fn expr(t: &[u32], widths: &[u8], r: usize, env: &[u64], out: &mut [u64], at: usize, left: u32) -> Rest
 expr-same-length-6 : (t : ℕ) → expr-lts.Need-same-length-6 (
@@ -3019,7 +3029,7 @@ expr-returns-7 : (t : ℕ) → expr-lts.Need-returns-7 (
   rounds-below t,
   rounds.Post,
 ) (expr-at t) expr.Post
-expr-returns-7 t c = search needs
+expr-returns-7 t c = (tell-operator (c .before .before .before .before .before .before .before .before .before .before .before .before .before .before .before .before .before .before .before .args .t .now) (c .before .before .before .before .before .before .before .before .before .before .before .before .before .before .before .before .before .before .before .args .widths .now) (c .before .before .before .before .before .before .before .before .before .before .before .before .before .before .before .before .before .before .before .args .r) (c .before .before .before .before .before .before .before .before .before .before .before .before .before .before .before .before .before .before .before .pre .1 .0) (envOf (c .before .before .before .before .before .before .before .before .before .before .before .before .before .before .before .before .before .before .before .args .env .now)) (c .before .before .before .before .before .before .before .before .before .before .before .before .before .before .before .before .before .before .before .args .left) (c .before .before .before .before .before .before .before .before .before .before .before .before .before .before .before .before .before .before .before .args .at) (c .before .before .before .before .before .before .before .before .before .before .before .before .before .before .before .before .before .before .before .args .out .now) (c .before .before .put-operator .last .0) (c .before .before .before .before .before .before .before .before .before .before .before .before .code .given .0 .0) (c .before .before .before .before .before .before .before .before .before .before .before .before .code .given .0 .1 .0) (sym (c .before .before .before .before .before .before .before .before .before .before .before .before .before .before .shape-at .ensures) ∙ c .before .before .before .before .before .before .before .before .before .before .before .before .code .given .1) (0 ∷ 0 ∷ []) (c .before .before .before .before .before .before .before .before .before .expr3 .last .1 .1 .1 .1 .0) (c .before .before .before .before .before .before .l2 .given .0 .0) (zeros-err 2) (rw (c .before .before .before .before .before .before .l2 .given .1) at (c .before .before .before .before .before .before .before .before .before .expr3 .ensures .0)) (c .before .before .put-operator .ensures .0), c .before .before .put-operator .ensures .1)
 
 -- src/cycle.rt:55:1  // Row r as an expression: its values go to the words of `out` from `at` on. ⏎ pub fn expr(t: &[u32], widths: &[u8], r: usize, env: &[u64], out: &mut [u64], at: usize, left: u32) -> Rest
 expr-returns-8 : (t : ℕ) → expr-lts.Need-returns-8 (
@@ -3048,7 +3058,7 @@ expr-returns-8 : (t : ℕ) → expr-lts.Need-returns-8 (
   rounds-below t,
   rounds.Post,
 ) (expr-at t) expr.Post
-expr-returns-8 t c = search needs
+expr-returns-8 t c = (tell-stopped (c .before .before .before .before .before .before .before .before .before .before .before .before .before .before .before .args .t .now) (c .before .before .before .before .before .before .before .before .before .before .before .before .before .before .before .args .widths .now) (c .before .before .before .before .before .before .before .before .before .before .before .before .before .before .before .args .r) (c .before .before .before .before .before .before .before .before .before .before .before .before .before .before .before .pre .1 .0) (envOf (c .before .before .before .before .before .before .before .before .before .before .before .before .before .before .before .args .env .now)) (c .before .before .before .before .before .before .before .before .before .before .before .before .before .before .before .args .left) (Let (c .before .before .before .before .before .before .before .before .a5 .given .0 .0) (c .before .before .before .before .before .before .before .before .a5 .given .0 .1 .0) (c .before .before .before .before .before .before .before .before .a5 .given .0 .1 .1 .0) (c .before .before .before .before .before .before .before .before .a5 .given .0 .1 .1 .1 .0)) (sym (c .before .before .before .before .before .before .before .before .before .before .shape-at .ensures) ∙ c .before .before .before .before .before .before .before .before .a5 .given .1) (c .before .before .before .before .before .before .before .before .a5 .given .0 .1 .1 .0) refl (c .before .before .before .before .before .before .before .before .before .before .before .before .before .before .before .args .at) (c .before .before .before .before .wide .result) (c .before .before .before .before .before .before .before .before .before .before .before .before .before .before .before .args .out .now) (c .before .before .before .before .before .before .before .before .before .before .before .before .before .before .before .args .out .now) (c .before .before .before .before .before .before .copied .result) (c .before .before .before .expr4 .last .1 .1 .1 .1 .0) (rw (c .enum-told3 .given .1) at (c .before .before .before .expr4 .ensures .0)), refl)
 
 -- src/cycle.rt:55:1  // Row r as an expression: its values go to the words of `out` from `at` on. ⏎ pub fn expr(t: &[u32], widths: &[u8], r: usize, env: &[u64], out: &mut [u64], at: usize, left: u32) -> Rest
 expr-same-length-7 : (t : ℕ) → expr-lts.Need-same-length-7 (
@@ -3106,7 +3116,7 @@ expr-returns-9 : (t : ℕ) → expr-lts.Need-returns-9 (
   rounds-below t,
   rounds.Post,
 ) (expr-at t) expr.Post
-expr-returns-9 t c = search needs
+expr-returns-9 t c = (tell-let (c .before .before .before .before .before .before .before .before .before .before .before .before .before .before .before .before .before .before .before .before .before .args .t .now) (c .before .before .before .before .before .before .before .before .before .before .before .before .before .before .before .before .before .before .before .before .before .args .widths .now) (c .before .before .before .before .before .before .before .before .before .before .before .before .before .before .before .before .before .before .before .before .before .args .r) (c .before .before .before .before .before .before .before .before .before .before .before .before .before .before .before .before .before .before .before .before .before .pre .1 .0) (envOf (c .before .before .before .before .before .before .before .before .before .before .before .before .before .before .before .before .before .before .before .before .before .args .env .now)) (c .before .before .before .before .before .before .before .before .before .before .before .before .before .before .before .before .before .before .before .before .before .args .left) (c .before .before .before .before .before .before .before .before .before .before .before .before .before .before .before .before .before .before .before .before .before .args .at) (c .before .before .before .before .before .before .before .before .before .before .before .before .before .before .before .before .before .before .before .before .before .args .out .now) (c .before .before .expr5 .last .1 .1 .1 .1 .0) (c .before .before .before .before .before .before .before .before .before .before .before .before .before .before .a5 .given .0 .0) (c .before .before .before .before .before .before .before .before .before .before .before .before .before .before .a5 .given .0 .1 .0) (c .before .before .before .before .before .before .before .before .before .before .before .before .before .before .a5 .given .0 .1 .1 .0) (c .before .before .before .before .before .before .before .before .before .before .before .before .before .before .a5 .given .0 .1 .1 .1 .0) (sym (c .before .before .before .before .before .before .before .before .before .before .before .before .before .before .before .before .shape-at .ensures) ∙ c .before .before .before .before .before .before .before .before .before .before .before .before .before .before .a5 .given .1) (c .before .before .before .before .before .before .before .before .before .before .before .before .copied .result) (c .before .before .before .before .before .before .before .before .before .expr4 .last .1 .1 .1 .1 .0) (c .before .before .before .before .before .before .l3 .given .0 .0) (c .before .before .expr5 .result) (ap envOf (c .before .before .before .before .before .before .before .before .before .before .before .before .copied .ensures)) (rw (c .before .before .before .before .before .before .before .before .before .before .wide .ensures, c .before .before .before .before .before .before .l3 .given .1) at (c .before .before .before .before .before .before .before .before .before .expr4 .ensures .0)) (c .before .before .expr5 .ensures .0), c .before .before .expr5 .ensures .1)
 
 -- src/cycle.rt:55:1  // Row r as an expression: its values go to the words of `out` from `at` on. ⏎ pub fn expr(t: &[u32], widths: &[u8], r: usize, env: &[u64], out: &mut [u64], at: usize, left: u32) -> Rest
 expr-returns-10 : (t : ℕ) → expr-lts.Need-returns-10 (
@@ -3135,7 +3145,7 @@ expr-returns-10 : (t : ℕ) → expr-lts.Need-returns-10 (
   rounds-below t,
   rounds.Post,
 ) (expr-at t) expr.Post
-expr-returns-10 t c = search needs
+expr-returns-10 t c = (tell-stopped (c .before .before .before .before .before .before .before .before .before .before .before .before .before .args .t .now) (c .before .before .before .before .before .before .before .before .before .before .before .before .before .args .widths .now) (c .before .before .before .before .before .before .before .before .before .before .before .before .before .args .r) (c .before .before .before .before .before .before .before .before .before .before .before .before .before .pre .1 .0) (envOf (c .before .before .before .before .before .before .before .before .before .before .before .before .before .args .env .now)) (c .before .before .before .before .before .before .before .before .before .before .before .before .before .args .left) (If (c .before .before .before .before .before .before .a6 .given .0 .0) (c .before .before .before .before .before .before .a6 .given .0 .1 .0) (c .before .before .before .before .before .before .a6 .given .0 .1 .1 .0)) (sym (c .before .before .before .before .before .before .before .before .shape-at .ensures) ∙ c .before .before .before .before .before .before .a6 .given .1) (c .before .before .before .before .before .before .a6 .given .0 .0) refl (c .before .before .before .before .before .before .before .before .before .before .before .before .before .args .at) 0 (c .before .before .before .before .before .before .before .before .before .before .before .before .before .args .out .now) (c .before .before .before .before .before .before .before .before .before .before .before .before .before .args .out .now) (0 ∷ []) (c .before .before .before .expr6 .last .1 .1 .1 .1 .0) (rw (c .enum-told4 .given .1) at (c .before .before .before .expr6 .ensures .0)), refl)
 
 -- src/cycle.rt:55:1  // Row r as an expression: its values go to the words of `out` from `at` on. ⏎ pub fn expr(t: &[u32], widths: &[u8], r: usize, env: &[u64], out: &mut [u64], at: usize, left: u32) -> Rest
 expr-same-length-8 : (t : ℕ) → expr-lts.Need-same-length-8 (
@@ -3193,7 +3203,7 @@ expr-returns-11 : (t : ℕ) → expr-lts.Need-returns-11 (
   rounds-below t,
   rounds.Post,
 ) (expr-at t) expr.Post
-expr-returns-11 t c = search needs
+expr-returns-11 t c = (tell-first (c .before .before .before .before .before .before .before .before .before .before .before .before .before .before .before .before .before .before .before .before .before .before .args .t .now) (c .before .before .before .before .before .before .before .before .before .before .before .before .before .before .before .before .before .before .before .before .before .before .args .widths .now) (c .before .before .before .before .before .before .before .before .before .before .before .before .before .before .before .before .before .before .before .before .before .before .args .r) (c .before .before .before .before .before .before .before .before .before .before .before .before .before .before .before .before .before .before .before .before .before .before .pre .1 .0) (envOf (c .before .before .before .before .before .before .before .before .before .before .before .before .before .before .before .before .before .before .before .before .before .before .args .env .now)) (c .before .before .before .before .before .before .before .before .before .before .before .before .before .before .before .before .before .before .before .before .before .before .args .left) (c .before .before .before .before .before .before .before .before .before .before .before .before .before .before .before .before .before .before .before .before .before .before .args .at) (c .before .before .before .before .before .before .before .before .before .before .before .before .before .before .before .before .before .before .before .before .before .before .args .out .now) (c .before .before .expr7 .last .1 .1 .1 .1 .0) (c .before .before .before .before .before .before .before .before .before .before .before .before .before .before .before .a6 .given .0 .0) (c .before .before .before .before .before .before .before .before .before .before .before .before .before .before .before .a6 .given .0 .1 .0) (c .before .before .before .before .before .before .before .before .before .before .before .before .before .before .before .a6 .given .0 .1 .1 .0) (sym (c .before .before .before .before .before .before .before .before .before .before .before .before .before .before .before .before .before .shape-at .ensures) ∙ c .before .before .before .before .before .before .before .before .before .before .before .before .before .before .before .a6 .given .1) (0 ∷ []) (c .before .before .before .before .before .before .before .before .before .before .before .before .expr6 .last .1 .1 .1 .1 .0) (c .before .before .before .before .before .before .before .before .before .l4 .given .0 .0) (zeros-err 1) (rw (c .before .before .before .before .before .before .before .before .before .l4 .given .1) at (c .before .before .before .before .before .before .before .before .before .before .before .before .expr6 .ensures .0)) (c .before .before .expr7 .result) (sym (c .before .before .before .before .before .before .choose .ensures) ∙ c .before .before .before .before .enum-told5 .given .1) (c .before .before .expr7 .ensures .0), c .before .before .expr7 .ensures .1)
 
 -- src/cycle.rt:55:1  // Row r as an expression: its values go to the words of `out` from `at` on. ⏎ pub fn expr(t: &[u32], widths: &[u8], r: usize, env: &[u64], out: &mut [u64], at: usize, left: u32) -> Rest
 expr-same-length-9 : (t : ℕ) → expr-lts.Need-same-length-9 (
@@ -3251,7 +3261,7 @@ expr-returns-12 : (t : ℕ) → expr-lts.Need-returns-12 (
   rounds-below t,
   rounds.Post,
 ) (expr-at t) expr.Post
-expr-returns-12 t c = search needs
+expr-returns-12 t c = (tell-second (c .before .before .before .before .before .before .before .before .before .before .before .before .before .before .before .before .before .before .before .before .before .before .args .t .now) (c .before .before .before .before .before .before .before .before .before .before .before .before .before .before .before .before .before .before .before .before .before .before .args .widths .now) (c .before .before .before .before .before .before .before .before .before .before .before .before .before .before .before .before .before .before .before .before .before .before .args .r) (c .before .before .before .before .before .before .before .before .before .before .before .before .before .before .before .before .before .before .before .before .before .before .pre .1 .0) (envOf (c .before .before .before .before .before .before .before .before .before .before .before .before .before .before .before .before .before .before .before .before .before .before .args .env .now)) (c .before .before .before .before .before .before .before .before .before .before .before .before .before .before .before .before .before .before .before .before .before .before .args .left) (c .before .before .before .before .before .before .before .before .before .before .before .before .before .before .before .before .before .before .before .before .before .before .args .at) (c .before .before .before .before .before .before .before .before .before .before .before .before .before .before .before .before .before .before .before .before .before .before .args .out .now) (c .before .before .expr8 .last .1 .1 .1 .1 .0) (c .before .before .before .before .before .before .before .before .before .before .before .before .before .before .before .a6 .given .0 .0) (c .before .before .before .before .before .before .before .before .before .before .before .before .before .before .before .a6 .given .0 .1 .0) (c .before .before .before .before .before .before .before .before .before .before .before .before .before .before .before .a6 .given .0 .1 .1 .0) (sym (c .before .before .before .before .before .before .before .before .before .before .before .before .before .before .before .before .before .shape-at .ensures) ∙ c .before .before .before .before .before .before .before .before .before .before .before .before .before .before .before .a6 .given .1) (0 ∷ []) (c .before .before .before .before .before .before .before .before .before .before .before .before .expr6 .last .1 .1 .1 .1 .0) (c .before .before .before .before .before .before .before .before .before .l4 .given .0 .0) (zeros-err 1) (rw (c .before .before .before .before .before .before .before .before .before .l4 .given .1) at (c .before .before .before .before .before .before .before .before .before .before .before .before .expr6 .ensures .0)) (c .before .before .expr8 .result) (sym (c .before .before .before .before .before .before .choose .ensures) ∙ c .before .before .before .before .enum-told6 .given .1) (c .before .before .expr8 .ensures .0), c .before .before .expr8 .ensures .1)
 
 -- src/cycle.rt:55:1  // Row r as an expression: its values go to the words of `out` from `at` on. ⏎ pub fn expr(t: &[u32], widths: &[u8], r: usize, env: &[u64], out: &mut [u64], at: usize, left: u32) -> Rest
 expr-same-length-10 : (t : ℕ) → expr-lts.Need-same-length-10 (
@@ -3309,7 +3319,7 @@ expr-returns-13 : (t : ℕ) → expr-lts.Need-returns-13 (
   rounds-below t,
   rounds.Post,
 ) (expr-at t) expr.Post
-expr-returns-13 t c = search needs
+expr-returns-13 t c = (tell-neither (c .before .before .before .before .before .before .before .before .before .before .before .before .before .before .before .before .before .before .before .before .before .before .before .args .t .now) (c .before .before .before .before .before .before .before .before .before .before .before .before .before .before .before .before .before .before .before .before .before .before .before .args .widths .now) (c .before .before .before .before .before .before .before .before .before .before .before .before .before .before .before .before .before .before .before .before .before .before .before .args .r) (c .before .before .before .before .before .before .before .before .before .before .before .before .before .before .before .before .before .before .before .before .before .before .before .pre .1 .0) (envOf (c .before .before .before .before .before .before .before .before .before .before .before .before .before .before .before .before .before .before .before .before .before .before .before .args .env .now)) (c .before .before .before .before .before .before .before .before .before .before .before .before .before .before .before .before .before .before .before .before .before .before .before .args .left) (c .before .before .before .before .before .before .before .before .before .before .before .before .before .before .before .before .before .before .before .before .before .before .before .args .at) (c .before .before .before .before .before .before .before .before .before .before .before .before .before .before .before .before .before .before .before .before .before .before .before .args .out .now) (c .before .before .put-errs .last .0) (c .before .before .before .before .before .before .before .before .before .before .before .before .before .before .before .before .a6 .given .0 .0) (c .before .before .before .before .before .before .before .before .before .before .before .before .before .before .before .before .a6 .given .0 .1 .0) (c .before .before .before .before .before .before .before .before .before .before .before .before .before .before .before .before .a6 .given .0 .1 .1 .0) (sym (c .before .before .before .before .before .before .before .before .before .before .before .before .before .before .before .before .before .before .shape-at .ensures) ∙ c .before .before .before .before .before .before .before .before .before .before .before .before .before .before .before .before .a6 .given .1) (0 ∷ []) (c .before .before .before .before .before .before .before .before .before .before .before .before .before .expr6 .last .1 .1 .1 .1 .0) (c .before .before .before .before .before .before .before .before .before .before .l4 .given .0 .0) (zeros-err 1) (rw (c .before .before .before .before .before .before .before .before .before .before .l4 .given .1) at (c .before .before .before .before .before .before .before .before .before .before .before .before .before .expr6 .ensures .0)) (sym (c .before .before .before .before .before .before .before .choose .ensures) ∙ c .before .before .before .before .before .enum-told7 .given .1) (rw (c .before .before .before .width-at2 .ensures .0) at (c .before .before .put-errs .ensures .0)), c .before .before .put-errs .ensures .1)
 
 -- src/cycle.rt:55:1  // Row r as an expression: its values go to the words of `out` from `at` on. ⏎ pub fn expr(t: &[u32], widths: &[u8], r: usize, env: &[u64], out: &mut [u64], at: usize, left: u32) -> Rest
 expr-returns-14 : (t : ℕ) → expr-lts.Need-returns-14 (
@@ -3338,7 +3348,7 @@ expr-returns-14 : (t : ℕ) → expr-lts.Need-returns-14 (
   rounds-below t,
   rounds.Post,
 ) (expr-at t) expr.Post
-expr-returns-14 t c = search needs
+expr-returns-14 t c = (tell-stopped (c .before .before .before .before .before .before .before .before .before .before .before .before .before .before .before .args .t .now) (c .before .before .before .before .before .before .before .before .before .before .before .before .before .before .before .args .widths .now) (c .before .before .before .before .before .before .before .before .before .before .before .before .before .before .before .args .r) (c .before .before .before .before .before .before .before .before .before .before .before .before .before .before .before .pre .1 .0) (envOf (c .before .before .before .before .before .before .before .before .before .before .before .before .before .before .before .args .env .now)) (c .before .before .before .before .before .before .before .before .before .before .before .before .before .before .before .args .left) (For (c .before .before .before .before .before .before .before .before .a7 .given .0 .0) (c .before .before .before .before .before .before .before .before .a7 .given .0 .1 .0) (c .before .before .before .before .before .before .before .before .a7 .given .0 .1 .1 .0) (c .before .before .before .before .before .before .before .before .a7 .given .0 .1 .1 .1 .0)) (sym (c .before .before .before .before .before .before .before .before .before .before .shape-at .ensures) ∙ c .before .before .before .before .before .before .before .before .a7 .given .1) (c .before .before .before .before .before .before .before .before .a7 .given .0 .1 .1 .0) refl (c .before .before .before .before .before .before .before .before .before .before .before .before .before .before .before .args .at) (c .before .before .before .before .wide2 .result) (c .before .before .before .before .before .before .before .before .before .before .before .before .before .before .before .args .out .now) (c .before .before .before .before .before .before .before .before .before .before .before .before .before .before .before .args .out .now) (c .before .before .before .before .before .before .copied2 .result) (c .before .before .before .expr9 .last .1 .1 .1 .1 .0) (rw (c .enum-told8 .given .1) at (c .before .before .before .expr9 .ensures .0)), refl)
 
 -- src/cycle.rt:55:1  // Row r as an expression: its values go to the words of `out` from `at` on. ⏎ pub fn expr(t: &[u32], widths: &[u8], r: usize, env: &[u64], out: &mut [u64], at: usize, left: u32) -> Rest
 expr-same-length-11 : (t : ℕ) → expr-lts.Need-same-length-11 (
@@ -3396,7 +3406,7 @@ expr-returns-15 : (t : ℕ) → expr-lts.Need-returns-15 (
   rounds-below t,
   rounds.Post,
 ) (expr-at t) expr.Post
-expr-returns-15 t c = search needs
+expr-returns-15 t c = (tell-for (c .before .before .before .before .before .before .before .before .before .before .before .before .before .before .before .before .before .before .before .before .before .before .before .before .before .args .t .now) (c .before .before .before .before .before .before .before .before .before .before .before .before .before .before .before .before .before .before .before .before .before .before .before .before .before .args .widths .now) (c .before .before .before .before .before .before .before .before .before .before .before .before .before .before .before .before .before .before .before .before .before .before .before .before .before .args .r) (c .before .before .before .before .before .before .before .before .before .before .before .before .before .before .before .before .before .before .before .before .before .before .before .before .before .pre .1 .0) (envOf (c .before .before .before .before .before .before .before .before .before .before .before .before .before .before .before .before .before .before .before .before .before .before .before .before .before .args .env .now)) (c .before .before .before .before .before .before .before .before .before .before .before .before .before .before .before .before .before .before .before .before .before .before .before .before .before .args .left) (c .before .before .before .before .before .before .before .before .before .before .before .before .before .before .before .before .before .before .before .before .before .before .before .before .before .args .at) (c .before .before .before .before .before .before .before .before .before .before .before .before .before .before .before .before .before .before .before .before .before .before .before .before .before .args .out .now) (c .before .before .before .rounds .last .1 .1 .1 .1 .1 .1 .1 .0) (c .before .before .before .before .before .before .before .before .before .before .before .before .before .before .before .before .before .before .a7 .given .0 .0) (c .before .before .before .before .before .before .before .before .before .before .before .before .before .before .before .before .before .before .a7 .given .0 .1 .0) (c .before .before .before .before .before .before .before .before .before .before .before .before .before .before .before .before .before .before .a7 .given .0 .1 .1 .0) (c .before .before .before .before .before .before .before .before .before .before .before .before .before .before .before .before .before .before .a7 .given .0 .1 .1 .1 .0) (sym (c .before .before .before .before .before .before .before .before .before .before .before .before .before .before .before .before .before .before .before .before .shape-at .ensures) ∙ c .before .before .before .before .before .before .before .before .before .before .before .before .before .before .before .before .before .before .a7 .given .1) (c .before .before .before .before .before .before .before .before .before .before .before .before .before .before .before .before .copied2 .result) (c .before .before .before .before .before .before .before .before .before .before .before .before .before .expr9 .last .1 .1 .1 .1 .0) (c .before .before .before .before .before .before .before .before .before .before .l5 .given .0 .0) (c .before .before .before .rounds .result) (ap envOf (c .before .before .before .before .before .before .before .before .before .before .before .before .before .before .before .before .copied2 .ensures)) (rw (c .before .before .before .before .before .before .before .before .before .before .before .before .before .before .wide2 .ensures, c .before .before .before .before .before .before .before .before .before .before .l5 .given .1) at (c .before .before .before .before .before .before .before .before .before .before .before .before .before .expr9 .ensures .0)) (rw (c .before .before .before .before .before .before .before .wide3 .ensures, c .before .before .before .before .before .before .wide4 .ensures) at (c .before .before .before .rounds .ensures .0)), c .before .before .before .rounds .ensures .1)
 
 -- src/cycle.rt:55:1  // Row r as an expression: its values go to the words of `out` from `at` on. ⏎ pub fn expr(t: &[u32], widths: &[u8], r: usize, env: &[u64], out: &mut [u64], at: usize, left: u32) -> Rest
 expr-returns-16 : (t : ℕ) → expr-lts.Need-returns-16 (
@@ -3425,7 +3435,7 @@ expr-returns-16 : (t : ℕ) → expr-lts.Need-returns-16 (
   rounds-below t,
   rounds.Post,
 ) (expr-at t) expr.Post
-expr-returns-16 t c = search needs
+expr-returns-16 t c = absurd (exp-children (c .before .before .before .before .before .before .before .args .t .now) (c .before .before .before .before .before .before .before .args .widths .now) (c .before .before .before .before .before .before .before .args .r) (c .before .before .before .before .before .before .before .pre .1 .0) (Iter (c .enum-told9 .given .0 .0)) (sym (c .before .before .shape-at .ensures) ∙ c .enum-told9 .given .1))
 
 abbrev rounds-Inv-loop : rounds-lts.InvT-loop
 rounds-Inv-loop t widths d w a b inner₀ out₀ at left values₀ l₀ inner out values l = Turning (bodyOf t d) a b inner₀ inner left l × (length inner ≡ 32) × (length values ≡ 16) × (out ≡ out₀)
@@ -3503,7 +3513,7 @@ rounds-returns : (t : ℕ) → rounds-lts.Need-returns (
   copy-reads.Asked,
   copy-reads.Learnt,
 ) (rounds-at t) rounds.Post rounds-Inv-loop rounds-μ-loop
-rounds-returns t c = search needs
+rounds-returns t c = (round-short (c .before .before .before .before .before .before .before .before .before .before .before .before .args .t .now) (c .before .before .before .before .before .before .before .before .before .before .before .before .args .widths .now) (c .before .before .before .before .before .before .before .before .before .before .before .before .args .d) (c .before .before .before .before .before .before .before .before .before .before .before .before .pre .1 .0) (c .before .before .before .before .before .before .before .before .before .before .before .before .args .a) (c .before .before .before .before .before .before .before .before .before .before .before .before .args .b) (c .before .before .before .before .before .before .before .before .before .before .before .before .args .w) (c .before .before .before .before .before .before .before .before .before .before .before .before .pre .1 .1) (c .before .before .before .before .before .before .before .before .before .before .before .before .pre .1 .2) (c .before .before .before .before .before .before .before .before .before .before .before .before .args .inner .now) (c .before .before .before .before .before .before .before .loop .inner) (c .before .before .before .before .before .before .before .before .before .before .before .before .args .left) (c .before .before .before .before .before .before .before .loop .l) (c .before .before .before .before .before .before .before .loop .inv .0) (c .before .before .before .before .before .before .loop-test .taken) (c .before .before .before .before .before .before .before .loop .values) (c .before .before .before .body .last .1 .1 .1 .1 .1 .0) (rw (c .enum-told .given .1) at (c .before .before .before .body .ensures .0)) (c .before .before .before .before .before .before .before .before .before .before .before .before .args .at) (c .before .before .before .before .before .before .before .before .before .before .before .before .args .out .now) (c .before .before .before .before .before .before .before .loop .out), ap length (c .before .before .before .before .before .before .before .loop .inv .3))
 
 -- src/cycle.rt:132:24  } ⏎ Turn::Back(m) => {
 rounds-enum-known-m : (t : ℕ) → rounds-lts.Need-enum-known-m (
@@ -3530,7 +3540,7 @@ rounds-copy-requires : (t : ℕ) → rounds-lts.Need-copy-requires (
   copy-reads.Asked,
   copy-reads.Learnt,
 ) (rounds-at t) rounds.Post rounds-Inv-loop rounds-μ-loop
-rounds-copy-requires t c κs = search needs
+rounds-copy-requires t c κs = (omega (arith, ap length (c .before .before .before .before .before .before .before .before .before .before .loop .inv .3), c .before .before .before .before .before .before .before .before .before .before .before .before .before .before .before .pre .1 .7), omega (arith, c .before .before .before .before .before .before .body .ensures .1, c .before .before .before .before .before .before .before .before .before .before .loop .inv .2, c .before .before .before .before .before .before .before .before .before .before .before .before .before .before .before .pre .1 .3))
 
 -- src/cycle.rt:134:17  copy(out, at, &values, w); ⏎ return Rest::Left(m);
 rounds-same-length-3 : (t : ℕ) → rounds-lts.Need-same-length-3 (
@@ -3548,7 +3558,7 @@ rounds-same-length-4 : (t : ℕ) → rounds-lts.Need-same-length-4 (
   copy-reads.Asked,
   copy-reads.Learnt,
 ) (rounds-at t) rounds.Post rounds-Inv-loop rounds-μ-loop
-rounds-same-length-4 t c = search needs
+rounds-same-length-4 t c = c .before .before .copy .ensures .1 ∙ ap length (c .before .before .before .before .before .before .before .before .before .before .before .before .before .loop .inv .3)
 
 -- src/cycle.rt:134:17  copy(out, at, &values, w); ⏎ return Rest::Left(m);
 rounds-returns-2 : (t : ℕ) → rounds-lts.Need-returns-2 (
@@ -3557,7 +3567,7 @@ rounds-returns-2 : (t : ℕ) → rounds-lts.Need-returns-2 (
   copy-reads.Asked,
   copy-reads.Learnt,
 ) (rounds-at t) rounds.Post rounds-Inv-loop rounds-μ-loop
-rounds-returns-2 t c = search needs
+rounds-returns-2 t c = (subst (λ (z : List ℕ). Told (turns (bodyOf (c .before .before .before .before .before .before .before .before .before .before .before .before .before .before .before .before .before .before .args .t .now) (c .before .before .before .before .before .before .before .before .before .before .before .before .before .before .before .before .before .before .args .d)) (c .before .before .before .before .before .before .before .before .before .before .before .before .before .before .before .before .before .before .args .a) (c .before .before .before .before .before .before .before .before .before .before .before .before .before .before .before .before .before .before .args .b) (envOf (c .before .before .before .before .before .before .before .before .before .before .before .before .before .before .before .before .before .before .args .inner .now)) (envOf (c .before .before .before .before .before .before .before .before .before .before .before .before .before .before .before .before .before .before .args .inner .now)) (c .before .before .before .before .before .before .before .before .before .before .before .before .before .before .before .before .before .before .args .left)) (Left (c .before .before .before .before .before .before .m .given .0 .0)) (c .before .before .before .before .before .before .before .before .before .before .before .before .before .before .before .before .before .before .args .at) (c .before .before .before .before .before .before .before .before .before .before .before .before .before .before .before .before .before .before .args .out .now) z) (sym (c .before .before .copy .ensures .0 ∙ ap (λ (z : List ℕ). paste z (c .before .before .before .before .before .before .before .before .before .before .before .before .before .before .before .before .before .before .args .at) (c .before .before .before .before .before .before .before .before .before .body .last .1 .1 .1 .1 .1 .0) (c .before .before .before .before .before .before .before .before .before .before .before .before .before .before .before .before .before .before .args .w)) (c .before .before .before .before .before .before .before .before .before .before .before .before .before .loop .inv .3))) (round-back (c .before .before .before .before .before .before .before .before .before .before .before .before .before .before .before .before .before .before .args .t .now) (c .before .before .before .before .before .before .before .before .before .before .before .before .before .before .before .before .before .before .args .widths .now) (c .before .before .before .before .before .before .before .before .before .before .before .before .before .before .before .before .before .before .args .d) (c .before .before .before .before .before .before .before .before .before .before .before .before .before .before .before .before .before .before .pre .1 .0) (c .before .before .before .before .before .before .before .before .before .before .before .before .before .before .before .before .before .before .args .a) (c .before .before .before .before .before .before .before .before .before .before .before .before .before .before .before .before .before .before .args .b) (c .before .before .before .before .before .before .before .before .before .before .before .before .before .before .before .before .before .before .args .w) (c .before .before .before .before .before .before .before .before .before .before .before .before .before .before .before .before .before .before .pre .1 .1) (c .before .before .before .before .before .before .before .before .before .before .before .before .before .before .before .before .before .before .pre .1 .2) (c .before .before .before .before .before .before .before .before .before .before .before .before .before .before .before .before .before .before .args .inner .now) (c .before .before .before .before .before .before .before .before .before .before .before .before .before .loop .inner) (c .before .before .before .before .before .before .before .before .before .before .before .before .before .before .before .before .before .before .args .left) (c .before .before .before .before .before .before .before .before .before .before .before .before .before .loop .l) (c .before .before .before .before .before .before .before .before .before .before .before .before .before .loop .inv .0) (c .before .before .before .before .before .before .before .before .before .before .before .before .loop-test .taken) (c .before .before .before .before .before .before .before .before .before .before .before .before .before .loop .values) (c .before .before .before .before .before .before .before .before .before .body .last .1 .1 .1 .1 .1 .0) (c .before .before .before .before .before .before .m .given .0 .0) (rw (c .before .before .before .before .before .before .m .given .1) at (c .before .before .before .before .before .before .before .before .before .body .ensures .0)) (c .before .before .before .before .before .before .before .before .before .before .before .before .before .before .before .before .before .before .args .at) (c .before .before .before .before .before .before .before .before .before .before .before .before .before .before .before .before .before .before .args .out .now) (c .before .before .before .before .before .before .before .before .before .before .before .before .before .before .before .before .before .before .pre .1 .7) (omega (arith, c .before .before .before .before .before .before .before .before .before .body .ensures .1, c .before .before .before .before .before .before .before .before .before .before .before .before .before .loop .inv .2, c .before .before .before .before .before .before .before .before .before .before .before .before .before .before .before .before .before .before .pre .1 .3))), c .before .before .copy .ensures .1 ∙ ap length (c .before .before .before .before .before .before .before .before .before .before .before .before .before .loop .inv .3))
 
 -- src/cycle.rt:136:25  } ⏎ Turn::Again(m) => {
 rounds-enum-known-m-2 : (t : ℕ) → rounds-lts.Need-enum-known-m-2 (
@@ -3593,7 +3603,7 @@ rounds-loop-less : (t : ℕ) → rounds-lts.Need-loop-less (
   copy-reads.Asked,
   copy-reads.Learnt,
 ) (rounds-at t) rounds.Post rounds-Inv-loop rounds-μ-loop
-rounds-loop-less t c = search needs
+rounds-loop-less t c = round-again (c .before .before .before .before .before .before .before .before .before .before .before .before .before .before .before .before .before .before .args .t .now) (c .before .before .before .before .before .before .before .before .before .before .before .before .before .before .before .before .before .before .args .widths .now) (c .before .before .before .before .before .before .before .before .before .before .before .before .before .before .before .before .before .before .args .d) (c .before .before .before .before .before .before .before .before .before .before .before .before .before .before .before .before .before .before .pre .1 .0) (c .before .before .before .before .before .before .before .before .before .before .before .before .before .before .before .before .before .before .args .a) (c .before .before .before .before .before .before .before .before .before .before .before .before .before .before .before .before .before .before .args .b) (c .before .before .before .before .before .before .before .before .before .before .before .before .before .before .before .before .before .before .args .w) (c .before .before .before .before .before .before .before .before .before .before .before .before .before .before .before .before .before .before .pre .1 .1) (c .before .before .before .before .before .before .before .before .before .before .before .before .before .before .before .before .before .before .pre .1 .2) (c .before .before .before .before .before .before .before .before .before .before .before .before .before .before .before .before .before .before .args .inner .now) (c .before .before .before .before .before .before .before .before .before .before .before .before .before .loop .inner) (c .before .before .before .before .before .before .before .before .before .before .before .before .before .before .before .before .before .before .args .left) (c .before .before .before .before .before .before .before .before .before .before .before .before .before .loop .l) (c .before .before .before .before .before .before .before .before .before .before .before .before .before .loop .inv .0) (c .before .before .before .before .before .before .before .before .before .before .before .before .loop-test .taken) (c .before .before .before .before .before .before .before .before .before .before .before .before .before .loop .values) (c .before .before .before .before .before .before .before .before .before .body .last .1 .1 .1 .1 .1 .0) (c .before .before .before .before .before .before .m2 .given .0 .0) (rw (c .before .before .before .before .before .before .m2 .given .1) at (c .before .before .before .before .before .before .before .before .before .body .ensures .0)) (omega (arith, c .before .before .before .before .before .before .before .before .before .before .before .before .before .loop .inv .1, c .before .before .before .before .before .before .before .before .before .before .before .before .before .before .before .before .before .before .pre .1 .5)) (omega (arith, c .before .before .before .before .before .before .before .before .before .body .ensures .1, c .before .before .before .before .before .before .before .before .before .before .before .before .before .loop .inv .2, c .before .before .before .before .before .before .before .before .before .before .before .before .before .before .before .before .before .before .pre .1 .4)) .1
 
 -- src/cycle.rt:127:5  let mut l = left; ⏎ while 0 < l {
 rounds-loop-again : (t : ℕ) → rounds-lts.Need-loop-again (
@@ -3602,7 +3612,7 @@ rounds-loop-again : (t : ℕ) → rounds-lts.Need-loop-again (
   copy-reads.Asked,
   copy-reads.Learnt,
 ) (rounds-at t) rounds.Post rounds-Inv-loop rounds-μ-loop
-rounds-loop-again t c = search needs
+rounds-loop-again t c = (subst (λ (z : List ℕ). Turning (bodyOf (c .before .before .before .before .before .before .before .before .before .before .before .before .before .before .before .before .before .before .args .t .now) (c .before .before .before .before .before .before .before .before .before .before .before .before .before .before .before .before .before .before .args .d)) (c .before .before .before .before .before .before .before .before .before .before .before .before .before .before .before .before .before .before .args .a) (c .before .before .before .before .before .before .before .before .before .before .before .before .before .before .before .before .before .before .args .b) (c .before .before .before .before .before .before .before .before .before .before .before .before .before .before .before .before .before .before .args .inner .now) z (c .before .before .before .before .before .before .before .before .before .before .before .before .before .before .before .before .before .before .args .left) (c .before .before .before .before .before .before .m2 .given .0 .0)) (sym (c .before .before .copy2 .ensures .0)) (round-again (c .before .before .before .before .before .before .before .before .before .before .before .before .before .before .before .before .before .before .args .t .now) (c .before .before .before .before .before .before .before .before .before .before .before .before .before .before .before .before .before .before .args .widths .now) (c .before .before .before .before .before .before .before .before .before .before .before .before .before .before .before .before .before .before .args .d) (c .before .before .before .before .before .before .before .before .before .before .before .before .before .before .before .before .before .before .pre .1 .0) (c .before .before .before .before .before .before .before .before .before .before .before .before .before .before .before .before .before .before .args .a) (c .before .before .before .before .before .before .before .before .before .before .before .before .before .before .before .before .before .before .args .b) (c .before .before .before .before .before .before .before .before .before .before .before .before .before .before .before .before .before .before .args .w) (c .before .before .before .before .before .before .before .before .before .before .before .before .before .before .before .before .before .before .pre .1 .1) (c .before .before .before .before .before .before .before .before .before .before .before .before .before .before .before .before .before .before .pre .1 .2) (c .before .before .before .before .before .before .before .before .before .before .before .before .before .before .before .before .before .before .args .inner .now) (c .before .before .before .before .before .before .before .before .before .before .before .before .before .loop .inner) (c .before .before .before .before .before .before .before .before .before .before .before .before .before .before .before .before .before .before .args .left) (c .before .before .before .before .before .before .before .before .before .before .before .before .before .loop .l) (c .before .before .before .before .before .before .before .before .before .before .before .before .before .loop .inv .0) (c .before .before .before .before .before .before .before .before .before .before .before .before .loop-test .taken) (c .before .before .before .before .before .before .before .before .before .before .before .before .before .loop .values) (c .before .before .before .before .before .before .before .before .before .body .last .1 .1 .1 .1 .1 .0) (c .before .before .before .before .before .before .m2 .given .0 .0) (rw (c .before .before .before .before .before .before .m2 .given .1) at (c .before .before .before .before .before .before .before .before .before .body .ensures .0)) (omega (arith, c .before .before .before .before .before .before .before .before .before .before .before .before .before .loop .inv .1, c .before .before .before .before .before .before .before .before .before .before .before .before .before .before .before .before .before .before .pre .1 .5)) (omega (arith, c .before .before .before .before .before .before .before .before .before .body .ensures .1, c .before .before .before .before .before .before .before .before .before .before .before .before .before .loop .inv .2, c .before .before .before .before .before .before .before .before .before .before .before .before .before .before .before .before .before .before .pre .1 .4)) .0), c .before .before .copy2 .ensures .1 ∙ c .before .before .before .before .before .before .before .before .before .before .before .before .before .loop .inv .1, c .before .before .before .before .before .before .before .before .before .body .ensures .1 ∙ c .before .before .before .before .before .before .before .before .before .before .before .before .before .loop .inv .2, c .before .before .before .before .before .before .before .before .before .before .before .before .before .loop .inv .3)
 
 -- src/cycle.rt:121:1  // w values go to the words of `out` from `at` on. ⏎ fn rounds(t: &[u32], widths: &[u8], d: usize, w: usize, a: usize, b: usize, inner: &mut [u64], out: &mut [u64], at: usize, left: u32) -> Rest
 rounds-same-length-5 : (t : ℕ) → rounds-lts.Need-same-length-5 (
@@ -3629,7 +3639,7 @@ rounds-returns-3 : (t : ℕ) → rounds-lts.Need-returns-3 (
   copy-reads.Asked,
   copy-reads.Learnt,
 ) (rounds-at t) rounds.Post rounds-Inv-loop rounds-μ-loop
-rounds-returns-3 t c = search needs
+rounds-returns-3 t c = (turning-none (bodyOf (c .before .before .before .before .before .before .args .t .now) (c .before .before .before .before .before .before .args .d)) (c .before .before .before .before .before .before .args .a) (c .before .before .before .before .before .before .args .b) (c .before .before .before .before .before .before .args .inner .now) (c .before .loop .inner) (c .before .before .before .before .before .before .args .left) (c .before .loop .l) (c .before .loop .inv .0) (c .loop-test .left) (c .before .before .before .before .before .before .args .at) (c .before .before .before .before .before .before .args .out .now) (c .before .loop .out), ap length (c .before .loop .inv .3))
 
 pub +body+expr+rounds-spec : {M : Type 1} → statement M
 +body+expr+rounds-spec = close μ-body μ-expr μ-rounds (λ t. body-lts.spec (

@@ -9,8 +9,6 @@ use Rattle.eval.proofs.words.held.Reads as held-reads
 use mathlib.Core.Path.{_≡_, refl, sym, _∙_, ap}
 use Rattle.eval.specs.Words.{envOf, choiceOf}
 
-
-
 -- src/words.rt:87:16  { ⏎ match held(test[0]) {
 shared-slice-read-held : tie.Need-shared-slice-read-held
 shared-slice-read-held c = search needs

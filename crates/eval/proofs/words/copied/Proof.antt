@@ -7,8 +7,6 @@ use Rattle.eval.proofs.words.copy.Reads as copy-reads
 use mathlib.Core.Path.{_≡_, refl, _∙_}
 use Rattle.eval.specs.Words.{paste-all}
 
-
-
 -- src/words.rt:126:10  let mut inner = [0; 32]; ⏎ copy(&mut inner, 0, env, 32);
 slice-aggregate-copy : tie.Need-slice-aggregate-copy
 slice-aggregate-copy c = search needs

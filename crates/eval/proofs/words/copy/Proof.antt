@@ -10,8 +10,6 @@ use Prim.Native.Nat.{_+_, _≤_, _<_, _-_}
 use native.Mathlib.Omega.{arith}
 use borrow.Author.Needs.{needs}
 
-
-
 abbrev Inv-loop : tie.InvT-loop
 Inv-loop to₀ at from n i₀ to i = (i ≤ n) × (to ≡ paste to₀ at from i) × (length to ≡ length to₀)
 

@@ -7,8 +7,6 @@ use Rattle.value.proofs.bytes.from_word.Reads as from-word-reads
 use mathlib.Core.Path.{_≡_, refl, sym, _∙_}
 use Rattle.eval.specs.Words.{held-valid, held-invalid}
 
-
-
 -- src/words.rt:21:11  { ⏎ match value::bytes::from_word(w) {
 from-word-requires : tie.Need-from-word-requires
 from-word-requires c κs = search needs

@@ -7,8 +7,6 @@ use Rattle.eval.proofs.words.put_word.Reads as put-word-reads
 use Rattle.eval.proofs.words.word.Reads as word-reads
 use mathlib.Core.Path.{_≡_, refl, sym, _∙_}
 
-
-
 -- src/words.rt:49:23  { ⏎ put_word(out, at, word(v));
 word-requires : tie.Need-word-requires
 word-requires c κs = search needs

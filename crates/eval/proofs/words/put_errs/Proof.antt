@@ -7,8 +7,6 @@ use Rattle.eval.proofs.words.copy.Reads as copy-reads
 use mathlib.Core.Path.{_≡_, refl, _∙_, ap}
 use Rattle.eval.specs.Words.{envOf, errs-binds}
 
-
-
 -- src/words.rt:117:19  let errs = [3; 16]; ⏎ copy(out, at, &errs, n);
 slice-aggregate-copy : tie.Need-slice-aggregate-copy
 slice-aggregate-copy c = search needs

@@ -6,8 +6,6 @@ use Rattle.eval.proofs.words.put_name.Lts as lts
 use Rattle.eval.proofs.words.put_word.Reads as put-word-reads
 use Rattle.eval.specs.Words.{envOf}
 
-
-
 -- src/words.rt:57:23  { ⏎ put_word(out, at, env[a as usize]);
 mul-put-word : tie.Need-mul-put-word
 mul-put-word c = search needs

@@ -9,8 +9,6 @@ use Rattle.value.proofs.apply_code.Reads as apply-code-reads
 use mathlib.Core.Path.{_≡_, refl, sym, _∙_}
 use Rattle.eval.specs.Words.{envOf}
 
-
-
 -- src/words.rt:79:36  { ⏎ put(out, at, value::apply_code(code as u8, held(ops[0]), held(ops[1])));
 cast-apply-code : tie.Need-cast-apply-code
 cast-apply-code c = search needs

@@ -8,8 +8,6 @@ use mathlib.Core.Path.{_≡_, refl, sym, _∙_, ap}
 use mir.Syntax.{w32}
 use mir.Facts.{toZ-pos}
 
-
-
 -- src/words.rt:64:31  { ⏎ put(out, at, Value::Whole(a as i32));
 cast-t7 : tie.Need-cast-t7
 cast-t7 c = search needs

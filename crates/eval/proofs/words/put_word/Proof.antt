@@ -6,8 +6,6 @@ use Rattle.eval.proofs.words.put_word.Lts as lts
 use lib.ListN.{length-set}
 use Rattle.eval.specs.Words.{put-binds}
 
-
-
 -- src/words.rt:42:5  { ⏎ out[at] = w;
 mul-out : tie.Need-mul-out
 mul-out c = search needs

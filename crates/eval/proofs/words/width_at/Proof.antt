@@ -7,8 +7,6 @@ use mathlib.Core.Path.{refl}
 use Prim.Native.Nat.{_-_}
 use native.Mathlib.Omega.{arith}
 
-
-
 -- src/words.rt:135:12  { ⏎ widths[r - 1] as usize
 sub-result : tie.Need-sub-result
 sub-result c = search needs

@@ -13,8 +13,6 @@ use Rattle.value.specs.Bytes.{wordOf}
 use Rattle.value.specs.declared.Value.the-variants.{Whole, Truth, Err}
 use Rattle.eval.specs.Words.{heldOf, held-word}
 
-
-
 -- src/words.rt:32:22  match v { ⏎ Value::Whole(z) => value::bytes::to_word(Value::Whole(z)),
 enum-known-v : tie.Need-enum-known-v
 enum-known-v c = search needs
