@@ -15,7 +15,7 @@ use Rattle.formula.specs.Tree.{Exp, Body, ret, iter, letB, ifB, expNode, bodyNo
 use Rattle.formula.specs.TreeLaws.{exp-as, body-as}
 use Rattle.formula.specs.Widths.{width, returned, iterated, wideE, wideB}
 use Rattle.meaning.specs.WidthLaws.{Suits, arms-suit, wide-16, wide-16-B, operator-fits, let-fits, if-fits, for-fits, let-fits-B, if-fits-B}
-use Rattle.eval.specs.Rows.{Accepted, ExpRow, BodyRow, InBounds, ExpChildren, BodyChildren, exp-children, body-children, exp-facts, body-wide, bounds-as}
+use Rattle.meaning.specs.Rows.{Accepted, ExpRow, BodyRow, InBounds, ExpChildren, BodyChildren, exp-children, body-children, exp-facts, body-wide, bounds-as}
 
 abbrev pub W : List ℕ → ℕ → ℕ
 W ws r = getD ws (r - 1) 0

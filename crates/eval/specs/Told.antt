@@ -27,7 +27,7 @@ use Rattle.eval.specs.declared.Turn.{Turn}
 use Rattle.eval.specs.declared.Turn.the-variants.{Again, Back, Short as short}
 use Rattle.eval.specs.declared.Choice.the-variants.{First, Second, Neither}
 use Rattle.eval.specs.Words.{envOf, choiceOf, branch-first, branch-second, branch-neither}
-use Rattle.eval.specs.Rows.{ExpRow, BodyRow, ExpChildren, BodyChildren, Plain, exp-children, body-children, exp-sound, body-sound, exp-facts, plain-as}
+use Rattle.meaning.specs.Rows.{ExpRow, BodyRow, ExpChildren, BodyChildren, Plain, exp-children, body-children, exp-sound, body-sound, exp-facts, plain-as}
 use Rattle.eval.specs.Needs.{W, ExpNeeds, BodyNeeds, exp-needs, body-needs}
 
 -- An expression's answer: the rounds left, and its values in the words from `at` on, all others as they were; or short.

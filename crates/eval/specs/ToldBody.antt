@@ -28,7 +28,7 @@ use Rattle.eval.specs.declared.Choice.the-variants.{First, Second, Neith
 use Rattle.eval.specs.declared.Way.{Way}
 use Rattle.eval.specs.declared.Way.the-variants.{Iter as iter-way, Let as let-way, If as if-way, End}
 use Rattle.eval.specs.Words.{envOf, choiceOf, branch-first, branch-second, branch-neither, paste-binds}
-use Rattle.eval.specs.Rows.{ExpRow, BodyRow, ExpChildren, BodyChildren, Plain, exp-children, body-children, body-sound, plain-as, ending-row}
+use Rattle.meaning.specs.Rows.{ExpRow, BodyRow, ExpChildren, BodyChildren, Plain, exp-children, body-children, body-sound, plain-as, ending-row}
 use Rattle.eval.specs.Needs.{W, BodyNeeds, body-needs}
 use Rattle.eval.specs.Told.{Told, ToldB, Values, told-left, told-short, tell, tell-short, tell-short-B, then-short-B, then-yields-B, read, counted}
 

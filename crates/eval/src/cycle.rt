@@ -28,7 +28,7 @@ ghost use Rattle.meaning.specs.Meaning.{evalE, evalB};
 ghost use Rattle.meaning.specs.Rounds.{turns};
 ghost use Rattle.meaning.specs.WidthLaws.{Suits};
 ghost use Rattle.eval.specs.Words.{envOf};
-ghost use Rattle.eval.specs.Rows.{ExpRow, BodyRow};
+ghost use Rattle.meaning.specs.Rows.{ExpRow, BodyRow};
 ghost use Rattle.eval.specs.Needs.{W};
 ghost use Rattle.eval.specs.Told.{Told, ToldB};
 ghost use Rattle.eval.specs.ToldBody.{wayOf};

@@ -37,7 +37,7 @@ use Rattle.meaning.specs.Rounds.{turns}
 use Rattle.eval.specs.declared.Rest.the-variants.{Left}
 use Rattle.eval.specs.declared.Way.the-variants.{Iter as iter-way, Let as let-way, If as if-way, End}
 use Rattle.eval.specs.Words.{envOf, zeros-err}
-use Rattle.eval.specs.Rows.{ExpChildren, BodyChildren, exp-children, body-children, ending-row}
+use Rattle.meaning.specs.Rows.{ExpChildren, BodyChildren, exp-children, body-children, ending-row}
 use Rattle.eval.specs.Needs.{W, ExpNeeds, BodyNeeds, exp-needs, body-needs, narrow}
 use Rattle.eval.specs.Told.{Told, tell-identifier, tell-whole, tell-truth, tell-pair, tell-operator, tell-let, tell-for, tell-first, tell-second, tell-neither, tell-stopped}
 use Rattle.eval.specs.ToldBody.{Turning, turning-start, turning-none, round-short, round-back, round-again, shaped-as, tell-iter, tell-ending, tell-ending-stopped, tell-let-B, tell-first-B, tell-second-B, tell-neither-B, tell-stopped-B}
