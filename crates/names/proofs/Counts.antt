@@ -1,18 +1,18 @@
 -- Laws of `size`, `members` and `below`: how many places of a set there are, and where each stands among the members.
 -- Shown over the first n places by induction. Assumes nothing.
-use mathlib.Core.Path.{_≡_, refl, sym, ap, ap₂, _∙_}
+use mathlib.Core.Path.{_≡_, refl, ap, ap₂, _∙_}
 use mathlib.Core.Bool.{Bool, true, false, _&&_, _||_, not}
-use mathlib.Core.List.{List, [], _∷_}
-use Prim.Native.Nat.{ℕ, zero, suc, _+_, _-_, _*_, _/_, _%_, _^_, _≤_, _<_}
+use mathlib.Core.List.{List}
+use Prim.Native.Nat.{ℕ, zero, suc, _+_, _*_, _≤_, _<_}
 use native.Mathlib.Omega.{arith}
 use native.Mathlib.Nat.{zero-add}
 use native.Mathlib.Numerals.{one-add}
 use lib.Count.{ones, ones-step}
-use lib.Dec.{eqb, leb, ltb, eqb·suc-suc}
+use lib.Dec.{eqb·suc-suc}
 use lib.ListN.{length, getD}
 use borrow.Author.Tests.{ne-eqb, lt-leb, lt-ltb}
 use Rattle.names.proofs.Masks.{half, odd, bit-le, range-later, range-from, range-empty}
-use Rattle.names.specs.Names.{Names, none, one, union, common, without, range, later, bit, put, maskFrom, sizeFrom, membersFrom}
+use Rattle.names.specs.Names.{Names, one, union, common, without, range, later, bit, put, maskFrom, sizeFrom, membersFrom}
 
 -- ---- size
 

@@ -8,7 +8,7 @@ use native.Mathlib.Nat.{pow-suc, lt-of-lt-of-le, mul-comm}
 use lib.Bits.{bitAnd, bitOr, and-step, or-step}
 use lib.Dec.{eqb, leb, ltb, eqb·suc-suc, leb·suc-suc}
 use lib.Pow.{pow-mono, pow-pos, shr-shr, shl-exact, ones-lt}
-use borrow.Author.Tests.{eq-eqb, ne-eqb, eqb-true, eqb-false, le-leb, lt-leb, lt-ltb, le-ltb, leb-true}
+use borrow.Author.Tests.{ne-eqb, le-leb, lt-leb, lt-ltb, le-ltb, leb-true}
 use Rattle.names.specs.Names.{Names, none, one, union, common, without, range, later, bit, maskFrom, mask}
 
 -- ---- one digit
@@ -152,5 +152,8 @@ maskFrom-range (suc n) (suc a) b h =
 pub shifted-one : (i : ℕ) → i < 64 → (1 * 2 ^ i) % 2 ^ 64 ≡ 2 ^ i
 shifted-one i h = shl-exact 1 i 64 (omega arith) (omega arith) ∙ omega arith
 
-pub shifted-range : (a b : ℕ) → a + b ≤ 33 → ((2 ^ b - 1) * 2 ^ a) % 2 ^ 64 ≡ 2 ^ a * (2 ^ b - 1)
-shifted-range a b h = shl-exact b a 64 (ones-lt b) (omega arith) ∙ mul-comm (2 ^ b - 1) (2 ^ a)
+pub shifted-one-pos : (b : ℕ) → b < 64 → 1 ≤ (1 * 2 ^ b) % 2 ^ 64
+shifted-one-pos b h = rw (shifted-one b h) (pow-pos b)
+
+pub shifted-range : (a b : ℕ) → a + b ≤ 33 → (((1 * 2 ^ b) % 2 ^ 64 - 1) * 2 ^ a) % 2 ^ 64 ≡ 2 ^ a * (2 ^ b - 1)
+shifted-range a b h = rw (shifted-one b (omega arith)) (shl-exact b a 64 (ones-lt b) (omega arith) ∙ mul-comm (2 ^ b - 1) (2 ^ a))

@@ -3,17 +3,17 @@
 -- and for `|` and `&`. They rest on Masks, Counts and Walk. Assumes nothing.
 use mathlib.Core.Path.{_≡_, refl, sym, ap, _∙_}
 use mathlib.Core.Bool.{Bool, true, false}
-use mathlib.Core.List.{List, [], _∷_}
-use Prim.Native.Nat.{ℕ, zero, suc, _+_, _-_, _*_, _/_, _%_, _^_, _≤_, _<_}
+use mathlib.Core.List.{[], _∷_}
+use Prim.Native.Nat.{ℕ, suc, _+_, _-_, _*_, _/_, _%_, _^_, _≤_, _<_}
 use native.Mathlib.Omega.{arith}
 use native.Mathlib.Nat.{zero-add, zero-div}
 use lib.Bits.{bitAnd, bitOr}
 use lib.Count.{ones, trailingZeros}
 use lib.Dec.{eqb}
 use lib.ListN.{length, getD}
-use Rattle.names.proofs.Masks.{bit-le, bit-one, maskFrom-cong, maskFrom-bit, maskFrom-lt, maskFrom-or, maskFrom-and, maskFrom-without, maskFrom-none, maskFrom-one, maskFrom-range}
+use Rattle.names.proofs.Masks.{bit-one, maskFrom-cong, maskFrom-bit, maskFrom-lt, maskFrom-or, maskFrom-and, maskFrom-without, maskFrom-none, maskFrom-one, maskFrom-range}
 use Rattle.names.proofs.Counts.{sizeFrom-cong, sizeFrom-le, ones-maskFrom, sizeFrom-union, sizeFrom-without, sizeFrom-none, sizeFrom-one, sizeFrom-range, sizeFrom-suc, sizeFrom-mono, length-membersFrom, membersFrom-cong, member-at, Member, member-of}
-use Rattle.names.proofs.Walk.{Least, least, least-pos, trailing-least, rest-least, size-least, members-least, membersFrom-none}
+use Rattle.names.proofs.Walk.{Least, least, trailing-least, rest-least, size-least, members-least, membersFrom-none}
 use Rattle.names.specs.Names.{Names, none, one, union, common, without, range, bit, mask, size, members, below, sizeFrom}
 
 -- ---- one set

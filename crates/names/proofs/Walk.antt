@@ -1,18 +1,18 @@
 -- The walk over a mask from its lowest place up: trailing zeros give the least member, m & (m - 1) is the mask without it,
 -- and the members are the least and those of the rest. Shown over the first n places by induction. Assumes nothing.
-use mathlib.Core.Path.{_≡_, refl, sym, ap, ap₂, _∙_}
+use mathlib.Core.Path.{_≡_, refl, ap, _∙_}
 use mathlib.Core.Bool.{Bool, true, false, _&&_, not}
-use mathlib.Core.List.{List, [], _∷_}
-use Prim.Native.Nat.{ℕ, zero, suc, _+_, _-_, _*_, _/_, _%_, _^_, _≤_, _<_}
+use mathlib.Core.List.{[], _∷_}
+use Prim.Native.Nat.{ℕ, zero, suc, _+_, _-_, _*_, _/_, _%_, _≤_, _<_}
 use native.Mathlib.Omega.{arith}
 use native.Mathlib.Nat.{add-zero}
 use lib.Bits.{bitAnd, and-step, and-self}
-use lib.Count.{trailingZeros, under}
-use lib.Dec.{eqb, eqb·suc-suc}
+use lib.Count.{trailingZeros}
+use lib.Dec.{eqb·suc-suc}
 use borrow.Author.Tests.{ne-eqb}
 use Rattle.names.proofs.Masks.{half, odd, maskFrom-cong}
 use Rattle.names.proofs.Counts.{sizeFrom-cong, membersFrom-cong}
-use Rattle.names.specs.Names.{Names, one, without, later, bit, put, maskFrom, sizeFrom, membersFrom}
+use Rattle.names.specs.Names.{Names, one, without, later, bit, maskFrom, sizeFrom, membersFrom}
 
 -- t is the least member among the first n places
 pub record Least (n : ℕ) (f : Names) (t : ℕ) : Type 0 where

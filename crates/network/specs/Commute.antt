@@ -2,15 +2,14 @@
 -- alone appends, so the token that a firing looks at stays the head and the place that it needs stays free.
 -- `diamond` is what crate schedule asks of a transition system. Assumes that what two operators take from and put onto is apart (`Free`;
 -- Wired.antt gets it from one taker and one putter a link).
-use Prim.Native.Nat.{ℕ, suc, _<_, _≤_, _+_}
-use mathlib.Core.Path.{_≡_, refl, sym, _∙_, ap, subst, fun-ext}
-use mathlib.Core.Logic.{_≢_, ite, Ne·symm}
-use mathlib.Core.List.{List, [], _∷_, _++_}
+use Prim.Native.Nat.{ℕ, _<_}
+use mathlib.Core.Path.{_≡_, refl, sym, _∙_, ap}
+use mathlib.Core.Logic.{_≢_, Ne·symm}
+use mathlib.Core.List.{List, [], _∷_}
 use lib.ListN.{length}
-use native.Mathlib.Decide.{ℕ-discrete}
 use native.Mathlib.Omega.{arith}
 use Rattle.schedule.specs.Schedules.{Diamond}
-use Rattle.network.specs.Net.{Token, Demand, ask, fire, halt, Room, Able, appends, act, label, Links, head, tail, pop, append, pop-same, pop-other, append-same, append-other, pop-pop, pop-append, append-append, pop-shortens, append-lengthens, head-append}
+use Rattle.network.specs.Net.{Token, Demand, ask, fire, halt, Room, Able, appends, act, label, Links, head, pop, append, pop-other, append-other, pop-pop, pop-append, append-append, pop-shortens, append-lengthens, head-append}
 
 abbrev pub Never-asks : Demand → ℕ → Type 0
 Never-asks (ask m k) l = (m ≢ l) × ((t : Token) → Never-asks (k t) l)

@@ -2,9 +2,9 @@
 -- what a machine computes before it touches a link; Firing.antt has that doing it is the firing on the network. It is read off the one table of
 -- rules, by evaluating its little program on the heads.
 use Prim.Native.Nat.{ℕ}
-use mathlib.Core.Path.{_≡_, refl, sym, _∙_, ap}
+use mathlib.Core.Path.{_≡_, refl}
 use mathlib.Core.Bool.{Bool, true, false}
-use mathlib.Core.List.{List, [], _∷_}
+use mathlib.Core.List.{[], _∷_}
 use mathlib.Core.Option.{Option, none, some}
 use Rattle.value.specs.declared.Value.{Value}
 use Rattle.network.specs.Values.{Sense, is-true, is-false, is-neither, sense, one-operand}

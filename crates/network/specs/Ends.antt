@@ -4,7 +4,7 @@
 -- when "sixteen sets untaken" (32), take finds none when "no set untaken" (35). A full input link (33) is want of room, an empty result
 -- port (35) want of a token. What take hands out is its label.
 use Prim.Native.Nat.{ℕ, _≤_}
-use mathlib.Core.Path.{_≡_, refl, sym, _∙_}
+use mathlib.Core.Path.{_≡_, refl, _∙_}
 use mathlib.Core.Logic.{_≢_, ite, if-pos, if-neg, Ne·symm}
 use mathlib.Core.List.{List, [], _∷_}
 use native.Mathlib.Decide.{ℕ-discrete}

@@ -4,7 +4,7 @@
 -- Assumes of the operator's links that two inputs on which tokens wait are different (an absent input is a link on which nothing ever waits).
 use Prim.Native.Nat.{ℕ, _<_, _≤_}
 use mathlib.Core.Path.{_≡_, refl, sym, _∙_, ap, ap₂, subst, fun-ext}
-use mathlib.Core.Logic.{_≢_, ite}
+use mathlib.Core.Logic.{_≢_}
 use mathlib.Core.Bool.{Bool, true, false, false≢true}
 use mathlib.Core.List.{List, [], _∷_, _++_}
 use mathlib.Core.Option.{Option, none, some}
@@ -12,7 +12,7 @@ use lib.ListN.{length}
 use native.Mathlib.Omega.{arith}
 use Rattle.value.specs.declared.Value.{Value}
 use Rattle.network.specs.Rules.{Kind, Register, Firing, takes, gives, never, Input, first, second, third, rule}
-use Rattle.network.specs.Net.{Token, val, mark, Demand, Links, head, pop, pop-other, pop-pop, pop-shortens, Room, Able, appends, act}
+use Rattle.network.specs.Net.{Token, Links, head, pop, pop-other, pop-pop, pop-shortens, Room, Able, appends, act}
 use Rattle.network.specs.Fill.{Ports, input, value-of, register-of, register-token, emissions, wire, remembering, kept, filled, fill}
 use Rattle.network.specs.Decide.{Taken, untouched, is-taken, also, Decision, with-head, decided, decide, Once, rule-once}
 

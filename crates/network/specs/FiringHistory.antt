@@ -1,11 +1,10 @@
 -- Demand 2, on links: "each firing does to the links just what his history rules say for the next tokens". The histories still to come out of an
 -- operator, by Brock's rules from the tokens waiting on its inputs, are what its decision gives, followed by the histories from what it leaves.
 -- What the decision does to the links is fill-acts (Firing.antt).
-use Prim.Native.Nat.{ℕ}
-use mathlib.Core.Path.{_≡_, refl, sym, _∙_, ap, fun-ext}
+use mathlib.Core.Path.{_≡_, refl, _∙_, ap, fun-ext}
 use mathlib.Core.List.{List, [], _∷_}
 use mathlib.Core.Option.{Option, none, some}
-use Rattle.network.specs.Rules.{Kind, Register, Input, first, second, third, rule}
+use Rattle.network.specs.Rules.{Kind, Register, Input, first, second, third}
 use Rattle.network.specs.Histories.{History, silence, followed, history}
 use Rattle.network.specs.HistoryLaw.{continued, history-law}
 use Rattle.network.specs.Net.{Token, Links}

@@ -2,13 +2,13 @@
 -- every register and every input history: the output histories are those that the firing of the rule emits, followed by the output
 -- histories of what it leaves, with the register it leaves; and where a token that the rule wants is not there, they are empty.
 use Prim.Native.Nat.{ℕ}
-use mathlib.Core.Path.{_≡_, refl, sym, _∙_, ap}
+use mathlib.Core.Path.{_≡_, refl, sym, ap}
 use mathlib.Core.Bool.{Bool, true, false}
-use mathlib.Core.List.{List, [], _∷_}
+use mathlib.Core.List.{[], _∷_}
 use mathlib.Core.Option.{Option, none, some}
 use Rattle.value.specs.declared.Value.{Value}
-use Rattle.network.specs.Values.{true-value, false-value, err-value, Sense, is-true, is-false, is-neither, sense, one-operand, apply}
-use Rattle.network.specs.Rules.{Kind, constant, copy, operator, T-gate, F-gate, M-gate, E-gate, IC-gate, FM-gate, FS-gate, Register, Firing, takes, gives, never, Input, first, second, third, T-rule, F-rule, M-rule, E-rule, chosen, IC-table, fired, FS-rule, operator-rule, rule}
+use Rattle.network.specs.Values.{err-value, Sense, is-true, is-false, is-neither, sense, one-operand, apply}
+use Rattle.network.specs.Rules.{Kind, constant, copy, operator, T-gate, F-gate, M-gate, E-gate, IC-gate, FM-gate, FS-gate, Register, Firing, takes, gives, never, first, second, third, T-rule, F-rule, M-rule, E-rule, chosen, IC-table, fired, FS-rule, operator-rule, rule}
 use Rattle.network.specs.Histories.{History, senses, Outputs, silence, followed, only, operator-history, T-history, F-history, M-history, S-history, IC-history, E-history, history}
 
 -- One firing on three input histories: what it leaves of them, what it gives on the outputs, the register it leaves.

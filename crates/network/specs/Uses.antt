@@ -1,19 +1,21 @@
 -- Which links an operator, push and take use: what Wired.antt asks of each of them, once for every kind. An operator takes only from the
 -- inputs that its kind has and puts only onto its output links; a register link belongs to its gate on both sides.
 use Prim.Native.Nat.{ℕ}
-use mathlib.Core.Path.{_≡_, refl, sym, _∙_, ap}
-use mathlib.Core.Logic.{_⊎_, inl, inr}
+use mathlib.Core.Path.{_≡_, refl, sym, _∙_, subst}
+use mathlib.Core.Logic.{_≢_, ite, _⊎_, inl, inr}
 use mathlib.Core.Bool.{Bool, true, false}
 use mathlib.Core.List.{List, [], _∷_, _++_}
 use mathlib.Core.Option.{Option, none, some}
 use lib.Dec.{leb}
+use native.Mathlib.Decide.{ℕ-discrete}
 use Rattle.value.specs.declared.Value.{Value}
 use Rattle.network.specs.Values.{true-value, Sense, is-true, is-false, is-neither, sense, one-operand}
 use Rattle.network.specs.Rules.{Kind, constant, copy, operator, T-gate, F-gate, M-gate, E-gate, IC-gate, FM-gate, FS-gate, Register, Firing, takes, gives, never, Input, first, second, third, T-rule, F-rule, M-rule, E-rule, chosen, IC-table, fired, FS-rule, operator-rule, rule}
-use Rattle.network.specs.Net.{Token, val, Demand, ask, fire, halt}
-use Rattle.network.specs.Wired.{Emits-in, Uses}
+use Rattle.network.specs.Net.{Token, val, Demand, ask, fire}
+use Rattle.network.specs.Wired.{Emits-in, Uses, free-of}
 use Rattle.network.specs.Fill.{Ports, input, value-of, register-of, register-token, emission, emissions, wire, remembering, kept, filled, fill}
-use Rattle.network.specs.Ends.{draw, collect, push-demand, take-demand}
+use Rattle.network.specs.Ends.{draw, collect, push-demand, take-demand, machine}
+use Rattle.network.specs.Commute.{Free}
 
 -- How many inputs a kind has, counted from the control on.
 abbrev pub operand-inputs : Bool → ℕ
@@ -165,3 +167,81 @@ module _ (source credit : ℕ) where
   pub take-uses : (outs : List ℕ) → Uses (λ l. (l ≡ credit) ⊎ In l outs) (λ l. ⊥) (take-demand credit outs)
   take-uses outs =
       collect-uses (λ l. (l ≡ credit) ⊎ In l outs) (λ l. ⊥) outs (λ ts. ask credit (λ u. fire [] ts)) (λ l m. inr m) (λ ts. (inl refl, λ u. tt))
+
+-- The machine (Ends.antt): if each link of the graph has one taker and one putter in it, the graph takes nothing from the results, the source and
+-- the credit link and puts nothing onto the inputs and the credit link, then any two of its operators, push and take included, are free of one
+-- another, so that the diamond holds (Commute.antt).
+module _ (graph : ℕ → Demand) (push take source credit : ℕ) (ins outs : List ℕ) (R W : ℕ → ℕ → Type 0) where
+  pub record Apart-ends : Type 0 where
+    pub graph-uses : (a : ℕ) → Uses (R a) (W a) (graph a)
+    pub one-taker : (a b l : ℕ) → R a l → R b l → a ≡ b
+    pub one-putter : (a b l : ℕ) → W a l → W b l → a ≡ b
+    pub takes-no-result : (a l : ℕ) → R a l → In l outs → ⊥
+    pub takes-no-source : (a : ℕ) → R a source → ⊥
+    pub takes-no-credit : (a : ℕ) → R a credit → ⊥
+    pub puts-no-input : (a l : ℕ) → W a l → In l ins → ⊥
+    pub puts-no-credit : (a : ℕ) → W a credit → ⊥
+    pub source-no-result : In source outs → ⊥
+    pub source-no-credit : source ≢ credit
+
+  module _ (E : Apart-ends) where
+    abbrev Push : Demand
+    Push = push-demand source credit ins
+
+    abbrev Take : Demand
+    Take = take-demand credit outs
+
+    abbrev push-R : ℕ → Type 0
+    push-R l = l ≡ source
+
+    abbrev push-W : ℕ → Type 0
+    push-W l = (l ≡ credit) ⊎ In l ins
+
+    abbrev take-R : ℕ → Type 0
+    take-R l = (l ≡ credit) ⊎ In l outs
+
+    abbrev take-W : ℕ → Type 0
+    take-W l = ⊥
+
+    push-take : (l : ℕ) → push-R l → take-R l → ⊥
+    push-take l e (inl c) = E .source-no-credit (sym e ∙ c)
+    push-take l e (inr o) = E .source-no-result (subst (λ z. In z outs) e o)
+
+    push-graph-R : (a l : ℕ) → push-R l → R a l → ⊥
+    push-graph-R a l e r = E .takes-no-source a (subst (R a) e r)
+
+    push-graph-W : (a l : ℕ) → push-W l → W a l → ⊥
+    push-graph-W a l (inl e) w = E .puts-no-credit a (subst (W a) e w)
+    push-graph-W a l (inr i) w = E .puts-no-input a l w i
+
+    take-graph-R : (a l : ℕ) → take-R l → R a l → ⊥
+    take-graph-R a l (inl e) r = E .takes-no-credit a (subst (R a) e r)
+    take-graph-R a l (inr o) r = E .takes-no-result a l r o
+
+    both-graph : (a b : ℕ) → a ≢ b → Free (graph a) (graph b)
+    both-graph a b ne =
+        free-of (R a) (W a) (R b) (W b) (λ l x y. ne (E .one-taker a b l x y)) (λ l x y. ne (E .one-putter a b l x y)) (graph b) (E .graph-uses b) (graph a)
+        (E .graph-uses a)
+
+    pub machine-free : (a b : ℕ) → a ≢ b → Free (machine graph push take source credit ins outs a) (machine graph push take source credit ins outs b)
+    unfolding machine
+    machine-free a b ne = go (ℕ-discrete a push) (ℕ-discrete a take) (ℕ-discrete b push) (ℕ-discrete b take)
+      where
+        go : (p : Dec (a ≡ push)) (q : Dec (a ≡ take)) (r : Dec (b ≡ push)) (s : Dec (b ≡ take)) →
+            Free (ite p Push (ite q Take (graph a))) (ite r Push (ite s Take (graph b)))
+        go (yes p) q (yes r) s = absurd (ne (p ∙ sym r))
+        go (yes p) q (no r) (yes s) =
+            free-of push-R push-W take-R take-W push-take (λ l w z. z) Take (take-uses source credit outs) Push (push-uses source credit ins)
+        go (yes p) q (no r) (no s) =
+            free-of push-R push-W (R b) (W b) (push-graph-R b) (push-graph-W b) (graph b) (E .graph-uses b) Push (push-uses source credit ins)
+        go (no p) (yes q) (yes r) s =
+            free-of take-R take-W push-R push-W (λ l x y. push-take l y x) (λ l z w. z) Push (push-uses source credit ins) Take (take-uses source credit outs)
+        go (no p) (yes q) (no r) (yes s) = absurd (ne (q ∙ sym s))
+        go (no p) (yes q) (no r) (no s) =
+            free-of take-R take-W (R b) (W b) (take-graph-R b) (λ l z w. z) (graph b) (E .graph-uses b) Take (take-uses source credit outs)
+        go (no p) (no q) (yes r) s =
+            free-of (R a) (W a) push-R push-W (λ l x y. push-graph-R a l y x) (λ l x y. push-graph-W a l y x) Push (push-uses source credit ins) (graph a)
+            (E .graph-uses a)
+        go (no p) (no q) (no r) (yes s) =
+            free-of (R a) (W a) take-R take-W (λ l x y. take-graph-R a l y x) (λ l w z. z) Take (take-uses source credit outs) (graph a) (E .graph-uses a)
+        go (no p) (no q) (no r) (no s) = both-graph a b ne

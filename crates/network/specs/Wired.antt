@@ -1,7 +1,7 @@
 -- From "every link has at most one taker and at most one putter" to the hypothesis of the diamond. Takers and putters are relations, so no
 -- owner of a link has to be computed; in a graph that the maker made they hold by its fresh numbers.
 use Prim.Native.Nat.{ℕ}
-use mathlib.Core.Path.{_≡_, refl, sym, _∙_, subst}
+use mathlib.Core.Path.{_≡_, subst}
 use mathlib.Core.Logic.{_≢_}
 use mathlib.Core.List.{List, [], _∷_}
 use Rattle.network.specs.Net.{Token, Demand, ask, fire, halt}
@@ -18,7 +18,7 @@ Uses R W (fire es r) = Emits-in W es
 Uses R W halt = Unit {0}
 
 module _ (R W : ℕ → Type 0) where
-  never-asks : (d : Demand) → Uses R W d → (l : ℕ) → ¬ (R l) → Never-asks d l
+  pub never-asks : (d : Demand) → Uses R W d → (l : ℕ) → ¬ (R l) → Never-asks d l
   never-asks (ask m k) u l n = (λ e. n (subst R e (u .0)), λ t. never-asks (k t) (u .1 t) l n)
   never-asks (fire es r) u l n = tt
   never-asks halt u l n = tt
@@ -27,7 +27,7 @@ module _ (R W : ℕ → Type 0) where
   not-among [] u l n = tt
   not-among (e ∷ es) u l n = (λ z. n (subst W z (u .0)), not-among es (u .1) l n)
 
-  never-emits : (d : Demand) → Uses R W d → (l : ℕ) → ¬ (W l) → Never-emits d l
+  pub never-emits : (d : Demand) → Uses R W d → (l : ℕ) → ¬ (W l) → Never-emits d l
   never-emits (ask m k) u l n = λ t. never-emits (k t) (u .1 t) l n
   never-emits (fire es r) u l n = not-among es u l n
   never-emits halt u l n = tt
@@ -37,7 +37,8 @@ module _ (R W R′ W′ : ℕ → Type 0) (ra : (l : ℕ) → R l → ¬ (R′ l
   free-emissions [] u = tt
   free-emissions (x ∷ es) u = (never-emits R′ W′ e ue (x .0) (wa (x .0) (u .0)), free-emissions es (u .1))
 
-  free-of : (d : Demand) → Uses R W d → Free d e
+  -- What the one takes from and puts onto, the other does not.
+  pub free-of : (d : Demand) → Uses R W d → Free d e
   free-of (ask l k) u = (never-asks R′ W′ e ue l (ra l (u .0)), λ t. free-of (k t) (u .1 t))
   free-of (fire es r) u = free-emissions es u
   free-of halt u = tt

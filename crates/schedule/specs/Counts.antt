@@ -1,9 +1,9 @@
 -- How much of a reference is left after a run: of each event what the run has not done, and in all at least the difference in length.
 -- Facts about lists of events alone (document 02's bound on rounds and its counts of firings rest on the same two laws).
-use Prim.Native.Nat.{ℕ, zero, suc, _<_, _≤_, _+_, _-_}
+use Prim.Native.Nat.{ℕ, suc, _<_, _≤_, _+_, _-_}
 use mathlib.Core.Path.{_≡_, refl, sym, _∙_, ap}
 use mathlib.Core.Logic.{_≢_, ite, if-neg, if-pos}
-use mathlib.Core.List.{List, [], _∷_}
+use mathlib.Core.List.{List, [], _∷_, _++_}
 use lib.ListN.{length}
 use native.Mathlib.Decide.{ℕ-discrete}
 use native.Mathlib.Omega.{arith}
@@ -13,6 +13,15 @@ use Rattle.schedule.specs.Schedules.{removed-first, remaining}
 abbrev pub count : ℕ → List ℕ → ℕ
 count e [] = 0
 count e (a ∷ w) = ite (ℕ-discrete e a) (suc (count e w)) (count e w)
+
+pub count-append : (e : ℕ) (u w : List ℕ) → count e (u ++ w) ≡ count e u + count e w
+count-append e [] w = omega arith
+count-append e (a ∷ u) w = go (ℕ-discrete e a) (count-append e u w)
+  where
+    go : (d : Dec (e ≡ a)) → count e (u ++ w) ≡ count e u + count e w →
+        ite d (suc (count e (u ++ w))) (count e (u ++ w)) ≡ ite d (suc (count e u)) (count e u) + count e w
+    go (yes x) ih = omega arith
+    go (no x) ih = ih
 
 count-same : (a : ℕ) (w : List ℕ) → count a (removed-first a w) ≡ count a w - 1
 count-same a [] = omega arith

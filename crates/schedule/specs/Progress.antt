@@ -1,7 +1,7 @@
 -- What follows from the residual for a run that comes to rest: the first event left of a reference can happen now, and two runs from one
 -- state that are both at rest have made each event equally often (document 02, the tally).
 -- Assumes the diamond.
-use Prim.Native.Nat.{ℕ, zero, suc, _<_, _≤_, _+_, _-_}
+use Prim.Native.Nat.{ℕ, _<_, _≤_, _-_}
 use mathlib.Core.Path.{_≡_, refl, sym, _∙_, ap}
 use mathlib.Core.Logic.{_≢_, _⊎_, inl, inr}
 use mathlib.Core.List.{List, [], _∷_}

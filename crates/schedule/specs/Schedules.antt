@@ -6,7 +6,7 @@
 use Prim.Native.Nat.{ℕ}
 use mathlib.Core.Path.{_≡_, refl, sym, _∙_, ap, subst}
 use mathlib.Core.Logic.{_≢_, ite, Ne·symm, _⊎_, inl, inr, ⊎-elim}
-use mathlib.Core.List.{List, [], _∷_}
+use mathlib.Core.List.{List, [], _∷_, _++_}
 use native.Mathlib.Decide.{ℕ-discrete}
 
 -- Two lists agree as far as both go.
@@ -40,6 +40,25 @@ module _ {S O : Type 0} (enabled : ℕ → S → Type 0) (next : ℕ → S → S
   abbrev pub outputs : ℕ → List ℕ → S → List O
   outputs e [] s = []
   outputs e (a ∷ w) s = ite (ℕ-discrete e a) (output a s ∷ outputs e w (next a s)) (outputs e w (next a s))
+
+  -- One list of events after another.
+  pub possible-append : (u w : List ℕ) (s : S) → Possible u s → Possible w (reached u s) → Possible (u ++ w) s
+  possible-append [] w s r t = t
+  possible-append (a ∷ u) w s r t = (r .0, possible-append u w (next a s) (r .1) t)
+
+  pub reached-append : (u w : List ℕ) (s : S) → reached (u ++ w) s ≡ reached w (reached u s)
+  reached-append [] w s = refl
+  reached-append (a ∷ u) w s = reached-append u w (next a s)
+
+  pub outputs-append : (e : ℕ) (u w : List ℕ) (s : S) → outputs e (u ++ w) s ≡ outputs e u s ++ outputs e w (reached u s)
+  outputs-append e [] w s = refl
+  outputs-append e (a ∷ u) w s = go (ℕ-discrete e a) (outputs-append e u w (next a s))
+    where
+      go : (d : Dec (e ≡ a)) → outputs e (u ++ w) (next a s) ≡ outputs e u (next a s) ++ outputs e w (reached u (next a s)) →
+          ite d (output a s ∷ outputs e (u ++ w) (next a s)) (outputs e (u ++ w) (next a s))
+          ≡ ite d (output a s ∷ outputs e u (next a s)) (outputs e u (next a s)) ++ outputs e w (reached u (next a s))
+      go (yes x) ih = ap (λ z. output a s ∷ z) ih
+      go (no x) ih = ih
 
   -- Two different events, both enabled: neither takes from the other what it needs, and their order does not matter.
   pub record Diamond : Type 0 where

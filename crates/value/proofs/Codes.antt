@@ -1,12 +1,12 @@
 -- Laws of `apply` and `operands`: document 01, "Values and operators". The table of codes is gone through once, in
 -- `apply-cases`; every other law is an instance of it. Assumes nothing.
-use mathlib.Core.Path.{_≡_, refl, sym, _∙_}
+use mathlib.Core.Path.{_≡_, refl}
 use mathlib.Core.List.{_∷_, []}
 use mathlib.Core.Logic.{⊎-elim, _⊎_, inl, inr}
 use mathlib.Core.Bool.{Bool, true, false, _||_}
 use Prim.Native.Nat.{ℕ, zero, suc, _≤_, _<_}
 use native.Mathlib.Omega.{arith}
-use borrow.Author.Tests.{le-leb, lt-leb, eq-eqb, ne-eqb, eqb-true, eqb-false}
+use borrow.Author.Tests.{eqb-true, eqb-false}
 use lib.Dec.{eqb}
 use lib.IntN.{ℤ, negℤ, _+ℤ_, _-ℤ_, _*ℤ_}
 use lib.Signed.{quotZ, remZ}
@@ -17,7 +17,7 @@ use Rattle.value.proofs.Whole.{fit-in-range, divided-in-range}
 use Rattle.value.specs.declared.Value.{Value}
 use Rattle.value.specs.declared.Value.the-variants.{Whole, Truth, Err}
 use Rattle.value.specs.Bytes.{InRange}
-use Rattle.value.specs.Operators.{pick, apply, operands, fitOf, dividedBy, wholes, truths, truth, whole, addOf, subtractOf, multiplyOf, divideOf, remainderOf, lessOf, equalOf, andOf, orOf, notOf, negateOf}
+use Rattle.value.specs.Operators.{pick, apply, operands, wholes, truths, truth, whole, addOf, subtractOf, multiplyOf, divideOf, remainderOf, lessOf, equalOf, andOf, orOf, notOf, negateOf}
 
 by-test : (P : Value → Type 0) (t : Bool) (x y : Value) → (t ≡ true → P x) → (t ≡ false → P y) → P (pick t x y)
 by-test P true x y h k = h refl

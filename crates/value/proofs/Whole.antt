@@ -1,19 +1,17 @@
 -- Laws of 32-bit whole numbers inside 64 bits: sums, products and quotients fit, and the range test is the tests of the code.
-use mathlib.Core.Path.{_≡_, refl, sym, ap, ap₂, _∙_, subst}
+use mathlib.Core.Path.{_≡_, refl, sym, ap, _∙_}
 use mathlib.Core.Bool.{Bool, true, false, cond, _&&_}
-use mathlib.Core.Logic.{⊎-elim}
-use Prim.Native.Nat.{ℕ, zero, suc, _+_, _*_, _-_, _/_, _%_, _^_, _≤_, _<_}
+use Prim.Native.Nat.{ℕ, zero, suc, _*_, _-_, _/_, _^_, _≤_, _<_}
 use native.Mathlib.Omega.{arith}
-use native.Mathlib.Nat.{mul-le-mul, div-le-self, mod-le, le-trans, lt-of-le-of-lt}
-use lib.IntN.{ℤ, pos, negsuc, _+ℤ_, _-ℤ_, _*ℤ_, negℤ, subℕ}
-use lib.Signed.{leZ, ltZ, quotZ, remZ, mag, mag-rem}
+use native.Mathlib.Nat.{mul-le-mul, div-le-self, lt-of-le-of-lt}
+use lib.IntN.{ℤ, pos, negsuc, _+ℤ_, _-ℤ_, _*ℤ_, negℤ}
+use lib.Signed.{ltZ, quotZ, remZ, mag, mag-rem}
 use lib.Dec.{ltb, leb, eqb}
-use borrow.Author.Tests.{ltb-true, ltb-false, le-leb, lt-leb, eq-eqb, ne-eqb, eqb-true, eqb-false, leb-true}
+use borrow.Author.Tests.{ltb-true, ltb-false, le-leb, lt-leb, ne-eqb, eqb-true, eqb-false, leb-true}
 use mir.Syntax.{w32, w64}
 use mir.Val.{SFits, toZ, ofZ}
-use mir.Facts.{toZ-ofZ, sfits-widen, fits-ofZ}
-use Rattle.value.specs.declared.Value.{Value}
-use Rattle.value.specs.declared.Value.the-variants.{Whole, Truth, Err}
+use mir.Facts.{toZ-ofZ, sfits-widen}
+use Rattle.value.specs.declared.Value.the-variants.{Whole, Err}
 use Rattle.value.specs.Bytes.{InRange}
 use Rattle.value.specs.Operators.{pick, inRange, fitOf, dividedBy, isZero, eqZ}
 

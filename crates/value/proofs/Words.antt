@@ -5,13 +5,12 @@ use mathlib.Core.Bool.{Bool, true, false}
 use mathlib.Core.Logic.{_⊎_, inl, inr, ⊎-elim}
 use mathlib.Core.List.{List, [], _∷_, _++_, append-assoc}
 use mathlib.Core.Option.{Option, some, none, Option·some-injective, Option·none-ne-some}
-use Prim.Native.Nat.{ℕ, zero, suc, _+_, _-_, _*_, _/_, _%_, _≤_, _<_}
+use Prim.Native.Nat.{ℕ, zero, suc, _+_, _*_, _/_, _%_, _≤_, _<_}
 use native.Mathlib.Omega.{arith}
 use native.Mathlib.Nat.{add-zero, div-div-eq-div-mul, div-add-mod', mod-eq-of-lt}
-use borrow.Author.Tests.{eq-eqb, ne-eqb, lt-ltb, le-ltb, eqb-true, eqb-false, ltb-true}
+use borrow.Author.Tests.{ne-eqb, lt-ltb, le-ltb, eqb-true, ltb-true}
 use lib.Dec.{eqb, ltb}
-use lib.IntN.{ℤ, pos, negsuc}
-use lib.Signed.{mag}
+use lib.IntN.{ℤ}
 use lib.ListN.{length, set, getD, take, drop}
 use lib.Seq.{sets, length-sets, sets-eq, getD-drop, drop-at, length-take-le, getD-set-other}
 use mir.Syntax.{w32}
@@ -20,7 +19,7 @@ use mir.Facts.{toZ-ofZ, ofZ-toZ, fits-ofZ, sfits-toZ}
 use Rattle.value.specs.declared.Value.{Value}
 use Rattle.value.specs.declared.Value.the-variants.{Whole, Truth, Err}
 use Rattle.value.specs.Operators.{pick}
-use Rattle.value.specs.Bytes.{InRange, tagOf, bitsOf, bitOf, wordOf, valueOf, wholeOf, truthOf, errOf, isSome, wordBytes, bytesOf, wordAt, stored}
+use Rattle.value.specs.Bytes.{InRange, bitOf, wordOf, valueOf, wholeOf, truthOf, errOf, isSome, wordBytes, wordAt, stored}
 
 -- ---- the tests of the code
 
@@ -177,6 +176,12 @@ word-of-bytes w h =
     (rw (div-div-eq-div-mul w 65536 256) at (div-add-mod' (w / 65536) 256))
     (rw (div-div-eq-div-mul w 16777216 256) at (div-add-mod' (w / 16777216) 256))
     (mod-eq-of-lt (omega arith))
+
+-- five bytes read one by one make the word
+pub word-read : (l : List ℕ) (at a b c d e : ℕ) → a ≡ getD l at 0 → b ≡ getD l (at + 1) 0 → c ≡ getD l (at + 2) 0 → d ≡ getD l (at + 3) 0 → e ≡ getD l (at + 4) 0
+    → a + 256 * b + 65536 * c + 16777216 * d + 4294967296 * e ≡ wordAt l at
+unfolding wordAt
+word-read l at a b c d e p q r s t = rw (p, q, r, s, t) refl
 
 word-drop : (l : List ℕ) (at : ℕ) → wordAt l at ≡ wordAt (drop at l) 0
 unfolding wordAt

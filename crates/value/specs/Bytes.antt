@@ -1,11 +1,10 @@
 -- The byte form of a value, for tokens in memory and for the sets that the firmware lends: a tag byte and four bytes,
 -- lowest first. Document 01, "Values and operators", gives the values; "Running" and "Said by .." ask of 12 and 31 that
 -- a field or token outside its range is refused, and `valueOf` is the definition of that range. Assumes nothing.
-use Prim.Native.Nat.{ℕ, zero, suc, _+_, _*_, _/_, _%_, _<_}
+use Prim.Native.Nat.{ℕ, _+_, _*_, _/_, _%_, _<_}
 use mathlib.Core.Bool.{Bool, true, false}
 use mathlib.Core.List.{List, [], _∷_}
 use mathlib.Core.Option.{Option, some, none}
-use lib.IntN.{ℤ}
 use lib.Signed.{mag}
 use lib.Dec.{eqb, ltb}
 use lib.ListN.{getD}

@@ -1,13 +1,15 @@
--- Outcomes of operators that document 01, "Values and operators", states or that its words decide at the ends of the
--- range: one list and one proof. They hold the definition in Operators to the paper. Assumes nothing.
-use Prim.Native.Nat.{ℕ}
+-- Outcomes that hold the definitions to the paper, each kind one list with one proof: of operators, which document 01,
+-- "Values and operators", states or whose words decide them at the ends of the range; and of byte forms. Assumes nothing.
+use Prim.Native.Nat.{ℕ, _+_, _*_}
 use mathlib.Core.Path.{_≡_, refl}
-use mathlib.Core.Bool.{Bool, true, false}
+use mathlib.Core.Bool.{true, false}
 use mathlib.Core.List.{List, [], _∷_, map}
-use lib.IntN.{ℤ, pos, negsuc}
+use mathlib.Core.Option.{some, none}
+use lib.IntN.{pos, negsuc}
 use Rattle.value.specs.declared.Value.{Value}
 use Rattle.value.specs.declared.Value.the-variants.{Whole, Truth, Err}
 use Rattle.value.specs.Operators.{apply}
+use Rattle.value.specs.Bytes.{bytesOf, valueOf, wordAt}
 
 pub record Case : Type 0 where
   pub code : ℕ
@@ -86,3 +88,34 @@ got c = apply (c .code) (c .first) (c .second)
 pub outcomes : map got cases ≡ map (λ c. c .gives) cases
 unfolding apply
 outcomes = refl
+
+-- ---- byte forms
+
+pub record Form : Type 0 where
+  pub value : Value
+  pub bytes : List ℕ
+
+abbrev pub forms : List Form
+forms =
+    record { value = n 0; bytes = 1 ∷ 0 ∷ 0 ∷ 0 ∷ 0 ∷ [] }
+    ∷ record { value = n 66051; bytes = 1 ∷ 3 ∷ 2 ∷ 1 ∷ 0 ∷ [] }
+    ∷ record { value = greatest; bytes = 1 ∷ 255 ∷ 255 ∷ 255 ∷ 127 ∷ [] }
+    ∷ record { value = minus 0; bytes = 1 ∷ 255 ∷ 255 ∷ 255 ∷ 255 ∷ [] }
+    ∷ record { value = least; bytes = 1 ∷ 0 ∷ 0 ∷ 0 ∷ 128 ∷ [] }
+    ∷ record { value = Truth false; bytes = 2 ∷ 0 ∷ 0 ∷ 0 ∷ 0 ∷ [] }
+    ∷ record { value = Truth true; bytes = 2 ∷ 1 ∷ 0 ∷ 0 ∷ 0 ∷ [] }
+    ∷ record { value = Err; bytes = 3 ∷ 0 ∷ 0 ∷ 0 ∷ 0 ∷ [] }
+    ∷ []
+
+pub bytes-of-forms : map (λ f. bytesOf (f .value)) forms ≡ map (λ f. f .bytes) forms
+unfolding bytesOf
+bytes-of-forms = refl
+
+pub values-of-forms : map (λ f. valueOf (wordAt (f .bytes) 0)) forms ≡ map (λ f. some (f .value)) forms
+unfolding valueOf wordAt
+values-of-forms = refl
+
+-- no value: an unknown tag, a truth that is neither, an err with a payload, a whole number of more than 32 bits
+pub no-values : map valueOf (0 ∷ 4 ∷ 255 ∷ 514 ∷ (2 + 256 * 4294967295) ∷ 259 ∷ (1 + 256 * 4294967296) ∷ []) ≡ none ∷ none ∷ none ∷ none ∷ none ∷ none ∷ none ∷ []
+unfolding valueOf
+no-values = refl

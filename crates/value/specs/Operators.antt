@@ -1,7 +1,7 @@
 -- The meaning of each operator: document 01, "Values and operators", in its order.
--- Everything above asks `apply` (code, first operand, second operand) and cites the laws in proofs/Codes; the
--- pieces above it are open to this crate's functions alone. Assumes nothing.
-use Prim.Native.Nat.{ℕ, zero, suc, _+_, _*_}
+-- Other crates ask `apply` (code, first operand, second operand) and cite its laws in proofs/Codes, or unfold it to
+-- compute; the pieces before it are for this crate's functions. Assumes nothing.
+use Prim.Native.Nat.{ℕ, zero, suc}
 use mathlib.Core.Bool.{Bool, true, false, _&&_, not, _||_}
 use lib.IntN.{ℤ, pos, negsuc, _+ℤ_, _-ℤ_, _*ℤ_, negℤ}
 use lib.Signed.{leZ, ltZ, quotZ, remZ}

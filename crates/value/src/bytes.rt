@@ -7,7 +7,7 @@ ghost use Prim.Native.Nat.{ℕ, _+_, _*_, _≤_, _<_};
 ghost use lib.ListN.{length};
 ghost use mir.Syntax.{w32};
 ghost use mir.Val.{toZ, ofZ};
-ghost use Rattle.value.specs.Bytes.{wordOf, valueOf, decoded, isSome, wordAt, stored, wholeOf, truthOf, errOf};
+ghost use Rattle.value.specs.Bytes.{InRange, wordOf, valueOf, decoded, isSome, wordAt, stored, wholeOf, truthOf, errOf};
 
 // A whole number from its 32 bits, two's complement.
 fn signed_of(bits: u32) -> i32
@@ -30,8 +30,9 @@ fn bits_of(z: i32) -> u32
     4294967295 - low
 }
 
+// The word of a value; and whoever hands in a value learns that it is in range.
 pub fn to_word(v: Value) -> u64
-    ensures { λ r. ⌜ r ≡ wordOf v ⌝ }
+    ensures { λ r. ⌜ (r ≡ wordOf v) × InRange v ⌝ }
 {
     match v {
         Value::Whole(z) => 1 + 256 * (bits_of(z) as u64),
@@ -75,6 +76,7 @@ fn from_err(bits: u64) -> Decoded
     Decoded::Invalid
 }
 
+// The value that a word is the byte form of, or none.
 pub fn from_word(w: u64) -> Decoded
     ensures { λ r. ⌜ r ≡ decoded (valueOf w) ⌝ }
 {

@@ -2,7 +2,6 @@ use Rattle.names.proofs.count.Statement.{statement}
 use Rattle.names.proofs.count.Tie as tie
 use Rattle.names.proofs.count.Reads as reads
 use Rattle.names.proofs.count.Lts as lts
-use native.Mathlib.Omega.{arith}
 use mathlib.Core.Path.{refl}
 use lib.Count.{ones-le}
 

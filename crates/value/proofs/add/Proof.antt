@@ -1,34 +1,32 @@
-use native.Mathlib.Nat.{le-of-lt}
-use borrow.Author.Needs.{needs}
-use mathlib.Core.Path.{_≡_, refl, sym, ap, _∙_}
-use mir.Facts.{toZ-ofZ}
-use Rattle.value.specs.declared.Value.the-variants.{Whole, Truth, Err}
-use Rattle.value.proofs.Whole.{back, back64, there, widened, sum-fits, difference-fits, product-fits, quotient-fits, rem-fits, too-low, too-high, whole-fits, whole-is, zero-bits, nonzero-bits, nonzero-64, eq-bits}
-use Rattle.value.specs.Operators.{fitOf, addOf, subtractOf, multiplyOf, divideOf, remainderOf, lessOf, equalOf, negateOf, eqZ}
 use borrow.Author.Needs.{needs}
 use Rattle.value.proofs.add.Statement.{statement}
 use Rattle.value.proofs.add.Tie as tie
 use Rattle.value.proofs.add.Reads as reads
 use Rattle.value.proofs.add.Lts as lts
 use Rattle.value.proofs.fit.Reads as fit-reads
+use native.Mathlib.Nat.{le-of-lt}
+use mathlib.Core.Path.{ap, _∙_}
+use mir.Facts.{toZ-ofZ}
+use Rattle.value.proofs.Whole.{there, widened, sum-fits}
+use Rattle.value.specs.Operators.{fitOf, addOf}
 
--- src/lib.rt:31:9
+-- src/lib.rt:39:9  { ⏎ fit(a as i64 + b as i64)
 cast-fit : tie.Need-cast-fit
 cast-fit c = widened (c .fits .a)
 
--- src/lib.rt:31:20
+-- src/lib.rt:39:20  { ⏎ fit(a as i64 + b as i64)
 cast-fit-2 : tie.Need-cast-fit-2
 cast-fit-2 c = widened (c .fits .b)
 
--- src/lib.rt:31:9
+-- src/lib.rt:39:9  { ⏎ fit(a as i64 + b as i64)
 add-fit : tie.Need-add-fit
 add-fit c = simp (there (c .fits .a), there (c .fits .b)) (sum-fits (c .args .a) (c .args .b) (c .fits .a .sfits) (le-of-lt (c .fits .b .sfits)))
 
--- src/lib.rt:31:5
+-- src/lib.rt:39:5  { ⏎ fit(a as i64 + b as i64)
 fit-requires : tie.Need-fit-requires
 fit-requires c κs = tt
 
--- src/lib.rt:28:1
+-- src/lib.rt:36:1  } ⏎ fn add(a: i32, b: i32) -> Value
 returns : tie.Need-returns
 unfolding addOf
 returns c = c .fit .ensures ∙ ap fitOf (simp (there (c .before .fits .a), there (c .before .fits .b), toZ-ofZ (sum-fits (c .before .args .a) (c .before .args .b) (c .before .fits .a .sfits) (le-of-lt (c .before .fits .b .sfits)))))

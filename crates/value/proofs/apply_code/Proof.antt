@@ -8,7 +8,7 @@ use Rattle.value.proofs.apply_wholes.Reads as apply-wholes-reads
 use Rattle.value.proofs.negate.Reads as negate-reads
 use borrow.Author.Needs.{needs, sfits-of}
 use native.Mathlib.Omega.{arith}
-use mathlib.Core.Path.{_≡_, sym, refl}
+use mathlib.Core.Path.{sym, refl}
 use mathlib.Core.Logic.{inl, inr}
 use mir.Syntax.{w32}
 use mir.Facts.{toZ-ofZ}

@@ -1,30 +1,28 @@
-use lib.IntN.{+ℤ-idl}
-use borrow.Author.Needs.{needs}
-use mathlib.Core.Path.{_≡_, refl, sym, ap, _∙_}
-use mir.Facts.{toZ-ofZ}
-use Rattle.value.specs.declared.Value.the-variants.{Whole, Truth, Err}
-use Rattle.value.proofs.Whole.{back, back64, there, widened, sum-fits, difference-fits, product-fits, quotient-fits, rem-fits, too-low, too-high, whole-fits, whole-is, zero-bits, nonzero-bits, nonzero-64, eq-bits, neg-fits}
-use Rattle.value.specs.Operators.{fitOf, addOf, subtractOf, multiplyOf, divideOf, remainderOf, lessOf, equalOf, negateOf, eqZ}
 use borrow.Author.Needs.{needs}
 use Rattle.value.proofs.negate.Statement.{statement}
 use Rattle.value.proofs.negate.Tie as tie
 use Rattle.value.proofs.negate.Reads as reads
 use Rattle.value.proofs.negate.Lts as lts
 use Rattle.value.proofs.fit.Reads as fit-reads
+use lib.IntN.{+ℤ-idl}
+use mathlib.Core.Path.{ap, _∙_}
+use mir.Facts.{toZ-ofZ}
+use Rattle.value.proofs.Whole.{there, widened, neg-fits}
+use Rattle.value.specs.Operators.{fitOf, negateOf}
 
--- src/lib.rt:79:13
+-- src/lib.rt:88:13  { ⏎ fit(0 - a as i64)
 cast-fit : tie.Need-cast-fit
 cast-fit c = widened (c .fits .a)
 
--- src/lib.rt:79:9
+-- src/lib.rt:88:9  { ⏎ fit(0 - a as i64)
 sub-fit : tie.Need-sub-fit
 sub-fit c = simp (there (c .fits .a), +ℤ-idl) (neg-fits (c .fits .a))
 
--- src/lib.rt:79:5
+-- src/lib.rt:88:5  { ⏎ fit(0 - a as i64)
 fit-requires : tie.Need-fit-requires
 fit-requires c κs = tt
 
--- src/lib.rt:76:1
+-- src/lib.rt:85:1  } ⏎ fn negate(a: i32) -> Value
 returns : tie.Need-returns
 unfolding negateOf
 returns c = c .fit .ensures ∙ ap fitOf (simp (there (c .before .fits .a), +ℤ-idl, toZ-ofZ (neg-fits (c .before .fits .a))))

@@ -12,8 +12,6 @@ use mir.Syntax.{w32}
 use mir.Val.{Fits}
 use mir.Facts.{toZ-ofZ, sfits-toZ}
 use Rattle.value.specs.Bytes.{wholeOf}
-use borrow.Author.Needs.{sfits-of}
-use mathlib.Core.Path.{ap}
 
 -- src/bytes.rt:52:54  if bits < 4294967296 { ⏎ return Decoded::Valid(Value::Whole(signed_of(bits as u32)));
 cast-signed-of : tie.Need-cast-signed-of

@@ -1,0 +1,179 @@
+-- Demand 3 over every list of accepted calls, for a graph that the maker made (`Made`) and any capacity of at least one place: the k-th result taken
+-- is what direct evaluation yields for the k-th set pushed, if the evaluation of each of the first k sets ends; and when nothing can fire, every
+-- pushed set has been taken or a take is possible. A refused call is no step of the list and a run is its firings.
+-- Assumes besides `Made` that the source is used by push alone and the credit link by push and take alone.
+use Prim.Native.Nat.{ℕ, zero, suc, _<_, _≤_, _+_}
+use mathlib.Core.Path.{_≡_, refl, sym, _∙_, ap, subst}
+use mathlib.Core.Logic.{_≢_, Ne·symm, _⊎_, inl, inr}
+use mathlib.Core.List.{List, [], _∷_, _++_}
+use mathlib.Core.Option.{Option}
+use lib.ListN.{length, take, drop, take-append-drop, length-append}
+use native.Mathlib.Decide.{decLe}
+use native.Mathlib.Omega.{arith}
+use Rattle.schedule.specs.Schedules.{Possible, reached, outputs, Agree}
+use Rattle.value.specs.declared.Value.{Value}
+use Rattle.network.specs.Values.{true-value}
+use Rattle.network.specs.Net.{Token, val, Demand, ask, fire, halt, Links, head, tail, pop, pop-same, pop-other, append, append-same, append-other, Able, appends, act}
+use Rattle.network.specs.Commute.{Never-asks, Not-among, Never-emits}
+use Rattle.network.specs.Ends.{take-demand, collect, machine-take, machine-graph}
+use Rattle.network.specs.Uses.{In}
+use Rattle.pieces.specs.Load.{set-link, set-other, set-ext, put, put-off}
+use Rattle.pieces.specs.Piece.{Piece, Means}
+use Rattle.pieces.specs.Sets.{tokens-of, onto}
+use Rattle.pieces.specs.Demand3.{tape-of, each-tokens}
+use Rattle.pieces.specs.Made.{Made, Ending, Fitting, E, X, O, demand-results, demand-ready}
+use Rattle.pieces.specs.Tape.{able-set, Step, pushing, firing, taking, sets-of, takes-of, Accepted, after, results-of, Sized, events-of, Source-apart, Follows, asks-take, emits-take, simulated, counts}
+
+-- A firing leaves a link that it does not use as it was.
+appends-at : (es : List (ℕ × Token)) (l : ℕ) (q : Links) → Not-among es l → appends es q l ≡ q l
+appends-at [] l q n = refl
+appends-at (e ∷ es) l q n = appends-at es l (append (e .0) (e .1) q) (n .1) ∙ append-other (e .0) l (e .1) q (Ne·symm (n .0))
+
+act-at : (d : Demand) (l : ℕ) (q : Links) → Never-asks d l → Never-emits d l → act d q l ≡ q l
+act-at (ask m k) l q na ne = act-at (k (head (q m))) l (pop m q) (na .1 (head (q m))) (ne (head (q m))) ∙ pop-other m l q (Ne·symm (na .0))
+act-at (fire es r) l q na ne = appends-at es l q ne
+act-at halt l q na ne = refl
+
+onto-apart : (l : ℕ) (is : List ℕ) (vs : List Value) → (In l is → ⊥) → Not-among (onto is vs) l
+onto-apart l [] vs n = tt
+onto-apart l (i ∷ is) [] n = tt
+onto-apart l (i ∷ is) (v ∷ vs) n = (λ e. n (inl (sym e)), onto-apart l is vs (λ m. n (inr m)))
+
+-- a take removes one token from the credit link
+collect-credit : (cap : ℕ → ℕ) (credit : ℕ) (os : List ℕ) (k : List Token → List Token) (q : Links) → (In credit os → ⊥) →
+    Able cap (collect os (λ ts. ask credit (λ u. fire [] (k ts)))) q →
+    length (q credit) ≡ suc (length (act (collect os (λ ts. ask credit (λ u. fire [] (k ts)))) q credit))
+collect-credit cap credit [] k q n (h, o) = shorter (q credit) h ∙ ap (λ z. suc (length z)) (sym (pop-same credit q))
+  where
+    shorter : (ts : List Token) → 0 < length ts → length ts ≡ suc (length (tail ts))
+    shorter [] h = absurd (omega arith)
+    shorter (t ∷ ts) h = refl
+collect-credit cap credit (m ∷ os) k q n (h, o) =
+    ap length (sym (pop-other m credit q (λ e. n (inl e)))) ∙ collect-credit cap credit os (λ ts. k (head (q m) ∷ ts)) (pop m q) (λ i. n (inr i)) o
+
+module _ (graph : ℕ → Demand) (credit : ℕ) (ins outs : List ℕ) (cap : ℕ → ℕ) where
+  -- The credit link is used by push and take alone.
+  pub record Credit-apart : Type 0 where
+    pub credit-asks : (a : ℕ) → Never-asks (graph a) credit
+    pub credit-emits : (a : ℕ) → Never-emits (graph a) credit
+    pub credit-no-input : In credit ins → ⊥
+    pub credit-no-result : In credit outs → ⊥
+
+  -- The credit link counts the sets untaken.
+  pub untaken-counted : Credit-apart → (w : List Step) (q : Links) → Accepted graph credit ins outs cap w q →
+      takes-of w + length (after graph credit ins outs cap w q credit) ≡ length (sets-of w) + length (q credit)
+  untaken-counted C [] q a = refl
+  untaken-counted C (pushing vs ∷ w) q (o, a) =
+      let D : Demand = fire ((credit, val true-value) ∷ onto ins vs) [] in
+      let e : act D q credit ≡ q credit ++ (val true-value ∷ [])
+      = appends-at (onto ins vs) credit (append credit (val true-value) q) (onto-apart credit ins vs (C .credit-no-input)) ∙ append-same credit (val true-value) q in
+      omega (arith, untaken-counted C w (act D q) a, ap length e ∙ length-append (q credit) (val true-value ∷ []))
+  untaken-counted C (firing b ∷ w) q (o, a) =
+      omega (arith, untaken-counted C w (act (graph b) q) a, ap length (act-at (graph b) credit q (C .credit-asks b) (C .credit-emits b)))
+  untaken-counted C (taking ∷ w) q (o, a) =
+      omega (arith, untaken-counted C w (act (take-demand credit outs) q) a, collect-credit cap credit outs (λ ts. ts) q (C .credit-no-result) o)
+
+length-results : (graph : ℕ → Demand) (credit : ℕ) (ins outs : List ℕ) (cap : ℕ → ℕ) (w : List Step) (q : Links) →
+    length (results-of graph credit ins outs cap w q) ≡ takes-of w
+length-results graph credit ins outs cap [] q = refl
+length-results graph credit ins outs cap (pushing vs ∷ w) q = length-results graph credit ins outs cap w (act (fire ((credit, val true-value) ∷ onto ins vs) []) q)
+length-results graph credit ins outs cap (firing b ∷ w) q = length-results graph credit ins outs cap w (act (graph b) q)
+length-results graph credit ins outs cap (taking ∷ w) q = ap suc (length-results graph credit ins outs cap w (act (take-demand credit outs) q))
+
+tape-append : (vss wss : List (List Value)) (t : List Token) → tape-of (vss ++ wss) t ≡ tape-of vss (tape-of wss t)
+tape-append [] wss t = refl
+tape-append (v ∷ vss) wss t = ap (λ z. tokens-of v ++ z) (tape-append vss wss t)
+
+-- two lists that agree, the first at least as long
+agree-first : {A : Type 0} (xs ys : List A) → Agree xs ys → length ys ≤ length xs → take (length ys) xs ≡ ys
+agree-first [] [] a h = refl
+agree-first [] (y ∷ ys) a h = absurd (omega arith)
+agree-first (x ∷ xs) [] a h = refl
+agree-first (x ∷ xs) (y ∷ ys) a h = ap (λ z. z ∷ take (length ys) xs) (a .0) ∙ ap (λ z. y ∷ z) (agree-first xs ys (a .1) (omega arith))
+
+module _ (graph : ℕ → Demand) (p k source credit : ℕ) (P : Piece) (M : Means) (eval : ℕ → List Value → Option (List Value)) (F : Made graph p k source credit P M eval) (cap : ℕ → ℕ)
+    (roomy : (l : ℕ) → 1 ≤ cap l) (A : Source-apart graph p k source credit (P .ins) (P .outs) cap) (C : Credit-apart graph credit (P .ins) (P .outs) cap) where
+  -- the machine as start leaves it
+  abbrev pub started : Links
+  started = put (F .fresh) (λ l. [])
+
+  abbrev pub Accepted-calls : List Step → Type 0
+  Accepted-calls w = Accepted graph credit (P .ins) (P .outs) cap w started
+
+  abbrev pub standing : List Step → Links
+  standing w = after graph credit (P .ins) (P .outs) cap w started
+
+  abbrev pub taken-results : List Step → List (List Token)
+  taken-results w = results-of graph credit (P .ins) (P .outs) cap w started
+
+  fitting : (vss : List (List Value)) → Sized (P .ins) vss → Fitting graph p k source credit P M eval vss
+  fitting [] s = tt
+  fitting (v ∷ vss) s = (s .0, fitting vss (s .1))
+
+  ending-length : (vss rss : List (List Value)) → Ending graph p k source credit P M eval vss rss → length (each-tokens rss) ≡ length vss
+  ending-length [] [] e = refl
+  ending-length [] (r ∷ rss) e = absurd e
+  ending-length (v ∷ vss) [] e = absurd e
+  ending-length (v ∷ vss) (r ∷ rss) e = ap suc (ending-length vss rss (e .2))
+
+  credit-empty : started credit ≡ []
+  credit-empty = put-off credit (F .fresh) (λ l. []) (λ o. F .bench .credit-off (inl (F .bench .neat .idle-own (F .fresh) (F .fresh-idle) credit o)))
+
+  length-take-at : {B : Type 0} (n : ℕ) (xs : List B) → n ≤ length xs → length (take n xs) ≡ n
+  length-take-at zero xs h = refl
+  length-take-at (suc n) [] h = absurd (omega arith)
+  length-take-at (suc n) (x ∷ xs) h = ap suc (length-take-at n xs (omega arith))
+
+  -- No more results are taken than sets were pushed.
+  pub taken-at-most-pushed : (w : List Step) → Accepted-calls w → takes-of w ≤ length (sets-of w)
+  taken-at-most-pushed w a =
+      omega (arith, untaken-counted graph credit (P .ins) (P .outs) cap C w started a, ap length credit-empty)
+
+  -- First half: "For every k up to the number of results taken since that start: if direct evaluation of each of the first k sets pushed ends, the
+  -- k-th result taken is exactly what it yields for the k-th set pushed."
+  pub first-half : (w : List Step) → Sized (P .ins) (sets-of w) → Accepted-calls w → (n : ℕ) → n ≤ takes-of w → (rss : List (List Value)) →
+      Ending graph p k source credit P M eval (take n (sets-of w)) rss → take n (taken-results w) ≡ each-tokens rss
+  first-half w s a n h rss e =
+      let sim = simulated graph p k source credit (P .ins) (P .outs) cap A w started [] s a in
+      let tapes : tape-of (sets-of w) [] ≡ tape-of (take n (sets-of w)) (tape-of (drop n (sets-of w)) [])
+      = ap (λ z. tape-of z []) (sym (take-append-drop n (sets-of w))) ∙ tape-append (take n (sets-of w)) (drop n (sets-of w)) [] in
+      let ag : Agree (taken-results w) (each-tokens rss)
+      = subst (λ z. Agree z (each-tokens rss)) (sim .hands)
+      (subst (λ t. Agree (outputs (E graph p k source credit P M eval F cap roomy) (X graph p k source credit P M eval F cap roomy) (O graph p k source credit P M eval F cap roomy) k (events-of p k w) (set-link source t started)) (each-tokens rss)) (sym tapes)
+      (demand-results graph p k source credit P M eval F cap roomy (take n (sets-of w)) rss (tape-of (drop n (sets-of w)) []) (events-of p k w) e
+      (subst (λ t. Possible (E graph p k source credit P M eval F cap roomy) (X graph p k source credit P M eval F cap roomy) (O graph p k source credit P M eval F cap roomy) (events-of p k w) (set-link source t started)) tapes (sim .possible)))) in
+      let len : length (each-tokens rss) ≡ n
+      = ending-length (take n (sets-of w)) rss e ∙ length-take-at n (sets-of w) (omega (arith, taken-at-most-pushed w a)) in
+      subst (λ z. take z (taken-results w) ≡ each-tokens rss) len
+      (agree-first (taken-results w) (each-tokens rss) ag (omega (arith, length-results graph credit (P .ins) (P .outs) cap w started)))
+
+  -- a firing that does not use the source, with the tape and without it
+  without-tape : (d : Demand) (q : Links) → Never-asks d source → Never-emits d source → Able cap d (set-link source [] q) → Able cap d q
+  without-tape d q na ne o =
+      subst (Able cap d) (set-ext source (q source) (set-link source [] q) q refl (λ j n. set-other source j [] q n))
+      (able-set cap source (q source) d (set-link source [] q) na ne o)
+
+  -- Second half: "when nothing can fire, either every pushed set has been taken, or the oldest untaken one has its whole result ready to take."
+  pub second-half : (w : List Step) → Sized (P .ins) (sets-of w) → Accepted-calls w → ((a : ℕ) → Able cap (graph a) (standing w) → ⊥) →
+      (takes-of w ≡ length (sets-of w)) ⊎ Able cap (take-demand credit (P .outs)) (standing w)
+  second-half w s a quiet = go (decLe (length (sets-of w)) (takes-of w))
+    where
+      sim : Follows graph p k source credit (P .ins) (P .outs) cap (events-of p k w) (set-link source (tape-of (sets-of w) []) started) (set-link source [] (standing w)) (taken-results w)
+      sim = simulated graph p k source credit (P .ins) (P .outs) cap A w started [] s a
+
+      stuck : (b : ℕ) → b ≢ p → b ≢ k →
+          E graph p k source credit P M eval F cap roomy b
+          (reached (E graph p k source credit P M eval F cap roomy) (X graph p k source credit P M eval F cap roomy) (O graph p k source credit P M eval F cap roomy) (events-of p k w) (set-link source (tape-of (sets-of w) []) started)) → ⊥
+      stuck b np nk en =
+          quiet b (without-tape (graph b) (standing w) (A .graph-asks b) (A .graph-emits b)
+          (subst (λ d. Able cap d (set-link source [] (standing w))) (machine-graph graph p k source credit (P .ins) (P .outs) b np nk)
+          (subst (E graph p k source credit P M eval F cap roomy b) (sim .leads) en)))
+
+      go : Dec (length (sets-of w) ≤ takes-of w) → (takes-of w ≡ length (sets-of w)) ⊎ Able cap (take-demand credit (P .outs)) (standing w)
+      go (yes le) = inl (omega (arith, taken-at-most-pushed w a))
+      go (no n) =
+          let c = counts graph p k source credit (P .ins) (P .outs) cap A w started a in
+          inr (without-tape (take-demand credit (P .outs)) (standing w) (asks-take graph p k source credit (P .ins) (P .outs) cap A) (emits-take graph p k source credit (P .ins) (P .outs) cap A)
+          (subst (λ d. Able cap d (set-link source [] (standing w))) (machine-take graph p k source credit (P .ins) (P .outs) (A .push-not-take))
+          (subst (E graph p k source credit P M eval F cap roomy k) (sim .leads)
+          (demand-ready graph p k source credit P M eval F cap roomy (sets-of w) [] (events-of p k w) (fitting (sets-of w) s) (sim .possible) (omega (arith, c .0)) (omega (arith, c .0, c .1)) stuck))))

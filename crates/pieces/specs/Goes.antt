@@ -1,0 +1,152 @@
+-- The judgement of all schedules (demand 3's one good order of firings): from one load to another, on every base that is empty in a region, by
+-- a list of firings that is possible with one place a link and has at least a given length. The length is what an evaluation that needs more
+-- rounds than were lent leaves behind. Knows of no gate and no formula.
+use Prim.Native.Nat.{ℕ, _≤_, _+_}
+use mathlib.Core.Path.{_≡_, refl, sym, _∙_, ap, subst}
+use mathlib.Core.List.{List, [], _∷_, _++_}
+use lib.ListN.{length, length-append}
+use native.Mathlib.Omega.{arith}
+use Rattle.network.specs.Net.{Demand, Links}
+use Rattle.network.specs.Commute.{enabled, next, output}
+use Rattle.schedule.specs.Schedules.{Possible, reached, possible-append, reached-append}
+use Rattle.pieces.specs.Load.{Load, put, put-app, Clear, Off, Apart, Within, put-off, put-clear, Nones, put-nones, cat, pulls, Pair, put-pulls, app-assoc}
+
+-- The capacity is one at every link.
+abbrev pub one-place : ℕ → ℕ
+one-place l = 1
+
+module _ (net : ℕ → Demand) where
+  -- A schedule that is possible with one place a link, and where it leads.
+  abbrev pub Feasible : List ℕ → Links → Type 0
+  Feasible = Possible (enabled net one-place) (next net one-place) (output net one-place)
+
+  abbrev pub led-to : List ℕ → Links → Links
+  led-to = reached (enabled net one-place) (next net one-place) (output net one-place)
+
+  feasible-append : (u w : List ℕ) (q : Links) → Feasible u q → Feasible w (led-to u q) → Feasible (u ++ w) q
+  feasible-append = possible-append (enabled net one-place) (next net one-place) (output net one-place)
+
+  led-to-append : (u w : List ℕ) (q : Links) → led-to (u ++ w) q ≡ led-to w (led-to u q)
+  led-to-append = reached-append (enabled net one-place) (next net one-place) (output net one-place)
+
+  -- A schedule of at least `c` firings, from one state to exactly another.
+  pub record Steps (q : Links) (c : ℕ) (q′ : Links) : Type 0 where
+    pub w : List ℕ
+    pub runs : Feasible w q
+    pub ends : led-to w q ≡ q′
+    pub many : c ≤ length w
+
+  -- A schedule of at least `c` firings, wherever it leads.
+  pub record Long (q : Links) (c : ℕ) : Type 0 where
+    pub w : List ℕ
+    pub runs : Feasible w q
+    pub many : c ≤ length w
+
+  pub stay : (q : Links) → Steps q 0 q
+  stay q = record { w = []; runs = tt; ends = refl; many = omega arith }
+
+  pub steps-then : (q q₁ q₂ : Links) (c d : ℕ) → Steps q c q₁ → Steps q₁ d q₂ → Steps q (c + d) q₂
+  steps-then q q₁ q₂ c d s t =
+      record {
+        w = s .w ++ t .w;
+        runs = feasible-append (s .w) (t .w) q (s .runs) (subst (Feasible (t .w)) (sym (s .ends)) (t .runs));
+        ends = led-to-append (s .w) (t .w) q ∙ ap (led-to (t .w)) (s .ends) ∙ t .ends;
+        many = simp length-append (omega (arith, s .many, t .many));
+      }
+
+  pub steps-long : (q q₁ : Links) (c d : ℕ) → Steps q c q₁ → Long q₁ d → Long q (c + d)
+  steps-long q q₁ c d s t =
+      record {
+        w = s .w ++ t .w;
+        runs = feasible-append (s .w) (t .w) q (s .runs) (subst (Feasible (t .w)) (sym (s .ends)) (t .runs));
+        many = simp length-append (omega (arith, s .many, t .many));
+      }
+
+  -- The judgements. `Goes D xs c ys`: on every base that is empty in the region `D`, the load `xs` becomes the load `ys` by a schedule of at
+  -- least `c` firings. The base is any: so nothing that is not in the load is touched, and every frame is built in.
+  abbrev pub Goes : (ℕ → Type 0) → Load → ℕ → Load → Type 0
+  Goes D xs c ys = (b : Links) → Clear D b → Steps (put xs b) c (put ys b)
+
+  abbrev pub Goes-on : (ℕ → Type 0) → Load → ℕ → Type 0
+  Goes-on D xs c = (b : Links) → Clear D b → Long (put xs b) c
+
+  -- Its rules.
+  pub go-stay : (D : ℕ → Type 0) (xs : Load) → Goes D xs 0 xs
+  go-stay D xs b cl = stay (put xs b)
+
+  pub go-then : (D : ℕ → Type 0) (xs ys zs : Load) (c d : ℕ) → Goes D xs c ys → Goes D ys d zs → Goes D xs (c + d) zs
+  go-then D xs ys zs c d f g b cl = steps-then (put xs b) (put ys b) (put zs b) c d (f b cl) (g b cl)
+
+  pub go-then-on : (D : ℕ → Type 0) (xs ys : Load) (c d : ℕ) → Goes D xs c ys → Goes-on D ys d → Goes-on D xs (c + d)
+  go-then-on D xs ys c d f g b cl = steps-long (put xs b) (put ys b) c d (f b cl) (g b cl)
+
+  pub go-wide : (D E : ℕ → Type 0) (xs ys : Load) (c : ℕ) → ((l : ℕ) → D l → E l) → Goes D xs c ys → Goes E xs c ys
+  go-wide D E xs ys c up f b cl = f b (λ l d. cl l (up l d))
+
+  pub go-wide-on : (D E : ℕ → Type 0) (xs : Load) (c : ℕ) → ((l : ℕ) → D l → E l) → Goes-on D xs c → Goes-on E xs c
+  go-wide-on D E xs c up f b cl = f b (λ l d. cl l (up l d))
+
+  pub go-less : (D : ℕ → Type 0) (xs ys : Load) (c d : ℕ) → d ≤ c → Goes D xs c ys → Goes D xs d ys
+  go-less D xs ys c d le f b cl = let s = f b cl in record { w = s .w; runs = s .runs; ends = s .ends; many = omega (arith, s .many) }
+
+  pub go-less-on : (D : ℕ → Type 0) (xs : Load) (c d : ℕ) → d ≤ c → Goes-on D xs c → Goes-on D xs d
+  go-less-on D xs c d le f b cl = let s = f b cl in record { w = s .w; runs = s .runs; many = omega (arith, s .many) }
+
+  -- the frame: tokens away from the region pass by
+  pub go-by : (D : ℕ → Type 0) (xs ys zs : Load) (c : ℕ) → Off zs D → Goes D xs c ys → Goes D (xs ++ zs) c (ys ++ zs)
+  go-by D xs ys zs c off f b cl =
+      rw (put-app xs zs b, put-app ys zs b) (f (put zs b) (put-clear zs D b off cl))
+
+  pub go-by-on : (D : ℕ → Type 0) (xs zs : Load) (c : ℕ) → Off zs D → Goes-on D xs c → Goes-on D (xs ++ zs) c
+  go-by-on D xs zs c off f b cl = rw (put-app xs zs b) (f (put zs b) (put-clear zs D b off cl))
+
+  -- loads that are one and the same on a clear base
+  abbrev pub Alike : (ℕ → Type 0) → Load → Load → Type 0
+  Alike D xs ys = (b : Links) → Clear D b → put xs b ≡ put ys b
+
+  pub go-from : (D : ℕ → Type 0) (xs xs′ ys : Load) (c : ℕ) → Alike D xs xs′ → Goes D xs c ys → Goes D xs′ c ys
+  go-from D xs xs′ ys c e f b cl = subst (λ q. Steps q c (put ys b)) (e b cl) (f b cl)
+
+  pub go-to : (D : ℕ → Type 0) (xs ys ys′ : Load) (c : ℕ) → Alike D ys ys′ → Goes D xs c ys → Goes D xs c ys′
+  go-to D xs ys ys′ c e f b cl = subst (λ q. Steps (put xs b) c q) (e b cl) (f b cl)
+
+  pub go-from-on : (D : ℕ → Type 0) (xs xs′ : Load) (c : ℕ) → Alike D xs xs′ → Goes-on D xs c → Goes-on D xs′ c
+  go-from-on D xs xs′ c e f b cl = subst (λ q. Long q c) (e b cl) (f b cl)
+
+  pub alike-pulls : (D : ℕ → Type 0) (ks : List ℕ) (bs : List Load) → Pair bs → Alike D (cat (pulls ks bs)) (cat bs)
+  alike-pulls D ks bs p b cl = put-pulls ks bs b p
+
+  pub alike-sym : (D : ℕ → Type 0) (xs ys : Load) → Alike D xs ys → Alike D ys xs
+  alike-sym D xs ys e b cl = sym (e b cl)
+
+  pub alike-then : (D : ℕ → Type 0) (xs ys zs : Load) → Alike D xs ys → Alike D ys zs → Alike D xs zs
+  alike-then D xs ys zs e f b cl = e b cl ∙ f b cl
+
+  -- empty links said or not
+  pub alike-nones : (D : ℕ → Type 0) (xs ys : Load) → Nones xs → Within xs D → Apart xs ys → Alike D (xs ++ ys) ys
+  alike-nones D xs ys n wi ap′ b cl =
+      put-app xs ys b ∙ put-nones xs (put ys b) n (λ l o. put-off l ys b (λ o′. ap′ l o o′) ∙ cl l (wi l o))
+
+  pub alike-cat : (D : ℕ → Type 0) (zs xs ys : Load) → Alike D xs ys → Alike D (zs ++ xs) (zs ++ ys)
+  alike-cat D zs xs ys e b cl = put-app zs xs b ∙ ap (put zs) (e b cl) ∙ sym (put-app zs ys b)
+
+  -- work at the first two blocks
+  pub go-two : (D : ℕ → Type 0) (x y u v : Load) (c : ℕ) (bs : List Load) → Off (cat bs) D → Goes D (x ++ y) c (u ++ v) →
+      Goes D (cat (x ∷ y ∷ bs)) c (cat (u ∷ v ∷ bs))
+  go-two D x y u v c bs off f =
+      subst (λ z. Goes D z c (u ++ (v ++ cat bs))) (app-assoc x y (cat bs))
+      (subst (λ z. Goes D ((x ++ y) ++ cat bs) c z) (app-assoc u v (cat bs)) (go-by D (x ++ y) (u ++ v) (cat bs) c off f))
+
+  pub go-two-on : (D : ℕ → Type 0) (x y : Load) (c : ℕ) (bs : List Load) → Off (cat bs) D → Goes-on D (x ++ y) c → Goes-on D (cat (x ∷ y ∷ bs)) c
+  go-two-on D x y c bs off f = subst (λ z. Goes-on D z c) (app-assoc x y (cat bs)) (go-by-on D (x ++ y) (cat bs) c off f)
+
+  -- blocks in another order
+  pub go-order : (D : ℕ → Type 0) (xs : Load) (c : ℕ) (ks : List ℕ) (bs : List Load) → Pair bs → Goes D xs c (cat bs) → Goes D xs c (cat (pulls ks bs))
+  go-order D xs c ks bs p f = go-to D xs (cat bs) (cat (pulls ks bs)) c (alike-sym D (cat (pulls ks bs)) (cat bs) (alike-pulls D ks bs p)) f
+
+  -- what is done first need not count
+  pub go-first : (D : ℕ → Type 0) (xs ys zs : Load) (c : ℕ) → Goes D xs 0 ys → Goes D ys c zs → Goes D xs c zs
+  go-first D xs ys zs c f g = go-less D xs zs (0 + c) c (omega arith) (go-then D xs ys zs 0 c f g)
+
+  pub go-first-on : (D : ℕ → Type 0) (xs ys : Load) (c : ℕ) → Goes D xs 0 ys → Goes-on D ys c → Goes-on D xs c
+  go-first-on D xs ys c f g = go-less-on D xs (0 + c) c (omega arith) (go-then-on D xs ys 0 c f g)

@@ -1,0 +1,267 @@
+-- Loads: which tokens lie on which links. A state is a load put upon a base that is empty there; all reasoning about schedules is rewriting of
+-- loads, and what is not in the load is in the base, which nothing touches. A register, a waiting control and a datum are all load.
+-- Blocks of a load that share no link may change places; that they share none comes from colours of links, compared as numerals.
+use Prim.Native.Nat.{ℕ, zero, suc, _+_}
+use mathlib.Core.Path.{_≡_, refl, sym, _∙_, ap, fun-ext}
+use mathlib.Core.Logic.{_≢_, ite, _⊎_, inl, inr, ⊎-elim}
+use mathlib.Core.List.{List, [], _∷_, _++_}
+use mathlib.Core.Option.{Option, none, some}
+use mathlib.Core.Bool.{Bool, true, false, _&&_, and-eq-true-iff, false≢true}
+use native.Mathlib.Decide.{ℕ-discrete}
+use Rattle.network.specs.Net.{Token, Links}
+
+-- A link and its token, if any: `(l, none)` says that `l` is empty.
+abbrev pub Load : Type 0
+Load = List (ℕ × Option Token)
+
+abbrev pub opt : Option Token → List Token
+opt none = []
+opt (some t) = t ∷ []
+
+unfoldable pub set-link : ℕ → List Token → Links → Links
+set-link l x q j = ite (ℕ-discrete j l) x (q j)
+
+pub set-same : (l : ℕ) (x : List Token) (q : Links) → set-link l x q l ≡ x
+unfolding set-link
+set-same l x q = go (ℕ-discrete l l)
+  where
+    go : (d : Dec (l ≡ l)) → ite d x (q l) ≡ x
+    go (yes p) = refl
+    go (no n) = absurd (n refl)
+
+pub set-other : (l j : ℕ) (x : List Token) (q : Links) → j ≢ l → set-link l x q j ≡ q j
+unfolding set-link
+set-other l j x q ne = go (ℕ-discrete j l)
+  where
+    go : (d : Dec (j ≡ l)) → ite d x (q j) ≡ q j
+    go (yes p) = absurd (ne p)
+    go (no n) = refl
+
+-- two states are one if they agree at `l` and elsewhere
+pub set-ext : (l : ℕ) (x : List Token) (q q′ : Links) → q′ l ≡ x → ((j : ℕ) → j ≢ l → q j ≡ q′ j) → set-link l x q ≡ q′
+unfolding set-link
+set-ext l x q q′ e f = fun-ext (λ j. go j (ℕ-discrete j l))
+  where
+    go : (j : ℕ) (d : Dec (j ≡ l)) → ite d x (q j) ≡ q′ j
+    go j (yes p) = sym e ∙ ap q′ (sym p)
+    go j (no n) = f j n
+
+pub set-swap : (l m : ℕ) (x y : List Token) (q : Links) → l ≢ m → set-link l x (set-link m y q) ≡ set-link m y (set-link l x q)
+unfolding set-link
+set-swap l m x y q ne = fun-ext (λ j. go j (ℕ-discrete j l) (ℕ-discrete j m))
+  where
+    go : (j : ℕ) (d : Dec (j ≡ l)) (e : Dec (j ≡ m)) → ite d x (ite e y (q j)) ≡ ite e y (ite d x (q j))
+    go j (yes p) (yes r) = absurd (ne (sym p ∙ r))
+    go j (yes p) (no r) = refl
+    go j (no p) (yes r) = refl
+    go j (no p) (no r) = refl
+
+abbrev pub put : Load → Links → Links
+put [] b = b
+put (x ∷ xs) b = set-link (x .0) (opt (x .1)) (put xs b)
+
+pub put-app : (xs ys : Load) (b : Links) → put (xs ++ ys) b ≡ put xs (put ys b)
+put-app [] ys b = refl
+put-app (x ∷ xs) ys b = ap (set-link (x .0) (opt (x .1))) (put-app xs ys b)
+
+-- the link is one of the load's
+abbrev pub On : ℕ → Load → Type 0
+On l [] = ⊥
+On l (x ∷ xs) = (l ≡ x .0) ⊎ On l xs
+
+pub on-app : (l : ℕ) (xs ys : Load) → On l (xs ++ ys) → On l xs ⊎ On l ys
+on-app l [] ys o = inr o
+on-app l (x ∷ xs) ys (inl e) = inl (inl e)
+on-app l (x ∷ xs) ys (inr o) = ⊎-elim (λ (p : On l xs). inl (inr p)) (λ (p : On l ys). inr p) (on-app l xs ys o)
+
+pub on-left : (l : ℕ) (xs ys : Load) → On l xs → On l (xs ++ ys)
+on-left l [] ys o = absurd o
+on-left l (x ∷ xs) ys (inl e) = inl e
+on-left l (x ∷ xs) ys (inr o) = inr (on-left l xs ys o)
+
+pub on-right : (l : ℕ) (xs ys : Load) → On l ys → On l (xs ++ ys)
+on-right l [] ys o = o
+on-right l (x ∷ xs) ys o = inr (on-right l xs ys o)
+
+-- the base is empty in a region
+abbrev pub Clear : (ℕ → Type 0) → Links → Type 0
+Clear D b = (l : ℕ) → D l → b l ≡ []
+
+-- a load away from a region, and from another load
+abbrev pub Off : Load → (ℕ → Type 0) → Type 0
+Off xs D = (l : ℕ) → On l xs → D l → ⊥
+
+abbrev pub Apart : Load → Load → Type 0
+Apart xs ys = (l : ℕ) → On l xs → On l ys → ⊥
+
+abbrev pub Within : Load → (ℕ → Type 0) → Type 0
+Within xs D = (l : ℕ) → On l xs → D l
+
+pub put-off : (l : ℕ) (xs : Load) (b : Links) → (On l xs → ⊥) → put xs b l ≡ b l
+put-off l [] b n = refl
+put-off l (x ∷ xs) b n = set-other (x .0) l (opt (x .1)) (put xs b) (λ e. n (inl e)) ∙ put-off l xs b (λ o. n (inr o))
+
+pub put-clear : (xs : Load) (D : ℕ → Type 0) (b : Links) → Off xs D → Clear D b → Clear D (put xs b)
+put-clear xs D b f c l d = put-off l xs b (λ o. f l o d) ∙ c l d
+
+pub put-set : (l : ℕ) (x : List Token) (ys : Load) (b : Links) → (On l ys → ⊥) → set-link l x (put ys b) ≡ put ys (set-link l x b)
+put-set l x [] b n = refl
+put-set l x (y ∷ ys) b n =
+    set-swap l (y .0) x (opt (y .1)) (put ys b) (λ e. n (inl e)) ∙ ap (set-link (y .0) (opt (y .1))) (put-set l x ys b (λ o. n (inr o)))
+
+pub put-swap : (xs ys : Load) (b : Links) → Apart xs ys → put xs (put ys b) ≡ put ys (put xs b)
+put-swap [] ys b f = refl
+put-swap (x ∷ xs) ys b f =
+    ap (set-link (x .0) (opt (x .1))) (put-swap xs ys b (λ l o. f l (inr o))) ∙ put-set (x .0) (opt (x .1)) ys (put xs b) (λ o. f (x .0) (inl refl) o)
+
+-- Links that hold nothing need not be said.
+abbrev pub Nones : Load → Type 0
+Nones [] = Unit {0}
+Nones (x ∷ xs) = (x .1 ≡ none) × Nones xs
+
+pub put-nones : (xs : Load) (b : Links) → Nones xs → ((l : ℕ) → On l xs → b l ≡ []) → put xs b ≡ b
+put-nones [] b n c = refl
+put-nones (x ∷ xs) b n c =
+    ap (set-link (x .0) (opt (x .1))) (put-nones xs b (n .1) (λ l o. c l (inr o)))
+    ∙ set-ext (x .0) (opt (x .1)) b b (c (x .0) (inl refl) ∙ ap opt (sym (n .0))) (λ j ne. refl)
+
+-- Blocks of a load may be put in any order where no two share a link. `pull k` brings block k to the front.
+abbrev pub cat : List Load → Load
+cat [] = []
+cat (x ∷ bs) = x ++ cat bs
+
+abbrev pub front : Load → List Load → List Load
+front x [] = x ∷ []
+front x (y ∷ ys) = y ∷ x ∷ ys
+
+abbrev pub pull : ℕ → List Load → List Load
+pull zero bs = bs
+pull (suc k) [] = []
+pull (suc k) (x ∷ bs) = front x (pull k bs)
+
+abbrev pub pulls : List ℕ → List Load → List Load
+pulls [] bs = bs
+pulls (k ∷ ks) bs = pulls ks (pull k bs)
+
+abbrev pub Far : Load → List Load → Type 0
+Far x [] = Unit {0}
+Far x (y ∷ ys) = Apart x y × Far x ys
+
+abbrev pub Pair : List Load → Type 0
+Pair [] = Unit {0}
+Pair (x ∷ bs) = Far x bs × Pair bs
+
+far-pull : (x : Load) (k : ℕ) (bs : List Load) → Far x bs → Far x (pull k bs)
+far-pull x zero bs f = f
+far-pull x (suc k) [] f = f
+far-pull x (suc k) (y ∷ bs) f = go (pull k bs) (far-pull x k bs (f .1))
+  where
+    go : (cs : List Load) → Far x cs → Far x (front y cs)
+    go [] g = (f .0, tt)
+    go (c ∷ cs) g = (g .0, (f .0, g .1))
+
+pub pair-pull : (k : ℕ) (bs : List Load) → Pair bs → Pair (pull k bs)
+pair-pull zero bs p = p
+pair-pull (suc k) [] p = p
+pair-pull (suc k) (y ∷ bs) p = go (pull k bs) (far-pull y k bs (p .0)) (pair-pull k bs (p .1))
+  where
+    go : (cs : List Load) → Far y cs → Pair cs → Pair (front y cs)
+    go [] f q = (tt, tt)
+    go (c ∷ cs) f q = ((λ l o o′. f .0 l o′ o, q .0), (f .1, q .1))
+
+pub put-pull : (k : ℕ) (bs : List Load) (b : Links) → Pair bs → put (cat (pull k bs)) b ≡ put (cat bs) b
+put-pull zero bs b p = refl
+put-pull (suc k) [] b p = refl
+put-pull (suc k) (x ∷ bs) b p = go (pull k bs) (far-pull x k bs (p .0)) (put-pull k bs b (p .1))
+  where
+    go : (cs : List Load) → Far x cs → put (cat cs) b ≡ put (cat bs) b → put (cat (front x cs)) b ≡ put (x ++ cat bs) b
+    go [] f e = put-app x [] b ∙ ap (put x) e ∙ sym (put-app x (cat bs) b)
+    go (c ∷ cs) f e =
+        put-app c (x ++ cat cs) b ∙ ap (put c) (put-app x (cat cs) b) ∙ put-swap c x (put (cat cs) b) (λ l o o′. f .0 l o′ o)
+        ∙ ap (put x) (sym (put-app c (cat cs) b) ∙ e) ∙ sym (put-app x (cat bs) b)
+
+pub pair-pulls : (ks : List ℕ) (bs : List Load) → Pair bs → Pair (pulls ks bs)
+pair-pulls [] bs p = p
+pair-pulls (k ∷ ks) bs p = pair-pulls ks (pull k bs) (pair-pull k bs p)
+
+pub put-pulls : (ks : List ℕ) (bs : List Load) (b : Links) → Pair bs → put (cat (pulls ks bs)) b ≡ put (cat bs) b
+put-pulls [] bs b p = refl
+put-pulls (k ∷ ks) bs b p = put-pulls ks (pull k bs) b (pair-pull k bs p) ∙ put-pull k bs b p
+
+-- Links have colours: blocks of different colours are apart, and that numerals differ is computed.
+abbrev pub differs : ℕ → List ℕ → Bool
+differs i [] = true
+differs i (j ∷ js) = ite (ℕ-discrete i j) false (differs i js)
+
+abbrev pub all-differ : List ℕ → Bool
+all-differ [] = true
+all-differ (i ∷ is) = differs i is && all-differ is
+
+differs-ne : (i : ℕ) (j : ℕ) (js : List ℕ) → differs i (j ∷ js) ≡ true → (i ≢ j) × (differs i js ≡ true)
+differs-ne i j js e = go (ℕ-discrete i j) e
+  where
+    go : (d : Dec (i ≡ j)) → ite d false (differs i js) ≡ true → (i ≢ j) × (differs i js ≡ true)
+    go (yes p) h = absurd (false≢true h)
+    go (no n) h = (n, h)
+
+module _ (colour : ℕ → ℕ) where
+  abbrev pub Tint : ℕ → Load → Type 0
+  Tint i xs = (l : ℕ) → On l xs → colour l ≡ i
+
+  abbrev pub Tints : List ℕ → List Load → Type 0
+  Tints [] [] = Unit {0}
+  Tints [] (x ∷ bs) = ⊥
+  Tints (i ∷ is) [] = ⊥
+  Tints (i ∷ is) (x ∷ bs) = Tint i x × Tints is bs
+
+  tint-far : (i : ℕ) (x : Load) (is : List ℕ) (bs : List Load) → Tint i x → Tints is bs → differs i is ≡ true → Far x bs
+  tint-far i x [] [] t ts e = tt
+  tint-far i x [] (y ∷ bs) t ts e = absurd ts
+  tint-far i x (j ∷ js) [] t ts e = tt
+  tint-far i x (j ∷ js) (y ∷ bs) t ts e =
+      let d = differs-ne i j js e in
+      (λ l o o′. d .0 (sym (t l o) ∙ ts .0 l o′), tint-far i x js bs t (ts .1) (d .1))
+
+  pub pair-of : (is : List ℕ) (bs : List Load) → Tints is bs → all-differ is ≡ true → Pair bs
+  pair-of [] [] ts e = tt
+  pair-of [] (x ∷ bs) ts e = absurd ts
+  pair-of (i ∷ is) [] ts e = tt
+  pair-of (i ∷ is) (x ∷ bs) ts e =
+      let c = and-eq-true-iff (differs i is) (all-differ is) .0 e in
+      (tint-far i x is bs (ts .0) (ts .1) (c .0), pair-of is bs (ts .1) (c .1))
+
+  -- a link of the blocks has one of their colours
+  abbrev pub Among : ℕ → List ℕ → Type 0
+  Among k [] = ⊥
+  Among k (i ∷ is) = (k ≡ i) ⊎ Among k is
+
+  pub tint-on : (is : List ℕ) (bs : List Load) (l : ℕ) → Tints is bs → On l (cat bs) → Among (colour l) is
+  tint-on [] [] l ts o = o
+  tint-on [] (x ∷ bs) l ts o = absurd ts
+  tint-on (i ∷ is) [] l ts o = absurd ts
+  tint-on (i ∷ is) (x ∷ bs) l ts o =
+      ⊎-elim (λ (p : On l x). inl (ts .0 l p)) (λ (p : On l (cat bs)). inr (tint-on is bs l (ts .1) p)) (on-app l x (cat bs) o)
+
+  pub among-not : (k i : ℕ) (is : List ℕ) → k ≡ i → differs i is ≡ true → Among k is → ⊥
+  among-not k i [] e d a = a
+  among-not k i (j ∷ js) e d (inl z) = differs-ne i j js d .0 (sym e ∙ z)
+  among-not k i (j ∷ js) e d (inr z) = among-not k i js e (differs-ne i j js d .1) z
+
+  pub off-tints : (is : List ℕ) (bs : List Load) (D : ℕ → Type 0) → Tints is bs → ((l : ℕ) → D l → Among (colour l) is → ⊥) → Off (cat bs) D
+  off-tints is bs D ts f l o d = f l d (tint-on is bs l ts o)
+
+pub apart-cat : (x : Load) (bs : List Load) → Far x bs → Apart x (cat bs)
+apart-cat x [] f l o p = p
+apart-cat x (y ∷ bs) f l o p = ⊎-elim (λ (q : On l y). f .0 l o q) (λ (q : On l (cat bs)). apart-cat x bs (f .1) l o q) (on-app l y (cat bs) p)
+
+pub app-assoc : (xs ys zs : Load) → (xs ++ ys) ++ zs ≡ xs ++ (ys ++ zs)
+app-assoc [] ys zs = refl
+app-assoc (x ∷ xs) ys zs = ap (λ z. x ∷ z) (app-assoc xs ys zs)
+
+pub app-nil : (x : Load) → x ++ [] ≡ x
+app-nil [] = refl
+app-nil (y ∷ x) = ap (λ z. y ∷ z) (app-nil x)
+
+-- A first entry and two blocks, cut apart.
+pub cut-outputs : (x : ℕ × Option Token) (P Q : Load) (bs : List Load) → cat ((x ∷ (P ++ Q)) ∷ bs) ≡ cat ((x ∷ []) ∷ P ∷ Q ∷ bs)
+cut-outputs x P Q bs = ap (λ z. x ∷ z) (app-assoc P Q (cat bs))
