@@ -22,6 +22,7 @@ use Rattle.formula.specs.Places.{inBody, placesOf}
 use Rattle.formula.specs.PlaceLaws.{Sound, fieldPlaces, places-as}
 use Rattle.formula.specs.Tests.{lowest, whole, laidOut, fewRows, fieldsWell, rangesWell, namesWell, allNamed, occurrences, namedOnce, placedWell, widthsWell, boundWell, operatorsOf, Sheet, sheetOf, Test, tests, rowTests, formulaTests, graphTests, afterCheck, verdictBy, verdictOf}
 use Rattle.formula.specs.TestLaws.{passed-each}
+use Rattle.formula.specs.SheetLaws.{fields-length}
 use Rattle.meaning.specs.WidthLaws.{SoundE}
 use Rattle.meaning.specs.Rows.{Accepted, Placed, ExpRow, widthIn, exp-sound}
 
@@ -82,3 +83,58 @@ passes s h =
       bound = a9 .0;
       operators = whole-passed _ (a10 .0);
     }
+
+-- ---- the rows of an accepted sheet
+
+abbrev first : List Bool → Bool
+first l = getD l 0 false
+
+abbrev second : List Bool → Bool
+second l = getD l 1 false
+
+abbrev third : List Bool → Bool
+third l = getD l 2 false
+
+placed-is : (p : List Bool) (b : Bool) (s : Shape) → map (λ x. inBody p x) (namedIn s) ≡ fieldPlaces b s → Placed p b s
+unfolding namedIn fieldPlaces
+placed-is p b (Identifier a) h = tt
+placed-is p b (Whole a) h = tt
+placed-is p b (Truth a) h = tt
+placed-is p b (Pair x y) h = (ap first h, ap second h)
+placed-is p b (Operator k x) h = ap first h
+placed-is p b (Let a c x y) h = (ap first h, ap second h)
+placed-is p b (If x y z) h = (ap first h, ap second h, ap third h)
+placed-is p b (For a c x y) h = (ap first h, ap second h)
+placed-is p b (Iter x) h = ap first h
+
+module _ (s : List ℕ) (h : Passes s) where
+  pub names-earlier : Named (fieldsOf s) (rowCount s)
+  unfolding namesWell
+  names-earlier =
+      record {
+        names = λ r l u. all-between r (namedIn (shapeAt (fieldsOf s) r)) (passed-each (rowCount s) _ (h .names) r l u);
+      }
+
+  pub settled : Sound (fieldsOf s) (rowCount s)
+  settled =
+      record {
+        named = names-earlier;
+        once = λ x l u. eqb-true _ 1 (passed-each (rowCount s - 1) _ (h .once) x l (omega arith));
+      }
+
+  -- A table of the rows' widths is all that is left to give.
+  pub accepted : (ws : List ℕ) → rowCount s ≤ length ws
+      → ((r : ℕ) → 1 ≤ r → r ≤ rowCount s
+          → getD ws (r - 1) 0 ≡ widthIn (inBody (placesOf (fieldsOf s) (rowCount s)) r) (fieldsOf s) r)
+      → Accepted (fieldsOf s) ws (rowCount s)
+  accepted ws room table =
+      record {
+        fields = fields-length s;
+        table = room;
+        named = names-earlier;
+        ranged = λ r l u. passed-each (rowCount s) _ (h .ranges) r l u;
+        placed = λ r l u. placed-is _ _ _ (places-as (fieldsOf s) (rowCount s) settled r l u _ refl);
+        iters = λ r l u. passed-each (rowCount s) _ (h .iters) r l u;
+        wide = λ r l u. passed-each (rowCount s) _ (h .widths) r l u;
+        widths = table;
+      }
