@@ -28,11 +28,7 @@ pub fn held(w: u64) -> Value
 pub fn word(v: Value) -> u64
     ensures { λ w. ⌜ heldOf w ≡ v ⌝ }
 {
-    match v {
-        Value::Whole(z) => value::bytes::to_word(Value::Whole(z)),
-        Value::Truth(b) => value::bytes::to_word(Value::Truth(b)),
-        Value::Err => value::bytes::to_word(Value::Err),
-    }
+    value::bytes::to_word(v)
 }
 
 pub fn put_word(out: &mut [u64], at: usize, w: u64)

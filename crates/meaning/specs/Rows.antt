@@ -124,6 +124,9 @@ abbrev ExpPlace : Bool → Shape → Type 0
 ExpPlace true s = Plain s
 ExpPlace false s = Unit {0}
 
+pub expression-place : {b : Bool} (s : Shape) → b ≡ false → ExpPlace b s
+expression-place s e = subst (λ (b : Bool). ExpPlace b s) (sym e) tt
+
 -- A row that is evaluated as an expression: it is in an expression place, or it ends a body and is read alike there.
 pub record ExpRow (t ws : List ℕ) (r : ℕ) : Type 0 where
   pub rows : ℕ

@@ -1,4 +1,3 @@
-use native.Mathlib.Omega.{arith}
 use Prim.Native.Nat.{ℕ, _<_}
 use borrow.Fn.Kinds.{In}
 use borrow.Fn.PlainCycle.{Measures, is, falls, and}
@@ -41,6 +40,7 @@ use Rattle.meaning.specs.Rows.{ExpChildren, BodyChildren, exp-children, body-ch
 use Rattle.eval.specs.Needs.{W, ExpNeeds, BodyNeeds, exp-needs, body-needs, narrow}
 use Rattle.eval.specs.Told.{Told, tell-identifier, tell-whole, tell-truth, tell-pair, tell-operator, tell-let, tell-for, tell-first, tell-second, tell-neither, tell-stopped}
 use Rattle.eval.specs.ToldBody.{Turning, turning-start, turning-none, round-short, round-back, round-again, shaped-as, tell-iter, tell-ending, tell-ending-stopped, tell-let-B, tell-first-B, tell-second-B, tell-neither-B, tell-stopped-B}
+use native.Mathlib.Omega.{arith}
 use borrow.Author.Needs.{needs}
 
 abbrev μ-body : Measures 4 body-kinds.ps ℕ
@@ -70,7 +70,7 @@ rounds-at t = and 4 rounds-kinds.ps (is 4 rounds-kinds.ps μ-rounds t) rounds.Pr
 abbrev rounds-below : ℕ → In 4 rounds-kinds.ps
 rounds-below t = and 4 rounds-kinds.ps (falls 4 rounds-kinds.ps _<_ μ-rounds t) rounds.Pre
 
--- src/cycle.rt:151:11  { ⏎ match way_at(t, r) {
+-- src/cycle.rt:189:11  { ⏎ match way_at(t, r) {
 body-way-at-requires : (t : ℕ) → body-lts.Need-way-at-requires (
   way-at-reads.Asked,
   way-at-reads.Learnt,
@@ -89,7 +89,7 @@ body-way-at-requires : (t : ℕ) → body-lts.Need-way-at-requires (
 ) (body-at t) body.Post
 body-way-at-requires t c κs = search needs
 
--- src/cycle.rt:152:19  match way_at(t, r) { ⏎ Way::Iter(a) => match expr(t, widths, a, env, out, 0, left) {
+-- src/cycle.rt:190:19  match way_at(t, r) { ⏎ Way::Iter(a) => match expr(t, widths, a, env, out, 0, left) {
 body-enum-known-a : (t : ℕ) → body-lts.Need-enum-known-a (
   way-at-reads.Asked,
   way-at-reads.Learnt,
@@ -108,7 +108,7 @@ body-enum-known-a : (t : ℕ) → body-lts.Need-enum-known-a (
 ) (body-at t) body.Post
 body-enum-known-a t c = search needs
 
--- src/cycle.rt:152:31  match way_at(t, r) { ⏎ Way::Iter(a) => match expr(t, widths, a, env, out, 0, left) {
+-- src/cycle.rt:190:31  match way_at(t, r) { ⏎ Way::Iter(a) => match expr(t, widths, a, env, out, 0, left) {
 body-expr-requires : (t : ℕ) → body-lts.Need-expr-requires (
   way-at-reads.Asked,
   way-at-reads.Learnt,
@@ -127,7 +127,7 @@ body-expr-requires : (t : ℕ) → body-lts.Need-expr-requires (
 ) (body-at t) body.Post
 body-expr-requires t c κs = let k : BodyChildren (c .before .before .before .before .before .before .before .before .before .args .t .now) (c .before .before .before .before .before .before .before .before .before .args .widths .now) (c .before .before .before .before .before .before .before .before .before .args .r) (Iter (c .before .before .a .given .0 .0)) = body-children (c .before .before .before .before .before .before .before .before .before .args .t .now) (c .before .before .before .before .before .before .before .before .before .args .widths .now) (c .before .before .before .before .before .before .before .before .before .args .r) (c .before .before .before .before .before .before .before .before .before .pre .1 .0) (Iter (c .before .before .a .given .0 .0)) (shaped-as (shapeAt (c .before .before .before .before .before .before .before .before .before .args .t .now) (c .before .before .before .before .before .before .before .before .before .args .r)) (iter-way (c .before .before .a .given .0 .0)) (sym (c .before .before .a .given .1) ∙ c .before .before .before .before .way-at .ensures)) in let f : BodyNeeds (c .before .before .before .before .before .before .before .before .before .args .t .now) (c .before .before .before .before .before .before .before .before .before .args .widths .now) (c .before .before .before .before .before .before .before .before .before .args .r) (Iter (c .before .before .a .given .0 .0)) = body-needs (c .before .before .before .before .before .before .before .before .before .args .t .now) (c .before .before .before .before .before .before .before .before .before .args .widths .now) (c .before .before .before .before .before .before .before .before .before .args .r) (c .before .before .before .before .before .before .before .before .before .pre .1 .0) (Iter (c .before .before .a .given .0 .0)) (shaped-as (shapeAt (c .before .before .before .before .before .before .before .before .before .args .t .now) (c .before .before .before .before .before .before .before .before .before .args .r)) (iter-way (c .before .before .a .given .0 .0)) (sym (c .before .before .a .given .1) ∙ c .before .before .before .before .way-at .ensures)) in (omega (arith, k .1), (k .0, c .before .before .before .before .before .before .before .before .before .pre .1 .3, omega (arith, f, c .before .before .before .before .before .before .before .before .before .pre .1 .4)))
 
--- src/cycle.rt:153:28  Way::Iter(a) => match expr(t, widths, a, env, out, 0, left) { ⏎ Rest::Short => Turn::Short,
+-- src/cycle.rt:191:28  Way::Iter(a) => match expr(t, widths, a, env, out, 0, left) { ⏎ Rest::Short => Turn::Short,
 body-enum-told : (t : ℕ) → body-lts.Need-enum-told (
   way-at-reads.Asked,
   way-at-reads.Learnt,
@@ -146,7 +146,7 @@ body-enum-told : (t : ℕ) → body-lts.Need-enum-told (
 ) (body-at t) body.Post
 body-enum-told t c = search needs
 
--- src/cycle.rt:154:24  Rest::Short => Turn::Short, ⏎ Rest::Left(l) => Turn::Again(l),
+-- src/cycle.rt:192:24  Rest::Short => Turn::Short, ⏎ Rest::Left(l) => Turn::Again(l),
 body-enum-known-l : (t : ℕ) → body-lts.Need-enum-known-l (
   way-at-reads.Asked,
   way-at-reads.Learnt,
@@ -165,7 +165,7 @@ body-enum-known-l : (t : ℕ) → body-lts.Need-enum-known-l (
 ) (body-at t) body.Post
 body-enum-known-l t c = search needs
 
--- src/cycle.rt:156:18  }, ⏎ Way::Let(a, c, d) => {
+-- src/cycle.rt:194:18  }, ⏎ Way::Let(a, c, d) => {
 body-enum-known-a-2 : (t : ℕ) → body-lts.Need-enum-known-a-2 (
   way-at-reads.Asked,
   way-at-reads.Learnt,
@@ -184,7 +184,7 @@ body-enum-known-a-2 : (t : ℕ) → body-lts.Need-enum-known-a-2 (
 ) (body-at t) body.Post
 body-enum-known-a-2 t c = search needs
 
--- src/cycle.rt:157:29  Way::Let(a, c, d) => { ⏎ let mut inner = copied(env);
+-- src/cycle.rt:195:29  Way::Let(a, c, d) => { ⏎ let mut inner = copied(env);
 body-copied-requires : (t : ℕ) → body-lts.Need-copied-requires (
   way-at-reads.Asked,
   way-at-reads.Learnt,
@@ -203,7 +203,7 @@ body-copied-requires : (t : ℕ) → body-lts.Need-copied-requires (
 ) (body-at t) body.Post
 body-copied-requires t c κs = search needs
 
--- src/cycle.rt:158:43  let mut inner = copied(env); ⏎ match expr(t, widths, c, env, &mut inner, wide(a), left) {
+-- src/cycle.rt:196:43  let mut inner = copied(env); ⏎ match expr(t, widths, c, env, &mut inner, wide(a), left) {
 body-slice-aggregate-expr : (t : ℕ) → body-lts.Need-slice-aggregate-expr (
   way-at-reads.Asked,
   way-at-reads.Learnt,
@@ -222,7 +222,7 @@ body-slice-aggregate-expr : (t : ℕ) → body-lts.Need-slice-aggregate-expr (
 ) (body-at t) body.Post
 body-slice-aggregate-expr t c = search needs
 
--- src/cycle.rt:158:55  let mut inner = copied(env); ⏎ match expr(t, widths, c, env, &mut inner, wide(a), left) {
+-- src/cycle.rt:196:55  let mut inner = copied(env); ⏎ match expr(t, widths, c, env, &mut inner, wide(a), left) {
 body-wide-requires : (t : ℕ) → body-lts.Need-wide-requires (
   way-at-reads.Asked,
   way-at-reads.Learnt,
@@ -241,7 +241,7 @@ body-wide-requires : (t : ℕ) → body-lts.Need-wide-requires (
 ) (body-at t) body.Post
 body-wide-requires t c κs = search needs
 
--- src/cycle.rt:158:19  let mut inner = copied(env); ⏎ match expr(t, widths, c, env, &mut inner, wide(a), left) {
+-- src/cycle.rt:196:19  let mut inner = copied(env); ⏎ match expr(t, widths, c, env, &mut inner, wide(a), left) {
 body-expr-requires-2 : (t : ℕ) → body-lts.Need-expr-requires-2 (
   way-at-reads.Asked,
   way-at-reads.Learnt,
@@ -260,7 +260,7 @@ body-expr-requires-2 : (t : ℕ) → body-lts.Need-expr-requires-2 (
 ) (body-at t) body.Post
 body-expr-requires-2 t c κs = let k : BodyChildren (c .before .before .before .before .before .before .before .before .before .before .before .args .t .now) (c .before .before .before .before .before .before .before .before .before .before .before .args .widths .now) (c .before .before .before .before .before .before .before .before .before .before .before .args .r) (Let (c .before .before .before .before .a2 .given .0 .0) ((shaped-as (shapeAt (c .before .before .before .before .before .before .before .before .before .before .before .args .t .now) (c .before .before .before .before .before .before .before .before .before .before .before .args .r)) (let-way (c .before .before .before .before .a2 .given .0 .0) (c .before .before .before .before .a2 .given .0 .1 .0) (c .before .before .before .before .a2 .given .0 .1 .1 .0)) (sym (c .before .before .before .before .a2 .given .1) ∙ c .before .before .before .before .before .before .way-at .ensures)) .width) (c .before .before .before .before .a2 .given .0 .1 .0) (c .before .before .before .before .a2 .given .0 .1 .1 .0)) = body-children (c .before .before .before .before .before .before .before .before .before .before .before .args .t .now) (c .before .before .before .before .before .before .before .before .before .before .before .args .widths .now) (c .before .before .before .before .before .before .before .before .before .before .before .args .r) (c .before .before .before .before .before .before .before .before .before .before .before .pre .1 .0) (Let (c .before .before .before .before .a2 .given .0 .0) ((shaped-as (shapeAt (c .before .before .before .before .before .before .before .before .before .before .before .args .t .now) (c .before .before .before .before .before .before .before .before .before .before .before .args .r)) (let-way (c .before .before .before .before .a2 .given .0 .0) (c .before .before .before .before .a2 .given .0 .1 .0) (c .before .before .before .before .a2 .given .0 .1 .1 .0)) (sym (c .before .before .before .before .a2 .given .1) ∙ c .before .before .before .before .before .before .way-at .ensures)) .width) (c .before .before .before .before .a2 .given .0 .1 .0) (c .before .before .before .before .a2 .given .0 .1 .1 .0)) ((shaped-as (shapeAt (c .before .before .before .before .before .before .before .before .before .before .before .args .t .now) (c .before .before .before .before .before .before .before .before .before .before .before .args .r)) (let-way (c .before .before .before .before .a2 .given .0 .0) (c .before .before .before .before .a2 .given .0 .1 .0) (c .before .before .before .before .a2 .given .0 .1 .1 .0)) (sym (c .before .before .before .before .a2 .given .1) ∙ c .before .before .before .before .before .before .way-at .ensures)) .shape) in let f : BodyNeeds (c .before .before .before .before .before .before .before .before .before .before .before .args .t .now) (c .before .before .before .before .before .before .before .before .before .before .before .args .widths .now) (c .before .before .before .before .before .before .before .before .before .before .before .args .r) (Let (c .before .before .before .before .a2 .given .0 .0) ((shaped-as (shapeAt (c .before .before .before .before .before .before .before .before .before .before .before .args .t .now) (c .before .before .before .before .before .before .before .before .before .before .before .args .r)) (let-way (c .before .before .before .before .a2 .given .0 .0) (c .before .before .before .before .a2 .given .0 .1 .0) (c .before .before .before .before .a2 .given .0 .1 .1 .0)) (sym (c .before .before .before .before .a2 .given .1) ∙ c .before .before .before .before .before .before .way-at .ensures)) .width) (c .before .before .before .before .a2 .given .0 .1 .0) (c .before .before .before .before .a2 .given .0 .1 .1 .0)) = body-needs (c .before .before .before .before .before .before .before .before .before .before .before .args .t .now) (c .before .before .before .before .before .before .before .before .before .before .before .args .widths .now) (c .before .before .before .before .before .before .before .before .before .before .before .args .r) (c .before .before .before .before .before .before .before .before .before .before .before .pre .1 .0) (Let (c .before .before .before .before .a2 .given .0 .0) ((shaped-as (shapeAt (c .before .before .before .before .before .before .before .before .before .before .before .args .t .now) (c .before .before .before .before .before .before .before .before .before .before .before .args .r)) (let-way (c .before .before .before .before .a2 .given .0 .0) (c .before .before .before .before .a2 .given .0 .1 .0) (c .before .before .before .before .a2 .given .0 .1 .1 .0)) (sym (c .before .before .before .before .a2 .given .1) ∙ c .before .before .before .before .before .before .way-at .ensures)) .width) (c .before .before .before .before .a2 .given .0 .1 .0) (c .before .before .before .before .a2 .given .0 .1 .1 .0)) ((shaped-as (shapeAt (c .before .before .before .before .before .before .before .before .before .before .before .args .t .now) (c .before .before .before .before .before .before .before .before .before .before .before .args .r)) (let-way (c .before .before .before .before .a2 .given .0 .0) (c .before .before .before .before .a2 .given .0 .1 .0) (c .before .before .before .before .a2 .given .0 .1 .1 .0)) (sym (c .before .before .before .before .a2 .given .1) ∙ c .before .before .before .before .before .before .way-at .ensures)) .shape) in (omega (arith, k .0 .1), (k .0 .0, c .before .before .before .before .before .before .before .before .before .before .before .pre .1 .3, omega (arith, f .0, f .1, c .wide .ensures, ap length (c .before .before .copied .ensures), c .before .before .before .before .before .before .before .before .before .before .before .pre .1 .3)))
 
--- src/cycle.rt:159:32  match expr(t, widths, c, env, &mut inner, wide(a), left) { ⏎ Rest::Short => Turn::Short,
+-- src/cycle.rt:197:32  match expr(t, widths, c, env, &mut inner, wide(a), left) { ⏎ Rest::Short => Turn::Short,
 body-enum-told-2 : (t : ℕ) → body-lts.Need-enum-told-2 (
   way-at-reads.Asked,
   way-at-reads.Learnt,
@@ -279,7 +279,7 @@ body-enum-told-2 : (t : ℕ) → body-lts.Need-enum-told-2 (
 ) (body-at t) body.Post
 body-enum-told-2 t c = search needs
 
--- src/cycle.rt:160:28  Rest::Short => Turn::Short, ⏎ Rest::Left(l) => body(t, widths, d, w, &inner, out, l),
+-- src/cycle.rt:198:28  Rest::Short => Turn::Short, ⏎ Rest::Left(l) => body(t, widths, d, w, &inner, out, l),
 body-enum-known-l-2 : (t : ℕ) → body-lts.Need-enum-known-l-2 (
   way-at-reads.Asked,
   way-at-reads.Learnt,
@@ -298,7 +298,7 @@ body-enum-known-l-2 : (t : ℕ) → body-lts.Need-enum-known-l-2 (
 ) (body-at t) body.Post
 body-enum-known-l-2 t c = search needs
 
--- src/cycle.rt:160:56  Rest::Short => Turn::Short, ⏎ Rest::Left(l) => body(t, widths, d, w, &inner, out, l),
+-- src/cycle.rt:198:56  Rest::Short => Turn::Short, ⏎ Rest::Left(l) => body(t, widths, d, w, &inner, out, l),
 body-slice-aggregate-body : (t : ℕ) → body-lts.Need-slice-aggregate-body (
   way-at-reads.Asked,
   way-at-reads.Learnt,
@@ -317,7 +317,7 @@ body-slice-aggregate-body : (t : ℕ) → body-lts.Need-slice-aggregate-body (
 ) (body-at t) body.Post
 body-slice-aggregate-body t c = search needs
 
--- src/cycle.rt:160:34  Rest::Short => Turn::Short, ⏎ Rest::Left(l) => body(t, widths, d, w, &inner, out, l),
+-- src/cycle.rt:198:34  Rest::Short => Turn::Short, ⏎ Rest::Left(l) => body(t, widths, d, w, &inner, out, l),
 body-body-requires : (t : ℕ) → body-lts.Need-body-requires (
   way-at-reads.Asked,
   way-at-reads.Learnt,
@@ -336,7 +336,7 @@ body-body-requires : (t : ℕ) → body-lts.Need-body-requires (
 ) (body-at t) body.Post
 body-body-requires t c κs = let k : BodyChildren (c .before .before .before .before .before .before .before .before .before .before .before .before .before .before .before .before .before .before .args .t .now) (c .before .before .before .before .before .before .before .before .before .before .before .before .before .before .before .before .before .before .args .widths .now) (c .before .before .before .before .before .before .before .before .before .before .before .before .before .before .before .before .before .before .args .r) (Let (c .before .before .before .before .before .before .before .before .before .before .before .a2 .given .0 .0) ((shaped-as (shapeAt (c .before .before .before .before .before .before .before .before .before .before .before .before .before .before .before .before .before .before .args .t .now) (c .before .before .before .before .before .before .before .before .before .before .before .before .before .before .before .before .before .before .args .r)) (let-way (c .before .before .before .before .before .before .before .before .before .before .before .a2 .given .0 .0) (c .before .before .before .before .before .before .before .before .before .before .before .a2 .given .0 .1 .0) (c .before .before .before .before .before .before .before .before .before .before .before .a2 .given .0 .1 .1 .0)) (sym (c .before .before .before .before .before .before .before .before .before .before .before .a2 .given .1) ∙ c .before .before .before .before .before .before .before .before .before .before .before .before .before .way-at .ensures)) .width) (c .before .before .before .before .before .before .before .before .before .before .before .a2 .given .0 .1 .0) (c .before .before .before .before .before .before .before .before .before .before .before .a2 .given .0 .1 .1 .0)) = body-children (c .before .before .before .before .before .before .before .before .before .before .before .before .before .before .before .before .before .before .args .t .now) (c .before .before .before .before .before .before .before .before .before .before .before .before .before .before .before .before .before .before .args .widths .now) (c .before .before .before .before .before .before .before .before .before .before .before .before .before .before .before .before .before .before .args .r) (c .before .before .before .before .before .before .before .before .before .before .before .before .before .before .before .before .before .before .pre .1 .0) (Let (c .before .before .before .before .before .before .before .before .before .before .before .a2 .given .0 .0) ((shaped-as (shapeAt (c .before .before .before .before .before .before .before .before .before .before .before .before .before .before .before .before .before .before .args .t .now) (c .before .before .before .before .before .before .before .before .before .before .before .before .before .before .before .before .before .before .args .r)) (let-way (c .before .before .before .before .before .before .before .before .before .before .before .a2 .given .0 .0) (c .before .before .before .before .before .before .before .before .before .before .before .a2 .given .0 .1 .0) (c .before .before .before .before .before .before .before .before .before .before .before .a2 .given .0 .1 .1 .0)) (sym (c .before .before .before .before .before .before .before .before .before .before .before .a2 .given .1) ∙ c .before .before .before .before .before .before .before .before .before .before .before .before .before .way-at .ensures)) .width) (c .before .before .before .before .before .before .before .before .before .before .before .a2 .given .0 .1 .0) (c .before .before .before .before .before .before .before .before .before .before .before .a2 .given .0 .1 .1 .0)) ((shaped-as (shapeAt (c .before .before .before .before .before .before .before .before .before .before .before .before .before .before .before .before .before .before .args .t .now) (c .before .before .before .before .before .before .before .before .before .before .before .before .before .before .before .before .before .before .args .r)) (let-way (c .before .before .before .before .before .before .before .before .before .before .before .a2 .given .0 .0) (c .before .before .before .before .before .before .before .before .before .before .before .a2 .given .0 .1 .0) (c .before .before .before .before .before .before .before .before .before .before .before .a2 .given .0 .1 .1 .0)) (sym (c .before .before .before .before .before .before .before .before .before .before .before .a2 .given .1) ∙ c .before .before .before .before .before .before .before .before .before .before .before .before .before .way-at .ensures)) .shape) in let f : BodyNeeds (c .before .before .before .before .before .before .before .before .before .before .before .before .before .before .before .before .before .before .args .t .now) (c .before .before .before .before .before .before .before .before .before .before .before .before .before .before .before .before .before .before .args .widths .now) (c .before .before .before .before .before .before .before .before .before .before .before .before .before .before .before .before .before .before .args .r) (Let (c .before .before .before .before .before .before .before .before .before .before .before .a2 .given .0 .0) ((shaped-as (shapeAt (c .before .before .before .before .before .before .before .before .before .before .before .before .before .before .before .before .before .before .args .t .now) (c .before .before .before .before .before .before .before .before .before .before .before .before .before .before .before .before .before .before .args .r)) (let-way (c .before .before .before .before .before .before .before .before .before .before .before .a2 .given .0 .0) (c .before .before .before .before .before .before .before .before .before .before .before .a2 .given .0 .1 .0) (c .before .before .before .before .before .before .before .before .before .before .before .a2 .given .0 .1 .1 .0)) (sym (c .before .before .before .before .before .before .before .before .before .before .before .a2 .given .1) ∙ c .before .before .before .before .before .before .before .before .before .before .before .before .before .way-at .ensures)) .width) (c .before .before .before .before .before .before .before .before .before .before .before .a2 .given .0 .1 .0) (c .before .before .before .before .before .before .before .before .before .before .before .a2 .given .0 .1 .1 .0)) = body-needs (c .before .before .before .before .before .before .before .before .before .before .before .before .before .before .before .before .before .before .args .t .now) (c .before .before .before .before .before .before .before .before .before .before .before .before .before .before .before .before .before .before .args .widths .now) (c .before .before .before .before .before .before .before .before .before .before .before .before .before .before .before .before .before .before .args .r) (c .before .before .before .before .before .before .before .before .before .before .before .before .before .before .before .before .before .before .pre .1 .0) (Let (c .before .before .before .before .before .before .before .before .before .before .before .a2 .given .0 .0) ((shaped-as (shapeAt (c .before .before .before .before .before .before .before .before .before .before .before .before .before .before .before .before .before .before .args .t .now) (c .before .before .before .before .before .before .before .before .before .before .before .before .before .before .before .before .before .before .args .r)) (let-way (c .before .before .before .before .before .before .before .before .before .before .before .a2 .given .0 .0) (c .before .before .before .before .before .before .before .before .before .before .before .a2 .given .0 .1 .0) (c .before .before .before .before .before .before .before .before .before .before .before .a2 .given .0 .1 .1 .0)) (sym (c .before .before .before .before .before .before .before .before .before .before .before .a2 .given .1) ∙ c .before .before .before .before .before .before .before .before .before .before .before .before .before .way-at .ensures)) .width) (c .before .before .before .before .before .before .before .before .before .before .before .a2 .given .0 .1 .0) (c .before .before .before .before .before .before .before .before .before .before .before .a2 .given .0 .1 .1 .0)) ((shaped-as (shapeAt (c .before .before .before .before .before .before .before .before .before .before .before .before .before .before .before .before .before .before .args .t .now) (c .before .before .before .before .before .before .before .before .before .before .before .before .before .before .before .before .before .before .args .r)) (let-way (c .before .before .before .before .before .before .before .before .before .before .before .a2 .given .0 .0) (c .before .before .before .before .before .before .before .before .before .before .before .a2 .given .0 .1 .0) (c .before .before .before .before .before .before .before .before .before .before .before .a2 .given .0 .1 .1 .0)) (sym (c .before .before .before .before .before .before .before .before .before .before .before .a2 .given .1) ∙ c .before .before .before .before .before .before .before .before .before .before .before .before .before .way-at .ensures)) .shape) in (omega (arith, k .1 .1), (k .1 .0, rw (f .2) (c .before .before .before .before .before .before .before .before .before .before .before .before .before .before .before .before .before .before .pre .1 .1), c .before .before .before .before .before .before .before .before .before .before .before .before .before .before .before .before .before .before .pre .1 .2, c .before .before .before .before .before .before .expr2 .ensures .1 ∙ ap length (c .before .before .before .before .before .before .before .before .before .copied .ensures) ∙ c .before .before .before .before .before .before .before .before .before .before .before .before .before .before .before .before .before .before .pre .1 .3, c .before .before .before .before .before .before .before .before .before .before .before .before .before .before .before .before .before .before .pre .1 .4))
 
--- src/cycle.rt:163:17  } ⏎ Way::If(a, b, c) => {
+-- src/cycle.rt:201:17  } ⏎ Way::If(a, b, c) => {
 body-enum-known-a-3 : (t : ℕ) → body-lts.Need-enum-known-a-3 (
   way-at-reads.Asked,
   way-at-reads.Learnt,
@@ -355,7 +355,7 @@ body-enum-known-a-3 : (t : ℕ) → body-lts.Need-enum-known-a-3 (
 ) (body-at t) body.Post
 body-enum-known-a-3 t c = search needs
 
--- src/cycle.rt:165:43  let mut test = [0; 1]; ⏎ match expr(t, widths, a, env, &mut test, 0, left) {
+-- src/cycle.rt:203:43  let mut test = [0; 1]; ⏎ match expr(t, widths, a, env, &mut test, 0, left) {
 body-slice-aggregate-expr-2 : (t : ℕ) → body-lts.Need-slice-aggregate-expr-2 (
   way-at-reads.Asked,
   way-at-reads.Learnt,
@@ -374,7 +374,7 @@ body-slice-aggregate-expr-2 : (t : ℕ) → body-lts.Need-slice-aggregate-expr-2
 ) (body-at t) body.Post
 body-slice-aggregate-expr-2 t c = search needs
 
--- src/cycle.rt:165:19  let mut test = [0; 1]; ⏎ match expr(t, widths, a, env, &mut test, 0, left) {
+-- src/cycle.rt:203:19  let mut test = [0; 1]; ⏎ match expr(t, widths, a, env, &mut test, 0, left) {
 body-expr-requires-3 : (t : ℕ) → body-lts.Need-expr-requires-3 (
   way-at-reads.Asked,
   way-at-reads.Learnt,
@@ -393,7 +393,7 @@ body-expr-requires-3 : (t : ℕ) → body-lts.Need-expr-requires-3 (
 ) (body-at t) body.Post
 body-expr-requires-3 t c κs = let k : BodyChildren (c .before .before .before .before .before .before .before .before .before .args .t .now) (c .before .before .before .before .before .before .before .before .before .args .widths .now) (c .before .before .before .before .before .before .before .before .before .args .r) (If (c .before .before .a3 .given .0 .0) (c .before .before .a3 .given .0 .1 .0) (c .before .before .a3 .given .0 .1 .1 .0)) = body-children (c .before .before .before .before .before .before .before .before .before .args .t .now) (c .before .before .before .before .before .before .before .before .before .args .widths .now) (c .before .before .before .before .before .before .before .before .before .args .r) (c .before .before .before .before .before .before .before .before .before .pre .1 .0) (If (c .before .before .a3 .given .0 .0) (c .before .before .a3 .given .0 .1 .0) (c .before .before .a3 .given .0 .1 .1 .0)) (shaped-as (shapeAt (c .before .before .before .before .before .before .before .before .before .args .t .now) (c .before .before .before .before .before .before .before .before .before .args .r)) (if-way (c .before .before .a3 .given .0 .0) (c .before .before .a3 .given .0 .1 .0) (c .before .before .a3 .given .0 .1 .1 .0)) (sym (c .before .before .a3 .given .1) ∙ c .before .before .before .before .way-at .ensures)) in let f : BodyNeeds (c .before .before .before .before .before .before .before .before .before .args .t .now) (c .before .before .before .before .before .before .before .before .before .args .widths .now) (c .before .before .before .before .before .before .before .before .before .args .r) (If (c .before .before .a3 .given .0 .0) (c .before .before .a3 .given .0 .1 .0) (c .before .before .a3 .given .0 .1 .1 .0)) = body-needs (c .before .before .before .before .before .before .before .before .before .args .t .now) (c .before .before .before .before .before .before .before .before .before .args .widths .now) (c .before .before .before .before .before .before .before .before .before .args .r) (c .before .before .before .before .before .before .before .before .before .pre .1 .0) (If (c .before .before .a3 .given .0 .0) (c .before .before .a3 .given .0 .1 .0) (c .before .before .a3 .given .0 .1 .1 .0)) (shaped-as (shapeAt (c .before .before .before .before .before .before .before .before .before .args .t .now) (c .before .before .before .before .before .before .before .before .before .args .r)) (if-way (c .before .before .a3 .given .0 .0) (c .before .before .a3 .given .0 .1 .0) (c .before .before .a3 .given .0 .1 .1 .0)) (sym (c .before .before .a3 .given .1) ∙ c .before .before .before .before .way-at .ensures)) in (omega (arith, k .0 .1), (k .0 .0, c .before .before .before .before .before .before .before .before .before .pre .1 .3, omega (arith, f .0)))
 
--- src/cycle.rt:166:32  match expr(t, widths, a, env, &mut test, 0, left) { ⏎ Rest::Short => Turn::Short,
+-- src/cycle.rt:204:32  match expr(t, widths, a, env, &mut test, 0, left) { ⏎ Rest::Short => Turn::Short,
 body-enum-told-3 : (t : ℕ) → body-lts.Need-enum-told-3 (
   way-at-reads.Asked,
   way-at-reads.Learnt,
@@ -412,7 +412,7 @@ body-enum-told-3 : (t : ℕ) → body-lts.Need-enum-told-3 (
 ) (body-at t) body.Post
 body-enum-told-3 t c = search needs
 
--- src/cycle.rt:167:28  Rest::Short => Turn::Short, ⏎ Rest::Left(l) => match choose(&test) {
+-- src/cycle.rt:205:28  Rest::Short => Turn::Short, ⏎ Rest::Left(l) => match choose(&test) {
 body-enum-known-l-3 : (t : ℕ) → body-lts.Need-enum-known-l-3 (
   way-at-reads.Asked,
   way-at-reads.Learnt,
@@ -431,7 +431,7 @@ body-enum-known-l-3 : (t : ℕ) → body-lts.Need-enum-known-l-3 (
 ) (body-at t) body.Post
 body-enum-known-l-3 t c = search needs
 
--- src/cycle.rt:167:47  Rest::Short => Turn::Short, ⏎ Rest::Left(l) => match choose(&test) {
+-- src/cycle.rt:205:47  Rest::Short => Turn::Short, ⏎ Rest::Left(l) => match choose(&test) {
 body-slice-aggregate-choose : (t : ℕ) → body-lts.Need-slice-aggregate-choose (
   way-at-reads.Asked,
   way-at-reads.Learnt,
@@ -450,7 +450,7 @@ body-slice-aggregate-choose : (t : ℕ) → body-lts.Need-slice-aggregate-choose
 ) (body-at t) body.Post
 body-slice-aggregate-choose t c = search needs
 
--- src/cycle.rt:167:40  Rest::Short => Turn::Short, ⏎ Rest::Left(l) => match choose(&test) {
+-- src/cycle.rt:205:40  Rest::Short => Turn::Short, ⏎ Rest::Left(l) => match choose(&test) {
 body-choose-requires : (t : ℕ) → body-lts.Need-choose-requires (
   way-at-reads.Asked,
   way-at-reads.Learnt,
@@ -469,7 +469,7 @@ body-choose-requires : (t : ℕ) → body-lts.Need-choose-requires (
 ) (body-at t) body.Post
 body-choose-requires t c κs = search needs
 
--- src/cycle.rt:168:65  Rest::Left(l) => match choose(&test) { ⏎ Choice::First => body(t, widths, b, w, env, out, l),
+-- src/cycle.rt:206:65  Rest::Left(l) => match choose(&test) { ⏎ Choice::First => body(t, widths, b, w, env, out, l),
 body-enum-told-4 : (t : ℕ) → body-lts.Need-enum-told-4 (
   way-at-reads.Asked,
   way-at-reads.Learnt,
@@ -488,7 +488,7 @@ body-enum-told-4 : (t : ℕ) → body-lts.Need-enum-told-4 (
 ) (body-at t) body.Post
 body-enum-told-4 t c = search needs
 
--- src/cycle.rt:168:38  Rest::Left(l) => match choose(&test) { ⏎ Choice::First => body(t, widths, b, w, env, out, l),
+-- src/cycle.rt:206:38  Rest::Left(l) => match choose(&test) { ⏎ Choice::First => body(t, widths, b, w, env, out, l),
 body-body-requires-2 : (t : ℕ) → body-lts.Need-body-requires-2 (
   way-at-reads.Asked,
   way-at-reads.Learnt,
@@ -507,7 +507,7 @@ body-body-requires-2 : (t : ℕ) → body-lts.Need-body-requires-2 (
 ) (body-at t) body.Post
 body-body-requires-2 t c κs = let k : BodyChildren (c .before .before .before .before .before .before .before .before .before .before .before .before .before .before .before .before .before .before .before .args .t .now) (c .before .before .before .before .before .before .before .before .before .before .before .before .before .before .before .before .before .before .before .args .widths .now) (c .before .before .before .before .before .before .before .before .before .before .before .before .before .before .before .before .before .before .before .args .r) (If (c .before .before .before .before .before .before .before .before .before .before .before .before .a3 .given .0 .0) (c .before .before .before .before .before .before .before .before .before .before .before .before .a3 .given .0 .1 .0) (c .before .before .before .before .before .before .before .before .before .before .before .before .a3 .given .0 .1 .1 .0)) = body-children (c .before .before .before .before .before .before .before .before .before .before .before .before .before .before .before .before .before .before .before .args .t .now) (c .before .before .before .before .before .before .before .before .before .before .before .before .before .before .before .before .before .before .before .args .widths .now) (c .before .before .before .before .before .before .before .before .before .before .before .before .before .before .before .before .before .before .before .args .r) (c .before .before .before .before .before .before .before .before .before .before .before .before .before .before .before .before .before .before .before .pre .1 .0) (If (c .before .before .before .before .before .before .before .before .before .before .before .before .a3 .given .0 .0) (c .before .before .before .before .before .before .before .before .before .before .before .before .a3 .given .0 .1 .0) (c .before .before .before .before .before .before .before .before .before .before .before .before .a3 .given .0 .1 .1 .0)) (shaped-as (shapeAt (c .before .before .before .before .before .before .before .before .before .before .before .before .before .before .before .before .before .before .before .args .t .now) (c .before .before .before .before .before .before .before .before .before .before .before .before .before .before .before .before .before .before .before .args .r)) (if-way (c .before .before .before .before .before .before .before .before .before .before .before .before .a3 .given .0 .0) (c .before .before .before .before .before .before .before .before .before .before .before .before .a3 .given .0 .1 .0) (c .before .before .before .before .before .before .before .before .before .before .before .before .a3 .given .0 .1 .1 .0)) (sym (c .before .before .before .before .before .before .before .before .before .before .before .before .a3 .given .1) ∙ c .before .before .before .before .before .before .before .before .before .before .before .before .before .before .way-at .ensures)) in let f : BodyNeeds (c .before .before .before .before .before .before .before .before .before .before .before .before .before .before .before .before .before .before .before .args .t .now) (c .before .before .before .before .before .before .before .before .before .before .before .before .before .before .before .before .before .before .before .args .widths .now) (c .before .before .before .before .before .before .before .before .before .before .before .before .before .before .before .before .before .before .before .args .r) (If (c .before .before .before .before .before .before .before .before .before .before .before .before .a3 .given .0 .0) (c .before .before .before .before .before .before .before .before .before .before .before .before .a3 .given .0 .1 .0) (c .before .before .before .before .before .before .before .before .before .before .before .before .a3 .given .0 .1 .1 .0)) = body-needs (c .before .before .before .before .before .before .before .before .before .before .before .before .before .before .before .before .before .before .before .args .t .now) (c .before .before .before .before .before .before .before .before .before .before .before .before .before .before .before .before .before .before .before .args .widths .now) (c .before .before .before .before .before .before .before .before .before .before .before .before .before .before .before .before .before .before .before .args .r) (c .before .before .before .before .before .before .before .before .before .before .before .before .before .before .before .before .before .before .before .pre .1 .0) (If (c .before .before .before .before .before .before .before .before .before .before .before .before .a3 .given .0 .0) (c .before .before .before .before .before .before .before .before .before .before .before .before .a3 .given .0 .1 .0) (c .before .before .before .before .before .before .before .before .before .before .before .before .a3 .given .0 .1 .1 .0)) (shaped-as (shapeAt (c .before .before .before .before .before .before .before .before .before .before .before .before .before .before .before .before .before .before .before .args .t .now) (c .before .before .before .before .before .before .before .before .before .before .before .before .before .before .before .before .before .before .before .args .r)) (if-way (c .before .before .before .before .before .before .before .before .before .before .before .before .a3 .given .0 .0) (c .before .before .before .before .before .before .before .before .before .before .before .before .a3 .given .0 .1 .0) (c .before .before .before .before .before .before .before .before .before .before .before .before .a3 .given .0 .1 .1 .0)) (sym (c .before .before .before .before .before .before .before .before .before .before .before .before .a3 .given .1) ∙ c .before .before .before .before .before .before .before .before .before .before .before .before .before .before .way-at .ensures)) in (omega (arith, k .1 .1), (k .1 .0, f .1 (c .before .before .before .before .before .before .before .before .before .before .before .before .before .before .before .before .before .before .before .args .w) (c .before .before .before .before .before .before .before .before .before .before .before .before .before .before .before .before .before .before .before .pre .1 .1) .0, c .before .before .before .before .before .before .before .before .before .before .before .before .before .before .before .before .before .before .before .pre .1 .2, c .before .before .before .before .before .before .before .before .before .before .before .before .before .before .before .before .before .before .before .pre .1 .3, c .before .before .before .before .before .before .before .before .before .before .before .before .before .before .before .before .before .before .before .pre .1 .4))
 
--- src/cycle.rt:169:66  Choice::First => body(t, widths, b, w, env, out, l), ⏎ Choice::Second => body(t, widths, c, w, env, out, l),
+-- src/cycle.rt:207:66  Choice::First => body(t, widths, b, w, env, out, l), ⏎ Choice::Second => body(t, widths, c, w, env, out, l),
 body-enum-told-5 : (t : ℕ) → body-lts.Need-enum-told-5 (
   way-at-reads.Asked,
   way-at-reads.Learnt,
@@ -526,7 +526,7 @@ body-enum-told-5 : (t : ℕ) → body-lts.Need-enum-told-5 (
 ) (body-at t) body.Post
 body-enum-told-5 t c = search needs
 
--- src/cycle.rt:169:39  Choice::First => body(t, widths, b, w, env, out, l), ⏎ Choice::Second => body(t, widths, c, w, env, out, l),
+-- src/cycle.rt:207:39  Choice::First => body(t, widths, b, w, env, out, l), ⏎ Choice::Second => body(t, widths, c, w, env, out, l),
 body-body-requires-3 : (t : ℕ) → body-lts.Need-body-requires-3 (
   way-at-reads.Asked,
   way-at-reads.Learnt,
@@ -545,7 +545,7 @@ body-body-requires-3 : (t : ℕ) → body-lts.Need-body-requires-3 (
 ) (body-at t) body.Post
 body-body-requires-3 t c κs = let k : BodyChildren (c .before .before .before .before .before .before .before .before .before .before .before .before .before .before .before .before .before .before .before .args .t .now) (c .before .before .before .before .before .before .before .before .before .before .before .before .before .before .before .before .before .before .before .args .widths .now) (c .before .before .before .before .before .before .before .before .before .before .before .before .before .before .before .before .before .before .before .args .r) (If (c .before .before .before .before .before .before .before .before .before .before .before .before .a3 .given .0 .0) (c .before .before .before .before .before .before .before .before .before .before .before .before .a3 .given .0 .1 .0) (c .before .before .before .before .before .before .before .before .before .before .before .before .a3 .given .0 .1 .1 .0)) = body-children (c .before .before .before .before .before .before .before .before .before .before .before .before .before .before .before .before .before .before .before .args .t .now) (c .before .before .before .before .before .before .before .before .before .before .before .before .before .before .before .before .before .before .before .args .widths .now) (c .before .before .before .before .before .before .before .before .before .before .before .before .before .before .before .before .before .before .before .args .r) (c .before .before .before .before .before .before .before .before .before .before .before .before .before .before .before .before .before .before .before .pre .1 .0) (If (c .before .before .before .before .before .before .before .before .before .before .before .before .a3 .given .0 .0) (c .before .before .before .before .before .before .before .before .before .before .before .before .a3 .given .0 .1 .0) (c .before .before .before .before .before .before .before .before .before .before .before .before .a3 .given .0 .1 .1 .0)) (shaped-as (shapeAt (c .before .before .before .before .before .before .before .before .before .before .before .before .before .before .before .before .before .before .before .args .t .now) (c .before .before .before .before .before .before .before .before .before .before .before .before .before .before .before .before .before .before .before .args .r)) (if-way (c .before .before .before .before .before .before .before .before .before .before .before .before .a3 .given .0 .0) (c .before .before .before .before .before .before .before .before .before .before .before .before .a3 .given .0 .1 .0) (c .before .before .before .before .before .before .before .before .before .before .before .before .a3 .given .0 .1 .1 .0)) (sym (c .before .before .before .before .before .before .before .before .before .before .before .before .a3 .given .1) ∙ c .before .before .before .before .before .before .before .before .before .before .before .before .before .before .way-at .ensures)) in let f : BodyNeeds (c .before .before .before .before .before .before .before .before .before .before .before .before .before .before .before .before .before .before .before .args .t .now) (c .before .before .before .before .before .before .before .before .before .before .before .before .before .before .before .before .before .before .before .args .widths .now) (c .before .before .before .before .before .before .before .before .before .before .before .before .before .before .before .before .before .before .before .args .r) (If (c .before .before .before .before .before .before .before .before .before .before .before .before .a3 .given .0 .0) (c .before .before .before .before .before .before .before .before .before .before .before .before .a3 .given .0 .1 .0) (c .before .before .before .before .before .before .before .before .before .before .before .before .a3 .given .0 .1 .1 .0)) = body-needs (c .before .before .before .before .before .before .before .before .before .before .before .before .before .before .before .before .before .before .before .args .t .now) (c .before .before .before .before .before .before .before .before .before .before .before .before .before .before .before .before .before .before .before .args .widths .now) (c .before .before .before .before .before .before .before .before .before .before .before .before .before .before .before .before .before .before .before .args .r) (c .before .before .before .before .before .before .before .before .before .before .before .before .before .before .before .before .before .before .before .pre .1 .0) (If (c .before .before .before .before .before .before .before .before .before .before .before .before .a3 .given .0 .0) (c .before .before .before .before .before .before .before .before .before .before .before .before .a3 .given .0 .1 .0) (c .before .before .before .before .before .before .before .before .before .before .before .before .a3 .given .0 .1 .1 .0)) (shaped-as (shapeAt (c .before .before .before .before .before .before .before .before .before .before .before .before .before .before .before .before .before .before .before .args .t .now) (c .before .before .before .before .before .before .before .before .before .before .before .before .before .before .before .before .before .before .before .args .r)) (if-way (c .before .before .before .before .before .before .before .before .before .before .before .before .a3 .given .0 .0) (c .before .before .before .before .before .before .before .before .before .before .before .before .a3 .given .0 .1 .0) (c .before .before .before .before .before .before .before .before .before .before .before .before .a3 .given .0 .1 .1 .0)) (sym (c .before .before .before .before .before .before .before .before .before .before .before .before .a3 .given .1) ∙ c .before .before .before .before .before .before .before .before .before .before .before .before .before .before .way-at .ensures)) in (omega (arith, k .2 .1), (k .2 .0, f .1 (c .before .before .before .before .before .before .before .before .before .before .before .before .before .before .before .before .before .before .before .args .w) (c .before .before .before .before .before .before .before .before .before .before .before .before .before .before .before .before .before .before .before .pre .1 .1) .1, c .before .before .before .before .before .before .before .before .before .before .before .before .before .before .before .before .before .before .before .pre .1 .2, c .before .before .before .before .before .before .before .before .before .before .before .before .before .before .before .before .before .before .before .pre .1 .3, c .before .before .before .before .before .before .before .before .before .before .before .before .before .before .before .before .before .before .before .pre .1 .4))
 
--- src/cycle.rt:171:34  Choice::Neither => { ⏎ put_errs(out, 0, w);
+-- src/cycle.rt:209:34  Choice::Neither => { ⏎ put_errs(out, 0, w);
 body-enum-told-6 : (t : ℕ) → body-lts.Need-enum-told-6 (
   way-at-reads.Asked,
   way-at-reads.Learnt,
@@ -564,7 +564,7 @@ body-enum-told-6 : (t : ℕ) → body-lts.Need-enum-told-6 (
 ) (body-at t) body.Post
 body-enum-told-6 t c = search needs
 
--- src/cycle.rt:171:25  Choice::Neither => { ⏎ put_errs(out, 0, w);
+-- src/cycle.rt:209:25  Choice::Neither => { ⏎ put_errs(out, 0, w);
 body-put-errs-requires : (t : ℕ) → body-lts.Need-put-errs-requires (
   way-at-reads.Asked,
   way-at-reads.Learnt,
@@ -583,7 +583,7 @@ body-put-errs-requires : (t : ℕ) → body-lts.Need-put-errs-requires (
 ) (body-at t) body.Post
 body-put-errs-requires t c κs = search needs
 
--- src/cycle.rt:177:51  } ⏎ Way::End => match expr(t, widths, r, env, out, 0, left) {
+-- src/cycle.rt:215:51  } ⏎ Way::End => match expr(t, widths, r, env, out, 0, left) {
 body-enum-told-7 : (t : ℕ) → body-lts.Need-enum-told-7 (
   way-at-reads.Asked,
   way-at-reads.Learnt,
@@ -602,7 +602,7 @@ body-enum-told-7 : (t : ℕ) → body-lts.Need-enum-told-7 (
 ) (body-at t) body.Post
 body-enum-told-7 t c = search needs
 
--- src/cycle.rt:177:27  } ⏎ Way::End => match expr(t, widths, r, env, out, 0, left) {
+-- src/cycle.rt:215:27  } ⏎ Way::End => match expr(t, widths, r, env, out, 0, left) {
 body-expr-requires-4 : (t : ℕ) → body-lts.Need-expr-requires-4 (
   way-at-reads.Asked,
   way-at-reads.Learnt,
@@ -621,7 +621,7 @@ body-expr-requires-4 : (t : ℕ) → body-lts.Need-expr-requires-4 (
 ) (body-at t) body.Post
 body-expr-requires-4 t c κs = (omega arith, ((ending-row (c .before .before .before .before .before .before .before .before .args .t .now) (c .before .before .before .before .before .before .before .before .args .widths .now) (c .before .before .before .before .before .before .before .before .args .r) (c .before .before .before .before .before .before .before .before .pre .1 .0) (shaped-as (shapeAt (c .before .before .before .before .before .before .before .before .args .t .now) (c .before .before .before .before .before .before .before .before .args .r)) End (sym (c .before .enum-told7 .given .1) ∙ c .before .before .before .way-at .ensures))), c .before .before .before .before .before .before .before .before .pre .1 .3, omega (arith, narrow (c .before .before .before .before .before .before .before .before .args .t .now) (c .before .before .before .before .before .before .before .before .args .widths .now) (c .before .before .before .before .before .before .before .before .args .r) (ending-row (c .before .before .before .before .before .before .before .before .args .t .now) (c .before .before .before .before .before .before .before .before .args .widths .now) (c .before .before .before .before .before .before .before .before .args .r) (c .before .before .before .before .before .before .before .before .pre .1 .0) (shaped-as (shapeAt (c .before .before .before .before .before .before .before .before .args .t .now) (c .before .before .before .before .before .before .before .before .args .r)) End (sym (c .before .enum-told7 .given .1) ∙ c .before .before .before .way-at .ensures))), c .before .before .before .before .before .before .before .before .pre .1 .4)))
 
--- src/cycle.rt:178:28  Way::End => match expr(t, widths, r, env, out, 0, left) { ⏎ Rest::Short => Turn::Short,
+-- src/cycle.rt:216:28  Way::End => match expr(t, widths, r, env, out, 0, left) { ⏎ Rest::Short => Turn::Short,
 body-enum-told-8 : (t : ℕ) → body-lts.Need-enum-told-8 (
   way-at-reads.Asked,
   way-at-reads.Learnt,
@@ -640,7 +640,7 @@ body-enum-told-8 : (t : ℕ) → body-lts.Need-enum-told-8 (
 ) (body-at t) body.Post
 body-enum-told-8 t c = search needs
 
--- src/cycle.rt:179:24  Rest::Short => Turn::Short, ⏎ Rest::Left(l) => Turn::Back(l),
+-- src/cycle.rt:217:24  Rest::Short => Turn::Short, ⏎ Rest::Left(l) => Turn::Back(l),
 body-enum-known-l-4 : (t : ℕ) → body-lts.Need-enum-known-l-4 (
   way-at-reads.Asked,
   way-at-reads.Learnt,
@@ -659,7 +659,7 @@ body-enum-known-l-4 : (t : ℕ) → body-lts.Need-enum-known-l-4 (
 ) (body-at t) body.Post
 body-enum-known-l-4 t c = search needs
 
--- src/cycle.rt:147:1  // `out`. ⏎ fn body(t: &[u32], widths: &[u8], r: usize, w: usize, env: &[u64], out: &mut [u64], left: u32) -> Turn
+-- src/cycle.rt:177:1  // `out`. ⏎ fn body(
 body-same-length : (t : ℕ) → body-lts.Need-same-length (
   way-at-reads.Asked,
   way-at-reads.Learnt,
@@ -678,7 +678,7 @@ body-same-length : (t : ℕ) → body-lts.Need-same-length (
 ) (body-at t) body.Post
 body-same-length t c = search needs
 
--- src/cycle.rt:147:1  // `out`. ⏎ fn body(t: &[u32], widths: &[u8], r: usize, w: usize, env: &[u64], out: &mut [u64], left: u32) -> Turn
+-- src/cycle.rt:177:1  // `out`. ⏎ fn body(
 body-returns : (t : ℕ) → body-lts.Need-returns (
   way-at-reads.Asked,
   way-at-reads.Learnt,
@@ -697,7 +697,7 @@ body-returns : (t : ℕ) → body-lts.Need-returns (
 ) (body-at t) body.Post
 body-returns t c = (tell-stopped-B (c .before .before .before .before .before .before .before .before .before .before .before .before .before .before .args .t .now) (c .before .before .before .before .before .before .before .before .before .before .before .before .before .before .args .widths .now) (c .before .before .before .before .before .before .before .before .before .before .before .before .before .before .args .r) (c .before .before .before .before .before .before .before .before .before .before .before .before .before .before .pre .1 .0) (c .before .before .before .before .before .before .before .before .before .before .before .before .before .before .args .w) (envOf (c .before .before .before .before .before .before .before .before .before .before .before .before .before .before .args .env .now)) (c .before .before .before .before .before .before .before .before .before .before .before .before .before .before .args .left) (Iter (c .before .before .before .before .before .before .before .a .given .0 .0)) (shaped-as (shapeAt (c .before .before .before .before .before .before .before .before .before .before .before .before .before .before .args .t .now) (c .before .before .before .before .before .before .before .before .before .before .before .before .before .before .args .r)) (iter-way (c .before .before .before .before .before .before .before .a .given .0 .0)) (sym (c .before .before .before .before .before .before .before .a .given .1) ∙ c .before .before .before .before .before .before .before .before .before .way-at .ensures)) (c .before .before .before .before .before .before .before .a .given .0 .0) refl 0 (c .before .before .before .before .before .before .before .before .before .before .before .before .before .before .args .out .now) (c .before .before .before .before .expr .last .1 .1 .1 .1 .0) (c .before .before .before .before .before .before .before .before .before .before .before .before .before .before .args .out .now) (c .before .before .before .before .expr .last .1 .1 .1 .1 .0) (rw (c .enum-told .given .1) at (c .before .before .before .before .expr .ensures .0)), c .before .before .before .before .expr .ensures .1)
 
--- src/cycle.rt:147:1  // `out`. ⏎ fn body(t: &[u32], widths: &[u8], r: usize, w: usize, env: &[u64], out: &mut [u64], left: u32) -> Turn
+-- src/cycle.rt:177:1  // `out`. ⏎ fn body(
 body-same-length-2 : (t : ℕ) → body-lts.Need-same-length-2 (
   way-at-reads.Asked,
   way-at-reads.Learnt,
@@ -716,7 +716,7 @@ body-same-length-2 : (t : ℕ) → body-lts.Need-same-length-2 (
 ) (body-at t) body.Post
 body-same-length-2 t c = search needs
 
--- src/cycle.rt:147:1  // `out`. ⏎ fn body(t: &[u32], widths: &[u8], r: usize, w: usize, env: &[u64], out: &mut [u64], left: u32) -> Turn
+-- src/cycle.rt:177:1  // `out`. ⏎ fn body(
 body-returns-2 : (t : ℕ) → body-lts.Need-returns-2 (
   way-at-reads.Asked,
   way-at-reads.Learnt,
@@ -735,7 +735,7 @@ body-returns-2 : (t : ℕ) → body-lts.Need-returns-2 (
 ) (body-at t) body.Post
 body-returns-2 t c = (tell-iter (c .before .before .before .before .before .before .before .before .before .before .before .before .before .before .before .args .t .now) (c .before .before .before .before .before .before .before .before .before .before .before .before .before .before .before .args .widths .now) (c .before .before .before .before .before .before .before .before .before .before .before .before .before .before .before .args .r) (c .before .before .before .before .before .before .before .before .before .before .before .before .before .before .before .pre .1 .0) (c .before .before .before .before .before .before .before .before .before .before .before .before .before .before .before .args .w) (envOf (c .before .before .before .before .before .before .before .before .before .before .before .before .before .before .before .args .env .now)) (c .before .before .before .before .before .before .before .before .before .before .before .before .before .before .before .args .left) (c .before .before .before .before .before .before .before .before .before .before .before .before .before .before .before .args .out .now) (c .before .before .before .before .before .expr .last .1 .1 .1 .1 .0) (c .before .before .before .before .before .before .before .before .a .given .0 .0) (shaped-as (shapeAt (c .before .before .before .before .before .before .before .before .before .before .before .before .before .before .before .args .t .now) (c .before .before .before .before .before .before .before .before .before .before .before .before .before .before .before .args .r)) (iter-way (c .before .before .before .before .before .before .before .before .a .given .0 .0)) (sym (c .before .before .before .before .before .before .before .before .a .given .1) ∙ c .before .before .before .before .before .before .before .before .before .before .way-at .ensures)) (c .before .l .given .0 .0) (rw (c .before .l .given .1) at (c .before .before .before .before .before .expr .ensures .0)), c .before .before .before .before .before .expr .ensures .1)
 
--- src/cycle.rt:147:1  // `out`. ⏎ fn body(t: &[u32], widths: &[u8], r: usize, w: usize, env: &[u64], out: &mut [u64], left: u32) -> Turn
+-- src/cycle.rt:177:1  // `out`. ⏎ fn body(
 body-returns-3 : (t : ℕ) → body-lts.Need-returns-3 (
   way-at-reads.Asked,
   way-at-reads.Learnt,
@@ -754,7 +754,7 @@ body-returns-3 : (t : ℕ) → body-lts.Need-returns-3 (
 ) (body-at t) body.Post
 body-returns-3 t c = (tell-stopped-B (c .before .before .before .before .before .before .before .before .before .before .before .before .before .before .before .args .t .now) (c .before .before .before .before .before .before .before .before .before .before .before .before .before .before .before .args .widths .now) (c .before .before .before .before .before .before .before .before .before .before .before .before .before .before .before .args .r) (c .before .before .before .before .before .before .before .before .before .before .before .before .before .before .before .pre .1 .0) (c .before .before .before .before .before .before .before .before .before .before .before .before .before .before .before .args .w) (envOf (c .before .before .before .before .before .before .before .before .before .before .before .before .before .before .before .args .env .now)) (c .before .before .before .before .before .before .before .before .before .before .before .before .before .before .before .args .left) (Let (c .before .before .before .before .before .before .before .before .a2 .given .0 .0) ((shaped-as (shapeAt (c .before .before .before .before .before .before .before .before .before .before .before .before .before .before .before .args .t .now) (c .before .before .before .before .before .before .before .before .before .before .before .before .before .before .before .args .r)) (let-way (c .before .before .before .before .before .before .before .before .a2 .given .0 .0) (c .before .before .before .before .before .before .before .before .a2 .given .0 .1 .0) (c .before .before .before .before .before .before .before .before .a2 .given .0 .1 .1 .0)) (sym (c .before .before .before .before .before .before .before .before .a2 .given .1) ∙ c .before .before .before .before .before .before .before .before .before .before .way-at .ensures)) .width) (c .before .before .before .before .before .before .before .before .a2 .given .0 .1 .0) (c .before .before .before .before .before .before .before .before .a2 .given .0 .1 .1 .0)) ((shaped-as (shapeAt (c .before .before .before .before .before .before .before .before .before .before .before .before .before .before .before .args .t .now) (c .before .before .before .before .before .before .before .before .before .before .before .before .before .before .before .args .r)) (let-way (c .before .before .before .before .before .before .before .before .a2 .given .0 .0) (c .before .before .before .before .before .before .before .before .a2 .given .0 .1 .0) (c .before .before .before .before .before .before .before .before .a2 .given .0 .1 .1 .0)) (sym (c .before .before .before .before .before .before .before .before .a2 .given .1) ∙ c .before .before .before .before .before .before .before .before .before .before .way-at .ensures)) .shape) (c .before .before .before .before .before .before .before .before .a2 .given .0 .1 .0) refl (c .before .before .before .before .wide .result) (c .before .before .before .before .before .before .before .before .before .before .before .before .before .before .before .args .out .now) (c .before .before .before .before .before .before .before .before .before .before .before .before .before .before .before .args .out .now) (c .before .before .before .before .before .before .copied .result) (c .before .before .before .expr2 .last .1 .1 .1 .1 .0) (rw (c .enum-told2 .given .1) at (c .before .before .before .expr2 .ensures .0)), refl)
 
--- src/cycle.rt:147:1  // `out`. ⏎ fn body(t: &[u32], widths: &[u8], r: usize, w: usize, env: &[u64], out: &mut [u64], left: u32) -> Turn
+-- src/cycle.rt:177:1  // `out`. ⏎ fn body(
 body-same-length-3 : (t : ℕ) → body-lts.Need-same-length-3 (
   way-at-reads.Asked,
   way-at-reads.Learnt,
@@ -773,7 +773,7 @@ body-same-length-3 : (t : ℕ) → body-lts.Need-same-length-3 (
 ) (body-at t) body.Post
 body-same-length-3 t c = search needs
 
--- src/cycle.rt:147:1  // `out`. ⏎ fn body(t: &[u32], widths: &[u8], r: usize, w: usize, env: &[u64], out: &mut [u64], left: u32) -> Turn
+-- src/cycle.rt:177:1  // `out`. ⏎ fn body(
 body-returns-4 : (t : ℕ) → body-lts.Need-returns-4 (
   way-at-reads.Asked,
   way-at-reads.Learnt,
@@ -792,7 +792,7 @@ body-returns-4 : (t : ℕ) → body-lts.Need-returns-4 (
 ) (body-at t) body.Post
 body-returns-4 t c = (tell-let-B (c .before .before .before .before .before .before .before .before .before .before .before .before .before .before .before .before .before .before .before .before .before .args .t .now) (c .before .before .before .before .before .before .before .before .before .before .before .before .before .before .before .before .before .before .before .before .before .args .widths .now) (c .before .before .before .before .before .before .before .before .before .before .before .before .before .before .before .before .before .before .before .before .before .args .r) (c .before .before .before .before .before .before .before .before .before .before .before .before .before .before .before .before .before .before .before .before .before .pre .1 .0) (c .before .before .before .before .before .before .before .before .before .before .before .before .before .before .before .before .before .before .before .before .before .args .w) (envOf (c .before .before .before .before .before .before .before .before .before .before .before .before .before .before .before .before .before .before .before .before .before .args .env .now)) (c .before .before .before .before .before .before .before .before .before .before .before .before .before .before .before .before .before .before .before .before .before .args .left) (c .before .before .before .before .before .before .before .before .before .before .before .before .before .before .before .before .before .before .before .before .before .args .out .now) (c .before .before .body .last .1 .1 .1 .1 .1 .0) (c .before .before .before .before .before .before .before .before .before .before .before .before .before .before .a2 .given .0 .0) ((shaped-as (shapeAt (c .before .before .before .before .before .before .before .before .before .before .before .before .before .before .before .before .before .before .before .before .before .args .t .now) (c .before .before .before .before .before .before .before .before .before .before .before .before .before .before .before .before .before .before .before .before .before .args .r)) (let-way (c .before .before .before .before .before .before .before .before .before .before .before .before .before .before .a2 .given .0 .0) (c .before .before .before .before .before .before .before .before .before .before .before .before .before .before .a2 .given .0 .1 .0) (c .before .before .before .before .before .before .before .before .before .before .before .before .before .before .a2 .given .0 .1 .1 .0)) (sym (c .before .before .before .before .before .before .before .before .before .before .before .before .before .before .a2 .given .1) ∙ c .before .before .before .before .before .before .before .before .before .before .before .before .before .before .before .before .way-at .ensures)) .width) (c .before .before .before .before .before .before .before .before .before .before .before .before .before .before .a2 .given .0 .1 .0) (c .before .before .before .before .before .before .before .before .before .before .before .before .before .before .a2 .given .0 .1 .1 .0) ((shaped-as (shapeAt (c .before .before .before .before .before .before .before .before .before .before .before .before .before .before .before .before .before .before .before .before .before .args .t .now) (c .before .before .before .before .before .before .before .before .before .before .before .before .before .before .before .before .before .before .before .before .before .args .r)) (let-way (c .before .before .before .before .before .before .before .before .before .before .before .before .before .before .a2 .given .0 .0) (c .before .before .before .before .before .before .before .before .before .before .before .before .before .before .a2 .given .0 .1 .0) (c .before .before .before .before .before .before .before .before .before .before .before .before .before .before .a2 .given .0 .1 .1 .0)) (sym (c .before .before .before .before .before .before .before .before .before .before .before .before .before .before .a2 .given .1) ∙ c .before .before .before .before .before .before .before .before .before .before .before .before .before .before .before .before .way-at .ensures)) .shape) (c .before .before .before .before .before .before .before .before .before .before .before .before .copied .result) (c .before .before .before .before .before .before .before .before .before .expr2 .last .1 .1 .1 .1 .0) (c .before .before .before .before .before .before .l2 .given .0 .0) (c .before .before .body .result) (ap envOf (c .before .before .before .before .before .before .before .before .before .before .before .before .copied .ensures)) (rw (c .before .before .before .before .before .before .before .before .before .before .wide .ensures, c .before .before .before .before .before .before .l2 .given .1) at (c .before .before .before .before .before .before .before .before .before .expr2 .ensures .0)) (c .before .before .body .ensures .0), c .before .before .body .ensures .1)
 
--- src/cycle.rt:147:1  // `out`. ⏎ fn body(t: &[u32], widths: &[u8], r: usize, w: usize, env: &[u64], out: &mut [u64], left: u32) -> Turn
+-- src/cycle.rt:177:1  // `out`. ⏎ fn body(
 body-returns-5 : (t : ℕ) → body-lts.Need-returns-5 (
   way-at-reads.Asked,
   way-at-reads.Learnt,
@@ -811,7 +811,7 @@ body-returns-5 : (t : ℕ) → body-lts.Need-returns-5 (
 ) (body-at t) body.Post
 body-returns-5 t c = (tell-stopped-B (c .before .before .before .before .before .before .before .before .before .before .before .before .before .args .t .now) (c .before .before .before .before .before .before .before .before .before .before .before .before .before .args .widths .now) (c .before .before .before .before .before .before .before .before .before .before .before .before .before .args .r) (c .before .before .before .before .before .before .before .before .before .before .before .before .before .pre .1 .0) (c .before .before .before .before .before .before .before .before .before .before .before .before .before .args .w) (envOf (c .before .before .before .before .before .before .before .before .before .before .before .before .before .args .env .now)) (c .before .before .before .before .before .before .before .before .before .before .before .before .before .args .left) (If (c .before .before .before .before .before .before .a3 .given .0 .0) (c .before .before .before .before .before .before .a3 .given .0 .1 .0) (c .before .before .before .before .before .before .a3 .given .0 .1 .1 .0)) (shaped-as (shapeAt (c .before .before .before .before .before .before .before .before .before .before .before .before .before .args .t .now) (c .before .before .before .before .before .before .before .before .before .before .before .before .before .args .r)) (if-way (c .before .before .before .before .before .before .a3 .given .0 .0) (c .before .before .before .before .before .before .a3 .given .0 .1 .0) (c .before .before .before .before .before .before .a3 .given .0 .1 .1 .0)) (sym (c .before .before .before .before .before .before .a3 .given .1) ∙ c .before .before .before .before .before .before .before .before .way-at .ensures)) (c .before .before .before .before .before .before .a3 .given .0 .0) refl 0 (c .before .before .before .before .before .before .before .before .before .before .before .before .before .args .out .now) (c .before .before .before .before .before .before .before .before .before .before .before .before .before .args .out .now) (0 ∷ []) (c .before .before .before .expr3 .last .1 .1 .1 .1 .0) (rw (c .enum-told3 .given .1) at (c .before .before .before .expr3 .ensures .0)), refl)
 
--- src/cycle.rt:147:1  // `out`. ⏎ fn body(t: &[u32], widths: &[u8], r: usize, w: usize, env: &[u64], out: &mut [u64], left: u32) -> Turn
+-- src/cycle.rt:177:1  // `out`. ⏎ fn body(
 body-same-length-4 : (t : ℕ) → body-lts.Need-same-length-4 (
   way-at-reads.Asked,
   way-at-reads.Learnt,
@@ -830,7 +830,7 @@ body-same-length-4 : (t : ℕ) → body-lts.Need-same-length-4 (
 ) (body-at t) body.Post
 body-same-length-4 t c = search needs
 
--- src/cycle.rt:147:1  // `out`. ⏎ fn body(t: &[u32], widths: &[u8], r: usize, w: usize, env: &[u64], out: &mut [u64], left: u32) -> Turn
+-- src/cycle.rt:177:1  // `out`. ⏎ fn body(
 body-returns-6 : (t : ℕ) → body-lts.Need-returns-6 (
   way-at-reads.Asked,
   way-at-reads.Learnt,
@@ -849,7 +849,7 @@ body-returns-6 : (t : ℕ) → body-lts.Need-returns-6 (
 ) (body-at t) body.Post
 body-returns-6 t c = (tell-first-B (c .before .before .before .before .before .before .before .before .before .before .before .before .before .before .before .before .before .before .before .before .before .before .args .t .now) (c .before .before .before .before .before .before .before .before .before .before .before .before .before .before .before .before .before .before .before .before .before .before .args .widths .now) (c .before .before .before .before .before .before .before .before .before .before .before .before .before .before .before .before .before .before .before .before .before .before .args .r) (c .before .before .before .before .before .before .before .before .before .before .before .before .before .before .before .before .before .before .before .before .before .before .pre .1 .0) (c .before .before .before .before .before .before .before .before .before .before .before .before .before .before .before .before .before .before .before .before .before .before .args .w) (envOf (c .before .before .before .before .before .before .before .before .before .before .before .before .before .before .before .before .before .before .before .before .before .before .args .env .now)) (c .before .before .before .before .before .before .before .before .before .before .before .before .before .before .before .before .before .before .before .before .before .before .args .left) (c .before .before .before .before .before .before .before .before .before .before .before .before .before .before .before .before .before .before .before .before .before .before .args .out .now) (c .before .before .body2 .last .1 .1 .1 .1 .1 .0) (c .before .before .before .before .before .before .before .before .before .before .before .before .before .before .before .a3 .given .0 .0) (c .before .before .before .before .before .before .before .before .before .before .before .before .before .before .before .a3 .given .0 .1 .0) (c .before .before .before .before .before .before .before .before .before .before .before .before .before .before .before .a3 .given .0 .1 .1 .0) (shaped-as (shapeAt (c .before .before .before .before .before .before .before .before .before .before .before .before .before .before .before .before .before .before .before .before .before .before .args .t .now) (c .before .before .before .before .before .before .before .before .before .before .before .before .before .before .before .before .before .before .before .before .before .before .args .r)) (if-way (c .before .before .before .before .before .before .before .before .before .before .before .before .before .before .before .a3 .given .0 .0) (c .before .before .before .before .before .before .before .before .before .before .before .before .before .before .before .a3 .given .0 .1 .0) (c .before .before .before .before .before .before .before .before .before .before .before .before .before .before .before .a3 .given .0 .1 .1 .0)) (sym (c .before .before .before .before .before .before .before .before .before .before .before .before .before .before .before .a3 .given .1) ∙ c .before .before .before .before .before .before .before .before .before .before .before .before .before .before .before .before .before .way-at .ensures)) (0 ∷ []) (c .before .before .before .before .before .before .before .before .before .before .before .before .expr3 .last .1 .1 .1 .1 .0) (c .before .before .before .before .before .before .before .before .before .l3 .given .0 .0) (zeros-err 1) (rw (c .before .before .before .before .before .before .before .before .before .l3 .given .1) at (c .before .before .before .before .before .before .before .before .before .before .before .before .expr3 .ensures .0)) (c .before .before .body2 .result) (sym (c .before .before .before .before .before .before .choose .ensures) ∙ c .before .before .before .before .enum-told4 .given .1) (c .before .before .body2 .ensures .0), c .before .before .body2 .ensures .1)
 
--- src/cycle.rt:147:1  // `out`. ⏎ fn body(t: &[u32], widths: &[u8], r: usize, w: usize, env: &[u64], out: &mut [u64], left: u32) -> Turn
+-- src/cycle.rt:177:1  // `out`. ⏎ fn body(
 body-same-length-5 : (t : ℕ) → body-lts.Need-same-length-5 (
   way-at-reads.Asked,
   way-at-reads.Learnt,
@@ -868,7 +868,7 @@ body-same-length-5 : (t : ℕ) → body-lts.Need-same-length-5 (
 ) (body-at t) body.Post
 body-same-length-5 t c = search needs
 
--- src/cycle.rt:147:1  // `out`. ⏎ fn body(t: &[u32], widths: &[u8], r: usize, w: usize, env: &[u64], out: &mut [u64], left: u32) -> Turn
+-- src/cycle.rt:177:1  // `out`. ⏎ fn body(
 body-returns-7 : (t : ℕ) → body-lts.Need-returns-7 (
   way-at-reads.Asked,
   way-at-reads.Learnt,
@@ -887,7 +887,7 @@ body-returns-7 : (t : ℕ) → body-lts.Need-returns-7 (
 ) (body-at t) body.Post
 body-returns-7 t c = (tell-second-B (c .before .before .before .before .before .before .before .before .before .before .before .before .before .before .before .before .before .before .before .before .before .before .args .t .now) (c .before .before .before .before .before .before .before .before .before .before .before .before .before .before .before .before .before .before .before .before .before .before .args .widths .now) (c .before .before .before .before .before .before .before .before .before .before .before .before .before .before .before .before .before .before .before .before .before .before .args .r) (c .before .before .before .before .before .before .before .before .before .before .before .before .before .before .before .before .before .before .before .before .before .before .pre .1 .0) (c .before .before .before .before .before .before .before .before .before .before .before .before .before .before .before .before .before .before .before .before .before .before .args .w) (envOf (c .before .before .before .before .before .before .before .before .before .before .before .before .before .before .before .before .before .before .before .before .before .before .args .env .now)) (c .before .before .before .before .before .before .before .before .before .before .before .before .before .before .before .before .before .before .before .before .before .before .args .left) (c .before .before .before .before .before .before .before .before .before .before .before .before .before .before .before .before .before .before .before .before .before .before .args .out .now) (c .before .before .body3 .last .1 .1 .1 .1 .1 .0) (c .before .before .before .before .before .before .before .before .before .before .before .before .before .before .before .a3 .given .0 .0) (c .before .before .before .before .before .before .before .before .before .before .before .before .before .before .before .a3 .given .0 .1 .0) (c .before .before .before .before .before .before .before .before .before .before .before .before .before .before .before .a3 .given .0 .1 .1 .0) (shaped-as (shapeAt (c .before .before .before .before .before .before .before .before .before .before .before .before .before .before .before .before .before .before .before .before .before .before .args .t .now) (c .before .before .before .before .before .before .before .before .before .before .before .before .before .before .before .before .before .before .before .before .before .before .args .r)) (if-way (c .before .before .before .before .before .before .before .before .before .before .before .before .before .before .before .a3 .given .0 .0) (c .before .before .before .before .before .before .before .before .before .before .before .before .before .before .before .a3 .given .0 .1 .0) (c .before .before .before .before .before .before .before .before .before .before .before .before .before .before .before .a3 .given .0 .1 .1 .0)) (sym (c .before .before .before .before .before .before .before .before .before .before .before .before .before .before .before .a3 .given .1) ∙ c .before .before .before .before .before .before .before .before .before .before .before .before .before .before .before .before .before .way-at .ensures)) (0 ∷ []) (c .before .before .before .before .before .before .before .before .before .before .before .before .expr3 .last .1 .1 .1 .1 .0) (c .before .before .before .before .before .before .before .before .before .l3 .given .0 .0) (zeros-err 1) (rw (c .before .before .before .before .before .before .before .before .before .l3 .given .1) at (c .before .before .before .before .before .before .before .before .before .before .before .before .expr3 .ensures .0)) (c .before .before .body3 .result) (sym (c .before .before .before .before .before .before .choose .ensures) ∙ c .before .before .before .before .enum-told5 .given .1) (c .before .before .body3 .ensures .0), c .before .before .body3 .ensures .1)
 
--- src/cycle.rt:147:1  // `out`. ⏎ fn body(t: &[u32], widths: &[u8], r: usize, w: usize, env: &[u64], out: &mut [u64], left: u32) -> Turn
+-- src/cycle.rt:177:1  // `out`. ⏎ fn body(
 body-same-length-6 : (t : ℕ) → body-lts.Need-same-length-6 (
   way-at-reads.Asked,
   way-at-reads.Learnt,
@@ -906,7 +906,7 @@ body-same-length-6 : (t : ℕ) → body-lts.Need-same-length-6 (
 ) (body-at t) body.Post
 body-same-length-6 t c = search needs
 
--- src/cycle.rt:147:1  // `out`. ⏎ fn body(t: &[u32], widths: &[u8], r: usize, w: usize, env: &[u64], out: &mut [u64], left: u32) -> Turn
+-- src/cycle.rt:177:1  // `out`. ⏎ fn body(
 body-returns-8 : (t : ℕ) → body-lts.Need-returns-8 (
   way-at-reads.Asked,
   way-at-reads.Learnt,
@@ -925,7 +925,7 @@ body-returns-8 : (t : ℕ) → body-lts.Need-returns-8 (
 ) (body-at t) body.Post
 body-returns-8 t c = (tell-neither-B (c .before .before .before .before .before .before .before .before .before .before .before .before .before .before .before .before .before .before .before .before .before .before .args .t .now) (c .before .before .before .before .before .before .before .before .before .before .before .before .before .before .before .before .before .before .before .before .before .before .args .widths .now) (c .before .before .before .before .before .before .before .before .before .before .before .before .before .before .before .before .before .before .before .before .before .before .args .r) (c .before .before .before .before .before .before .before .before .before .before .before .before .before .before .before .before .before .before .before .before .before .before .pre .1 .0) (c .before .before .before .before .before .before .before .before .before .before .before .before .before .before .before .before .before .before .before .before .before .before .args .w) (envOf (c .before .before .before .before .before .before .before .before .before .before .before .before .before .before .before .before .before .before .before .before .before .before .args .env .now)) (c .before .before .before .before .before .before .before .before .before .before .before .before .before .before .before .before .before .before .before .before .before .before .args .left) (c .before .before .before .before .before .before .before .before .before .before .before .before .before .before .before .before .before .before .before .before .before .before .args .out .now) (c .before .before .put-errs .last .0) (c .before .before .before .before .before .before .before .before .before .before .before .before .before .before .before .a3 .given .0 .0) (c .before .before .before .before .before .before .before .before .before .before .before .before .before .before .before .a3 .given .0 .1 .0) (c .before .before .before .before .before .before .before .before .before .before .before .before .before .before .before .a3 .given .0 .1 .1 .0) (shaped-as (shapeAt (c .before .before .before .before .before .before .before .before .before .before .before .before .before .before .before .before .before .before .before .before .before .before .args .t .now) (c .before .before .before .before .before .before .before .before .before .before .before .before .before .before .before .before .before .before .before .before .before .before .args .r)) (if-way (c .before .before .before .before .before .before .before .before .before .before .before .before .before .before .before .a3 .given .0 .0) (c .before .before .before .before .before .before .before .before .before .before .before .before .before .before .before .a3 .given .0 .1 .0) (c .before .before .before .before .before .before .before .before .before .before .before .before .before .before .before .a3 .given .0 .1 .1 .0)) (sym (c .before .before .before .before .before .before .before .before .before .before .before .before .before .before .before .a3 .given .1) ∙ c .before .before .before .before .before .before .before .before .before .before .before .before .before .before .before .before .before .way-at .ensures)) (0 ∷ []) (c .before .before .before .before .before .before .before .before .before .before .before .before .expr3 .last .1 .1 .1 .1 .0) (c .before .before .before .before .before .before .before .before .before .l3 .given .0 .0) (zeros-err 1) (rw (c .before .before .before .before .before .before .before .before .before .l3 .given .1) at (c .before .before .before .before .before .before .before .before .before .before .before .before .expr3 .ensures .0)) (sym (c .before .before .before .before .before .before .choose .ensures) ∙ c .before .before .before .before .enum-told6 .given .1) (c .before .before .put-errs .ensures .0), c .before .before .put-errs .ensures .1)
 
--- src/cycle.rt:147:1  // `out`. ⏎ fn body(t: &[u32], widths: &[u8], r: usize, w: usize, env: &[u64], out: &mut [u64], left: u32) -> Turn
+-- src/cycle.rt:177:1  // `out`. ⏎ fn body(
 body-same-length-7 : (t : ℕ) → body-lts.Need-same-length-7 (
   way-at-reads.Asked,
   way-at-reads.Learnt,
@@ -944,7 +944,7 @@ body-same-length-7 : (t : ℕ) → body-lts.Need-same-length-7 (
 ) (body-at t) body.Post
 body-same-length-7 t c = search needs
 
--- src/cycle.rt:147:1  // `out`. ⏎ fn body(t: &[u32], widths: &[u8], r: usize, w: usize, env: &[u64], out: &mut [u64], left: u32) -> Turn
+-- src/cycle.rt:177:1  // `out`. ⏎ fn body(
 body-returns-9 : (t : ℕ) → body-lts.Need-returns-9 (
   way-at-reads.Asked,
   way-at-reads.Learnt,
@@ -963,7 +963,7 @@ body-returns-9 : (t : ℕ) → body-lts.Need-returns-9 (
 ) (body-at t) body.Post
 body-returns-9 t c = (tell-ending-stopped (c .before .before .before .before .before .before .before .before .before .before .before .before .before .args .t .now) (c .before .before .before .before .before .before .before .before .before .before .before .before .before .args .widths .now) (c .before .before .before .before .before .before .before .before .before .before .before .before .before .args .r) (c .before .before .before .before .before .before .before .before .before .before .before .before .before .pre .1 .0) (c .before .before .before .before .before .before .before .before .before .before .before .before .before .args .w) (envOf (c .before .before .before .before .before .before .before .before .before .before .before .before .before .args .env .now)) (c .before .before .before .before .before .before .before .before .before .before .before .before .before .args .left) (c .before .before .before .before .before .before .before .before .before .before .before .before .before .args .out .now) (c .before .before .before .before .expr4 .last .1 .1 .1 .1 .0) (shaped-as (shapeAt (c .before .before .before .before .before .before .before .before .before .before .before .before .before .args .t .now) (c .before .before .before .before .before .before .before .before .before .before .before .before .before .args .r)) End (sym (c .before .before .before .before .before .before .enum-told7 .given .1) ∙ c .before .before .before .before .before .before .before .before .way-at .ensures)) (c .before .before .before .before .before .before .before .before .before .before .before .before .before .args .out .now) (c .before .before .before .before .expr4 .last .1 .1 .1 .1 .0) (rw (c .enum-told8 .given .1) at (c .before .before .before .before .expr4 .ensures .0)), c .before .before .before .before .expr4 .ensures .1)
 
--- src/cycle.rt:147:1  // `out`. ⏎ fn body(t: &[u32], widths: &[u8], r: usize, w: usize, env: &[u64], out: &mut [u64], left: u32) -> Turn
+-- src/cycle.rt:177:1  // `out`. ⏎ fn body(
 body-same-length-8 : (t : ℕ) → body-lts.Need-same-length-8 (
   way-at-reads.Asked,
   way-at-reads.Learnt,
@@ -982,7 +982,7 @@ body-same-length-8 : (t : ℕ) → body-lts.Need-same-length-8 (
 ) (body-at t) body.Post
 body-same-length-8 t c = search needs
 
--- src/cycle.rt:147:1  // `out`. ⏎ fn body(t: &[u32], widths: &[u8], r: usize, w: usize, env: &[u64], out: &mut [u64], left: u32) -> Turn
+-- src/cycle.rt:177:1  // `out`. ⏎ fn body(
 body-returns-10 : (t : ℕ) → body-lts.Need-returns-10 (
   way-at-reads.Asked,
   way-at-reads.Learnt,
@@ -1001,7 +1001,7 @@ body-returns-10 : (t : ℕ) → body-lts.Need-returns-10 (
 ) (body-at t) body.Post
 body-returns-10 t c = (tell-ending (c .before .before .before .before .before .before .before .before .before .before .before .before .before .before .args .t .now) (c .before .before .before .before .before .before .before .before .before .before .before .before .before .before .args .widths .now) (c .before .before .before .before .before .before .before .before .before .before .before .before .before .before .args .r) (c .before .before .before .before .before .before .before .before .before .before .before .before .before .before .pre .1 .0) (c .before .before .before .before .before .before .before .before .before .before .before .before .before .before .args .w) (envOf (c .before .before .before .before .before .before .before .before .before .before .before .before .before .before .args .env .now)) (c .before .before .before .before .before .before .before .before .before .before .before .before .before .before .args .left) (c .before .before .before .before .before .before .before .before .before .before .before .before .before .before .args .out .now) (c .before .before .before .before .before .expr4 .last .1 .1 .1 .1 .0) (shaped-as (shapeAt (c .before .before .before .before .before .before .before .before .before .before .before .before .before .before .args .t .now) (c .before .before .before .before .before .before .before .before .before .before .before .before .before .before .args .r)) End (sym (c .before .before .before .before .before .before .before .enum-told7 .given .1) ∙ c .before .before .before .before .before .before .before .before .before .way-at .ensures)) (c .before .l4 .given .0 .0) (rw (c .before .l4 .given .1) at (c .before .before .before .before .before .expr4 .ensures .0)), c .before .before .before .before .before .expr4 .ensures .1)
 
--- src/cycle.rt:59:11  { ⏎ match shape_at(t, r) {
+-- src/cycle.rt:67:11  { ⏎ match shape_at(t, r) {
 expr-shape-at-requires : (t : ℕ) → expr-lts.Need-shape-at-requires (
   shape-at-reads.Asked,
   shape-at-reads.Learnt,
@@ -1030,7 +1030,7 @@ expr-shape-at-requires : (t : ℕ) → expr-lts.Need-shape-at-requires (
 ) (expr-at t) expr.Post
 expr-shape-at-requires t c κs = search needs
 
--- src/cycle.rt:60:27  match shape_at(t, r) { ⏎ Shape::Identifier(a) => {
+-- src/cycle.rt:68:27  match shape_at(t, r) { ⏎ Shape::Identifier(a) => {
 expr-enum-known-a : (t : ℕ) → expr-lts.Need-enum-known-a (
   shape-at-reads.Asked,
   shape-at-reads.Learnt,
@@ -1059,7 +1059,7 @@ expr-enum-known-a : (t : ℕ) → expr-lts.Need-enum-known-a (
 ) (expr-at t) expr.Post
 expr-enum-known-a t c = search needs
 
--- src/cycle.rt:61:13  Shape::Identifier(a) => { ⏎ put_name(out, at, env, a);
+-- src/cycle.rt:69:13  Shape::Identifier(a) => { ⏎ put_name(out, at, env, a);
 expr-put-name-requires : (t : ℕ) → expr-lts.Need-put-name-requires (
   shape-at-reads.Asked,
   shape-at-reads.Learnt,
@@ -1088,7 +1088,7 @@ expr-put-name-requires : (t : ℕ) → expr-lts.Need-put-name-requires (
 ) (expr-at t) expr.Post
 expr-put-name-requires t c κs = let k : ExpChildren (c .before .before .before .before .before .before .before .before .before .args .t .now) (c .before .before .before .before .before .before .before .before .before .args .widths .now) (c .before .before .before .before .before .before .before .before .before .args .r) (Identifier (c .before .before .a .given .0 .0)) = exp-children (c .before .before .before .before .before .before .before .before .before .args .t .now) (c .before .before .before .before .before .before .before .before .before .args .widths .now) (c .before .before .before .before .before .before .before .before .before .args .r) (c .before .before .before .before .before .before .before .before .before .pre .1 .0) (Identifier (c .before .before .a .given .0 .0)) (sym (c .before .before .before .before .shape-at .ensures) ∙ c .before .before .a .given .1) in let f : ExpNeeds (c .before .before .before .before .before .before .before .before .before .args .t .now) (c .before .before .before .before .before .before .before .before .before .args .widths .now) (c .before .before .before .before .before .before .before .before .before .args .r) (Identifier (c .before .before .a .given .0 .0)) = exp-needs (c .before .before .before .before .before .before .before .before .before .args .t .now) (c .before .before .before .before .before .before .before .before .before .args .widths .now) (c .before .before .before .before .before .before .before .before .before .args .r) (c .before .before .before .before .before .before .before .before .before .pre .1 .0) (Identifier (c .before .before .a .given .0 .0)) (sym (c .before .before .before .before .shape-at .ensures) ∙ c .before .before .a .given .1) in (omega (arith, f .0, c .before .before .before .before .before .before .before .before .before .pre .1 .2), omega (arith, f .1, c .before .before .before .before .before .before .before .before .before .pre .1 .1))
 
--- src/cycle.rt:64:22  } ⏎ Shape::Whole(a) => {
+-- src/cycle.rt:72:22  } ⏎ Shape::Whole(a) => {
 expr-enum-known-a-2 : (t : ℕ) → expr-lts.Need-enum-known-a-2 (
   shape-at-reads.Asked,
   shape-at-reads.Learnt,
@@ -1117,7 +1117,7 @@ expr-enum-known-a-2 : (t : ℕ) → expr-lts.Need-enum-known-a-2 (
 ) (expr-at t) expr.Post
 expr-enum-known-a-2 t c = search needs
 
--- src/cycle.rt:65:13  Shape::Whole(a) => { ⏎ put_whole(out, at, a);
+-- src/cycle.rt:73:13  Shape::Whole(a) => { ⏎ put_whole(out, at, a);
 expr-put-whole-requires : (t : ℕ) → expr-lts.Need-put-whole-requires (
   shape-at-reads.Asked,
   shape-at-reads.Learnt,
@@ -1146,7 +1146,7 @@ expr-put-whole-requires : (t : ℕ) → expr-lts.Need-put-whole-requires (
 ) (expr-at t) expr.Post
 expr-put-whole-requires t c κs = let k : ExpChildren (c .before .before .before .before .before .before .before .before .before .args .t .now) (c .before .before .before .before .before .before .before .before .before .args .widths .now) (c .before .before .before .before .before .before .before .before .before .args .r) (Whole (c .before .before .a2 .given .0 .0)) = exp-children (c .before .before .before .before .before .before .before .before .before .args .t .now) (c .before .before .before .before .before .before .before .before .before .args .widths .now) (c .before .before .before .before .before .before .before .before .before .args .r) (c .before .before .before .before .before .before .before .before .before .pre .1 .0) (Whole (c .before .before .a2 .given .0 .0)) (sym (c .before .before .before .before .shape-at .ensures) ∙ c .before .before .a2 .given .1) in let f : ExpNeeds (c .before .before .before .before .before .before .before .before .before .args .t .now) (c .before .before .before .before .before .before .before .before .before .args .widths .now) (c .before .before .before .before .before .before .before .before .before .args .r) (Whole (c .before .before .a2 .given .0 .0)) = exp-needs (c .before .before .before .before .before .before .before .before .before .args .t .now) (c .before .before .before .before .before .before .before .before .before .args .widths .now) (c .before .before .before .before .before .before .before .before .before .args .r) (c .before .before .before .before .before .before .before .before .before .pre .1 .0) (Whole (c .before .before .a2 .given .0 .0)) (sym (c .before .before .before .before .shape-at .ensures) ∙ c .before .before .a2 .given .1) in (omega (arith, f .0, c .before .before .before .before .before .before .before .before .before .pre .1 .2), f .1)
 
--- src/cycle.rt:68:22  } ⏎ Shape::Truth(a) => {
+-- src/cycle.rt:76:22  } ⏎ Shape::Truth(a) => {
 expr-enum-known-a-3 : (t : ℕ) → expr-lts.Need-enum-known-a-3 (
   shape-at-reads.Asked,
   shape-at-reads.Learnt,
@@ -1175,7 +1175,7 @@ expr-enum-known-a-3 : (t : ℕ) → expr-lts.Need-enum-known-a-3 (
 ) (expr-at t) expr.Post
 expr-enum-known-a-3 t c = search needs
 
--- src/cycle.rt:69:13  Shape::Truth(a) => { ⏎ put_truth(out, at, a);
+-- src/cycle.rt:77:13  Shape::Truth(a) => { ⏎ put_truth(out, at, a);
 expr-put-truth-requires : (t : ℕ) → expr-lts.Need-put-truth-requires (
   shape-at-reads.Asked,
   shape-at-reads.Learnt,
@@ -1204,7 +1204,7 @@ expr-put-truth-requires : (t : ℕ) → expr-lts.Need-put-truth-requires (
 ) (expr-at t) expr.Post
 expr-put-truth-requires t c κs = let k : ExpChildren (c .before .before .before .before .before .before .before .before .before .args .t .now) (c .before .before .before .before .before .before .before .before .before .args .widths .now) (c .before .before .before .before .before .before .before .before .before .args .r) (Truth (c .before .before .a3 .given .0 .0)) = exp-children (c .before .before .before .before .before .before .before .before .before .args .t .now) (c .before .before .before .before .before .before .before .before .before .args .widths .now) (c .before .before .before .before .before .before .before .before .before .args .r) (c .before .before .before .before .before .before .before .before .before .pre .1 .0) (Truth (c .before .before .a3 .given .0 .0)) (sym (c .before .before .before .before .shape-at .ensures) ∙ c .before .before .a3 .given .1) in let f : ExpNeeds (c .before .before .before .before .before .before .before .before .before .args .t .now) (c .before .before .before .before .before .before .before .before .before .args .widths .now) (c .before .before .before .before .before .before .before .before .before .args .r) (Truth (c .before .before .a3 .given .0 .0)) = exp-needs (c .before .before .before .before .before .before .before .before .before .args .t .now) (c .before .before .before .before .before .before .before .before .before .args .widths .now) (c .before .before .before .before .before .before .before .before .before .args .r) (c .before .before .before .before .before .before .before .before .before .pre .1 .0) (Truth (c .before .before .a3 .given .0 .0)) (sym (c .before .before .before .before .shape-at .ensures) ∙ c .before .before .a3 .given .1) in omega (arith, f, c .before .before .before .before .before .before .before .before .before .pre .1 .2)
 
--- src/cycle.rt:72:21  } ⏎ Shape::Pair(a, b) => match expr(t, widths, a, env, out, at, left) {
+-- src/cycle.rt:80:21  } ⏎ Shape::Pair(a, b) => match expr(t, widths, a, env, out, at, left) {
 expr-enum-known-a-4 : (t : ℕ) → expr-lts.Need-enum-known-a-4 (
   shape-at-reads.Asked,
   shape-at-reads.Learnt,
@@ -1233,7 +1233,7 @@ expr-enum-known-a-4 : (t : ℕ) → expr-lts.Need-enum-known-a-4 (
 ) (expr-at t) expr.Post
 expr-enum-known-a-4 t c = search needs
 
--- src/cycle.rt:72:36  } ⏎ Shape::Pair(a, b) => match expr(t, widths, a, env, out, at, left) {
+-- src/cycle.rt:80:36  } ⏎ Shape::Pair(a, b) => match expr(t, widths, a, env, out, at, left) {
 expr-expr-requires : (t : ℕ) → expr-lts.Need-expr-requires (
   shape-at-reads.Asked,
   shape-at-reads.Learnt,
@@ -1262,7 +1262,7 @@ expr-expr-requires : (t : ℕ) → expr-lts.Need-expr-requires (
 ) (expr-at t) expr.Post
 expr-expr-requires t c κs = let k : ExpChildren (c .before .before .before .before .before .before .before .before .before .args .t .now) (c .before .before .before .before .before .before .before .before .before .args .widths .now) (c .before .before .before .before .before .before .before .before .before .args .r) (Pair (c .before .before .a4 .given .0 .0) (c .before .before .a4 .given .0 .1 .0)) = exp-children (c .before .before .before .before .before .before .before .before .before .args .t .now) (c .before .before .before .before .before .before .before .before .before .args .widths .now) (c .before .before .before .before .before .before .before .before .before .args .r) (c .before .before .before .before .before .before .before .before .before .pre .1 .0) (Pair (c .before .before .a4 .given .0 .0) (c .before .before .a4 .given .0 .1 .0)) (sym (c .before .before .before .before .shape-at .ensures) ∙ c .before .before .a4 .given .1) in let f : ExpNeeds (c .before .before .before .before .before .before .before .before .before .args .t .now) (c .before .before .before .before .before .before .before .before .before .args .widths .now) (c .before .before .before .before .before .before .before .before .before .args .r) (Pair (c .before .before .a4 .given .0 .0) (c .before .before .a4 .given .0 .1 .0)) = exp-needs (c .before .before .before .before .before .before .before .before .before .args .t .now) (c .before .before .before .before .before .before .before .before .before .args .widths .now) (c .before .before .before .before .before .before .before .before .before .args .r) (c .before .before .before .before .before .before .before .before .before .pre .1 .0) (Pair (c .before .before .a4 .given .0 .0) (c .before .before .a4 .given .0 .1 .0)) (sym (c .before .before .before .before .shape-at .ensures) ∙ c .before .before .a4 .given .1) in (omega (arith, k .0 .1), (k .0 .0, c .before .before .before .before .before .before .before .before .before .pre .1 .1, omega (arith, f, c .before .before .before .before .before .before .before .before .before .pre .1 .2)))
 
--- src/cycle.rt:73:28  Shape::Pair(a, b) => match expr(t, widths, a, env, out, at, left) { ⏎ Rest::Short => Rest::Short,
+-- src/cycle.rt:81:28  Shape::Pair(a, b) => match expr(t, widths, a, env, out, at, left) { ⏎ Rest::Short => Rest::Short,
 expr-enum-told : (t : ℕ) → expr-lts.Need-enum-told (
   shape-at-reads.Asked,
   shape-at-reads.Learnt,
@@ -1291,7 +1291,7 @@ expr-enum-told : (t : ℕ) → expr-lts.Need-enum-told (
 ) (expr-at t) expr.Post
 expr-enum-told t c = search needs
 
--- src/cycle.rt:74:24  Rest::Short => Rest::Short, ⏎ Rest::Left(l) => expr(t, widths, b, env, out, at + width_at(widths, a), l),
+-- src/cycle.rt:82:24  Rest::Short => Rest::Short, ⏎ Rest::Left(l) => expr(t, widths, b, env, out, at + width_at(widths, a), l),
 expr-enum-known-l : (t : ℕ) → expr-lts.Need-enum-known-l (
   shape-at-reads.Asked,
   shape-at-reads.Learnt,
@@ -1320,7 +1320,7 @@ expr-enum-known-l : (t : ℕ) → expr-lts.Need-enum-known-l (
 ) (expr-at t) expr.Post
 expr-enum-known-l t c = search needs
 
--- src/cycle.rt:74:64  Rest::Short => Rest::Short, ⏎ Rest::Left(l) => expr(t, widths, b, env, out, at + width_at(widths, a), l),
+-- src/cycle.rt:82:64  Rest::Short => Rest::Short, ⏎ Rest::Left(l) => expr(t, widths, b, env, out, at + width_at(widths, a), l),
 expr-width-at-requires : (t : ℕ) → expr-lts.Need-width-at-requires (
   shape-at-reads.Asked,
   shape-at-reads.Learnt,
@@ -1349,7 +1349,7 @@ expr-width-at-requires : (t : ℕ) → expr-lts.Need-width-at-requires (
 ) (expr-at t) expr.Post
 expr-width-at-requires t c κs = let k : ExpChildren (c .before .before .before .before .before .before .before .before .before .before .before .before .before .before .before .before .args .t .now) (c .before .before .before .before .before .before .before .before .before .before .before .before .before .before .before .before .args .widths .now) (c .before .before .before .before .before .before .before .before .before .before .before .before .before .before .before .before .args .r) (Pair (c .before .before .before .before .before .before .before .before .before .a4 .given .0 .0) (c .before .before .before .before .before .before .before .before .before .a4 .given .0 .1 .0)) = exp-children (c .before .before .before .before .before .before .before .before .before .before .before .before .before .before .before .before .args .t .now) (c .before .before .before .before .before .before .before .before .before .before .before .before .before .before .before .before .args .widths .now) (c .before .before .before .before .before .before .before .before .before .before .before .before .before .before .before .before .args .r) (c .before .before .before .before .before .before .before .before .before .before .before .before .before .before .before .before .pre .1 .0) (Pair (c .before .before .before .before .before .before .before .before .before .a4 .given .0 .0) (c .before .before .before .before .before .before .before .before .before .a4 .given .0 .1 .0)) (sym (c .before .before .before .before .before .before .before .before .before .before .before .shape-at .ensures) ∙ c .before .before .before .before .before .before .before .before .before .a4 .given .1) in let f : ExpNeeds (c .before .before .before .before .before .before .before .before .before .before .before .before .before .before .before .before .args .t .now) (c .before .before .before .before .before .before .before .before .before .before .before .before .before .before .before .before .args .widths .now) (c .before .before .before .before .before .before .before .before .before .before .before .before .before .before .before .before .args .r) (Pair (c .before .before .before .before .before .before .before .before .before .a4 .given .0 .0) (c .before .before .before .before .before .before .before .before .before .a4 .given .0 .1 .0)) = exp-needs (c .before .before .before .before .before .before .before .before .before .before .before .before .before .before .before .before .args .t .now) (c .before .before .before .before .before .before .before .before .before .before .before .before .before .before .before .before .args .widths .now) (c .before .before .before .before .before .before .before .before .before .before .before .before .before .before .before .before .args .r) (c .before .before .before .before .before .before .before .before .before .before .before .before .before .before .before .before .pre .1 .0) (Pair (c .before .before .before .before .before .before .before .before .before .a4 .given .0 .0) (c .before .before .before .before .before .before .before .before .before .a4 .given .0 .1 .0)) (sym (c .before .before .before .before .before .before .before .before .before .before .before .shape-at .ensures) ∙ c .before .before .before .before .before .before .before .before .before .a4 .given .1) in (k .0 .0 .low, omega (arith, k .0 .0 .high, k .0 .0 .accepted .table))
 
--- src/cycle.rt:74:59  Rest::Short => Rest::Short, ⏎ Rest::Left(l) => expr(t, widths, b, env, out, at + width_at(widths, a), l),
+-- src/cycle.rt:82:59  Rest::Short => Rest::Short, ⏎ Rest::Left(l) => expr(t, widths, b, env, out, at + width_at(widths, a), l),
 expr-add-expr : (t : ℕ) → expr-lts.Need-add-expr (
   shape-at-reads.Asked,
   shape-at-reads.Learnt,
@@ -1378,7 +1378,7 @@ expr-add-expr : (t : ℕ) → expr-lts.Need-add-expr (
 ) (expr-at t) expr.Post
 expr-add-expr t c = search needs
 
--- src/cycle.rt:74:30  Rest::Short => Rest::Short, ⏎ Rest::Left(l) => expr(t, widths, b, env, out, at + width_at(widths, a), l),
+-- src/cycle.rt:82:30  Rest::Short => Rest::Short, ⏎ Rest::Left(l) => expr(t, widths, b, env, out, at + width_at(widths, a), l),
 expr-expr-requires-2 : (t : ℕ) → expr-lts.Need-expr-requires-2 (
   shape-at-reads.Asked,
   shape-at-reads.Learnt,
@@ -1407,7 +1407,7 @@ expr-expr-requires-2 : (t : ℕ) → expr-lts.Need-expr-requires-2 (
 ) (expr-at t) expr.Post
 expr-expr-requires-2 t c κs = let k : ExpChildren (c .before .before .before .before .before .before .before .before .before .before .before .before .before .before .before .before .before .args .t .now) (c .before .before .before .before .before .before .before .before .before .before .before .before .before .before .before .before .before .args .widths .now) (c .before .before .before .before .before .before .before .before .before .before .before .before .before .before .before .before .before .args .r) (Pair (c .before .before .before .before .before .before .before .before .before .before .a4 .given .0 .0) (c .before .before .before .before .before .before .before .before .before .before .a4 .given .0 .1 .0)) = exp-children (c .before .before .before .before .before .before .before .before .before .before .before .before .before .before .before .before .before .args .t .now) (c .before .before .before .before .before .before .before .before .before .before .before .before .before .before .before .before .before .args .widths .now) (c .before .before .before .before .before .before .before .before .before .before .before .before .before .before .before .before .before .args .r) (c .before .before .before .before .before .before .before .before .before .before .before .before .before .before .before .before .before .pre .1 .0) (Pair (c .before .before .before .before .before .before .before .before .before .before .a4 .given .0 .0) (c .before .before .before .before .before .before .before .before .before .before .a4 .given .0 .1 .0)) (sym (c .before .before .before .before .before .before .before .before .before .before .before .before .shape-at .ensures) ∙ c .before .before .before .before .before .before .before .before .before .before .a4 .given .1) in let f : ExpNeeds (c .before .before .before .before .before .before .before .before .before .before .before .before .before .before .before .before .before .args .t .now) (c .before .before .before .before .before .before .before .before .before .before .before .before .before .before .before .before .before .args .widths .now) (c .before .before .before .before .before .before .before .before .before .before .before .before .before .before .before .before .before .args .r) (Pair (c .before .before .before .before .before .before .before .before .before .before .a4 .given .0 .0) (c .before .before .before .before .before .before .before .before .before .before .a4 .given .0 .1 .0)) = exp-needs (c .before .before .before .before .before .before .before .before .before .before .before .before .before .before .before .before .before .args .t .now) (c .before .before .before .before .before .before .before .before .before .before .before .before .before .before .before .before .before .args .widths .now) (c .before .before .before .before .before .before .before .before .before .before .before .before .before .before .before .before .before .args .r) (c .before .before .before .before .before .before .before .before .before .before .before .before .before .before .before .before .before .pre .1 .0) (Pair (c .before .before .before .before .before .before .before .before .before .before .a4 .given .0 .0) (c .before .before .before .before .before .before .before .before .before .before .a4 .given .0 .1 .0)) (sym (c .before .before .before .before .before .before .before .before .before .before .before .before .shape-at .ensures) ∙ c .before .before .before .before .before .before .before .before .before .before .a4 .given .1) in (omega (arith, k .1 .1), (k .1 .0, c .before .before .before .before .before .before .before .before .before .before .before .before .before .before .before .before .before .pre .1 .1, omega (arith, f, c .before .before .before .before .before .before .before .before .before .before .before .before .before .before .before .before .before .pre .1 .2, c .width-at .ensures .0, c .before .before .before .before .before .before .before .expr .ensures .1)))
 
--- src/cycle.rt:76:25  }, ⏎ Shape::Operator(code, b) => {
+-- src/cycle.rt:84:25  }, ⏎ Shape::Operator(code, b) => {
 expr-enum-known-code : (t : ℕ) → expr-lts.Need-enum-known-code (
   shape-at-reads.Asked,
   shape-at-reads.Learnt,
@@ -1436,7 +1436,7 @@ expr-enum-known-code : (t : ℕ) → expr-lts.Need-enum-known-code (
 ) (expr-at t) expr.Post
 expr-enum-known-code t c = search needs
 
--- src/cycle.rt:78:43  let mut operands = [0; 2]; ⏎ match expr(t, widths, b, env, &mut operands, 0, left) {
+-- src/cycle.rt:86:43  let mut operands = [0; 2]; ⏎ match expr(t, widths, b, env, &mut operands, 0, left) {
 expr-slice-aggregate-expr : (t : ℕ) → expr-lts.Need-slice-aggregate-expr (
   shape-at-reads.Asked,
   shape-at-reads.Learnt,
@@ -1465,7 +1465,7 @@ expr-slice-aggregate-expr : (t : ℕ) → expr-lts.Need-slice-aggregate-expr (
 ) (expr-at t) expr.Post
 expr-slice-aggregate-expr t c = search needs
 
--- src/cycle.rt:78:19  let mut operands = [0; 2]; ⏎ match expr(t, widths, b, env, &mut operands, 0, left) {
+-- src/cycle.rt:86:19  let mut operands = [0; 2]; ⏎ match expr(t, widths, b, env, &mut operands, 0, left) {
 expr-expr-requires-3 : (t : ℕ) → expr-lts.Need-expr-requires-3 (
   shape-at-reads.Asked,
   shape-at-reads.Learnt,
@@ -1494,7 +1494,7 @@ expr-expr-requires-3 : (t : ℕ) → expr-lts.Need-expr-requires-3 (
 ) (expr-at t) expr.Post
 expr-expr-requires-3 t c κs = let k : ExpChildren (c .before .before .before .before .before .before .before .before .before .args .t .now) (c .before .before .before .before .before .before .before .before .before .args .widths .now) (c .before .before .before .before .before .before .before .before .before .args .r) (Operator (c .before .before .code .given .0 .0) (c .before .before .code .given .0 .1 .0)) = exp-children (c .before .before .before .before .before .before .before .before .before .args .t .now) (c .before .before .before .before .before .before .before .before .before .args .widths .now) (c .before .before .before .before .before .before .before .before .before .args .r) (c .before .before .before .before .before .before .before .before .before .pre .1 .0) (Operator (c .before .before .code .given .0 .0) (c .before .before .code .given .0 .1 .0)) (sym (c .before .before .before .before .shape-at .ensures) ∙ c .before .before .code .given .1) in let f : ExpNeeds (c .before .before .before .before .before .before .before .before .before .args .t .now) (c .before .before .before .before .before .before .before .before .before .args .widths .now) (c .before .before .before .before .before .before .before .before .before .args .r) (Operator (c .before .before .code .given .0 .0) (c .before .before .code .given .0 .1 .0)) = exp-needs (c .before .before .before .before .before .before .before .before .before .args .t .now) (c .before .before .before .before .before .before .before .before .before .args .widths .now) (c .before .before .before .before .before .before .before .before .before .args .r) (c .before .before .before .before .before .before .before .before .before .pre .1 .0) (Operator (c .before .before .code .given .0 .0) (c .before .before .code .given .0 .1 .0)) (sym (c .before .before .before .before .shape-at .ensures) ∙ c .before .before .code .given .1) in (omega (arith, k .1), (k .0, c .before .before .before .before .before .before .before .before .before .pre .1 .1, omega (arith, f .1)))
 
--- src/cycle.rt:79:32  match expr(t, widths, b, env, &mut operands, 0, left) { ⏎ Rest::Short => Rest::Short,
+-- src/cycle.rt:87:32  match expr(t, widths, b, env, &mut operands, 0, left) { ⏎ Rest::Short => Rest::Short,
 expr-enum-told-2 : (t : ℕ) → expr-lts.Need-enum-told-2 (
   shape-at-reads.Asked,
   shape-at-reads.Learnt,
@@ -1523,7 +1523,7 @@ expr-enum-told-2 : (t : ℕ) → expr-lts.Need-enum-told-2 (
 ) (expr-at t) expr.Post
 expr-enum-told-2 t c = search needs
 
--- src/cycle.rt:80:28  Rest::Short => Rest::Short, ⏎ Rest::Left(l) => {
+-- src/cycle.rt:88:28  Rest::Short => Rest::Short, ⏎ Rest::Left(l) => {
 expr-enum-known-l-2 : (t : ℕ) → expr-lts.Need-enum-known-l-2 (
   shape-at-reads.Asked,
   shape-at-reads.Learnt,
@@ -1552,7 +1552,7 @@ expr-enum-known-l-2 : (t : ℕ) → expr-lts.Need-enum-known-l-2 (
 ) (expr-at t) expr.Post
 expr-enum-known-l-2 t c = search needs
 
--- src/cycle.rt:81:49  Rest::Left(l) => { ⏎ put_operator(out, at, code, &operands);
+-- src/cycle.rt:89:49  Rest::Left(l) => { ⏎ put_operator(out, at, code, &operands);
 expr-slice-aggregate-put-operator : (t : ℕ) → expr-lts.Need-slice-aggregate-put-operator (
   shape-at-reads.Asked,
   shape-at-reads.Learnt,
@@ -1581,7 +1581,7 @@ expr-slice-aggregate-put-operator : (t : ℕ) → expr-lts.Need-slice-aggregate-
 ) (expr-at t) expr.Post
 expr-slice-aggregate-put-operator t c = search needs
 
--- src/cycle.rt:81:21  Rest::Left(l) => { ⏎ put_operator(out, at, code, &operands);
+-- src/cycle.rt:89:21  Rest::Left(l) => { ⏎ put_operator(out, at, code, &operands);
 expr-put-operator-requires : (t : ℕ) → expr-lts.Need-put-operator-requires (
   shape-at-reads.Asked,
   shape-at-reads.Learnt,
@@ -1610,7 +1610,7 @@ expr-put-operator-requires : (t : ℕ) → expr-lts.Need-put-operator-requires (
 ) (expr-at t) expr.Post
 expr-put-operator-requires t c κs = let k : ExpChildren (c .before .before .before .before .before .before .before .before .before .before .before .before .before .before .before .before .args .t .now) (c .before .before .before .before .before .before .before .before .before .before .before .before .before .before .before .before .args .widths .now) (c .before .before .before .before .before .before .before .before .before .before .before .before .before .before .before .before .args .r) (Operator (c .before .before .before .before .before .before .before .before .before .code .given .0 .0) (c .before .before .before .before .before .before .before .before .before .code .given .0 .1 .0)) = exp-children (c .before .before .before .before .before .before .before .before .before .before .before .before .before .before .before .before .args .t .now) (c .before .before .before .before .before .before .before .before .before .before .before .before .before .before .before .before .args .widths .now) (c .before .before .before .before .before .before .before .before .before .before .before .before .before .before .before .before .args .r) (c .before .before .before .before .before .before .before .before .before .before .before .before .before .before .before .before .pre .1 .0) (Operator (c .before .before .before .before .before .before .before .before .before .code .given .0 .0) (c .before .before .before .before .before .before .before .before .before .code .given .0 .1 .0)) (sym (c .before .before .before .before .before .before .before .before .before .before .before .shape-at .ensures) ∙ c .before .before .before .before .before .before .before .before .before .code .given .1) in let f : ExpNeeds (c .before .before .before .before .before .before .before .before .before .before .before .before .before .before .before .before .args .t .now) (c .before .before .before .before .before .before .before .before .before .before .before .before .before .before .before .before .args .widths .now) (c .before .before .before .before .before .before .before .before .before .before .before .before .before .before .before .before .args .r) (Operator (c .before .before .before .before .before .before .before .before .before .code .given .0 .0) (c .before .before .before .before .before .before .before .before .before .code .given .0 .1 .0)) = exp-needs (c .before .before .before .before .before .before .before .before .before .before .before .before .before .before .before .before .args .t .now) (c .before .before .before .before .before .before .before .before .before .before .before .before .before .before .before .before .args .widths .now) (c .before .before .before .before .before .before .before .before .before .before .before .before .before .before .before .before .args .r) (c .before .before .before .before .before .before .before .before .before .before .before .before .before .before .before .before .pre .1 .0) (Operator (c .before .before .before .before .before .before .before .before .before .code .given .0 .0) (c .before .before .before .before .before .before .before .before .before .code .given .0 .1 .0)) (sym (c .before .before .before .before .before .before .before .before .before .before .before .shape-at .ensures) ∙ c .before .before .before .before .before .before .before .before .before .code .given .1) in (omega (arith, f .0, c .before .before .before .before .before .before .before .before .before .before .before .before .before .before .before .before .pre .1 .2), f .2, omega (arith, c .before .before .before .before .before .before .expr3 .ensures .1))
 
--- src/cycle.rt:86:20  } ⏎ Shape::Let(a, _, c, d) => {
+-- src/cycle.rt:94:20  } ⏎ Shape::Let(a, _, c, d) => {
 expr-enum-known-a-5 : (t : ℕ) → expr-lts.Need-enum-known-a-5 (
   shape-at-reads.Asked,
   shape-at-reads.Learnt,
@@ -1639,7 +1639,7 @@ expr-enum-known-a-5 : (t : ℕ) → expr-lts.Need-enum-known-a-5 (
 ) (expr-at t) expr.Post
 expr-enum-known-a-5 t c = search needs
 
--- src/cycle.rt:87:29  Shape::Let(a, _, c, d) => { ⏎ let mut inner = copied(env);
+-- src/cycle.rt:95:29  Shape::Let(a, _, c, d) => { ⏎ let mut inner = copied(env);
 expr-copied-requires : (t : ℕ) → expr-lts.Need-copied-requires (
   shape-at-reads.Asked,
   shape-at-reads.Learnt,
@@ -1668,7 +1668,7 @@ expr-copied-requires : (t : ℕ) → expr-lts.Need-copied-requires (
 ) (expr-at t) expr.Post
 expr-copied-requires t c κs = search needs
 
--- src/cycle.rt:88:43  let mut inner = copied(env); ⏎ match expr(t, widths, c, env, &mut inner, wide(a), left) {
+-- src/cycle.rt:96:43  let mut inner = copied(env); ⏎ match expr(t, widths, c, env, &mut inner, wide(a), left) {
 expr-slice-aggregate-expr-2 : (t : ℕ) → expr-lts.Need-slice-aggregate-expr-2 (
   shape-at-reads.Asked,
   shape-at-reads.Learnt,
@@ -1697,7 +1697,7 @@ expr-slice-aggregate-expr-2 : (t : ℕ) → expr-lts.Need-slice-aggregate-expr-2
 ) (expr-at t) expr.Post
 expr-slice-aggregate-expr-2 t c = search needs
 
--- src/cycle.rt:88:55  let mut inner = copied(env); ⏎ match expr(t, widths, c, env, &mut inner, wide(a), left) {
+-- src/cycle.rt:96:55  let mut inner = copied(env); ⏎ match expr(t, widths, c, env, &mut inner, wide(a), left) {
 expr-wide-requires : (t : ℕ) → expr-lts.Need-wide-requires (
   shape-at-reads.Asked,
   shape-at-reads.Learnt,
@@ -1726,7 +1726,7 @@ expr-wide-requires : (t : ℕ) → expr-lts.Need-wide-requires (
 ) (expr-at t) expr.Post
 expr-wide-requires t c κs = search needs
 
--- src/cycle.rt:88:19  let mut inner = copied(env); ⏎ match expr(t, widths, c, env, &mut inner, wide(a), left) {
+-- src/cycle.rt:96:19  let mut inner = copied(env); ⏎ match expr(t, widths, c, env, &mut inner, wide(a), left) {
 expr-expr-requires-4 : (t : ℕ) → expr-lts.Need-expr-requires-4 (
   shape-at-reads.Asked,
   shape-at-reads.Learnt,
@@ -1755,7 +1755,7 @@ expr-expr-requires-4 : (t : ℕ) → expr-lts.Need-expr-requires-4 (
 ) (expr-at t) expr.Post
 expr-expr-requires-4 t c κs = let k : ExpChildren (c .before .before .before .before .before .before .before .before .before .before .before .args .t .now) (c .before .before .before .before .before .before .before .before .before .before .before .args .widths .now) (c .before .before .before .before .before .before .before .before .before .before .before .args .r) (Let (c .before .before .before .before .a5 .given .0 .0) (c .before .before .before .before .a5 .given .0 .1 .0) (c .before .before .before .before .a5 .given .0 .1 .1 .0) (c .before .before .before .before .a5 .given .0 .1 .1 .1 .0)) = exp-children (c .before .before .before .before .before .before .before .before .before .before .before .args .t .now) (c .before .before .before .before .before .before .before .before .before .before .before .args .widths .now) (c .before .before .before .before .before .before .before .before .before .before .before .args .r) (c .before .before .before .before .before .before .before .before .before .before .before .pre .1 .0) (Let (c .before .before .before .before .a5 .given .0 .0) (c .before .before .before .before .a5 .given .0 .1 .0) (c .before .before .before .before .a5 .given .0 .1 .1 .0) (c .before .before .before .before .a5 .given .0 .1 .1 .1 .0)) (sym (c .before .before .before .before .before .before .shape-at .ensures) ∙ c .before .before .before .before .a5 .given .1) in let f : ExpNeeds (c .before .before .before .before .before .before .before .before .before .before .before .args .t .now) (c .before .before .before .before .before .before .before .before .before .before .before .args .widths .now) (c .before .before .before .before .before .before .before .before .before .before .before .args .r) (Let (c .before .before .before .before .a5 .given .0 .0) (c .before .before .before .before .a5 .given .0 .1 .0) (c .before .before .before .before .a5 .given .0 .1 .1 .0) (c .before .before .before .before .a5 .given .0 .1 .1 .1 .0)) = exp-needs (c .before .before .before .before .before .before .before .before .before .before .before .args .t .now) (c .before .before .before .before .before .before .before .before .before .before .before .args .widths .now) (c .before .before .before .before .before .before .before .before .before .before .before .args .r) (c .before .before .before .before .before .before .before .before .before .before .before .pre .1 .0) (Let (c .before .before .before .before .a5 .given .0 .0) (c .before .before .before .before .a5 .given .0 .1 .0) (c .before .before .before .before .a5 .given .0 .1 .1 .0) (c .before .before .before .before .a5 .given .0 .1 .1 .1 .0)) (sym (c .before .before .before .before .before .before .shape-at .ensures) ∙ c .before .before .before .before .a5 .given .1) in (omega (arith, k .0 .1), (k .0 .0, c .before .before .before .before .before .before .before .before .before .before .before .pre .1 .1, omega (arith, f .0, f .1, c .wide .ensures, ap length (c .before .before .copied .ensures), c .before .before .before .before .before .before .before .before .before .before .before .pre .1 .1)))
 
--- src/cycle.rt:89:32  match expr(t, widths, c, env, &mut inner, wide(a), left) { ⏎ Rest::Short => Rest::Short,
+-- src/cycle.rt:97:32  match expr(t, widths, c, env, &mut inner, wide(a), left) { ⏎ Rest::Short => Rest::Short,
 expr-enum-told-3 : (t : ℕ) → expr-lts.Need-enum-told-3 (
   shape-at-reads.Asked,
   shape-at-reads.Learnt,
@@ -1784,7 +1784,7 @@ expr-enum-told-3 : (t : ℕ) → expr-lts.Need-enum-told-3 (
 ) (expr-at t) expr.Post
 expr-enum-told-3 t c = search needs
 
--- src/cycle.rt:90:28  Rest::Short => Rest::Short, ⏎ Rest::Left(l) => expr(t, widths, d, &inner, out, at, l),
+-- src/cycle.rt:98:28  Rest::Short => Rest::Short, ⏎ Rest::Left(l) => expr(t, widths, d, &inner, out, at, l),
 expr-enum-known-l-3 : (t : ℕ) → expr-lts.Need-enum-known-l-3 (
   shape-at-reads.Asked,
   shape-at-reads.Learnt,
@@ -1813,7 +1813,7 @@ expr-enum-known-l-3 : (t : ℕ) → expr-lts.Need-enum-known-l-3 (
 ) (expr-at t) expr.Post
 expr-enum-known-l-3 t c = search needs
 
--- src/cycle.rt:90:53  Rest::Short => Rest::Short, ⏎ Rest::Left(l) => expr(t, widths, d, &inner, out, at, l),
+-- src/cycle.rt:98:53  Rest::Short => Rest::Short, ⏎ Rest::Left(l) => expr(t, widths, d, &inner, out, at, l),
 expr-slice-aggregate-expr-3 : (t : ℕ) → expr-lts.Need-slice-aggregate-expr-3 (
   shape-at-reads.Asked,
   shape-at-reads.Learnt,
@@ -1842,7 +1842,7 @@ expr-slice-aggregate-expr-3 : (t : ℕ) → expr-lts.Need-slice-aggregate-expr-3
 ) (expr-at t) expr.Post
 expr-slice-aggregate-expr-3 t c = search needs
 
--- src/cycle.rt:90:34  Rest::Short => Rest::Short, ⏎ Rest::Left(l) => expr(t, widths, d, &inner, out, at, l),
+-- src/cycle.rt:98:34  Rest::Short => Rest::Short, ⏎ Rest::Left(l) => expr(t, widths, d, &inner, out, at, l),
 expr-expr-requires-5 : (t : ℕ) → expr-lts.Need-expr-requires-5 (
   shape-at-reads.Asked,
   shape-at-reads.Learnt,
@@ -1871,7 +1871,7 @@ expr-expr-requires-5 : (t : ℕ) → expr-lts.Need-expr-requires-5 (
 ) (expr-at t) expr.Post
 expr-expr-requires-5 t c κs = let k : ExpChildren (c .before .before .before .before .before .before .before .before .before .before .before .before .before .before .before .before .before .before .args .t .now) (c .before .before .before .before .before .before .before .before .before .before .before .before .before .before .before .before .before .before .args .widths .now) (c .before .before .before .before .before .before .before .before .before .before .before .before .before .before .before .before .before .before .args .r) (Let (c .before .before .before .before .before .before .before .before .before .before .before .a5 .given .0 .0) (c .before .before .before .before .before .before .before .before .before .before .before .a5 .given .0 .1 .0) (c .before .before .before .before .before .before .before .before .before .before .before .a5 .given .0 .1 .1 .0) (c .before .before .before .before .before .before .before .before .before .before .before .a5 .given .0 .1 .1 .1 .0)) = exp-children (c .before .before .before .before .before .before .before .before .before .before .before .before .before .before .before .before .before .before .args .t .now) (c .before .before .before .before .before .before .before .before .before .before .before .before .before .before .before .before .before .before .args .widths .now) (c .before .before .before .before .before .before .before .before .before .before .before .before .before .before .before .before .before .before .args .r) (c .before .before .before .before .before .before .before .before .before .before .before .before .before .before .before .before .before .before .pre .1 .0) (Let (c .before .before .before .before .before .before .before .before .before .before .before .a5 .given .0 .0) (c .before .before .before .before .before .before .before .before .before .before .before .a5 .given .0 .1 .0) (c .before .before .before .before .before .before .before .before .before .before .before .a5 .given .0 .1 .1 .0) (c .before .before .before .before .before .before .before .before .before .before .before .a5 .given .0 .1 .1 .1 .0)) (sym (c .before .before .before .before .before .before .before .before .before .before .before .before .before .shape-at .ensures) ∙ c .before .before .before .before .before .before .before .before .before .before .before .a5 .given .1) in let f : ExpNeeds (c .before .before .before .before .before .before .before .before .before .before .before .before .before .before .before .before .before .before .args .t .now) (c .before .before .before .before .before .before .before .before .before .before .before .before .before .before .before .before .before .before .args .widths .now) (c .before .before .before .before .before .before .before .before .before .before .before .before .before .before .before .before .before .before .args .r) (Let (c .before .before .before .before .before .before .before .before .before .before .before .a5 .given .0 .0) (c .before .before .before .before .before .before .before .before .before .before .before .a5 .given .0 .1 .0) (c .before .before .before .before .before .before .before .before .before .before .before .a5 .given .0 .1 .1 .0) (c .before .before .before .before .before .before .before .before .before .before .before .a5 .given .0 .1 .1 .1 .0)) = exp-needs (c .before .before .before .before .before .before .before .before .before .before .before .before .before .before .before .before .before .before .args .t .now) (c .before .before .before .before .before .before .before .before .before .before .before .before .before .before .before .before .before .before .args .widths .now) (c .before .before .before .before .before .before .before .before .before .before .before .before .before .before .before .before .before .before .args .r) (c .before .before .before .before .before .before .before .before .before .before .before .before .before .before .before .before .before .before .pre .1 .0) (Let (c .before .before .before .before .before .before .before .before .before .before .before .a5 .given .0 .0) (c .before .before .before .before .before .before .before .before .before .before .before .a5 .given .0 .1 .0) (c .before .before .before .before .before .before .before .before .before .before .before .a5 .given .0 .1 .1 .0) (c .before .before .before .before .before .before .before .before .before .before .before .a5 .given .0 .1 .1 .1 .0)) (sym (c .before .before .before .before .before .before .before .before .before .before .before .before .before .shape-at .ensures) ∙ c .before .before .before .before .before .before .before .before .before .before .before .a5 .given .1) in (omega (arith, k .1 .1), (k .1 .0, c .before .before .before .before .before .before .expr4 .ensures .1 ∙ ap length (c .before .before .before .before .before .before .before .before .before .copied .ensures) ∙ c .before .before .before .before .before .before .before .before .before .before .before .before .before .before .before .before .before .before .pre .1 .1, omega (arith, f .2, c .before .before .before .before .before .before .before .before .before .before .before .before .before .before .before .before .before .before .pre .1 .2)))
 
--- src/cycle.rt:93:19  } ⏎ Shape::If(a, b, c) => {
+-- src/cycle.rt:101:19  } ⏎ Shape::If(a, b, c) => {
 expr-enum-known-a-6 : (t : ℕ) → expr-lts.Need-enum-known-a-6 (
   shape-at-reads.Asked,
   shape-at-reads.Learnt,
@@ -1900,7 +1900,7 @@ expr-enum-known-a-6 : (t : ℕ) → expr-lts.Need-enum-known-a-6 (
 ) (expr-at t) expr.Post
 expr-enum-known-a-6 t c = search needs
 
--- src/cycle.rt:95:43  let mut test = [0; 1]; ⏎ match expr(t, widths, a, env, &mut test, 0, left) {
+-- src/cycle.rt:103:43  let mut test = [0; 1]; ⏎ match expr(t, widths, a, env, &mut test, 0, left) {
 expr-slice-aggregate-expr-4 : (t : ℕ) → expr-lts.Need-slice-aggregate-expr-4 (
   shape-at-reads.Asked,
   shape-at-reads.Learnt,
@@ -1929,7 +1929,7 @@ expr-slice-aggregate-expr-4 : (t : ℕ) → expr-lts.Need-slice-aggregate-expr-4
 ) (expr-at t) expr.Post
 expr-slice-aggregate-expr-4 t c = search needs
 
--- src/cycle.rt:95:19  let mut test = [0; 1]; ⏎ match expr(t, widths, a, env, &mut test, 0, left) {
+-- src/cycle.rt:103:19  let mut test = [0; 1]; ⏎ match expr(t, widths, a, env, &mut test, 0, left) {
 expr-expr-requires-6 : (t : ℕ) → expr-lts.Need-expr-requires-6 (
   shape-at-reads.Asked,
   shape-at-reads.Learnt,
@@ -1958,7 +1958,7 @@ expr-expr-requires-6 : (t : ℕ) → expr-lts.Need-expr-requires-6 (
 ) (expr-at t) expr.Post
 expr-expr-requires-6 t c κs = let k : ExpChildren (c .before .before .before .before .before .before .before .before .before .args .t .now) (c .before .before .before .before .before .before .before .before .before .args .widths .now) (c .before .before .before .before .before .before .before .before .before .args .r) (If (c .before .before .a6 .given .0 .0) (c .before .before .a6 .given .0 .1 .0) (c .before .before .a6 .given .0 .1 .1 .0)) = exp-children (c .before .before .before .before .before .before .before .before .before .args .t .now) (c .before .before .before .before .before .before .before .before .before .args .widths .now) (c .before .before .before .before .before .before .before .before .before .args .r) (c .before .before .before .before .before .before .before .before .before .pre .1 .0) (If (c .before .before .a6 .given .0 .0) (c .before .before .a6 .given .0 .1 .0) (c .before .before .a6 .given .0 .1 .1 .0)) (sym (c .before .before .before .before .shape-at .ensures) ∙ c .before .before .a6 .given .1) in let f : ExpNeeds (c .before .before .before .before .before .before .before .before .before .args .t .now) (c .before .before .before .before .before .before .before .before .before .args .widths .now) (c .before .before .before .before .before .before .before .before .before .args .r) (If (c .before .before .a6 .given .0 .0) (c .before .before .a6 .given .0 .1 .0) (c .before .before .a6 .given .0 .1 .1 .0)) = exp-needs (c .before .before .before .before .before .before .before .before .before .args .t .now) (c .before .before .before .before .before .before .before .before .before .args .widths .now) (c .before .before .before .before .before .before .before .before .before .args .r) (c .before .before .before .before .before .before .before .before .before .pre .1 .0) (If (c .before .before .a6 .given .0 .0) (c .before .before .a6 .given .0 .1 .0) (c .before .before .a6 .given .0 .1 .1 .0)) (sym (c .before .before .before .before .shape-at .ensures) ∙ c .before .before .a6 .given .1) in (omega (arith, k .0 .1), (k .0 .0, c .before .before .before .before .before .before .before .before .before .pre .1 .1, omega (arith, f .0)))
 
--- src/cycle.rt:96:32  match expr(t, widths, a, env, &mut test, 0, left) { ⏎ Rest::Short => Rest::Short,
+-- src/cycle.rt:104:32  match expr(t, widths, a, env, &mut test, 0, left) { ⏎ Rest::Short => Rest::Short,
 expr-enum-told-4 : (t : ℕ) → expr-lts.Need-enum-told-4 (
   shape-at-reads.Asked,
   shape-at-reads.Learnt,
@@ -1987,7 +1987,7 @@ expr-enum-told-4 : (t : ℕ) → expr-lts.Need-enum-told-4 (
 ) (expr-at t) expr.Post
 expr-enum-told-4 t c = search needs
 
--- src/cycle.rt:97:28  Rest::Short => Rest::Short, ⏎ Rest::Left(l) => match choose(&test) {
+-- src/cycle.rt:105:28  Rest::Short => Rest::Short, ⏎ Rest::Left(l) => match choose(&test) {
 expr-enum-known-l-4 : (t : ℕ) → expr-lts.Need-enum-known-l-4 (
   shape-at-reads.Asked,
   shape-at-reads.Learnt,
@@ -2016,7 +2016,7 @@ expr-enum-known-l-4 : (t : ℕ) → expr-lts.Need-enum-known-l-4 (
 ) (expr-at t) expr.Post
 expr-enum-known-l-4 t c = search needs
 
--- src/cycle.rt:97:47  Rest::Short => Rest::Short, ⏎ Rest::Left(l) => match choose(&test) {
+-- src/cycle.rt:105:47  Rest::Short => Rest::Short, ⏎ Rest::Left(l) => match choose(&test) {
 expr-slice-aggregate-choose : (t : ℕ) → expr-lts.Need-slice-aggregate-choose (
   shape-at-reads.Asked,
   shape-at-reads.Learnt,
@@ -2045,7 +2045,7 @@ expr-slice-aggregate-choose : (t : ℕ) → expr-lts.Need-slice-aggregate-choose
 ) (expr-at t) expr.Post
 expr-slice-aggregate-choose t c = search needs
 
--- src/cycle.rt:97:40  Rest::Short => Rest::Short, ⏎ Rest::Left(l) => match choose(&test) {
+-- src/cycle.rt:105:40  Rest::Short => Rest::Short, ⏎ Rest::Left(l) => match choose(&test) {
 expr-choose-requires : (t : ℕ) → expr-lts.Need-choose-requires (
   shape-at-reads.Asked,
   shape-at-reads.Learnt,
@@ -2074,7 +2074,7 @@ expr-choose-requires : (t : ℕ) → expr-lts.Need-choose-requires (
 ) (expr-at t) expr.Post
 expr-choose-requires t c κs = search needs
 
--- src/cycle.rt:98:62  Rest::Left(l) => match choose(&test) { ⏎ Choice::First => expr(t, widths, b, env, out, at, l),
+-- src/cycle.rt:106:62  Rest::Left(l) => match choose(&test) { ⏎ Choice::First => expr(t, widths, b, env, out, at, l),
 expr-enum-told-5 : (t : ℕ) → expr-lts.Need-enum-told-5 (
   shape-at-reads.Asked,
   shape-at-reads.Learnt,
@@ -2103,7 +2103,7 @@ expr-enum-told-5 : (t : ℕ) → expr-lts.Need-enum-told-5 (
 ) (expr-at t) expr.Post
 expr-enum-told-5 t c = search needs
 
--- src/cycle.rt:98:38  Rest::Left(l) => match choose(&test) { ⏎ Choice::First => expr(t, widths, b, env, out, at, l),
+-- src/cycle.rt:106:38  Rest::Left(l) => match choose(&test) { ⏎ Choice::First => expr(t, widths, b, env, out, at, l),
 expr-expr-requires-7 : (t : ℕ) → expr-lts.Need-expr-requires-7 (
   shape-at-reads.Asked,
   shape-at-reads.Learnt,
@@ -2132,7 +2132,7 @@ expr-expr-requires-7 : (t : ℕ) → expr-lts.Need-expr-requires-7 (
 ) (expr-at t) expr.Post
 expr-expr-requires-7 t c κs = let k : ExpChildren (c .before .before .before .before .before .before .before .before .before .before .before .before .before .before .before .before .before .before .before .args .t .now) (c .before .before .before .before .before .before .before .before .before .before .before .before .before .before .before .before .before .before .before .args .widths .now) (c .before .before .before .before .before .before .before .before .before .before .before .before .before .before .before .before .before .before .before .args .r) (If (c .before .before .before .before .before .before .before .before .before .before .before .before .a6 .given .0 .0) (c .before .before .before .before .before .before .before .before .before .before .before .before .a6 .given .0 .1 .0) (c .before .before .before .before .before .before .before .before .before .before .before .before .a6 .given .0 .1 .1 .0)) = exp-children (c .before .before .before .before .before .before .before .before .before .before .before .before .before .before .before .before .before .before .before .args .t .now) (c .before .before .before .before .before .before .before .before .before .before .before .before .before .before .before .before .before .before .before .args .widths .now) (c .before .before .before .before .before .before .before .before .before .before .before .before .before .before .before .before .before .before .before .args .r) (c .before .before .before .before .before .before .before .before .before .before .before .before .before .before .before .before .before .before .before .pre .1 .0) (If (c .before .before .before .before .before .before .before .before .before .before .before .before .a6 .given .0 .0) (c .before .before .before .before .before .before .before .before .before .before .before .before .a6 .given .0 .1 .0) (c .before .before .before .before .before .before .before .before .before .before .before .before .a6 .given .0 .1 .1 .0)) (sym (c .before .before .before .before .before .before .before .before .before .before .before .before .before .before .shape-at .ensures) ∙ c .before .before .before .before .before .before .before .before .before .before .before .before .a6 .given .1) in let f : ExpNeeds (c .before .before .before .before .before .before .before .before .before .before .before .before .before .before .before .before .before .before .before .args .t .now) (c .before .before .before .before .before .before .before .before .before .before .before .before .before .before .before .before .before .before .before .args .widths .now) (c .before .before .before .before .before .before .before .before .before .before .before .before .before .before .before .before .before .before .before .args .r) (If (c .before .before .before .before .before .before .before .before .before .before .before .before .a6 .given .0 .0) (c .before .before .before .before .before .before .before .before .before .before .before .before .a6 .given .0 .1 .0) (c .before .before .before .before .before .before .before .before .before .before .before .before .a6 .given .0 .1 .1 .0)) = exp-needs (c .before .before .before .before .before .before .before .before .before .before .before .before .before .before .before .before .before .before .before .args .t .now) (c .before .before .before .before .before .before .before .before .before .before .before .before .before .before .before .before .before .before .before .args .widths .now) (c .before .before .before .before .before .before .before .before .before .before .before .before .before .before .before .before .before .before .before .args .r) (c .before .before .before .before .before .before .before .before .before .before .before .before .before .before .before .before .before .before .before .pre .1 .0) (If (c .before .before .before .before .before .before .before .before .before .before .before .before .a6 .given .0 .0) (c .before .before .before .before .before .before .before .before .before .before .before .before .a6 .given .0 .1 .0) (c .before .before .before .before .before .before .before .before .before .before .before .before .a6 .given .0 .1 .1 .0)) (sym (c .before .before .before .before .before .before .before .before .before .before .before .before .before .before .shape-at .ensures) ∙ c .before .before .before .before .before .before .before .before .before .before .before .before .a6 .given .1) in (omega (arith, k .1 .1), (k .1 .0, c .before .before .before .before .before .before .before .before .before .before .before .before .before .before .before .before .before .before .before .pre .1 .1, omega (arith, f .1, c .before .before .before .before .before .before .before .before .before .before .before .before .before .before .before .before .before .before .before .pre .1 .2)))
 
--- src/cycle.rt:99:63  Choice::First => expr(t, widths, b, env, out, at, l), ⏎ Choice::Second => expr(t, widths, c, env, out, at, l),
+-- src/cycle.rt:107:63  Choice::First => expr(t, widths, b, env, out, at, l), ⏎ Choice::Second => expr(t, widths, c, env, out, at, l),
 expr-enum-told-6 : (t : ℕ) → expr-lts.Need-enum-told-6 (
   shape-at-reads.Asked,
   shape-at-reads.Learnt,
@@ -2161,7 +2161,7 @@ expr-enum-told-6 : (t : ℕ) → expr-lts.Need-enum-told-6 (
 ) (expr-at t) expr.Post
 expr-enum-told-6 t c = search needs
 
--- src/cycle.rt:99:39  Choice::First => expr(t, widths, b, env, out, at, l), ⏎ Choice::Second => expr(t, widths, c, env, out, at, l),
+-- src/cycle.rt:107:39  Choice::First => expr(t, widths, b, env, out, at, l), ⏎ Choice::Second => expr(t, widths, c, env, out, at, l),
 expr-expr-requires-8 : (t : ℕ) → expr-lts.Need-expr-requires-8 (
   shape-at-reads.Asked,
   shape-at-reads.Learnt,
@@ -2190,7 +2190,7 @@ expr-expr-requires-8 : (t : ℕ) → expr-lts.Need-expr-requires-8 (
 ) (expr-at t) expr.Post
 expr-expr-requires-8 t c κs = let k : ExpChildren (c .before .before .before .before .before .before .before .before .before .before .before .before .before .before .before .before .before .before .before .args .t .now) (c .before .before .before .before .before .before .before .before .before .before .before .before .before .before .before .before .before .before .before .args .widths .now) (c .before .before .before .before .before .before .before .before .before .before .before .before .before .before .before .before .before .before .before .args .r) (If (c .before .before .before .before .before .before .before .before .before .before .before .before .a6 .given .0 .0) (c .before .before .before .before .before .before .before .before .before .before .before .before .a6 .given .0 .1 .0) (c .before .before .before .before .before .before .before .before .before .before .before .before .a6 .given .0 .1 .1 .0)) = exp-children (c .before .before .before .before .before .before .before .before .before .before .before .before .before .before .before .before .before .before .before .args .t .now) (c .before .before .before .before .before .before .before .before .before .before .before .before .before .before .before .before .before .before .before .args .widths .now) (c .before .before .before .before .before .before .before .before .before .before .before .before .before .before .before .before .before .before .before .args .r) (c .before .before .before .before .before .before .before .before .before .before .before .before .before .before .before .before .before .before .before .pre .1 .0) (If (c .before .before .before .before .before .before .before .before .before .before .before .before .a6 .given .0 .0) (c .before .before .before .before .before .before .before .before .before .before .before .before .a6 .given .0 .1 .0) (c .before .before .before .before .before .before .before .before .before .before .before .before .a6 .given .0 .1 .1 .0)) (sym (c .before .before .before .before .before .before .before .before .before .before .before .before .before .before .shape-at .ensures) ∙ c .before .before .before .before .before .before .before .before .before .before .before .before .a6 .given .1) in let f : ExpNeeds (c .before .before .before .before .before .before .before .before .before .before .before .before .before .before .before .before .before .before .before .args .t .now) (c .before .before .before .before .before .before .before .before .before .before .before .before .before .before .before .before .before .before .before .args .widths .now) (c .before .before .before .before .before .before .before .before .before .before .before .before .before .before .before .before .before .before .before .args .r) (If (c .before .before .before .before .before .before .before .before .before .before .before .before .a6 .given .0 .0) (c .before .before .before .before .before .before .before .before .before .before .before .before .a6 .given .0 .1 .0) (c .before .before .before .before .before .before .before .before .before .before .before .before .a6 .given .0 .1 .1 .0)) = exp-needs (c .before .before .before .before .before .before .before .before .before .before .before .before .before .before .before .before .before .before .before .args .t .now) (c .before .before .before .before .before .before .before .before .before .before .before .before .before .before .before .before .before .before .before .args .widths .now) (c .before .before .before .before .before .before .before .before .before .before .before .before .before .before .before .before .before .before .before .args .r) (c .before .before .before .before .before .before .before .before .before .before .before .before .before .before .before .before .before .before .before .pre .1 .0) (If (c .before .before .before .before .before .before .before .before .before .before .before .before .a6 .given .0 .0) (c .before .before .before .before .before .before .before .before .before .before .before .before .a6 .given .0 .1 .0) (c .before .before .before .before .before .before .before .before .before .before .before .before .a6 .given .0 .1 .1 .0)) (sym (c .before .before .before .before .before .before .before .before .before .before .before .before .before .before .shape-at .ensures) ∙ c .before .before .before .before .before .before .before .before .before .before .before .before .a6 .given .1) in (omega (arith, k .2 .1), (k .2 .0, c .before .before .before .before .before .before .before .before .before .before .before .before .before .before .before .before .before .before .before .pre .1 .1, omega (arith, f .2, c .before .before .before .before .before .before .before .before .before .before .before .before .before .before .before .before .before .before .before .pre .1 .2)))
 
--- src/cycle.rt:101:34  Choice::Neither => { ⏎ put_errs(out, at, width_at(widths, b));
+-- src/cycle.rt:109:34  Choice::Neither => { ⏎ put_errs(out, at, width_at(widths, b));
 expr-enum-told-7 : (t : ℕ) → expr-lts.Need-enum-told-7 (
   shape-at-reads.Asked,
   shape-at-reads.Learnt,
@@ -2219,7 +2219,7 @@ expr-enum-told-7 : (t : ℕ) → expr-lts.Need-enum-told-7 (
 ) (expr-at t) expr.Post
 expr-enum-told-7 t c = search needs
 
--- src/cycle.rt:101:43  Choice::Neither => { ⏎ put_errs(out, at, width_at(widths, b));
+-- src/cycle.rt:109:43  Choice::Neither => { ⏎ put_errs(out, at, width_at(widths, b));
 expr-width-at-requires-2 : (t : ℕ) → expr-lts.Need-width-at-requires-2 (
   shape-at-reads.Asked,
   shape-at-reads.Learnt,
@@ -2248,7 +2248,7 @@ expr-width-at-requires-2 : (t : ℕ) → expr-lts.Need-width-at-requires-2 (
 ) (expr-at t) expr.Post
 expr-width-at-requires-2 t c κs = let k : ExpChildren (c .before .before .before .before .before .before .before .before .before .before .before .before .before .before .before .before .before .before .before .args .t .now) (c .before .before .before .before .before .before .before .before .before .before .before .before .before .before .before .before .before .before .before .args .widths .now) (c .before .before .before .before .before .before .before .before .before .before .before .before .before .before .before .before .before .before .before .args .r) (If (c .before .before .before .before .before .before .before .before .before .before .before .before .a6 .given .0 .0) (c .before .before .before .before .before .before .before .before .before .before .before .before .a6 .given .0 .1 .0) (c .before .before .before .before .before .before .before .before .before .before .before .before .a6 .given .0 .1 .1 .0)) = exp-children (c .before .before .before .before .before .before .before .before .before .before .before .before .before .before .before .before .before .before .before .args .t .now) (c .before .before .before .before .before .before .before .before .before .before .before .before .before .before .before .before .before .before .before .args .widths .now) (c .before .before .before .before .before .before .before .before .before .before .before .before .before .before .before .before .before .before .before .args .r) (c .before .before .before .before .before .before .before .before .before .before .before .before .before .before .before .before .before .before .before .pre .1 .0) (If (c .before .before .before .before .before .before .before .before .before .before .before .before .a6 .given .0 .0) (c .before .before .before .before .before .before .before .before .before .before .before .before .a6 .given .0 .1 .0) (c .before .before .before .before .before .before .before .before .before .before .before .before .a6 .given .0 .1 .1 .0)) (sym (c .before .before .before .before .before .before .before .before .before .before .before .before .before .before .shape-at .ensures) ∙ c .before .before .before .before .before .before .before .before .before .before .before .before .a6 .given .1) in let f : ExpNeeds (c .before .before .before .before .before .before .before .before .before .before .before .before .before .before .before .before .before .before .before .args .t .now) (c .before .before .before .before .before .before .before .before .before .before .before .before .before .before .before .before .before .before .before .args .widths .now) (c .before .before .before .before .before .before .before .before .before .before .before .before .before .before .before .before .before .before .before .args .r) (If (c .before .before .before .before .before .before .before .before .before .before .before .before .a6 .given .0 .0) (c .before .before .before .before .before .before .before .before .before .before .before .before .a6 .given .0 .1 .0) (c .before .before .before .before .before .before .before .before .before .before .before .before .a6 .given .0 .1 .1 .0)) = exp-needs (c .before .before .before .before .before .before .before .before .before .before .before .before .before .before .before .before .before .before .before .args .t .now) (c .before .before .before .before .before .before .before .before .before .before .before .before .before .before .before .before .before .before .before .args .widths .now) (c .before .before .before .before .before .before .before .before .before .before .before .before .before .before .before .before .before .before .before .args .r) (c .before .before .before .before .before .before .before .before .before .before .before .before .before .before .before .before .before .before .before .pre .1 .0) (If (c .before .before .before .before .before .before .before .before .before .before .before .before .a6 .given .0 .0) (c .before .before .before .before .before .before .before .before .before .before .before .before .a6 .given .0 .1 .0) (c .before .before .before .before .before .before .before .before .before .before .before .before .a6 .given .0 .1 .1 .0)) (sym (c .before .before .before .before .before .before .before .before .before .before .before .before .before .before .shape-at .ensures) ∙ c .before .before .before .before .before .before .before .before .before .before .before .before .a6 .given .1) in (k .1 .0 .low, omega (arith, k .1 .0 .high, k .1 .0 .accepted .table))
 
--- src/cycle.rt:101:25  Choice::Neither => { ⏎ put_errs(out, at, width_at(widths, b));
+-- src/cycle.rt:109:25  Choice::Neither => { ⏎ put_errs(out, at, width_at(widths, b));
 expr-put-errs-requires : (t : ℕ) → expr-lts.Need-put-errs-requires (
   shape-at-reads.Asked,
   shape-at-reads.Learnt,
@@ -2277,7 +2277,7 @@ expr-put-errs-requires : (t : ℕ) → expr-lts.Need-put-errs-requires (
 ) (expr-at t) expr.Post
 expr-put-errs-requires t c κs = let k : ExpChildren (c .before .before .before .before .before .before .before .before .before .before .before .before .before .before .before .before .before .before .before .before .args .t .now) (c .before .before .before .before .before .before .before .before .before .before .before .before .before .before .before .before .before .before .before .before .args .widths .now) (c .before .before .before .before .before .before .before .before .before .before .before .before .before .before .before .before .before .before .before .before .args .r) (If (c .before .before .before .before .before .before .before .before .before .before .before .before .before .a6 .given .0 .0) (c .before .before .before .before .before .before .before .before .before .before .before .before .before .a6 .given .0 .1 .0) (c .before .before .before .before .before .before .before .before .before .before .before .before .before .a6 .given .0 .1 .1 .0)) = exp-children (c .before .before .before .before .before .before .before .before .before .before .before .before .before .before .before .before .before .before .before .before .args .t .now) (c .before .before .before .before .before .before .before .before .before .before .before .before .before .before .before .before .before .before .before .before .args .widths .now) (c .before .before .before .before .before .before .before .before .before .before .before .before .before .before .before .before .before .before .before .before .args .r) (c .before .before .before .before .before .before .before .before .before .before .before .before .before .before .before .before .before .before .before .before .pre .1 .0) (If (c .before .before .before .before .before .before .before .before .before .before .before .before .before .a6 .given .0 .0) (c .before .before .before .before .before .before .before .before .before .before .before .before .before .a6 .given .0 .1 .0) (c .before .before .before .before .before .before .before .before .before .before .before .before .before .a6 .given .0 .1 .1 .0)) (sym (c .before .before .before .before .before .before .before .before .before .before .before .before .before .before .before .shape-at .ensures) ∙ c .before .before .before .before .before .before .before .before .before .before .before .before .before .a6 .given .1) in let f : ExpNeeds (c .before .before .before .before .before .before .before .before .before .before .before .before .before .before .before .before .before .before .before .before .args .t .now) (c .before .before .before .before .before .before .before .before .before .before .before .before .before .before .before .before .before .before .before .before .args .widths .now) (c .before .before .before .before .before .before .before .before .before .before .before .before .before .before .before .before .before .before .before .before .args .r) (If (c .before .before .before .before .before .before .before .before .before .before .before .before .before .a6 .given .0 .0) (c .before .before .before .before .before .before .before .before .before .before .before .before .before .a6 .given .0 .1 .0) (c .before .before .before .before .before .before .before .before .before .before .before .before .before .a6 .given .0 .1 .1 .0)) = exp-needs (c .before .before .before .before .before .before .before .before .before .before .before .before .before .before .before .before .before .before .before .before .args .t .now) (c .before .before .before .before .before .before .before .before .before .before .before .before .before .before .before .before .before .before .before .before .args .widths .now) (c .before .before .before .before .before .before .before .before .before .before .before .before .before .before .before .before .before .before .before .before .args .r) (c .before .before .before .before .before .before .before .before .before .before .before .before .before .before .before .before .before .before .before .before .pre .1 .0) (If (c .before .before .before .before .before .before .before .before .before .before .before .before .before .a6 .given .0 .0) (c .before .before .before .before .before .before .before .before .before .before .before .before .before .a6 .given .0 .1 .0) (c .before .before .before .before .before .before .before .before .before .before .before .before .before .a6 .given .0 .1 .1 .0)) (sym (c .before .before .before .before .before .before .before .before .before .before .before .before .before .before .before .shape-at .ensures) ∙ c .before .before .before .before .before .before .before .before .before .before .before .before .before .a6 .given .1) in (omega (arith, f .1, c .before .before .before .before .before .before .before .before .before .before .before .before .before .before .before .before .before .before .before .before .pre .1 .2, c .width-at2 .ensures .0), omega (arith, narrow (c .before .before .before .before .before .before .before .before .before .before .before .before .before .before .before .before .before .before .before .before .args .t .now) (c .before .before .before .before .before .before .before .before .before .before .before .before .before .before .before .before .before .before .before .before .args .widths .now) (c .before .before .before .before .before .before .before .before .before .before .before .before .before .a6 .given .0 .1 .0) (k .1 .0), c .width-at2 .ensures .0))
 
--- src/cycle.rt:107:20  } ⏎ Shape::For(a, b, c, d) => {
+-- src/cycle.rt:115:20  } ⏎ Shape::For(a, b, c, d) => {
 expr-enum-known-a-7 : (t : ℕ) → expr-lts.Need-enum-known-a-7 (
   shape-at-reads.Asked,
   shape-at-reads.Learnt,
@@ -2306,7 +2306,7 @@ expr-enum-known-a-7 : (t : ℕ) → expr-lts.Need-enum-known-a-7 (
 ) (expr-at t) expr.Post
 expr-enum-known-a-7 t c = search needs
 
--- src/cycle.rt:108:29  Shape::For(a, b, c, d) => { ⏎ let mut inner = copied(env);
+-- src/cycle.rt:116:29  Shape::For(a, b, c, d) => { ⏎ let mut inner = copied(env);
 expr-copied-requires-2 : (t : ℕ) → expr-lts.Need-copied-requires-2 (
   shape-at-reads.Asked,
   shape-at-reads.Learnt,
@@ -2335,7 +2335,7 @@ expr-copied-requires-2 : (t : ℕ) → expr-lts.Need-copied-requires-2 (
 ) (expr-at t) expr.Post
 expr-copied-requires-2 t c κs = search needs
 
--- src/cycle.rt:109:43  let mut inner = copied(env); ⏎ match expr(t, widths, c, env, &mut inner, wide(a), left) {
+-- src/cycle.rt:117:43  let mut inner = copied(env); ⏎ match expr(t, widths, c, env, &mut inner, wide(a), left) {
 expr-slice-aggregate-expr-5 : (t : ℕ) → expr-lts.Need-slice-aggregate-expr-5 (
   shape-at-reads.Asked,
   shape-at-reads.Learnt,
@@ -2364,7 +2364,7 @@ expr-slice-aggregate-expr-5 : (t : ℕ) → expr-lts.Need-slice-aggregate-expr-5
 ) (expr-at t) expr.Post
 expr-slice-aggregate-expr-5 t c = search needs
 
--- src/cycle.rt:109:55  let mut inner = copied(env); ⏎ match expr(t, widths, c, env, &mut inner, wide(a), left) {
+-- src/cycle.rt:117:55  let mut inner = copied(env); ⏎ match expr(t, widths, c, env, &mut inner, wide(a), left) {
 expr-wide-requires-2 : (t : ℕ) → expr-lts.Need-wide-requires-2 (
   shape-at-reads.Asked,
   shape-at-reads.Learnt,
@@ -2393,7 +2393,7 @@ expr-wide-requires-2 : (t : ℕ) → expr-lts.Need-wide-requires-2 (
 ) (expr-at t) expr.Post
 expr-wide-requires-2 t c κs = search needs
 
--- src/cycle.rt:109:19  let mut inner = copied(env); ⏎ match expr(t, widths, c, env, &mut inner, wide(a), left) {
+-- src/cycle.rt:117:19  let mut inner = copied(env); ⏎ match expr(t, widths, c, env, &mut inner, wide(a), left) {
 expr-expr-requires-9 : (t : ℕ) → expr-lts.Need-expr-requires-9 (
   shape-at-reads.Asked,
   shape-at-reads.Learnt,
@@ -2422,7 +2422,7 @@ expr-expr-requires-9 : (t : ℕ) → expr-lts.Need-expr-requires-9 (
 ) (expr-at t) expr.Post
 expr-expr-requires-9 t c κs = let k : ExpChildren (c .before .before .before .before .before .before .before .before .before .before .before .args .t .now) (c .before .before .before .before .before .before .before .before .before .before .before .args .widths .now) (c .before .before .before .before .before .before .before .before .before .before .before .args .r) (For (c .before .before .before .before .a7 .given .0 .0) (c .before .before .before .before .a7 .given .0 .1 .0) (c .before .before .before .before .a7 .given .0 .1 .1 .0) (c .before .before .before .before .a7 .given .0 .1 .1 .1 .0)) = exp-children (c .before .before .before .before .before .before .before .before .before .before .before .args .t .now) (c .before .before .before .before .before .before .before .before .before .before .before .args .widths .now) (c .before .before .before .before .before .before .before .before .before .before .before .args .r) (c .before .before .before .before .before .before .before .before .before .before .before .pre .1 .0) (For (c .before .before .before .before .a7 .given .0 .0) (c .before .before .before .before .a7 .given .0 .1 .0) (c .before .before .before .before .a7 .given .0 .1 .1 .0) (c .before .before .before .before .a7 .given .0 .1 .1 .1 .0)) (sym (c .before .before .before .before .before .before .shape-at .ensures) ∙ c .before .before .before .before .a7 .given .1) in let f : ExpNeeds (c .before .before .before .before .before .before .before .before .before .before .before .args .t .now) (c .before .before .before .before .before .before .before .before .before .before .before .args .widths .now) (c .before .before .before .before .before .before .before .before .before .before .before .args .r) (For (c .before .before .before .before .a7 .given .0 .0) (c .before .before .before .before .a7 .given .0 .1 .0) (c .before .before .before .before .a7 .given .0 .1 .1 .0) (c .before .before .before .before .a7 .given .0 .1 .1 .1 .0)) = exp-needs (c .before .before .before .before .before .before .before .before .before .before .before .args .t .now) (c .before .before .before .before .before .before .before .before .before .before .before .args .widths .now) (c .before .before .before .before .before .before .before .before .before .before .before .args .r) (c .before .before .before .before .before .before .before .before .before .before .before .pre .1 .0) (For (c .before .before .before .before .a7 .given .0 .0) (c .before .before .before .before .a7 .given .0 .1 .0) (c .before .before .before .before .a7 .given .0 .1 .1 .0) (c .before .before .before .before .a7 .given .0 .1 .1 .1 .0)) (sym (c .before .before .before .before .before .before .shape-at .ensures) ∙ c .before .before .before .before .a7 .given .1) in (omega (arith, k .0 .1), (k .0 .0, c .before .before .before .before .before .before .before .before .before .before .before .pre .1 .1, omega (arith, f .0, f .1, c .wide2 .ensures, ap length (c .before .before .copied2 .ensures), c .before .before .before .before .before .before .before .before .before .before .before .pre .1 .1)))
 
--- src/cycle.rt:110:32  match expr(t, widths, c, env, &mut inner, wide(a), left) { ⏎ Rest::Short => Rest::Short,
+-- src/cycle.rt:118:32  match expr(t, widths, c, env, &mut inner, wide(a), left) { ⏎ Rest::Short => Rest::Short,
 expr-enum-told-8 : (t : ℕ) → expr-lts.Need-enum-told-8 (
   shape-at-reads.Asked,
   shape-at-reads.Learnt,
@@ -2451,7 +2451,7 @@ expr-enum-told-8 : (t : ℕ) → expr-lts.Need-enum-told-8 (
 ) (expr-at t) expr.Post
 expr-enum-told-8 t c = search needs
 
--- src/cycle.rt:111:28  Rest::Short => Rest::Short, ⏎ Rest::Left(l) => rounds(t, widths, d, width_at(widths, r), wide(a), wide(b), &mut inner, out, at, l),
+-- src/cycle.rt:119:28  Rest::Short => Rest::Short, ⏎ Rest::Left(l) => rounds(
 expr-enum-known-l-5 : (t : ℕ) → expr-lts.Need-enum-known-l-5 (
   shape-at-reads.Asked,
   shape-at-reads.Learnt,
@@ -2480,7 +2480,7 @@ expr-enum-known-l-5 : (t : ℕ) → expr-lts.Need-enum-known-l-5 (
 ) (expr-at t) expr.Post
 expr-enum-known-l-5 t c = search needs
 
--- src/cycle.rt:111:55  Rest::Short => Rest::Short, ⏎ Rest::Left(l) => rounds(t, widths, d, width_at(widths, r), wide(a), wide(b), &mut inner, out, at, l),
+-- src/cycle.rt:123:21  d, ⏎ width_at(widths, r),
 expr-width-at-requires-3 : (t : ℕ) → expr-lts.Need-width-at-requires-3 (
   shape-at-reads.Asked,
   shape-at-reads.Learnt,
@@ -2509,7 +2509,7 @@ expr-width-at-requires-3 : (t : ℕ) → expr-lts.Need-width-at-requires-3 (
 ) (expr-at t) expr.Post
 expr-width-at-requires-3 t c κs = search needs
 
--- src/cycle.rt:111:76  Rest::Short => Rest::Short, ⏎ Rest::Left(l) => rounds(t, widths, d, width_at(widths, r), wide(a), wide(b), &mut inner, out, at, l),
+-- src/cycle.rt:124:21  width_at(widths, r), ⏎ wide(a),
 expr-wide-requires-3 : (t : ℕ) → expr-lts.Need-wide-requires-3 (
   shape-at-reads.Asked,
   shape-at-reads.Learnt,
@@ -2538,7 +2538,7 @@ expr-wide-requires-3 : (t : ℕ) → expr-lts.Need-wide-requires-3 (
 ) (expr-at t) expr.Post
 expr-wide-requires-3 t c κs = search needs
 
--- src/cycle.rt:111:85  Rest::Short => Rest::Short, ⏎ Rest::Left(l) => rounds(t, widths, d, width_at(widths, r), wide(a), wide(b), &mut inner, out, at, l),
+-- src/cycle.rt:125:21  wide(a), ⏎ wide(b),
 expr-wide-requires-4 : (t : ℕ) → expr-lts.Need-wide-requires-4 (
   shape-at-reads.Asked,
   shape-at-reads.Learnt,
@@ -2567,7 +2567,7 @@ expr-wide-requires-4 : (t : ℕ) → expr-lts.Need-wide-requires-4 (
 ) (expr-at t) expr.Post
 expr-wide-requires-4 t c κs = search needs
 
--- src/cycle.rt:111:94  Rest::Short => Rest::Short, ⏎ Rest::Left(l) => rounds(t, widths, d, width_at(widths, r), wide(a), wide(b), &mut inner, out, at, l),
+-- src/cycle.rt:126:21  wide(b), ⏎ &mut inner,
 expr-slice-aggregate-rounds : (t : ℕ) → expr-lts.Need-slice-aggregate-rounds (
   shape-at-reads.Asked,
   shape-at-reads.Learnt,
@@ -2596,7 +2596,7 @@ expr-slice-aggregate-rounds : (t : ℕ) → expr-lts.Need-slice-aggregate-rounds
 ) (expr-at t) expr.Post
 expr-slice-aggregate-rounds t c = search needs
 
--- src/cycle.rt:111:34  Rest::Short => Rest::Short, ⏎ Rest::Left(l) => rounds(t, widths, d, width_at(widths, r), wide(a), wide(b), &mut inner, out, at, l),
+-- src/cycle.rt:119:34  Rest::Short => Rest::Short, ⏎ Rest::Left(l) => rounds(
 expr-rounds-requires : (t : ℕ) → expr-lts.Need-rounds-requires (
   shape-at-reads.Asked,
   shape-at-reads.Learnt,
@@ -2625,7 +2625,7 @@ expr-rounds-requires : (t : ℕ) → expr-lts.Need-rounds-requires (
 ) (expr-at t) expr.Post
 expr-rounds-requires t c κs = let k : ExpChildren (c .before .before .before .before .before .before .before .before .before .before .before .before .before .before .before .before .before .before .before .before .before .args .t .now) (c .before .before .before .before .before .before .before .before .before .before .before .before .before .before .before .before .before .before .before .before .before .args .widths .now) (c .before .before .before .before .before .before .before .before .before .before .before .before .before .before .before .before .before .before .before .before .before .args .r) (For (c .before .before .before .before .before .before .before .before .before .before .before .before .before .before .a7 .given .0 .0) (c .before .before .before .before .before .before .before .before .before .before .before .before .before .before .a7 .given .0 .1 .0) (c .before .before .before .before .before .before .before .before .before .before .before .before .before .before .a7 .given .0 .1 .1 .0) (c .before .before .before .before .before .before .before .before .before .before .before .before .before .before .a7 .given .0 .1 .1 .1 .0)) = exp-children (c .before .before .before .before .before .before .before .before .before .before .before .before .before .before .before .before .before .before .before .before .before .args .t .now) (c .before .before .before .before .before .before .before .before .before .before .before .before .before .before .before .before .before .before .before .before .before .args .widths .now) (c .before .before .before .before .before .before .before .before .before .before .before .before .before .before .before .before .before .before .before .before .before .args .r) (c .before .before .before .before .before .before .before .before .before .before .before .before .before .before .before .before .before .before .before .before .before .pre .1 .0) (For (c .before .before .before .before .before .before .before .before .before .before .before .before .before .before .a7 .given .0 .0) (c .before .before .before .before .before .before .before .before .before .before .before .before .before .before .a7 .given .0 .1 .0) (c .before .before .before .before .before .before .before .before .before .before .before .before .before .before .a7 .given .0 .1 .1 .0) (c .before .before .before .before .before .before .before .before .before .before .before .before .before .before .a7 .given .0 .1 .1 .1 .0)) (sym (c .before .before .before .before .before .before .before .before .before .before .before .before .before .before .before .before .shape-at .ensures) ∙ c .before .before .before .before .before .before .before .before .before .before .before .before .before .before .a7 .given .1) in let f : ExpNeeds (c .before .before .before .before .before .before .before .before .before .before .before .before .before .before .before .before .before .before .before .before .before .args .t .now) (c .before .before .before .before .before .before .before .before .before .before .before .before .before .before .before .before .before .before .before .before .before .args .widths .now) (c .before .before .before .before .before .before .before .before .before .before .before .before .before .before .before .before .before .before .before .before .before .args .r) (For (c .before .before .before .before .before .before .before .before .before .before .before .before .before .before .a7 .given .0 .0) (c .before .before .before .before .before .before .before .before .before .before .before .before .before .before .a7 .given .0 .1 .0) (c .before .before .before .before .before .before .before .before .before .before .before .before .before .before .a7 .given .0 .1 .1 .0) (c .before .before .before .before .before .before .before .before .before .before .before .before .before .before .a7 .given .0 .1 .1 .1 .0)) = exp-needs (c .before .before .before .before .before .before .before .before .before .before .before .before .before .before .before .before .before .before .before .before .before .args .t .now) (c .before .before .before .before .before .before .before .before .before .before .before .before .before .before .before .before .before .before .before .before .before .args .widths .now) (c .before .before .before .before .before .before .before .before .before .before .before .before .before .before .before .before .before .before .before .before .before .args .r) (c .before .before .before .before .before .before .before .before .before .before .before .before .before .before .before .before .before .before .before .before .before .pre .1 .0) (For (c .before .before .before .before .before .before .before .before .before .before .before .before .before .before .a7 .given .0 .0) (c .before .before .before .before .before .before .before .before .before .before .before .before .before .before .a7 .given .0 .1 .0) (c .before .before .before .before .before .before .before .before .before .before .before .before .before .before .a7 .given .0 .1 .1 .0) (c .before .before .before .before .before .before .before .before .before .before .before .before .before .before .a7 .given .0 .1 .1 .1 .0)) (sym (c .before .before .before .before .before .before .before .before .before .before .before .before .before .before .before .before .shape-at .ensures) ∙ c .before .before .before .before .before .before .before .before .before .before .before .before .before .before .a7 .given .1) in (omega (arith, k .1 .1), (k .1 .0, f .3 ∙ sym (c .before .before .before .before .width-at3 .ensures .0), f .4 ∙ sym (c .before .before .wide4 .ensures), omega (arith, narrow (c .before .before .before .before .before .before .before .before .before .before .before .before .before .before .before .before .before .before .before .before .before .args .t .now) (c .before .before .before .before .before .before .before .before .before .before .before .before .before .before .before .before .before .before .before .before .before .args .widths .now) (c .before .before .before .before .before .before .before .before .before .before .before .before .before .before .before .before .before .before .before .before .before .args .r) (c .before .before .before .before .before .before .before .before .before .before .before .before .before .before .before .before .before .before .before .before .before .pre .1 .0), c .before .before .before .before .width-at3 .ensures .0), omega (arith, f .2, c .before .before .wide4 .ensures), omega (arith, f .1, c .before .before .before .wide3 .ensures, c .before .before .wide4 .ensures), c .before .before .before .before .before .before .before .before .before .expr9 .ensures .1 ∙ ap length (c .before .before .before .before .before .before .before .before .before .before .before .before .copied2 .ensures) ∙ c .before .before .before .before .before .before .before .before .before .before .before .before .before .before .before .before .before .before .before .before .before .pre .1 .1, omega (arith, c .before .before .before .before .before .before .before .before .before .before .before .before .before .before .before .before .before .before .before .before .before .pre .1 .2, c .before .before .before .before .width-at3 .ensures .0)))
 
--- src/cycle.rt:115:27  // refused by 7 ⏎ Shape::Iter(_) => Rest::Short,
+-- src/cycle.rt:134:27  // refused by 7 ⏎ Shape::Iter(_) => Rest::Short,
 expr-enum-told-9 : (t : ℕ) → expr-lts.Need-enum-told-9 (
   shape-at-reads.Asked,
   shape-at-reads.Learnt,
@@ -2654,7 +2654,7 @@ expr-enum-told-9 : (t : ℕ) → expr-lts.Need-enum-told-9 (
 ) (expr-at t) expr.Post
 expr-enum-told-9 t c = search needs
 
--- src/cycle.rt:55:1  // Row r as an expression: its values go to the words of `out` from `at` on. ⏎ pub fn expr(t: &[u32], widths: &[u8], r: usize, env: &[u64], out: &mut [u64], at: usize, left: u32) -> Rest
+-- src/cycle.rt:55:1  // Row r as an expression: its values go to the words of `out` from `at` on. ⏎ pub fn expr(
 expr-same-length : (t : ℕ) → expr-lts.Need-same-length (
   shape-at-reads.Asked,
   shape-at-reads.Learnt,
@@ -2683,7 +2683,7 @@ expr-same-length : (t : ℕ) → expr-lts.Need-same-length (
 ) (expr-at t) expr.Post
 expr-same-length t c = search needs
 
--- src/cycle.rt:55:1  // Row r as an expression: its values go to the words of `out` from `at` on. ⏎ pub fn expr(t: &[u32], widths: &[u8], r: usize, env: &[u64], out: &mut [u64], at: usize, left: u32) -> Rest
+-- src/cycle.rt:55:1  // Row r as an expression: its values go to the words of `out` from `at` on. ⏎ pub fn expr(
 expr-returns : (t : ℕ) → expr-lts.Need-returns (
   shape-at-reads.Asked,
   shape-at-reads.Learnt,
@@ -2712,7 +2712,7 @@ expr-returns : (t : ℕ) → expr-lts.Need-returns (
 ) (expr-at t) expr.Post
 expr-returns t c = (tell-identifier (c .before .before .before .before .before .before .before .before .before .before .before .before .args .t .now) (c .before .before .before .before .before .before .before .before .before .before .before .before .args .widths .now) (c .before .before .before .before .before .before .before .before .before .before .before .before .args .r) (c .before .before .before .before .before .before .before .before .before .before .before .before .pre .1 .0) (envOf (c .before .before .before .before .before .before .before .before .before .before .before .before .args .env .now)) (c .before .before .before .before .before .before .before .before .before .before .before .before .args .left) (c .before .before .before .before .before .before .before .before .before .before .before .before .args .at) (c .before .before .before .before .before .before .before .before .before .before .before .before .args .out .now) (c .before .before .put-name .last .0) (c .before .before .before .before .before .a .given .0 .0) (sym (c .before .before .before .before .before .before .before .shape-at .ensures) ∙ c .before .before .before .before .before .a .given .1) (c .before .before .put-name .ensures .0), c .before .before .put-name .ensures .1)
 
--- src/cycle.rt:55:1  // Row r as an expression: its values go to the words of `out` from `at` on. ⏎ pub fn expr(t: &[u32], widths: &[u8], r: usize, env: &[u64], out: &mut [u64], at: usize, left: u32) -> Rest
+-- src/cycle.rt:55:1  // Row r as an expression: its values go to the words of `out` from `at` on. ⏎ pub fn expr(
 expr-same-length-2 : (t : ℕ) → expr-lts.Need-same-length-2 (
   shape-at-reads.Asked,
   shape-at-reads.Learnt,
@@ -2741,7 +2741,7 @@ expr-same-length-2 : (t : ℕ) → expr-lts.Need-same-length-2 (
 ) (expr-at t) expr.Post
 expr-same-length-2 t c = search needs
 
--- src/cycle.rt:55:1  // Row r as an expression: its values go to the words of `out` from `at` on. ⏎ pub fn expr(t: &[u32], widths: &[u8], r: usize, env: &[u64], out: &mut [u64], at: usize, left: u32) -> Rest
+-- src/cycle.rt:55:1  // Row r as an expression: its values go to the words of `out` from `at` on. ⏎ pub fn expr(
 expr-returns-2 : (t : ℕ) → expr-lts.Need-returns-2 (
   shape-at-reads.Asked,
   shape-at-reads.Learnt,
@@ -2770,7 +2770,7 @@ expr-returns-2 : (t : ℕ) → expr-lts.Need-returns-2 (
 ) (expr-at t) expr.Post
 expr-returns-2 t c = (tell-whole (c .before .before .before .before .before .before .before .before .before .before .before .before .args .t .now) (c .before .before .before .before .before .before .before .before .before .before .before .before .args .widths .now) (c .before .before .before .before .before .before .before .before .before .before .before .before .args .r) (c .before .before .before .before .before .before .before .before .before .before .before .before .pre .1 .0) (envOf (c .before .before .before .before .before .before .before .before .before .before .before .before .args .env .now)) (c .before .before .before .before .before .before .before .before .before .before .before .before .args .left) (c .before .before .before .before .before .before .before .before .before .before .before .before .args .at) (c .before .before .before .before .before .before .before .before .before .before .before .before .args .out .now) (c .before .before .put-whole .last .0) (c .before .before .before .before .before .a2 .given .0 .0) (sym (c .before .before .before .before .before .before .before .shape-at .ensures) ∙ c .before .before .before .before .before .a2 .given .1) (c .before .before .put-whole .ensures .0), c .before .before .put-whole .ensures .1)
 
--- src/cycle.rt:55:1  // Row r as an expression: its values go to the words of `out` from `at` on. ⏎ pub fn expr(t: &[u32], widths: &[u8], r: usize, env: &[u64], out: &mut [u64], at: usize, left: u32) -> Rest
+-- src/cycle.rt:55:1  // Row r as an expression: its values go to the words of `out` from `at` on. ⏎ pub fn expr(
 expr-same-length-3 : (t : ℕ) → expr-lts.Need-same-length-3 (
   shape-at-reads.Asked,
   shape-at-reads.Learnt,
@@ -2799,7 +2799,7 @@ expr-same-length-3 : (t : ℕ) → expr-lts.Need-same-length-3 (
 ) (expr-at t) expr.Post
 expr-same-length-3 t c = search needs
 
--- src/cycle.rt:55:1  // Row r as an expression: its values go to the words of `out` from `at` on. ⏎ pub fn expr(t: &[u32], widths: &[u8], r: usize, env: &[u64], out: &mut [u64], at: usize, left: u32) -> Rest
+-- src/cycle.rt:55:1  // Row r as an expression: its values go to the words of `out` from `at` on. ⏎ pub fn expr(
 expr-returns-3 : (t : ℕ) → expr-lts.Need-returns-3 (
   shape-at-reads.Asked,
   shape-at-reads.Learnt,
@@ -2828,7 +2828,7 @@ expr-returns-3 : (t : ℕ) → expr-lts.Need-returns-3 (
 ) (expr-at t) expr.Post
 expr-returns-3 t c = (tell-truth (c .before .before .before .before .before .before .before .before .before .before .before .before .args .t .now) (c .before .before .before .before .before .before .before .before .before .before .before .before .args .widths .now) (c .before .before .before .before .before .before .before .before .before .before .before .before .args .r) (c .before .before .before .before .before .before .before .before .before .before .before .before .pre .1 .0) (envOf (c .before .before .before .before .before .before .before .before .before .before .before .before .args .env .now)) (c .before .before .before .before .before .before .before .before .before .before .before .before .args .left) (c .before .before .before .before .before .before .before .before .before .before .before .before .args .at) (c .before .before .before .before .before .before .before .before .before .before .before .before .args .out .now) (c .before .before .put-truth .last .0) (c .before .before .before .before .before .a3 .given .0 .0) (sym (c .before .before .before .before .before .before .before .shape-at .ensures) ∙ c .before .before .before .before .before .a3 .given .1) (c .before .before .put-truth .ensures .0), c .before .before .put-truth .ensures .1)
 
--- src/cycle.rt:55:1  // Row r as an expression: its values go to the words of `out` from `at` on. ⏎ pub fn expr(t: &[u32], widths: &[u8], r: usize, env: &[u64], out: &mut [u64], at: usize, left: u32) -> Rest
+-- src/cycle.rt:55:1  // Row r as an expression: its values go to the words of `out` from `at` on. ⏎ pub fn expr(
 expr-same-length-4 : (t : ℕ) → expr-lts.Need-same-length-4 (
   shape-at-reads.Asked,
   shape-at-reads.Learnt,
@@ -2857,7 +2857,7 @@ expr-same-length-4 : (t : ℕ) → expr-lts.Need-same-length-4 (
 ) (expr-at t) expr.Post
 expr-same-length-4 t c = search needs
 
--- src/cycle.rt:55:1  // Row r as an expression: its values go to the words of `out` from `at` on. ⏎ pub fn expr(t: &[u32], widths: &[u8], r: usize, env: &[u64], out: &mut [u64], at: usize, left: u32) -> Rest
+-- src/cycle.rt:55:1  // Row r as an expression: its values go to the words of `out` from `at` on. ⏎ pub fn expr(
 expr-returns-4 : (t : ℕ) → expr-lts.Need-returns-4 (
   shape-at-reads.Asked,
   shape-at-reads.Learnt,
@@ -2886,7 +2886,7 @@ expr-returns-4 : (t : ℕ) → expr-lts.Need-returns-4 (
 ) (expr-at t) expr.Post
 expr-returns-4 t c = (tell-stopped (c .before .before .before .before .before .before .before .before .before .before .before .before .before .before .args .t .now) (c .before .before .before .before .before .before .before .before .before .before .before .before .before .before .args .widths .now) (c .before .before .before .before .before .before .before .before .before .before .before .before .before .before .args .r) (c .before .before .before .before .before .before .before .before .before .before .before .before .before .before .pre .1 .0) (envOf (c .before .before .before .before .before .before .before .before .before .before .before .before .before .before .args .env .now)) (c .before .before .before .before .before .before .before .before .before .before .before .before .before .before .args .left) (Pair (c .before .before .before .before .before .before .before .a4 .given .0 .0) (c .before .before .before .before .before .before .before .a4 .given .0 .1 .0)) (sym (c .before .before .before .before .before .before .before .before .before .shape-at .ensures) ∙ c .before .before .before .before .before .before .before .a4 .given .1) (c .before .before .before .before .before .before .before .a4 .given .0 .0) refl (c .before .before .before .before .before .before .before .before .before .before .before .before .before .before .args .at) (c .before .before .before .before .before .before .before .before .before .before .before .before .before .before .args .at) (c .before .before .before .before .before .before .before .before .before .before .before .before .before .before .args .out .now) (c .before .before .before .before .expr .last .1 .1 .1 .1 .0) (c .before .before .before .before .before .before .before .before .before .before .before .before .before .before .args .out .now) (c .before .before .before .before .expr .last .1 .1 .1 .1 .0) (rw (c .enum-told .given .1) at (c .before .before .before .before .expr .ensures .0)), c .before .before .before .before .expr .ensures .1)
 
--- src/cycle.rt:55:1  // Row r as an expression: its values go to the words of `out` from `at` on. ⏎ pub fn expr(t: &[u32], widths: &[u8], r: usize, env: &[u64], out: &mut [u64], at: usize, left: u32) -> Rest
+-- src/cycle.rt:55:1  // Row r as an expression: its values go to the words of `out` from `at` on. ⏎ pub fn expr(
 expr-same-length-5 : (t : ℕ) → expr-lts.Need-same-length-5 (
   shape-at-reads.Asked,
   shape-at-reads.Learnt,
@@ -2915,7 +2915,7 @@ expr-same-length-5 : (t : ℕ) → expr-lts.Need-same-length-5 (
 ) (expr-at t) expr.Post
 expr-same-length-5 t c = search needs
 
--- src/cycle.rt:55:1  // Row r as an expression: its values go to the words of `out` from `at` on. ⏎ pub fn expr(t: &[u32], widths: &[u8], r: usize, env: &[u64], out: &mut [u64], at: usize, left: u32) -> Rest
+-- src/cycle.rt:55:1  // Row r as an expression: its values go to the words of `out` from `at` on. ⏎ pub fn expr(
 expr-returns-5 : (t : ℕ) → expr-lts.Need-returns-5 (
   shape-at-reads.Asked,
   shape-at-reads.Learnt,
@@ -2944,7 +2944,7 @@ expr-returns-5 : (t : ℕ) → expr-lts.Need-returns-5 (
 ) (expr-at t) expr.Post
 expr-returns-5 t c = (tell-pair (c .before .before .before .before .before .before .before .before .before .before .before .before .before .before .before .before .before .before .before .before .args .t .now) (c .before .before .before .before .before .before .before .before .before .before .before .before .before .before .before .before .before .before .before .before .args .widths .now) (c .before .before .before .before .before .before .before .before .before .before .before .before .before .before .before .before .before .before .before .before .args .r) (c .before .before .before .before .before .before .before .before .before .before .before .before .before .before .before .before .before .before .before .before .pre .1 .0) (envOf (c .before .before .before .before .before .before .before .before .before .before .before .before .before .before .before .before .before .before .before .before .args .env .now)) (c .before .before .before .before .before .before .before .before .before .before .before .before .before .before .before .before .before .before .before .before .args .left) (c .before .before .before .before .before .before .before .before .before .before .before .before .before .before .before .before .before .before .before .before .args .at) (c .before .before .before .before .before .before .before .before .before .before .before .before .before .before .before .before .before .before .before .before .args .out .now) (c .before .before .expr2 .last .1 .1 .1 .1 .0) (c .before .before .before .before .before .before .before .before .before .before .before .before .before .a4 .given .0 .0) (c .before .before .before .before .before .before .before .before .before .before .before .before .before .a4 .given .0 .1 .0) (sym (c .before .before .before .before .before .before .before .before .before .before .before .before .before .before .before .shape-at .ensures) ∙ c .before .before .before .before .before .before .before .before .before .before .before .before .before .a4 .given .1) (c .before .before .before .before .before .before .before .before .before .before .expr .last .1 .1 .1 .1 .0) (c .before .before .before .before .before .before .l .given .0 .0) (c .before .before .expr2 .result) (rw (c .before .before .before .before .before .before .l .given .1) at (c .before .before .before .before .before .before .before .before .before .before .expr .ensures .0)) (rw (c .before .before .before .width-at .ensures .0) at (c .before .before .expr2 .ensures .0)), c .before .before .expr2 .ensures .1 ∙ c .before .before .before .before .before .before .before .before .before .before .expr .ensures .1)
 
--- src/cycle.rt:55:1  // Row r as an expression: its values go to the words of `out` from `at` on. ⏎ pub fn expr(t: &[u32], widths: &[u8], r: usize, env: &[u64], out: &mut [u64], at: usize, left: u32) -> Rest
+-- src/cycle.rt:55:1  // Row r as an expression: its values go to the words of `out` from `at` on. ⏎ pub fn expr(
 expr-returns-6 : (t : ℕ) → expr-lts.Need-returns-6 (
   shape-at-reads.Asked,
   shape-at-reads.Learnt,
@@ -2973,7 +2973,7 @@ expr-returns-6 : (t : ℕ) → expr-lts.Need-returns-6 (
 ) (expr-at t) expr.Post
 expr-returns-6 t c = (tell-stopped (c .before .before .before .before .before .before .before .before .before .before .before .before .before .args .t .now) (c .before .before .before .before .before .before .before .before .before .before .before .before .before .args .widths .now) (c .before .before .before .before .before .before .before .before .before .before .before .before .before .args .r) (c .before .before .before .before .before .before .before .before .before .before .before .before .before .pre .1 .0) (envOf (c .before .before .before .before .before .before .before .before .before .before .before .before .before .args .env .now)) (c .before .before .before .before .before .before .before .before .before .before .before .before .before .args .left) (Operator (c .before .before .before .before .before .before .code .given .0 .0) (c .before .before .before .before .before .before .code .given .0 .1 .0)) (sym (c .before .before .before .before .before .before .before .before .shape-at .ensures) ∙ c .before .before .before .before .before .before .code .given .1) (c .before .before .before .before .before .before .code .given .0 .1 .0) refl (c .before .before .before .before .before .before .before .before .before .before .before .before .before .args .at) 0 (c .before .before .before .before .before .before .before .before .before .before .before .before .before .args .out .now) (c .before .before .before .before .before .before .before .before .before .before .before .before .before .args .out .now) (0 ∷ 0 ∷ []) (c .before .before .before .expr3 .last .1 .1 .1 .1 .0) (rw (c .enum-told2 .given .1) at (c .before .before .before .expr3 .ensures .0)), refl)
 
--- src/cycle.rt:55:1  // Row r as an expression: its values go to the words of `out` from `at` on. ⏎ pub fn expr(t: &[u32], widths: &[u8], r: usize, env: &[u64], out: &mut [u64], at: usize, left: u32) -> Rest
+-- src/cycle.rt:55:1  // Row r as an expression: its values go to the words of `out` from `at` on. ⏎ pub fn expr(
 expr-same-length-6 : (t : ℕ) → expr-lts.Need-same-length-6 (
   shape-at-reads.Asked,
   shape-at-reads.Learnt,
@@ -3002,7 +3002,7 @@ expr-same-length-6 : (t : ℕ) → expr-lts.Need-same-length-6 (
 ) (expr-at t) expr.Post
 expr-same-length-6 t c = search needs
 
--- src/cycle.rt:55:1  // Row r as an expression: its values go to the words of `out` from `at` on. ⏎ pub fn expr(t: &[u32], widths: &[u8], r: usize, env: &[u64], out: &mut [u64], at: usize, left: u32) -> Rest
+-- src/cycle.rt:55:1  // Row r as an expression: its values go to the words of `out` from `at` on. ⏎ pub fn expr(
 expr-returns-7 : (t : ℕ) → expr-lts.Need-returns-7 (
   shape-at-reads.Asked,
   shape-at-reads.Learnt,
@@ -3031,7 +3031,7 @@ expr-returns-7 : (t : ℕ) → expr-lts.Need-returns-7 (
 ) (expr-at t) expr.Post
 expr-returns-7 t c = (tell-operator (c .before .before .before .before .before .before .before .before .before .before .before .before .before .before .before .before .before .before .before .args .t .now) (c .before .before .before .before .before .before .before .before .before .before .before .before .before .before .before .before .before .before .before .args .widths .now) (c .before .before .before .before .before .before .before .before .before .before .before .before .before .before .before .before .before .before .before .args .r) (c .before .before .before .before .before .before .before .before .before .before .before .before .before .before .before .before .before .before .before .pre .1 .0) (envOf (c .before .before .before .before .before .before .before .before .before .before .before .before .before .before .before .before .before .before .before .args .env .now)) (c .before .before .before .before .before .before .before .before .before .before .before .before .before .before .before .before .before .before .before .args .left) (c .before .before .before .before .before .before .before .before .before .before .before .before .before .before .before .before .before .before .before .args .at) (c .before .before .before .before .before .before .before .before .before .before .before .before .before .before .before .before .before .before .before .args .out .now) (c .before .before .put-operator .last .0) (c .before .before .before .before .before .before .before .before .before .before .before .before .code .given .0 .0) (c .before .before .before .before .before .before .before .before .before .before .before .before .code .given .0 .1 .0) (sym (c .before .before .before .before .before .before .before .before .before .before .before .before .before .before .shape-at .ensures) ∙ c .before .before .before .before .before .before .before .before .before .before .before .before .code .given .1) (0 ∷ 0 ∷ []) (c .before .before .before .before .before .before .before .before .before .expr3 .last .1 .1 .1 .1 .0) (c .before .before .before .before .before .before .l2 .given .0 .0) (zeros-err 2) (rw (c .before .before .before .before .before .before .l2 .given .1) at (c .before .before .before .before .before .before .before .before .before .expr3 .ensures .0)) (c .before .before .put-operator .ensures .0), c .before .before .put-operator .ensures .1)
 
--- src/cycle.rt:55:1  // Row r as an expression: its values go to the words of `out` from `at` on. ⏎ pub fn expr(t: &[u32], widths: &[u8], r: usize, env: &[u64], out: &mut [u64], at: usize, left: u32) -> Rest
+-- src/cycle.rt:55:1  // Row r as an expression: its values go to the words of `out` from `at` on. ⏎ pub fn expr(
 expr-returns-8 : (t : ℕ) → expr-lts.Need-returns-8 (
   shape-at-reads.Asked,
   shape-at-reads.Learnt,
@@ -3060,7 +3060,7 @@ expr-returns-8 : (t : ℕ) → expr-lts.Need-returns-8 (
 ) (expr-at t) expr.Post
 expr-returns-8 t c = (tell-stopped (c .before .before .before .before .before .before .before .before .before .before .before .before .before .before .before .args .t .now) (c .before .before .before .before .before .before .before .before .before .before .before .before .before .before .before .args .widths .now) (c .before .before .before .before .before .before .before .before .before .before .before .before .before .before .before .args .r) (c .before .before .before .before .before .before .before .before .before .before .before .before .before .before .before .pre .1 .0) (envOf (c .before .before .before .before .before .before .before .before .before .before .before .before .before .before .before .args .env .now)) (c .before .before .before .before .before .before .before .before .before .before .before .before .before .before .before .args .left) (Let (c .before .before .before .before .before .before .before .before .a5 .given .0 .0) (c .before .before .before .before .before .before .before .before .a5 .given .0 .1 .0) (c .before .before .before .before .before .before .before .before .a5 .given .0 .1 .1 .0) (c .before .before .before .before .before .before .before .before .a5 .given .0 .1 .1 .1 .0)) (sym (c .before .before .before .before .before .before .before .before .before .before .shape-at .ensures) ∙ c .before .before .before .before .before .before .before .before .a5 .given .1) (c .before .before .before .before .before .before .before .before .a5 .given .0 .1 .1 .0) refl (c .before .before .before .before .before .before .before .before .before .before .before .before .before .before .before .args .at) (c .before .before .before .before .wide .result) (c .before .before .before .before .before .before .before .before .before .before .before .before .before .before .before .args .out .now) (c .before .before .before .before .before .before .before .before .before .before .before .before .before .before .before .args .out .now) (c .before .before .before .before .before .before .copied .result) (c .before .before .before .expr4 .last .1 .1 .1 .1 .0) (rw (c .enum-told3 .given .1) at (c .before .before .before .expr4 .ensures .0)), refl)
 
--- src/cycle.rt:55:1  // Row r as an expression: its values go to the words of `out` from `at` on. ⏎ pub fn expr(t: &[u32], widths: &[u8], r: usize, env: &[u64], out: &mut [u64], at: usize, left: u32) -> Rest
+-- src/cycle.rt:55:1  // Row r as an expression: its values go to the words of `out` from `at` on. ⏎ pub fn expr(
 expr-same-length-7 : (t : ℕ) → expr-lts.Need-same-length-7 (
   shape-at-reads.Asked,
   shape-at-reads.Learnt,
@@ -3089,7 +3089,7 @@ expr-same-length-7 : (t : ℕ) → expr-lts.Need-same-length-7 (
 ) (expr-at t) expr.Post
 expr-same-length-7 t c = search needs
 
--- src/cycle.rt:55:1  // Row r as an expression: its values go to the words of `out` from `at` on. ⏎ pub fn expr(t: &[u32], widths: &[u8], r: usize, env: &[u64], out: &mut [u64], at: usize, left: u32) -> Rest
+-- src/cycle.rt:55:1  // Row r as an expression: its values go to the words of `out` from `at` on. ⏎ pub fn expr(
 expr-returns-9 : (t : ℕ) → expr-lts.Need-returns-9 (
   shape-at-reads.Asked,
   shape-at-reads.Learnt,
@@ -3118,7 +3118,7 @@ expr-returns-9 : (t : ℕ) → expr-lts.Need-returns-9 (
 ) (expr-at t) expr.Post
 expr-returns-9 t c = (tell-let (c .before .before .before .before .before .before .before .before .before .before .before .before .before .before .before .before .before .before .before .before .before .args .t .now) (c .before .before .before .before .before .before .before .before .before .before .before .before .before .before .before .before .before .before .before .before .before .args .widths .now) (c .before .before .before .before .before .before .before .before .before .before .before .before .before .before .before .before .before .before .before .before .before .args .r) (c .before .before .before .before .before .before .before .before .before .before .before .before .before .before .before .before .before .before .before .before .before .pre .1 .0) (envOf (c .before .before .before .before .before .before .before .before .before .before .before .before .before .before .before .before .before .before .before .before .before .args .env .now)) (c .before .before .before .before .before .before .before .before .before .before .before .before .before .before .before .before .before .before .before .before .before .args .left) (c .before .before .before .before .before .before .before .before .before .before .before .before .before .before .before .before .before .before .before .before .before .args .at) (c .before .before .before .before .before .before .before .before .before .before .before .before .before .before .before .before .before .before .before .before .before .args .out .now) (c .before .before .expr5 .last .1 .1 .1 .1 .0) (c .before .before .before .before .before .before .before .before .before .before .before .before .before .before .a5 .given .0 .0) (c .before .before .before .before .before .before .before .before .before .before .before .before .before .before .a5 .given .0 .1 .0) (c .before .before .before .before .before .before .before .before .before .before .before .before .before .before .a5 .given .0 .1 .1 .0) (c .before .before .before .before .before .before .before .before .before .before .before .before .before .before .a5 .given .0 .1 .1 .1 .0) (sym (c .before .before .before .before .before .before .before .before .before .before .before .before .before .before .before .before .shape-at .ensures) ∙ c .before .before .before .before .before .before .before .before .before .before .before .before .before .before .a5 .given .1) (c .before .before .before .before .before .before .before .before .before .before .before .before .copied .result) (c .before .before .before .before .before .before .before .before .before .expr4 .last .1 .1 .1 .1 .0) (c .before .before .before .before .before .before .l3 .given .0 .0) (c .before .before .expr5 .result) (ap envOf (c .before .before .before .before .before .before .before .before .before .before .before .before .copied .ensures)) (rw (c .before .before .before .before .before .before .before .before .before .before .wide .ensures, c .before .before .before .before .before .before .l3 .given .1) at (c .before .before .before .before .before .before .before .before .before .expr4 .ensures .0)) (c .before .before .expr5 .ensures .0), c .before .before .expr5 .ensures .1)
 
--- src/cycle.rt:55:1  // Row r as an expression: its values go to the words of `out` from `at` on. ⏎ pub fn expr(t: &[u32], widths: &[u8], r: usize, env: &[u64], out: &mut [u64], at: usize, left: u32) -> Rest
+-- src/cycle.rt:55:1  // Row r as an expression: its values go to the words of `out` from `at` on. ⏎ pub fn expr(
 expr-returns-10 : (t : ℕ) → expr-lts.Need-returns-10 (
   shape-at-reads.Asked,
   shape-at-reads.Learnt,
@@ -3147,7 +3147,7 @@ expr-returns-10 : (t : ℕ) → expr-lts.Need-returns-10 (
 ) (expr-at t) expr.Post
 expr-returns-10 t c = (tell-stopped (c .before .before .before .before .before .before .before .before .before .before .before .before .before .args .t .now) (c .before .before .before .before .before .before .before .before .before .before .before .before .before .args .widths .now) (c .before .before .before .before .before .before .before .before .before .before .before .before .before .args .r) (c .before .before .before .before .before .before .before .before .before .before .before .before .before .pre .1 .0) (envOf (c .before .before .before .before .before .before .before .before .before .before .before .before .before .args .env .now)) (c .before .before .before .before .before .before .before .before .before .before .before .before .before .args .left) (If (c .before .before .before .before .before .before .a6 .given .0 .0) (c .before .before .before .before .before .before .a6 .given .0 .1 .0) (c .before .before .before .before .before .before .a6 .given .0 .1 .1 .0)) (sym (c .before .before .before .before .before .before .before .before .shape-at .ensures) ∙ c .before .before .before .before .before .before .a6 .given .1) (c .before .before .before .before .before .before .a6 .given .0 .0) refl (c .before .before .before .before .before .before .before .before .before .before .before .before .before .args .at) 0 (c .before .before .before .before .before .before .before .before .before .before .before .before .before .args .out .now) (c .before .before .before .before .before .before .before .before .before .before .before .before .before .args .out .now) (0 ∷ []) (c .before .before .before .expr6 .last .1 .1 .1 .1 .0) (rw (c .enum-told4 .given .1) at (c .before .before .before .expr6 .ensures .0)), refl)
 
--- src/cycle.rt:55:1  // Row r as an expression: its values go to the words of `out` from `at` on. ⏎ pub fn expr(t: &[u32], widths: &[u8], r: usize, env: &[u64], out: &mut [u64], at: usize, left: u32) -> Rest
+-- src/cycle.rt:55:1  // Row r as an expression: its values go to the words of `out` from `at` on. ⏎ pub fn expr(
 expr-same-length-8 : (t : ℕ) → expr-lts.Need-same-length-8 (
   shape-at-reads.Asked,
   shape-at-reads.Learnt,
@@ -3176,7 +3176,7 @@ expr-same-length-8 : (t : ℕ) → expr-lts.Need-same-length-8 (
 ) (expr-at t) expr.Post
 expr-same-length-8 t c = search needs
 
--- src/cycle.rt:55:1  // Row r as an expression: its values go to the words of `out` from `at` on. ⏎ pub fn expr(t: &[u32], widths: &[u8], r: usize, env: &[u64], out: &mut [u64], at: usize, left: u32) -> Rest
+-- src/cycle.rt:55:1  // Row r as an expression: its values go to the words of `out` from `at` on. ⏎ pub fn expr(
 expr-returns-11 : (t : ℕ) → expr-lts.Need-returns-11 (
   shape-at-reads.Asked,
   shape-at-reads.Learnt,
@@ -3205,7 +3205,7 @@ expr-returns-11 : (t : ℕ) → expr-lts.Need-returns-11 (
 ) (expr-at t) expr.Post
 expr-returns-11 t c = (tell-first (c .before .before .before .before .before .before .before .before .before .before .before .before .before .before .before .before .before .before .before .before .before .before .args .t .now) (c .before .before .before .before .before .before .before .before .before .before .before .before .before .before .before .before .before .before .before .before .before .before .args .widths .now) (c .before .before .before .before .before .before .before .before .before .before .before .before .before .before .before .before .before .before .before .before .before .before .args .r) (c .before .before .before .before .before .before .before .before .before .before .before .before .before .before .before .before .before .before .before .before .before .before .pre .1 .0) (envOf (c .before .before .before .before .before .before .before .before .before .before .before .before .before .before .before .before .before .before .before .before .before .before .args .env .now)) (c .before .before .before .before .before .before .before .before .before .before .before .before .before .before .before .before .before .before .before .before .before .before .args .left) (c .before .before .before .before .before .before .before .before .before .before .before .before .before .before .before .before .before .before .before .before .before .before .args .at) (c .before .before .before .before .before .before .before .before .before .before .before .before .before .before .before .before .before .before .before .before .before .before .args .out .now) (c .before .before .expr7 .last .1 .1 .1 .1 .0) (c .before .before .before .before .before .before .before .before .before .before .before .before .before .before .before .a6 .given .0 .0) (c .before .before .before .before .before .before .before .before .before .before .before .before .before .before .before .a6 .given .0 .1 .0) (c .before .before .before .before .before .before .before .before .before .before .before .before .before .before .before .a6 .given .0 .1 .1 .0) (sym (c .before .before .before .before .before .before .before .before .before .before .before .before .before .before .before .before .before .shape-at .ensures) ∙ c .before .before .before .before .before .before .before .before .before .before .before .before .before .before .before .a6 .given .1) (0 ∷ []) (c .before .before .before .before .before .before .before .before .before .before .before .before .expr6 .last .1 .1 .1 .1 .0) (c .before .before .before .before .before .before .before .before .before .l4 .given .0 .0) (zeros-err 1) (rw (c .before .before .before .before .before .before .before .before .before .l4 .given .1) at (c .before .before .before .before .before .before .before .before .before .before .before .before .expr6 .ensures .0)) (c .before .before .expr7 .result) (sym (c .before .before .before .before .before .before .choose .ensures) ∙ c .before .before .before .before .enum-told5 .given .1) (c .before .before .expr7 .ensures .0), c .before .before .expr7 .ensures .1)
 
--- src/cycle.rt:55:1  // Row r as an expression: its values go to the words of `out` from `at` on. ⏎ pub fn expr(t: &[u32], widths: &[u8], r: usize, env: &[u64], out: &mut [u64], at: usize, left: u32) -> Rest
+-- src/cycle.rt:55:1  // Row r as an expression: its values go to the words of `out` from `at` on. ⏎ pub fn expr(
 expr-same-length-9 : (t : ℕ) → expr-lts.Need-same-length-9 (
   shape-at-reads.Asked,
   shape-at-reads.Learnt,
@@ -3234,7 +3234,7 @@ expr-same-length-9 : (t : ℕ) → expr-lts.Need-same-length-9 (
 ) (expr-at t) expr.Post
 expr-same-length-9 t c = search needs
 
--- src/cycle.rt:55:1  // Row r as an expression: its values go to the words of `out` from `at` on. ⏎ pub fn expr(t: &[u32], widths: &[u8], r: usize, env: &[u64], out: &mut [u64], at: usize, left: u32) -> Rest
+-- src/cycle.rt:55:1  // Row r as an expression: its values go to the words of `out` from `at` on. ⏎ pub fn expr(
 expr-returns-12 : (t : ℕ) → expr-lts.Need-returns-12 (
   shape-at-reads.Asked,
   shape-at-reads.Learnt,
@@ -3263,7 +3263,7 @@ expr-returns-12 : (t : ℕ) → expr-lts.Need-returns-12 (
 ) (expr-at t) expr.Post
 expr-returns-12 t c = (tell-second (c .before .before .before .before .before .before .before .before .before .before .before .before .before .before .before .before .before .before .before .before .before .before .args .t .now) (c .before .before .before .before .before .before .before .before .before .before .before .before .before .before .before .before .before .before .before .before .before .before .args .widths .now) (c .before .before .before .before .before .before .before .before .before .before .before .before .before .before .before .before .before .before .before .before .before .before .args .r) (c .before .before .before .before .before .before .before .before .before .before .before .before .before .before .before .before .before .before .before .before .before .before .pre .1 .0) (envOf (c .before .before .before .before .before .before .before .before .before .before .before .before .before .before .before .before .before .before .before .before .before .before .args .env .now)) (c .before .before .before .before .before .before .before .before .before .before .before .before .before .before .before .before .before .before .before .before .before .before .args .left) (c .before .before .before .before .before .before .before .before .before .before .before .before .before .before .before .before .before .before .before .before .before .before .args .at) (c .before .before .before .before .before .before .before .before .before .before .before .before .before .before .before .before .before .before .before .before .before .before .args .out .now) (c .before .before .expr8 .last .1 .1 .1 .1 .0) (c .before .before .before .before .before .before .before .before .before .before .before .before .before .before .before .a6 .given .0 .0) (c .before .before .before .before .before .before .before .before .before .before .before .before .before .before .before .a6 .given .0 .1 .0) (c .before .before .before .before .before .before .before .before .before .before .before .before .before .before .before .a6 .given .0 .1 .1 .0) (sym (c .before .before .before .before .before .before .before .before .before .before .before .before .before .before .before .before .before .shape-at .ensures) ∙ c .before .before .before .before .before .before .before .before .before .before .before .before .before .before .before .a6 .given .1) (0 ∷ []) (c .before .before .before .before .before .before .before .before .before .before .before .before .expr6 .last .1 .1 .1 .1 .0) (c .before .before .before .before .before .before .before .before .before .l4 .given .0 .0) (zeros-err 1) (rw (c .before .before .before .before .before .before .before .before .before .l4 .given .1) at (c .before .before .before .before .before .before .before .before .before .before .before .before .expr6 .ensures .0)) (c .before .before .expr8 .result) (sym (c .before .before .before .before .before .before .choose .ensures) ∙ c .before .before .before .before .enum-told6 .given .1) (c .before .before .expr8 .ensures .0), c .before .before .expr8 .ensures .1)
 
--- src/cycle.rt:55:1  // Row r as an expression: its values go to the words of `out` from `at` on. ⏎ pub fn expr(t: &[u32], widths: &[u8], r: usize, env: &[u64], out: &mut [u64], at: usize, left: u32) -> Rest
+-- src/cycle.rt:55:1  // Row r as an expression: its values go to the words of `out` from `at` on. ⏎ pub fn expr(
 expr-same-length-10 : (t : ℕ) → expr-lts.Need-same-length-10 (
   shape-at-reads.Asked,
   shape-at-reads.Learnt,
@@ -3292,7 +3292,7 @@ expr-same-length-10 : (t : ℕ) → expr-lts.Need-same-length-10 (
 ) (expr-at t) expr.Post
 expr-same-length-10 t c = search needs
 
--- src/cycle.rt:55:1  // Row r as an expression: its values go to the words of `out` from `at` on. ⏎ pub fn expr(t: &[u32], widths: &[u8], r: usize, env: &[u64], out: &mut [u64], at: usize, left: u32) -> Rest
+-- src/cycle.rt:55:1  // Row r as an expression: its values go to the words of `out` from `at` on. ⏎ pub fn expr(
 expr-returns-13 : (t : ℕ) → expr-lts.Need-returns-13 (
   shape-at-reads.Asked,
   shape-at-reads.Learnt,
@@ -3321,7 +3321,7 @@ expr-returns-13 : (t : ℕ) → expr-lts.Need-returns-13 (
 ) (expr-at t) expr.Post
 expr-returns-13 t c = (tell-neither (c .before .before .before .before .before .before .before .before .before .before .before .before .before .before .before .before .before .before .before .before .before .before .before .args .t .now) (c .before .before .before .before .before .before .before .before .before .before .before .before .before .before .before .before .before .before .before .before .before .before .before .args .widths .now) (c .before .before .before .before .before .before .before .before .before .before .before .before .before .before .before .before .before .before .before .before .before .before .before .args .r) (c .before .before .before .before .before .before .before .before .before .before .before .before .before .before .before .before .before .before .before .before .before .before .before .pre .1 .0) (envOf (c .before .before .before .before .before .before .before .before .before .before .before .before .before .before .before .before .before .before .before .before .before .before .before .args .env .now)) (c .before .before .before .before .before .before .before .before .before .before .before .before .before .before .before .before .before .before .before .before .before .before .before .args .left) (c .before .before .before .before .before .before .before .before .before .before .before .before .before .before .before .before .before .before .before .before .before .before .before .args .at) (c .before .before .before .before .before .before .before .before .before .before .before .before .before .before .before .before .before .before .before .before .before .before .before .args .out .now) (c .before .before .put-errs .last .0) (c .before .before .before .before .before .before .before .before .before .before .before .before .before .before .before .before .a6 .given .0 .0) (c .before .before .before .before .before .before .before .before .before .before .before .before .before .before .before .before .a6 .given .0 .1 .0) (c .before .before .before .before .before .before .before .before .before .before .before .before .before .before .before .before .a6 .given .0 .1 .1 .0) (sym (c .before .before .before .before .before .before .before .before .before .before .before .before .before .before .before .before .before .before .shape-at .ensures) ∙ c .before .before .before .before .before .before .before .before .before .before .before .before .before .before .before .before .a6 .given .1) (0 ∷ []) (c .before .before .before .before .before .before .before .before .before .before .before .before .before .expr6 .last .1 .1 .1 .1 .0) (c .before .before .before .before .before .before .before .before .before .before .l4 .given .0 .0) (zeros-err 1) (rw (c .before .before .before .before .before .before .before .before .before .before .l4 .given .1) at (c .before .before .before .before .before .before .before .before .before .before .before .before .before .expr6 .ensures .0)) (sym (c .before .before .before .before .before .before .before .choose .ensures) ∙ c .before .before .before .before .before .enum-told7 .given .1) (rw (c .before .before .before .width-at2 .ensures .0) at (c .before .before .put-errs .ensures .0)), c .before .before .put-errs .ensures .1)
 
--- src/cycle.rt:55:1  // Row r as an expression: its values go to the words of `out` from `at` on. ⏎ pub fn expr(t: &[u32], widths: &[u8], r: usize, env: &[u64], out: &mut [u64], at: usize, left: u32) -> Rest
+-- src/cycle.rt:55:1  // Row r as an expression: its values go to the words of `out` from `at` on. ⏎ pub fn expr(
 expr-returns-14 : (t : ℕ) → expr-lts.Need-returns-14 (
   shape-at-reads.Asked,
   shape-at-reads.Learnt,
@@ -3350,7 +3350,7 @@ expr-returns-14 : (t : ℕ) → expr-lts.Need-returns-14 (
 ) (expr-at t) expr.Post
 expr-returns-14 t c = (tell-stopped (c .before .before .before .before .before .before .before .before .before .before .before .before .before .before .before .args .t .now) (c .before .before .before .before .before .before .before .before .before .before .before .before .before .before .before .args .widths .now) (c .before .before .before .before .before .before .before .before .before .before .before .before .before .before .before .args .r) (c .before .before .before .before .before .before .before .before .before .before .before .before .before .before .before .pre .1 .0) (envOf (c .before .before .before .before .before .before .before .before .before .before .before .before .before .before .before .args .env .now)) (c .before .before .before .before .before .before .before .before .before .before .before .before .before .before .before .args .left) (For (c .before .before .before .before .before .before .before .before .a7 .given .0 .0) (c .before .before .before .before .before .before .before .before .a7 .given .0 .1 .0) (c .before .before .before .before .before .before .before .before .a7 .given .0 .1 .1 .0) (c .before .before .before .before .before .before .before .before .a7 .given .0 .1 .1 .1 .0)) (sym (c .before .before .before .before .before .before .before .before .before .before .shape-at .ensures) ∙ c .before .before .before .before .before .before .before .before .a7 .given .1) (c .before .before .before .before .before .before .before .before .a7 .given .0 .1 .1 .0) refl (c .before .before .before .before .before .before .before .before .before .before .before .before .before .before .before .args .at) (c .before .before .before .before .wide2 .result) (c .before .before .before .before .before .before .before .before .before .before .before .before .before .before .before .args .out .now) (c .before .before .before .before .before .before .before .before .before .before .before .before .before .before .before .args .out .now) (c .before .before .before .before .before .before .copied2 .result) (c .before .before .before .expr9 .last .1 .1 .1 .1 .0) (rw (c .enum-told8 .given .1) at (c .before .before .before .expr9 .ensures .0)), refl)
 
--- src/cycle.rt:55:1  // Row r as an expression: its values go to the words of `out` from `at` on. ⏎ pub fn expr(t: &[u32], widths: &[u8], r: usize, env: &[u64], out: &mut [u64], at: usize, left: u32) -> Rest
+-- src/cycle.rt:55:1  // Row r as an expression: its values go to the words of `out` from `at` on. ⏎ pub fn expr(
 expr-same-length-11 : (t : ℕ) → expr-lts.Need-same-length-11 (
   shape-at-reads.Asked,
   shape-at-reads.Learnt,
@@ -3379,7 +3379,7 @@ expr-same-length-11 : (t : ℕ) → expr-lts.Need-same-length-11 (
 ) (expr-at t) expr.Post
 expr-same-length-11 t c = search needs
 
--- src/cycle.rt:55:1  // Row r as an expression: its values go to the words of `out` from `at` on. ⏎ pub fn expr(t: &[u32], widths: &[u8], r: usize, env: &[u64], out: &mut [u64], at: usize, left: u32) -> Rest
+-- src/cycle.rt:55:1  // Row r as an expression: its values go to the words of `out` from `at` on. ⏎ pub fn expr(
 expr-returns-15 : (t : ℕ) → expr-lts.Need-returns-15 (
   shape-at-reads.Asked,
   shape-at-reads.Learnt,
@@ -3408,7 +3408,7 @@ expr-returns-15 : (t : ℕ) → expr-lts.Need-returns-15 (
 ) (expr-at t) expr.Post
 expr-returns-15 t c = (tell-for (c .before .before .before .before .before .before .before .before .before .before .before .before .before .before .before .before .before .before .before .before .before .before .before .before .before .args .t .now) (c .before .before .before .before .before .before .before .before .before .before .before .before .before .before .before .before .before .before .before .before .before .before .before .before .before .args .widths .now) (c .before .before .before .before .before .before .before .before .before .before .before .before .before .before .before .before .before .before .before .before .before .before .before .before .before .args .r) (c .before .before .before .before .before .before .before .before .before .before .before .before .before .before .before .before .before .before .before .before .before .before .before .before .before .pre .1 .0) (envOf (c .before .before .before .before .before .before .before .before .before .before .before .before .before .before .before .before .before .before .before .before .before .before .before .before .before .args .env .now)) (c .before .before .before .before .before .before .before .before .before .before .before .before .before .before .before .before .before .before .before .before .before .before .before .before .before .args .left) (c .before .before .before .before .before .before .before .before .before .before .before .before .before .before .before .before .before .before .before .before .before .before .before .before .before .args .at) (c .before .before .before .before .before .before .before .before .before .before .before .before .before .before .before .before .before .before .before .before .before .before .before .before .before .args .out .now) (c .before .before .before .rounds .last .1 .1 .1 .1 .1 .1 .1 .0) (c .before .before .before .before .before .before .before .before .before .before .before .before .before .before .before .before .before .before .a7 .given .0 .0) (c .before .before .before .before .before .before .before .before .before .before .before .before .before .before .before .before .before .before .a7 .given .0 .1 .0) (c .before .before .before .before .before .before .before .before .before .before .before .before .before .before .before .before .before .before .a7 .given .0 .1 .1 .0) (c .before .before .before .before .before .before .before .before .before .before .before .before .before .before .before .before .before .before .a7 .given .0 .1 .1 .1 .0) (sym (c .before .before .before .before .before .before .before .before .before .before .before .before .before .before .before .before .before .before .before .before .shape-at .ensures) ∙ c .before .before .before .before .before .before .before .before .before .before .before .before .before .before .before .before .before .before .a7 .given .1) (c .before .before .before .before .before .before .before .before .before .before .before .before .before .before .before .before .copied2 .result) (c .before .before .before .before .before .before .before .before .before .before .before .before .before .expr9 .last .1 .1 .1 .1 .0) (c .before .before .before .before .before .before .before .before .before .before .l5 .given .0 .0) (c .before .before .before .rounds .result) (ap envOf (c .before .before .before .before .before .before .before .before .before .before .before .before .before .before .before .before .copied2 .ensures)) (rw (c .before .before .before .before .before .before .before .before .before .before .before .before .before .before .wide2 .ensures, c .before .before .before .before .before .before .before .before .before .before .l5 .given .1) at (c .before .before .before .before .before .before .before .before .before .before .before .before .before .expr9 .ensures .0)) (rw (c .before .before .before .before .before .before .before .wide3 .ensures, c .before .before .before .before .before .before .wide4 .ensures) at (c .before .before .before .rounds .ensures .0)), c .before .before .before .rounds .ensures .1)
 
--- src/cycle.rt:55:1  // Row r as an expression: its values go to the words of `out` from `at` on. ⏎ pub fn expr(t: &[u32], widths: &[u8], r: usize, env: &[u64], out: &mut [u64], at: usize, left: u32) -> Rest
+-- src/cycle.rt:55:1  // Row r as an expression: its values go to the words of `out` from `at` on. ⏎ pub fn expr(
 expr-returns-16 : (t : ℕ) → expr-lts.Need-returns-16 (
   shape-at-reads.Asked,
   shape-at-reads.Learnt,
@@ -3443,7 +3443,7 @@ rounds-Inv-loop t widths d w a b inner₀ out₀ at left values₀ l₀ inner ou
 abbrev rounds-μ-loop : rounds-lts.MeasureT-loop
 rounds-μ-loop t widths d w a b inner₀ out₀ at left values₀ l₀ inner out values l = l
 
--- src/cycle.rt:127:5  let mut l = left; ⏎ while 0 < l {
+-- src/cycle.rt:157:5  let mut l = left; ⏎ while 0 < l {
 rounds-loop-holds : (t : ℕ) → rounds-lts.Need-loop-holds (
   body-below t,
   body.Post,
@@ -3452,7 +3452,7 @@ rounds-loop-holds : (t : ℕ) → rounds-lts.Need-loop-holds (
 ) (rounds-at t) rounds.Post rounds-Inv-loop rounds-μ-loop
 rounds-loop-holds t c = search needs
 
--- src/cycle.rt:128:44  while 0 < l { ⏎ match body(t, widths, d, w, inner, &mut values, l - 1) {
+-- src/cycle.rt:158:44  while 0 < l { ⏎ match body(t, widths, d, w, inner, &mut values, l - 1) {
 rounds-slice-aggregate-body : (t : ℕ) → rounds-lts.Need-slice-aggregate-body (
   body-below t,
   body.Post,
@@ -3461,7 +3461,7 @@ rounds-slice-aggregate-body : (t : ℕ) → rounds-lts.Need-slice-aggregate-body
 ) (rounds-at t) rounds.Post rounds-Inv-loop rounds-μ-loop
 rounds-slice-aggregate-body t c = search needs
 
--- src/cycle.rt:128:57  while 0 < l { ⏎ match body(t, widths, d, w, inner, &mut values, l - 1) {
+-- src/cycle.rt:158:57  while 0 < l { ⏎ match body(t, widths, d, w, inner, &mut values, l - 1) {
 rounds-sub-body : (t : ℕ) → rounds-lts.Need-sub-body (
   body-below t,
   body.Post,
@@ -3470,7 +3470,7 @@ rounds-sub-body : (t : ℕ) → rounds-lts.Need-sub-body (
 ) (rounds-at t) rounds.Post rounds-Inv-loop rounds-μ-loop
 rounds-sub-body t c = search needs
 
--- src/cycle.rt:128:15  while 0 < l { ⏎ match body(t, widths, d, w, inner, &mut values, l - 1) {
+-- src/cycle.rt:158:15  while 0 < l { ⏎ match body(t, widths, d, w, inner, &mut values, l - 1) {
 rounds-body-requires : (t : ℕ) → rounds-lts.Need-body-requires (
   body-below t,
   body.Post,
@@ -3479,7 +3479,7 @@ rounds-body-requires : (t : ℕ) → rounds-lts.Need-body-requires (
 ) (rounds-at t) rounds.Post rounds-Inv-loop rounds-μ-loop
 rounds-body-requires t c κs = search needs
 
--- src/cycle.rt:130:17  Turn::Short => { ⏎ return Rest::Short;
+-- src/cycle.rt:160:17  Turn::Short => { ⏎ return Rest::Short;
 rounds-enum-told : (t : ℕ) → rounds-lts.Need-enum-told (
   body-below t,
   body.Post,
@@ -3488,7 +3488,7 @@ rounds-enum-told : (t : ℕ) → rounds-lts.Need-enum-told (
 ) (rounds-at t) rounds.Post rounds-Inv-loop rounds-μ-loop
 rounds-enum-told t c = search needs
 
--- src/cycle.rt:130:17  Turn::Short => { ⏎ return Rest::Short;
+-- src/cycle.rt:160:17  Turn::Short => { ⏎ return Rest::Short;
 rounds-same-length : (t : ℕ) → rounds-lts.Need-same-length (
   body-below t,
   body.Post,
@@ -3497,7 +3497,7 @@ rounds-same-length : (t : ℕ) → rounds-lts.Need-same-length (
 ) (rounds-at t) rounds.Post rounds-Inv-loop rounds-μ-loop
 rounds-same-length t c = search needs
 
--- src/cycle.rt:130:17  Turn::Short => { ⏎ return Rest::Short;
+-- src/cycle.rt:160:17  Turn::Short => { ⏎ return Rest::Short;
 rounds-same-length-2 : (t : ℕ) → rounds-lts.Need-same-length-2 (
   body-below t,
   body.Post,
@@ -3506,7 +3506,7 @@ rounds-same-length-2 : (t : ℕ) → rounds-lts.Need-same-length-2 (
 ) (rounds-at t) rounds.Post rounds-Inv-loop rounds-μ-loop
 rounds-same-length-2 t c = search needs
 
--- src/cycle.rt:130:17  Turn::Short => { ⏎ return Rest::Short;
+-- src/cycle.rt:160:17  Turn::Short => { ⏎ return Rest::Short;
 rounds-returns : (t : ℕ) → rounds-lts.Need-returns (
   body-below t,
   body.Post,
@@ -3515,7 +3515,7 @@ rounds-returns : (t : ℕ) → rounds-lts.Need-returns (
 ) (rounds-at t) rounds.Post rounds-Inv-loop rounds-μ-loop
 rounds-returns t c = (round-short (c .before .before .before .before .before .before .before .before .before .before .before .before .args .t .now) (c .before .before .before .before .before .before .before .before .before .before .before .before .args .widths .now) (c .before .before .before .before .before .before .before .before .before .before .before .before .args .d) (c .before .before .before .before .before .before .before .before .before .before .before .before .pre .1 .0) (c .before .before .before .before .before .before .before .before .before .before .before .before .args .a) (c .before .before .before .before .before .before .before .before .before .before .before .before .args .b) (c .before .before .before .before .before .before .before .before .before .before .before .before .args .w) (c .before .before .before .before .before .before .before .before .before .before .before .before .pre .1 .1) (c .before .before .before .before .before .before .before .before .before .before .before .before .pre .1 .2) (c .before .before .before .before .before .before .before .before .before .before .before .before .args .inner .now) (c .before .before .before .before .before .before .before .loop .inner) (c .before .before .before .before .before .before .before .before .before .before .before .before .args .left) (c .before .before .before .before .before .before .before .loop .l) (c .before .before .before .before .before .before .before .loop .inv .0) (c .before .before .before .before .before .before .loop-test .taken) (c .before .before .before .before .before .before .before .loop .values) (c .before .before .before .body .last .1 .1 .1 .1 .1 .0) (rw (c .enum-told .given .1) at (c .before .before .before .body .ensures .0)) (c .before .before .before .before .before .before .before .before .before .before .before .before .args .at) (c .before .before .before .before .before .before .before .before .before .before .before .before .args .out .now) (c .before .before .before .before .before .before .before .loop .out), ap length (c .before .before .before .before .before .before .before .loop .inv .3))
 
--- src/cycle.rt:132:24  } ⏎ Turn::Back(m) => {
+-- src/cycle.rt:162:24  } ⏎ Turn::Back(m) => {
 rounds-enum-known-m : (t : ℕ) → rounds-lts.Need-enum-known-m (
   body-below t,
   body.Post,
@@ -3524,7 +3524,7 @@ rounds-enum-known-m : (t : ℕ) → rounds-lts.Need-enum-known-m (
 ) (rounds-at t) rounds.Post rounds-Inv-loop rounds-μ-loop
 rounds-enum-known-m t c = search needs
 
--- src/cycle.rt:133:31  Turn::Back(m) => { ⏎ copy(out, at, &values, w);
+-- src/cycle.rt:163:31  Turn::Back(m) => { ⏎ copy(out, at, &values, w);
 rounds-slice-aggregate-copy : (t : ℕ) → rounds-lts.Need-slice-aggregate-copy (
   body-below t,
   body.Post,
@@ -3533,7 +3533,7 @@ rounds-slice-aggregate-copy : (t : ℕ) → rounds-lts.Need-slice-aggregate-copy
 ) (rounds-at t) rounds.Post rounds-Inv-loop rounds-μ-loop
 rounds-slice-aggregate-copy t c = search needs
 
--- src/cycle.rt:133:17  Turn::Back(m) => { ⏎ copy(out, at, &values, w);
+-- src/cycle.rt:163:17  Turn::Back(m) => { ⏎ copy(out, at, &values, w);
 rounds-copy-requires : (t : ℕ) → rounds-lts.Need-copy-requires (
   body-below t,
   body.Post,
@@ -3542,7 +3542,7 @@ rounds-copy-requires : (t : ℕ) → rounds-lts.Need-copy-requires (
 ) (rounds-at t) rounds.Post rounds-Inv-loop rounds-μ-loop
 rounds-copy-requires t c κs = (omega (arith, ap length (c .before .before .before .before .before .before .before .before .before .before .loop .inv .3), c .before .before .before .before .before .before .before .before .before .before .before .before .before .before .before .pre .1 .7), omega (arith, c .before .before .before .before .before .before .body .ensures .1, c .before .before .before .before .before .before .before .before .before .before .loop .inv .2, c .before .before .before .before .before .before .before .before .before .before .before .before .before .before .before .pre .1 .3))
 
--- src/cycle.rt:134:17  copy(out, at, &values, w); ⏎ return Rest::Left(m);
+-- src/cycle.rt:164:17  copy(out, at, &values, w); ⏎ return Rest::Left(m);
 rounds-same-length-3 : (t : ℕ) → rounds-lts.Need-same-length-3 (
   body-below t,
   body.Post,
@@ -3551,7 +3551,7 @@ rounds-same-length-3 : (t : ℕ) → rounds-lts.Need-same-length-3 (
 ) (rounds-at t) rounds.Post rounds-Inv-loop rounds-μ-loop
 rounds-same-length-3 t c = search needs
 
--- src/cycle.rt:134:17  copy(out, at, &values, w); ⏎ return Rest::Left(m);
+-- src/cycle.rt:164:17  copy(out, at, &values, w); ⏎ return Rest::Left(m);
 rounds-same-length-4 : (t : ℕ) → rounds-lts.Need-same-length-4 (
   body-below t,
   body.Post,
@@ -3560,7 +3560,7 @@ rounds-same-length-4 : (t : ℕ) → rounds-lts.Need-same-length-4 (
 ) (rounds-at t) rounds.Post rounds-Inv-loop rounds-μ-loop
 rounds-same-length-4 t c = c .before .before .copy .ensures .1 ∙ ap length (c .before .before .before .before .before .before .before .before .before .before .before .before .before .loop .inv .3)
 
--- src/cycle.rt:134:17  copy(out, at, &values, w); ⏎ return Rest::Left(m);
+-- src/cycle.rt:164:17  copy(out, at, &values, w); ⏎ return Rest::Left(m);
 rounds-returns-2 : (t : ℕ) → rounds-lts.Need-returns-2 (
   body-below t,
   body.Post,
@@ -3569,7 +3569,7 @@ rounds-returns-2 : (t : ℕ) → rounds-lts.Need-returns-2 (
 ) (rounds-at t) rounds.Post rounds-Inv-loop rounds-μ-loop
 rounds-returns-2 t c = (subst (λ (z : List ℕ). Told (turns (bodyOf (c .before .before .before .before .before .before .before .before .before .before .before .before .before .before .before .before .before .before .args .t .now) (c .before .before .before .before .before .before .before .before .before .before .before .before .before .before .before .before .before .before .args .d)) (c .before .before .before .before .before .before .before .before .before .before .before .before .before .before .before .before .before .before .args .a) (c .before .before .before .before .before .before .before .before .before .before .before .before .before .before .before .before .before .before .args .b) (envOf (c .before .before .before .before .before .before .before .before .before .before .before .before .before .before .before .before .before .before .args .inner .now)) (envOf (c .before .before .before .before .before .before .before .before .before .before .before .before .before .before .before .before .before .before .args .inner .now)) (c .before .before .before .before .before .before .before .before .before .before .before .before .before .before .before .before .before .before .args .left)) (Left (c .before .before .before .before .before .before .m .given .0 .0)) (c .before .before .before .before .before .before .before .before .before .before .before .before .before .before .before .before .before .before .args .at) (c .before .before .before .before .before .before .before .before .before .before .before .before .before .before .before .before .before .before .args .out .now) z) (sym (c .before .before .copy .ensures .0 ∙ ap (λ (z : List ℕ). paste z (c .before .before .before .before .before .before .before .before .before .before .before .before .before .before .before .before .before .before .args .at) (c .before .before .before .before .before .before .before .before .before .body .last .1 .1 .1 .1 .1 .0) (c .before .before .before .before .before .before .before .before .before .before .before .before .before .before .before .before .before .before .args .w)) (c .before .before .before .before .before .before .before .before .before .before .before .before .before .loop .inv .3))) (round-back (c .before .before .before .before .before .before .before .before .before .before .before .before .before .before .before .before .before .before .args .t .now) (c .before .before .before .before .before .before .before .before .before .before .before .before .before .before .before .before .before .before .args .widths .now) (c .before .before .before .before .before .before .before .before .before .before .before .before .before .before .before .before .before .before .args .d) (c .before .before .before .before .before .before .before .before .before .before .before .before .before .before .before .before .before .before .pre .1 .0) (c .before .before .before .before .before .before .before .before .before .before .before .before .before .before .before .before .before .before .args .a) (c .before .before .before .before .before .before .before .before .before .before .before .before .before .before .before .before .before .before .args .b) (c .before .before .before .before .before .before .before .before .before .before .before .before .before .before .before .before .before .before .args .w) (c .before .before .before .before .before .before .before .before .before .before .before .before .before .before .before .before .before .before .pre .1 .1) (c .before .before .before .before .before .before .before .before .before .before .before .before .before .before .before .before .before .before .pre .1 .2) (c .before .before .before .before .before .before .before .before .before .before .before .before .before .before .before .before .before .before .args .inner .now) (c .before .before .before .before .before .before .before .before .before .before .before .before .before .loop .inner) (c .before .before .before .before .before .before .before .before .before .before .before .before .before .before .before .before .before .before .args .left) (c .before .before .before .before .before .before .before .before .before .before .before .before .before .loop .l) (c .before .before .before .before .before .before .before .before .before .before .before .before .before .loop .inv .0) (c .before .before .before .before .before .before .before .before .before .before .before .before .loop-test .taken) (c .before .before .before .before .before .before .before .before .before .before .before .before .before .loop .values) (c .before .before .before .before .before .before .before .before .before .body .last .1 .1 .1 .1 .1 .0) (c .before .before .before .before .before .before .m .given .0 .0) (rw (c .before .before .before .before .before .before .m .given .1) at (c .before .before .before .before .before .before .before .before .before .body .ensures .0)) (c .before .before .before .before .before .before .before .before .before .before .before .before .before .before .before .before .before .before .args .at) (c .before .before .before .before .before .before .before .before .before .before .before .before .before .before .before .before .before .before .args .out .now) (c .before .before .before .before .before .before .before .before .before .before .before .before .before .before .before .before .before .before .pre .1 .7) (omega (arith, c .before .before .before .before .before .before .before .before .before .body .ensures .1, c .before .before .before .before .before .before .before .before .before .before .before .before .before .loop .inv .2, c .before .before .before .before .before .before .before .before .before .before .before .before .before .before .before .before .before .before .pre .1 .3))), c .before .before .copy .ensures .1 ∙ ap length (c .before .before .before .before .before .before .before .before .before .before .before .before .before .loop .inv .3))
 
--- src/cycle.rt:136:25  } ⏎ Turn::Again(m) => {
+-- src/cycle.rt:166:25  } ⏎ Turn::Again(m) => {
 rounds-enum-known-m-2 : (t : ℕ) → rounds-lts.Need-enum-known-m-2 (
   body-below t,
   body.Post,
@@ -3578,7 +3578,7 @@ rounds-enum-known-m-2 : (t : ℕ) → rounds-lts.Need-enum-known-m-2 (
 ) (rounds-at t) rounds.Post rounds-Inv-loop rounds-μ-loop
 rounds-enum-known-m-2 t c = search needs
 
--- src/cycle.rt:137:32  Turn::Again(m) => { ⏎ copy(inner, a, &values, b);
+-- src/cycle.rt:167:32  Turn::Again(m) => { ⏎ copy(inner, a, &values, b);
 rounds-slice-aggregate-copy-2 : (t : ℕ) → rounds-lts.Need-slice-aggregate-copy-2 (
   body-below t,
   body.Post,
@@ -3587,7 +3587,7 @@ rounds-slice-aggregate-copy-2 : (t : ℕ) → rounds-lts.Need-slice-aggregate-co
 ) (rounds-at t) rounds.Post rounds-Inv-loop rounds-μ-loop
 rounds-slice-aggregate-copy-2 t c = search needs
 
--- src/cycle.rt:137:17  Turn::Again(m) => { ⏎ copy(inner, a, &values, b);
+-- src/cycle.rt:167:17  Turn::Again(m) => { ⏎ copy(inner, a, &values, b);
 rounds-copy-requires-2 : (t : ℕ) → rounds-lts.Need-copy-requires-2 (
   body-below t,
   body.Post,
@@ -3596,7 +3596,7 @@ rounds-copy-requires-2 : (t : ℕ) → rounds-lts.Need-copy-requires-2 (
 ) (rounds-at t) rounds.Post rounds-Inv-loop rounds-μ-loop
 rounds-copy-requires-2 t c κs = search needs
 
--- src/cycle.rt:127:5  let mut l = left; ⏎ while 0 < l {
+-- src/cycle.rt:157:5  let mut l = left; ⏎ while 0 < l {
 rounds-loop-less : (t : ℕ) → rounds-lts.Need-loop-less (
   body-below t,
   body.Post,
@@ -3605,7 +3605,7 @@ rounds-loop-less : (t : ℕ) → rounds-lts.Need-loop-less (
 ) (rounds-at t) rounds.Post rounds-Inv-loop rounds-μ-loop
 rounds-loop-less t c = round-again (c .before .before .before .before .before .before .before .before .before .before .before .before .before .before .before .before .before .before .args .t .now) (c .before .before .before .before .before .before .before .before .before .before .before .before .before .before .before .before .before .before .args .widths .now) (c .before .before .before .before .before .before .before .before .before .before .before .before .before .before .before .before .before .before .args .d) (c .before .before .before .before .before .before .before .before .before .before .before .before .before .before .before .before .before .before .pre .1 .0) (c .before .before .before .before .before .before .before .before .before .before .before .before .before .before .before .before .before .before .args .a) (c .before .before .before .before .before .before .before .before .before .before .before .before .before .before .before .before .before .before .args .b) (c .before .before .before .before .before .before .before .before .before .before .before .before .before .before .before .before .before .before .args .w) (c .before .before .before .before .before .before .before .before .before .before .before .before .before .before .before .before .before .before .pre .1 .1) (c .before .before .before .before .before .before .before .before .before .before .before .before .before .before .before .before .before .before .pre .1 .2) (c .before .before .before .before .before .before .before .before .before .before .before .before .before .before .before .before .before .before .args .inner .now) (c .before .before .before .before .before .before .before .before .before .before .before .before .before .loop .inner) (c .before .before .before .before .before .before .before .before .before .before .before .before .before .before .before .before .before .before .args .left) (c .before .before .before .before .before .before .before .before .before .before .before .before .before .loop .l) (c .before .before .before .before .before .before .before .before .before .before .before .before .before .loop .inv .0) (c .before .before .before .before .before .before .before .before .before .before .before .before .loop-test .taken) (c .before .before .before .before .before .before .before .before .before .before .before .before .before .loop .values) (c .before .before .before .before .before .before .before .before .before .body .last .1 .1 .1 .1 .1 .0) (c .before .before .before .before .before .before .m2 .given .0 .0) (rw (c .before .before .before .before .before .before .m2 .given .1) at (c .before .before .before .before .before .before .before .before .before .body .ensures .0)) (omega (arith, c .before .before .before .before .before .before .before .before .before .before .before .before .before .loop .inv .1, c .before .before .before .before .before .before .before .before .before .before .before .before .before .before .before .before .before .before .pre .1 .5)) (omega (arith, c .before .before .before .before .before .before .before .before .before .body .ensures .1, c .before .before .before .before .before .before .before .before .before .before .before .before .before .loop .inv .2, c .before .before .before .before .before .before .before .before .before .before .before .before .before .before .before .before .before .before .pre .1 .4)) .1
 
--- src/cycle.rt:127:5  let mut l = left; ⏎ while 0 < l {
+-- src/cycle.rt:157:5  let mut l = left; ⏎ while 0 < l {
 rounds-loop-again : (t : ℕ) → rounds-lts.Need-loop-again (
   body-below t,
   body.Post,
@@ -3614,7 +3614,7 @@ rounds-loop-again : (t : ℕ) → rounds-lts.Need-loop-again (
 ) (rounds-at t) rounds.Post rounds-Inv-loop rounds-μ-loop
 rounds-loop-again t c = (subst (λ (z : List ℕ). Turning (bodyOf (c .before .before .before .before .before .before .before .before .before .before .before .before .before .before .before .before .before .before .args .t .now) (c .before .before .before .before .before .before .before .before .before .before .before .before .before .before .before .before .before .before .args .d)) (c .before .before .before .before .before .before .before .before .before .before .before .before .before .before .before .before .before .before .args .a) (c .before .before .before .before .before .before .before .before .before .before .before .before .before .before .before .before .before .before .args .b) (c .before .before .before .before .before .before .before .before .before .before .before .before .before .before .before .before .before .before .args .inner .now) z (c .before .before .before .before .before .before .before .before .before .before .before .before .before .before .before .before .before .before .args .left) (c .before .before .before .before .before .before .m2 .given .0 .0)) (sym (c .before .before .copy2 .ensures .0)) (round-again (c .before .before .before .before .before .before .before .before .before .before .before .before .before .before .before .before .before .before .args .t .now) (c .before .before .before .before .before .before .before .before .before .before .before .before .before .before .before .before .before .before .args .widths .now) (c .before .before .before .before .before .before .before .before .before .before .before .before .before .before .before .before .before .before .args .d) (c .before .before .before .before .before .before .before .before .before .before .before .before .before .before .before .before .before .before .pre .1 .0) (c .before .before .before .before .before .before .before .before .before .before .before .before .before .before .before .before .before .before .args .a) (c .before .before .before .before .before .before .before .before .before .before .before .before .before .before .before .before .before .before .args .b) (c .before .before .before .before .before .before .before .before .before .before .before .before .before .before .before .before .before .before .args .w) (c .before .before .before .before .before .before .before .before .before .before .before .before .before .before .before .before .before .before .pre .1 .1) (c .before .before .before .before .before .before .before .before .before .before .before .before .before .before .before .before .before .before .pre .1 .2) (c .before .before .before .before .before .before .before .before .before .before .before .before .before .before .before .before .before .before .args .inner .now) (c .before .before .before .before .before .before .before .before .before .before .before .before .before .loop .inner) (c .before .before .before .before .before .before .before .before .before .before .before .before .before .before .before .before .before .before .args .left) (c .before .before .before .before .before .before .before .before .before .before .before .before .before .loop .l) (c .before .before .before .before .before .before .before .before .before .before .before .before .before .loop .inv .0) (c .before .before .before .before .before .before .before .before .before .before .before .before .loop-test .taken) (c .before .before .before .before .before .before .before .before .before .before .before .before .before .loop .values) (c .before .before .before .before .before .before .before .before .before .body .last .1 .1 .1 .1 .1 .0) (c .before .before .before .before .before .before .m2 .given .0 .0) (rw (c .before .before .before .before .before .before .m2 .given .1) at (c .before .before .before .before .before .before .before .before .before .body .ensures .0)) (omega (arith, c .before .before .before .before .before .before .before .before .before .before .before .before .before .loop .inv .1, c .before .before .before .before .before .before .before .before .before .before .before .before .before .before .before .before .before .before .pre .1 .5)) (omega (arith, c .before .before .before .before .before .before .before .before .before .body .ensures .1, c .before .before .before .before .before .before .before .before .before .before .before .before .before .loop .inv .2, c .before .before .before .before .before .before .before .before .before .before .before .before .before .before .before .before .before .before .pre .1 .4)) .0), c .before .before .copy2 .ensures .1 ∙ c .before .before .before .before .before .before .before .before .before .before .before .before .before .loop .inv .1, c .before .before .before .before .before .before .before .before .before .body .ensures .1 ∙ c .before .before .before .before .before .before .before .before .before .before .before .before .before .loop .inv .2, c .before .before .before .before .before .before .before .before .before .before .before .before .before .loop .inv .3)
 
--- src/cycle.rt:121:1  // w values go to the words of `out` from `at` on. ⏎ fn rounds(t: &[u32], widths: &[u8], d: usize, w: usize, a: usize, b: usize, inner: &mut [u64], out: &mut [u64], at: usize, left: u32) -> Rest
+-- src/cycle.rt:140:1  // w values go to the words of `out` from `at` on. ⏎ fn rounds(
 rounds-same-length-5 : (t : ℕ) → rounds-lts.Need-same-length-5 (
   body-below t,
   body.Post,
@@ -3623,7 +3623,7 @@ rounds-same-length-5 : (t : ℕ) → rounds-lts.Need-same-length-5 (
 ) (rounds-at t) rounds.Post rounds-Inv-loop rounds-μ-loop
 rounds-same-length-5 t c = search needs
 
--- src/cycle.rt:121:1  // w values go to the words of `out` from `at` on. ⏎ fn rounds(t: &[u32], widths: &[u8], d: usize, w: usize, a: usize, b: usize, inner: &mut [u64], out: &mut [u64], at: usize, left: u32) -> Rest
+-- src/cycle.rt:140:1  // w values go to the words of `out` from `at` on. ⏎ fn rounds(
 rounds-same-length-6 : (t : ℕ) → rounds-lts.Need-same-length-6 (
   body-below t,
   body.Post,
@@ -3632,7 +3632,7 @@ rounds-same-length-6 : (t : ℕ) → rounds-lts.Need-same-length-6 (
 ) (rounds-at t) rounds.Post rounds-Inv-loop rounds-μ-loop
 rounds-same-length-6 t c = search needs
 
--- src/cycle.rt:121:1  // w values go to the words of `out` from `at` on. ⏎ fn rounds(t: &[u32], widths: &[u8], d: usize, w: usize, a: usize, b: usize, inner: &mut [u64], out: &mut [u64], at: usize, left: u32) -> Rest
+-- src/cycle.rt:140:1  // w values go to the words of `out` from `at` on. ⏎ fn rounds(
 rounds-returns-3 : (t : ℕ) → rounds-lts.Need-returns-3 (
   body-below t,
   body.Post,

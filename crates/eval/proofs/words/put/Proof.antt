@@ -7,19 +7,19 @@ use Rattle.eval.proofs.words.put_word.Reads as put-word-reads
 use Rattle.eval.proofs.words.word.Reads as word-reads
 use mathlib.Core.Path.{_≡_, refl, sym, _∙_}
 
--- src/words.rt:49:23  { ⏎ put_word(out, at, word(v));
+-- src/words.rt:45:23  { ⏎ put_word(out, at, word(v));
 word-requires : tie.Need-word-requires
 word-requires c κs = search needs
 
--- src/words.rt:49:5  { ⏎ put_word(out, at, word(v));
+-- src/words.rt:45:5  { ⏎ put_word(out, at, word(v));
 put-word-requires : tie.Need-put-word-requires
 put-word-requires c κs = search needs
 
--- src/words.rt:45:1  } ⏎ pub fn put(out: &mut [u64], at: usize, v: Value)
+-- src/words.rt:41:1  } ⏎ pub fn put(out: &mut [u64], at: usize, v: Value)
 same-length : tie.Need-same-length
 same-length c = search needs
 
--- src/words.rt:45:1  } ⏎ pub fn put(out: &mut [u64], at: usize, v: Value)
+-- src/words.rt:41:1  } ⏎ pub fn put(out: &mut [u64], at: usize, v: Value)
 returns : tie.Need-returns
 returns c = (rw (sym (c .before .before .before .word .ensures)) (c .before .before .put-word .ensures .0), c .before .before .put-word .ensures .1)
 

@@ -8,19 +8,19 @@ use mathlib.Core.Path.{_≡_, refl, sym, _∙_, ap}
 use mir.Syntax.{w32}
 use mir.Facts.{toZ-pos}
 
--- src/words.rt:64:31  { ⏎ put(out, at, Value::Whole(a as i32));
+-- src/words.rt:60:31  { ⏎ put(out, at, Value::Whole(a as i32));
 cast-t7 : tie.Need-cast-t7
 cast-t7 c = search needs
 
--- src/words.rt:64:5  { ⏎ put(out, at, Value::Whole(a as i32));
+-- src/words.rt:60:5  { ⏎ put(out, at, Value::Whole(a as i32));
 put-requires : tie.Need-put-requires
 put-requires c κs = search needs
 
--- src/words.rt:60:1  } ⏎ pub fn put_whole(out: &mut [u64], at: usize, a: u32)
+-- src/words.rt:56:1  } ⏎ pub fn put_whole(out: &mut [u64], at: usize, a: u32)
 same-length : tie.Need-same-length
 same-length c = search needs
 
--- src/words.rt:60:1  } ⏎ pub fn put_whole(out: &mut [u64], at: usize, a: u32)
+-- src/words.rt:56:1  } ⏎ pub fn put_whole(out: &mut [u64], at: usize, a: u32)
 returns : tie.Need-returns
 returns c = (rw (sym (toZ-pos w32 {n = c .before .before .before .before .before .args .a} (c .before .before .before .before .before .pre .1))) (c .before .before .put .ensures .0), c .before .before .put .ensures .1)
 
