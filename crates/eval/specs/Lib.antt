@@ -1,0 +1,7 @@
+pub mod Words
+pub mod Needs
+pub mod Told
+pub mod ToldBody
+pub mod Evaluate
+pub mod Inputs
+pub mod Conclude
