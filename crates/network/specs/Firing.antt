@@ -1,6 +1,6 @@
 -- Doing what a decision says is the firing on the network: pop the inputs that are taken, append what is given on the output links, store the
--- register. With it a machine that decides by the first waiting tokens and the theory of networks share the one table of rules, and with
--- decide-outcome and history-law a firing on links does what Brock's history rules say.
+-- register. With it a machine that decides by the first waiting tokens and the theory of networks share the one table of rules;
+-- FiringHistory.antt gets from it that a firing on links does what Brock's history rules say.
 -- Assumes of the operator's links that two inputs on which tokens wait are different (an absent input is a link on which nothing ever waits).
 use Prim.Native.Nat.{ℕ, _<_, _≤_}
 use mathlib.Core.Path.{_≡_, refl, sym, _∙_, ap, ap₂, subst, fun-ext}
