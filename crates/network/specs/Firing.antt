@@ -1,6 +1,6 @@
 -- Doing what a decision says is the firing on the network: pop the inputs that are taken, append what is given on the output links, store the
--- register. With it a machine that decides by the first waiting tokens and the theory of networks share the one table of rules, and with
--- decide-outcome and history-law a firing on links does what Brock's history rules say.
+-- register. With it a machine that decides by the first waiting tokens and the theory of networks share the one table of rules;
+-- FiringHistory.antt gets from it that a firing on links does what Brock's history rules say.
 -- Assumes of the operator's links that two inputs on which tokens wait are different (an absent input is a link on which nothing ever waits).
 use Prim.Native.Nat.{ℕ, _<_, _≤_}
 use mathlib.Core.Path.{_≡_, refl, sym, _∙_, ap, ap₂, subst, fun-ext}
@@ -49,7 +49,7 @@ abbrev pub Took : Ports → Links → Taken → Type 0
 Took p q t =
     (t .take1 ≡ true → 0 < length (q (p .in1))) × (t .take2 ≡ true → 0 < length (q (p .in2))) × (t .take3 ≡ true → 0 < length (q (p .in3)))
 
-pop-if-other : (b : Bool) (l j : ℕ) (q : Links) → (b ≡ true → j ≢ l) → pop-if b l q j ≡ q j
+pub pop-if-other : (b : Bool) (l j : ℕ) (q : Links) → (b ≡ true → j ≢ l) → pop-if b l q j ≡ q j
 pop-if-other true l j q h = pop-other l j q (h refl)
 pop-if-other false l j q h = refl
 
@@ -65,14 +65,14 @@ abbrev Is-some : {A : Type 0} → Option A → Type 0
 Is-some none = ⊥
 Is-some (some x) = Unit {0}
 
-none-is-not-some : {A : Type 0} (x : A) → none ≡ some x → ⊥
+pub none-is-not-some : {A : Type 0} (x : A) → none ≡ some x → ⊥
 none-is-not-some x e = subst Is-some (sym e) tt
 
 or-else : {A : Type 0} → A → Option A → A
 or-else x none = x
 or-else x (some y) = y
 
-some-same : {A : Type 0} (x y : A) → some x ≡ some y → x ≡ y
+pub some-same : {A : Type 0} (x y : A) → some x ≡ some y → x ≡ y
 unfolding or-else
 some-same x y e = ap (or-else x) e
 
@@ -80,19 +80,20 @@ some-same x y e = ap (or-else x) e
 unset : {A : Type 0} (b : Bool) → b ≡ false → b ≡ true → A
 unset b e f = absurd (false≢true (sym e ∙ f))
 
-module _ (keep : Register → List (ℕ × Token)) (p : Ports) (q : Links) (ap! : Apart p q) where
-  took-also : (i : Input) (t : Taken) → Took p q t → 0 < length (q (input p i)) → Took p q (also i t)
+module _ (p : Ports) (q : Links) where
+  pub took-also : (i : Input) (t : Taken) → Took p q t → 0 < length (q (input p i)) → Took p q (also i t)
   took-also first t k h = (λ e. h, k .1, k .2)
   took-also second t k h = (k .0, λ e. h, k .2)
   took-also third t k h = (k .0, k .1, λ e. h)
 
-  gone-shortens : (t : Taken) (j : ℕ) → length (gone t p q j) ≤ length (q j)
+  pub gone-shortens : (t : Taken) (j : ℕ) → length (gone t p q j) ≤ length (q j)
   gone-shortens t j =
       let a = pop-if-shortens (t .take1) (p .in1) j q in
       let b = pop-if-shortens (t .take2) (p .in2) j (pop-if (t .take1) (p .in1) q) in
       let c = pop-if-shortens (t .take3) (p .in3) j (pop-if (t .take2) (p .in2) (pop-if (t .take1) (p .in1) q)) in
       omega arith
 
+module _ (keep : Register → List (ℕ × Token)) (p : Ports) (q : Links) (ap! : Apart p q) where
   -- An input not yet taken is as it was.
   gone-head : (i : Input) (t : Taken) → is-taken t i ≡ false → Took p q t → 0 < length (q (input p i)) → gone t p q (input p i) ≡ q (input p i)
   gone-head first t f k h =
@@ -131,7 +132,7 @@ module _ (keep : Register → List (ℕ × Token)) (p : Ports) (q : Links) (ap! 
       go ih [] w e = absurd (none-is-not-some d e)
       go ih (x ∷ ts) w e =
           ap₂ (λ (v : Value) (r : Links). act (wire keep p (k v)) r) (finds i t x ts (o .0) tk w) (gone-also i t (o .0))
-          ∙ ih (value-of x) (took-also i t tk (rw w (omega arith))) e
+          ∙ ih (value-of x) (took-also p q i t tk (rw w (omega arith))) e
   act-decided (gives a b c g) t d o tk =
       λ e. ap (performed keep p q) (some-same (record { taken = t; give1 = a; give2 = b; give3 = c; register = g }) d e)
   act-decided never t d o tk = λ e. absurd (none-is-not-some d e)
@@ -146,9 +147,9 @@ module _ (keep : Register → List (ℕ × Token)) (p : Ports) (q : Links) (ap! 
             (d : Decision) × (decided (also i t) (k v) (heads p q) ≡ some d) × Roomy cap keep p q d) → (ts : List Token) → q (input p i) ≡ ts →
             (0 < length (gone t p q (input p i))) × Able cap (wire keep p (k (value-of (head (gone t p q (input p i)))))) (pop (input p i) (gone t p q)) →
             (d : Decision) × (with-head (first-token ts) (λ v. decided (also i t) (k v) (heads p q)) ≡ some d) × Roomy cap keep p q d
-        go ih [] w a = absurd (omega (arith, gone-shortens t (input p i), ap length w))
+        go ih [] w a = absurd (omega (arith, gone-shortens p q t (input p i), ap length w))
         go ih (x ∷ ts) w a =
-            ih (value-of x) (took-also i t tk (rw w (omega arith)))
+            ih (value-of x) (took-also p q i t tk (rw w (omega arith)))
             (subst (λ r. Able cap (wire keep p (k (value-of x))) r) (gone-also i t (o .0))
             (subst (λ v. Able cap (wire keep p (k v)) (pop (input p i) (gone t p q))) (finds i t x ts (o .0) tk w) (a .1)))
     able-decided (gives a b c g) t o tk = λ r. (record { taken = t; give1 = a; give2 = b; give3 = c; register = g }, refl, r)
@@ -167,7 +168,7 @@ module _ (keep : Register → List (ℕ × Token)) (p : Ports) (q : Links) (ap! 
               rw (gone-head i t (o .0) tk h) h,
               subst (λ v. Able cap (wire keep p (k v)) (pop (input p i) (gone t p q))) (sym (finds i t x ts (o .0) tk w))
                   (subst (λ r. Able cap (wire keep p (k (value-of x))) r) (sym (gone-also i t (o .0)))
-                  (ih (value-of x) (took-also i t tk h) e r)),
+                  (ih (value-of x) (took-also p q i t tk h) e r)),
             )
     decided-able (gives a b c g) t d o tk =
         λ e r. subst (Roomy cap keep p q) (sym (some-same (record { taken = t; give1 = a; give2 = b; give3 = c; register = g }) d e)) r
@@ -202,16 +203,16 @@ apart-popped p q l a =
     waits : (j : ℕ) → 0 < length (pop l q j) → 0 < length (q j)
     waits j h = omega (arith, pop-shortens l j q)
 
-apart-unregistered : (b : Bool) (p : Ports) (q : Links) → Apart p q → Apart p (unregistered b p q)
+pub apart-unregistered : (b : Bool) (p : Ports) (q : Links) → Apart p q → Apart p (unregistered b p q)
 apart-unregistered true p q a = apart-popped p q (p .register) a
 apart-unregistered false p q a = a
 
-heads-unregistered : (b : Bool) (p : Ports) (q : Links) → Own-register b p → heads p (unregistered b p q) ≡ heads p q
+pub heads-unregistered : (b : Bool) (p : Ports) (q : Links) → Own-register b p → heads p (unregistered b p q) ≡ heads p q
 heads-unregistered true p q o = fun-ext (λ i. ap first-token (pop-other (p .register) (input p i) q (o i)))
 heads-unregistered false p q o = refl
 
 -- nothing taken yet
-none-took : (p : Ports) (q : Links) → Took p q untouched
+pub none-took : (p : Ports) (q : Links) → Took p q untouched
 none-took p q = (λ e. unset false refl e, λ e. unset false refl e, λ e. unset false refl e)
 
 -- The links after the decision of an operator was carried out, and the room that it needs.

@@ -1,8 +1,8 @@
--- Brock's history rules (section 3.2, "The Semantic Specification of the Data Flow Operators"), line by line and in his order, on finite
--- histories: lists of the values that came over a port, the earliest first. Written from his page, not from the firing rules; HistoryLaw.antt
--- has that they agree. A control history is read by what its values are as controls: his `true`, `false` and `x ∉ {true, false}`.
--- Document 01's corrections: F continues as F, FM continues as M, E gives err on a bad control. A rule that depends on what went before
--- takes the state reached, as his own rules S_z do for FS.
+-- Brock's history rules (section 3.2, "The Semantic Specification of the Data Flow Operators"), line by line and in his order (but S_z
+-- stands before the FS rule that uses it), on finite histories: lists of the values that came over a port, the earliest first. Written from
+-- his page, not from the firing rules; HistoryLaw.antt has that they agree. A control history is read by what its values are as controls:
+-- his `true`, `false` and `x ∉ {true, false}`. Document 01's corrections: F continues as F, FM continues as M, E gives err on a bad control.
+-- A rule that depends on what went before takes the state reached, as his own rules S_z do for FS.
 use Prim.Native.Nat.{ℕ}
 use mathlib.Core.Bool.{Bool, true, false}
 use mathlib.Core.List.{List, [], _∷_}
@@ -99,7 +99,8 @@ abbrev pub FS-history : List Sense → History → History
 FS-history xs [] = []
 FS-history xs (y ∷ ys) = y ∷ S-history y xs ys
 
--- O[IC gate]; the lines of a chosen iter? that is no truth are document 01's, for altered memory
+-- O[IC gate]. The last two lines are in neither paper: a chosen iter? that is no truth, met in altered memory only, is read as false here,
+-- as document 02, Job 4 later asks.
 abbrev pub IC-history : List Sense → List Sense → List Sense → Outputs
 IC-history [] ys zs = silence
 IC-history (is-true ∷ xs) [] zs = silence

@@ -9,6 +9,8 @@ pub mod Wired
 pub mod Fill
 pub mod Decide
 pub mod Firing
+pub mod FiringLinks
 pub mod FiringHistory
+pub mod FiringSample
 pub mod Ends
 pub mod Uses

@@ -1,6 +1,6 @@
 -- Loads: which tokens lie on which links. A state is a load put upon a base that is empty there; all reasoning about schedules is rewriting of
 -- loads, and what is not in the load is in the base, which nothing touches. A register, a waiting control and a datum are all load.
--- Blocks of a load that share no link may change places; that they share none comes from colours of links, compared as numerals.
+-- Blocks of a load that share no link may change places; where links have colours, that they share none is computed from numerals.
 use Prim.Native.Nat.{ℕ, zero, suc, _+_}
 use mathlib.Core.Path.{_≡_, refl, sym, _∙_, ap, fun-ext}
 use mathlib.Core.Logic.{_≢_, ite, _⊎_, inl, inr, ⊎-elim}

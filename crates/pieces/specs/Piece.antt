@@ -1,6 +1,7 @@
 -- The schedule lemma as a statement (`Serves`), for every piece of a graph at any width: from any idle load and the values on its inputs, a
 -- schedule to the values on its outputs with the piece idle again, or as many firings as anyone asks where the rounds do not suffice.
--- A piece is known by its links alone; no numbering and no translation appears. What the other files prove of a kind of piece is `Serves`.
+-- A piece is known by its links alone; no numbering and no translation appears. That the graph of a formula has it is proved in
+-- crate reference (WholeGraph.antt).
 use Prim.Native.Nat.{ℕ, _≤_, _+_}
 use mathlib.Core.Path.{_≡_, refl, ap, subst}
 use mathlib.Core.Logic.{_⊎_, inl, inr, ⊎-elim}
@@ -36,7 +37,8 @@ load (l ∷ ls) (v ∷ vs) = (l, token-of v) ∷ load ls vs
 -- A piece of a graph. Its interface is two lists of links; a bare identifier has the same link in both. `own` are the links that nobody
 -- else uses: the inner links, the control links of its FM and FS gates and their registers (a register is a link that its gate alone
 -- takes from and puts onto and that holds one token: the mark before the first firing, then the register's value).
--- `Idle` are the loads of the own links between two sets: everything empty but the registers, and each FM and FS ready (Loop.antt).
+-- `Idle` are the loads of the own links between two sets: everything empty but the registers, and each FM and FS ready (never
+-- fired, or with one false on its control).
 pub record Piece : Type 1 where
   pub ins : List ℕ
   pub outs : List ℕ

@@ -1,1 +1,1 @@
-// Nothing runs here: the crate holds theory only (specs/): the schedule of one set through each piece of a graph, and demand 3 from it.
+// Nothing runs here: the crate holds theory only (specs/): the schedule lemma as a statement about a piece of a graph, and demand 3 from it.
