@@ -3,7 +3,7 @@
 -- is applied to the tokens that wait on the operator's inputs before and after, each time with the register that is held then.
 -- Assumes of the operator that it names no link twice (`Own-links`, document 01's refusal 31) and that its register is where `Holds` says.
 use Prim.Native.Nat.{ℕ, _+_}
-use mathlib.Core.Path.{_≡_, refl, sym, _∙_, ap, ap₂, subst, fun-ext}
+use mathlib.Core.Path.{_≡_, refl, sym, _∙_, ap, subst, fun-ext}
 use mathlib.Core.Bool.{Bool, true, false}
 use mathlib.Core.List.{List, [], _∷_, _++_}
 use mathlib.Core.Option.{Option, none, some}

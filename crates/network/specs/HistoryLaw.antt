@@ -1,6 +1,7 @@
 -- Towards demand 2's "just what his history rules say for the next tokens": the firing rules of Rules.antt agree with Brock's history rules, on
--- histories; FiringHistory.antt says it of links. One statement over every kind of operator, every register and every input history: the output histories are those that the firing of the rule emits, followed by the output
--- histories of what it leaves, with the register it leaves; and where a token that the rule wants is not there, they are empty.
+-- histories; FiringHistory.antt says it of links. One statement over every kind of operator, every register and every input history: the
+-- output histories are those that the firing of the rule emits, followed by the output histories of what it leaves, with the register it
+-- leaves; and where a token that the rule wants is not there, they are empty.
 use Prim.Native.Nat.{ℕ}
 use mathlib.Core.Path.{_≡_, refl, sym, ap}
 use mathlib.Core.Bool.{Bool, true, false}

@@ -1,6 +1,6 @@
 -- Networks of links. Document 01, "The graph": "An operator fires only when every token listed waits and each link it emits on has a free
--- place". Push and take ("Running") are treated as operators of the same kind (Ends.antt). A link is the queue of its waiting tokens, the oldest first;
--- a state is the links alone, since a register is a link that its gate alone takes from and puts onto and that holds one token.
+-- place". Push and take ("Running") are treated as operators of the same kind (Ends.antt). A link is the queue of its waiting tokens, the
+-- oldest first; a state is the links alone, since a register is a link that its gate alone takes from and puts onto and that holds one token.
 -- Links are total functions of their numbers, so no bound appears; a capacity is a function of the link.
 use Prim.Native.Nat.{ℕ, _<_, _≤_, _+_}
 use mathlib.Core.Path.{_≡_, refl, sym, _∙_, fun-ext}
