@@ -6,5 +6,8 @@ pub mod Free
 pub mod Count
 pub mod Places
 pub mod Tests
+pub mod TestLaws
+pub mod SheetLaws
 pub mod TreeLaws
 pub mod Admitted
+pub mod PlaceLaws

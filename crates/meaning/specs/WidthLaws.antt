@@ -15,6 +15,7 @@ use Rattle.value.specs.Operators.{operands}
 use Rattle.formula.specs.Tree.{Exp, identifier, whole, truth, pair, operator, letE, ifE, forE, Body, ret, iter, letB, ifB}
 use Rattle.formula.specs.Widths.{width, returned, iterated, either, agree, fittingE, fittingB, wideE, wideB}
 use Rattle.formula.specs.TreeLaws.{and-true}
+use Rattle.formula.specs.Admitted.{AdmittedE, AdmittedB}
 use Rattle.meaning.specs.Meaning.{Env, bind, Outcome, yields, Ending, again, returns, then, thenB, after, enter, loop, branch, evalE, evalB}
 
 -- ---- what test 8 says of a node, as equations
@@ -264,3 +265,22 @@ mutual
       (arm-sized (iterated x) _ w (evalB x w env l₁) (on .0) (sized-B x (s .2) w (back .0) env l₁))
       (arm-sized (iterated y) _ w (evalB y w env l₁) (on .1) (sized-B y (s .3) w (back .1) env l₁))
       )
+
+-- ---- an admitted tree is sound
+
+mutual
+  pub admitted-sound : (x : Exp) → AdmittedE x → SoundE x
+  admitted-sound (identifier a) h = tt
+  admitted-sound (whole a) h = tt
+  admitted-sound (truth a) h = tt
+  admitted-sound (pair x y) h = (h .0 .0, admitted-sound x (h .1), admitted-sound y (h .2))
+  admitted-sound (operator k x) h = (h .0 .0, admitted-sound x (h .2))
+  admitted-sound (letE a b x y) h = (h .0 .0, admitted-sound x (h .2), admitted-sound y (h .3))
+  admitted-sound (ifE t x y) h = (h .0 .0, admitted-sound t (h .1), admitted-sound x (h .2), admitted-sound y (h .3))
+  admitted-sound (forE a b x y) h = (h .0 .0, admitted-sound x (h .2), admitted-sound-B y (h .3))
+
+  pub admitted-sound-B : (y : Body) → AdmittedB y → SoundB y
+  admitted-sound-B (ret x) h = admitted-sound x (h .1)
+  admitted-sound-B (iter x) h = (h .0 .0, admitted-sound x (h .1))
+  admitted-sound-B (letB a b x y) h = (h .0 .0, admitted-sound x (h .2), admitted-sound-B y (h .3))
+  admitted-sound-B (ifB t x y) h = (h .0 .0, admitted-sound t (h .1), admitted-sound-B x (h .2), admitted-sound-B y (h .3))
