@@ -24,8 +24,8 @@ use Rattle.graph.specs.Fit.{Fit}
 use Rattle.reference.specs.Plan.{Between, Envs}
 use Rattle.reference.specs.Plugged.{nowhere, registers, link-of, portsOf, demandOf, Each, Numbered, Has, numbered-has}
 use Rattle.reference.specs.Bystanders.{Unused}
-use Rattle.reference.specs.WholeGraph.{whole, yields}
-use Rattle.reference.specs.GraphBench.{ends-apart, graph-bench}
+use Rattle.reference.specs.WholeGraph.{whole, yields, Idle-load}
+use Rattle.reference.specs.GraphBench.{ends-apart, fresh, fresh-is-idle, graph-bench}
 use Rattle.wiring.specs.Links.{optional, inputLinks, outputLinks}
 use Rattle.wiring.specs.Wiring.{Zone, inputsAt, outputsAt, outputs-zone, Wired, wired}
 use Rattle.wiring.specs.Ports.{port, Ported}
@@ -295,3 +295,8 @@ module _ (g : Graph) (n : ℕ) (env : Env) (fit : Fit g) (E : Envs (free g) env 
         (ends-apart g fit n env E room source credit (H .spare-source) (H .spare-credit) (H .source-not-credit)) (netOf ops) push take (net-has ops)
         (spare-unused source (H .spare-source)) (spare-unused credit (H .spare-credit)) (net-past ops push (H .push-past)) (net-past ops take (H .take-past))
         (H .push-not-take)
+
+    -- What start leaves: every register of a loop's gate marked, everything else empty.
+    pub start-idle : Idle-load g n env source credit (fresh g fit n env E room source credit)
+    start-idle =
+        fresh-is-idle g fit n env E room source credit (ends-apart g fit n env E room source credit (H .spare-source) (H .spare-credit) (H .source-not-credit))

@@ -23,16 +23,17 @@ use Rattle.formula.specs.Admitted.{AdmittedE}
 use Rattle.network.specs.Commute.{Free}
 use Rattle.network.specs.Ends.{machine}
 use Rattle.network.specs.Uses.{In}
-use Rattle.pieces.specs.Sets.{Different, Bench}
-use Rattle.pieces.specs.Wiring.{Wiring}
+use Rattle.pieces.specs.Piece.{Piece, Means}
+use Rattle.pieces.specs.Sets.{Different, Bench, net}
+use Rattle.pieces.specs.Wiring.{Wiring, wiring-free}
 use Rattle.graph.specs.Assembly.{Env, Operator, free, upFrom, rank, total, listed, nameCount, linksOf, outputs, operatorsOf}
 use Rattle.graph.specs.Translation.{graphE, portOf, Made, madeOf}
-use Rattle.reference.specs.NameSets.{rank-differs, not-both}
+use Rattle.reference.specs.NameSets.{rank-differs, listed-only, not-both}
 use Rattle.reference.specs.Plan.{Between, Envs}
 use Rattle.reference.specs.Plugged.{nowhere, registers, Each}
-use Rattle.reference.specs.BehindGate.{in-upFrom}
-use Rattle.reference.specs.WrittenOut.{links-of}
-use Rattle.reference.specs.WholeGraph.{whole, yields}
+use Rattle.reference.specs.WrittenOut.{links-of, in-links}
+use Rattle.reference.specs.WholeGraph.{whole, yields, inputs}
+use Rattle.reference.specs.GraphBench.{fresh}
 use Rattle.yields.specs.Naming.{Small}
 use Rattle.yields.specs.Choice.{kept, gone}
 use Rattle.yields.specs.FreeNames.{small-E, free-E}
@@ -41,7 +42,7 @@ use Rattle.wiring.specs.Conservation.{length-outputs}
 use Rattle.wiring.specs.Wiring.{inputsAt, outputsAt, Zone, wired, outputs-different, outputs-zone}
 use Rattle.wiring.specs.Ports.{Ported}
 use Rattle.wiring.specs.PortedGraphs.{ported}
-use Rattle.wiring.specs.Machine.{netOf, TakesAt, PutsAt, Ends, graph-wiring, machine-commutes, bench}
+use Rattle.wiring.specs.Machine.{netOf, TakesAt, PutsAt, Ends, graph-wiring, machine-commutes, bench, start-idle}
 use Rattle.wiring.specs.RowCounts.{total-size}
 use Rattle.wiring.specs.FormulaCounts.{made-operators, made-links-bound}
 
@@ -171,6 +172,19 @@ module _ (x : Exp) (h : AdmittedE x) where
   unfolding madeOf
   result-count = length-outputs (graphE x) n (portOf x) (fit-E x h) ∙ count-E x h
 
+  -- The links of the free names, rising, are push's links.
+  pub whole-inputs : links-of (listed (free (graphE x))) (portOf x) ≡ pushLinks (madeOf x)
+  unfolding madeOf portOf listed below
+  whole-inputs =
+      links-members nameCount 0 0 (free (graphE x)) (portOf x) ports
+      ∙ ap (upFrom 0) (all-names ∙ port-count x)
+    where
+      ports : (i : ℕ) → i < nameCount → free (graphE x) i ≡ true → sizeFrom (0 + i) (freeE x) ≡ 0 + sizeFrom i (free (graphE x))
+      ports i l e = ap (λ (k : ℕ). sizeFrom k (freeE x)) (zero-add i) ∙ sizeFrom-cong i (freeE x) (free (graphE x)) (λ k _. sym (free-E x h k)) ∙ sym (zero-add (sizeFrom i (free (graphE x))))
+
+      all-names : sizeFrom nameCount (free (graphE x)) ≡ size (freeE x)
+      all-names = sym (total-is (free (graphE x))) ∙ total-size (free (graphE x)) (freeE x) (free-E x h) (small-E x h)
+
   -- A link that is neither the graph's nor a register link.
   abbrev pub Spare : ℕ → Type 0
   Spare l = (madeOf x .links ≤ l) × (Between registers (madeOf x .links) l → ⊥)
@@ -201,13 +215,6 @@ module _ (x : Exp) (h : AdmittedE x) where
           all-ported = ported (graphE x) n (portOf x) (fit-E x h) E room;
         }
 
-    ins-below : (l : ℕ) → In l (pushLinks (madeOf x)) → l < n
-    unfolding madeOf
-    ins-below l i = subst (λ k. l < k) (sym (port-count x)) (under l (length (inputsOf x) + bit (freeE x trigger)) (in-upFrom 0 (length (inputsOf x) + bit (freeE x trigger)) l i))
-      where
-        under : (l k : ℕ) → Between 0 k l → l < k
-        under l k b = omega arith
-
     -- Push and take have numbers past the last operator; source and credit link are spare.
     pub record Numbers (push take source credit : ℕ) : Type 0 where
       pub push-past : 1024 ≤ push
@@ -224,7 +231,16 @@ module _ (x : Exp) (h : AdmittedE x) where
           through : (l c k : ℕ) → l ≡ c → c ≤ 1024 → 1024 ≤ k → l ≤ k
           through l c k p q r = omega arith
 
-      made-ends : Ends (graphE x) n (portOf x) (fit-E x h) E room push take source credit (pushLinks (madeOf x))
+      -- the inputs of the piece that the schedule lemma speaks of
+      abbrev pub ins : List ℕ
+      ins = inputs (graphE x) n (portOf x) source credit
+
+      ins-below : (l : ℕ) → In l ins → l < n
+      ins-below l i =
+          let w = in-links (listed (free (graphE x))) (portOf x) l i in
+          subst (λ k. k < n) (sym (w .2)) (E .below (w .0) (listed-only (free (graphE x)) (w .0) (w .1)))
+
+      made-ends : Ends (graphE x) n (portOf x) (fit-E x h) E room push take source credit ins
       unfolding madeOf
       made-ends =
           record {
@@ -238,32 +254,39 @@ module _ (x : Exp) (h : AdmittedE x) where
           }
 
       -- What the maker owes about numbers: one taker and one putter of each link, push and take counted as operators.
+      pub whole-wiring : Wiring (netOf (madeOf x .operators)) push take source credit ins (madeOf x .results) (TakesAt (madeOf x .operators)) (PutsAt (madeOf x .operators))
+      unfolding madeOf
+      whole-wiring = graph-wiring (graphE x) n (portOf x) (fit-E x h) E room push take source credit ins made-ends
+
       pub made-wiring : Wiring (netOf (madeOf x .operators)) push take source credit (pushLinks (madeOf x)) (madeOf x .results) (TakesAt (madeOf x .operators))
           (PutsAt (madeOf x .operators))
-      unfolding madeOf
-      made-wiring = graph-wiring (graphE x) n (portOf x) (fit-E x h) E room push take source credit (pushLinks (madeOf x)) made-ends
+      made-wiring =
+          subst (λ is. Wiring (netOf (madeOf x .operators)) push take source credit is (madeOf x .results) (TakesAt (madeOf x .operators)) (PutsAt (madeOf x .operators)))
+          whole-inputs whole-wiring
 
       -- Any two firings, push and take among them, are free of one another.
       pub made-commutes : (a b : ℕ) → a ≢ b
           → Free (machine (netOf (madeOf x .operators)) push take source credit (pushLinks (madeOf x)) (madeOf x .results) a)
           (machine (netOf (madeOf x .operators)) push take source credit (pushLinks (madeOf x)) (madeOf x .results) b)
+      made-commutes =
+          wiring-free (netOf (madeOf x .operators)) push take source credit (pushLinks (madeOf x)) (madeOf x .results) (TakesAt (madeOf x .operators)) (PutsAt (madeOf x .operators))
+          made-wiring
+
+      -- The piece of the schedule lemma with the network of the made graph: its bench, that its firings commute, and that it is idle at the start.
+      abbrev pub piece : Piece
+      piece = whole (graphE x) n (portOf x) source credit
+
+      abbrev pub meaning : Means
+      meaning = yields (graphE x) n (portOf x) source credit
+
+      pub made-bench : Bench (netOf (madeOf x .operators)) push take source credit piece meaning
       unfolding madeOf
-      made-commutes = machine-commutes (graphE x) n (portOf x) (fit-E x h) E room push take source credit (pushLinks (madeOf x)) made-ends
+      made-bench = bench (graphE x) n (portOf x) (fit-E x h) E room push take source credit ins made-ends
 
-      -- The bench of the schedule lemma, with the network of the made graph.
-      pub made-bench : Bench (netOf (madeOf x .operators)) push take source credit (whole (graphE x) n (portOf x) source credit) (yields (graphE x) n (portOf x) source credit)
+      pub piece-commutes : (a b : ℕ) → a ≢ b
+          → Free (net (netOf (madeOf x .operators)) push take source credit piece meaning a) (net (netOf (madeOf x .operators)) push take source credit piece meaning b)
       unfolding madeOf
-      made-bench = bench (graphE x) n (portOf x) (fit-E x h) E room push take source credit (pushLinks (madeOf x)) made-ends
+      piece-commutes = machine-commutes (graphE x) n (portOf x) (fit-E x h) E room push take source credit ins made-ends
 
-  -- The inputs of that piece are push's links.
-  pub whole-inputs : links-of (listed (free (graphE x))) (portOf x) ≡ pushLinks (madeOf x)
-  unfolding madeOf portOf listed below
-  whole-inputs =
-      links-members nameCount 0 0 (free (graphE x)) (portOf x) ports
-      ∙ ap (upFrom 0) (all-names ∙ port-count x)
-    where
-      ports : (i : ℕ) → i < nameCount → free (graphE x) i ≡ true → sizeFrom (0 + i) (freeE x) ≡ 0 + sizeFrom i (free (graphE x))
-      ports i l e = ap (λ (k : ℕ). sizeFrom k (freeE x)) (zero-add i) ∙ sizeFrom-cong i (freeE x) (free (graphE x)) (λ k _. sym (free-E x h k)) ∙ sym (zero-add (sizeFrom i (free (graphE x))))
-
-      all-names : sizeFrom nameCount (free (graphE x)) ≡ size (freeE x)
-      all-names = sym (total-is (free (graphE x))) ∙ total-size (free (graphE x)) (freeE x) (free-E x h) (small-E x h)
+      pub idle-at-start : piece .Idle (fresh (graphE x) (fit-E x h) n (portOf x) E room source credit)
+      idle-at-start = start-idle (graphE x) n (portOf x) (fit-E x h) E room push take source credit ins made-ends
