@@ -1,1 +1,3 @@
 pub mod Admitting
+pub mod Results
+pub mod Owed
