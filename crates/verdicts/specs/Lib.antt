@@ -1,3 +1,4 @@
 pub mod Admitting
 pub mod Results
 pub mod Owed
+pub mod Running

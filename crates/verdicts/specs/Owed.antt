@@ -191,7 +191,7 @@ module _ (x : Exp) (h : AdmittedE x) where
           (getD v (sizeFrom 32 (freeE x)) Err, at-rank trigger (omega arith) e (omega (arith, trigger-rank, long, one-more))),
     )
 
-    result-fits : (rounds : ℕ) (r : List Value) → evaluation rounds v ≡ some r
+    pub result-fits : (rounds : ℕ) (r : List Value) → evaluation rounds v ≡ some r
         → Fits (pieceOf .outs) r × ((c : ℕ) × meansOf (some-of v) c (some (some-of r)))
     unfolding resultOf
     result-fits rounds r e =
@@ -203,7 +203,7 @@ module _ (x : Exp) (h : AdmittedE x) where
               (values-agree x h (inputsHold (freeE x) (take (length (inputsOf x)) v)) ρ held rounds r (o .0) (o .1))),
         )
 
-    result-lost : (rounds : ℕ) → evaluation rounds v ≡ none → meansOf (some-of v) rounds none
+    pub result-lost : (rounds : ℕ) → evaluation rounds v ≡ none → meansOf (some-of v) rounds none
     unfolding resultOf
     result-lost rounds e =
         unfinished-agrees x h (inputsHold (freeE x) (take (length (inputsOf x)) v)) ρ held rounds
@@ -213,7 +213,7 @@ module _ (x : Exp) (h : AdmittedE x) where
     links-far : (l : ℕ) → 131072 ≤ l → Spare x h l
     links-far l p = far-off (madeOf x .links) l (made-links-bound x h few) p
 
-    numbers : Numbers x h few pushNumber takeNumber sourceLink creditLink
+    pub numbers : Numbers x h few pushNumber takeNumber sourceLink creditLink
     numbers =
         record {
           push-past = omega arith;
@@ -225,7 +225,7 @@ module _ (x : Exp) (h : AdmittedE x) where
         }
 
     -- The load that start leaves is idle.
-    start-idle : Idle-load (graphE x) (size (freeE x)) (portOf x) sourceLink creditLink (marks (madeOf x .operators))
+    pub start-idle : Idle-load (graphE x) (size (freeE x)) (portOf x) sourceLink creditLink (marks (madeOf x .operators))
     unfolding madeOf
     start-idle =
         fresh-is-idle (graphE x) (fit-E x h) (size (freeE x)) (portOf x) (made-envs x h) (room x h few) sourceLink creditLink
@@ -233,7 +233,7 @@ module _ (x : Exp) (h : AdmittedE x) where
         (links-far sourceLink (omega arith)) (links-far creditLink (omega arith)) (λ e. omega arith))
 
     -- What the maker owes.
-    pub owed : Made (netOf (madeOf x .operators)) pushNumber takeNumber sourceLink creditLink pieceOf meansOf evaluation
+    unfoldable pub owed : Made (netOf (madeOf x .operators)) pushNumber takeNumber sourceLink creditLink pieceOf meansOf evaluation
     owed =
         record {
           bench = made-bench x h few pushNumber takeNumber sourceLink creditLink numbers;
