@@ -2,3 +2,4 @@ pub mod Admitting
 pub mod Results
 pub mod Owed
 pub mod Running
+pub mod RunningLaws
