@@ -3,3 +3,4 @@ pub mod Results
 pub mod Owed
 pub mod Running
 pub mod RunningLaws
+pub mod Verdicts

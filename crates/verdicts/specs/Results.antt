@@ -2,7 +2,7 @@
 -- ends if some number is enough"), and that more rounds never change it. Rests on meaning/specs/Meaning; assumes nothing.
 use Prim.Native.Nat.{ℕ, _+_}
 use mathlib.Core.Path.{_≡_, refl, sym, ap, subst, _∙_}
-use mathlib.Core.List.{List}
+use mathlib.Core.List.{List, [], _∷_}
 use mathlib.Core.Option.{Option, none, some}
 use Rattle.value.specs.declared.Value.{Value}
 use Rattle.formula.specs.Tree.{Exp}
@@ -56,3 +56,10 @@ one-result x v r r′ p q =
     let o = values-some (evalE x (inputsHold (freeE x) v) (p .0)) r (p .1) in
     let o′ = values-some (evalE x (inputsHold (freeE x) v) (q .0)) r′ (q .1) in
     ends-once x (inputsHold (freeE x) v) r r′ (record { lent = p .0; left = o .0; enough = o .1 }) (record { lent = q .0; left = o′ .0; enough = o′ .1 })
+
+-- Each set of a list ends, with these results.
+abbrev pub EachEnds : Exp → List (List Value) → List (List Value) → Type 0
+EachEnds x [] [] = Unit {0}
+EachEnds x [] (r ∷ rss) = ⊥
+EachEnds x (v ∷ vss) [] = ⊥
+EachEnds x (v ∷ vss) (r ∷ rss) = EndsWith x v r × EachEnds x vss rss
