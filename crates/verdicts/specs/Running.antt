@@ -1,25 +1,29 @@
 -- Document 01, "Running", on the abstract machine of a formula: what push, fire, run and take do to the links, over every list of calls, refused
 -- calls included. A link is the queue of its waiting tokens (network/specs/Net); the graph is the made one (graph/specs/Translation: madeOf). The
--- credit link holds one token for each set untaken, so that "sixteen sets untaken" is want of room there. Definitions only; assumes nothing.
-use Prim.Native.Nat.{ℕ, zero, suc, _<_}
+-- credit link holds one token for each set untaken, so that "sixteen sets untaken" is want of room there. Definitions only, and what demand 3
+-- says of them; assumes nothing.
+use Prim.Native.Nat.{ℕ, zero, suc, _≤_, _<_}
+use mathlib.Core.Path.{_≡_}
+use mathlib.Core.Logic.{_⊎_}
 use mathlib.Core.Bool.{Bool, true, false, cond}
 use mathlib.Core.List.{List, [], _∷_, _++_}
 use mathlib.Core.Option.{Option, none, some}
 use lib.Dec.{eqb}
-use lib.ListN.{length}
+use lib.ListN.{length, getD}
 use native.Mathlib.Decide.{decLt}
 use Rattle.value.specs.declared.Value.{Value}
 use Rattle.network.specs.Values.{true-value}
 use Rattle.network.specs.Net.{Token, val, Demand, ask, fire, halt, Links, head, pop, append, Room, Able, act, label}
 use Rattle.network.specs.Ends.{take-demand, capacities}
 use Rattle.pieces.specs.Load.{put}
-use Rattle.pieces.specs.Sets.{onto}
+use Rattle.pieces.specs.Sets.{tokens-of, onto}
 use Rattle.pieces.specs.Tape.{Step, pushing, firing, taking, sets-of}
 use Rattle.formula.specs.Tree.{Exp}
 use Rattle.graph.specs.Translation.{madeOf}
 use Rattle.reference.specs.Marks.{marks}
 use Rattle.wiring.specs.Machine.{netOf}
 use Rattle.wiring.specs.MadeGraph.{pushLinks}
+use Rattle.verdicts.specs.Results.{EndsWith}
 use Rattle.verdicts.specs.Owed.{creditLink}
 
 -- ---- whether a firing can be made
@@ -151,3 +155,18 @@ pushed x capacity calls = sets-of (history x capacity calls)
 -- "an accepted take takes the oldest untaken": the results taken, in order.
 abbrev pub taken : Exp → ℕ → List Call → List (List Token)
 taken x capacity calls = handed x (history x capacity calls) (startOf x)
+
+-- ---- demand 3
+
+-- What demand 3 says of a list of calls on the machine of the formula x. Sets and results count from 0 here.
+pub record OwnVerdicts (x : Exp) (capacity : ℕ) (calls : List Call) : Type 0 where
+  -- "For every k up to the number of results taken since that start: if direct evaluation of each of the first k sets pushed ends, the k-th result
+  -- taken is exactly what it yields for the k-th set pushed."
+  pub own : (k : ℕ) → k < length (taken x capacity calls) → ((j : ℕ) → j ≤ k → (r : List Value) × EndsWith x (getD (pushed x capacity calls) j []) r)
+      → (r : List Value) → EndsWith x (getD (pushed x capacity calls) k []) r → getD (taken x capacity calls) k [] ≡ tokens-of r
+  -- Every result taken is that of a pushed set.
+  pub none-invented : length (taken x capacity calls) ≤ length (pushed x capacity calls)
+  -- "And when nothing can fire, either every pushed set has been taken, or the oldest untaken one has its whole result ready to take." "Nothing can
+  -- fire when each operator would get 34; a whole result is ready when a take would be accepted."
+  pub ready : ((a : ℕ) → stepsOf x capacity (fires a) (standing x capacity calls) ≡ [])
+      → (length (taken x capacity calls) ≡ length (pushed x capacity calls)) ⊎ (stepsOf x capacity takes (standing x capacity calls) ≡ taking ∷ [])

@@ -30,7 +30,7 @@ use Rattle.wiring.specs.MadeGraph.{pushLinks}
 use Rattle.verdicts.specs.Admitting.{accepted-admitted, accepted-operators}
 use Rattle.verdicts.specs.Results.{resultOf, EndsWith, EachEnds, one-result}
 use Rattle.verdicts.specs.Owed.{pushNumber, takeNumber, sourceLink, creditLink, pieceOf, meansOf, evaluation, results-are, inputs-are, input-count, owed, source-is-apart, credit-is-apart}
-use Rattle.verdicts.specs.Running.{places, operatorAt, withTrigger, takeOf, startOf, decAble, Call, fires, takes, afterSteps, handed, accept, stepsOf, history, standing, pushed, taken}
+use Rattle.verdicts.specs.Running.{places, operatorAt, withTrigger, takeOf, startOf, decAble, Call, fires, takes, afterSteps, handed, accept, stepsOf, history, standing, pushed, taken, OwnVerdicts}
 use Rattle.verdicts.specs.RunningLaws.{Made-in-turn, calls-made, Whole-sets, calls-whole, triggering, triggered-sets, steps-accepted, steps-after, steps-handed, steps-sets, steps-takes, handed-count, trigger-off, Each-whole, sets-whole, first-whole, first-triggered, sets-sized}
 
 refused-cannot : {A : Type 0} (s : Step) (d : Dec A) → accept d s ≡ [] → A → ⊥
@@ -176,46 +176,55 @@ tokens-at (suc k) (t ∷ tss) (r ∷ rss) l e = tokens-at k tss rss (omega arith
 -- ---- demand 3
 
 module _ (s : List ℕ) (accepted : verdictOf s ≡ passed) (capacity : ℕ) (room : 1 ≤ capacity) (calls : List Call) where
+  abbrev x : Exp
+  x = formulaOf s
+
+  admitted : AdmittedE x
+  admitted = accepted-admitted s accepted
+
+  few : countE x .operators ≤ 1024
+  few = accepted-operators s accepted
+
+  made : Made-in-turn x capacity (history x capacity calls) (startOf x)
+  made = calls-made x capacity calls (startOf x)
+
+  sets : Whole-sets x capacity (history x capacity calls)
+  sets = calls-whole x capacity calls (startOf x)
+
   -- The first k results taken are what direct evaluation yields for the first k sets pushed, if it ends for each of them.
   pub first-verdicts : (k : ℕ) → k ≤ length (taken (formulaOf s) capacity calls) → (rss : List (List Value))
       → EachEnds (formulaOf s) (take k (pushed (formulaOf s) capacity calls)) rss → take k (taken (formulaOf s) capacity calls) ≡ each-tokens rss
-  first-verdicts k l rss e =
-      first-results (formulaOf s) (accepted-admitted s accepted) (accepted-operators s accepted) capacity room (history (formulaOf s) capacity calls)
-      (calls-made (formulaOf s) capacity calls (startOf (formulaOf s))) (calls-whole (formulaOf s) capacity calls (startOf (formulaOf s))) k l rss e
+  first-verdicts k l rss e = first-results x admitted few capacity room (history x capacity calls) made sets k l rss e
 
-  -- "an accepted take takes the oldest untaken": there is one.
-  pub taken-were-pushed : length (taken (formulaOf s) capacity calls) ≤ length (pushed (formulaOf s) capacity calls)
-  taken-were-pushed =
-      no-more-taken (formulaOf s) (accepted-admitted s accepted) (accepted-operators s accepted) capacity room (history (formulaOf s) capacity calls)
-      (calls-made (formulaOf s) capacity calls (startOf (formulaOf s)))
+  were-pushed : length (taken x capacity calls) ≤ length (pushed x capacity calls)
+  were-pushed = no-more-taken x admitted few capacity room (history x capacity calls) made
 
-  -- "For every k up to the number of results taken since that start: if direct evaluation of each of the first k sets pushed ends, the k-th result
-  -- taken is exactly what it yields for the k-th set pushed." Sets and results count from 0 here.
-  pub own-verdict : (k : ℕ) → k < length (taken (formulaOf s) capacity calls)
-      → ((j : ℕ) → j ≤ k → (r : List Value) × EndsWith (formulaOf s) (getD (pushed (formulaOf s) capacity calls) j []) r)
-      → (r : List Value) → EndsWith (formulaOf s) (getD (pushed (formulaOf s) capacity calls) k []) r
-      → getD (taken (formulaOf s) capacity calls) k [] ≡ tokens-of r
+  own-verdict : (k : ℕ) → k < length (taken x capacity calls) → ((j : ℕ) → j ≤ k → (r : List Value) × EndsWith x (getD (pushed x capacity calls) j []) r)
+      → (r : List Value) → EndsWith x (getD (pushed x capacity calls) k []) r → getD (taken x capacity calls) k [] ≡ tokens-of r
   own-verdict k l ends r e =
-      let many : suc k ≤ length (pushed (formulaOf s) capacity calls) = omega (arith, taken-were-pushed) in
-      let g = gathered (formulaOf s) (suc k) (pushed (formulaOf s) capacity calls) many (λ j i. ends j (omega arith)) in
-      tokens-at k (taken (formulaOf s) capacity calls) (g .0) l (first-verdicts (suc k) l (g .0) (g .1))
-      ∙ ap tokens-of (one-result (formulaOf s) (getD (pushed (formulaOf s) capacity calls) k []) (getD (g .0) k []) r
-      (ends-at (formulaOf s) k (pushed (formulaOf s) capacity calls) (g .0) many (g .1)) e)
+      let many : suc k ≤ length (pushed x capacity calls) = omega (arith, were-pushed) in
+      let g = gathered x (suc k) (pushed x capacity calls) many (λ j i. ends j (omega arith)) in
+      tokens-at k (taken x capacity calls) (g .0) l (first-verdicts (suc k) l (g .0) (g .1))
+      ∙ ap tokens-of (one-result x (getD (pushed x capacity calls) k []) (getD (g .0) k []) r (ends-at x k (pushed x capacity calls) (g .0) many (g .1)) e)
 
-  -- "And when nothing can fire, either every pushed set has been taken, or the oldest untaken one has its whole result ready to take." "Nothing can
-  -- fire when each operator would get 34; a whole result is ready when a take would be accepted."
-  pub ready-when-quiet : ((a : ℕ) → stepsOf (formulaOf s) capacity (fires a) (standing (formulaOf s) capacity calls) ≡ [])
-      → (length (taken (formulaOf s) capacity calls) ≡ length (pushed (formulaOf s) capacity calls))
-      ⊎ (stepsOf (formulaOf s) capacity takes (standing (formulaOf s) capacity calls) ≡ taking ∷ [])
+  ready-when-quiet : ((a : ℕ) → stepsOf x capacity (fires a) (standing x capacity calls) ≡ [])
+      → (length (taken x capacity calls) ≡ length (pushed x capacity calls)) ⊎ (stepsOf x capacity takes (standing x capacity calls) ≡ taking ∷ [])
   unfolding stepsOf
   ready-when-quiet quiet =
-      go (quiet-ready (formulaOf s) (accepted-admitted s accepted) (accepted-operators s accepted) capacity room (history (formulaOf s) capacity calls)
-      (calls-made (formulaOf s) capacity calls (startOf (formulaOf s))) (calls-whole (formulaOf s) capacity calls (startOf (formulaOf s)))
-      (λ a. refused-cannot _ (decAble (places capacity) (operatorAt (formulaOf s) a) (standing (formulaOf s) capacity calls)) (quiet a)))
+      go (quiet-ready x admitted few capacity room (history x capacity calls) made sets
+      (λ a. refused-cannot _ (decAble (places capacity) (operatorAt x a) (standing x capacity calls)) (quiet a)))
     where
-      go : (length (taken (formulaOf s) capacity calls) ≡ length (pushed (formulaOf s) capacity calls))
-          ⊎ Able (places capacity) (takeOf (formulaOf s)) (standing (formulaOf s) capacity calls)
-          → (length (taken (formulaOf s) capacity calls) ≡ length (pushed (formulaOf s) capacity calls))
-          ⊎ (accept (decAble (places capacity) (takeOf (formulaOf s)) (standing (formulaOf s) capacity calls)) taking ≡ taking ∷ [])
+      go : (length (taken x capacity calls) ≡ length (pushed x capacity calls)) ⊎ Able (places capacity) (takeOf x) (standing x capacity calls)
+          → (length (taken x capacity calls) ≡ length (pushed x capacity calls)) ⊎ (accept (decAble (places capacity) (takeOf x) (standing x capacity calls)) taking ≡ taking ∷ [])
       go (inl e) = inl e
-      go (inr o) = inr (can-accepted taking (decAble (places capacity) (takeOf (formulaOf s)) (standing (formulaOf s) capacity calls)) o)
+      go (inr o) = inr (can-accepted taking (decAble (places capacity) (takeOf x) (standing x capacity calls)) o)
+
+-- "A beacon's verdict comes from its own readings and nobody else's. Start a machine empty for an accepted sheet, with links holding 1 to 16 tokens. Then
+-- the following holds after every list of pushes, single firings, runs and takes, in any order, with any sets and numbers, refused calls included".
+pub demand-3 : (s : List ℕ) → verdictOf s ≡ passed → (capacity : ℕ) → 1 ≤ capacity → capacity ≤ 16 → (calls : List Call) → OwnVerdicts (formulaOf s) capacity calls
+demand-3 s accepted capacity room most calls =
+    record {
+      own = own-verdict s accepted capacity room calls;
+      none-invented = were-pushed s accepted capacity room calls;
+      ready = ready-when-quiet s accepted capacity room calls;
+    }
