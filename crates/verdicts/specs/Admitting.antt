@@ -18,7 +18,7 @@ use Rattle.formula.specs.Sheet.{rowCount, fieldsOf, field, shapeOf, shapeAt, na
 use Rattle.formula.specs.Tree.{Exp, Body, ret, expNode, bodyNode, expOf, bodyOf, formulaOf}
 use Rattle.formula.specs.TreeLaws.{AllBetween, Named, and-true, exp-as, body-as, between-as}
 use Rattle.formula.specs.Places.{bodiesIn, inBody, mark, markDown, placesOf, nodeIn}
-use Rattle.formula.specs.Widths.{wideE, wideB}
+use Rattle.formula.specs.Widths.{wideB}
 use Rattle.formula.specs.Free.{boundE, boundB}
 use Rattle.formula.specs.Count.{countE}
 use Rattle.formula.specs.Tests.{inRange, rangesWell, placedWell, isIter, wideNode, widthsWell, boundNode, boundWell, operatorsOf, verdictOf}
@@ -26,7 +26,7 @@ use Rattle.formula.specs.TestLaws.{passed-each}
 use Rattle.formula.specs.Admitted.{Binds, FineE, FineB, AdmittedE, AdmittedB}
 use Rattle.meaning.specs.WidthLaws.{ret-fits}
 use Rattle.meaning.specs.Rows.{Placed, Plain, Accepted, widthIn, plain-as}
-use Rattle.meaning.specs.Accepted.{Passes, passes, names-earlier, accepted}
+use Rattle.meaning.specs.Accepted.{passes, accepted}
 
 -- ---- test 4 by a row's shape
 

@@ -3,4 +3,5 @@ pub mod Results
 pub mod Owed
 pub mod Running
 pub mod RunningLaws
+pub mod RunLaws
 pub mod Verdicts

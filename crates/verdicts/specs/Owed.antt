@@ -3,11 +3,9 @@
 -- the idle load of the start. A pushed set has one value for each input, rising, and the trigger's behind them where its link exists.
 use Prim.Native.Nat.{ℕ, zero, suc, _+_, _-_, _≤_, _<_}
 use mathlib.Core.Path.{_≡_, refl, sym, ap, subst, _∙_}
-use mathlib.Core.Logic.{_≢_}
-use mathlib.Core.Bool.{Bool, true, false, cond}
+use mathlib.Core.Bool.{Bool, true, false}
 use mathlib.Core.List.{List, [], _∷_}
 use mathlib.Core.Option.{Option, none, some}
-use lib.Dec.{eqb}
 use lib.ListN.{length, getD, take}
 use borrow.Author.Tests.{eq-eqb, ne-eqb}
 use native.Mathlib.Omega.{arith}
@@ -20,19 +18,16 @@ use Rattle.formula.specs.Free.{freeE, inputsOf}
 use Rattle.formula.specs.Widths.{width}
 use Rattle.formula.specs.Count.{countE}
 use Rattle.formula.specs.Admitted.{AdmittedE}
-use Rattle.meaning.specs.Meaning.{Outcome, yields, evalE, inputsHold}
+use Rattle.meaning.specs.Meaning.{evalE, inputsHold}
 use Rattle.meaning.specs.WidthLaws.{Sized, sized}
-use Rattle.network.specs.Net.{Demand}
 use Rattle.network.specs.Commute.{Free}
 use Rattle.network.specs.Ends.{machine}
-use Rattle.pieces.specs.Load.{Load}
 use Rattle.pieces.specs.Piece.{Piece, Means, some-of, Fits}
-use Rattle.pieces.specs.Sets.{Bench}
 use Rattle.pieces.specs.Made.{Made}
 use Rattle.pieces.specs.Tape.{Source-apart}
 use Rattle.pieces.specs.Calls.{Credit-apart}
 use Rattle.pieces.specs.Wiring.{source-apart, credit-apart}
-use Rattle.graph.specs.Assembly.{free, listed, upFrom, nameCount, operatorsOf, outputs}
+use Rattle.graph.specs.Assembly.{free, listed, nameCount}
 use Rattle.graph.specs.Yields.{Values, present, bound, Yields}
 use Rattle.graph.specs.Translation.{graphE, portOf, madeOf}
 use Rattle.reference.specs.Plan.{Between}
@@ -51,8 +46,8 @@ use Rattle.yields.specs.Meets.{Holds}
 use Rattle.yields.specs.Agreement.{values-agree, unfinished-agrees}
 use Rattle.wiring.specs.Machine.{netOf, TakesAt, PutsAt}
 use Rattle.wiring.specs.FormulaCounts.{made-links-bound}
-use Rattle.wiring.specs.MadeGraph.{trigger-link, port-count, pushLinks, made-envs, result-count, Spare, room, Numbers, made-wiring, made-commutes, made-bench, whole-inputs}
-use Rattle.verdicts.specs.Results.{valuesOf, resultOf, values-some, values-none}
+use Rattle.wiring.specs.MadeGraph.{trigger-link, pushLinks, made-envs, result-count, Spare, room, Numbers, made-wiring, made-commutes, made-bench, whole-inputs}
+use Rattle.verdicts.specs.Results.{resultOf, EndsWith, values-some, values-none}
 
 -- ---- lists
 
@@ -134,6 +129,12 @@ module _ (x : Exp) (h : AdmittedE x) where
   -- Direct evaluation of a pushed set: the trigger's value behind the inputs' says nothing.
   abbrev pub evaluation : ℕ → List Value → Option (List Value)
   evaluation rounds v = resultOf x (take (length (inputsOf x)) v) rounds
+
+  pub result-width : (v r : List Value) → EndsWith x v r → length r ≡ width x
+  unfolding resultOf
+  result-width v r e =
+      let o = values-some (evalE x (inputsHold (freeE x) v) (e .0)) r (e .1) in
+      subst (Sized (width x)) (o .1) (sized x (sound-E x h) (inputsHold (freeE x) v) (e .0))
 
   pub results-are : pieceOf .outs ≡ madeOf x .results
   unfolding madeOf

@@ -1,14 +1,14 @@
 -- What direct evaluation yields for a set (document 01, "Running": "Direct evaluation there is the meaning above with as many rounds as it needs, and
 -- ends if some number is enough"), and that more rounds never change it. Rests on meaning/specs/Meaning; assumes nothing.
 use Prim.Native.Nat.{ℕ, _+_}
-use mathlib.Core.Path.{_≡_, refl, sym, ap, subst, _∙_}
+use mathlib.Core.Path.{_≡_, refl, sym, ap, subst}
 use mathlib.Core.List.{List, [], _∷_}
 use mathlib.Core.Option.{Option, none, some}
 use Rattle.value.specs.declared.Value.{Value}
 use Rattle.formula.specs.Tree.{Exp}
 use Rattle.formula.specs.Free.{freeE}
 use Rattle.meaning.specs.Meaning.{Outcome, yields, evalE, inputsHold}
-use Rattle.meaning.specs.Rounds.{Ends, still-enough, ends-once}
+use Rattle.meaning.specs.Rounds.{still-enough, ends-once}
 
 abbrev pub valuesOf : Outcome → Option (List Value)
 valuesOf (yields vs left) = some vs

@@ -1,7 +1,7 @@
 -- Laws of the calls (Running): every step of a list of calls can be made where it is made, every pushed set has a value for each input, and the steps
 -- are accepted calls as pieces/specs/Tape has them, with the trigger's value behind each set. Assumes nothing.
-use Prim.Native.Nat.{ℕ, zero, suc, _+_, _≤_, _<_}
-use mathlib.Core.Path.{_≡_, refl, sym, ap, subst, _∙_}
+use Prim.Native.Nat.{ℕ, zero, suc, _+_}
+use mathlib.Core.Path.{_≡_, refl, ap}
 use mathlib.Core.Bool.{Bool, true, false, cond}
 use mathlib.Core.List.{List, [], _∷_, _++_, map}
 use mathlib.Core.Option.{Option, none, some}
@@ -14,13 +14,12 @@ use Rattle.value.specs.declared.Value.{Value}
 use Rattle.network.specs.Values.{true-value}
 use Rattle.names.specs.Names.{bit}
 use Rattle.network.specs.Net.{Token, Links, Able, act, label}
-use Rattle.pieces.specs.Piece.{Fits}
 use Rattle.pieces.specs.Tape.{Step, pushing, firing, taking, sets-of, takes-of, Accepted, after, results-of, Sized}
 use Rattle.formula.specs.Tree.{Exp}
 use Rattle.graph.specs.Translation.{madeOf}
 use Rattle.wiring.specs.MadeGraph.{pushLinks}
 use Rattle.verdicts.specs.Owed.{creditLink, length-fits}
-use Rattle.verdicts.specs.Running.{places, operatorAt, withTrigger, pushOf, takeOf, startOf, decAble, Call, pushes, fires, runs, takes, demandOf, afterSteps, handed, accept, pick, leastFrom, onward, runSteps, stepsOf, stepsFrom}
+use Rattle.verdicts.specs.Running.{places, operatorAt, withTrigger, pushOf, takeOf, decAble, Call, pushes, fires, runs, takes, demandOf, afterSteps, handed, accept, pick, leastFrom, onward, runSteps, stepsOf, stepsFrom}
 
 module _ (x : Exp) (capacity : ℕ) where
   -- ---- every step can be made

@@ -9,14 +9,15 @@ use mathlib.Core.Option.{some}
 use lib.ListN.{length, getD, take}
 use native.Mathlib.Omega.{arith}
 use Rattle.value.specs.declared.Value.{Value}
-use Rattle.names.specs.Names.{bit, trigger}
+use Rattle.names.specs.Names.{bit}
 use Rattle.formula.specs.declared.Verdict.the-variants.{Passed as passed}
 use Rattle.formula.specs.Tree.{Exp, formulaOf}
-use Rattle.formula.specs.Free.{freeE, inputsOf}
+use Rattle.formula.specs.Free.{inputsOf}
+use Rattle.formula.specs.Widths.{width}
 use Rattle.formula.specs.Count.{countE}
 use Rattle.formula.specs.Admitted.{AdmittedE}
 use Rattle.formula.specs.Tests.{verdictOf}
-use Rattle.network.specs.Net.{Token, Links, Able}
+use Rattle.network.specs.Net.{Token, Able}
 use Rattle.network.specs.Ends.{take-demand, capacities-one}
 use Rattle.pieces.specs.Load.{put}
 use Rattle.pieces.specs.Sets.{tokens-of}
@@ -26,10 +27,11 @@ use Rattle.pieces.specs.Tape.{Step, taking, sets-of, takes-of, Accepted, after,
 use Rattle.pieces.specs.Calls.{first-half, second-half, taken-at-most-pushed}
 use Rattle.graph.specs.Translation.{madeOf}
 use Rattle.wiring.specs.Machine.{netOf}
+use Rattle.wiring.specs.FormulaCounts.{made-operators, made-links-bound}
 use Rattle.wiring.specs.MadeGraph.{pushLinks}
 use Rattle.verdicts.specs.Admitting.{accepted-admitted, accepted-operators}
 use Rattle.verdicts.specs.Results.{resultOf, EndsWith, EachEnds, one-result}
-use Rattle.verdicts.specs.Owed.{pushNumber, takeNumber, sourceLink, creditLink, pieceOf, meansOf, evaluation, results-are, inputs-are, input-count, owed, source-is-apart, credit-is-apart}
+use Rattle.verdicts.specs.Owed.{pushNumber, takeNumber, sourceLink, creditLink, pieceOf, meansOf, evaluation, result-width, results-are, inputs-are, input-count, owed, source-is-apart, credit-is-apart}
 use Rattle.verdicts.specs.Running.{places, operatorAt, withTrigger, takeOf, startOf, decAble, Call, fires, takes, afterSteps, handed, accept, stepsOf, history, standing, pushed, taken, OwnVerdicts}
 use Rattle.verdicts.specs.RunningLaws.{Made-in-turn, calls-made, Whole-sets, calls-whole, triggering, triggered-sets, steps-accepted, steps-after, steps-handed, steps-sets, steps-takes, handed-count, trigger-off, Each-whole, sets-whole, first-whole, first-triggered, sets-sized}
 
@@ -228,3 +230,14 @@ demand-3 s accepted capacity room most calls =
       none-invented = were-pushed s accepted capacity room calls;
       ready = ready-when-quiet s accepted capacity room calls;
     }
+
+-- The made graph of an accepted sheet is small enough for the machine's numbers.
+pub accepted-graph : (s : List ℕ) → verdictOf s ≡ passed → (length (madeOf (formulaOf s) .operators) ≤ 1024) × (madeOf (formulaOf s) .links ≤ 3105)
+accepted-graph s accepted = (
+  subst (λ (m : ℕ). m ≤ 1024) (sym (made-operators (formulaOf s) (accepted-admitted s accepted))) (accepted-operators s accepted),
+  made-links-bound (formulaOf s) (accepted-admitted s accepted) (accepted-operators s accepted),
+)
+
+-- "the result taken equals its result set in width": what evaluation yields has the formula's width.
+pub verdict-width : (s : List ℕ) → verdictOf s ≡ passed → (v r : List Value) → EndsWith (formulaOf s) v r → length r ≡ width (formulaOf s)
+verdict-width s accepted v r e = result-width (formulaOf s) (accepted-admitted s accepted) v r e
