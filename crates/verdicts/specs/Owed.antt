@@ -197,11 +197,13 @@ module _ (x : Exp) (h : AdmittedE x) where
     unfolding resultOf
     result-fits rounds r e =
         let o = values-some (evalE x (inputsHold (freeE x) (take (length (inputsOf x)) v)) rounds) r e in
-        let w : length r ≡ width x = subst (Sized (width x)) (o .1) (sized x (sound-E x h) (inputsHold (freeE x) (take (length (inputsOf x)) v)) rounds) in
-        (
+        let w : length r ≡ width x = subst (Sized (width x)) (o .1) (sized x (sound-E x h) (inputsHold (freeE x) (take (length (inputsOf x)) v)) rounds) in (
           length-fits (pieceOf .outs) r (w ∙ sym (ap length results-are ∙ result-count x h)),
-          (rounds - o .0, subst (λ (ws : List (Option Value)). Yields (graphE x) ρ (rounds - o .0) (some ws)) (sym (some-present r))
-              (values-agree x h (inputsHold (freeE x) (take (length (inputsOf x)) v)) ρ held rounds r (o .0) (o .1))),
+          (
+            rounds - o .0,
+            subst (λ (ws : List (Option Value)). Yields (graphE x) ρ (rounds - o .0) (some ws)) (sym (some-present r))
+                (values-agree x h (inputsHold (freeE x) (take (length (inputsOf x)) v)) ρ held rounds r (o .0) (o .1)),
+          ),
         )
 
     pub result-lost : (rounds : ℕ) → evaluation rounds v ≡ none → meansOf (some-of v) rounds none

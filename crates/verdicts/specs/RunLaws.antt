@@ -88,7 +88,7 @@ module _ (x : Exp) (capacity : ℕ) where
     where
       go : (o : Option ℕ) → leastAble x capacity q ≡ o → length (onward o (λ a. runSteps x capacity lent (act (operatorAt x a) q))) < suc lent
           → ((a : ℕ) → length (runSteps x capacity lent (act (operatorAt x a) q)) < lent
-              → Cannot b (afterSteps x (runSteps x capacity lent (act (operatorAt x a) q)) (act (operatorAt x a) q)))
+          → Cannot b (afterSteps x (runSteps x capacity lent (act (operatorAt x a) q)) (act (operatorAt x a) q)))
           → Cannot b (afterSteps x (onward o (λ a. runSteps x capacity lent (act (operatorAt x a) q))) q)
       go none e l ih = nothing-able q e b
       go (some a) e l ih = ih a (omega arith)

@@ -125,9 +125,14 @@ module _ (x : Exp) (h : AdmittedE x) (few : countE x .operators ≤ 1024) (capac
 
   no-more-taken : (w : List Step) → Made-in-turn x capacity w (startOf x) → length (handed x w (startOf x)) ≤ length (sets-of w)
   no-more-taken w a =
-      omega (arith, handed-count x capacity w (startOf x), steps-takes x capacity w, pushed-count w,
-      taken-at-most-pushed (netOf (madeOf x .operators)) pushNumber takeNumber sourceLink creditLink (pieceOf x h) (meansOf x h) (evaluation x h) (owed x h few) (places capacity) roomy
-      (source-is-apart x h few (places capacity)) (credit-is-apart x h few (places capacity)) (map (triggering x capacity) w) (accepted-here w a))
+      omega (
+        arith,
+        handed-count x capacity w (startOf x),
+        steps-takes x capacity w,
+        pushed-count w,
+        taken-at-most-pushed (netOf (madeOf x .operators)) pushNumber takeNumber sourceLink creditLink (pieceOf x h) (meansOf x h) (evaluation x h) (owed x h few) (places capacity) roomy
+            (source-is-apart x h few (places capacity)) (credit-is-apart x h few (places capacity)) (map (triggering x capacity) w) (accepted-here w a),
+      )
 
   quiet-ready : (w : List Step) → Made-in-turn x capacity w (startOf x) → Whole-sets x capacity w
       → ((a : ℕ) → Able (places capacity) (operatorAt x a) (afterSteps x w (startOf x)) → ⊥)
