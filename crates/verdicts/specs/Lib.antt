@@ -5,3 +5,4 @@ pub mod Running
 pub mod RunningLaws
 pub mod RunLaws
 pub mod Verdicts
+pub mod LesserRuns

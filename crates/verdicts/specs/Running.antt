@@ -28,18 +28,18 @@ use Rattle.verdicts.specs.Owed.{creditLink}
 
 -- ---- whether a firing can be made
 
-both : {A B : Type 0} → Dec A → Dec B → Dec (A × B)
+unfoldable pub both : {A B : Type 0} → Dec A → Dec B → Dec (A × B)
 both (yes a) (yes b) = yes (a, b)
 both (yes a) (no n) = no (λ p. n (p .1))
 both (no n) d = no (λ p. n (p .0))
 
 -- "each link it emits on has a free place"
-pub decRoom : (cap : ℕ → ℕ) (es : List (ℕ × Token)) (q : Links) → Dec (Room cap es q)
+unfoldable pub decRoom : (cap : ℕ → ℕ) (es : List (ℕ × Token)) (q : Links) → Dec (Room cap es q)
 decRoom cap [] q = yes tt
 decRoom cap (e ∷ es) q = both (decLt (length (q (e .0))) (cap (e .0))) (decRoom cap es (append (e .0) (e .1) q))
 
 -- "An operator fires only when every token listed waits and each link it emits on has a free place."
-pub decAble : (cap : ℕ → ℕ) (d : Demand) (q : Links) → Dec (Able cap d q)
+unfoldable pub decAble : (cap : ℕ → ℕ) (d : Demand) (q : Links) → Dec (Able cap d q)
 decAble cap (ask l k) q = both (decLt 0 (length (q l))) (decAble cap (k (head (q l))) (pop l q))
 decAble cap (fire es r) q = decRoom cap es q
 decAble cap halt q = no (λ z. z)
