@@ -5,4 +5,5 @@ pub mod Running
 pub mod RunningLaws
 pub mod RunLaws
 pub mod Verdicts
+pub mod ResultSets
 pub mod LesserRuns
