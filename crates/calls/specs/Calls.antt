@@ -68,27 +68,31 @@ inputRoom m size j = roomAt m size (inputLink m j)
 unfoldable pub roomsOk : List ℕ → ℕ → ℕ → Bool
 roomsOk m size k = roomAt m size (triggerOf m) && allBelow k (inputRoom m size)
 
--- "Push gives one value to each input link, and one trigger if that link exists": the trigger's token is the value true
+-- "Push gives one value to each input link": the first j values of the set
 unfoldable pub entered : ℕ → List ℕ → ℕ → List ℕ → List ℕ
-entered zero m size s = appendedAt m size (triggerOf m) (wordOf true-value)
+entered zero m size s = m
 entered (suc j) m size s = appendedAt (entered j m size s) size (inputLink m j) (wordAt s (5 * j))
 
--- the memory with one set more
+-- "and one trigger if that link exists": its token is the value true
+unfoldable pub triggered : List ℕ → List ℕ → List ℕ
+triggered m s = appendedAt (entered (inputsOf m) m (sizeIn m) s) (sizeIn m) (triggerOf m) (wordOf true-value)
+
+-- the memory with one set more untaken
 unfoldable pub pushedMemory : List ℕ → List ℕ → List ℕ
-pushedMemory m s = set (entered (inputsOf m) m (sizeIn m) s) 7 (untakenOf m + 1)
+pushedMemory m s = set (triggered m s) 7 (untakenOf m + 1)
 
 -- 11, 31, 12, 32, 33
 unfoldable pub pushed : List ℕ → List ℕ → Outcome
 pushed m s =
     pick (eqb (standing m) 0)
-      (pick (setOk (inputsOf m) s)
-        (pick (ltb (untakenOf m) 16)
-          (pick (roomsOk m (sizeIn m) (inputsOf m))
-            (outcome (answers 0 0) (pushedMemory m s))
-            (outcome (refusal Full) m))
-          (outcome (refusal Untaken) m))
-        (outcome (refusal Set) m))
-      (outcome (answers (standing m) 0) m)
+    (pick (setOk (inputsOf m) s)
+    (pick (ltb (untakenOf m) 16)
+    (pick (roomsOk m (sizeIn m) (inputsOf m))
+    (outcome (answers 0 0) (pushedMemory m s))
+    (outcome (refusal Full) m))
+    (outcome (refusal Untaken) m))
+    (outcome (refusal Set) m))
+    (outcome (answers (standing m) 0) m)
 
 -- ---- fire
 
@@ -96,10 +100,10 @@ pushed m s =
 unfoldable pub fired : List ℕ → ℕ → Outcome
 fired m i =
     pick (eqb (standing m) 0)
-      (pick (ltb i (operatorsOf m) && ableAt m (sizeIn m) i)
-        (outcome (answers 0 0) (firedAt m (sizeIn m) i))
-        (outcome (refusal NotAble) m))
-      (outcome (answers (standing m) 0) m)
+    (pick (ltb i (operatorsOf m) && ableAt m (sizeIn m) i)
+    (outcome (answers 0 0) (firedAt m (sizeIn m) i))
+    (outcome (refusal NotAble) m))
+    (outcome (answers (standing m) 0) m)
 
 -- ---- run
 
@@ -111,8 +115,8 @@ ended r size n = pick (stillAt (r .mem) size n) (outcome (answers 0 (r .count)) 
 unfoldable pub ran : List ℕ → ℕ → Outcome
 ran m firings =
     pick (eqb (standing m) 0)
-      (ended (runs (sizeIn m) (operatorsOf m) firings m 0) (sizeIn m) (operatorsOf m))
-      (outcome (answers (standing m) 0) m)
+    (ended (runs (sizeIn m) (operatorsOf m) firings m 0) (sizeIn m) (operatorsOf m))
+    (outcome (answers (standing m) 0) m)
 
 -- ---- take
 
@@ -141,9 +145,9 @@ takenMemory m = set (emptied (resultsOf m) m (sizeIn m)) 7 (untakenOf m - 1)
 unfoldable pub taken : List ℕ → List ℕ → Handed
 taken m o =
     pick (ltb (length o) 80)
-      (handed (refusal Memory) m o)
-      (pick (eqb (standing m) 0)
-        (pick (ltb 0 (untakenOf m) && allBelow (resultsOf m) (resultReady m (sizeIn m)))
-          (handed (answers 0 (resultsOf m)) (takenMemory m) (written 16 m (sizeIn m) (resultsOf m) o))
-          (handed (refusal NoResult) m o))
-        (handed (answers (standing m) 0) m o))
+    (handed (refusal Memory) m o)
+    (pick (eqb (standing m) 0)
+    (pick (ltb 0 (untakenOf m) && allBelow (resultsOf m) (resultReady m (sizeIn m)))
+    (handed (answers 0 (resultsOf m)) (takenMemory m) (written 16 m (sizeIn m) (resultsOf m) o))
+    (handed (refusal NoResult) m o))
+    (handed (answers (standing m) 0) m o))

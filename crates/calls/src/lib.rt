@@ -79,14 +79,11 @@ fn have_room(mem: &[u8], size: usize, k: usize) -> bool
     false
 }
 
-// The trigger's token, the value true, and the k values of a set.
+// Gives the k values of a set to the input links.
 fn enter(mem: &mut [u8], size: usize, k: usize, set: &[u8])
     requires { ⌜ (6 ≤ size) × (size ≤ 81) × (need size ≤ length (now mem)) × (k ≤ 32) × (5 * k ≤ length (now set)) ⌝ }
     ensures { λ _. ⌜ now (mem .exit) ≡ entered k (now (mem .entry)) size (now (set .entry)) ⌝ }
 {
-    let trigger = layout::number_at(mem, 8);
-    let token = value::bytes::to_word(value::Value::Truth(true));
-    machine::append_to(mem, size, trigger, token);
     let mut j = 0;
     while j < k {
         let l = machine::name_at(mem, 10, j);
@@ -108,9 +105,15 @@ pub fn push(mem: &mut [u8], set: &[u8]) -> Answer
             if untaken < 16 {
                 let size = 5 * layout::capacity(mem) + 1;
                 if have_room(mem, size, k) {
+                    let trigger = layout::number_at(mem, 8);
                     enter(mem, size, k, set);
+                    let token = value::bytes::to_word(value::Value::Truth(true));
+                    machine::append_to(mem, size, trigger, token);
                     mem[7] = untaken + 1;
-                    return Answer { refusal: 0, count: 0 };
+                    return Answer {
+                        refusal: 0,
+                        count: 0,
+                    };
                 }
                 return refused(Refusal::Full);
             }
@@ -134,7 +137,10 @@ pub fn fire(mem: &mut [u8], operator: u32) -> Answer
         if i < layout::number_at(mem, 1) {
             let size = 5 * layout::capacity(mem) + 1;
             if machine::fire_at(mem, size, i) {
-                return Answer { refusal: 0, count: 0 };
+                return Answer {
+                    refusal: 0,
+                    count: 0,
+                };
             }
             return refused(Refusal::NotAble);
         }
@@ -156,7 +162,10 @@ pub fn run(mem: &mut [u8], firings: u32) -> Answer
         let size = 5 * layout::capacity(mem) + 1;
         let count = runs::run(mem, size, n, firings);
         if runs::idle(mem, size, n) {
-            return Answer { refusal: 0, count: count };
+            return Answer {
+                refusal: 0,
+                count: count,
+            };
         }
         return Answer {
             refusal: formula::refusal_number(Refusal::Unfinished),
@@ -236,7 +245,10 @@ pub fn take(mem: &mut [u8], out: &mut [u8]) -> Answer
                 write_results(mem, size, k, out);
                 empty_results(mem, size, k);
                 mem[7] = untaken - 1;
-                return Answer { refusal: 0, count: k as u32 };
+                return Answer {
+                    refusal: 0,
+                    count: k as u32,
+                };
             }
             return refused(Refusal::NoResult);
         }

@@ -36,11 +36,13 @@ woke-one w low u r h a b = record {
   keeps = λ x y. (one x (y .0) (ℕ-discrete x u), (let z = y .1 in omega arith));
   asleep = λ x y. zero! x y (ℕ-discrete x u);
   less = a;
-  len = length-set w u 1 }
+  len = length-set w u 1;
+}
   where
     one : (x : ℕ) → getD w x 0 ≡ 1 → Dec (x ≡ u) → getD (set w u 1) x 0 ≡ 1
     one x e (yes p) = rw p (getD-set-same w u 1 0 h)
     one x e (no n) = getD-set-other w u x 1 0 n ∙ e
+
     zero! : (x : ℕ) → getD (set w u 1) x 0 ≡ 0 → Dec (x ≡ u) → getD w x 0 ≡ 0
     zero! x e (yes p) = absurd (let s : getD (set w u 1) x 0 ≡ 1 = (rw p (getD-set-same w u 1 0 h)) in omega arith)
     zero! x e (no n) = sym (getD-set-other w u x 1 0 n) ∙ e
@@ -75,7 +77,8 @@ fast-start u m₀ w size n b nb h a = record {
   going = going-start m₀ size n b;
   rest = λ j lt e. absurd (let z = a j (omega arith) in omega arith);
   static = λ at k. refl;
-  wide = h }
+  wide = h;
+}
 
 module _ (u m₀ : List ℕ) (size n b : ℕ) (m w : List ℕ) (c i : ℕ) (f : Fast u m₀ size n b m w c i) (nb : n ≤ 1024) (h : need size ≤ length m) where
   -- a sleeping operator is passed over
@@ -87,7 +90,8 @@ module _ (u m₀ : List ℕ) (size n b : ℕ) (m w : List ℕ) (c i : ℕ) (f : 
         going = record { done = g .done; upto = omega arith; quiet = quiet-more m size i (g .quiet) no; same = g .same; len = g .len };
         rest = f .rest;
         static = f .static;
-        wide = f .wide }
+        wide = f .wide;
+      }
 
   -- one that was not able is put to sleep
   pub fast-next : i < n → ableAt m size i ≡ false → Fast u m₀ size n b (firedAt m size i) (set w i 0) c (i + 1)
@@ -97,7 +101,8 @@ module _ (u m₀ : List ℕ) (size n b : ℕ) (m w : List ℕ) (c i : ℕ) (f : 
         going = g;
         rest = λ j k z. rw (fired-idle m size i e) (go j k z (ℕ-discrete j i));
         static = λ at k. rw (fired-idle m size i e) (f .static at k);
-        wide = length-set w i 0 ∙ f .wide }
+        wide = length-set w i 0 ∙ f .wide;
+      }
     where
       go : (j : ℕ) → j < n → getD (set w i 0) j 0 ≡ 0 → Dec (j ≡ i) → ableAt m size j ≡ false
       go j k z (yes p) = rw p e
@@ -137,4 +142,5 @@ module _ (u m₀ : List ℕ) (size n b : ℕ) (m w : List ℕ) (c i : ℕ) (f : 
       going = (let a = wk .less in going-fire m₀ size n b m c i (f .going) r (omega arith) cb lt e l quiet′);
       rest = rest′;
       static = static′;
-      wide = wk .len ∙ f .wide }
+      wide = wk .len ∙ f .wide;
+    }

@@ -94,7 +94,8 @@ module _ (m₀ : List ℕ) (size n b : ℕ) (m : List ℕ) (c i : ℕ) (g : Goin
         upto = kn;
         quiet = q;
         same = ap (λ (x : ℕ). runs size n x (firedAt m size i) (c + 1)) (sym f) ∙ sym (runs-step size n (b - c) m c i (omega arith) h (g .quiet) e) ∙ g .same;
-        len = l ∙ g .len }
+        len = l ∙ g .len;
+      }
 
   pub going-next : i < n → ableAt m size i ≡ false → Going m₀ size n b (firedAt m size i) c (i + 1)
   going-next h e = rw (fired-idle m size i e) (record { done = g .done; upto = omega arith; quiet = quiet-more m size i (g .quiet) e; same = g .same; len = g .len })

@@ -66,7 +66,8 @@ pub filling-more : (u₀ u u′ m : List ℕ) (n e : ℕ) (r : Bool) → n ≤ 1
 filling-more u₀ u u′ m n e r nb lt f h t = record {
   upto = omega arith;
   cov = λ x k b. go x k b (ℕ-discrete x e);
-  len = h .len ∙ f .len }
+  len = h .len ∙ f .len;
+}
   where
     go : (x : ℕ) → x < e + 1 → name m (x / 6) (x % 6) < 3105 → Dec (x ≡ e) → Found u′ (name m (x / 6) (x % 6)) (x / 6)
     go x k b (yes p) = rw p (h .got t (rw p at b))

@@ -23,8 +23,6 @@ use Rattle.runs.specs.Far.{name}
 use Rattle.runs.specs.Users.{Found, Noted, noted-skip, noted-have1, noted-have2, noted-full, noted-set1, noted-set2, Covers, Filling, filling-start, filling-more}
 use Rattle.runs.specs.Marks.{Awake, Woke, woke-none, woke-then, woke-one, Hits, hits-none, hits-more, Fast, fast-start, fast-skip, fast-next, fast-fire}
 
-
-
 abbrev Inv-loop : tie.InvT-loop
 Inv-loop mem n users₀ end e₀ users e = Filling users₀ users mem n e
 

@@ -17,8 +17,6 @@ use Rattle.runs.specs.Run.{Ran, ran, runs, stillAt, least}
 use Rattle.runs.specs.RunLaws.{Quiet, quiet-none, quiet-more, least-at, least-none, Going, going-start, going-fire, going-next, going-end, going-full}
 use borrow.Author.Tests.{lt-ltb, le-ltb}
 
-
-
 abbrev Inv-loop : tie.InvT-loop
 Inv-loop mem size n i₀ i = (i ≤ n) × Quiet mem size i
 

@@ -26,8 +26,6 @@ use Rattle.runs.specs.Far.{name}
 use Rattle.runs.specs.Users.{Found, Noted, noted-skip, noted-have1, noted-have2, noted-full, noted-set1, noted-set2, Covers, Filling, filling-start, filling-more}
 use Rattle.runs.specs.Marks.{Awake, Woke, woke-none, woke-then, woke-one, Hits, hits-none, hits-more, Fast, fast-start, fast-skip, fast-next, fast-fire}
 
-
-
 -- src/lib.rt:57:9  if 3105 <= l { ⏎ return true;
 returns : tie.Need-returns
 returns c = noted-skip (c .before .before .args .users .now) (c .before .before .args .l) (c .before .before .args .j) (c .if1 .taken)

@@ -8,8 +8,6 @@ use Rattle.layout.proofs.operator_at.Reads as operator-at-reads
 use Rattle.machine.proofs.name_at.Reads as name-at-reads
 use Rattle.layout.specs.Layout.{operatorAt}
 
-
-
 -- src/lib.rt:47:9  { ⏎ let at = layout::operator_at(j);
 operator-at-requires : tie.Need-operator-at-requires
 operator-at-requires c κs = search needs

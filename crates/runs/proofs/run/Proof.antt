@@ -29,8 +29,6 @@ use Rattle.runs.specs.Users.{Found, Noted, noted-skip, noted-have1, note
 use Rattle.runs.specs.Marks.{Awake, Woke, woke-none, woke-then, woke-one, Hits, hits-none, hits-more, Fast, fast-start, fast-skip, fast-next, fast-fire}
 use lib.ListN.{replicate, getD-replicate, length-replicate}
 
-
-
 abbrev Inv-loop : tie.InvT-loop
 Inv-loop mem₀ size n budget users known awake₀ count₀ i₀ mem awake count i = Fast users mem₀ size n budget mem awake count i
 

@@ -17,8 +17,6 @@ use Rattle.machine.specs.Fire.{ableAt, firedAt}
 use Rattle.runs.specs.Run.{Ran, ran, runs}
 use Rattle.runs.specs.RunLaws.{Quiet, quiet-none, Going, going-start, going-fire, going-next, going-end, going-full}
 
-
-
 abbrev Inv-loop : tie.InvT-loop
 Inv-loop mem₀ size n budget count₀ i₀ mem count i = Going mem₀ size n budget mem count i
 

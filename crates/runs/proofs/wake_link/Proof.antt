@@ -23,8 +23,6 @@ use Rattle.runs.specs.Far.{name}
 use Rattle.runs.specs.Users.{Found, Noted, noted-skip, noted-have1, noted-have2, noted-full, noted-set1, noted-set2, Covers, Filling, filling-start, filling-more}
 use Rattle.runs.specs.Marks.{Awake, Woke, woke-none, woke-then, woke-one, Hits, hits-none, hits-more, Fast, fast-start, fast-skip, fast-next, fast-fire}
 
-
-
 -- src/lib.rt:121:17  if l < 3105 { ⏎ let a = 2 * l;
 mul-a : tie.Need-mul-a
 mul-a c = search needs

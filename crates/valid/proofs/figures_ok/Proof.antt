@@ -20,8 +20,6 @@ use borrow.Author.Tests.{eq-eqb, ne-eqb, le-leb, lt-leb, lt-ltb, le-ltb}
 use Rattle.valid.specs.Valid.{unlike, unlikeAt, freshAt, resultOk, inputOk, portOk, namedOk, registerOk, kindOk, operatorOk, tokenOk, stretchOk, linkOk, figuresOk, valid}
 use Rattle.layout.specs.Layout.{capacityByte, operatorsOf, linksOf, inputsOf, resultsOf, untakenOf, noLink, nameAt, triggerOf, operatorAt, kindByte, registerAt, sizeOf, linkAt, part, need, capacityOf}
 
-
-
 -- src/lib.rt:289:8  { ⏎ if mem[0] < 1 {
 shared-slice-read-if1 : tie.Need-shared-slice-read-if1
 shared-slice-read-if1 c = search needs

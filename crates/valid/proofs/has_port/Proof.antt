@@ -11,8 +11,6 @@ use mathlib.Core.Path.{_≡_, sym, _∙_, refl, ap}
 use borrow.Author.Tests.{eq-eqb, ne-eqb, le-leb, lt-leb, lt-ltb, le-ltb}
 use Rattle.layout.specs.Kinds.{inputsOfKind, outputsOfKind, hasPort, mayLack}
 
-
-
 -- src/lib.rt:131:20  if p < 3 { ⏎ return p < inputs_of_kind(kind);
 inputs-of-kind-requires : tie.Need-inputs-of-kind-requires
 inputs-of-kind-requires c κs = search needs

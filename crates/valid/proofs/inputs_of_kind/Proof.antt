@@ -12,8 +12,6 @@ use mathlib.Core.Path.{_≡_, sym, _∙_, refl, ap}
 use borrow.Author.Tests.{eq-eqb, ne-eqb, le-leb, lt-leb, lt-ltb, le-ltb}
 use Rattle.layout.specs.Kinds.{inputsOfKind, outputsOfKind, hasPort, mayLack}
 
-
-
 -- src/lib.rt:98:9  if kind <= 9 { ⏎ return 2;
 returns : tie.Need-returns
 unfolding inputsOfKind

@@ -14,8 +14,6 @@ use mathlib.Core.Bool.{Bool, true, false, _&&_, _||_}
 use Rattle.valid.specs.Valid.{unlike, unlikeAt, freshAt, resultOk, inputOk, portOk, namedOk, registerOk, kindOk, operatorOk, tokenOk, stretchOk, linkOk, figuresOk, valid}
 use Rattle.valid.specs.Below.{allBelow, below-zero, below-step, below-fail}
 
-
-
 abbrev Inv-loop : tie.InvT-loop
 Inv-loop mem at p x q₀ q = (q ≤ p) × (allBelow q (unlikeAt mem at p) ≡ true)
 

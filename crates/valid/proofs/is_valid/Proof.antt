@@ -24,8 +24,6 @@ use Rattle.layout.specs.Layout.{capacityByte, operatorsOf, linksOf, inputsOf, r
 use Rattle.valid.specs.Below.{allBelow, below-zero, below-step, below-fail}
 use Rattle.valid.specs.Figures.{Figures, figures-say, enough}
 
-
-
 -- src/lib.rt:325:8  { ⏎ if figures_ok(mem) {
 figures-ok-requires : tie.Need-figures-ok-requires
 figures-ok-requires c κs = search needs

@@ -10,8 +10,6 @@ use mathlib.Core.Path.{_≡_, sym, _∙_, refl, ap}
 use Prim.Native.Nat.{ℕ, _+_, _-_, _*_, _≤_, _<_}
 use Rattle.valid.specs.Valid.{unlike, unlikeAt, freshAt, resultOk, inputOk, portOk, namedOk, registerOk, kindOk, operatorOk, tokenOk, stretchOk, linkOk, figuresOk, valid}
 
-
-
 -- src/lib.rt:265:9  { ⏎ let a = layout::link_at(size, l);
 link-at-requires : tie.Need-link-at-requires
 link-at-requires c κs = search needs

@@ -8,8 +8,6 @@ use mathlib.Core.Path.{_≡_, sym, _∙_, refl, ap}
 use borrow.Author.Tests.{eq-eqb, ne-eqb, le-leb, lt-leb, lt-ltb, le-ltb}
 use Rattle.layout.specs.Kinds.{inputsOfKind, outputsOfKind, hasPort, mayLack}
 
-
-
 -- src/lib.rt:141:9  if kind == 18 { ⏎ return p == 4;
 returns : tie.Need-returns
 unfolding mayLack

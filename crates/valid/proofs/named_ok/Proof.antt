@@ -14,8 +14,6 @@ use Rattle.valid.specs.Valid.{unlike, unlikeAt, freshAt, resultOk, input
 use Rattle.layout.specs.Layout.{capacityByte, operatorsOf, linksOf, inputsOf, resultsOf, untakenOf, noLink, nameAt, triggerOf, operatorAt, kindByte, registerAt, sizeOf, linkAt, part, need, capacityOf}
 use mathlib.Core.Bool.{Bool, true, false, _&&_, _||_}
 
-
-
 -- src/lib.rt:165:9  { ⏎ let links = layout::number_at(mem, 3);
 number-at-requires : tie.Need-number-at-requires
 number-at-requires c κs = search needs

@@ -20,8 +20,6 @@ use Rattle.valid.specs.Valid.{unlike, unlikeAt, freshAt, resultOk, input
 use Rattle.layout.specs.Layout.{capacityByte, operatorsOf, linksOf, inputsOf, resultsOf, untakenOf, noLink, nameAt, triggerOf, operatorAt, kindByte, registerAt, sizeOf, linkAt, part, need, capacityOf}
 use Rattle.valid.specs.Below.{allBelow, below-zero, below-step, below-fail}
 
-
-
 -- src/lib.rt:216:9  { ⏎ let at = layout::operator_at(i);
 operator-at-requires : tie.Need-operator-at-requires
 operator-at-requires c κs = search needs

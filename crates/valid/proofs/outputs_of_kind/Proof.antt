@@ -9,8 +9,6 @@ use mathlib.Core.Path.{_≡_, sym, _∙_, refl, ap}
 use borrow.Author.Tests.{eq-eqb, ne-eqb, le-leb, lt-leb, lt-ltb, le-ltb}
 use Rattle.layout.specs.Kinds.{inputsOfKind, outputsOfKind, hasPort, mayLack}
 
-
-
 -- src/lib.rt:119:9  if kind == 13 { ⏎ return 2;
 returns : tie.Need-returns
 unfolding outputsOfKind

@@ -14,8 +14,6 @@ use borrow.Author.Tests.{eq-eqb, ne-eqb, le-leb, lt-leb, lt-ltb, le-ltb}
 use Rattle.valid.specs.Valid.{unlike, unlikeAt, freshAt, resultOk, inputOk, portOk, namedOk, registerOk, kindOk, operatorOk, tokenOk, stretchOk, linkOk, figuresOk, valid}
 use Rattle.layout.specs.Kinds.{inputsOfKind, outputsOfKind, hasPort, mayLack}
 
-
-
 -- src/lib.rt:149:8  { ⏎ if has_port(kind, p) {
 has-port-requires : tie.Need-has-port-requires
 has-port-requires c κs = search needs

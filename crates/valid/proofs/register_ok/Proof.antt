@@ -12,8 +12,6 @@ use mathlib.Core.Path.{_≡_, sym, _∙_, refl, ap}
 use borrow.Author.Tests.{eq-eqb, ne-eqb, le-leb, lt-leb, lt-ltb, le-ltb}
 use Rattle.valid.specs.Valid.{unlike, unlikeAt, freshAt, resultOk, inputOk, portOk, namedOk, registerOk, kindOk, operatorOk, tokenOk, stretchOk, linkOk, figuresOk, valid}
 
-
-
 -- src/lib.rt:192:9  if kind == 12 { ⏎ return value::bytes::is_value(word);
 is-value-requires : tie.Need-is-value-requires
 is-value-requires c κs = search needs

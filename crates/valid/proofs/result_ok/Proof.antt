@@ -15,8 +15,6 @@ use borrow.Author.Tests.{eq-eqb, ne-eqb, le-leb, lt-leb, lt-ltb, le-ltb}
 use Rattle.valid.specs.Valid.{unlike, unlikeAt, freshAt, resultOk, inputOk, portOk, namedOk, registerOk, kindOk, operatorOk, tokenOk, stretchOk, linkOk, figuresOk, valid}
 use Rattle.layout.specs.Layout.{capacityByte, operatorsOf, linksOf, inputsOf, resultsOf, untakenOf, noLink, nameAt, triggerOf, operatorAt, kindByte, registerAt, sizeOf, linkAt, part, need, capacityOf}
 
-
-
 -- src/lib.rt:43:8  { ⏎ if machine::name_at(mem, 74, p) < layout::number_at(mem, 3) {
 name-at-requires : tie.Need-name-at-requires
 name-at-requires c κs = search needs

@@ -19,8 +19,6 @@ use Rattle.valid.specs.Below.{allBelow, below-zero, below-step, below-fa
 use lib.ListN.{length}
 use Rattle.queue.specs.Stretch.{waiting}
 
-
-
 abbrev Inv-loop : tie.InvT-loop
 Inv-loop q n j₀ j = (j ≤ n) × (allBelow j (tokenOk q) ≡ true)
 
