@@ -34,8 +34,6 @@ use mathlib.Core.Logic.{_≢_}
 use lib.Dec.{ltb}
 use native.Mathlib.Omega.{arith}
 
-
-
 -- src/lib.rt:100:9  { ⏎ let stands = standing_of(mem);
 standing-of-requires : tie.Need-standing-of-requires
 standing-of-requires c κs = search needs
