@@ -1,0 +1,4 @@
+pub mod Links
+pub mod Fire
+pub mod Parts
+pub mod LinkLaws

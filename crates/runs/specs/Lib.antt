@@ -1,0 +1,5 @@
+pub mod Run
+pub mod RunLaws
+pub mod Far
+pub mod Users
+pub mod Marks
