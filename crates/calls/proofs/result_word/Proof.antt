@@ -34,7 +34,7 @@ to-word-requires c κs = search needs
 -- src/lib.rt:188:1  // Value j of the result set: err past the width. ⏎ fn result_word(mem: &[u8], size: usize, k: usize, j: usize) -> u64
 returns-2 : tie.Need-returns-2
 unfolding resultWord
-returns-2 c = simp (le-ltb (c .before .before .before .args .j) (c .before .before .before .args .k) (c .before .if1 .left)) (c .to-word .ensures)
+returns-2 c = simp (le-ltb (c .before .before .before .args .j) (c .before .before .before .args .k) (c .before .if1 .left)) (c .to-word .ensures .0)
 
 pub result-word-spec : {M : Type 1} → statement M
 result-word-spec =

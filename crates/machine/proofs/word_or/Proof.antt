@@ -25,7 +25,7 @@ to-word-requires c κs = search needs
 
 -- src/lib.rt:105:1  // The word of a token, 0 where there is none. ⏎ fn word_or(token: Decoded) -> u64
 returns-2 : tie.Need-returns-2
-returns-2 c = rw (c .before .before .token .given .1) (c .to-word .ensures)
+returns-2 c = rw (c .before .before .token .given .1) (c .to-word .ensures .0)
 
 pub word-or-spec : {M : Type 1} → statement M
 word-or-spec = tie.close (tie.spec enum-known-token enum-told returns to-word-requires returns-2)
