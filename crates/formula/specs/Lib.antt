@@ -6,3 +6,5 @@ pub mod Free
 pub mod Count
 pub mod Places
 pub mod Tests
+pub mod TestLaws
+pub mod SheetLaws

@@ -1,2 +1,7 @@
 // The sheet reader: the bytes of a formula sheet to its fields and per-row tables, with tests 1 to 10 of document 01.
+pub mod decode;
+pub mod field;
+pub mod layout;
+pub mod places;
+pub mod rows;
 pub mod shape;
