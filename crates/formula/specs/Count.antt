@@ -3,10 +3,10 @@
 use Prim.Native.Nat.{ℕ, _+_, _*_, _-_}
 use mathlib.Core.Bool.{Bool, true, false, not, cond, _&&_, _||_}
 use lib.Dec.{eqb}
-use Rattle.names.specs.Names.{Names, one, union, common, without, range, size}
+use Rattle.names.specs.Names.{Names, trigger, one, union, common, without, range, size, sizeFrom}
 use Rattle.formula.specs.Tree.{Exp, identifier, whole, truth, pair, operator, letE, ifE, forE, Body, ret, iter, letB, ifB}
 use Rattle.formula.specs.Widths.{width, iterated, returned}
-use Rattle.formula.specs.Free.{trigger, freeE, freeB}
+use Rattle.formula.specs.Free.{freeE, freeB}
 
 pub record Count : Type 0 where
   pub operators : ℕ
@@ -30,12 +30,12 @@ joins both = record { operators = 1; links = cond both 3 2 }
 
 -- A copy for each name that two parts of a row both use: "A name .. used k times, k above 1, passes k-1 two-way copies."
 unfoldable pub shared : Names → Names → Count
-unfolding size common
+unfolding size sizeFrom
 shared f g = copies (size (common f g))
 
 -- The names of an if: the test's and the two arms' uses, a T gate on each free name of arm b and an F gate on each of arm c.
 unfoldable pub gated : Names → Names → Names → Count
-unfolding shared size union
+unfolding shared size sizeFrom
 gated t f g = shared t (union f g) ⊕ shared f g ⊕ gates (size f + size g)
 
 -- "an arm that ends, behind any lets, in a body if always returns"
@@ -64,7 +64,7 @@ joined w x y =
 
 -- The operators of a row and of all below it. A body is counted with w, the returned width of the whole loop.
 unfoldable mutual
-  unfolding shared gated joined width returned iterated size freeE
+  unfolding shared gated joined width returned iterated size sizeFrom freeE
 
   pub countE : Exp → Count
   countE (identifier a) = gates 0

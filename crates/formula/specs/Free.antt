@@ -4,16 +4,11 @@ use Prim.Native.Nat.{ℕ}
 use mathlib.Core.Bool.{Bool, true, false, not, _&&_, _||_}
 use mathlib.Core.List.{List}
 use lib.Dec.{eqb}
-use Rattle.names.specs.Names.{Names, one, union, without, range, size, members}
+use Rattle.names.specs.Names.{Names, trigger, one, union, without, range, size, sizeFrom, members, membersFrom}
 use Rattle.formula.specs.Tree.{Exp, identifier, whole, truth, pair, operator, letE, ifE, forE, Body, ret, iter, letB, ifB}
-
-abbrev pub trigger : ℕ
-trigger = 32
 
 -- "row c of let and for lies outside the new identifiers"
 unfoldable mutual
-  unfolding one union without range
-
   pub freeE : Exp → Names
   freeE (identifier a) = one a
   freeE (whole a) = one trigger
@@ -32,7 +27,7 @@ unfoldable mutual
 
 -- No identifier from a to a+b-1 is missing from a set.
 unfoldable pub covers : Names → ℕ → ℕ → Bool
-unfolding size without range
+unfolding size sizeFrom
 covers f a b = eqb (size (without (range a b) f)) 0
 
 -- Test 9 of one row: "Each bound identifier must be free in row d."
@@ -56,5 +51,5 @@ boundB (ifB t x y) = true
 
 -- "The inputs are the formula's free identifiers, rising."
 unfoldable pub inputsOf : Exp → List ℕ
-unfolding members without one freeE
+unfolding members membersFrom freeE
 inputsOf x = members (without (freeE x) (one trigger))

@@ -8,3 +8,5 @@ pub mod Places
 pub mod Tests
 pub mod TestLaws
 pub mod SheetLaws
+pub mod TreeLaws
+pub mod Admitted

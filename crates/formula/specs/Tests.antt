@@ -5,7 +5,6 @@ use mathlib.Core.Bool.{Bool, true, false, not, cond, _&&_, _||_}
 use mathlib.Core.List.{List, [], _∷_, _++_}
 use lib.ListN.{length, getD, take}
 use lib.Dec.{eqb, leb, ltb}
-use Rattle.names.specs.Names.{size}
 use Rattle.formula.specs.declared.Field.{Field}
 use Rattle.formula.specs.declared.Field.the-variants.{Number, Malformed as malformed}
 use Rattle.formula.specs.declared.Shape.{Shape}

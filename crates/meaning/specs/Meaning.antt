@@ -8,8 +8,8 @@ use lib.IntN.{ℤ, pos}
 use lib.Dec.{eqb, leb, ltb}
 use Rattle.value.specs.declared.Value.{Value}
 use Rattle.value.specs.declared.Value.the-variants.{Whole, Truth, Err}
-use Rattle.value.specs.Op.{operateOf}
-use Rattle.names.specs.Names.{Names, range, below}
+use Rattle.value.specs.Operators.{apply}
+use Rattle.names.specs.Names.{Names, range, below, sizeFrom}
 use Rattle.formula.specs.Tree.{Exp, identifier, whole, truth, pair, operator, letE, ifE, forE, Body, ret, iter, letB, ifB}
 use Rattle.formula.specs.Widths.{width, returned}
 
@@ -19,12 +19,11 @@ Env = ℕ → Value
 
 -- Identifiers a to a+b-1 bound to values, the first to a.
 unfoldable pub bind : ℕ → ℕ → List Value → Env → Env
-unfolding range
 bind a b vs env k = cond (range a b k) (getD vs (k - a) Err) (env k)
 
 -- The inputs, rising, hold a set's values in their order.
 unfoldable pub inputsHold : Names → List Value → Env
-unfolding below
+unfolding below sizeFrom
 inputsHold f vs k = getD vs (below f k) Err
 
 -- What an expression yields, with the rounds left; or more rounds are needed than were lent.
@@ -77,7 +76,7 @@ branch Err bad f g = bad
 -- is no truth gives err for each of its values; in a body it ends the loop with err for each returned value." A body is
 -- evaluated with w, the returned width of the whole loop.
 unfoldable mutual
-  unfolding bind then thenB loop branch width operateOf
+  unfolding bind then thenB loop branch width apply
 
   pub evalE : Exp → Env → ℕ → Outcome
   evalE (identifier a) env left = yields (env a ∷ []) left
@@ -86,7 +85,7 @@ unfoldable mutual
   evalE (pair x y) env left =
       then (evalE x env left) λ vs l. then (evalE y env l) λ ws l′. yields (vs ++ ws) l′
   evalE (operator k x) env left =
-      then (evalE x env left) λ vs l. yields (operateOf k (getD vs 0 Err) (getD vs 1 Err) ∷ []) l
+      then (evalE x env left) λ vs l. yields (apply k (getD vs 0 Err) (getD vs 1 Err) ∷ []) l
   evalE (letE a b x y) env left = then (evalE x env left) λ vs l. evalE y (bind a b vs env) l
   evalE (ifE t x y) env left =
       then (evalE t env left) λ vs l.

@@ -1,6 +1,6 @@
 -- Laws of 32-bit whole numbers inside 64 bits: sums, products and quotients fit, and the range test is the tests of the code.
 use mathlib.Core.Path.{_≡_, refl, sym, ap, ap₂, _∙_, subst}
-use mathlib.Core.Bool.{Bool, true, false, cond}
+use mathlib.Core.Bool.{Bool, true, false, cond, _&&_}
 use mathlib.Core.Logic.{⊎-elim}
 use Prim.Native.Nat.{ℕ, zero, suc, _+_, _*_, _-_, _/_, _%_, _^_, _≤_, _<_}
 use native.Mathlib.Omega.{arith}
@@ -8,13 +8,14 @@ use native.Mathlib.Nat.{mul-le-mul, div-le-self, mod-le, le-trans, lt-of-le-of-l
 use lib.IntN.{ℤ, pos, negsuc, _+ℤ_, _-ℤ_, _*ℤ_, negℤ, subℕ}
 use lib.Signed.{leZ, ltZ, quotZ, remZ, mag, mag-rem}
 use lib.Dec.{ltb, leb, eqb}
-use borrow.Author.Tests.{ltb-true, ltb-false, le-leb, lt-leb, eq-eqb, ne-eqb, eqb-true, eqb-false}
+use borrow.Author.Tests.{ltb-true, ltb-false, le-leb, lt-leb, eq-eqb, ne-eqb, eqb-true, eqb-false, leb-true}
 use mir.Syntax.{w32, w64}
 use mir.Val.{SFits, toZ, ofZ}
 use mir.Facts.{toZ-ofZ, sfits-widen, fits-ofZ}
 use Rattle.value.specs.declared.Value.{Value}
 use Rattle.value.specs.declared.Value.the-variants.{Whole, Truth, Err}
-use Rattle.value.specs.Op.{fitOf, isZero, eqZ, pickV}
+use Rattle.value.specs.Bytes.{InRange}
+use Rattle.value.specs.Operators.{pick, inRange, fitOf, dividedBy, isZero, eqZ}
 
 -- a signed local holds bits: what is read back is the number
 pub back : {z : ℤ} → SFits w32 z → toZ w32 (ofZ w32 z) ≡ z
@@ -76,6 +77,10 @@ pub rem-fits : (a b : ℤ) → mag a < 2147483648 → SFits w64 (remZ a b)
 rem-fits a b f = record { sfits = omega (arith, mag-rem a b) }
 
 -- the range test
+and-true : (t : Bool) → t && true ≡ t
+and-true true = refl
+and-true false = refl
+
 lower : (z : ℤ) → ltZ z (negsuc 2147483647) ≡ true → Err ≡ fitOf z
 unfolding fitOf
 lower (pos n) h = let e : _≡_ {A = ℕ} 0 1 = cc in absurd (omega arith)
@@ -94,6 +99,24 @@ inside : (z : ℤ) → mag z < 2147483648 → Whole z ≡ fitOf z
 unfolding fitOf
 inside (pos n) h = simp (le-leb n 2147483647 (omega arith))
 inside (negsuc n) h = simp (le-leb n 2147483647 (omega arith))
+
+fitted : (z : ℤ) (t : Bool) → inRange z ≡ t → InRange (pick t (Whole z) Err)
+fitted z false e = tt
+fitted (pos n) true e = omega (arith, leb-true n 2147483647 e)
+fitted (negsuc n) true e = omega (arith, leb-true n 2147483647 (sym (and-true (leb n 2147483647)) ∙ e))
+
+-- an answer that was fitted into the range is in it
+pub fit-in-range : (z : ℤ) → InRange (fitOf z)
+unfolding fitOf
+fit-in-range z = fitted z (inRange z) refl
+
+pub divided-in-range : (b z : ℤ) → InRange (dividedBy b z)
+unfolding dividedBy
+divided-in-range b z = go (isZero b)
+  where
+    go : (t : Bool) → InRange (pick t Err (fitOf z))
+    go true = tt
+    go false = fit-in-range z
 
 module _ (z : ℤ) (f : SFits w64 z) where
   pub too-low : ltZ (toZ w64 (ofZ w64 z)) (negsuc 2147483647) ≡ true → Err ≡ fitOf z

@@ -1,15 +1,23 @@
-// Values and their operators.
+// Values and their operators: document 01, "Values and operators". The meaning of each code is
+// specs/Operators; the byte form of a value is the module bytes. Assumes nothing.
+pub mod bytes; // bytes.rt: a value as a tag byte and four bytes
+
 ghost use mathlib.Core.Path.{_≡_};
 ghost use Prim.Native.Nat.{ℕ, _+_, _*_, _≤_, _<_};
 ghost use lib.IntN.{pos, negsuc, _+ℤ_, _-ℤ_, _*ℤ_};
-ghost use mir.Syntax.{w64};
-ghost use mir.Val.{SFits};
-ghost use Rattle.value.specs.Op.{fitOf, addOf, subtractOf, multiplyOf, divideOf, remainderOf, lessOf, equalOf, negateOf, arithOf, compareOf, logicOf, operateOf};
+ghost use Rattle.value.specs.Operators.{fitOf, addOf, subtractOf, multiplyOf, divideOf, remainderOf, lessOf, equalOf, andOf, orOf, negateOf, apply};
 
+// "A value is a whole number .., a truth, or err."
 pub enum Value {
     Whole(i32),
     Truth(bool),
     Err,
+}
+
+// What a word of the byte form is: a value, or none.
+pub enum Decoded {
+    Valid(Value),
+    Invalid,
 }
 
 // The whole number z, or err outside the range.
@@ -43,6 +51,7 @@ fn multiply(a: i32, b: i32) -> Value
     fit(a as i64 * b as i64)
 }
 
+// In 64 bits, since least number by -1 leaves 32.
 fn divide(a: i32, b: i32) -> Value
     ensures { λ r. ⌜ r ≡ divideOf a b ⌝ }
 {
@@ -79,70 +88,64 @@ fn negate(a: i32) -> Value
     fit(0 - a as i64)
 }
 
-// Codes 1 to 5.
-fn arith(code: u8, a: i32, b: i32) -> Value
-    ensures { λ r. ⌜ r ≡ arithOf code a b ⌝ }
+fn and(a: bool, b: bool) -> Value
+    ensures { λ r. ⌜ r ≡ andOf a b ⌝ }
+{
+    if a {
+        return Value::Truth(b);
+    }
+    Value::Truth(false)
+}
+
+fn or(a: bool, b: bool) -> Value
+    ensures { λ r. ⌜ r ≡ orOf a b ⌝ }
+{
+    if a {
+        return Value::Truth(true);
+    }
+    Value::Truth(b)
+}
+
+// Codes 1 to 7 of two whole numbers.
+fn apply_wholes(code: u8, a: i32, b: i32) -> Value
+    requires { ⌜ (1 ≤ code) × (code ≤ 7) ⌝ }
+    ensures { λ r. ⌜ r ≡ apply code (Value.Whole a) (Value.Whole b) ⌝ }
 {
     match code {
         1 => add(a, b),
         2 => subtract(a, b),
         3 => multiply(a, b),
         4 => divide(a, b),
-        _ => remainder(a, b),
-    }
-}
-
-// Codes 6 and 7.
-fn compare(code: u8, a: i32, b: i32) -> Value
-    ensures { λ r. ⌜ r ≡ compareOf code a b ⌝ }
-{
-    match code {
+        5 => remainder(a, b),
         6 => less(a, b),
         _ => equal(a, b),
     }
 }
 
-// Codes 8 and 9.
-fn logic(code: u8, a: bool, b: bool) -> Value
-    ensures { λ r. ⌜ r ≡ Value.Truth (logicOf code a b) ⌝ }
+// Codes 8 and 9 of two truths.
+fn apply_truths(code: u8, a: bool, b: bool) -> Value
+    requires { ⌜ (8 ≤ code) × (code ≤ 9) ⌝ }
+    ensures { λ r. ⌜ r ≡ apply code (Value.Truth a) (Value.Truth b) ⌝ }
 {
     match code {
-        8 => {
-            if a {
-                return Value::Truth(b);
-            }
-            Value::Truth(false)
-        }
-        _ => {
-            if a {
-                return Value::Truth(true);
-            }
-            Value::Truth(b)
-        }
+        8 => and(a, b),
+        _ => or(a, b),
     }
 }
 
-pub fn operate(code: u8, a: Value, b: Value) -> Value
-    ensures { λ r. ⌜ r ≡ operateOf code a b ⌝ }
+// The operator of a code on its operands; codes 10 and 11 do not look at the second.
+pub fn apply_code(code: u8, a: Value, b: Value) -> Value
+    ensures { λ r. ⌜ r ≡ apply code a b ⌝ }
 {
     match code {
-        1..=5 => {
+        1..=7 => {
             let Value::Whole(x) = a else {
                 return Value::Err;
             };
             let Value::Whole(y) = b else {
                 return Value::Err;
             };
-            arith(code, x, y)
-        }
-        6 | 7 => {
-            let Value::Whole(x) = a else {
-                return Value::Err;
-            };
-            let Value::Whole(y) = b else {
-                return Value::Err;
-            };
-            compare(code, x, y)
+            apply_wholes(code, x, y)
         }
         8..=9 => {
             let Value::Truth(x) = a else {
@@ -151,7 +154,7 @@ pub fn operate(code: u8, a: Value, b: Value) -> Value
             let Value::Truth(y) = b else {
                 return Value::Err;
             };
-            logic(code, x, y)
+            apply_truths(code, x, y)
         }
         10 => {
             let Value::Truth(x) = a else {

@@ -1,0 +1,4 @@
+pub mod Assembly
+pub mod Translation
+pub mod Yields
+pub mod Fit

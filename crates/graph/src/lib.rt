@@ -1,0 +1,1 @@
+// The graph of a formula, as definitions and laws in specs/. No function stands here.

@@ -1,0 +1,4 @@
+pub mod Masks
+pub mod Counts
+pub mod Walk
+pub mod Sets

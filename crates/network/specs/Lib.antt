@@ -1,0 +1,14 @@
+-- The root of the specs.
+pub mod Values
+pub mod Rules
+pub mod Histories
+pub mod HistoryLaw
+pub mod Net
+pub mod Commute
+pub mod Wired
+pub mod Fill
+pub mod Decide
+pub mod Firing
+pub mod FiringHistory
+pub mod Ends
+pub mod Uses

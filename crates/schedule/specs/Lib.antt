@@ -1,0 +1,4 @@
+-- The root of the specs.
+pub mod Schedules
+pub mod Counts
+pub mod Progress

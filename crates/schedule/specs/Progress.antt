@@ -1,0 +1,51 @@
+-- What follows from the residual for a run that comes to rest: the first event left of a reference can happen now, and two runs from one
+-- state that are both at rest have made each event equally often (document 02, the tally).
+-- Assumes the diamond.
+use Prim.Native.Nat.{ℕ, zero, suc, _<_, _≤_, _+_, _-_}
+use mathlib.Core.Path.{_≡_, refl, sym, _∙_, ap}
+use mathlib.Core.Logic.{_≢_, _⊎_, inl, inr}
+use mathlib.Core.List.{List, [], _∷_}
+use lib.ListN.{length}
+use native.Mathlib.Omega.{arith}
+use Rattle.schedule.specs.Schedules.{remaining, Possible, reached, Diamond, remaining-possible}
+use Rattle.schedule.specs.Counts.{count, count-remaining, length-remaining, remaining-head-differs}
+
+module _ {S O : Type 0} (enabled : ℕ → S → Type 0) (next : ℕ → S → S) (output : ℕ → S → O) (D : Diamond enabled next output) where
+  -- The run has made the reference's pushes. Then it has made all its takes too, or something other than a push can happen.
+  pub progress : (push take : ℕ) (u w : List ℕ) (s : S) → Possible enabled next output u s → Possible enabled next output w s →
+      count push w ≤ count push u →
+      (count take w ≤ count take u) ⊎ ((e : ℕ) × (e ≢ push) × enabled e (reached enabled next output u s))
+  progress push take u w s ru rw′ le = go (remaining u w) refl (remaining-possible enabled next output D u w s ru rw′)
+    where
+      go : (v : List ℕ) → remaining u w ≡ v → Possible enabled next output v (reached enabled next output u s) →
+          (count take w ≤ count take u) ⊎ ((e : ℕ) × (e ≢ push) × enabled e (reached enabled next output u s))
+      go [] e r = inl (omega (arith, sym (count-remaining take u w) ∙ ap (count take) e))
+      go (b ∷ v) e r = inr (b, remaining-head-differs push b u w v e le, r .0)
+
+  -- A reference longer than the run, as one of a loop that does not end: something other than a push can happen.
+  pub endless : (push : ℕ) (u w : List ℕ) (s : S) → Possible enabled next output u s → Possible enabled next output w s →
+      count push w ≤ count push u → length u < length w → (e : ℕ) × (e ≢ push) × enabled e (reached enabled next output u s)
+  endless push u w s ru rw′ le lt = go (remaining u w) refl (remaining-possible enabled next output D u w s ru rw′)
+    where
+      go : (v : List ℕ) → remaining u w ≡ v → Possible enabled next output v (reached enabled next output u s) →
+          (e : ℕ) × (e ≢ push) × enabled e (reached enabled next output u s)
+      go [] e r = absurd (omega (arith, length-remaining u w, ap length e))
+      go (b ∷ v) e r = (b, remaining-head-differs push b u w v e le, r .0)
+
+  -- Nothing can happen.
+  abbrev pub Still : S → Type 0
+  Still s = (e : ℕ) → enabled e s → ⊥
+
+  -- Where a run is at rest, nothing is left of any reference: it has made each event at least as often.
+  pub still-covers : (u w : List ℕ) (s : S) → Possible enabled next output u s → Possible enabled next output w s →
+      Still (reached enabled next output u s) → (e : ℕ) → count e w ≤ count e u
+  still-covers u w s ru rw′ q e = go (remaining u w) refl (remaining-possible enabled next output D u w s ru rw′)
+    where
+      go : (v : List ℕ) → remaining u w ≡ v → Possible enabled next output v (reached enabled next output u s) → count e w ≤ count e u
+      go [] z r = omega (arith, sym (count-remaining e u w) ∙ ap (count e) z)
+      go (b ∷ v) z r = absurd (q b (r .0))
+
+  -- Two runs at rest have made each event equally often. For two capacities, hold each run against one reference possible at both.
+  pub still-counts-equal : (u w : List ℕ) (s : S) → Possible enabled next output u s → Possible enabled next output w s →
+      Still (reached enabled next output u s) → Still (reached enabled next output w s) → (e : ℕ) → count e u ≡ count e w
+  still-counts-equal u w s ru rw′ qu qw e = omega (arith, still-covers u w s ru rw′ qu e, still-covers w u s rw′ ru qw e)

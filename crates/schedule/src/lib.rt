@@ -1,0 +1,1 @@
+// Nothing runs here: the crate holds theory only (specs/), the residual of a reference schedule.

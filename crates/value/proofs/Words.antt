@@ -1,0 +1,232 @@
+-- Laws of the byte form (specs/Bytes): a value and its word determine each other, a word and its five bytes too, and
+-- storing a word changes those five bytes alone. Assumes nothing.
+use mathlib.Core.Path.{_≡_, refl, sym, ap, _∙_}
+use mathlib.Core.Bool.{Bool, true, false}
+use mathlib.Core.Logic.{_⊎_, inl, inr, ⊎-elim}
+use mathlib.Core.List.{List, [], _∷_, _++_, append-assoc}
+use mathlib.Core.Option.{Option, some, none, Option·some-injective, Option·none-ne-some}
+use Prim.Native.Nat.{ℕ, zero, suc, _+_, _-_, _*_, _/_, _%_, _≤_, _<_}
+use native.Mathlib.Omega.{arith}
+use native.Mathlib.Nat.{add-zero, div-div-eq-div-mul, div-add-mod', mod-eq-of-lt}
+use borrow.Author.Tests.{eq-eqb, ne-eqb, lt-ltb, le-ltb, eqb-true, eqb-false, ltb-true}
+use lib.Dec.{eqb, ltb}
+use lib.IntN.{ℤ, pos, negsuc}
+use lib.Signed.{mag}
+use lib.ListN.{length, set, getD, take, drop}
+use lib.Seq.{sets, length-sets, sets-eq, getD-drop, drop-at, length-take-le, getD-set-other}
+use mir.Syntax.{w32}
+use mir.Val.{Fits, SFits, toZ, ofZ}
+use mir.Facts.{toZ-ofZ, ofZ-toZ, fits-ofZ, sfits-toZ}
+use Rattle.value.specs.declared.Value.{Value}
+use Rattle.value.specs.declared.Value.the-variants.{Whole, Truth, Err}
+use Rattle.value.specs.Operators.{pick}
+use Rattle.value.specs.Bytes.{InRange, tagOf, bitsOf, bitOf, wordOf, valueOf, wholeOf, truthOf, errOf, isSome, wordBytes, bytesOf, wordAt, stored}
+
+-- ---- the tests of the code
+
+module _ (w : ℕ) where
+  pub whole-valid : w % 256 ≡ 1 → ltb (w / 256) 4294967296 ≡ isSome (valueOf w)
+  unfolding valueOf
+  whole-valid h = rw h (go (ltb (w / 256) 4294967296))
+    where
+      go : (t : Bool) → t ≡ isSome (pick t (some (Whole (toZ w32 (w / 256)))) none)
+      go true = refl
+      go false = refl
+
+  pub truth-valid : w % 256 ≡ 2 → ltb (w / 256) 2 ≡ isSome (valueOf w)
+  unfolding valueOf
+  truth-valid h = rw h (go (w / 256))
+    where
+      go : (n : ℕ) → ltb n 2 ≡ isSome (pick (eqb n 0) (some (Truth false)) (pick (eqb n 1) (some (Truth true)) none))
+      go zero = refl
+      go (suc zero) = refl
+      go (suc (suc n)) = simp (le-ltb (suc (suc n)) 2 (omega arith), ne-eqb (suc (suc n)) 0 (λ e. omega arith), ne-eqb (suc (suc n)) 1 (λ e. omega arith))
+
+  pub err-valid : w % 256 ≡ 3 → eqb (w / 256) 0 ≡ isSome (valueOf w)
+  unfolding valueOf
+  err-valid h = rw h (go (eqb (w / 256) 0))
+    where
+      go : (t : Bool) → t ≡ isSome (pick t (some Err) none)
+      go true = refl
+      go false = refl
+
+  pub no-tag : (w % 256 ≡ 1 → ⊥) → (w % 256 ≡ 2 → ⊥) → (w % 256 ≡ 3 → ⊥) → valueOf w ≡ none
+  unfolding valueOf
+  no-tag p q r = simp (ne-eqb (w % 256) 1 p, ne-eqb (w % 256) 2 q, ne-eqb (w % 256) 3 r)
+
+  pub tag-valid : (w % 256 ≡ 1 → ⊥) → (w % 256 ≡ 2 → ⊥) → (w % 256 ≡ 3 → ⊥) → false ≡ isSome (valueOf w)
+  tag-valid p q r = rw (no-tag p q r) refl
+
+pub stores : (l : List ℕ) (i a b c d e : ℕ) → set (set (set (set (set l i a) (i + 1) b) (i + 2) c) (i + 3) d) (i + 4) e ≡ sets l i (a ∷ b ∷ c ∷ d ∷ e ∷ [])
+stores l i a b c d e =
+    let p1 : i + 1 ≡ suc i = omega arith in
+    let p2 : i + 2 ≡ suc (suc i) = omega arith in
+    let p3 : i + 3 ≡ suc (suc (suc i)) = omega arith in
+    let p4 : i + 4 ≡ suc (suc (suc (suc i))) = omega arith in
+    rw (p1, p2, p3, p4) refl
+
+-- ---- a value and its word
+
+whole-word : (n : ℕ) → n < 4294967296 → valueOf (1 + 256 * n) ≡ some (Whole (toZ w32 n))
+unfolding valueOf
+whole-word n h =
+    let t : (1 + 256 * n) % 256 ≡ 1 = omega arith in
+    let b : (1 + 256 * n) / 256 ≡ n = omega arith in
+    rw (t, b) (simp (lt-ltb n 4294967296 h))
+
+-- the word of a value is read back as the value
+pub value-of-word : (v : Value) → InRange v → valueOf (wordOf v) ≡ some v
+unfolding wordOf valueOf
+value-of-word (Whole z) h =
+    let f : SFits w32 z = record { sfits = h } in
+    whole-word (ofZ w32 z) (fits-ofZ f .fits) ∙ ap (λ (y : ℤ). some (Whole y)) (toZ-ofZ f)
+value-of-word (Truth true) h = refl
+value-of-word (Truth false) h = refl
+value-of-word Err h = refl
+
+-- A word that is a value's byte form, by its tag.
+pub data Form (w : ℕ) (v : Value) : Type 0 where
+  is-whole : w % 256 ≡ 1 → w / 256 < 4294967296 → v ≡ Whole (toZ w32 (w / 256)) → Form w v
+  is-truth : (b : Bool) → w ≡ 2 + 256 * bitOf b → v ≡ Truth b → Form w v
+  is-err : w ≡ 3 → v ≡ Err → Form w v
+
+never : {v : Value} → _≡_ {A = Option Value} none (some v) → ⊥
+never {v} h = Option·none-ne-some v h
+
+same : {u v : Value} → _≡_ {A = Option Value} (some u) (some v) → v ≡ u
+same {u} {v} h = sym (Option·some-injective u v h)
+
+module _ (w : ℕ) (v : Value) where
+  whole-form : w % 256 ≡ 1 → (t : Bool) → ltb (w / 256) 4294967296 ≡ t → pick t (some (Whole (toZ w32 (w / 256)))) none ≡ some v → Form w v
+  whole-form e true l h = is-whole e (ltb-true (w / 256) 4294967296 l) (same h)
+  whole-form e false l h = absurd (never h)
+
+  truth-form : w % 256 ≡ 2 → (s : Bool) → eqb (w / 256) 0 ≡ s → (t : Bool) → eqb (w / 256) 1 ≡ t → pick s (some (Truth false)) (pick t (some (Truth true)) none) ≡ some v → Form w v
+  truth-form e true p t q h = is-truth false (omega (arith, eqb-true (w / 256) 0 p)) (same h)
+  truth-form e false p true q h = is-truth true (omega (arith, eqb-true (w / 256) 1 q)) (same h)
+  truth-form e false p false q h = absurd (never h)
+
+  err-form : w % 256 ≡ 3 → (t : Bool) → eqb (w / 256) 0 ≡ t → pick t (some Err) none ≡ some v → Form w v
+  err-form e true p h = is-err (omega (arith, eqb-true (w / 256) 0 p)) (same h)
+  err-form e false p h = absurd (never h)
+
+  pub form : valueOf w ≡ some v → Form w v
+  unfolding valueOf
+  form = go (eqb (w % 256) 1) refl (eqb (w % 256) 2) refl (eqb (w % 256) 3) refl
+    where
+      go : (a : Bool) → eqb (w % 256) 1 ≡ a → (b : Bool) → eqb (w % 256) 2 ≡ b → (c : Bool) → eqb (w % 256) 3 ≡ c
+          → pick a (wholeOf (w / 256)) (pick b (truthOf (w / 256)) (pick c (errOf (w / 256)) none)) ≡ some v → Form w v
+      go true p b q c r h = whole-form (eqb-true (w % 256) 1 p) _ refl h
+      go false p true q c r h = truth-form (eqb-true (w % 256) 2 q) _ refl _ refl h
+      go false p false q true r h = err-form (eqb-true (w % 256) 3 r) _ refl h
+      go false p false q false r h = absurd (never h)
+
+word-of-form : (w : ℕ) (v : Value) → Form w v → w ≡ wordOf v
+unfolding wordOf
+word-of-form w v (is-whole e l p) =
+    let f : Fits w32 (w / 256) = record { fits = l } in
+    rw (p, ofZ-toZ f) (omega arith)
+word-of-form w v (is-truth b e p) = rw p e
+word-of-form w v (is-err e p) = rw p e
+
+in-range-of-form : (w : ℕ) (v : Value) → Form w v → InRange v
+in-range-of-form w v (is-whole e l p) =
+    let f : Fits w32 (w / 256) = record { fits = l } in
+    rw p (sfits-toZ f .sfits)
+in-range-of-form w v (is-truth b e p) = rw p tt
+in-range-of-form w v (is-err e p) = rw p tt
+
+-- a value has one word only
+pub word-of-value : (w : ℕ) (v : Value) → valueOf w ≡ some v → w ≡ wordOf v
+word-of-value w v h = word-of-form w v (form w v h)
+
+pub value-in-range : (w : ℕ) (v : Value) → valueOf w ≡ some v → InRange v
+value-in-range w v h = in-range-of-form w v (form w v h)
+
+-- the word 0 is no value
+pub no-value : valueOf 0 ≡ none
+unfolding valueOf
+no-value = refl
+
+pub word-pos : (v : Value) → 1 ≤ wordOf v
+unfolding wordOf
+word-pos (Whole z) = omega arith
+word-pos (Truth b) = omega arith
+word-pos Err = omega arith
+
+pub word-lt : (v : Value) → InRange v → wordOf v < 1099511627776
+unfolding wordOf
+word-lt (Whole z) h =
+    let f : SFits w32 z = record { sfits = h } in
+    omega (arith, fits-ofZ f .fits)
+word-lt (Truth true) h = omega arith
+word-lt (Truth false) h = omega arith
+word-lt Err h = omega arith
+
+-- ---- a word and its bytes
+
+combine : (w q1 q2 q3 q4 r0 r1 r2 r3 r4 : ℕ) → q1 * 256 + r0 ≡ w → q2 * 256 + r1 ≡ q1 → q3 * 256 + r2 ≡ q2 → q4 * 256 + r3 ≡ q3 → r4 ≡ q4
+    → r0 + 256 * r1 + 65536 * r2 + 16777216 * r3 + 4294967296 * r4 ≡ w
+combine w q1 q2 q3 q4 r0 r1 r2 r3 r4 e0 e1 e2 e3 e4 = omega arith
+
+word-of-bytes : (w : ℕ) → w < 1099511627776 → w % 256 + 256 * (w / 256 % 256) + 65536 * (w / 65536 % 256) + 16777216 * (w / 16777216 % 256) + 4294967296 * (w / 4294967296 % 256) ≡ w
+word-of-bytes w h =
+    combine w (w / 256) (w / 65536) (w / 16777216) (w / 4294967296) (w % 256) (w / 256 % 256) (w / 65536 % 256) (w / 16777216 % 256) (w / 4294967296 % 256)
+    (div-add-mod' w 256)
+    (rw (div-div-eq-div-mul w 256 256) at (div-add-mod' (w / 256) 256))
+    (rw (div-div-eq-div-mul w 65536 256) at (div-add-mod' (w / 65536) 256))
+    (rw (div-div-eq-div-mul w 16777216 256) at (div-add-mod' (w / 16777216) 256))
+    (mod-eq-of-lt (omega arith))
+
+word-drop : (l : List ℕ) (at : ℕ) → wordAt l at ≡ wordAt (drop at l) 0
+unfolding wordAt
+word-drop l at = rw (getD-drop at l 0 0, getD-drop at l 1 0, getD-drop at l 2 0, getD-drop at l 3 0, getD-drop at l 4 0, add-zero at) refl
+
+sets-other : (vs l : List ℕ) (at i : ℕ) → (i < at) ⊎ (at + length vs ≤ i) → getD (sets l at vs) i 0 ≡ getD l i 0
+sets-other [] l at i h = refl
+sets-other (v ∷ vs) l at i h =
+    sets-other vs (set l at v) (suc at) i (⊎-elim (λ (x : i < at). inl (omega arith)) (λ (x : at + suc (length vs) ≤ i). inr (omega arith)) h)
+    ∙ getD-set-other l at i v 0 (λ e. ⊎-elim (λ (x : i < at). omega arith) (λ (x : at + suc (length vs) ≤ i). omega arith) h)
+
+module _ (l : List ℕ) (at w : ℕ) where
+  pub length-stored : length (stored l at w) ≡ length l
+  unfolding stored
+  length-stored = length-sets l at (wordBytes w)
+
+  -- the parts before and after are as they were
+  pub stored-parts : at + 5 ≤ length l → stored l at w ≡ take at l ++ (wordBytes w ++ drop (at + 5) l)
+  unfolding stored
+  stored-parts h = sets-eq (wordBytes w) l at h ∙ append-assoc (take at l) (wordBytes w) (drop (at + 5) l)
+
+  -- reading back the stored bytes gives the word
+  pub word-stored : at + 5 ≤ length l → w < 1099511627776 → wordAt (stored l at w) at ≡ w
+  unfolding wordAt wordBytes
+  word-stored h b =
+      word-drop (stored l at w) at
+      ∙ ap (λ (s : List ℕ). wordAt (drop at s) 0) (stored-parts h)
+      ∙ ap (λ (s : List ℕ). wordAt s 0) (drop-at (take at l) (wordBytes w ++ drop (at + 5) l) at (length-take-le at l (omega arith)))
+      ∙ word-of-bytes w b
+
+  byte-kept : (i : ℕ) → (i < at) ⊎ (at + 5 ≤ i) → getD (stored l at w) i 0 ≡ getD l i 0
+  unfolding stored
+  byte-kept i h = sets-other (wordBytes w) l at i h
+
+  pub byte-before : (i : ℕ) → i < at → getD (stored l at w) i 0 ≡ getD l i 0
+  byte-before i h = byte-kept i (inl h)
+
+  pub byte-after : (i : ℕ) → at + 5 ≤ i → getD (stored l at w) i 0 ≡ getD l i 0
+  byte-after i h = byte-kept i (inr h)
+
+  -- words that lie wholly before or after it are as they were
+  pub word-before : (j : ℕ) → j + 5 ≤ at → wordAt (stored l at w) j ≡ wordAt l j
+  unfolding wordAt
+  word-before j h = rw (byte-before j (omega arith), byte-before (j + 1) (omega arith), byte-before (j + 2) (omega arith), byte-before (j + 3) (omega arith), byte-before (j + 4) (omega arith)) refl
+
+  pub word-after : (j : ℕ) → at + 5 ≤ j → wordAt (stored l at w) j ≡ wordAt l j
+  unfolding wordAt
+  word-after j h = rw (byte-after j h, byte-after (j + 1) (omega arith), byte-after (j + 2) (omega arith), byte-after (j + 3) (omega arith), byte-after (j + 4) (omega arith)) refl
+
+-- five bytes make a word below 2^40
+pub word-at-lt : (l : List ℕ) (at : ℕ) → ((i : ℕ) → getD l i 0 < 256) → wordAt l at < 1099511627776
+unfolding wordAt
+word-at-lt l at h = omega (arith, h at, h (at + 1), h (at + 2), h (at + 3), h (at + 4))

@@ -1,0 +1,88 @@
+-- Outcomes of operators that document 01, "Values and operators", states or that its words decide at the ends of the
+-- range: one list and one proof. They hold the definition in Operators to the paper. Assumes nothing.
+use Prim.Native.Nat.{ℕ}
+use mathlib.Core.Path.{_≡_, refl}
+use mathlib.Core.Bool.{Bool, true, false}
+use mathlib.Core.List.{List, [], _∷_, map}
+use lib.IntN.{ℤ, pos, negsuc}
+use Rattle.value.specs.declared.Value.{Value}
+use Rattle.value.specs.declared.Value.the-variants.{Whole, Truth, Err}
+use Rattle.value.specs.Operators.{apply}
+
+pub record Case : Type 0 where
+  pub code : ℕ
+  pub first : Value
+  pub second : Value
+  pub gives : Value
+
+abbrev at : ℕ → Value → Value → Value → Case
+at c a b r = record { code = c; first = a; second = b; gives = r }
+
+-- a whole number that is not negative, and the negative -(n + 1)
+abbrev n : ℕ → Value
+n k = Whole (pos k)
+
+abbrev minus : ℕ → Value
+minus k = Whole (negsuc k)
+
+abbrev least : Value
+least = Whole (negsuc 2147483647)
+
+abbrev greatest : Value
+greatest = Whole (pos 2147483647)
+
+abbrev pub cases : List Case
+cases =
+    at 1 (n 2) (n 3) (n 5)
+    ∷ at 1 greatest (n 1) Err
+    ∷ at 1 least (minus 0) Err
+    ∷ at 1 greatest least (minus 0)
+    ∷ at 2 (n 2) (n 3) (minus 0)
+    ∷ at 2 least (n 1) Err
+    ∷ at 2 greatest (minus 0) Err
+    ∷ at 2 (minus 0) least greatest
+    ∷ at 3 (minus 6) (n 6) (minus 41)
+    ∷ at 3 (n 65536) (n 32768) Err
+    ∷ at 3 (n 65536) (minus 32767) least
+    ∷ at 3 (n 65536) (minus 32768) Err
+    ∷ at 3 least (minus 0) Err
+    ∷ at 4 (minus 6) (n 2) (minus 2)
+    ∷ at 4 (n 7) (minus 1) (minus 2)
+    ∷ at 4 (n 1) (n 0) Err
+    ∷ at 4 least (minus 0) Err
+    ∷ at 4 least (n 1) least
+    ∷ at 5 (minus 6) (n 2) (minus 0)
+    ∷ at 5 (n 7) (minus 1) (n 1)
+    ∷ at 5 (n 1) (n 0) Err
+    ∷ at 5 least (minus 0) (n 0)
+    ∷ at 6 least greatest (Truth true)
+    ∷ at 6 (n 3) (n 3) (Truth false)
+    ∷ at 6 (minus 1) (minus 0) (Truth true)
+    ∷ at 6 (Truth false) (Truth true) Err
+    ∷ at 7 (minus 3) (minus 3) (Truth true)
+    ∷ at 7 (n 3) (minus 3) (Truth false)
+    ∷ at 7 (Truth true) (Truth true) Err
+    ∷ at 8 (Truth true) (Truth true) (Truth true)
+    ∷ at 8 (Truth true) (Truth false) (Truth false)
+    ∷ at 8 (Truth false) Err Err
+    ∷ at 9 (Truth false) (Truth false) (Truth false)
+    ∷ at 9 (Truth false) (Truth true) (Truth true)
+    ∷ at 9 Err (Truth true) Err
+    ∷ at 9 (n 1) (Truth true) Err
+    ∷ at 10 (Truth true) Err (Truth false)
+    ∷ at 10 (n 0) (n 0) Err
+    ∷ at 11 (n 5) (Truth true) (minus 4)
+    ∷ at 11 (n 0) Err (n 0)
+    ∷ at 11 least Err Err
+    ∷ at 11 greatest Err (minus 2147483646)
+    ∷ at 11 Err (n 1) Err
+    ∷ at 0 (n 1) (n 1) Err
+    ∷ at 12 (n 1) (n 1) Err
+    ∷ []
+
+abbrev got : Case → Value
+got c = apply (c .code) (c .first) (c .second)
+
+pub outcomes : map got cases ≡ map (λ c. c .gives) cases
+unfolding apply
+outcomes = refl

@@ -1,0 +1,122 @@
+-- The meaning of each operator: document 01, "Values and operators", in its order.
+-- Everything above asks `apply` (code, first operand, second operand) and cites the laws in proofs/Codes; the
+-- pieces above it are open to this crate's functions alone. Assumes nothing.
+use Prim.Native.Nat.{ℕ, zero, suc, _+_, _*_}
+use mathlib.Core.Bool.{Bool, true, false, _&&_, not, _||_}
+use lib.IntN.{ℤ, pos, negsuc, _+ℤ_, _-ℤ_, _*ℤ_, negℤ}
+use lib.Signed.{leZ, ltZ, quotZ, remZ}
+use lib.Dec.{eqb}
+use Rattle.value.specs.declared.Value.{Value}
+use Rattle.value.specs.declared.Value.the-variants.{Whole, Truth, Err}
+
+-- the first where the test holds, else the second
+abbrev pub pick {ℓ} : {A : Type ℓ} → Bool → A → A → A
+pick true a b = a
+pick false a b = b
+
+-- "a whole number from -2,147,483,648 to 2,147,483,647"
+abbrev pub inRange : ℤ → Bool
+inRange z = leZ (negsuc 2147483647) z && leZ z (pos 2147483647)
+
+-- "an exact answer outside the range gives err"
+unfoldable pub fitOf : ℤ → Value
+fitOf z = pick (inRange z) (Whole z) Err
+
+abbrev pub isZero : ℤ → Bool
+isZero (pos zero) = true
+isZero (pos (suc n)) = false
+isZero (negsuc n) = false
+
+abbrev pub eqZ : ℤ → ℤ → Bool
+eqZ (pos a) (pos b) = eqb a b
+eqZ (pos a) (negsuc b) = false
+eqZ (negsuc a) (pos b) = false
+eqZ (negsuc a) (negsuc b) = eqb a b
+
+-- "a zero divisor .. gives err"
+unfoldable pub dividedBy : ℤ → ℤ → Value
+dividedBy b z = pick (isZero b) Err (fitOf z)
+
+-- The exact function of each operator, over all integers.
+unfoldable pub addOf : ℤ → ℤ → Value
+addOf a b = fitOf (a +ℤ b)
+
+unfoldable pub subtractOf : ℤ → ℤ → Value
+subtractOf a b = fitOf (a -ℤ b)
+
+unfoldable pub multiplyOf : ℤ → ℤ → Value
+multiplyOf a b = fitOf (a *ℤ b)
+
+-- "cuts toward zero"
+unfoldable pub divideOf : ℤ → ℤ → Value
+divideOf a b = dividedBy b (quotZ a b)
+
+-- "has the dividend's sign"
+unfoldable pub remainderOf : ℤ → ℤ → Value
+remainderOf a b = dividedBy b (remZ a b)
+
+-- "6 and 7 give a truth"
+unfoldable pub lessOf : ℤ → ℤ → Value
+lessOf a b = Truth (ltZ a b)
+
+unfoldable pub equalOf : ℤ → ℤ → Value
+equalOf a b = Truth (eqZ a b)
+
+unfoldable pub andOf : Bool → Bool → Value
+andOf a b = Truth (a && b)
+
+unfoldable pub orOf : Bool → Bool → Value
+orOf a b = Truth (a || b)
+
+unfoldable pub notOf : Bool → Value
+notOf a = Truth (not a)
+
+unfoldable pub negateOf : ℤ → Value
+negateOf a = fitOf (negℤ a)
+
+-- "An err operand, a wrong kind .. gives err": the operands that an operator wants, and err beside them.
+unfoldable pub wholes : (ℤ → ℤ → Value) → Value → Value → Value
+wholes f (Whole a) (Whole b) = f a b
+wholes f (Whole a) (Truth b) = Err
+wholes f (Whole a) Err = Err
+wholes f (Truth a) b = Err
+wholes f Err b = Err
+
+unfoldable pub truths : (Bool → Bool → Value) → Value → Value → Value
+truths f (Truth a) (Truth b) = f a b
+truths f (Truth a) (Whole b) = Err
+truths f (Truth a) Err = Err
+truths f (Whole a) b = Err
+truths f Err b = Err
+
+unfoldable pub truth : (Bool → Value) → Value → Value
+truth f (Truth a) = f a
+truth f (Whole a) = Err
+truth f Err = Err
+
+unfoldable pub whole : (ℤ → Value) → Value → Value
+whole f (Whole a) = f a
+whole f (Truth a) = Err
+whole f Err = Err
+
+-- "1 add, 2 subtract, 3 multiply, 4 divide, 5 remainder, 6 less, 7 equal, 8 and, 9 or, 10 not, 11 negate."
+-- "8 to 10 want truths, the others whole numbers". A code that is none of these has no operator, and gives err.
+unfoldable pub apply : ℕ → Value → Value → Value
+unfolding fitOf dividedBy addOf subtractOf multiplyOf divideOf remainderOf lessOf equalOf andOf orOf notOf negateOf wholes truths truth whole
+apply c a b =
+    pick (eqb c 1) (wholes addOf a b)
+    (pick (eqb c 2) (wholes subtractOf a b)
+    (pick (eqb c 3) (wholes multiplyOf a b)
+    (pick (eqb c 4) (wholes divideOf a b)
+    (pick (eqb c 5) (wholes remainderOf a b)
+    (pick (eqb c 6) (wholes lessOf a b)
+    (pick (eqb c 7) (wholes equalOf a b)
+    (pick (eqb c 8) (truths andOf a b)
+    (pick (eqb c 9) (truths orOf a b)
+    (pick (eqb c 10) (truth notOf a)
+    (pick (eqb c 11) (whole negateOf a)
+    Err))))))))))
+
+-- "10 and 11 take one operand, the rest two."
+unfoldable pub operands : ℕ → ℕ
+operands c = pick (eqb c 10 || eqb c 11) 1 2

@@ -1,0 +1,132 @@
+// The byte form of a value (specs/Bytes): five bytes, read and written as one word below 2^40.
+// Tokens in memory and the sets that the firmware lends have this form. Assumes nothing.
+use crate::Decoded;
+use crate::Value;
+ghost use mathlib.Core.Path.{_≡_};
+ghost use Prim.Native.Nat.{ℕ, _+_, _*_, _≤_, _<_};
+ghost use lib.ListN.{length};
+ghost use mir.Syntax.{w32};
+ghost use mir.Val.{toZ, ofZ};
+ghost use Rattle.value.specs.Bytes.{wordOf, valueOf, decoded, isSome, wordAt, stored, wholeOf, truthOf, errOf};
+
+// A whole number from its 32 bits, two's complement.
+fn signed_of(bits: u32) -> i32
+    ensures { λ r. ⌜ r ≡ toZ w32 bits ⌝ }
+{
+    if bits < 2147483648 {
+        return bits as i32;
+    }
+    let low = 4294967295 - bits;
+    -1 - low as i32
+}
+
+fn bits_of(z: i32) -> u32
+    ensures { λ r. ⌜ r ≡ ofZ w32 z ⌝ }
+{
+    if 0 <= z {
+        return z as u32;
+    }
+    let low = (-1 - z) as u32;
+    4294967295 - low
+}
+
+pub fn to_word(v: Value) -> u64
+    ensures { λ r. ⌜ r ≡ wordOf v ⌝ }
+{
+    match v {
+        Value::Whole(z) => 1 + 256 * (bits_of(z) as u64),
+        Value::Truth(b) => {
+            if b {
+                return 258;
+            }
+            2
+        }
+        Value::Err => 3,
+    }
+}
+
+fn from_whole(bits: u64) -> Decoded
+    ensures { λ r. ⌜ r ≡ decoded (wholeOf bits) ⌝ }
+{
+    if bits < 4294967296 {
+        return Decoded::Valid(Value::Whole(signed_of(bits as u32)));
+    }
+    Decoded::Invalid
+}
+
+fn from_truth(bits: u64) -> Decoded
+    ensures { λ r. ⌜ r ≡ decoded (truthOf bits) ⌝ }
+{
+    if bits == 0 {
+        return Decoded::Valid(Value::Truth(false));
+    }
+    if bits == 1 {
+        return Decoded::Valid(Value::Truth(true));
+    }
+    Decoded::Invalid
+}
+
+fn from_err(bits: u64) -> Decoded
+    ensures { λ r. ⌜ r ≡ decoded (errOf bits) ⌝ }
+{
+    if bits == 0 {
+        return Decoded::Valid(Value::Err);
+    }
+    Decoded::Invalid
+}
+
+pub fn from_word(w: u64) -> Decoded
+    ensures { λ r. ⌜ r ≡ decoded (valueOf w) ⌝ }
+{
+    let tag = w % 256;
+    let bits = w / 256;
+    match tag {
+        1 => from_whole(bits),
+        2 => from_truth(bits),
+        3 => from_err(bits),
+        _ => Decoded::Invalid,
+    }
+}
+
+// Whether a word is the byte form of a value.
+pub fn is_value(w: u64) -> bool
+    ensures { λ r. ⌜ r ≡ isSome (valueOf w) ⌝ }
+{
+    let bits = w / 256;
+    match w % 256 {
+        1 => bits < 4294967296,
+        2 => bits < 2,
+        3 => bits == 0,
+        _ => false,
+    }
+}
+
+fn wide(b: u8) -> u64
+    ensures { λ r. ⌜ (r ≡ b) × (r < 256) ⌝ }
+{
+    b as u64
+}
+
+// The word in the five bytes from `at` on.
+pub fn load(s: &[u8], at: usize) -> u64
+    requires { ⌜ at + 5 ≤ length (now s) ⌝ }
+    ensures { λ r. ⌜ (r ≡ wordAt (now (s .entry)) at) × (r < 1099511627776) ⌝ }
+{
+    wide(s[at])
+        + 256 * wide(s[at + 1])
+        + 65536 * wide(s[at + 2])
+        + 16777216 * wide(s[at + 3])
+        + 4294967296 * wide(s[at + 4])
+}
+
+// Writes a word to the five bytes from `at` on.
+pub fn store(s: &mut [u8], at: usize, word: u64)
+    requires { ⌜ at + 5 ≤ length (now s) ⌝ }
+    ensures { λ _. ⌜ now (s .exit) ≡ stored (now (s .entry)) at word ⌝ }
+{
+    s[at] = (word % 256) as u8;
+    s[at + 1] = (word / 256 % 256) as u8;
+    s[at + 2] = (word / 65536 % 256) as u8;
+    s[at + 3] = (word / 16777216 % 256) as u8;
+    s[at + 4] = (word / 4294967296 % 256) as u8;
+}
