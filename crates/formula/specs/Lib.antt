@@ -10,3 +10,4 @@ pub mod TestLaws
 pub mod SheetLaws
 pub mod TreeLaws
 pub mod Admitted
+pub mod PlaceLaws

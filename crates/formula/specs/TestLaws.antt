@@ -2,17 +2,14 @@
 -- if and only if each row is well.
 use Prim.Native.Nat.{ℕ, zero, suc, _+_, _-_, _≤_, _<_}
 use mathlib.Core.Path.{_≡_, refl, sym, ap, _∙_}
-use mathlib.Core.Bool.{Bool, true, false, cond, _&&_, false≢true}
-use mathlib.Core.List.{List, [], _∷_}
-use lib.Dec.{leb, ltb}
-use borrow.Author.Tests.{leb-true, ltb-true}
+use mathlib.Core.Bool.{Bool, true, false, cond}
 use native.Mathlib.Omega.{arith}
 use native.Mathlib.Numerals.{add-one}
 use native.Mathlib.Nat.{not-suc-le-zero}
 use native.Mathlib.Decide.{ℕ-discrete}
 use Rattle.formula.specs.declared.Check.{Check}
 use Rattle.formula.specs.declared.Check.the-variants.{Passed, Fault}
-use Rattle.formula.specs.Tests.{lowestFrom, lowest, allBetween}
+use Rattle.formula.specs.Tests.{lowestFrom, lowest}
 
 -- A pass that has seen i of n rows: a row that is well goes on, one that is not is the answer.
 module _ (n i : ℕ) (well : ℕ → Bool) where
@@ -68,36 +65,3 @@ same-from (suc k) r f g h =
 -- Two tests that say the same of each row have the same lowest row at fault.
 pub same-lowest : (n : ℕ) (f g : ℕ → Bool) → ((r : ℕ) → 1 ≤ r → r ≤ n → f r ≡ g r) → lowest n f ≡ lowest n g
 same-lowest n f g h = same-from n 1 f g λ j a b. h j a (omega arith)
-
-pub and-left : (a b : Bool) → a && b ≡ true → a ≡ true
-and-left true b h = refl
-and-left false b h = h
-
-pub and-right : (a b : Bool) → a && b ≡ true → b ≡ true
-and-right true b h = h
-and-right false b h = absurd (false≢true h)
-
--- What test 5 says of the rows that a row names.
-pub between-more : (r x : ℕ) (xs : List ℕ) → allBetween r (x ∷ xs) ≡ true → (1 ≤ x) × (x < r) × (allBetween r xs ≡ true)
-unfolding allBetween
-between-more r x xs h =
-    let a : leb 1 x && ltb x r ≡ true = and-left (leb 1 x && ltb x r) (allBetween r xs) h in
-    (leb-true 1 x (and-left (leb 1 x) (ltb x r) a), ltb-true x r (and-right (leb 1 x) (ltb x r) a),
-    and-right (leb 1 x && ltb x r) (allBetween r xs) h)
-
-pub between-one : (r x : ℕ) (l : List ℕ) → l ≡ x ∷ [] → allBetween r l ≡ true → (1 ≤ x) × (x < r)
-between-one r x l e h = let a = between-more r x [] (rw e at h) in (a .0, a .1)
-
-pub between-two : (r x y : ℕ) (l : List ℕ) → l ≡ x ∷ y ∷ [] → allBetween r l ≡ true → (1 ≤ x) × (x < r) × (1 ≤ y) × (y < r)
-between-two r x y l e h =
-    let a = between-more r x (y ∷ []) (rw e at h) in
-    let b = between-more r y [] (a .2) in
-    (a .0, a .1, b .0, b .1)
-
-pub between-three : (r x y z : ℕ) (l : List ℕ) → l ≡ x ∷ y ∷ z ∷ [] → allBetween r l ≡ true
-    → (1 ≤ x) × (x < r) × (1 ≤ y) × (y < r) × (1 ≤ z) × (z < r)
-between-three r x y z l e h =
-    let a = between-more r x (y ∷ z ∷ []) (rw e at h) in
-    let b = between-more r y (z ∷ []) (a .2) in
-    let c = between-more r z [] (b .2) in
-    (a .0, a .1, b .0, b .1, c .0, c .1)

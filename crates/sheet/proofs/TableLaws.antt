@@ -21,7 +21,7 @@ pasted-more t f v k m e l h g =
     let a : take k (paste t 0 f k) ≡ take k f = subst (λ (j : ℕ). take j (paste t 0 f k) ≡ take k f) z (take-paste t 0 f k (omega arith) g) in
     let b : drop k (paste t 0 f k) ≡ drop k t = subst (λ (j : ℕ). drop j (paste t 0 f k) ≡ drop j t) z (drop-paste t 0 f k (omega arith) g) in
     let c : drop (k + m) (paste t 0 f k) ≡ drop (k + m) t =
-      sym (drop-drop m k (paste t 0 f k)) ∙ ap (drop m) b ∙ drop-drop m k t in
+    sym (drop-drop m k (paste t 0 f k)) ∙ ap (drop m) b ∙ drop-drop m k t in
     let n : length (paste t 0 f k) ≡ length t = length-paste t 0 f k (omega arith) g in
     sets-eq v (paste t 0 f k) k (omega arith)
     ∙ ap (λ (j : ℕ). take k (paste t 0 f k) ++ v ++ drop (k + j) (paste t 0 f k)) l
@@ -36,7 +36,7 @@ pub decoded-more : (s t : List ℕ) (i : ℕ) → i < rowCount s → 5 * i + 5 �
 decoded-more s t i h l =
     let e : 5 * i + 5 ≡ 5 * (i + 1) = omega arith in
     let f : take (5 * i + 5) (fieldsOf s) ≡ take (5 * i) (fieldsOf s) ++ lineFields (lineAt (linesOf s) (i + 1)) =
-      subst (λ (j : ℕ). take j (fieldsOf s) ≡ take (5 * i) (fieldsOf s) ++ lineFields (lineAt (linesOf s) (i + 1))) (sym e) (fields-more s i h) in
+    subst (λ (j : ℕ). take j (fieldsOf s) ≡ take (5 * i) (fieldsOf s) ++ lineFields (lineAt (linesOf s) (i + 1))) (sym e) (fields-more s i h) in
     let m : length (fieldsOf s) ≡ 5 * rowCount s = fields-length s in
     pasted-more t (fieldsOf s) (lineFields (lineAt (linesOf s) (i + 1))) (5 * i) 5 f (length-line (lineAt (linesOf s) (i + 1))) l (omega arith)
     ∙ ap (λ (j : ℕ). paste t 0 (fieldsOf s) j) e

@@ -1,6 +1,9 @@
 // Test 3 of document 01, "a malformed field", which fills the table of fields: five numbers a row.
-use crate::field::{field_in, formed, number};
-use formula::{Check, Field};
+use crate::field::field_in;
+use crate::field::formed;
+use crate::field::number;
+use formula::Check;
+use formula::Field;
 ghost use mathlib.Core.Path.{_≡_};
 ghost use mathlib.Core.Bool.{Bool, _&&_};
 ghost use Prim.Native.Nat.{_+_, _*_, _≤_, _<_};

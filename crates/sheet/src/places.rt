@@ -2,7 +2,8 @@
 // b, c of an if. All other places are expression places."). A row is named by a later one, so places are found from the
 // last row down.
 use crate::shape::shape_at;
-use formula::{Check, Shape};
+use formula::Check;
+use formula::Shape;
 ghost use mathlib.Core.Path.{_≡_};
 ghost use mathlib.Core.List.{[], _∷_};
 ghost use mathlib.Core.Bool.{Bool, true, false, not, _||_};

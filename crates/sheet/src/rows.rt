@@ -1,6 +1,8 @@
 // Tests 4, 5 and 6 of document 01, on the table of fields: ranges, rows named wrongly, rows not named once.
-use crate::shape::{field_at, shape_at};
-use formula::{Check, Shape};
+use crate::shape::field_at;
+use crate::shape::shape_at;
+use formula::Check;
+use formula::Shape;
 ghost use mathlib.Core.Path.{_≡_};
 ghost use mathlib.Core.Bool.{Bool, true, _&&_};
 ghost use mathlib.Core.List.{[], _∷_};
@@ -42,37 +44,15 @@ fn in_range(kind: u32, a: u32, b: u32, c: u32, d: u32) -> bool
     ensures { λ r. ⌜ r ≡ inRange kind a b c d ⌝ }
 {
     match kind {
-        1 => {
-            if a <= 31 {
-                none_of(b, c, d)
-            } else {
-                false
-            }
-        }
-        2 => {
-            if a <= 999999 {
-                none_of(b, c, d)
-            } else {
-                false
-            }
-        }
-        3 => {
-            if a <= 1 {
-                none_of(b, c, d)
-            } else {
-                false
-            }
-        }
+        1 => { if a <= 31 { none_of(b, c, d) } else { false } }
+        2 => { if a <= 999999 { none_of(b, c, d) } else { false } }
+        3 => { if a <= 1 { none_of(b, c, d) } else { false } }
         4 => none_of(0, c, d),
         5 => {
             if a < 1 {
                 return false;
             }
-            if a <= 11 {
-                none_of(0, c, d)
-            } else {
-                false
-            }
+            if a <= 11 { none_of(0, c, d) } else { false }
         }
         6 => binds_well(a, b),
         7 => d == 0,
@@ -122,38 +102,16 @@ fn names_well(s: Shape, r: usize) -> bool
         Shape::Identifier(_) => true,
         Shape::Whole(_) => true,
         Shape::Truth(_) => true,
-        Shape::Pair(a, b) => {
-            if between(a, r) {
-                between(b, r)
-            } else {
-                false
-            }
-        }
+        Shape::Pair(a, b) => { if between(a, r) { between(b, r) } else { false } }
         Shape::Operator(_, b) => between(b, r),
-        Shape::Let(_, _, c, d) => {
-            if between(c, r) {
-                between(d, r)
-            } else {
-                false
-            }
-        }
+        Shape::Let(_, _, c, d) => { if between(c, r) { between(d, r) } else { false } }
         Shape::If(a, b, c) => {
             if !between(a, r) {
                 return false;
             }
-            if between(b, r) {
-                between(c, r)
-            } else {
-                false
-            }
+            if between(b, r) { between(c, r) } else { false }
         }
-        Shape::For(_, _, c, d) => {
-            if between(c, r) {
-                between(d, r)
-            } else {
-                false
-            }
-        }
+        Shape::For(_, _, c, d) => { if between(c, r) { between(d, r) } else { false } }
         Shape::Iter(a) => between(a, r),
     }
 }

@@ -12,8 +12,6 @@ use Rattle.sheet.proofs.field.formed.Reads as formed-reads
 use mathlib.Core.Path.{sym}
 use borrow.Author.Tests.{not-true, not-false}
 
-
-
 -- src/decode.rt:35:9  { ⏎ if !formed(kind) {
 formed-requires : tie.Need-formed-requires
 formed-requires c κs = search needs

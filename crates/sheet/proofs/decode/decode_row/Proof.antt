@@ -13,8 +13,6 @@ use Rattle.formula.specs.Tests.{fieldsWell}
 use Rattle.formula.specs.SheetLaws.{fields-well-at, line-fields-at}
 use Rattle.sheet.proofs.TableLaws.{stored}
 
-
-
 -- src/decode.rt:19:28  { ⏎ let kind = field_in(s, 31 * i);
 mul-field-in : tie.Need-mul-field-in
 mul-field-in c = search needs
@@ -181,9 +179,10 @@ returns c =
     let s = c .before .before .before .before .before .before .before .before .before .before .before .before .before .args .s .now in
     let i = c .before .before .before .before .before .before .before .before .before .before .before .before .before .args .i in
     let w = sym (fields-well-at s i (c .before .before .before .before .before .before .before .before .before .before .before .before .before .pre .0)) in
-    let l = line-fields-at s i (c .before .before .before .before .before .before .before .before .before .before .before .before .before .pre .0) in
-    (simp (c .all-formed .ensures, c .before .before .before .before .before .before .before .before .before .before .field-in .ensures, c .before .before .before .before .before .before .before .before .before .field-in2 .ensures, c .before .before .before .before .before .before .before .before .field-in3 .ensures, c .before .before .before .before .before .before .before .field-in4 .ensures, c .before .before .before .before .before .before .field-in5 .ensures) w,
-    rw (l, sym (c .before .before .before .before .before .before .before .before .before .before .field-in .ensures), sym (c .before .before .before .before .before .before .before .before .before .field-in2 .ensures), sym (c .before .before .before .before .before .before .before .before .field-in3 .ensures), sym (c .before .before .before .before .before .before .before .field-in4 .ensures), sym (c .before .before .before .before .before .before .field-in5 .ensures), sym (c .before .before .before .before .before .number .ensures), sym (c .before .before .before .before .number2 .ensures), sym (c .before .before .before .number3 .ensures), sym (c .before .before .number4 .ensures), sym (c .before .number5 .ensures)) (stored (c .before .before .before .before .before .before .before .before .before .before .before .before .before .args .t .now) (5 * i) (c .before .before .before .before .before .number .result) (c .before .before .before .before .number2 .result) (c .before .before .before .number3 .result) (c .before .before .number4 .result) (c .before .number5 .result)))
+    let l = line-fields-at s i (c .before .before .before .before .before .before .before .before .before .before .before .before .before .pre .0) in (
+      simp (c .all-formed .ensures, c .before .before .before .before .before .before .before .before .before .before .field-in .ensures, c .before .before .before .before .before .before .before .before .before .field-in2 .ensures, c .before .before .before .before .before .before .before .before .field-in3 .ensures, c .before .before .before .before .before .before .before .field-in4 .ensures, c .before .before .before .before .before .before .field-in5 .ensures) w,
+      rw (l, sym (c .before .before .before .before .before .before .before .before .before .before .field-in .ensures), sym (c .before .before .before .before .before .before .before .before .before .field-in2 .ensures), sym (c .before .before .before .before .before .before .before .before .field-in3 .ensures), sym (c .before .before .before .before .before .before .before .field-in4 .ensures), sym (c .before .before .before .before .before .before .field-in5 .ensures), sym (c .before .before .before .before .before .number .ensures), sym (c .before .before .before .before .number2 .ensures), sym (c .before .before .before .number3 .ensures), sym (c .before .before .number4 .ensures), sym (c .before .number5 .ensures)) (stored (c .before .before .before .before .before .before .before .before .before .before .before .before .before .args .t .now) (5 * i) (c .before .before .before .before .before .number .result) (c .before .before .before .before .number2 .result) (c .before .before .before .number3 .result) (c .before .before .number4 .result) (c .before .number5 .result)),
+    )
 
 pub decode-row-spec : {M : Type 1} → statement M
 decode-row-spec =

@@ -18,8 +18,6 @@ use Rattle.formula.specs.Sheet.{linesOf, rowCount}
 use Rattle.formula.specs.Tests.{endedAt, is-passed}
 use Rattle.formula.specs.SheetLaws.{line-feed}
 
-
-
 abbrev Inv-loop : tie.InvT-loop
 Inv-loop s n i₀ i = (i ≤ n) × (lowestFrom (i + 1) (n - i) (endedAt (linesOf s)) ≡ lowest n (endedAt (linesOf s)))
 

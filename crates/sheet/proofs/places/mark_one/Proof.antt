@@ -6,8 +6,6 @@ use Rattle.sheet.proofs.places.mark_one.Lts as lts
 use Rattle.formula.specs.Places.{mark}
 use mathlib.Core.Path.{refl}
 
-
-
 -- src/places.rt:21:7  { ⏎ p[r - 1] = true;
 sub-p : tie.Need-sub-p
 sub-p c = search needs

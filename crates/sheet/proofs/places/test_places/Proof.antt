@@ -18,8 +18,6 @@ use Rattle.formula.specs.TestLaws.{starts, goes-on, stops, ends}
 use mathlib.Core.Bool.{not, _||_}
 use Rattle.formula.specs.Tests.{placedWell, isIter}
 
-
-
 abbrev Inv-loop : tie.InvT-loop
 Inv-loop t n p i₀ i = (i ≤ n) × (lowestFrom (i + 1) (n - i) (placedWell t p) ≡ lowest n (placedWell t p))
 

@@ -6,8 +6,6 @@ use Rattle.sheet.proofs.rows.between.Reads as reads
 use Rattle.sheet.proofs.rows.between.Lts as lts
 use borrow.Author.Tests.{lt-leb, le-leb}
 
-
-
 -- src/rows.rt:112:9  if x < 1 { ⏎ return false;
 returns : tie.Need-returns
 returns c = simp (lt-leb 1 (c .before .args .x) (c .if1 .taken))

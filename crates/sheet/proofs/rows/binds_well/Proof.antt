@@ -10,8 +10,6 @@ use Prim.Native.Nat.{_+_}
 use borrow.Author.Tests.{lt-leb, le-leb}
 use Rattle.sheet.proofs.TableLaws.{sum-test}
 
-
-
 -- src/rows.rt:32:9  if b < 1 { ⏎ return false;
 returns : tie.Need-returns
 returns c = simp (lt-leb 1 (c .before .args .b) (c .if1 .taken))

@@ -14,8 +14,6 @@ use Rattle.sheet.proofs.rows.none_of.Reads as none-of-reads
 use borrow.Author.Tests.{ne-eqb, le-leb, lt-leb}
 use Rattle.formula.specs.Tests.{inRange}
 
-
-
 -- src/rows.rt:47:17  if a <= 31 { ⏎ none_of(b, c, d)
 none-of-requires : tie.Need-none-of-requires
 none-of-requires c κs = search needs

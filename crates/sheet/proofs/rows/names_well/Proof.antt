@@ -15,8 +15,6 @@ use borrow.Author.Tests.{not-true, not-false}
 use Rattle.formula.specs.Tests.{allBetween}
 use Rattle.formula.specs.Sheet.{namedIn}
 
-
-
 -- src/rows.rt:122:33  match s { ⏎ Shape::Identifier(_) => true,
 enum-told : tie.Need-enum-told
 enum-told c = search needs

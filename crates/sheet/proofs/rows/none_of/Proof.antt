@@ -7,8 +7,6 @@ use Rattle.sheet.proofs.rows.none_of.Reads as reads
 use Rattle.sheet.proofs.rows.none_of.Lts as lts
 use borrow.Author.Tests.{ne-eqb, eq-eqb}
 
-
-
 -- src/rows.rt:20:9  if b != 0 { ⏎ return false;
 returns : tie.Need-returns
 returns c = simp (ne-eqb (c .before .args .b) 0 (c .if1 .taken))

@@ -13,8 +13,6 @@ use lib.Dec.{eqb}
 use borrow.Author.Tests.{ne-eqb, eq-eqb}
 use Rattle.sheet.specs.Rows.{tally}
 
-
-
 -- src/rows.rt:182:10  { ⏎ if l[r - 1] == 0 {
 sub-if1 : tie.Need-sub-if1
 sub-if1 c = search needs

@@ -18,8 +18,6 @@ use Rattle.formula.specs.TestLaws.{starts, goes-on, stops, ends}
 use Rattle.formula.specs.Tests.{namesWell, allBetween}
 use Rattle.formula.specs.Sheet.{namedIn}
 
-
-
 abbrev Inv-loop : tie.InvT-loop
 Inv-loop t n i₀ i = (i ≤ n) × (lowestFrom (i + 1) (n - i) (namesWell t) ≡ lowest n (namesWell t))
 

@@ -17,8 +17,6 @@ use Rattle.formula.specs.Tests.{lowestFrom, lowest}
 use Rattle.formula.specs.TestLaws.{starts, goes-on, stops, ends}
 use Rattle.formula.specs.Tests.{rangesWell, inRange}
 
-
-
 abbrev Inv-loop : tie.InvT-loop
 Inv-loop t n i₀ i = (i ≤ n) × (lowestFrom (i + 1) (n - i) (rangesWell t) ≡ lowest n (rangesWell t))
 

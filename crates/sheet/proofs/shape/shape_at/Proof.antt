@@ -7,8 +7,6 @@ use Rattle.sheet.proofs.shape.field_at.Reads as field-at-reads
 use Rattle.sheet.proofs.shape.shape_of.Reads as shape-of-reads
 use Rattle.formula.specs.Sheet.{shapeAt}
 
-
-
 -- src/shape.rt:46:9  shape_of( ⏎ field_at(t, r, 0),
 field-at-requires : tie.Need-field-at-requires
 field-at-requires c κs = search needs

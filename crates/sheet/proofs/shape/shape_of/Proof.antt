@@ -7,8 +7,6 @@ use Rattle.sheet.proofs.shape.row_number.Reads as row-number-reads
 use borrow.Author.Tests.{ne-eqb}
 use Rattle.formula.specs.Sheet.{shapeOf}
 
-
-
 -- src/shape.rt:30:26  3 => Shape::Truth(a), ⏎ 4 => Shape::Pair(row_number(a), row_number(b)),
 row-number-requires : tie.Need-row-number-requires
 row-number-requires c κs = search needs
