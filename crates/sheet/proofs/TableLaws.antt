@@ -3,14 +3,14 @@ use Prim.Native.Nat.{ℕ, zero, suc, _+_, _*_, _-_, _≤_, _<_}
 use mathlib.Core.Path.{_≡_, refl, sym, ap, _∙_, subst}
 use mathlib.Core.List.{List, [], _∷_, _++_}
 use native.Mathlib.Omega.{arith}
-use lib.ListN.{length, getD, take, drop, set}
+use lib.ListN.{length, getD, take, drop, set, length-append, length-drop}
 use lib.Dec.{leb}
 use native.Mathlib.Decide.{decLe}
 use borrow.Author.Tests.{le-leb, lt-leb}
 use Rattle.formula.specs.Sheet.{rowCount, linesOf, fieldsOf}
 use Rattle.formula.specs.SheetLaws.{lineFields, length-line, fields-length, fields-more}
 use Rattle.formula.specs.Tests.{lineAt}
-use lib.Seq.{paste, sets, sets-eq, take-paste, drop-paste, drop-drop, length-paste}
+use lib.Seq.{paste, sets, sets-eq, take-paste, drop-paste, drop-drop, length-paste, length-take-le, take-at}
 
 -- The next m numbers of f are written behind the first k.
 pub pasted-more : (t f v : List ℕ) (k m : ℕ) → take (k + m) f ≡ take k f ++ v → length v ≡ m → k + m ≤ length t → k ≤ length f
@@ -57,3 +57,18 @@ sum-test a b k h = go (decLe a (k - b))
     go : Dec (a ≤ k - b) → leb a (k - b) ≡ leb (a + b) k
     go (yes l) = le-leb a (k - b) l ∙ sym (le-leb (a + b) k (omega arith))
     go (no l) = lt-leb a (k - b) (omega arith) ∙ sym (lt-leb (a + b) k (omega arith))
+
+-- The first n entries of a table of m, lent and handed back as l.
+module _ {A : Type 0} (n m : ℕ) (h : n ≤ m) (b : List A) (long : length b ≡ m) where
+  pub part-length : n ≡ length (take n b)
+  part-length = sym (length-take-le n b (omega arith))
+
+  module _ (l : List A) (k : length l ≡ length (take n b)) where
+    pub lent-length : length l ≡ n
+    lent-length = k ∙ sym part-length
+
+    pub whole-length : length (l ++ drop n b) ≡ m
+    whole-length = simp (length-append, length-drop) (let e = lent-length in omega arith)
+
+    pub part-back : take n (l ++ drop n b) ≡ l
+    part-back = take-at l (drop n b) n lent-length

@@ -1,4 +1,5 @@
 // The sheet reader: the bytes of a formula sheet to its fields and per-row tables, with tests 1 to 10 of document 01.
+pub mod blank;
 pub mod decode;
 pub mod field;
 pub mod layout;

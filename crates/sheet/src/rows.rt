@@ -1,4 +1,5 @@
 // Tests 4, 5 and 6 of document 01, on the table of fields: ranges, rows named wrongly, rows not named once.
+use crate::blank::bytes;
 use crate::shape::field_at;
 use crate::shape::shape_at;
 use formula::Check;
@@ -212,7 +213,7 @@ pub fn test_named(t: &[u32], n: usize) -> Check
     requires { ⌜ (length (now t) ≡ 5 * n) × (1 ≤ n) × (n ≤ 200) × (lowest n (namesWell (now t)) ≡ Passed) ⌝ }
     ensures { λ r. ⌜ r ≡ lowest (n - 1) (λ k. namedOnce (allNamed (now (t .entry)) n) k) ⌝ }
 {
-    let mut named = [0u8; 200];
+    let mut named = bytes();
     tally_all(t, n, &mut named[..n]);
     first_unnamed(&named[..n], n - 1)
 }

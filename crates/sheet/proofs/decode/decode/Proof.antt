@@ -1,6 +1,5 @@
 -- The tests, as paths name them:
 --   tie if1  while i < n { ⏎ if !decode_row(s, i, t) {
-use borrow.Author.Needs.{needs}
 use Rattle.sheet.proofs.decode.decode.Statement.{statement}
 use Rattle.sheet.proofs.decode.decode.Tie as tie
 use Rattle.sheet.proofs.decode.decode.Reads as reads
@@ -19,6 +18,7 @@ use Rattle.formula.specs.Sheet.{linesOf, fieldsOf}
 use Rattle.formula.specs.SheetLaws.{lineFields}
 use Rattle.formula.specs.Tests.{fieldsWell, lineAt}
 use Rattle.sheet.proofs.TableLaws.{decoded-more}
+use borrow.Author.Needs.{needs}
 
 abbrev Inv-loop : tie.InvT-loop
 Inv-loop s n t₀ i₀ t i = (i ≤ n) × (lowestFrom (i + 1) (n - i) (fieldsWell (linesOf s)) ≡ lowest n (fieldsWell (linesOf s))) × (t ≡ paste t₀ 0 (fieldsOf s) (5 * i)) × (length t ≡ length t₀)
@@ -26,23 +26,23 @@ Inv-loop s n t₀ i₀ t i = (i ≤ n) × (lowestFrom (i + 1) (n - i) (fieldsWel
 abbrev μ-loop : tie.MeasureT-loop
 μ-loop s n t₀ i₀ t i = n - i
 
--- src/decode.rt:56:5  let mut i = 0; ⏎ while i < n {
+-- src/decode.rt:59:5  let mut i = 0; ⏎ while i < n {
 loop-holds : tie.Need-loop-holds Inv-loop μ-loop
 loop-holds c = (omega arith, starts (c .before .before .args .n) 0 (fieldsWell (linesOf (c .before .before .args .s .now))), paste-zero (c .before .before .args .t .now) 0 (fieldsOf (c .before .before .args .s .now)), refl)
 
--- src/decode.rt:57:13  while i < n { ⏎ if !decode_row(s, i, t) {
+-- src/decode.rt:60:13  while i < n { ⏎ if !decode_row(s, i, t) {
 decode-row-requires : tie.Need-decode-row-requires Inv-loop μ-loop
 decode-row-requires c κs = omega arith
 
--- src/decode.rt:58:33  if !decode_row(s, i, t) { ⏎ return Check::Fault(i + 1);
+-- src/decode.rt:61:33  if !decode_row(s, i, t) { ⏎ return Check::Fault(i + 1);
 add-t9 : tie.Need-add-t9 Inv-loop μ-loop
 add-t9 c = search needs
 
--- src/decode.rt:58:13  if !decode_row(s, i, t) { ⏎ return Check::Fault(i + 1);
+-- src/decode.rt:61:13  if !decode_row(s, i, t) { ⏎ return Check::Fault(i + 1);
 same-length : tie.Need-same-length Inv-loop μ-loop
 same-length c = search needs
 
--- src/decode.rt:58:13  if !decode_row(s, i, t) { ⏎ return Check::Fault(i + 1);
+-- src/decode.rt:61:13  if !decode_row(s, i, t) { ⏎ return Check::Fault(i + 1);
 returns : tie.Need-returns Inv-loop μ-loop
 returns c =
     let w = fieldsWell (linesOf (c .before .before .before .before .before .before .before .before .before .args .s .now)) in
@@ -51,15 +51,15 @@ returns c =
       c .before .before .before .decode-row .ensures .1 ∙ ap (λ t. sets t (5 * c .before .before .before .before .before .before .loop .i) (lineFields (lineAt (linesOf (c .before .before .before .before .before .before .before .before .before .args .s .now)) (c .before .before .before .before .before .before .loop .i + 1)))) (c .before .before .before .before .before .before .loop .inv .2) ∙ decoded-more (c .before .before .before .before .before .before .before .before .before .args .s .now) (c .before .before .before .before .before .before .before .before .before .args .t .now) (c .before .before .before .before .before .before .loop .i) (omega arith) (omega arith),
     )
 
--- src/decode.rt:60:9  } ⏎ i += 1;
+-- src/decode.rt:63:9  } ⏎ i += 1;
 add-i : tie.Need-add-i Inv-loop μ-loop
 add-i c = search needs
 
--- src/decode.rt:56:5  let mut i = 0; ⏎ while i < n {
+-- src/decode.rt:59:5  let mut i = 0; ⏎ while i < n {
 loop-less : tie.Need-loop-less Inv-loop μ-loop
 loop-less c = search needs
 
--- src/decode.rt:56:5  let mut i = 0; ⏎ while i < n {
+-- src/decode.rt:59:5  let mut i = 0; ⏎ while i < n {
 loop-again : tie.Need-loop-again Inv-loop μ-loop
 loop-again c =
     let w = fieldsWell (linesOf (c .before .before .before .before .before .before .before .before .before .args .s .now)) in
@@ -70,11 +70,11 @@ loop-again c =
       c .before .before .before .decode-row .kept .1 .1 .0 ∙ c .before .before .before .before .before .before .loop .inv .3,
     )
 
--- src/decode.rt:51:1  // Test 3 of the n rows of s. The rows up to the first fault are in the table. ⏎ pub fn decode(s: &[u8], n: usize, t: &mut [u32]) -> Check
+-- src/decode.rt:54:1  // Test 3 of the n rows of s. The rows up to the first fault are in the table. ⏎ pub fn decode(s: &[u8], n: usize, t: &mut [u32]) -> Check
 same-length-2 : tie.Need-same-length-2 Inv-loop μ-loop
 same-length-2 c = search needs
 
--- src/decode.rt:51:1  // Test 3 of the n rows of s. The rows up to the first fault are in the table. ⏎ pub fn decode(s: &[u8], n: usize, t: &mut [u32]) -> Check
+-- src/decode.rt:54:1  // Test 3 of the n rows of s. The rows up to the first fault are in the table. ⏎ pub fn decode(s: &[u8], n: usize, t: &mut [u32]) -> Check
 returns-2 : tie.Need-returns-2 Inv-loop μ-loop
 returns-2 c =
     let w = fieldsWell (linesOf (c .before .before .before .before .args .s .now)) in
