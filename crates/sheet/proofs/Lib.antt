@@ -1,3 +1,5 @@
 pub mod FieldLaws
 pub mod TableLaws
 pub mod RowLaws
+pub mod NodeLaws
+pub mod WidthLaws

@@ -6,3 +6,4 @@ pub mod layout;
 pub mod places;
 pub mod rows;
 pub mod shape;
+pub mod widths;
