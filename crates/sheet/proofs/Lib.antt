@@ -3,3 +3,4 @@ pub mod TableLaws
 pub mod RowLaws
 pub mod NodeLaws
 pub mod WidthLaws
+pub mod MaskLaws

@@ -3,6 +3,7 @@ pub mod blank;
 pub mod decode;
 pub mod field;
 pub mod layout;
+pub mod masks;
 pub mod places;
 pub mod rows;
 pub mod shape;
