@@ -4,3 +4,5 @@ pub mod RowLaws
 pub mod NodeLaws
 pub mod WidthLaws
 pub mod MaskLaws
+pub mod LoopLaws
+pub mod CountLaws

@@ -24,7 +24,7 @@ ghost use Rattle.sheet.specs.Masks.{plainMask, maskBy, boundBy, outside 
 // The trigger, name 32.
 const TRIGGER: u64 = 4294967296;
 
-fn mask_at(m: &[u64], r: usize) -> u64
+pub fn mask_at(m: &[u64], r: usize) -> u64
     requires { ⌜ (1 ≤ r) × (r ≤ length (now m)) ⌝ }
     ensures { λ v. ⌜ v ≡ getD (now (m .entry)) (r - 1) 0 ⌝ }
 {

@@ -24,7 +24,7 @@ pub struct Widths {
     pub fits: bool,
 }
 
-fn width_at(l: &[u8], r: usize) -> u32
+pub fn width_at(l: &[u8], r: usize) -> u32
     requires { ⌜ (1 ≤ r) × (r ≤ length (now l)) ⌝ }
     ensures { λ v. ⌜ (v ≡ getD (now (l .entry)) (r - 1) 0) × (v < 256) ⌝ }
 {
