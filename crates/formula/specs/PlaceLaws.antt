@@ -346,3 +346,11 @@ find-namer t n (suc m) x ok l h o = go (decLt 0 (occurrences x (namedIn (shapeAt
 
 pub namer : (t : List ℕ) (n : ℕ) → Sound t n → (x : ℕ) → 1 ≤ x → x < n → Namer t n x
 namer t n ok x h l = find-namer t n n x (ok .named) (omega arith) h (let e = ok .once x h l in omega arith)
+
+-- No row names the last, which is in an expression place.
+pub last-place : (t : List ℕ) (n : ℕ) → Named t n → 1 ≤ n → inBody (placesOf t n) n ≡ false
+unfolding placesOf
+last-place t n ok h =
+    untouched t n n (replicate n false) n ok (omega arith) h (rw (length-replicate n false) (omega arith))
+    (λ k a b. occurs-not n k (namedIn (shapeAt t k)) (ok .names k a b) b)
+    ∙ getD-replicate n (n - 1) false false (omega arith)
