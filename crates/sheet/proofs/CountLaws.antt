@@ -165,7 +165,7 @@ arm-returns : (y z : Body) → oneReturns (endsOf y) (endsOf z) ≡ returns y ||
 arm-returns y z = sym (rw (ends-returns y, ends-returns z) refl)
 
 module _ (N : ℕ → Node) (E : ℕ → Exp) (B : ℕ → Body) (W : ℕ → ℕ) (w : ℕ) where
-  abbrev Goal : Bool → Shape → Type 0
+  abbrev pub Goal : Bool → Shape → Type 0
   Goal b s =
       Counted (countIn w (nodeBy b E B s))
       (ownBy b (λ k. mask (freeIn (N k))) (λ k. returnedIn (N k)) (λ k. iteratedIn (N k)) (λ k. endsIn (N k)) w s)
@@ -200,7 +200,7 @@ module _ (N : ℕ → Node) (E : ℕ → Exp) (B : ℕ → Body) (W : ℕ → �
       (for-counted (sharing (mask (freeE (E x))) (outside (mask (freeB (B y))) a k)) (size (common (freeE (E x)) (without (freeB (B y)) (range a k)))) (ones (mask (freeB (B y)))) (size (freeB (B y)))
       (countE (E x)) (countB (returned (B y)) (B y)) (shares-outside (freeE (E x)) (freeB (B y)) a k q) (ones-mask (freeB (B y)))))
 
-  counted : (b : Bool) (s : Shape) → Parts N E B b s → Ranged s → Loops W (λ k. returnedIn (N k)) w b s → Goal b s
+  pub counted : (b : Bool) (s : Shape) → Parts N E B b s → Ranged s → Loops W (λ k. returnedIn (N k)) w b s → Goal b s
   unfolding plainOwn bodyOwn plainMask namedIn expNode bodyNode
   counted false (Identifier a) h q l = identifier-counted a
   counted true (Identifier a) h q l = ended-count w (identifier a) (2 ^ a) (own 0 0) 0 0 (identifier-mask (identifier a) (identifier a) a 0 q) (identifier-counted a)

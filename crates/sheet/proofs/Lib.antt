@@ -6,3 +6,4 @@ pub mod WidthLaws
 pub mod MaskLaws
 pub mod LoopLaws
 pub mod CountLaws
+pub mod OperatorLaws

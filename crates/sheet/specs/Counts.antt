@@ -9,7 +9,11 @@ use lib.Dec.{eqb, leb}
 use Rattle.formula.specs.declared.Shape.{Shape}
 use Rattle.formula.specs.declared.Shape.the-variants.{Identifier, Whole, Truth, Pair, Operator, Let, If, For, Iter}
 use Rattle.formula.specs.Sheet.{namedIn}
+use lib.ListN.{getD}
+use Rattle.formula.specs.Count.{Count}
 use Rattle.sheet.specs.declared.count.Own.{Own}
+use Rattle.sheet.specs.Nodes.{nodeAt, returnedIn, countIn}
+use Rattle.sheet.specs.Loops.{loopsOf}
 use Rattle.sheet.specs.Masks.{triggerMask, outside, plainMask}
 
 abbrev pub own : ℕ → ℕ → Own
@@ -104,3 +108,7 @@ pub record Small (k : ℕ) (o : Own) : Type 0 where
   pub copies : o .copies ≤ k
   pub joins : o .joins ≤ 1
   pub outputs : o .outputs ≤ 3
+
+-- The operators and links of row r and all below it; a body's row is counted with the returned width of its whole loop.
+abbrev pub countAt : List ℕ → List Bool → ℕ → ℕ → Count
+countAt t p n r = countIn (getD (loopsOf t p (λ k. returnedIn (nodeAt t p k)) n) (r - 1) 0) (nodeAt t p r)

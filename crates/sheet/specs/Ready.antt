@@ -7,6 +7,10 @@ use lib.ListN.{length}
 use Rattle.formula.specs.Places.{placesOf}
 use Rattle.formula.specs.Tests.{rangesWell, placedWell}
 use Rattle.formula.specs.PlaceLaws.{Sound}
+use Rattle.names.specs.Names.{mask}
+use Rattle.sheet.specs.Nodes.{nodeAt, returnedIn, iteratedIn, freeIn, Holds}
+use Rattle.sheet.specs.Ends.{endsIn}
+use Rattle.sheet.specs.Loops.{loopsOf}
 
 pub record Ready (t : List ℕ) (n : ℕ) (p : List Bool) : Type 0 where
   pub size : length t ≡ 5 * n
@@ -14,3 +18,17 @@ pub record Ready (t : List ℕ) (n : ℕ) (p : List Bool) : Type 0 where
   pub places : p ≡ placesOf t n
   pub ranges : (r : ℕ) → 1 ≤ r → r ≤ n → rangesWell t r ≡ true
   pub iters : (r : ℕ) → 1 ≤ r → r ≤ n → placedWell t p r ≡ true
+
+-- The tables that test 10 reads: loop widths w, masks m, returned and iterated widths, ends f.
+pub record Filled (t : List ℕ) (n : ℕ) (p : List Bool) (w m ret it f : List ℕ) : Type 0 where
+  pub ready : Ready t n p
+  pub some : 1 ≤ n
+  pub loops : w ≡ loopsOf t p (λ k. returnedIn (nodeAt t p k)) n
+  pub masks : Holds 0 m n (λ k. mask (freeIn (nodeAt t p k)))
+  pub returned : Holds 0 ret n (λ k. returnedIn (nodeAt t p k))
+  pub iterated : Holds 0 it n (λ k. iteratedIn (nodeAt t p k))
+  pub ends : Holds 0 f n (λ k. endsIn (nodeAt t p k))
+  pub masks-size : length m ≡ n
+  pub returned-size : length ret ≡ n
+  pub iterated-size : length it ≡ n
+  pub ends-size : length f ≡ n

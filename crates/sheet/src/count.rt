@@ -15,7 +15,13 @@ ghost use lib.ListN.{length, getD};
 ghost use Rattle.formula.specs.Sheet.{namedIn};
 ghost use Rattle.formula.specs.TreeLaws.{AllBetween};
 ghost use Rattle.sheet.specs.Masks.{Ranged};
-ghost use Rattle.sheet.specs.Counts.{own as ownOf, sharing as sharingOf, ifCopies, armGates, expIf, forOwn, bothIterate, oneReturns, bodyIf, plainOwn, ended as endedOf, ownBy, namedTotal, Small};
+ghost use Rattle.sheet.specs.Counts.{own as ownOf, sharing as sharingOf, ifCopies, armGates, expIf, forOwn, bothIterate, oneReturns, bodyIf, plainOwn, ended as endedOf, ownBy, ownOperators, ownLinks, namedTotal, Small, countAt};
+ghost use lib.ListN.{replicate};
+ghost use lib.Dec.{leb};
+ghost use Rattle.formula.specs.declared.Check.the-variants.{Passed};
+ghost use Rattle.formula.specs.Tests.{whole, operatorsOf};
+ghost use Rattle.sheet.specs.Nodes.{Holds};
+ghost use Rattle.sheet.specs.Ready.{Filled};
 
 // The operators of a row's own: gates with one output, two-way copies, and IC gates with their outputs.
 pub struct Own {
@@ -218,4 +224,51 @@ fn named_total(s: Shape, r: usize, l: &[u32]) -> u32
         Shape::For(_, _, c, d) => number_at(l, c) + number_at(l, d),
         Shape::Iter(a) => number_at(l, a),
     }
+}
+
+fn operators_of(o: Own, below: u32) -> u32
+    requires { ⌜ (Small 2000 o) × (below ≤ 9216) ⌝ }
+    ensures { λ k. ⌜ k ≡ ownOperators o + below ⌝ }
+{
+    o.gates + o.copies + o.joins + below
+}
+
+fn links_of(o: Own, below: u32) -> u32
+    requires { ⌜ (Small 2000 o) × (below ≤ 9216) ⌝ }
+    ensures { λ k. ⌜ k ≡ ownLinks o + below ⌝ }
+{
+    o.gates + 2 * o.copies + o.outputs + below
+}
+
+// Test 10, with the counts of each row; w has the loop widths, m the masks, ret and it the widths, f the ends.
+pub fn test_operators(
+    t: &[u32],
+    n: usize,
+    p: &[bool],
+    w: &[u8],
+    m: &[u64],
+    ret: &[u8],
+    it: &[u8],
+    f: &[u8],
+    operators: &mut [u32],
+    links: &mut [u32],
+) -> Check
+    requires { ⌜ (Filled (now t) n (now p) (now w) (now m) (now ret) (now it) (now f)) × (now operators ≡ replicate n 0) × (now links ≡ replicate n 0) ⌝ }
+    ensures { λ r. ⌜ (r ≡ whole (leb (operatorsOf (now (t .entry)) n) 1024))
+        × (r ≡ Passed → (Holds 0 (now (operators .exit)) n (λ k. countAt (now (t .entry)) (now (p .entry)) n k .operators)) × (Holds 0 (now (links .exit)) n (λ k. countAt (now (t .entry)) (now (p .entry)) n k .links))) ⌝ }
+{
+    let mut i = 0;
+    while i < n {
+        let r = i + 1;
+        let s = shape_at(t, r);
+        let o = own_of(s, r, p[i], width_at(w, r), m, ret, it, f);
+        let k = operators_of(o, named_total(s, r, &operators[..i]));
+        if 1024 < k {
+            return Check::Fault(0);
+        }
+        operators[i] = k;
+        links[i] = links_of(o, named_total(s, r, &links[..i]));
+        i += 1;
+    }
+    Check::Passed
 }
