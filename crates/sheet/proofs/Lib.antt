@@ -7,3 +7,4 @@ pub mod MaskLaws
 pub mod LoopLaws
 pub mod CountLaws
 pub mod OperatorLaws
+pub mod ReadLaws

@@ -11,6 +11,7 @@ use Rattle.names.specs.Names.{mask}
 use Rattle.sheet.specs.Nodes.{nodeAt, returnedIn, iteratedIn, freeIn, Holds}
 use Rattle.sheet.specs.Ends.{endsIn}
 use Rattle.sheet.specs.Loops.{loopsOf}
+use Rattle.sheet.specs.Counts.{countAt}
 
 pub record Ready (t : List ℕ) (n : ℕ) (p : List Bool) : Type 0 where
   pub size : length t ≡ 5 * n
@@ -32,3 +33,19 @@ pub record Filled (t : List ℕ) (n : ℕ) (p : List Bool) (w m ret it f : List 
   pub returned-size : length ret ≡ n
   pub iterated-size : length it ≡ n
   pub ends-size : length f ≡ n
+
+-- What tests 8 and 9 leave in the tables of widths and masks.
+pub record Noded (t : List ℕ) (n : ℕ) (p : List Bool) (ret it m : List ℕ) : Type 0 where
+  pub returned : Holds 0 ret n (λ k. returnedIn (nodeAt t p k))
+  pub iterated : Holds 0 it n (λ k. iteratedIn (nodeAt t p k))
+  pub masks : Holds 0 m n (λ k. mask (freeIn (nodeAt t p k)))
+  pub returned-size : length ret ≡ n
+  pub iterated-size : length it ≡ n
+  pub masks-size : length m ≡ n
+
+-- What test 10 leaves in the tables of ends, loop widths and counts.
+pub record Graphed (t : List ℕ) (n : ℕ) (p : List Bool) (f w k l : List ℕ) : Type 0 where
+  pub ends : Holds 0 f n (λ r. endsIn (nodeAt t p r))
+  pub loops : w ≡ loopsOf t p (λ r. returnedIn (nodeAt t p r)) n
+  pub operators : Holds 0 k n (λ r. countAt t p n r .operators)
+  pub links : Holds 0 l n (λ r. countAt t p n r .links)

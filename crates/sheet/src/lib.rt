@@ -8,6 +8,7 @@ pub mod layout;
 pub mod loops;
 pub mod masks;
 pub mod places;
+pub mod read;
 pub mod rows;
 pub mod shape;
 pub mod widths;
