@@ -11,3 +11,4 @@ pub mod SheetLaws
 pub mod TreeLaws
 pub mod Admitted
 pub mod PlaceLaws
+pub mod CountLaws

@@ -109,7 +109,7 @@ mark-at (y ∷ l) p x r a h k =
         let z : cond (eqb y x) 1 0 + occurrences x l ≡ occurrences x l = rw (ne-eqb y x e) (omega arith) in
         ih ∙ ap (λ (b : Bool). cond (eqb (occurrences x l) 0) b true) o ∙ sym (ap (λ (k : ℕ). cond (eqb k 0) (inBody p x) true) z)
 
-bodies-between : (r : ℕ) (b : Bool) (s : Shape) → AllBetween r (namedIn s) → AllBetween r (bodiesIn b s)
+pub bodies-between : (r : ℕ) (b : Bool) (s : Shape) → AllBetween r (namedIn s) → AllBetween r (bodiesIn b s)
 unfolding namedIn bodiesIn
 bodies-between r b (Identifier i) h = tt
 bodies-between r b (Whole i) h = tt
@@ -123,7 +123,7 @@ bodies-between r false (If x y z) h = tt
 bodies-between r b (For i k x y) h = h .1
 bodies-between r b (Iter x) h = tt
 
-bodies-named : (x : ℕ) (b : Bool) (s : Shape) → occurrences x (bodiesIn b s) ≤ occurrences x (namedIn s)
+pub bodies-named : (x : ℕ) (b : Bool) (s : Shape) → occurrences x (bodiesIn b s) ≤ occurrences x (namedIn s)
 unfolding namedIn bodiesIn occurrences
 bodies-named x b (Identifier i) = omega arith
 bodies-named x b (Whole i) = omega arith
@@ -226,19 +226,22 @@ module _ (t : List ℕ) (n : ℕ) (ok : Sound t n) (r : ℕ) (a : 1 ≤ r) (b : 
       let i = one-part t x n r a b in
       omega arith
 
+  -- No other row names what row r names.
+  pub only-namer : (x : ℕ) → 1 ≤ x → x < r → 1 ≤ occurrences x (namedIn (shapeAt t r))
+      → (k : ℕ) → 1 ≤ k → k ≤ n → k ≢ r → occurrences x (namedIn (shapeAt t k)) ≡ 0
+  only-namer x c d o k g h e = go (decLt k r)
+    where
+      go : Dec (k < r) → occurrences x (namedIn (shapeAt t k)) ≡ 0
+      go (yes l) = let i = two-parts t x n k r g l b in let j = ok .once x c (omega arith) in omega arith
+      go (no l) = let i = two-parts t x n r k a (omega arith) h in let j = ok .once x c (omega arith) in omega arith
+
   placed : (x : ℕ) → 1 ≤ x → x < r → 1 ≤ occurrences x (namedIn (shapeAt t r))
       → inBody P x ≡ not (eqb (occurrences x (bodiesIn (inBody P r) (shapeAt t r))) 0)
   unfolding placesOf P
   placed x c d o =
-      settled t n n r x (replicate n false) (ok .named) (omega arith) (rw (length-replicate n false) (omega arith)) a b c d other
+      settled t n n r x (replicate n false) (ok .named) (omega arith) (rw (length-replicate n false) (omega arith)) a b c d
+      (only-namer x c d o)
       (getD-replicate n (x - 1) false false (omega arith))
-    where
-      other : (k : ℕ) → 1 ≤ k → k ≤ n → k ≢ r → occurrences x (namedIn (shapeAt t k)) ≡ 0
-      other k g h e = go (decLt k r)
-        where
-          go : Dec (k < r) → occurrences x (namedIn (shapeAt t k)) ≡ 0
-          go (yes l) = let i = two-parts t x n k r g l b in let j = ok .once x c (omega arith) in omega arith
-          go (no l) = let i = two-parts t x n r k a (omega arith) h in let j = ok .once x c (omega arith) in omega arith
 
 own : (x : ℕ) → cond {A = ℕ} (eqb x x) 1 0 ≡ 1
 own x = rw (eq-eqb x x refl) refl
@@ -343,3 +346,11 @@ find-namer t n (suc m) x ok l h o = go (decLt 0 (occurrences x (namedIn (shapeAt
 
 pub namer : (t : List ℕ) (n : ℕ) → Sound t n → (x : ℕ) → 1 ≤ x → x < n → Namer t n x
 namer t n ok x h l = find-namer t n n x (ok .named) (omega arith) h (let e = ok .once x h l in omega arith)
+
+-- No row names the last, which is in an expression place.
+pub last-place : (t : List ℕ) (n : ℕ) → Named t n → 1 ≤ n → inBody (placesOf t n) n ≡ false
+unfolding placesOf
+last-place t n ok h =
+    untouched t n n (replicate n false) n ok (omega arith) h (rw (length-replicate n false) (omega arith))
+    (λ k a b. occurs-not n k (namedIn (shapeAt t k)) (ok .names k a b) b)
+    ∙ getD-replicate n (n - 1) false false (omega arith)

@@ -1,0 +1,51 @@
+-- What the passes of tests 8 to 10 start from: a table of fields that passed tests 4 to 7, with its places.
+use Prim.Native.Nat.{ℕ, _*_, _≤_}
+use mathlib.Core.Path.{_≡_}
+use mathlib.Core.Bool.{Bool, true}
+use mathlib.Core.List.{List}
+use lib.ListN.{length}
+use Rattle.formula.specs.Places.{placesOf}
+use Rattle.formula.specs.Tests.{rangesWell, placedWell}
+use Rattle.formula.specs.PlaceLaws.{Sound}
+use Rattle.names.specs.Names.{mask}
+use Rattle.sheet.specs.Nodes.{nodeAt, returnedIn, iteratedIn, freeIn, Holds}
+use Rattle.sheet.specs.Ends.{endsIn}
+use Rattle.sheet.specs.Loops.{loopsOf}
+use Rattle.sheet.specs.Counts.{countAt}
+
+pub record Ready (t : List ℕ) (n : ℕ) (p : List Bool) : Type 0 where
+  pub size : length t ≡ 5 * n
+  pub sound : Sound t n
+  pub places : p ≡ placesOf t n
+  pub ranges : (r : ℕ) → 1 ≤ r → r ≤ n → rangesWell t r ≡ true
+  pub iters : (r : ℕ) → 1 ≤ r → r ≤ n → placedWell t p r ≡ true
+
+-- The tables that test 10 reads: loop widths w, masks m, returned and iterated widths, ends f.
+pub record Filled (t : List ℕ) (n : ℕ) (p : List Bool) (w m ret it f : List ℕ) : Type 0 where
+  pub ready : Ready t n p
+  pub some : 1 ≤ n
+  pub loops : w ≡ loopsOf t p (λ k. returnedIn (nodeAt t p k)) n
+  pub masks : Holds 0 m n (λ k. mask (freeIn (nodeAt t p k)))
+  pub returned : Holds 0 ret n (λ k. returnedIn (nodeAt t p k))
+  pub iterated : Holds 0 it n (λ k. iteratedIn (nodeAt t p k))
+  pub ends : Holds 0 f n (λ k. endsIn (nodeAt t p k))
+  pub masks-size : length m ≡ n
+  pub returned-size : length ret ≡ n
+  pub iterated-size : length it ≡ n
+  pub ends-size : length f ≡ n
+
+-- What tests 8 and 9 leave in the tables of widths and masks.
+pub record Noded (t : List ℕ) (n : ℕ) (p : List Bool) (ret it m : List ℕ) : Type 0 where
+  pub returned : Holds 0 ret n (λ k. returnedIn (nodeAt t p k))
+  pub iterated : Holds 0 it n (λ k. iteratedIn (nodeAt t p k))
+  pub masks : Holds 0 m n (λ k. mask (freeIn (nodeAt t p k)))
+  pub returned-size : length ret ≡ n
+  pub iterated-size : length it ≡ n
+  pub masks-size : length m ≡ n
+
+-- What test 10 leaves in the tables of ends, loop widths and counts.
+pub record Graphed (t : List ℕ) (n : ℕ) (p : List Bool) (f w k l : List ℕ) : Type 0 where
+  pub ends : Holds 0 f n (λ r. endsIn (nodeAt t p r))
+  pub loops : w ≡ loopsOf t p (λ r. returnedIn (nodeAt t p r)) n
+  pub operators : Holds 0 k n (λ r. countAt t p n r .operators)
+  pub links : Holds 0 l n (λ r. countAt t p n r .links)

@@ -1,0 +1,158 @@
+// The reader: all tests of a sheet in their order, the tables of an accepted sheet, and the entry points (document 01,
+// "Said by what was handed in", 1 to 10). Any bytes of any length may be handed in.
+use crate::blank;
+use crate::count::test_operators;
+use crate::decode::decode;
+use crate::ends::find_ends;
+use crate::layout::few_rows;
+use crate::layout::laid_out;
+use crate::loops::find_loops;
+use crate::masks::test_bound;
+use crate::places::find_places;
+use crate::places::test_places;
+use crate::rows::test_named;
+use crate::rows::test_naming;
+use crate::rows::test_ranges;
+use crate::widths::test_widths;
+use formula::Check;
+use formula::Figures;
+use formula::Reading;
+use formula::Refusal;
+use formula::Verdict;
+use formula::refusal_number;
+use names::count;
+use names::minus;
+ghost use mathlib.Core.Path.{_≡_};
+ghost use mathlib.Core.Bool.{false};
+ghost use Prim.Native.Nat.{_+_, _*_, _-_, _≤_};
+ghost use lib.ListN.{length, take, replicate};
+ghost use Rattle.formula.specs.declared.Check.the-variants.{Passed as passes};
+ghost use Rattle.formula.specs.declared.Verdict.the-variants.{Passed};
+ghost use Rattle.formula.specs.Sheet.{rowCount, fieldsOf};
+ghost use Rattle.formula.specs.Tests.{lowest, rangesWell, namesWell, readingOf};
+ghost use Rattle.sheet.specs.Ready.{Ready, Noded, Graphed};
+ghost use Rattle.sheet.specs.Reading.{rowVerdict, placeVerdict, nodeVerdict, graphVerdict, Told, answerOf};
+
+// The tables of a sheet by row, and what the tests say of it. Only an accepted sheet's tables are filled to the end.
+pub struct Tables {
+    pub verdict: Verdict,
+    pub rows: usize,
+    pub fields: [u32; 1000],
+    pub places: [bool; 200],
+    pub returned: [u8; 200],
+    pub iterated: [u8; 200],
+    pub ends: [u8; 200],
+    pub loops: [u8; 200],
+    pub masks: [u64; 200],
+    pub operators: [u32; 200],
+    pub links: [u32; 200],
+}
+
+// What reading tells the firmware: refusal 0 is an accepted sheet.
+#[repr(C)]
+pub struct ReadAnswer {
+    pub refusal: u32,
+    pub row: u32,
+    pub rows: u32,
+    pub operators: u32,
+    pub inputs: u32,
+    pub results: u32,
+}
+
+// Tests 1 to 5, which fill the table of fields.
+fn row_tests(s: &[u8], fields: &mut [u32]) -> Verdict
+    requires { ⌜ length (now fields) ≡ 1000 ⌝ }
+    ensures { λ v. ⌜ (v ≡ rowVerdict (now (s .entry)) Passed) × (v ≡ Passed → take (5 * rowCount (now (s .entry))) (now (fields .exit)) ≡ fieldsOf (now (s .entry))) ⌝ }
+{
+    if !laid_out(s) {
+        return Verdict::Refused(Refusal::Layout, 0);
+    }
+    if !few_rows(s) {
+        return Verdict::Refused(Refusal::Rows, 0);
+    }
+    let n = s.len() / 31;
+    match decode(s, n, fields) {
+        Check::Fault(r) => {
+            return Verdict::Refused(Refusal::Malformed, r);
+        }
+        Check::Passed => {}
+    }
+    let end = 5 * n;
+    match test_ranges(&fields[..end], n) {
+        Check::Fault(r) => {
+            return Verdict::Refused(Refusal::Range, r);
+        }
+        Check::Passed => {}
+    }
+    match test_naming(&fields[..end], n) {
+        Check::Fault(r) => Verdict::Refused(Refusal::Naming, r),
+        Check::Passed => Verdict::Passed,
+    }
+}
+
+// Tests 6 and 7 of n rows with the fields t, which find the places of the rows.
+fn place_tests(t: &[u32], n: usize, p: &mut [bool]) -> Verdict
+    requires { ⌜ (length (now t) ≡ 5 * n) × (1 ≤ n) × (n ≤ 200) × (lowest n (rangesWell (now t)) ≡ passes) × (lowest n (namesWell (now t)) ≡ passes) × (now p ≡ replicate n false) ⌝ }
+    ensures { λ v. ⌜ (v ≡ placeVerdict (now (t .entry)) n Passed) × (v ≡ Passed → Ready (now (t .entry)) n (now (p .exit))) ⌝ }
+{
+    match test_named(t, n) {
+        Check::Fault(r) => {
+            return Verdict::Refused(Refusal::Named, r);
+        }
+        Check::Passed => {}
+    }
+    find_places(t, n, p);
+    match test_places(t, n, &p[..n]) {
+        Check::Fault(r) => Verdict::Refused(Refusal::StrayIter, r),
+        Check::Passed => Verdict::Passed,
+    }
+}
+
+// Tests 8 and 9, which fill the tables of widths and masks.
+fn node_tests(
+    t: &[u32],
+    n: usize,
+    p: &[bool],
+    ret: &mut [u8],
+    it: &mut [u8],
+    m: &mut [u64],
+) -> Verdict
+    requires { ⌜ (Ready (now t) n (now p)) × (length (now ret) ≡ n) × (length (now it) ≡ n) × (length (now m) ≡ n) ⌝ }
+    ensures { λ v. ⌜ (v ≡ nodeVerdict (now (t .entry)) (now (p .entry)) n Passed) × (v ≡ Passed → Noded (now (t .entry)) n (now (p .entry)) (now (ret .exit)) (now (it .exit)) (now (m .exit))) ⌝ }
+{
+    match test_widths(t, n, p, ret, it) {
+        Check::Fault(r) => {
+            return Verdict::Refused(Refusal::Width, r);
+        }
+        Check::Passed => {}
+    }
+    match test_bound(t, n, p, m) {
+        Check::Fault(r) => Verdict::Refused(Refusal::Unused, r),
+        Check::Passed => Verdict::Passed,
+    }
+}
+
+// Test 10, with the tables that the graph's counts rest on.
+fn graph_tests(
+    t: &[u32],
+    n: usize,
+    p: &[bool],
+    ret: &[u8],
+    it: &[u8],
+    m: &[u64],
+    f: &mut [u8],
+    w: &mut [u8],
+    k: &mut [u32],
+    l: &mut [u32],
+) -> Verdict
+    requires { ⌜ (Ready (now t) n (now p)) × (1 ≤ n) × (Noded (now t) n (now p) (now ret) (now it) (now m)) × (length (now f) ≡ n)
+        × (now w ≡ replicate n 0) × (now k ≡ replicate n 0) × (now l ≡ replicate n 0) ⌝ }
+    ensures { λ v. ⌜ (v ≡ graphVerdict (now (t .entry)) n) × (v ≡ Passed → Graphed (now (t .entry)) n (now (p .entry)) (now (f .exit)) (now (w .exit)) (now (k .exit)) (now (l .exit))) ⌝ }
+{
+    find_ends(t, n, f);
+    find_loops(t, n, p, ret, w);
+    match test_operators(t, n, p, &w[..n], m, ret, it, &f[..n], k, l) {
+        Check::Fault(r) => Verdict::Refused(Refusal::Operators, r),
+        Check::Passed => Verdict::Passed,
+    }
+}
