@@ -31,7 +31,7 @@ ghost use Rattle.formula.specs.declared.Verdict.the-variants.{Passed};
 ghost use Rattle.formula.specs.Sheet.{rowCount, fieldsOf};
 ghost use Rattle.formula.specs.Tests.{lowest, rangesWell, namesWell, readingOf};
 ghost use Rattle.sheet.specs.Ready.{Ready, Noded, Graphed};
-ghost use Rattle.sheet.specs.Reading.{rowVerdict, placeVerdict, nodeVerdict, graphVerdict, Told, answerOf};
+ghost use Rattle.sheet.specs.Reading.{rowVerdict, placeVerdict, nodeVerdict, graphVerdict, formulaVerdict, Rowed, Told, answerOf};
 
 // The tables of a sheet by row, and what the tests say of it. Only an accepted sheet's tables are filled to the end.
 pub struct Tables {
@@ -154,5 +154,98 @@ fn graph_tests(
     match test_operators(t, n, p, &w[..n], m, ret, it, &f[..n], k, l) {
         Check::Fault(r) => Verdict::Refused(Refusal::Operators, r),
         Check::Passed => Verdict::Passed,
+    }
+}
+
+// Tests 6 to 10 of n rows with the fields t, from blank tables.
+fn formula_tests(
+    t: &[u32],
+    n: usize,
+    p: &mut [bool],
+    ret: &mut [u8],
+    it: &mut [u8],
+    m: &mut [u64],
+    f: &mut [u8],
+    w: &mut [u8],
+    k: &mut [u32],
+    l: &mut [u32],
+) -> Verdict
+    requires { ⌜ (length (now t) ≡ 5 * n) × (1 ≤ n) × (n ≤ 200) × (lowest n (rangesWell (now t)) ≡ passes) × (lowest n (namesWell (now t)) ≡ passes)
+        × (now p ≡ replicate n false) × (length (now ret) ≡ n) × (length (now it) ≡ n) × (length (now m) ≡ n) × (length (now f) ≡ n)
+        × (now w ≡ replicate n 0) × (now k ≡ replicate n 0) × (now l ≡ replicate n 0) ⌝ }
+    ensures { λ v. ⌜ (v ≡ formulaVerdict (now (t .entry)) n)
+        × (v ≡ Passed → Rowed (now (t .entry)) n (now (p .exit)) (now (ret .exit)) (now (it .exit)) (now (m .exit)) (now (f .exit)) (now (w .exit)) (now (k .exit)) (now (l .exit))) ⌝ }
+{
+    match place_tests(t, n, p) {
+        Verdict::Refused(r, row) => {
+            return Verdict::Refused(r, row);
+        }
+        Verdict::Passed => {}
+    }
+    match node_tests(t, n, &p[..n], ret, it, m) {
+        Verdict::Refused(r, row) => {
+            return Verdict::Refused(r, row);
+        }
+        Verdict::Passed => {}
+    }
+    graph_tests(t, n, &p[..n], &ret[..n], &it[..n], &m[..n], f, w, k, l)
+}
+
+// All tests in their order, and the tables of the sheet.
+pub fn read_tables(s: &[u8]) -> Tables
+    ensures { λ x. ⌜ Told (now (s .entry)) x ⌝ }
+{
+    let mut fields = blank::fields();
+    let mut places = blank::marks();
+    let mut returned = blank::bytes();
+    let mut iterated = blank::bytes();
+    let mut masks = blank::words();
+    let mut ends = blank::bytes();
+    let mut loops = blank::bytes();
+    let mut operators = blank::numbers();
+    let mut links = blank::numbers();
+    let n = s.len() / 31;
+    match row_tests(s, &mut fields) {
+        Verdict::Refused(r, row) => Tables {
+            verdict: Verdict::Refused(r, row),
+            rows: 0,
+            fields,
+            places,
+            returned,
+            iterated,
+            ends,
+            loops,
+            masks,
+            operators,
+            links,
+        },
+        Verdict::Passed => {
+            let end = 5 * n;
+            let verdict = formula_tests(
+                &fields[..end],
+                n,
+                &mut places[..n],
+                &mut returned[..n],
+                &mut iterated[..n],
+                &mut masks[..n],
+                &mut ends[..n],
+                &mut loops[..n],
+                &mut operators[..n],
+                &mut links[..n],
+            );
+            Tables {
+                verdict,
+                rows: n,
+                fields,
+                places,
+                returned,
+                iterated,
+                ends,
+                loops,
+                masks,
+                operators,
+                links,
+            }
+        }
     }
 }
