@@ -23,7 +23,7 @@ use Rattle.formula.specs.TestLaws.{passed-each}
 use Rattle.formula.specs.TreeLaws.{and-true}
 use Rattle.sheet.specs.Rows.{seen}
 use Rattle.sheet.specs.Ready.{Ready, Noded}
-use Rattle.sheet.specs.Reading.{rowVerdict, placeVerdict, nodeVerdict, graphVerdict, formulaVerdict}
+use Rattle.sheet.specs.Reading.{rowVerdict, placeVerdict, nodeVerdict, graphVerdict, formulaVerdict, Rowed}
 use Rattle.sheet.proofs.RowLaws.{named-by}
 
 -- All tests in their order.
@@ -270,3 +270,7 @@ module _ (s : List ℕ) where
 
   pub formula-decides : (v : Verdict) → v ≡ rowVerdict s passed → v ≡ passed → formulaVerdict (fieldsOf s) (rowCount s) ≡ verdictOf s
   formula-decides v e f = sym (all-then ∙ ap (λ (x : Verdict). then x (formulaVerdict (fieldsOf s) (rowCount s))) (sym e ∙ f))
+
+pub rowed-as : (n : ℕ) (t u : List ℕ) (p q : List Bool) (a b c d e f g a′ b′ c′ d′ e′ f′ g′ : List ℕ) → u ≡ t → q ≡ p
+    → a′ ≡ a → b′ ≡ b → c′ ≡ c → d′ ≡ d → e′ ≡ e → f′ ≡ f → g′ ≡ g → Rowed t n p a b c d e f g → Rowed u n q a′ b′ c′ d′ e′ f′ g′
+rowed-as n t u p q a b c d e f g a′ b′ c′ d′ e′ f′ g′ x y i j k l m o r h = rw (x, y, i, j, k, l, m, o, r) h
