@@ -24,7 +24,10 @@ use names::count;
 use names::minus;
 ghost use mathlib.Core.Path.{_≡_};
 ghost use mathlib.Core.Bool.{false};
-ghost use Prim.Native.Nat.{_+_, _*_, _-_, _≤_};
+ghost use Prim.Native.Nat.{_+_, _*_, _-_, _^_, _≤_};
+ghost use lib.Bits.{bitAnd};
+ghost use lib.Count.{ones};
+ghost use Rattle.sheet.specs.Masks.{triggerMask};
 ghost use lib.ListN.{length, take, replicate};
 ghost use Rattle.formula.specs.declared.Check.the-variants.{Passed as passes};
 ghost use Rattle.formula.specs.declared.Verdict.the-variants.{Passed};
@@ -247,5 +250,62 @@ pub fn read_tables(s: &[u8]) -> Tables
                 links,
             }
         }
+    }
+}
+
+// The figures of an accepted sheet, from its last row's entries; the inputs are the formula's free identifiers.
+fn figures(rows: usize, operators: u32, mask: u64, results: u8) -> Figures
+    ensures { λ f. ⌜ (f .rows ≡ rows) × (f .operators ≡ operators) × (f .inputs ≡ ones (bitAnd mask ((2 ^ 64 - 1) - triggerMask))) × (f .results ≡ results) ⌝ }
+{
+    let inputs = count(minus(mask, 4294967296));
+    Figures {
+        rows,
+        operators: operators as usize,
+        inputs: inputs as usize,
+        results: results as usize,
+    }
+}
+
+// What reading says of a sheet.
+pub fn read(s: &[u8]) -> Reading
+    ensures { λ r. ⌜ r ≡ readingOf (now (s .entry)) ⌝ }
+{
+    let x = read_tables(s);
+    let verdict = x.verdict;
+    let rows = x.rows;
+    match verdict {
+        Verdict::Refused(r, row) => Reading::Rejected(r, row),
+        Verdict::Passed => {
+            let operators = x.operators;
+            let masks = x.masks;
+            let returned = x.returned;
+            let last = rows - 1;
+            Reading::Accepted(figures(rows, operators[last], masks[last], returned[last]))
+        }
+    }
+}
+
+// Reading for the firmware.
+#[no_mangle]
+pub extern "C" fn bench_read(sheet: &[u8]) -> ReadAnswer
+    ensures { λ r. ⌜ r ≡ answerOf (readingOf (now (sheet .entry))) ⌝ }
+{
+    match read(sheet) {
+        Reading::Accepted(f) => ReadAnswer {
+            refusal: 0,
+            row: 0,
+            rows: f.rows as u32,
+            operators: f.operators as u32,
+            inputs: f.inputs as u32,
+            results: f.results as u32,
+        },
+        Reading::Rejected(r, row) => ReadAnswer {
+            refusal: refusal_number(r),
+            row: row as u32,
+            rows: 0,
+            operators: 0,
+            inputs: 0,
+            results: 0,
+        },
     }
 }
