@@ -1,1 +1,4 @@
 pub mod Meaning
+pub mod Binding
+pub mod Rounds
+pub mod WidthLaws

@@ -1,0 +1,17 @@
+pub mod Naming
+pub mod BodyWidths
+pub mod Choice
+pub mod Joins
+pub mod ArmNames
+pub mod FreeNames
+pub mod BareOutputs
+pub mod FitGraphs
+pub mod Gates
+pub mod Lookups
+pub mod Absence
+pub mod Rows
+pub mod Branches
+pub mod JoinRows
+pub mod BodyJoin
+pub mod Meets
+pub mod LoopRounds
