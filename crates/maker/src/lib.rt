@@ -1,0 +1,4 @@
+// The graph maker: the operators of an accepted sheet's graph, written into the machine's memory.
+pub mod emit;
+pub mod links;
+pub mod records;
