@@ -1,6 +1,7 @@
 -- One turn and the end of each emitter's loop. The equations say that what is written and what is still to be written are together what was to be
 -- written. Assumes nothing.
-use Prim.Native.Nat.{ℕ, zero, suc, _+_, _-_, _*_, _≤_, _<_}
+use Prim.Native.Nat.{ℕ, zero, suc, _+_, _-_, _*_, _/_, _%_, _^_, _≤_, _<_}
+use lib.Dec.{eqb}
 use mathlib.Core.Path.{_≡_, refl, sym, ap, ap₂, _∙_}
 use mathlib.Core.Bool.{Bool, true, false}
 use mathlib.Core.List.{List, [], _∷_, _++_, map, append-nil, append-assoc}
@@ -9,10 +10,10 @@ use lib.Seq.{take-suc, getD-drop}
 use native.Mathlib.Omega.{arith}
 use Rattle.layout.specs.Record.{placed}
 use Rattle.layout.specs.declared.Operator.{Operator as Record}
-use Rattle.graph.specs.Assembly.{copiesFor, chain, chainEnds}
-use Rattle.maker.specs.Encode.{encoded, written, written-none, written-more}
-use Rattle.maker.specs.Masked.{listOf, Mask, Walked, mask-ended}
-use Rattle.maker.specs.Emitted.{linkIn, copyRecord, gateRecord, copies-more, copies-none, rowRecords, rowOutputs, row-none, row-last, row-more, outputs-more, outputs-last, outputs-none, chain-more, chain-few, ends-more, ends-last, ends-none}
+use Rattle.graph.specs.Assembly.{copiesFor, chain, chainEnds, ring, ringGate}
+use Rattle.maker.specs.Encode.{encode, encoded, written, written-none, written-more}
+use Rattle.maker.specs.Masked.{listOf, namesIn, Mask, Walked, mask-ended}
+use Rattle.maker.specs.Emitted.{linkIn, copyRecord, gateRecord, copies-more, copies-none, rowRecords, rowOutputs, row-none, row-last, row-more, outputs-more, outputs-last, outputs-none, chain-more, chain-few, ends-more, ends-last, ends-none, ring-none, ring-more}
 use Rattle.maker.proofs.Turns.{fill-turn}
 
 -- ---- arrays
@@ -141,3 +142,31 @@ module _ (ends : List ℕ) (i k c to left : ℕ) (all : List ℕ) (e : take i en
       let y : i ≡ k = omega arith in
       ap (λ (j : ℕ). take j ends) (sym y) ∙ sym (append-nil (take i ends))
       ∙ ap (λ (t : List ℕ). take i ends ++ t) (sym (ends-none c to) ∙ ap (chainEnds c to) (sym z)) ∙ e
+
+-- ---- the ring of a loop
+
+module _ (ids : ℕ) (cs iterated started own out : List ℕ) where
+  abbrev rest-of-ring : ℕ → ℕ → List Record
+  rest-of-ring m k = encoded (ring (listOf m) (namesIn ids) (drop k cs) (linkIn iterated) (linkIn started) (linkIn own) (linkIn out))
+
+  pub ring-again : (m x r : ℕ) (w : Walked m x r) (mem : List ℕ) (at k : ℕ) (mem′ : List ℕ) (o : Record) (b : Bool) (all : List ℕ) → k < length cs
+      → mem′ ≡ placed mem (at + k) o
+      → o ≡ encode (ringGate b (getD cs k 0) (getD iterated x 0) (getD started x 0) (getD own x 0) (getD out x 0))
+      → b ≡ eqb (ids / 2 ^ x % 2) 1
+      → written mem (at + k) (rest-of-ring m k) ≡ all → written mem′ (at + (k + 1)) (rest-of-ring r (k + 1)) ≡ all
+  unfolding namesIn
+  ring-again m x r w mem at k mem′ o b all h p q f e =
+      let z : at + (k + 1) ≡ suc (at + k) = omega arith in
+      let g = encode (ringGate (namesIn ids x) (getD cs k 0) (getD iterated x 0) (getD started x 0) (getD own x 0) (getD out x 0)) in
+      let d : mem′ ≡ placed mem (at + k) g = p ∙ ap (placed mem (at + k)) (q ∙ ap (λ (y : Bool). encode (ringGate y (getD cs k 0) (getD iterated x 0) (getD started x 0) (getD own x 0) (getD out x 0))) f) in
+      rw (z, d)
+      (sym (written-more mem (at + k) g (rest-of-ring r (k + 1)))
+      ∙ ap (written mem (at + k)) (sym (ring-more (namesIn ids) (linkIn iterated) (linkIn started) (linkIn own) (linkIn out) x (listOf r) cs k h))
+      ∙ ap (λ (xs : List ℕ). written mem (at + k) (encoded (ring xs (namesIn ids) (drop k cs) (linkIn iterated) (linkIn started) (linkIn own) (linkIn out)))) (sym (w .walk))
+      ∙ e)
+
+  pub ring-over : (m : ℕ) (i : Mask m) (z : m ≡ 0) (mem : List ℕ) (at k : ℕ) (all : List ℕ) → written mem at (rest-of-ring m k) ≡ all → mem ≡ all
+  ring-over m i z mem at k all e =
+      sym (ap (λ (xs : List ℕ). written mem at (encoded (ring xs (namesIn ids) (drop k cs) (linkIn iterated) (linkIn started) (linkIn own) (linkIn out)))) (mask-ended m i z)
+      ∙ ap (written mem at) (ring-none (namesIn ids) (linkIn iterated) (linkIn started) (linkIn own) (linkIn out) (drop k cs)) ∙ written-none mem at)
+      ∙ e

@@ -151,3 +151,24 @@ ends-last l n = refl
 pub ends-none : (l n : ℕ) → chainEnds l n 0 ≡ []
 unfolding chainEnds
 ends-none l n = refl
+
+-- ---- the ring of a loop
+
+pub ring-FM : (b : Bool) → b ≡ true → (c i s w o : ℕ) → encode (ringGate b c i s w o) ≡ gateRecord 19 c i s o
+unfolding ringGate nth
+ring-FM b e c i s w o = rw e refl
+
+pub ring-FS : (b : Bool) → b ≡ false → (c i s w o : ℕ) → encode (ringGate b c i s w o) ≡ gateRecord 20 c w noLink o
+unfolding ringGate nth
+ring-FS b e c i s w o = rw e refl
+
+module _ (ids : Names) (iterated started own out : Env) where
+  pub ring-none : (cs : List ℕ) → encoded (ring [] ids cs iterated started own out) ≡ []
+  unfolding ring
+  ring-none cs = refl
+
+  pub ring-more : (x : ℕ) (xs cs : List ℕ) (k : ℕ) → k < length cs
+      → encoded (ring (x ∷ xs) ids (drop k cs) iterated started own out)
+      ≡ encode (ringGate (ids x) (getD cs k 0) (iterated x) (started x) (own x) (out x)) ∷ encoded (ring xs ids (drop (k + 1) cs) iterated started own out)
+  unfolding ring
+  ring-more x xs cs k h = rw (drop-cons cs k h) refl

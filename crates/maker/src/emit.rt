@@ -4,6 +4,7 @@
 use crate::records::copy_of;
 use crate::records::gate_of;
 use crate::records::next;
+use crate::records::ring_gate;
 use layout::store_operator;
 ghost use mathlib.Core.Path.{_≡_};
 ghost use Prim.Native.Nat.{ℕ, _+_, _*_, _≤_, _<_};
@@ -81,4 +82,32 @@ pub fn spread(mem: &mut [u8], m: usize, n: u16, l: u16, k: usize) -> [u16; 33]
         ends[i] = c;
     }
     ends
+}
+
+// A loop's gates on the names of a mask: FM on its identifiers, FS on the others. The arrays give
+// for each name the iterated and the starting link, the link of its own, and the gate's output.
+pub fn ring_gates(
+    mem: &mut [u8],
+    m: usize,
+    mask: u64,
+    ids: u64,
+    controls: [u16; 33],
+    iterated: [u16; 33],
+    started: [u16; 33],
+    own: [u16; 33],
+    out: [u16; 33],
+)
+    requires { ⌜ Mask mask × (m + length (listOf mask) ≤ 1024) × (21760 ≤ length (now mem)) ⌝ }
+    ensures { λ _. ⌜ now (mem .exit) ≡ written (now (mem .entry)) m (encoded (ring (listOf mask) (namesIn ids) controls (linkIn iterated) (linkIn started) (linkIn own) (linkIn out))) ⌝ }
+{
+    let mut rest = mask;
+    let mut k = 0;
+    while rest != 0 {
+        let turn = next(rest);
+        let x = turn.name;
+        let o = ring_gate(names::has(ids, x as u32), controls[k], iterated[x], started[x], own[x], out[x]);
+        store_operator(mem, m + k, o);
+        k += 1;
+        rest = turn.rest;
+    }
 }

@@ -5,6 +5,8 @@ ghost use mathlib.Core.Path.{_≡_};
 ghost use mathlib.Core.List.{map};
 ghost use Prim.Native.Nat.{ℕ, _+_, _*_, _≤_, _<_};
 ghost use lib.ListN.{length, take};
+ghost use Rattle.graph.specs.Assembly.{ringGate};
+ghost use Rattle.maker.specs.Encode.{encode};
 ghost use Rattle.maker.specs.Emitted.{copyRecord, gateRecord, dealt, assigned, linkIn};
 ghost use Rattle.maker.specs.Masked.{listOf, Mask, Walked};
 
@@ -20,6 +22,16 @@ pub fn gate_of(kind: u8, a: u16, b: u16, c: u16, out: u16) -> Operator
     ensures { λ o. ⌜ o ≡ gateRecord kind a b c out ⌝ }
 {
     Operator { kind, in1: a, in2: b, in3: c, out1: out, out2: 65535, out3: 65535, register: 0 }
+}
+
+// "A for puts FM on its identifiers and FS on the body's other names"
+pub fn ring_gate(identifier: bool, control: u16, iterated: u16, started: u16, own: u16, out: u16) -> Operator
+    ensures { λ o. ⌜ o ≡ encode (ringGate identifier control iterated started own out) ⌝ }
+{
+    if identifier {
+        return gate_of(19, control, iterated, started, out);
+    }
+    gate_of(20, control, own, 65535, out)
 }
 
 // One turn of a walk over the names of a mask: the lowest name, and the mask without it.
