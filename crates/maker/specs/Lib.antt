@@ -1,3 +1,5 @@
 pub mod Encode
 pub mod Emitted
 pub mod Masked
+pub mod Environments
+pub mod Laid
