@@ -3,3 +3,4 @@ pub mod Emitted
 pub mod Masked
 pub mod Environments
 pub mod Laid
+pub mod Sharing
