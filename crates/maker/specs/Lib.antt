@@ -4,3 +4,4 @@ pub mod Masked
 pub mod Environments
 pub mod Laid
 pub mod Sharing
+pub mod Rows
