@@ -5,3 +5,4 @@ pub mod Environments
 pub mod Laid
 pub mod Sharing
 pub mod Rows
+pub mod GateRows
