@@ -6,3 +6,4 @@ pub mod Laid
 pub mod Sharing
 pub mod Rows
 pub mod GateRows
+pub mod Choices
