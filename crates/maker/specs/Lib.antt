@@ -7,3 +7,4 @@ pub mod Sharing
 pub mod Rows
 pub mod GateRows
 pub mod Choices
+pub mod Joined
