@@ -8,3 +8,4 @@ pub mod Rows
 pub mod GateRows
 pub mod Choices
 pub mod Joined
+pub mod Results
