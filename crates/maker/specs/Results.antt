@@ -7,7 +7,7 @@ use mathlib.Core.List.{List, [], _∷_, _++_, map}
 use lib.ListN.{length, getD, take, drop}
 use lib.Seq.{getD-drop}
 use lib.Dec.{eqb, ltb}
-use borrow.Author.Tests.{eqb-true, eqb-false, eq-eqb, ne-eqb}
+use borrow.Author.Tests.{eqb-true, eqb-false, eq-eqb, ne-eqb, lt-ltb}
 use native.Mathlib.Omega.{arith}
 use Rattle.layout.specs.Layout.{noLink}
 use Rattle.names.specs.Names.{Names, one}
@@ -108,3 +108,87 @@ pub copied-laid : (c : ℕ) → Lone c → (w n m : ℕ) (env : Env) (mem : List
     → Laid (copied c w) n m env mem (written mem m (encoded (chain (env c) n w))) (chainEnds (env c) n w) (n + 2 * (w - 1)) (m + (w - 1))
 unfolding copied
 copied-laid c l w n m env mem = laid-copied c l 0 w n m env mem
+
+-- ---- by how many results each arm has
+
+-- a row of gates that was written, with the outputs and the numbers that the code gave
+laid-as : (G : Graph) (n m : ℕ) (env : Env) (mem mem₁ mem₂ o₁ o₂ : List ℕ) (n₁ n₂ m₁ m₂ : ℕ) → mem₂ ≡ mem₁ → o₂ ≡ o₁ → n₂ ≡ n₁ → m₂ ≡ m₁
+    → Laid G n m env mem mem₁ o₁ n₁ m₁ → Laid G n m env mem mem₂ o₂ n₂ m₂
+laid-as G n m env mem mem₁ mem₂ o₁ o₂ n₁ n₂ m₁ m₂ p q r s l = rw (p, q, r, s) l
+
+pub none-is : (u : ℕ) → u ≡ 0 → ltb 0 u ≡ false
+none-is u z = rw z refl
+
+pub some-is : (u : ℕ) → (u ≡ 0 → ⊥) → ltb 0 u ≡ true
+some-is u f = lt-ltb 0 u (positive u f)
+  where
+    positive : (v : ℕ) → (v ≡ 0 → ⊥) → 0 < v
+    positive zero g = absurd (g refl)
+    positive (suc v) g = omega arith
+
+module _ (n m : ℕ) (env : Env) (mem mem′ xs ys outs : List ℕ) (control i j : ℕ) (e : env 101 ≡ control) (p : Reads env 35 i xs) (q : Reads env 68 j ys) where
+  iterated-arms : (b d : Bool) → ltb 0 i ≡ b → ltb 0 j ≡ d → joinI b d i j ≡ joinI (ltb 0 i) (ltb 0 j) i j
+  iterated-arms b d x y = ap₂ (λ (s t : Bool). joinI s t i j) (sym x) (sym y)
+
+  pub iterated-neither : i ≡ 0 → j ≡ 0 → Laid (joinI (ltb 0 i) (ltb 0 j) i j) n m env mem mem (take j ys) n m
+  iterated-neither x y =
+      subst (λ (G : Graph). Laid G n m env mem mem (take j ys) n m) (iterated-arms false false (none-is i x) (none-is j y)) (rw y (laid-nothing n m env mem))
+
+  pub iterated-second-only : i ≡ 0 → j ≤ length ys → Laid (joinI (ltb 0 i) (ltb 0 j) i j) n m env mem mem (take j ys) n m
+  iterated-second-only x h = go j refl
+    where
+      go : (k : ℕ) → j ≡ k → Laid (joinI (ltb 0 i) (ltb 0 j) i j) n m env mem mem (take j ys) n m
+      go zero z = iterated-neither x z
+      go (suc k) z =
+          subst (λ (G : Graph). Laid G n m env mem mem (take j ys) n m) (iterated-arms false true (none-is i x) (some-is j (λ (y : j ≡ 0). omega arith)))
+          (straight-laid 68 j n m env mem ys h q)
+
+  pub iterated-first-only : (i ≡ 0 → ⊥) → j ≡ 0 → i ≤ length xs → Laid (joinI (ltb 0 i) (ltb 0 j) i j) n m env mem mem (take i xs) n m
+  iterated-first-only f z h =
+      subst (λ (G : Graph). Laid G n m env mem mem (take i xs) n m) (iterated-arms true false (some-is i f) (none-is j z)) (straight-laid 35 i n m env mem xs h p)
+
+  pub iterated-merged : (i ≡ 0 → ⊥) → (j ≡ 0 → ⊥) → i ≡ j → i ≤ 16 → (k n′ m′ : ℕ) → mem′ ≡ written mem m (rowRecords 16 control n xs ys 0 i) → take i outs ≡ rowOutputs n i
+      → k ≡ i → n′ ≡ n + (3 * i - 2) → m′ ≡ m + (2 * i - 1) → Laid (joinI (ltb 0 i) (ltb 0 j) i j) n m env mem mem′ (take k outs) n′ m′
+  iterated-merged f g s h k n′ m′ a b c d o =
+      subst (λ (G : Graph). Laid G n m env mem mem′ (take k outs) n′ m′) (iterated-arms true true (some-is i f) (some-is j g))
+      (laid-as (mergeRow 101 iteratedName i) n m env mem (written mem m (rowRecords 16 (env 101) n xs ys 0 i)) mem′ (rowOutputs n i) (take k outs) (n + (3 * i - 2)) n′ (m + (2 * i - 1)) m′
+      (a ∙ ap (λ (x : ℕ). written mem m (rowRecords 16 x n xs ys 0 i)) (sym e)) (ap (λ (x : ℕ). take x outs) c ∙ b) d o
+      (merge-laid 101 lone-second iteratedName (omega arith) (λ z x y t. omega arith) i h n m env mem xs ys p (λ z x. q z (omega arith))))
+
+module _ (n m : ℕ) (env : Env) (mem mem′ xs ys none outs : List ℕ) (control i j w : ℕ) (e : env 102 ≡ control) (p : Reads env 51 i xs) (q : Reads env 84 j ys)
+    (h : w ≤ 16) (blank : (z : ℕ) → z < 33 → getD none z 0 ≡ noLink) (k n′ m′ : ℕ) (c : k ≡ w)
+  where
+    arms : (b d : Bool) → (i j : ℕ) → ltb 0 i ≡ b → ltb 0 j ≡ d → joinR b d w ≡ joinR (ltb 0 i) (ltb 0 j) w
+    arms b d i j x y = ap₂ (λ (s t : Bool). joinR s t w) (sym x) (sym y)
+
+    pub returned-neither : i ≡ 0 → j ≡ 0 → mem′ ≡ written mem m (encoded (chain control n w)) → take w outs ≡ chainEnds control n w → n′ ≡ n + 2 * (w - 1) → m′ ≡ m + (w - 1)
+        → Laid (joinR (ltb 0 i) (ltb 0 j) w) n m env mem mem′ (take k outs) n′ m′
+    returned-neither x y a b d o =
+        subst (λ (G : Graph). Laid G n m env mem mem′ (take k outs) n′ m′) (arms false false i j (none-is i x) (none-is j y))
+        (laid-as (copied 102 w) n m env mem (written mem m (encoded (chain (env 102) n w))) mem′ (chainEnds (env 102) n w) (take k outs) (n + 2 * (w - 1)) n′ (m + (w - 1)) m′
+        (a ∙ ap (λ (z : ℕ). written mem m (encoded (chain z n w))) (sym e)) (ap (λ (z : ℕ). take z outs) c ∙ b ∙ ap (λ (z : ℕ). chainEnds z n w) (sym e)) d o
+        (copied-laid 102 lone-third w n m env mem))
+
+    pub returned-second : i ≡ 0 → (j ≡ 0 → ⊥) → j ≡ w → mem′ ≡ written mem m (rowRecords 17 control n ys none 0 w) → take w outs ≡ rowOutputs n w → n′ ≡ n + (3 * w - 2) → m′ ≡ m + (2 * w - 1)
+        → Laid (joinR (ltb 0 i) (ltb 0 j) w) n m env mem mem′ (take k outs) n′ m′
+    returned-second x y s a b d o =
+        subst (λ (G : Graph). Laid G n m env mem mem′ (take k outs) n′ m′) (arms false true i j (none-is i x) (some-is j y))
+        (laid-as (exceptRow 102 84 w) n m env mem (written mem m (rowRecords 17 (env 102) n ys none 0 w)) mem′ (rowOutputs n w) (take k outs) (n + (3 * w - 2)) n′ (m + (2 * w - 1)) m′
+        (a ∙ ap (λ (z : ℕ). written mem m (rowRecords 17 z n ys none 0 w)) (sym e)) (ap (λ (z : ℕ). take z outs) c ∙ b) d o
+        (except-laid 102 lone-third 84 (λ z t u v. omega arith) w h n m env mem ys none (λ z t. q z (omega arith)) blank))
+
+    pub returned-first : (i ≡ 0 → ⊥) → j ≡ 0 → i ≡ w → mem′ ≡ written mem m (rowRecords 17 control n xs none 0 w) → take w outs ≡ rowOutputs n w → n′ ≡ n + (3 * w - 2) → m′ ≡ m + (2 * w - 1)
+        → Laid (joinR (ltb 0 i) (ltb 0 j) w) n m env mem mem′ (take k outs) n′ m′
+    returned-first x y s a b d o =
+        subst (λ (G : Graph). Laid G n m env mem mem′ (take k outs) n′ m′) (arms true false i j (some-is i x) (none-is j y))
+        (laid-as (exceptRow 102 51 w) n m env mem (written mem m (rowRecords 17 (env 102) n xs none 0 w)) mem′ (rowOutputs n w) (take k outs) (n + (3 * w - 2)) n′ (m + (2 * w - 1)) m′
+        (a ∙ ap (λ (z : ℕ). written mem m (rowRecords 17 z n xs none 0 w)) (sym e)) (ap (λ (z : ℕ). take z outs) c ∙ b) d o
+        (except-laid 102 lone-third 51 (λ z t u v. omega arith) w h n m env mem xs none (λ z t. p z (omega arith)) blank))
+
+    pub returned-both : (i ≡ 0 → ⊥) → (j ≡ 0 → ⊥) → i ≡ w → j ≡ w → mem′ ≡ written mem m (rowRecords 16 control n xs ys 0 w) → take w outs ≡ rowOutputs n w → n′ ≡ n + (3 * w - 2) → m′ ≡ m + (2 * w - 1)
+        → Laid (joinR (ltb 0 i) (ltb 0 j) w) n m env mem mem′ (take k outs) n′ m′
+    returned-both x y s t a b d o =
+        subst (λ (G : Graph). Laid G n m env mem mem′ (take k outs) n′ m′) (arms true true i j (some-is i x) (some-is j y))
+        (laid-as (mergeRow 102 returnedName w) n m env mem (written mem m (rowRecords 16 (env 102) n xs ys 0 w)) mem′ (rowOutputs n w) (take k outs) (n + (3 * w - 2)) n′ (m + (2 * w - 1)) m′
+        (a ∙ ap (λ (z : ℕ). written mem m (rowRecords 16 z n xs ys 0 w)) (sym e)) (ap (λ (z : ℕ). take z outs) c ∙ b) d o
+        (merge-laid 102 lone-third returnedName (omega arith) (λ z x y t. omega arith) w h n m env mem xs ys (λ z u. p z (omega arith)) (λ z u. q z (omega arith))))
