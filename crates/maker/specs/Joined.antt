@@ -48,7 +48,7 @@ returned-lacks false false w k h p q = copied-lacks 102 w k h
 
 module _ (b c d e : Bool) (m n w : ℕ) (hm : m ≤ 16) (hn : n ≤ 16) (hw : w ≤ 16) where
   -- the iterated results and the returned results share no name
-  joins-apart : (k : ℕ) → free (joinI b c m n) k && free (joinR d e w) k ≡ false
+  pub joins-apart : (k : ℕ) → free (joinI b c m n) k && free (joinR d e w) k ≡ false
   joins-apart k = go (eqb 102 k) refl (memberOf (upFrom 51 w) k) refl (memberOf (upFrom 84 w) k) refl
     where
       no-iterated : (k ≡ 101 → ⊥) → memberOf (upFrom 35 m) k ≡ false → memberOf (upFrom 68 m) k ≡ false → memberOf (upFrom 68 n) k ≡ false
@@ -92,13 +92,13 @@ module _ (b c d e : Bool) (m n w : ℕ) (hm : m ≤ 16) (hn : n ≤ 16) (hw : w 
       (iterated-lacks b c m n 100 (λ (y : 100 ≡ 101). omega arith) (above-upFrom 35 m 100 (omega arith)) (above-upFrom 68 m 100 (omega arith)) (above-upFrom 68 n 100 (omega arith)))
       (returned-lacks d e w 100 (λ (y : 100 ≡ 102). omega arith) (above-upFrom 51 w 100 (omega arith)) (above-upFrom 84 w 100 (omega arith)))
 
-  abbrev resultsPart : Graph
+  abbrev pub resultsPart : Graph
   resultsPart = beside (joinI b c m n) (joinR d e w)
 
-  abbrev tests : Graph
+  abbrev pub tests : Graph
   tests = beside (wire 33) (beside (wire 34) (wire 67))
 
-  first-apart : (k : ℕ) → free (wire 100) k && free resultsPart k ≡ false
+  pub first-apart : (k : ℕ) → free (wire 100) k && free resultsPart k ≡ false
   unfolding free
   first-apart k = go (eqb 100 k) refl
     where
@@ -106,7 +106,7 @@ module _ (b c d e : Bool) (m n w : ℕ) (hm : m ≤ 16) (hn : n ≤ 16) (hw : w 
       go true p = let z : 100 ≡ k = eqb-true 100 k p in rw (sym z) joins-lack-100
       go false p = refl
 
-  gate-apart : (ns : List ℕ) (k : ℕ) → free (gate (IC (b && c)) tests) k && (free (beside (wire 100) resultsPart) k && not (memberOf ns k)) ≡ false
+  pub gate-apart : (ns : List ℕ) (k : ℕ) → free (gate (IC (b && c)) tests) k && (free (beside (wire 100) resultsPart) k && not (memberOf ns k)) ≡ false
   unfolding free
   gate-apart ns k = go (eqb 33 k) refl (eqb 34 k) refl (eqb 67 k) refl
     where

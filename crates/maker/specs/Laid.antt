@@ -164,7 +164,7 @@ laid-bind ns a b n m env mem mem₁ mem₂ mem₃ o₁ o₂ n₁ m₁ n₂ m₂ 
 
 -- ---- a loop
 
-chain-length : (l n k : ℕ) → length (chain l n k) ≡ k - 1
+pub chain-length : (l n k : ℕ) → length (chain l n k) ≡ k - 1
 unfolding chain
 chain-length l n zero = refl
 chain-length l n (suc zero) = refl
@@ -178,7 +178,7 @@ ends-length l n zero = refl
 ends-length l n (suc zero) = refl
 ends-length l n (suc (suc k)) = ap suc (ends-length (suc n) (suc (suc n)) (suc k))
 
-ring-length : (xs : List ℕ) (ids : Names) (cs : List ℕ) (it st own out : Env) → length cs ≡ length xs → length (ring xs ids cs it st own out) ≡ length xs
+pub ring-length : (xs : List ℕ) (ids : Names) (cs : List ℕ) (it st own out : Env) → length cs ≡ length xs → length (ring xs ids cs it st own out) ≡ length xs
 unfolding ring
 ring-length [] ids cs it st own out h = refl
 ring-length (x ∷ xs) ids [] it st own out h = absurd (omega arith)

@@ -9,3 +9,4 @@ pub mod GateRows
 pub mod Choices
 pub mod Joined
 pub mod Results
+pub mod Counts
