@@ -1,12 +1,13 @@
 -- How many operators a graph has, whatever its links are (document 01, test 10: "over 1,024 operators"): the room that sequential code needs for a
 -- part before it writes it. Assumes nothing.
 use Prim.Native.Nat.{ℕ, zero, suc, _+_, _-_, _*_, _≤_, _<_}
-use mathlib.Core.Path.{_≡_, refl, sym, ap, ap₂, _∙_}
+use mathlib.Core.Path.{_≡_, refl, sym, ap, ap₂, _∙_, subst}
 use mathlib.Core.Bool.{Bool, true, false, cond, not, _&&_, _||_}
 use mathlib.Core.List.{List, [], _∷_, _++_}
 use lib.ListN.{length, getD, drop, replicate, getD-replicate, length-append}
 use lib.Dec.{ltb}
 use native.Mathlib.Omega.{arith}
+use native.Mathlib.Decide.{ℕ-discrete}
 use Rattle.names.specs.Names.{Names, common, without, sizeFrom}
 use Rattle.names.proofs.Counts.{sizeFrom-none}
 use Rattle.graph.specs.Assembly.{Graph, wire, nothing, beside, bind, gate, loop, Gate, IC, Env, Operator, free, memberOf, total, listed, linksOf, sharedLinks, outputs, operatorsOf, gateOf, sharing, firstUse, secondUse, named, spread, chain, chainEnds, ring, upFrom, gateOutputs}
@@ -18,7 +19,7 @@ use Rattle.maker.specs.Laid.{Laid, chain-length, ring-length, ends-lengt
 use Rattle.maker.specs.Sharing.{sharing-length, lone-test, lone-second, lone-third}
 use Rattle.maker.specs.Results.{merge-laid, except-laid, straight-laid, copied-laid, none-is, some-is}
 use Rattle.maker.specs.Rows.{three-wires}
-use Rattle.maker.specs.Joined.{joins-apart, first-apart, gate-apart, joinedBy, tests, resultsPart}
+use Rattle.maker.specs.Joined.{joins-apart, first-apart, gate-apart, joinGraph, joinedBy, tests, resultsPart}
 
 unfoldable pub operatorCount : Graph → ℕ
 unfolding free total sizeFrom memberOf
@@ -144,6 +145,11 @@ except-count w s h k =
     (except-laid 102 lone-third s (λ z x y t. omega arith) w h 0 0 plain [] (upFrom s w) (replicate 33 65535) (λ i l. sym (upFrom-at s w i l)) (λ i l. getD-replicate 33 i 65535 0 l))
     in omega arith
 
+pub straight-count : (s w : ℕ) → operatorCount (straight s w) ≡ 0
+straight-count s w =
+    let l = laid-count (straight s w) 0 0 plain [] _ _ _ _ (straight-laid s w 0 0 plain [] (upFrom s w) (let z : length (upFrom s w) ≡ w = length-upFrom s w in omega arith) (λ i l. sym (upFrom-at s w i l))) in
+    omega arith
+
 pub copied-count : (w : ℕ) → operatorCount (copied 102 w) ≡ w - 1
 copied-count w = let l = laid-count (copied 102 w) 0 0 plain [] _ _ _ _ (copied-laid 102 lone-third w 0 0 plain []) in omega arith
 
@@ -163,3 +169,59 @@ none-return i j w p =
     let x : i ≡ 0 = omega arith in
     let y : j ≡ 0 = omega arith in
     ap₂ (λ (s t : Bool). operatorCount (joinR s t w)) (none-is i x) (none-is j y) ∙ copied-count w
+
+pub first-none : (i j : ℕ) → i ≡ 0 → operatorCount (joinI (ltb 0 i) (ltb 0 j) i j) ≡ 0
+unfolding operatorCount
+first-none i j z = ap (λ (t : Bool). operatorCount (joinI t (ltb 0 j) i j)) (none-is i z) ∙ go (ltb 0 j)
+  where
+    go : (t : Bool) → operatorCount (joinI false t i j) ≡ 0
+    go true = straight-count 68 j
+    go false = refl
+
+pub second-none : (i j : ℕ) → (i ≡ 0 → ⊥) → j ≡ 0 → operatorCount (joinI (ltb 0 i) (ltb 0 j) i j) ≡ 0
+second-none i j p z = ap₂ (λ (s t : Bool). operatorCount (joinI s t i j)) (some-is i p) (none-is j z) ∙ straight-count 35 i
+
+-- ---- the room that the joins of a body's if need
+
+-- i and j iterated, p and q returned results of the arms, from operator m on
+module _ (i j p q w m : ℕ) (hi : i ≤ 16) (hj : j ≤ 16) (lw : 1 ≤ w) (hw : w ≤ 16)
+    (h : m + operatorCount (joinGraph (ltb 0 i) (ltb 0 j) (ltb 0 p) (ltb 0 q) i j w) ≤ 1024)
+  where
+    I : ℕ
+    I = operatorCount (joinI (ltb 0 i) (ltb 0 j) i j)
+
+    R : ℕ
+    R = operatorCount (joinR (ltb 0 p) (ltb 0 q) w)
+
+    all : m + (1 + (I + R)) ≤ 1024
+    unfolding I R
+    all = subst (λ (k : ℕ). m + k ≤ 1024) (joined-count (ltb 0 i) (ltb 0 j) (ltb 0 p) (ltb 0 q) i j w hi hj hw) h
+
+    pub room-gate : m < 1024
+    room-gate = let a : m + (1 + (I + R)) ≤ 1024 = all in omega arith
+
+    pub room-iterated : 0 < i → 0 < j → m + 1 + 2 * i ≤ 1025
+    unfolding I
+    room-iterated x y =
+        let a : m + (1 + (I + R)) ≤ 1024 = all in
+        let b : I ≡ 2 * i - 1 = both-iterate i j (λ (z : i ≡ 0). omega arith) (λ (z : j ≡ 0). omega arith) hi in
+        omega arith
+
+    pub room-returned : (m₁ : ℕ) → m₁ ≡ m + 1 + operatorCount (joinI (ltb 0 i) (ltb 0 j) i j) → 0 < p + q → m₁ + 2 * w ≤ 1025
+    unfolding I R
+    room-returned m₁ e x =
+        let a : m + (1 + (I + R)) ≤ 1024 = all in
+        let c : m₁ ≡ m + 1 + I = e in
+        let b : R ≡ 2 * w - 1 = some-return p q w (λ (z : p + q ≡ 0). omega arith) hw in
+        omega arith
+
+    pub room-copied : (m₁ : ℕ) → m₁ ≡ m + 1 + operatorCount (joinI (ltb 0 i) (ltb 0 j) i j) → m₁ + w ≤ 1025
+    unfolding I R
+    room-copied m₁ e =
+        let a : m + (1 + (I + R)) ≤ 1024 = all in
+        let c : m₁ ≡ m + 1 + I = e in
+        go a c (ℕ-discrete (p + q) 0)
+      where
+        go : m + (1 + (I + R)) ≤ 1024 → m₁ ≡ m + 1 + I → Dec (p + q ≡ 0) → m₁ + w ≤ 1025
+        go a c (yes z) = let b : R ≡ w - 1 = none-return p q w z in omega arith
+        go a c (no z) = let b : R ≡ 2 * w - 1 = some-return p q w z hw in omega arith

@@ -120,7 +120,7 @@ module _ (f g : Names) (n : ℕ) (env : Env) (e : List ℕ) (h : length e ≡ 33
 
 -- ---- names bound to a list of links
 
-named-other : (xs ls : List ℕ) (env : Env) (k : ℕ) → memberOf xs k ≡ false → named xs ls env k ≡ env k
+pub named-other : (xs ls : List ℕ) (env : Env) (k : ℕ) → memberOf xs k ≡ false → named xs ls env k ≡ env k
 unfolding named memberOf
 named-other [] ls env k h = refl
 named-other (x ∷ xs) [] env k h = refl
@@ -128,7 +128,7 @@ named-other (x ∷ xs) (l ∷ ls) env k h =
     let p : (eqb x k ≡ false) × (memberOf xs k ≡ false) = or-neither (eqb x k) (memberOf xs k) h in
     rw (p .0) (named-other xs ls env k (p .1))
 
-named-same : (xs ls : List ℕ) (env env′ : Env) (k : ℕ) → env k ≡ env′ k → named xs ls env k ≡ named xs ls env′ k
+pub named-same : (xs ls : List ℕ) (env env′ : Env) (k : ℕ) → env k ≡ env′ k → named xs ls env k ≡ named xs ls env′ k
 unfolding named
 named-same [] ls env env′ k h = h
 named-same (x ∷ xs) [] env env′ k h = h

@@ -10,7 +10,11 @@ use lib.ListN.{length, getD}
 use lib.Dec.{eqb}
 use borrow.Author.Tests.{eqb-true, eqb-false, eq-eqb, ne-eqb}
 use native.Mathlib.Omega.{arith}
+use Rattle.layout.specs.Layout.{noLink}
 use Rattle.layout.specs.Record.{placed}
+use Rattle.layout.specs.declared.Operator.{Operator as Record}
+use Rattle.yields.specs.ArmNames.{join-from}
+use Rattle.maker.specs.Environments.{named-other}
 use Rattle.yields.specs.Naming.{or-false, below-upFrom, above-upFrom, upFrom-holds, or-left, or-right}
 use Rattle.yields.specs.Joins.{joinI, joinR, merge-lacks, except-lacks, straight-lacks, copied-lacks}
 use Rattle.graph.specs.Assembly.{Graph, wire, nothing, beside, bind, gate, loop, Gate, M, E, IC, Env, free, memberOf, gateOutputs, gateOf, nth, upFrom, named, chain, chainEnds}
@@ -22,6 +26,15 @@ use Rattle.maker.specs.Encode.{encode, encoded, written}
 use Rattle.maker.specs.Laid.{Laid, laid-wire, laid-nothing, laid-gate}
 use Rattle.maker.specs.Rows.{laid-apart, three-wires}
 use Rattle.maker.specs.Choices.{bind-apart}
+
+abbrev pub icRecord : ℕ → ℕ → ℕ → ℕ → ℕ → ℕ → Record
+icRecord t x y a b c = record { kind = 18; in1 = t; in2 = x; in3 = y; out1 = a; out2 = b; out3 = c; register = 0 }
+
+-- by whether each arm iterates and returns, and by their widths
+abbrev pub joinGraph : Bool → Bool → Bool → Bool → ℕ → ℕ → ℕ → Graph
+joinGraph b c d e m n w =
+    bind (joinNames (b && c)) (gate (IC (b && c)) (beside (wire testName) (beside (wire (iterName true)) (wire (iterName false)))))
+    (beside (wire joinName) (beside (joinI b c m n) (joinR d e w)))
 
 -- ---- which names the joins lack
 
@@ -162,7 +175,57 @@ module _ (b c d e : Bool) (m n w : ℕ) (hm : m ≤ 16) (hn : n ≤ 16) (hw : w 
       in
       subst (λ (x : ℕ). Laid joinedBy at op env mem mem₃ (x ∷ (o₁ ++ o₂)) n₃ m₃) (behind-first at env) l
 
-pub joined-is : (w : ℕ) (x y : Body) (p : iterated x ≤ 16) (q : iterated y ≤ 16) (r : w ≤ 16)
-    → joined w x y ≡ joinedBy (iterates x) (iterates y) (returns x) (returns y) (iterated x) (iterated y) w p q r
+pub joined-is : (w : ℕ) (x y : Body) → joined w x y ≡ joinGraph (iterates x) (iterates y) (returns x) (returns y) (iterated x) (iterated y) w
 unfolding joined iteratedJoin returnedJoin
-joined-is w x y p q r = refl
+joined-is w x y = refl
+
+-- ---- the environment behind the gate
+
+module _ (both : Bool) (at : ℕ) (env : Env) where
+  pub behind-second : both ≡ true → named (joinNames both) (upFrom at (gateOutputs (IC both))) env 101 ≡ at + 1
+  unfolding joinNames upFrom named gateOutputs
+  behind-second e = let z : suc at ≡ at + 1 = omega arith in rw e z
+
+  pub behind-third : named (joinNames both) (upFrom at (gateOutputs (IC both))) env 102 ≡ at + gateOutputs (IC both) - 1
+  unfolding joinNames upFrom named gateOutputs
+  behind-third = go both
+    where
+      go : (t : Bool) → named (joinNames t) (upFrom at (gateOutputs (IC t))) env 102 ≡ at + gateOutputs (IC t) - 1
+      go true = let z : suc (suc at) ≡ at + 3 - 1 = omega arith in z
+      go false = let z : suc at ≡ at + 2 - 1 = omega arith in z
+
+  pub behind-low : (k : ℕ) → k < 100 → named (joinNames both) (upFrom at (gateOutputs (IC both))) env k ≡ env k
+  behind-low k h = named-other (joinNames both) (upFrom at (gateOutputs (IC both))) env k (join-from both k h)
+
+-- ---- the record of the gate
+
+IC-encodes : (both : Bool) (t x y n : ℕ) → encode (gateOf (IC both) (t ∷ x ∷ y ∷ []) n)
+    ≡ cond both (icRecord t x y n (n + 1) (n + 2)) (icRecord t x y n noLink (n + 1))
+unfolding gateOf nth
+IC-encodes true t x y n = refl
+IC-encodes false t x y n = refl
+
+pub IC-outputs : (both : Bool) → gateOutputs (IC both) ≡ cond both 3 2
+unfolding gateOutputs
+IC-outputs both = refl
+
+pub IC-three : (both : Bool) → both ≡ true → (t x y n : ℕ) → encode (gateOf (IC both) (t ∷ x ∷ y ∷ []) n) ≡ icRecord t x y n (n + 1) (n + 2)
+IC-three both e t x y n = IC-encodes both t x y n ∙ ap (λ (b : Bool). cond b (icRecord t x y n (n + 1) (n + 2)) (icRecord t x y n noLink (n + 1))) e
+
+pub IC-two : (both : Bool) → both ≡ false → (t x y n : ℕ) → encode (gateOf (IC both) (t ∷ x ∷ y ∷ []) n) ≡ icRecord t x y n noLink (n + 1)
+IC-two both e t x y n = IC-encodes both t x y n ∙ ap (λ (b : Bool). cond b (icRecord t x y n (n + 1) (n + 2)) (icRecord t x y n noLink (n + 1))) e
+
+-- ---- the joins from what the code wrote
+
+module _ (b c d e : Bool) (m n w : ℕ) (hm : m ≤ 16) (hn : n ≤ 16) (hw : w ≤ 16) where
+  -- `xs`, `ys` are the iterated, `xt`, `yt` the returned results; o₁ and o₂ what the joins gave
+  pub joined-from : (at op second third k : ℕ) (env : Env) (mem mem₁ mem₂ mem₃ o₁ o₂ outs : List ℕ) (n₂ m₂ n₃ m₃ x y t : ℕ) → env 33 ≡ t → env 34 ≡ x → env 67 ≡ y
+      → mem₁ ≡ placed mem op (encode (gateOf (IC (b && c)) (t ∷ x ∷ y ∷ []) at)) → k ≡ at + gateOutputs (IC (b && c))
+      → Laid (joinI b c m n) k (op + 1) (named (joinNames (b && c)) (upFrom at (gateOutputs (IC (b && c)))) env) mem₁ mem₂ o₁ n₂ m₂
+      → Laid (joinR d e w) n₂ m₂ (named (joinNames (b && c)) (upFrom at (gateOutputs (IC (b && c)))) env) mem₂ mem₃ o₂ n₃ m₃
+      → outs ≡ at ∷ (o₁ ++ o₂) → Laid (joinGraph b c d e m n w) at op env mem mem₃ outs n₃ m₃
+  joined-from at op second third k env mem mem₁ mem₂ mem₃ o₁ o₂ outs n₂ m₂ n₃ m₃ x y t p q r h s li lr o =
+      subst (λ (z : List ℕ). Laid (joinGraph b c d e m n w) at op env mem mem₃ z n₃ m₃) (sym o)
+      (laid-joined b c d e m n w hm hn hw at op env mem mem₁ mem₂ mem₃ o₁ o₂ n₂ m₂ n₃ m₃
+      (h ∙ ap (placed mem op) (λ i. encode (gateOf (IC (b && c)) (sym p i ∷ sym q i ∷ sym r i ∷ []) at)))
+      (subst (λ (z : ℕ). Laid (joinI b c m n) z (op + 1) (named (joinNames (b && c)) (upFrom at (gateOutputs (IC (b && c)))) env) mem₁ mem₂ o₁ n₂ m₂) s li) lr)

@@ -10,3 +10,4 @@ pub mod Choices
 pub mod Joined
 pub mod Results
 pub mod Counts
+pub mod Arms

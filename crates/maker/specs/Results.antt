@@ -5,7 +5,7 @@ use mathlib.Core.Path.{_≡_, refl, sym, ap, ap₂, _∙_, subst}
 use mathlib.Core.Bool.{Bool, true, false, cond, not, _&&_, _||_, false≢true}
 use mathlib.Core.List.{List, [], _∷_, _++_, map}
 use lib.ListN.{length, getD, take, drop}
-use lib.Seq.{getD-drop}
+use lib.Seq.{getD-drop, getD-take}
 use lib.Dec.{eqb, ltb}
 use borrow.Author.Tests.{eqb-true, eqb-false, eq-eqb, ne-eqb, lt-ltb}
 use native.Mathlib.Omega.{arith}
@@ -14,7 +14,7 @@ use Rattle.names.specs.Names.{Names, one}
 use Rattle.yields.specs.Naming.{or-false, or-true, length-upFrom}
 use Rattle.yields.specs.Joins.{joinI, joinR}
 use Rattle.graph.specs.Assembly.{Graph, wire, nothing, beside, gate, Gate, M, E, Env, upFrom, chain, chainEnds}
-use Rattle.graph.specs.Translation.{iteratedName, returnedName, joinName, row, merged, excepted, mergeRow, exceptRow, straight, copied}
+use Rattle.graph.specs.Translation.{iterName, iteratedName, returnedName, joinName, row, merged, excepted, mergeRow, exceptRow, straight, copied}
 use Rattle.maker.specs.Encode.{encoded, written}
 use Rattle.maker.specs.Emitted.{rowRecords, rowOutputs, drop-cons}
 use Rattle.maker.specs.Laid.{Laid, laid-nothing}
@@ -126,7 +126,7 @@ some-is u f = lt-ltb 0 u (positive u f)
     positive zero g = absurd (g refl)
     positive (suc v) g = omega arith
 
-module _ (n m : ℕ) (env : Env) (mem mem′ xs ys outs : List ℕ) (control i j : ℕ) (e : env 101 ≡ control) (p : Reads env 35 i xs) (q : Reads env 68 j ys) where
+module _ (n m : ℕ) (env : Env) (mem mem′ xs ys outs : List ℕ) (control i j : ℕ) (e : (i ≡ 0 → ⊥) → (j ≡ 0 → ⊥) → env 101 ≡ control) (p : Reads env 35 i xs) (q : Reads env 68 j ys) where
   iterated-arms : (b d : Bool) → ltb 0 i ≡ b → ltb 0 j ≡ d → joinI b d i j ≡ joinI (ltb 0 i) (ltb 0 j) i j
   iterated-arms b d x y = ap₂ (λ (s t : Bool). joinI s t i j) (sym x) (sym y)
 
@@ -152,7 +152,7 @@ module _ (n m : ℕ) (env : Env) (mem mem′ xs ys outs : List ℕ) (control i j
   iterated-merged f g s h k n′ m′ a b c d o =
       subst (λ (G : Graph). Laid G n m env mem mem′ (take k outs) n′ m′) (iterated-arms true true (some-is i f) (some-is j g))
       (laid-as (mergeRow 101 iteratedName i) n m env mem (written mem m (rowRecords 16 (env 101) n xs ys 0 i)) mem′ (rowOutputs n i) (take k outs) (n + (3 * i - 2)) n′ (m + (2 * i - 1)) m′
-      (a ∙ ap (λ (x : ℕ). written mem m (rowRecords 16 x n xs ys 0 i)) (sym e)) (ap (λ (x : ℕ). take x outs) c ∙ b) d o
+      (a ∙ ap (λ (x : ℕ). written mem m (rowRecords 16 x n xs ys 0 i)) (sym (e f g))) (ap (λ (x : ℕ). take x outs) c ∙ b) d o
       (merge-laid 101 lone-second iteratedName (omega arith) (λ z x y t. omega arith) i h n m env mem xs ys p (λ z x. q z (omega arith))))
 
 module _ (n m : ℕ) (env : Env) (mem mem′ xs ys none outs : List ℕ) (control i j w : ℕ) (e : env 102 ≡ control) (p : Reads env 51 i xs) (q : Reads env 84 j ys)
@@ -192,3 +192,12 @@ module _ (n m : ℕ) (env : Env) (mem mem′ xs ys none outs : List ℕ) (contro
         (laid-as (mergeRow 102 returnedName w) n m env mem (written mem m (rowRecords 16 (env 102) n xs ys 0 w)) mem′ (rowOutputs n w) (take k outs) (n + (3 * w - 2)) n′ (m + (2 * w - 1)) m′
         (a ∙ ap (λ (z : ℕ). written mem m (rowRecords 16 z n xs ys 0 w)) (sym e)) (ap (λ (z : ℕ). take z outs) c ∙ b) d o
         (merge-laid 102 lone-third returnedName (omega arith) (λ z x y t. omega arith) w h n m env mem xs ys (λ z u. p z (omega arith)) (λ z u. q z (omega arith))))
+
+pub reads-same : (env : Env) (s w : ℕ) (xs ys : List ℕ) → take w xs ≡ take w ys → Reads env s w ys → Reads env s w xs
+reads-same env s w xs ys e h i l = h i l ∙ sym (getD-take w ys i 0 l) ∙ sym (ap (λ (zs : List ℕ). getD zs i 0) e) ∙ getD-take w xs i 0 l
+
+-- The names of an arm of a body's if have the arm's results: iter?, i iterated results, r returned results.
+pub record ArmLinks (env : Env) (side : Bool) (it : ℕ) (is : List ℕ) (i : ℕ) (rs : List ℕ) (r : ℕ) : Type 0 where
+  pub iter? : env (iterName side) ≡ it
+  pub iterated : Reads env (iteratedName side) i is
+  pub returned : Reads env (returnedName side) r rs

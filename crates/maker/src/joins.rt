@@ -2,15 +2,22 @@
 // straight. Each contract holds for every environment that gives the arms' names their links.
 use crate::emit::gate_row;
 use crate::emit::spread;
+use crate::links::join;
+use crate::links::part;
+use crate::records::ic_of;
+use layout::store_operator;
 ghost use mathlib.Core.Path.{_≡_};
-ghost use mathlib.Core.Bool.{cond};
+ghost use mathlib.Core.Bool.{true, false, cond, _&&_};
+ghost use mathlib.Core.List.{_∷_, _++_};
 ghost use Prim.Native.Nat.{ℕ, _+_, _*_, _-_, _≤_, _<_};
-ghost use lib.ListN.{length, take};
+ghost use lib.ListN.{length, take, drop, getD};
 ghost use lib.Dec.{ltb};
 ghost use Rattle.graph.specs.Assembly.{Env};
 ghost use Rattle.yields.specs.Joins.{joinI, joinR};
 ghost use Rattle.maker.specs.Laid.{Laid};
-ghost use Rattle.maker.specs.Results.{Reads};
+ghost use Rattle.maker.specs.Results.{Reads, ArmLinks};
+ghost use Rattle.maker.specs.Joined.{joinGraph};
+ghost use Rattle.maker.specs.Counts.{operatorCount};
 
 // A part of a graph once it is written: its outputs, how many there are and how many of them are
 // iterated results, and the next numbers of a link and of an operator.
@@ -35,7 +42,7 @@ pub fn after_row(outs: [u16; 33], m: usize, n: u16, k: usize) -> Emitted
 // straight."
 pub fn join_iterated(mem: &mut [u8], m: usize, n: u16, control: u16, xs: [u16; 33], i: usize, ys: [u16; 33], j: usize) -> Emitted
     requires { ⌜ (i ≤ 16) × (j ≤ 16) × (0 < i → 0 < j → (i ≡ j) × (m + 2 * i ≤ 1025)) × (n ≤ 60000) × (21760 ≤ length (now mem)) ⌝ }
-    ensures { λ r. ⌜ (r .count ≤ 16) × (r .iterated ≡ r .count) × (r .count ≡ cond (ltb 0 i) i j) × ((env : Env) → env 101 ≡ control → Reads env 35 i xs → Reads env 68 j ys → Laid (joinI (ltb 0 i) (ltb 0 j) i j) n m env (now (mem .entry)) (now (mem .exit)) (take (r .count) (r .outs)) (r .links) (r .operators)) ⌝ }
+    ensures { λ r. ⌜ (r .count ≤ 16) × (r .iterated ≡ r .count) × (r .count ≡ cond (ltb 0 i) i j) × (r .operators ≡ m + operatorCount (joinI (ltb 0 i) (ltb 0 j) i j)) × (r .links ≤ n + 48) × ((env : Env) → ((i ≡ 0 → ⊥) → (j ≡ 0 → ⊥) → env 101 ≡ control) → Reads env 35 i xs → Reads env 68 j ys → Laid (joinI (ltb 0 i) (ltb 0 j) i j) n m env (now (mem .entry)) (now (mem .exit)) (take (r .count) (r .outs)) (r .links) (r .operators)) ⌝ }
 {
     if i == 0 {
         return Emitted { outs: ys, count: j, iterated: j, links: n, operators: m };
@@ -69,4 +76,79 @@ pub fn join_returned(mem: &mut [u8], m: usize, n: u16, control: u16, xs: [u16; 3
     }
     let outs = gate_row(mem, m, n, 16, control, xs, ys, w);
     after_row(outs, m, n, w)
+}
+
+// Whether there is at least one.
+fn some(n: usize) -> bool
+    ensures { λ r. ⌜ r ≡ ltb 0 n ⌝ }
+{
+    0 < n
+}
+
+fn both_of(a: bool, b: bool) -> bool
+    ensures { λ r. ⌜ r ≡ a && b ⌝ }
+{
+    a && b
+}
+
+// "An output with no user is not emitted": the second, where not both arms iterate.
+fn ic_outputs(both: bool) -> u16
+    ensures { λ r. ⌜ (r ≡ cond both 3 2) × (2 ≤ r) × (r ≤ 3) ⌝ }
+{
+    if both {
+        return 3;
+    }
+    2
+}
+
+// The results of an arm of a body if: iter?, i iterated and r returned results.
+pub struct Arm {
+    pub iter: u16,
+    pub iterated: [u16; 33],
+    pub i: usize,
+    pub returned: [u16; 33],
+    pub r: usize,
+}
+
+pub fn results_of(x: Emitted) -> Arm
+    requires { ⌜ (1 + x .iterated ≤ x .count) × (x .count ≤ 33) ⌝ }
+    ensures { λ a. ⌜ (a .iter ≡ getD (x .outs) 0 0) × (a .i ≡ x .iterated) × (take (x .iterated) (a .iterated) ≡ take (x .iterated) (drop 1 (x .outs))) × (a .r ≡ x .count - (1 + x .iterated)) × (take (x .count - (1 + x .iterated)) (a .returned) ≡ take (x .count - (1 + x .iterated)) (drop (1 + x .iterated) (x .outs))) ⌝ }
+{
+    let outs = x.outs;
+    let i = x.iterated;
+    let r = x.count - (1 + i);
+    let iterated = part(outs, 1, i);
+    let returned = part(outs, 1 + i, r);
+    Arm { iter: outs[0], iterated, i, returned, r }
+}
+
+// A link, then two lists of links.
+fn listed(l: u16, a: Emitted, b: Emitted) -> [u16; 33]
+    requires { ⌜ 1 + a .count + b .count ≤ 33 ⌝ }
+    ensures { λ r. ⌜ take (1 + a .count + b .count) r ≡ l ∷ (take (a .count) (a .outs) ++ take (b .count) (b .outs)) ⌝ }
+{
+    let first = [l; 33];
+    let ao = a.outs;
+    let front = join(first, 1, ao, a.count);
+    let bo = b.outs;
+    join(front, 1 + a.count, bo, b.count)
+}
+
+// What joins the arms of a body if, from link n and operator m on: "one IC gate", the iterated
+// results, the returned results.
+pub fn join_arms(mem: &mut [u8], m: usize, n: u16, w: usize, test: u16, x: Arm, y: Arm) -> Emitted
+    requires { ⌜ ((1 ≤ w) × (w ≤ 16)) × ((x .i ≤ 16) × (y .i ≤ 16)) × (0 < x .i → 0 < y .i → x .i ≡ y .i) × (0 < x .r → x .r ≡ w) × (0 < y .r → y .r ≡ w) × (m + operatorCount (joinGraph (ltb 0 (x .i)) (ltb 0 (y .i)) (ltb 0 (x .r)) (ltb 0 (y .r)) (x .i) (y .i) w) ≤ 1024) × (n ≤ 50000) × (21760 ≤ length (now mem)) ⌝ }
+    ensures { λ r. ⌜ (r .iterated ≡ cond (ltb 0 (x .i)) (x .i) (y .i)) × (r .count ≡ 1 + r .iterated + w) × ((env : Env) → env 33 ≡ test → ArmLinks env true (x .iter) (x .iterated) (x .i) (x .returned) (x .r) → ArmLinks env false (y .iter) (y .iterated) (y .i) (y .returned) (y .r) → Laid (joinGraph (ltb 0 (x .i)) (ltb 0 (y .i)) (ltb 0 (x .r)) (ltb 0 (y .r)) (x .i) (y .i) w) n m env (now (mem .entry)) (now (mem .exit)) (take (r .count) (r .outs)) (r .links) (r .operators)) ⌝ }
+{
+    let both = both_of(some(x.i), some(y.i));
+    store_operator(mem, m, ic_of(both, test, x.iter, y.iter, n));
+    let at = n + ic_outputs(both);
+    let xs = x.iterated;
+    let ys = y.iterated;
+    let i = join_iterated(mem, m + 1, at, n + 1, xs, x.i, ys, y.i);
+    let xt = x.returned;
+    let yt = y.returned;
+    let r = join_returned(mem, i.operators, i.links, at - 1, xt, x.r, yt, y.r, w);
+    let outs = listed(n, i, r);
+    Emitted { outs, count: 1 + i.count + w, iterated: i.count, links: r.links, operators: r.operators }
 }

@@ -2,10 +2,10 @@
 // that need no memory. Document 01, "Forms to follow": "trailing zeros walk the names".
 use layout::Operator;
 ghost use mathlib.Core.Path.{_≡_};
-ghost use mathlib.Core.List.{map};
+ghost use mathlib.Core.List.{map, _∷_, []};
 ghost use Prim.Native.Nat.{ℕ, _+_, _*_, _≤_, _<_};
 ghost use lib.ListN.{length, take};
-ghost use Rattle.graph.specs.Assembly.{ringGate};
+ghost use Rattle.graph.specs.Assembly.{ringGate, gateOf, IC};
 ghost use Rattle.maker.specs.Encode.{encode};
 ghost use Rattle.maker.specs.Emitted.{copyRecord, gateRecord, dealt, assigned, linkIn};
 ghost use Rattle.maker.specs.Masked.{listOf, Mask, Walked};
@@ -22,6 +22,17 @@ pub fn gate_of(kind: u8, a: u16, b: u16, c: u16, out: u16) -> Operator
     ensures { λ o. ⌜ o ≡ gateRecord kind a b c out ⌝ }
 {
     Operator { kind, in1: a, in2: b, in3: c, out1: out, out2: 65535, out3: 65535, register: 0 }
+}
+
+// "A body if joins these by one IC gate."
+pub fn ic_of(both: bool, test: u16, x: u16, y: u16, n: u16) -> Operator
+    requires { ⌜ n ≤ 60000 ⌝ }
+    ensures { λ o. ⌜ o ≡ encode (gateOf (IC both) (test ∷ x ∷ y ∷ []) n) ⌝ }
+{
+    if both {
+        return Operator { kind: 18, in1: test, in2: x, in3: y, out1: n, out2: n + 1, out3: n + 2, register: 0 };
+    }
+    Operator { kind: 18, in1: test, in2: x, in3: y, out1: n, out2: 65535, out3: n + 1, register: 0 }
 }
 
 // "A for puts FM on its identifiers and FS on the body's other names"
