@@ -11,3 +11,4 @@ pub mod Joined
 pub mod Results
 pub mod Counts
 pub mod Arms
+pub mod Nodes
