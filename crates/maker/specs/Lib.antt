@@ -12,3 +12,4 @@ pub mod Results
 pub mod Counts
 pub mod Arms
 pub mod Nodes
+pub mod Done

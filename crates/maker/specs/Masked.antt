@@ -98,3 +98,6 @@ walked m x r k ne p q =
       walk = w;
       shorter = ap (length {A = ℕ}) w;
     }
+
+pub mask-ones : (m : ℕ) (k : Mask m) → length (listOf m) ≡ ones m
+mask-ones m k = list-ones m (k .set) (k .is)
