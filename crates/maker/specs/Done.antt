@@ -96,7 +96,7 @@ done-beside a b k n m e mem mem₁ mem₂ mem₃ first second o₁ o₂ outs n�
 
 -- ---- a let
 
-named-take : (xs ls : List ℕ) (env : Env) (k : ℕ) → named xs (take (length xs) ls) env k ≡ named xs ls env k
+pub named-take : (xs ls : List ℕ) (env : Env) (k : ℕ) → named xs (take (length xs) ls) env k ≡ named xs ls env k
 unfolding named
 named-take [] ls env k = refl
 named-take (x ∷ xs) [] env k = refl

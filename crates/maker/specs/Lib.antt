@@ -13,3 +13,4 @@ pub mod Counts
 pub mod Arms
 pub mod Nodes
 pub mod Done
+pub mod DoneIf
