@@ -14,3 +14,4 @@ pub mod Arms
 pub mod Nodes
 pub mod Done
 pub mod DoneIf
+pub mod DoneFor
