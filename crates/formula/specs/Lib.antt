@@ -12,3 +12,4 @@ pub mod TreeLaws
 pub mod Admitted
 pub mod PlaceLaws
 pub mod CountLaws
+pub mod Acceptance

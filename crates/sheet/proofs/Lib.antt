@@ -8,3 +8,4 @@ pub mod LoopLaws
 pub mod CountLaws
 pub mod OperatorLaws
 pub mod ReadLaws
+pub mod FigureLaws

@@ -23,7 +23,7 @@ use Rattle.formula.specs.TestLaws.{passed-each}
 use Rattle.formula.specs.TreeLaws.{and-true}
 use Rattle.sheet.specs.Rows.{seen}
 use Rattle.sheet.specs.Ready.{Ready, Noded}
-use Rattle.sheet.specs.Reading.{rowVerdict, placeVerdict, nodeVerdict, graphVerdict}
+use Rattle.sheet.specs.Reading.{rowVerdict, placeVerdict, nodeVerdict, graphVerdict, formulaVerdict, Rowed}
 use Rattle.sheet.proofs.RowLaws.{named-by}
 
 -- All tests in their order.
@@ -233,3 +233,44 @@ module _ (t : List ℕ) (n : ℕ) where
         ranges = passed-each n (rangesWell t) a;
         iters = passed-each n (placedWell t (placesOf t n)) d;
       }
+
+-- ---- tests 6 to 10
+
+module _ (t : List ℕ) (n : ℕ) where
+  formula-then : formulaVerdict t n ≡ then (placeVerdict t n passed) (then (nodeVerdict t (placesOf t n) n passed) (graphVerdict t n))
+  unfolding formulaVerdict
+  formula-then =
+      place-then t n (nodeVerdict t (placesOf t n) n (graphVerdict t n))
+      ∙ ap (then (placeVerdict t n passed)) (node-then t (placesOf t n) n (graphVerdict t n))
+
+  pub place-refuses : (v : Verdict) (r : Refusal) (row : ℕ) → v ≡ placeVerdict t n passed → v ≡ Refused r row → Refused r row ≡ formulaVerdict t n
+  place-refuses v r row e f =
+      sym (formula-then ∙ ap (λ (x : Verdict). then x (then (nodeVerdict t (placesOf t n) n passed) (graphVerdict t n))) (sym e ∙ f))
+
+  pub node-refuses : (u v : Verdict) (r : Refusal) (row : ℕ) → u ≡ placeVerdict t n passed → u ≡ passed → v ≡ nodeVerdict t (placesOf t n) n passed → v ≡ Refused r row
+      → Refused r row ≡ formulaVerdict t n
+  node-refuses u v r row d c e f =
+      sym (formula-then ∙ ap (λ (x : Verdict). then x (then (nodeVerdict t (placesOf t n) n passed) (graphVerdict t n))) (sym d ∙ c)
+      ∙ ap (λ (x : Verdict). then x (graphVerdict t n)) (sym e ∙ f))
+
+  pub graph-decides : (u v : Verdict) → u ≡ placeVerdict t n passed → u ≡ passed → v ≡ nodeVerdict t (placesOf t n) n passed → v ≡ passed → graphVerdict t n ≡ formulaVerdict t n
+  graph-decides u v d c e f =
+      sym (formula-then ∙ ap (λ (x : Verdict). then x (then (nodeVerdict t (placesOf t n) n passed) (graphVerdict t n))) (sym d ∙ c)
+      ∙ ap (λ (x : Verdict). then x (graphVerdict t n)) (sym e ∙ f))
+
+-- ---- all tests
+
+module _ (s : List ℕ) where
+  all-then : verdictOf s ≡ then (rowVerdict s passed) (formulaVerdict (fieldsOf s) (rowCount s))
+  unfolding formulaVerdict
+  all-then = verdict-is s ∙ row-then s (formulaVerdict (fieldsOf s) (rowCount s))
+
+  pub rows-refuse : (v : Verdict) (r : Refusal) (row : ℕ) → v ≡ rowVerdict s passed → v ≡ Refused r row → Refused r row ≡ verdictOf s
+  rows-refuse v r row e f = sym (all-then ∙ ap (λ (x : Verdict). then x (formulaVerdict (fieldsOf s) (rowCount s))) (sym e ∙ f))
+
+  pub formula-decides : (v : Verdict) → v ≡ rowVerdict s passed → v ≡ passed → formulaVerdict (fieldsOf s) (rowCount s) ≡ verdictOf s
+  formula-decides v e f = sym (all-then ∙ ap (λ (x : Verdict). then x (formulaVerdict (fieldsOf s) (rowCount s))) (sym e ∙ f))
+
+pub rowed-as : (n : ℕ) (t u : List ℕ) (p q : List Bool) (a b c d e f g a′ b′ c′ d′ e′ f′ g′ : List ℕ) → u ≡ t → q ≡ p
+    → a′ ≡ a → b′ ≡ b → c′ ≡ c → d′ ≡ d → e′ ≡ e → f′ ≡ f → g′ ≡ g → Rowed t n p a b c d e f g → Rowed u n q a′ b′ c′ d′ e′ f′ g′
+rowed-as n t u p q a b c d e f g a′ b′ c′ d′ e′ f′ g′ x y i j k l m o r h = rw (x, y, i, j, k, l, m, o, r) h

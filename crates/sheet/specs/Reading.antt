@@ -19,7 +19,7 @@ use Rattle.formula.specs.Places.{placesOf}
 use Rattle.formula.specs.Tests.{afterCheck, whole, lowest, laidOut, fewRows, fieldsWell, rangesWell, namesWell, namedOnce, allNamed, placedWell, widthsWell, boundWell, operatorsOf, verdictOf}
 use Rattle.sheet.specs.declared.read.Tables.{Tables}
 use Rattle.sheet.specs.declared.read.ReadAnswer.{ReadAnswer}
-use Rattle.sheet.specs.Ready.{Noded, Graphed}
+use Rattle.sheet.specs.Ready.{Ready, Noded, Graphed}
 
 -- Tests 1 to 5, then what later tests say.
 unfoldable pub rowVerdict : List ℕ → Verdict → Verdict
@@ -53,15 +53,25 @@ unfoldable pub graphVerdict : List ℕ → ℕ → Verdict
 unfolding afterCheck operatorsOf
 graphVerdict t n = afterCheck Operators (whole (leb (operatorsOf t n) 1024)) passed
 
+-- Tests 6 to 10.
+unfoldable pub formulaVerdict : List ℕ → ℕ → Verdict
+unfolding placeVerdict nodeVerdict graphVerdict
+formulaVerdict t n = placeVerdict t n (nodeVerdict t (placesOf t n) n (graphVerdict t n))
+
+-- What the tables of n rows with the fields t hold once tests 6 to 10 have passed.
+pub record Rowed (t : List ℕ) (n : ℕ) (p : List Bool) (ret it m f w k l : List ℕ) : Type 0 where
+  pub ready : Ready t n p
+  pub nodes : Noded t n p ret it m
+  pub graph : Graphed t n p f w k l
+
 -- The tables of an accepted sheet.
 pub record Accepts (s : List ℕ) (x : Tables) : Type 0 where
   pub rows : x .rows ≡ rowCount s
   pub some : 1 ≤ rowCount s
   pub few : rowCount s ≤ 200
   pub fields : take (5 * rowCount s) (x .fields) ≡ fieldsOf s
-  pub places : take (rowCount s) (x .places) ≡ placesOf (fieldsOf s) (rowCount s)
-  pub nodes : Noded (fieldsOf s) (rowCount s) (placesOf (fieldsOf s) (rowCount s)) (take (rowCount s) (x .returned)) (take (rowCount s) (x .iterated)) (take (rowCount s) (x .masks))
-  pub graph : Graphed (fieldsOf s) (rowCount s) (placesOf (fieldsOf s) (rowCount s)) (take (rowCount s) (x .ends)) (take (rowCount s) (x .loops)) (take (rowCount s) (x .operators)) (take (rowCount s) (x .links))
+  pub tables : Rowed (fieldsOf s) (rowCount s) (take (rowCount s) (x .places)) (take (rowCount s) (x .returned)) (take (rowCount s) (x .iterated))
+      (take (rowCount s) (x .masks)) (take (rowCount s) (x .ends)) (take (rowCount s) (x .loops)) (take (rowCount s) (x .operators)) (take (rowCount s) (x .links))
 
 pub record Told (s : List ℕ) (x : Tables) : Type 0 where
   pub verdict : x .verdict ≡ verdictOf s

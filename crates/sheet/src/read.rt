@@ -24,14 +24,17 @@ use names::count;
 use names::minus;
 ghost use mathlib.Core.Path.{_≡_};
 ghost use mathlib.Core.Bool.{false};
-ghost use Prim.Native.Nat.{_+_, _*_, _-_, _≤_};
+ghost use Prim.Native.Nat.{_+_, _*_, _-_, _^_, _≤_};
+ghost use lib.Bits.{bitAnd};
+ghost use lib.Count.{ones};
+ghost use Rattle.sheet.specs.Masks.{triggerMask};
 ghost use lib.ListN.{length, take, replicate};
 ghost use Rattle.formula.specs.declared.Check.the-variants.{Passed as passes};
 ghost use Rattle.formula.specs.declared.Verdict.the-variants.{Passed};
 ghost use Rattle.formula.specs.Sheet.{rowCount, fieldsOf};
 ghost use Rattle.formula.specs.Tests.{lowest, rangesWell, namesWell, readingOf};
 ghost use Rattle.sheet.specs.Ready.{Ready, Noded, Graphed};
-ghost use Rattle.sheet.specs.Reading.{rowVerdict, placeVerdict, nodeVerdict, graphVerdict, Told, answerOf};
+ghost use Rattle.sheet.specs.Reading.{rowVerdict, placeVerdict, nodeVerdict, graphVerdict, formulaVerdict, Rowed, Told, answerOf};
 
 // The tables of a sheet by row, and what the tests say of it. Only an accepted sheet's tables are filled to the end.
 pub struct Tables {
@@ -154,5 +157,155 @@ fn graph_tests(
     match test_operators(t, n, p, &w[..n], m, ret, it, &f[..n], k, l) {
         Check::Fault(r) => Verdict::Refused(Refusal::Operators, r),
         Check::Passed => Verdict::Passed,
+    }
+}
+
+// Tests 6 to 10 of n rows with the fields t, from blank tables.
+fn formula_tests(
+    t: &[u32],
+    n: usize,
+    p: &mut [bool],
+    ret: &mut [u8],
+    it: &mut [u8],
+    m: &mut [u64],
+    f: &mut [u8],
+    w: &mut [u8],
+    k: &mut [u32],
+    l: &mut [u32],
+) -> Verdict
+    requires { ⌜ (length (now t) ≡ 5 * n) × (1 ≤ n) × (n ≤ 200) × (lowest n (rangesWell (now t)) ≡ passes) × (lowest n (namesWell (now t)) ≡ passes)
+        × (now p ≡ replicate n false) × (length (now ret) ≡ n) × (length (now it) ≡ n) × (length (now m) ≡ n) × (length (now f) ≡ n)
+        × (now w ≡ replicate n 0) × (now k ≡ replicate n 0) × (now l ≡ replicate n 0) ⌝ }
+    ensures { λ v. ⌜ (v ≡ formulaVerdict (now (t .entry)) n)
+        × (v ≡ Passed → Rowed (now (t .entry)) n (now (p .exit)) (now (ret .exit)) (now (it .exit)) (now (m .exit)) (now (f .exit)) (now (w .exit)) (now (k .exit)) (now (l .exit))) ⌝ }
+{
+    match place_tests(t, n, p) {
+        Verdict::Refused(r, row) => {
+            return Verdict::Refused(r, row);
+        }
+        Verdict::Passed => {}
+    }
+    match node_tests(t, n, &p[..n], ret, it, m) {
+        Verdict::Refused(r, row) => {
+            return Verdict::Refused(r, row);
+        }
+        Verdict::Passed => {}
+    }
+    graph_tests(t, n, &p[..n], &ret[..n], &it[..n], &m[..n], f, w, k, l)
+}
+
+// All tests in their order, and the tables of the sheet.
+pub fn read_tables(s: &[u8]) -> Tables
+    ensures { λ x. ⌜ Told (now (s .entry)) x ⌝ }
+{
+    let mut fields = blank::fields();
+    let mut places = blank::marks();
+    let mut returned = blank::bytes();
+    let mut iterated = blank::bytes();
+    let mut masks = blank::words();
+    let mut ends = blank::bytes();
+    let mut loops = blank::bytes();
+    let mut operators = blank::numbers();
+    let mut links = blank::numbers();
+    let n = s.len() / 31;
+    match row_tests(s, &mut fields) {
+        Verdict::Refused(r, row) => Tables {
+            verdict: Verdict::Refused(r, row),
+            rows: 0,
+            fields,
+            places,
+            returned,
+            iterated,
+            ends,
+            loops,
+            masks,
+            operators,
+            links,
+        },
+        Verdict::Passed => {
+            let end = 5 * n;
+            let verdict = formula_tests(
+                &fields[..end],
+                n,
+                &mut places[..n],
+                &mut returned[..n],
+                &mut iterated[..n],
+                &mut masks[..n],
+                &mut ends[..n],
+                &mut loops[..n],
+                &mut operators[..n],
+                &mut links[..n],
+            );
+            Tables {
+                verdict,
+                rows: n,
+                fields,
+                places,
+                returned,
+                iterated,
+                ends,
+                loops,
+                masks,
+                operators,
+                links,
+            }
+        }
+    }
+}
+
+// The figures of an accepted sheet, from its last row's entries; the inputs are the formula's free identifiers.
+fn figures(rows: usize, operators: u32, mask: u64, results: u8) -> Figures
+    ensures { λ f. ⌜ (f .rows ≡ rows) × (f .operators ≡ operators) × (f .inputs ≡ ones (bitAnd mask ((2 ^ 64 - 1) - triggerMask))) × (f .results ≡ results) ⌝ }
+{
+    let inputs = count(minus(mask, 4294967296));
+    Figures {
+        rows,
+        operators: operators as usize,
+        inputs: inputs as usize,
+        results: results as usize,
+    }
+}
+
+// What reading says of a sheet.
+pub fn read(s: &[u8]) -> Reading
+    ensures { λ r. ⌜ r ≡ readingOf (now (s .entry)) ⌝ }
+{
+    let x = read_tables(s);
+    let verdict = x.verdict;
+    let rows = x.rows;
+    match verdict {
+        Verdict::Refused(r, row) => Reading::Rejected(r, row),
+        Verdict::Passed => {
+            let operators = x.operators;
+            let masks = x.masks;
+            let returned = x.returned;
+            let last = rows - 1;
+            Reading::Accepted(figures(rows, operators[last], masks[last], returned[last]))
+        }
+    }
+}
+
+// Reading for the firmware.
+#[no_mangle]
+pub extern "C" fn bench_read(sheet: &[u8]) -> ReadAnswer
+    ensures { λ r. ⌜ r ≡ answerOf (readingOf (now (sheet .entry))) ⌝ }
+{
+    match read(sheet) {
+        Reading::Accepted(f) => ReadAnswer {
+            refusal: 0,
+            row: 0,
+            rows: f.rows as u32,
+            operators: f.operators as u32,
+            inputs: f.inputs as u32,
+            results: f.results as u32,
+        },
+        Reading::Rejected(r, row) => ReadAnswer {
+            refusal: refusal_number(r),
+            row: row as u32,
+            rows: 0,
+            operators: 0,
+            inputs: 0,
+            results: 0,
+        },
     }
 }
