@@ -85,12 +85,12 @@ unfolding outputCount
 done-beside a b k n m e mem mem₁ mem₂ mem₃ first second o₁ o₂ outs n₁ m₁ n₂ m₂ n₃ m₃ c₁ c₂ count len s is F da db ec eo =
     record {
       laid =
-        λ env ag.
-        subst (λ (o : List ℕ). Laid (beside a b) n m env mem mem₃ o n₃ m₃) (sym eo)
-        (laid-beside a b n m env mem mem₁ mem₂ mem₃ (take c₁ o₁) (take c₂ o₂) n₁ m₁ n₂ m₂ n₃ m₃
-        (fork-copied (free a) (free b) k n m e mem mem₁ first second n₁ m₁ len is F env ag s)
-        (da .laid (firstUse (free a) (free b) n env) (fork-first (free a) (free b) k n m e mem mem₁ first second n₁ m₁ len is F env ag))
-        (db .laid (secondUse (free a) (free b) n env) (fork-second (free a) (free b) k n m e mem mem₁ first second n₁ m₁ len is F env ag)));
+          λ env ag.
+          subst (λ (o : List ℕ). Laid (beside a b) n m env mem mem₃ o n₃ m₃) (sym eo)
+          (laid-beside a b n m env mem mem₁ mem₂ mem₃ (take c₁ o₁) (take c₂ o₂) n₁ m₁ n₂ m₂ n₃ m₃
+          (fork-copied (free a) (free b) k n m e mem mem₁ first second n₁ m₁ len is F env ag s)
+          (da .laid (firstUse (free a) (free b) n env) (fork-first (free a) (free b) k n m e mem mem₁ first second n₁ m₁ len is F env ag))
+          (db .laid (secondUse (free a) (free b) n env) (fork-second (free a) (free b) k n m e mem mem₁ first second n₁ m₁ len is F env ag)));
       counted = ec ∙ ap₂ (λ (x y : ℕ). x + y) (da .counted) (db .counted);
     }
 
@@ -116,15 +116,15 @@ unfolding outputCount
 done-let x y a b k n m e mem mem₁ mem₂ mem₃ first second inner o₁ o₂ n₁ m₁ n₂ m₂ n₃ m₃ c₁ c₂ len len₂ h s is F da q ei db =
     record {
       laid =
-        λ env ag.
-        let f = free a in
-        let g = without (free b) (memberOf (upFrom x y)) in
-        let f₂ : Agrees (secondUse f g n env) second = fork-second f g k n m e mem mem₁ first second n₁ m₁ len is F env ag in
-        laid-bind (upFrom x y) a b n m env mem mem₁ mem₂ mem₃ (take c₁ o₁) (take c₂ o₂) n₁ m₁ n₂ m₂ n₃ m₃
-        (fork-copied f g k n m e mem mem₁ first second n₁ m₁ len is F env ag s)
-        (da .laid (firstUse f g n env) (fork-first f g k n m e mem mem₁ first second n₁ m₁ len is F env ag))
-        (db .laid (named (upFrom x y) (take c₁ o₁) (secondUse f g n env))
-        (λ z l. up-agrees x y c₁ o₁ (secondUse f g n env) second len₂ h q f₂ z l ∙ ap (λ (r : List ℕ). getD r z 0) (sym ei)));
+          λ env ag.
+          let f = free a in
+          let g = without (free b) (memberOf (upFrom x y)) in
+          let f₂ : Agrees (secondUse f g n env) second = fork-second f g k n m e mem mem₁ first second n₁ m₁ len is F env ag in
+          laid-bind (upFrom x y) a b n m env mem mem₁ mem₂ mem₃ (take c₁ o₁) (take c₂ o₂) n₁ m₁ n₂ m₂ n₃ m₃
+          (fork-copied f g k n m e mem mem₁ first second n₁ m₁ len is F env ag s)
+          (da .laid (firstUse f g n env) (fork-first f g k n m e mem mem₁ first second n₁ m₁ len is F env ag))
+          (db .laid (named (upFrom x y) (take c₁ o₁) (secondUse f g n env))
+          (λ z l. up-agrees x y c₁ o₁ (secondUse f g n env) second len₂ h q f₂ z l ∙ ap (λ (r : List ℕ). getD r z 0) (sym ei)));
       counted = db .counted;
     }
 
@@ -137,11 +137,11 @@ unfolding outputCount upFrom
 done-gate g a n m e mem mem₁ mem₂ o₁ outs n₁ m₁ c₁ count n₂ m₂ da h one-out ec eo l en em =
     record {
       laid =
-        λ env ag.
-        let r : take count outs ≡ n₁ ∷ [] = ap (λ (z : ℕ). take z outs) ec ∙ first-of outs l ∙ ap (λ (z : ℕ). z ∷ []) eo in
-        let p = laid-gate g a n m env mem mem₁ mem₂ (take c₁ o₁) n₁ m₁ (da .laid env ag) h in
-        let q : Laid (gate g a) n m env mem mem₂ (n₁ ∷ []) (n₁ + 1) (m₁ + 1) = subst (λ (z : ℕ). Laid (gate g a) n m env mem mem₂ (upFrom n₁ z) (n₁ + z) (m₁ + 1)) one-out p in
-        rw (r, en, em) q;
+          λ env ag.
+          let r : take count outs ≡ n₁ ∷ [] = ap (λ (z : ℕ). take z outs) ec ∙ first-of outs l ∙ ap (λ (z : ℕ). z ∷ []) eo in
+          let p = laid-gate g a n m env mem mem₁ mem₂ (take c₁ o₁) n₁ m₁ (da .laid env ag) h in
+          let q : Laid (gate g a) n m env mem mem₂ (n₁ ∷ []) (n₁ + 1) (m₁ + 1) = subst (λ (z : ℕ). Laid (gate g a) n m env mem mem₂ (upFrom n₁ z) (n₁ + z) (m₁ + 1)) one-out p in
+          rw (r, en, em) q;
       counted = ec ∙ sym one-out;
     }
   where

@@ -175,9 +175,9 @@ module _ (x y : ℕ) (a b : Graph) (k kb ids n m : ℕ) (e mem mem₁ mem₂ mem
         record {
           laid = λ env ag. lay env ag;
           counted =
-            (let w : c₂ ≡ outputCount b = db .counted in
-            let u : outputCount b ≡ suc (c₂ - 1) = omega arith in
-            let v : length (upFrom x y) ≡ y = length-upFrom x y in
-            let r : outputCount (loop (upFrom x y) a b) ≡ c₂ - 1 - length (upFrom x y) = count-loop (upFrom x y) a b (c₂ - 1) u in
-            omega arith);
+              (let w : c₂ ≡ outputCount b = db .counted in
+              let u : outputCount b ≡ suc (c₂ - 1) = omega arith in
+              let v : length (upFrom x y) ≡ y = length-upFrom x y in
+              let r : outputCount (loop (upFrom x y) a b) ≡ c₂ - 1 - length (upFrom x y) = count-loop (upFrom x y) a b (c₂ - 1) u in
+              omega arith);
         }

@@ -124,9 +124,9 @@ pub holds-map : (g : Env → ℕ → ℕ) (env : Env) (a : List ℕ) (j : ℕ) (
 holds-map g env a j [] h = tt
 holds-map g env a j (x ∷ xs) h = (
   (let z : j + 0 ≡ j = omega arith in ap (λ (k : ℕ). getD a k 0) (sym z))
-  ∙ sym (getD-drop j a 0 0) ∙ sym (getD-take (suc (length xs)) (drop j a) 0 0 (omega arith)) ∙ ap (λ (l : List ℕ). getD l 0 0) h,
+      ∙ sym (getD-drop j a 0 0) ∙ sym (getD-take (suc (length xs)) (drop j a) 0 0 (omega arith)) ∙ ap (λ (l : List ℕ). getD l 0 0) h,
   holds-map g env a (j + 1) xs
-  (ap (take (length xs)) (next a j) ∙ sym (drop-take (length xs) (drop j a)) ∙ ap (drop 1) h),
+      (ap (take (length xs)) (next a j) ∙ sym (drop-take (length xs) (drop j a)) ∙ ap (drop 1) h),
 )
   where
     next : (l : List ℕ) (k : ℕ) → drop (k + 1) l ≡ drop 1 (drop k l)

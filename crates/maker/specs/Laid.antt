@@ -68,8 +68,8 @@ laid-gate g a n m env mem mem₁ mem₂ outs n₁ m₁ l p =
     let same : encode (gateOf g outs n₁) ≡ encode (gateOf g (outputs a n env) (n + linksOf a)) = ap₂ (λ (o : List ℕ) (k : ℕ). encode (gateOf g o k)) (l .gives) (l .links) in
     record {
       memory =
-        in-order (operatorsOf a n env) (gateOf g (outputs a n env) (n + linksOf a) ∷ []) mem mem₁ mem₂ m m₁ (l .memory) (l .operators)
-        (p ∙ ap (placed mem₁ m₁) same ∙ sym (written-one mem₁ m₁ (encode (gateOf g (outputs a n env) (n + linksOf a)))));
+          in-order (operatorsOf a n env) (gateOf g (outputs a n env) (n + linksOf a) ∷ []) mem mem₁ mem₂ m m₁ (l .memory) (l .operators)
+          (p ∙ ap (placed mem₁ m₁) same ∙ sym (written-one mem₁ m₁ (encode (gateOf g (outputs a n env) (n + linksOf a)))));
       gives = ap (λ (k : ℕ). upFrom k (gateOutputs g)) (l .links);
       links = omega (arith, l .links);
       operators = next-number (operatorsOf a n env) (gateOf g (outputs a n env) (n + linksOf a) ∷ []) m m₁ (m₁ + 1) (l .operators) refl;
@@ -128,8 +128,8 @@ laid-beside a b n m env mem mem₁ mem₂ mem₃ o₁ o₂ n₁ m₁ n₂ m₂ n
     record {
       memory = both-written f g a b n m env e₁ e₂ mem mem₁ mem₂ mem₃ o₁ o₂ n₁ m₁ n₂ m₂ n₃ m₃ c la lb;
       gives =
-        ap₂ (λ (x y : List ℕ). x ++ y) (outputs-a f g a b n m env e₁ e₂ mem mem₁ mem₂ mem₃ o₁ o₂ n₁ m₁ n₂ m₂ n₃ m₃ c la lb)
-        (outputs-b f g a b n m env e₁ e₂ mem mem₁ mem₂ mem₃ o₁ o₂ n₁ m₁ n₂ m₂ n₃ m₃ c la lb);
+          ap₂ (λ (x y : List ℕ). x ++ y) (outputs-a f g a b n m env e₁ e₂ mem mem₁ mem₂ mem₃ o₁ o₂ n₁ m₁ n₂ m₂ n₃ m₃ c la lb)
+          (outputs-b f g a b n m env e₁ e₂ mem mem₁ mem₂ mem₃ o₁ o₂ n₁ m₁ n₂ m₂ n₃ m₃ c la lb);
       links = both-links f g a b n m env e₁ e₂ mem mem₁ mem₂ mem₃ o₁ o₂ n₁ m₁ n₂ m₂ n₃ m₃ c la lb;
       operators = both-counted f g a b n m env e₁ e₂ mem mem₁ mem₂ mem₃ o₁ o₂ n₁ m₁ n₂ m₂ n₃ m₃ c la lb;
     }
@@ -151,15 +151,15 @@ laid-bind ns a b n m env mem mem₁ mem₂ mem₃ o₁ o₂ n₁ m₁ n₂ m₂ 
     in
     record {
       memory =
-        both-written f g a b n m env e₁ (named ns o₁ e₂) mem mem₁ mem₂ mem₃ o₁ o₂ n₁ m₁ n₂ m₂ n₃ m₃ c la lb
-        ∙ ap (λ (e : Env). written mem m (encoded (sharing f g n env ++ (operatorsOf a (n + sharedLinks f g) e₁ ++ operatorsOf b s e)))) same;
+          both-written f g a b n m env e₁ (named ns o₁ e₂) mem mem₁ mem₂ mem₃ o₁ o₂ n₁ m₁ n₂ m₂ n₃ m₃ c la lb
+          ∙ ap (λ (e : Env). written mem m (encoded (sharing f g n env ++ (operatorsOf a (n + sharedLinks f g) e₁ ++ operatorsOf b s e)))) same;
       gives =
-        outputs-b f g a b n m env e₁ (named ns o₁ e₂) mem mem₁ mem₂ mem₃ o₁ o₂ n₁ m₁ n₂ m₂ n₃ m₃ c la lb
-        ∙ ap (λ (e : Env). outputs b s e) same;
+          outputs-b f g a b n m env e₁ (named ns o₁ e₂) mem mem₁ mem₂ mem₃ o₁ o₂ n₁ m₁ n₂ m₂ n₃ m₃ c la lb
+          ∙ ap (λ (e : Env). outputs b s e) same;
       links = both-links f g a b n m env e₁ (named ns o₁ e₂) mem mem₁ mem₂ mem₃ o₁ o₂ n₁ m₁ n₂ m₂ n₃ m₃ c la lb;
       operators =
-        both-counted f g a b n m env e₁ (named ns o₁ e₂) mem mem₁ mem₂ mem₃ o₁ o₂ n₁ m₁ n₂ m₂ n₃ m₃ c la lb
-        ∙ ap (λ (e : Env). m + length (sharing f g n env ++ (operatorsOf a (n + sharedLinks f g) e₁ ++ operatorsOf b s e))) same;
+          both-counted f g a b n m env e₁ (named ns o₁ e₂) mem mem₁ mem₂ mem₃ o₁ o₂ n₁ m₁ n₂ m₂ n₃ m₃ c la lb
+          ∙ ap (λ (e : Env). m + length (sharing f g n env ++ (operatorsOf a (n + sharedLinks f g) e₁ ++ operatorsOf b s e))) same;
     }
 
 -- ---- a loop
@@ -268,13 +268,13 @@ module _ (ns : List ℕ) (a b : Graph) (n : ℕ) (env : Env) where
       laid-loop =
           record {
             memory =
-              in-order (sharing (free a) outer n env) (loopOf o₁ o₂ n₁ n₂ n₃ s) mem mem₁ mem₅ m m₁ (c .memory) (c .operators) all-written
-              ∙ ap (λ (os : List Operator). written mem m (encoded os)) as-made;
+                in-order (sharing (free a) outer n env) (loopOf o₁ o₂ n₁ n₂ n₃ s) mem mem₁ mem₅ m m₁ (c .memory) (c .operators) all-written
+                ∙ ap (λ (os : List Operator). written mem m (encoded os)) as-made;
             gives = ap (drop (suc (length ns))) ended;
             links =
-              ap (λ (k : ℕ). n₃ + chainLinks k) es
-              ∙ loop-links (sharedLinks (free a) outer) (linksOf a) (total (free b)) (linksOf b) n₃ chain-at;
+                ap (λ (k : ℕ). n₃ + chainLinks k) es
+                ∙ loop-links (sharedLinks (free a) outer) (linksOf a) (total (free b)) (linksOf b) n₃ chain-at;
             operators =
-              next-number (sharing (free a) outer n env) (loopOf o₁ o₂ n₁ n₂ n₃ s) m m₁ (m₄ + s) (c .operators) all-counted
-              ∙ ap (λ (os : List Operator). m + length os) as-made;
+                next-number (sharing (free a) outer n env) (loopOf o₁ o₂ n₁ n₂ n₃ s) m m₁ (m₄ + s) (c .operators) all-counted
+                ∙ ap (λ (os : List Operator). m + length os) as-made;
           }

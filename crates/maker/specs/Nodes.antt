@@ -115,11 +115,13 @@ module _ (t masks widths : List ℕ) where
       let n : k ≤ R .rows = omega arith in
       record {
         ready =
-          record {
-            read = R; low = l; high = n;
-            kids = subst (λ (q : Bool). Kids (R .place) q (shapeAt t k)) e (R .kids k l n);
-            fits = f;
-          };
+            record {
+              read = R;
+              low = l;
+              high = n;
+              kids = subst (λ (q : Bool). Kids (R .place) q (shapeAt t k)) e (R .kids k l n);
+              fits = f;
+            };
         masked = R .masked k l n ∙ ap (λ (q : Bool). mask (freeIn q t k)) e;
         less = u;
         in-masks = (let m : R .rows ≤ length masks = R .masks-long in omega arith);

@@ -172,8 +172,8 @@ module _ (f g : Names) (c : ℕ) (l : Lone c) (h : (x : ℕ) → f x && g x ≡ 
       let t : total (common f g) ≡ 1 = sym (sharing-length f g n env) ∙ ap (length {A = Operator}) sharing-one in
       record {
         memory =
-          p ∙ ap (placed mem m) (sym (copy-encoded (env c) n (n + 1))) ∙ sym (written-one mem m (encode (copyOf (env c) n (n + 1))))
-          ∙ ap (λ (os : List Operator). written mem m (encoded os)) (sym sharing-one);
+            p ∙ ap (placed mem m) (sym (copy-encoded (env c) n (n + 1))) ∙ sym (written-one mem m (encode (copyOf (env c) n (n + 1))))
+            ∙ ap (λ (os : List Operator). written mem m (encoded os)) (sym sharing-one);
         links = omega (arith, shared-count f g n env);
         operators = omega (arith, sharing-length f g n env);
       }
@@ -212,8 +212,8 @@ module _ (f g : Names) (n : ℕ) (env : Env) (e : List ℕ) (len : length e ≡ 
       let t : total (common f g) ≡ length (listOf k) = sym (listed-length (common f g)) ∙ ap (length {A = ℕ}) q in
       record {
         memory =
-          p ∙ ap (λ (os : List Operator). written mem m (encoded os))
-          (as-shared ∙ ap (λ (xs : List ℕ). copiesFor xs env (firstUse f g n env) (secondUse f g n env)) (sym (listed-small (common f g) s)));
+            p ∙ ap (λ (os : List Operator). written mem m (encoded os))
+            (as-shared ∙ ap (λ (xs : List ℕ). copiesFor xs env (firstUse f g n env) (secondUse f g n env)) (sym (listed-small (common f g) s)));
         links = omega (arith, shared-count f g n env);
         operators = omega (arith, sharing-length f g n env);
       }
@@ -266,10 +266,10 @@ module _ (f g : Names) (n : ℕ) (env : Env) (e : List ℕ) (len : length e ≡ 
         let last = copyOf (env testName) (n + 2 * length (listOf k)) (n + 2 * length (listOf k) + 1) in
         record {
           memory =
-            in-order arrayCopies (last ∷ []) mem mem₁ mem₂ m (m + length (listOf k)) p (ap (λ (j : ℕ). m + j) (sym count))
-            (q ∙ ap (placed mem₁ (m + length (listOf k))) (sym (copy-encoded (env testName) (n + 2 * length (listOf k)) (n + 2 * length (listOf k) + 1)))
-            ∙ sym (written-one mem₁ (m + length (listOf k)) (encode last)))
-            ∙ ap (λ (os : List Operator). written mem m (encoded os)) (sym tested-sharing);
+              in-order arrayCopies (last ∷ []) mem mem₁ mem₂ m (m + length (listOf k)) p (ap (λ (j : ℕ). m + j) (sym count))
+              (q ∙ ap (placed mem₁ (m + length (listOf k))) (sym (copy-encoded (env testName) (n + 2 * length (listOf k)) (n + 2 * length (listOf k) + 1)))
+              ∙ sym (written-one mem₁ (m + length (listOf k)) (encode last)))
+              ∙ ap (λ (os : List Operator). written mem m (encoded os)) (sym tested-sharing);
           links = omega (arith, shared-count f g n env, t);
           operators = omega (arith, sharing-length f g n env, t);
         }

@@ -15,7 +15,14 @@ ghost use Rattle.maker.specs.Emitted.{linkIn, rowRecords, rowOutputs};
 ghost use Rattle.maker.specs.Masked.{listOf, namesIn, Mask};
 
 // A copy for each name of a mask: from its link to those that two parts have for it.
-pub fn share(mem: &mut [u8], m: usize, mask: u64, env: [u16; 33], first: [u16; 33], second: [u16; 33])
+pub fn share(
+    mem: &mut [u8],
+    m: usize,
+    mask: u64,
+    env: [u16; 33],
+    first: [u16; 33],
+    second: [u16; 33],
+)
     requires { ⌜ Mask mask × (m + length (listOf mask) ≤ 1024) × (21760 ≤ length (now mem)) ⌝ }
     ensures { λ _. ⌜ now (mem .exit) ≡ written (now (mem .entry)) m (encoded (copiesFor (listOf mask) (linkIn env) (linkIn first) (linkIn second))) ⌝ }
 {
@@ -31,7 +38,16 @@ pub fn share(mem: &mut [u8], m: usize, mask: u64, env: [u16; 33], first: [u16; 3
 }
 
 // k gates of a kind on the links of `a` and `b`; each but the last takes its control from a copy.
-pub fn gate_row(mem: &mut [u8], m: usize, n: u16, kind: u8, control: u16, a: [u16; 33], b: [u16; 33], k: usize) -> [u16; 33]
+pub fn gate_row(
+    mem: &mut [u8],
+    m: usize,
+    n: u16,
+    kind: u8,
+    control: u16,
+    a: [u16; 33],
+    b: [u16; 33],
+    k: usize,
+) -> [u16; 33]
     requires { ⌜ (k ≤ 33) × (m + 2 * k ≤ 1025) × (n + 3 * k ≤ 65535) × (21760 ≤ length (now mem)) ⌝ }
     ensures { λ r. ⌜ (now (mem .exit) ≡ written (now (mem .entry)) m (rowRecords kind control n a b 0 k)) × (take k r ≡ rowOutputs n k) ⌝ }
 {
@@ -105,7 +121,14 @@ pub fn ring_gates(
     while rest != 0 {
         let turn = next(rest);
         let x = turn.name;
-        let o = ring_gate(names::has(ids, x as u32), controls[k], iterated[x], started[x], own[x], out[x]);
+        let o = ring_gate(
+            names::has(ids, x as u32),
+            controls[k],
+            iterated[x],
+            started[x],
+            own[x],
+            out[x],
+        );
         store_operator(mem, m + k, o);
         k += 1;
         rest = turn.rest;

@@ -35,20 +35,47 @@ pub fn after_row(outs: [u16; 33], m: usize, n: u16, k: usize) -> Emitted
     ensures { λ r. ⌜ (r .outs ≡ outs) × (r .count ≡ k) × (r .iterated ≡ k) × (r .links ≡ n + (3 * k - 2)) × (r .operators ≡ m + (2 * k - 1)) ⌝ }
 {
     let l = n + 3 * (k as u16) - 2;
-    Emitted { outs, count: k, iterated: k, links: l, operators: m + 2 * k - 1 }
+    Emitted {
+        outs,
+        count: k,
+        iterated: k,
+        links: l,
+        operators: m + 2 * k - 1,
+    }
 }
 
 // "Its iterated results join by M on the second IC output where both arms iterate, else pass
 // straight."
-pub fn join_iterated(mem: &mut [u8], m: usize, n: u16, control: u16, xs: [u16; 33], i: usize, ys: [u16; 33], j: usize) -> Emitted
+pub fn join_iterated(
+    mem: &mut [u8],
+    m: usize,
+    n: u16,
+    control: u16,
+    xs: [u16; 33],
+    i: usize,
+    ys: [u16; 33],
+    j: usize,
+) -> Emitted
     requires { ⌜ (i ≤ 16) × (j ≤ 16) × (0 < i → 0 < j → (i ≡ j) × (m + 2 * i ≤ 1025)) × (n ≤ 60000) × (21760 ≤ length (now mem)) ⌝ }
     ensures { λ r. ⌜ (r .count ≤ 16) × (r .iterated ≡ r .count) × (r .count ≡ cond (ltb 0 i) i j) × (r .operators ≡ m + operatorCount (joinI (ltb 0 i) (ltb 0 j) i j)) × (r .links ≤ n + 48) × ((env : Env) → ((i ≡ 0 → ⊥) → (j ≡ 0 → ⊥) → env 101 ≡ control) → Reads env 35 i xs → Reads env 68 j ys → Laid (joinI (ltb 0 i) (ltb 0 j) i j) n m env (now (mem .entry)) (now (mem .exit)) (take (r .count) (r .outs)) (r .links) (r .operators)) ⌝ }
 {
     if i == 0 {
-        return Emitted { outs: ys, count: j, iterated: j, links: n, operators: m };
+        return Emitted {
+            outs: ys,
+            count: j,
+            iterated: j,
+            links: n,
+            operators: m,
+        };
     }
     if j == 0 {
-        return Emitted { outs: xs, count: i, iterated: i, links: n, operators: m };
+        return Emitted {
+            outs: xs,
+            count: i,
+            iterated: i,
+            links: n,
+            operators: m,
+        };
     }
     let outs = gate_row(mem, m, n, 16, control, xs, ys, i);
     after_row(outs, m, n, i)
@@ -56,7 +83,17 @@ pub fn join_iterated(mem: &mut [u8], m: usize, n: u16, control: u16, xs: [u16; 3
 
 // "Its returned results, as many as the whole loop returns, join by M on the third output where
 // both arms return, by E where one does; where neither does, each is a copy of that third output."
-pub fn join_returned(mem: &mut [u8], m: usize, n: u16, control: u16, xs: [u16; 33], i: usize, ys: [u16; 33], j: usize, w: usize) -> Emitted
+pub fn join_returned(
+    mem: &mut [u8],
+    m: usize,
+    n: u16,
+    control: u16,
+    xs: [u16; 33],
+    i: usize,
+    ys: [u16; 33],
+    j: usize,
+    w: usize,
+) -> Emitted
     requires { ⌜ (1 ≤ w) × (w ≤ 16) × (0 < i → i ≡ w) × (0 < j → j ≡ w) × (0 < i + j → m + 2 * w ≤ 1025) × (m + w ≤ 1025) × (n ≤ 60000) × (21760 ≤ length (now mem)) ⌝ }
     ensures { λ r. ⌜ (r .count ≡ w) × ((env : Env) → env 102 ≡ control → Reads env 51 i xs → Reads env 84 j ys → Laid (joinR (ltb 0 i) (ltb 0 j) w) n m env (now (mem .entry)) (now (mem .exit)) (take (r .count) (r .outs)) (r .links) (r .operators)) ⌝ }
 {
@@ -65,7 +102,13 @@ pub fn join_returned(mem: &mut [u8], m: usize, n: u16, control: u16, xs: [u16; 3
         if j == 0 {
             let ends = spread(mem, m, n, control, w);
             let l = n + 2 * (w as u16) - 2;
-            return Emitted { outs: ends, count: w, iterated: 0, links: l, operators: m + w - 1 };
+            return Emitted {
+                outs: ends,
+                count: w,
+                iterated: 0,
+                links: l,
+                operators: m + w - 1,
+            };
         }
         let outs = gate_row(mem, m, n, 17, control, ys, none, w);
         return after_row(outs, m, n, w);
@@ -119,7 +162,13 @@ pub fn results_of(x: Emitted) -> Arm
     let r = x.count - (1 + i);
     let iterated = part(outs, 1, i);
     let returned = part(outs, 1 + i, r);
-    Arm { iter: outs[0], iterated, i, returned, r }
+    Arm {
+        iter: outs[0],
+        iterated,
+        i,
+        returned,
+        r,
+    }
 }
 
 // A link, then two lists of links.
@@ -150,5 +199,11 @@ pub fn join_arms(mem: &mut [u8], m: usize, n: u16, w: usize, test: u16, x: Arm, 
     let yt = y.returned;
     let r = join_returned(mem, i.operators, i.links, at - 1, xt, x.r, yt, y.r, w);
     let outs = listed(n, i, r);
-    Emitted { outs, count: 1 + i.count + w, iterated: i.count, links: r.links, operators: r.operators }
+    Emitted {
+        outs,
+        count: 1 + i.count + w,
+        iterated: i.count,
+        links: r.links,
+        operators: r.operators,
+    }
 }

@@ -14,14 +14,32 @@ ghost use Rattle.maker.specs.Masked.{listOf, Mask, Walked};
 pub fn copy_of(l: u16, a: u16, b: u16) -> Operator
     ensures { λ o. ⌜ o ≡ copyRecord l a b ⌝ }
 {
-    Operator { kind: 13, in1: l, in2: 65535, in3: 65535, out1: a, out2: b, out3: 65535, register: 0 }
+    Operator {
+        kind: 13,
+        in1: l,
+        in2: 65535,
+        in3: 65535,
+        out1: a,
+        out2: b,
+        out3: 65535,
+        register: 0,
+    }
 }
 
 // A gate with one output.
 pub fn gate_of(kind: u8, a: u16, b: u16, c: u16, out: u16) -> Operator
     ensures { λ o. ⌜ o ≡ gateRecord kind a b c out ⌝ }
 {
-    Operator { kind, in1: a, in2: b, in3: c, out1: out, out2: 65535, out3: 65535, register: 0 }
+    Operator {
+        kind,
+        in1: a,
+        in2: b,
+        in3: c,
+        out1: out,
+        out2: 65535,
+        out3: 65535,
+        register: 0,
+    }
 }
 
 // "A body if joins these by one IC gate."
@@ -30,13 +48,38 @@ pub fn ic_of(both: bool, test: u16, x: u16, y: u16, n: u16) -> Operator
     ensures { λ o. ⌜ o ≡ encode (gateOf (IC both) (test ∷ x ∷ y ∷ []) n) ⌝ }
 {
     if both {
-        return Operator { kind: 18, in1: test, in2: x, in3: y, out1: n, out2: n + 1, out3: n + 2, register: 0 };
+        return Operator {
+            kind: 18,
+            in1: test,
+            in2: x,
+            in3: y,
+            out1: n,
+            out2: n + 1,
+            out3: n + 2,
+            register: 0,
+        };
     }
-    Operator { kind: 18, in1: test, in2: x, in3: y, out1: n, out2: 65535, out3: n + 1, register: 0 }
+    Operator {
+        kind: 18,
+        in1: test,
+        in2: x,
+        in3: y,
+        out1: n,
+        out2: 65535,
+        out3: n + 1,
+        register: 0,
+    }
 }
 
 // "A for puts FM on its identifiers and FS on the body's other names"
-pub fn ring_gate(identifier: bool, control: u16, iterated: u16, started: u16, own: u16, out: u16) -> Operator
+pub fn ring_gate(
+    identifier: bool,
+    control: u16,
+    iterated: u16,
+    started: u16,
+    own: u16,
+    out: u16,
+) -> Operator
     ensures { λ o. ⌜ o ≡ encode (ringGate identifier control iterated started own out) ⌝ }
 {
     if identifier {
@@ -56,7 +99,10 @@ pub fn next(mask: u64) -> Walk
     ensures { λ w. ⌜ Walked mask (w .name) (w .rest) ⌝ }
 {
     let name = names::lowest(mask) as usize;
-    Walk { name, rest: names::rest(mask) }
+    Walk {
+        name,
+        rest: names::rest(mask),
+    }
 }
 
 // The names of a mask get the links n, n + step, ..

@@ -17,8 +17,6 @@ use Rattle.maker.specs.Emitted.{linkIn, rowRecords, rowOutputs}
 use Rattle.maker.proofs.Emits.{row-again, row-ends, row-over, outs-again, outs-ends, outs-over}
 use borrow.Author.Needs.{needs}
 
-
-
 abbrev Inv-loop : tie.InvT-loop
 Inv-loop mem₀ m n kind control k a b outs₀ i₀ left₀ at₀ l₀ c₀ mem outs i left at l c = (i + left ≡ k) × (k ≤ 33) × (at + 2 * left ≤ 1025) × (l + 3 * left ≤ 65535) × (21760 ≤ length mem) × (length mem ≡ length mem₀) × (length outs ≡ 33) × (length a ≡ 33) × (length b ≡ 33) × (written mem at (rowRecords kind c l a b i left) ≡ written mem₀ m (rowRecords kind control n a b 0 k)) × (take i outs ++ rowOutputs l left ≡ rowOutputs n k)
 

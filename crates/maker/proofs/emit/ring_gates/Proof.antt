@@ -17,8 +17,6 @@ use Rattle.maker.specs.Emitted.{linkIn}
 use Rattle.maker.proofs.Emits.{ring-again, ring-over}
 use borrow.Author.Needs.{needs}
 
-
-
 abbrev Inv-loop : tie.InvT-loop
 Inv-loop mem₀ m mask ids controls iterated started own out rest₀ k₀ mem rest k = Mask rest × (k + length (listOf rest) ≤ 33) × (m + k + length (listOf rest) ≤ 1024) × (21760 ≤ length mem) × (length mem ≡ length mem₀) × (length controls ≡ 33) × (length iterated ≡ 33) × (length started ≡ 33) × (length own ≡ 33) × (length out ≡ 33) × (written mem (m + k) (encoded (ring (listOf rest) (namesIn ids) (drop k controls) (linkIn iterated) (linkIn started) (linkIn own) (linkIn out))) ≡ written mem₀ m (encoded (ring (listOf mask) (namesIn ids) controls (linkIn iterated) (linkIn started) (linkIn own) (linkIn out))))
 

@@ -16,8 +16,6 @@ use Rattle.maker.specs.Emitted.{linkIn}
 use Rattle.maker.proofs.Emits.{share-again, share-end}
 use borrow.Author.Needs.{needs}
 
-
-
 abbrev Inv-loop : tie.InvT-loop
 Inv-loop mem₀ m mask env first second rest₀ i₀ mem rest i = Mask rest × (i + length (listOf rest) ≤ 1024) × (21760 ≤ length mem) × (length mem ≡ length mem₀) × (length env ≡ 33) × (length first ≡ 33) × (length second ≡ 33) × (written mem i (encoded (copiesFor (listOf rest) (linkIn env) (linkIn first) (linkIn second))) ≡ written mem₀ m (encoded (copiesFor (listOf mask) (linkIn env) (linkIn first) (linkIn second))))
 

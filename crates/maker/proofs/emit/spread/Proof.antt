@@ -16,8 +16,6 @@ use Rattle.maker.specs.Encode.{encoded, written, length-placed}
 use Rattle.maker.proofs.Emits.{chain-again, chain-over, ends-again, ends-ends, ends-over}
 use borrow.Author.Needs.{needs}
 
-
-
 abbrev Inv-loop : tie.InvT-loop
 Inv-loop mem₀ m n l k ends₀ i₀ left₀ at₀ to₀ c₀ mem ends i left at to c = (i + left ≡ k) × (k ≤ 33) × (at + left ≤ 1025) × (to + 2 * left ≤ 65535) × (21760 ≤ length mem) × (length mem ≡ length mem₀) × (length ends ≡ 33) × (written mem at (encoded (chain c to left)) ≡ written mem₀ m (encoded (chain l n k))) × (take i ends ++ chainEnds c to left ≡ chainEnds l n k)
 

@@ -20,8 +20,6 @@ use lib.Dec.{ltb}
 use Rattle.maker.specs.Counts.{room-gate, room-iterated, room-returned, room-copied}
 use Rattle.maker.specs.Arms.{arms-laid, at-most}
 
-
-
 -- src/joins.rt:143:24  { ⏎ let both = both_of(some(x.i), some(y.i));
 some-requires : tie.Need-some-requires
 some-requires c κs = search needs

@@ -17,8 +17,6 @@ use Rattle.maker.specs.Counts.{first-none, second-none, both-iterate}
 use Rattle.maker.specs.Results.{none-is, some-is, iterated-second-only, iterated-first-only, iterated-merged}
 use native.Mathlib.Omega.{arith}
 
-
-
 -- src/joins.rt:47:9  if i == 0 { ⏎ return Emitted { outs: ys, count: j, iterated: j, links: n, operators: m };
 returns : tie.Need-returns
 returns c = (omega arith, refl, sym (ap (λ (b : Bool). cond b (c .before .before .args .i) (c .before .before .args .j)) (none-is (c .before .before .args .i) (c .if1 .taken))), omega (arith, first-none (c .before .before .args .i) (c .before .before .args .j) (c .if1 .taken)), omega arith, λ env e p q. iterated-second-only _ _ env _ [] (c .before .before .args .xs) (c .before .before .args .ys) [] _ (c .before .before .args .i) (c .before .before .args .j) e p q (c .if1 .taken) (search needs))

@@ -9,8 +9,6 @@ use mathlib.Core.Path.{_≡_, refl, sym, ap, _∙_}
 use mathlib.Core.List.{List, _∷_, [], _++_, append-assoc}
 use lib.ListN.{take}
 
-
-
 -- src/joins.rt:132:9  let ao = a.outs; ⏎ let front = join(first, 1, ao, a.count);
 join-requires : tie.Need-join-requires
 join-requires c κs = search needs

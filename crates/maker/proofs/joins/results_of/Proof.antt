@@ -4,8 +4,6 @@ use Rattle.maker.proofs.joins.results_of.Tie as tie
 use Rattle.maker.proofs.joins.results_of.Reads as reads
 use Rattle.maker.proofs.joins.results_of.Lts as lts
 
-
-
 add-r : tie.Need-add-r
 add-r c = search needs
 

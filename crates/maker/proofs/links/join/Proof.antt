@@ -10,8 +10,6 @@ use Rattle.maker.proofs.Emits.{join-turn}
 use native.Mathlib.Omega.{arith}
 use borrow.Author.Needs.{needs}
 
-
-
 abbrev Inv-loop : tie.InvT-loop
 Inv-loop k j b r₀ i₀ r i = (i ≤ j) × (k + j ≤ 33) × (length r ≡ 33) × (length b ≡ 33) × (take (k + i) r ≡ take k r₀ ++ take i b)
 

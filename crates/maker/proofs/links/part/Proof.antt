@@ -10,8 +10,6 @@ use Rattle.maker.proofs.Emits.{part-turn}
 use native.Mathlib.Omega.{arith}
 use borrow.Author.Needs.{needs}
 
-
-
 abbrev Inv-loop : tie.InvT-loop
 Inv-loop from k a r₀ i₀ r i = (i ≤ k) × (from + k ≤ 33) × (length r ≡ 33) × (length a ≡ 33) × (take i r ≡ take i (drop from a))
 

@@ -13,8 +13,6 @@ use Rattle.maker.proofs.Turns.{assign-turn, assign-end}
 use native.Mathlib.Omega.{arith}
 use borrow.Author.Needs.{needs}
 
-
-
 abbrev Inv-loop : tie.InvT-loop
 Inv-loop mask links e₀ rest₀ k₀ e rest k = Mask rest × (k + length (listOf rest) ≤ 33) × (length e ≡ 33) × (length links ≡ 33) × (assigned (listOf rest) (drop k links) e ≡ assigned (listOf mask) links e₀)
 

@@ -13,8 +13,6 @@ use Rattle.maker.proofs.Turns.{deal-turn, deal-end}
 use native.Mathlib.Omega.{arith}
 use borrow.Author.Needs.{needs}
 
-
-
 abbrev Inv-loop : tie.InvT-loop
 Inv-loop mask n step e₀ rest₀ l₀ e rest l = Mask rest × (step ≤ 2) × (l + 2 * length (listOf rest) ≤ 65535) × (length e ≡ 33) × (dealt step (listOf rest) l e ≡ dealt step (listOf mask) n e₀)
 

@@ -13,8 +13,6 @@ use Rattle.maker.proofs.Turns.{fill-turn, gather-end, gather-turn}
 use native.Mathlib.Omega.{arith}
 use borrow.Author.Needs.{needs}
 
-
-
 abbrev Inv-loop : tie.InvT-loop
 Inv-loop mask env links₀ rest₀ k₀ links rest k = Mask rest × (k + length (listOf rest) ≡ length (listOf mask)) × (length (listOf mask) ≤ 33) × (length links ≡ 33) × (length env ≡ 33) × (take k links ++ map (linkIn env) (listOf rest) ≡ map (linkIn env) (listOf mask))
 

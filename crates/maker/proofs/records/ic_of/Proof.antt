@@ -8,8 +8,6 @@ use Rattle.maker.proofs.records.ic_of.Lts as lts
 use mathlib.Core.Path.{sym}
 use Rattle.maker.specs.Joined.{IC-three, IC-two}
 
-
-
 -- src/records.rt:33:79  if both { ⏎ return Operator { kind: 18, in1: test, in2: x, in3: y, out1: n, out2: n + 1, out3: n + 2, register: 0 };
 add-t7 : tie.Need-add-t7
 add-t7 c = search needs

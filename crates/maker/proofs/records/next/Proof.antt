@@ -7,8 +7,6 @@ use Rattle.names.proofs.lowest.Reads as lowest-reads
 use Rattle.names.proofs.rest.Reads as rest-reads
 use Rattle.maker.specs.Masked.{walked}
 
-
-
 -- src/records.rt:35:16  { ⏎ let name = names::lowest(mask) as usize;
 lowest-requires : tie.Need-lowest-requires
 lowest-requires c κs = search needs

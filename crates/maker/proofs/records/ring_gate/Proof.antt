@@ -9,8 +9,6 @@ use Rattle.maker.proofs.records.gate_of.Reads as gate-of-reads
 use mathlib.Core.Path.{sym, _∙_}
 use Rattle.maker.specs.Emitted.{ring-FM, ring-FS}
 
-
-
 -- src/records.rt:32:9  if identifier { ⏎ return gate_of(19, control, iterated, started, out);
 gate-of-requires : tie.Need-gate-of-requires
 gate-of-requires c κs = search needs
