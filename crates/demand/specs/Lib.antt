@@ -1,0 +1,3 @@
+pub mod MemoryCalls
+pub mod Claim
+pub mod Evaluations
