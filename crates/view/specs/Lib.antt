@@ -3,3 +3,6 @@ pub mod Stands
 pub mod Waits
 pub mod Frame
 pub mod Moves
+pub mod Operators
+pub mod Given
+pub mod Decision
