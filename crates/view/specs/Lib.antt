@@ -6,3 +6,6 @@ pub mod Moves
 pub mod Operators
 pub mod Given
 pub mod Decision
+pub mod Emitting
+pub mod Able
+pub mod Fired

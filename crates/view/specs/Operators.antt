@@ -32,6 +32,11 @@ ith-there [] i h = absurd (omega arith)
 ith-there (x ∷ os) zero h = (x, refl)
 ith-there (x ∷ os) (suc i) h = ith-there os i (omega arith)
 
+pub ith-one : (os : List Operator) (i : ℕ) (o r : Operator) → Ith os i o → Ith os i r → o ≡ r
+ith-one [] i o r h k = absurd h
+ith-one (x ∷ os) zero o r h k = sym h ∙ k
+ith-one (x ∷ os) (suc i) o r h k = ith-one os i o r h k
+
 pub net-ith : (os : List Operator) (i : ℕ) (o : Operator) → Ith os i o → netOf os i ≡ demandOf o
 net-ith [] i o h = absurd h
 net-ith (x ∷ os) zero o h = ap demandOf h
