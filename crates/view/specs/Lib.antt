@@ -3,3 +3,9 @@ pub mod Stands
 pub mod Waits
 pub mod Frame
 pub mod Moves
+pub mod Operators
+pub mod Given
+pub mod Decision
+pub mod Emitting
+pub mod Able
+pub mod Fired
