@@ -1,0 +1,2 @@
+pub mod FormedGraphs
+pub mod MadeSound
