@@ -1,2 +1,3 @@
 pub mod FormedGraphs
 pub mod MadeSound
+pub mod StandsValid
