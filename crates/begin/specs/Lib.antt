@@ -1,3 +1,4 @@
 pub mod FormedGraphs
 pub mod MadeSound
 pub mod StandsValid
+pub mod Lent
