@@ -1,0 +1,4 @@
+pub mod FormedGraphs
+pub mod MadeSound
+pub mod StandsValid
+pub mod Lent
