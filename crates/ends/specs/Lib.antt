@@ -1,2 +1,4 @@
 pub mod Sets
 pub mod ResultBytes
+pub mod PushLinks
+pub mod TakeLinks
