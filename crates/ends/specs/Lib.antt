@@ -2,3 +2,4 @@ pub mod Sets
 pub mod ResultBytes
 pub mod PushLinks
 pub mod TakeLinks
+pub mod Credit
