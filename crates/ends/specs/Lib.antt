@@ -3,3 +3,4 @@ pub mod ResultBytes
 pub mod PushLinks
 pub mod TakeLinks
 pub mod Credit
+pub mod Push
