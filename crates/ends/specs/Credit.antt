@@ -1,35 +1,34 @@
 -- The count of untaken sets: byte 7 of the memory (layout/specs/Layout) is the length of the credit link (verdicts/specs/Running). Setting the byte
 -- stands with one token more or less on that link, and with nothing else. Document 01, "32 sixteen sets untaken", "35 .. no set untaken". Assumes
 -- the bounds of `Sound`.
-use Prim.Native.Nat.{ℕ, zero, suc, _+_, _-_, _*_, _≤_, _<_}
+use Prim.Native.Nat.{ℕ, zero, suc, _+_, _-_, _≤_, _<_}
 use mathlib.Core.Path.{_≡_, refl, sym, ap, subst, _∙_}
-use mathlib.Core.Logic.{_≢_, inl, inr}
+use mathlib.Core.Logic.{_≢_, inl}
 use mathlib.Core.Bool.{Bool, true, false}
 use mathlib.Core.List.{List, [], _∷_, _++_}
 use mathlib.Core.Option.{Option, none, some}
 use native.Mathlib.Omega.{arith}
 use borrow.Author.Tests.{le-leb}
-use lib.Dec.{leb}
-use lib.ListN.{length, getD, take, set, length-set, length-append}
+use lib.ListN.{length, take, set, length-set, length-append}
 use lib.Seq.{getD-set-same, getD-set-other, drop-set-lt}
 use Rattle.network.specs.Rules.{Register}
 use Rattle.network.specs.Net.{Token, Links, tail, pop, pop-same, pop-other, append, append-same, append-other}
 use Rattle.network.specs.Uses.{In}
 use Rattle.network.specs.Fill.{remembering}
 use Rattle.network.specs.Firing.{Holds}
-use Rattle.layout.specs.Layout.{untakenOf, registerAt, linkAt, sizeOf, need, capacityIn}
+use Rattle.layout.specs.Layout.{untakenOf, registerAt, linkAt, sizeOf, capacityIn}
 use Rattle.machine.specs.LinkLaws.{linkPart}
 use Rattle.graph.specs.Assembly.{Operator}
 use Rattle.graph.specs.Translation.{Made}
 use Rattle.reference.specs.Plugged.{nowhere, registers, link-of, portsOf}
-use Rattle.wiring.specs.Links.{optional, outputLinks}
+use Rattle.wiring.specs.Links.{optional}
 use Rattle.wiring.specs.Wiring.{outputsAt}
 use Rattle.verdicts.specs.Owed.{creditLink}
 use Rattle.calls.specs.Calls.{sizeIn}
 use Rattle.view.specs.Sound.{Ith, Sound}
 use Rattle.view.specs.Stands.{Waits, Registered, Stands}
 use Rattle.view.specs.Waits.{word-agrees}
-use Rattle.view.specs.Frame.{operator-below, stands-changed}
+use Rattle.view.specs.Frame.{stands-changed}
 
 -- ---- no register lies on the credit link
 

@@ -4,3 +4,4 @@ pub mod PushLinks
 pub mod TakeLinks
 pub mod Credit
 pub mod Push
+pub mod Take

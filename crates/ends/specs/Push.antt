@@ -2,7 +2,7 @@
 -- the links that the memory holds, and then only, and the memory that it leaves holds the links after it. Document 01, "Push gives one value to each
 -- input link, and one trigger if that link exists"; 32 "sixteen sets untaken", 33 "an input link, or the trigger's link where it exists, full".
 -- Assumes a standing machine of a sound graph, at a capacity of 1 to 16, and a set that passes 12.
-use Prim.Native.Nat.{ℕ, zero, suc, _+_, _*_, _≤_, _<_}
+use Prim.Native.Nat.{ℕ, zero, suc, _+_, _≤_, _<_}
 use mathlib.Core.Path.{_≡_, refl, sym, ap, ap₂, subst, _∙_}
 use mathlib.Core.Logic.{_⊎_, inl, inr}
 use mathlib.Core.Bool.{Bool, true, false, cond, _&&_}
@@ -15,12 +15,12 @@ use lib.ListN.{length, getD, set, length-append}
 use Rattle.names.specs.Names.{bit}
 use Rattle.value.specs.declared.Value.{Value}
 use Rattle.value.specs.declared.Value.the-variants.{Err}
-use Rattle.value.specs.Bytes.{wordAt, wordOf}
+use Rattle.value.specs.Bytes.{wordOf}
 use Rattle.formula.specs.declared.Refusal.the-variants.{Untaken, Full}
 use Rattle.formula.specs.Tree.{Exp}
 use Rattle.network.specs.Values.{true-value}
 use Rattle.network.specs.Net.{val, Links, append, append-same, append-other, Able, act}
-use Rattle.layout.specs.Layout.{inputsOf, untakenOf, noLink, triggerOf, inputLink, sizeOf}
+use Rattle.layout.specs.Layout.{inputsOf, untakenOf, noLink, triggerOf, sizeOf}
 use Rattle.machine.specs.Links.{roomAt, appendedAt}
 use Rattle.valid.specs.Below.{allBelow, and-left, and-right, and-both, below-at, below-all}
 use Rattle.graph.specs.Translation.{Made, madeOf}

@@ -3,8 +3,8 @@
 -- push can be made when each has a free place and fewer than sixteen sets are untaken. Assumes of the graph that its links lie below the credit
 -- link.
 use Prim.Native.Nat.{ℕ, zero, suc, _+_, _≤_, _<_}
-use mathlib.Core.Path.{_≡_, refl, sym, ap, ap₂, _∙_}
-use mathlib.Core.Logic.{_≢_, if-pos, if-neg}
+use mathlib.Core.Path.{_≡_, refl, ap, ap₂, _∙_}
+use mathlib.Core.Logic.{if-pos, if-neg}
 use mathlib.Core.Bool.{Bool, true, false}
 use mathlib.Core.List.{List, [], _∷_, _++_}
 use native.Mathlib.Omega.{arith}
@@ -155,9 +155,9 @@ module _ (g : Made) (v : List Value) (q : Links) (whole : length v ≡ g .inputs
     push-room r = (
       rw (places-credit capacity) at (r .0),
       λ l h.
-      let z : length (append creditLink (val true-value) q l) < places capacity l
-      = room-each (places capacity) 0 pushed-count pushed-values (append creditLink (val true-value) q) counted (r .1) l (omega arith) (omega arith) in
-      rw (append-other creditLink l (val true-value) q (λ e. omega (arith, near)), places-link capacity l (omega (arith, near))) at z,
+          let z : length (append creditLink (val true-value) q l) < places capacity l
+          = room-each (places capacity) 0 pushed-count pushed-values (append creditLink (val true-value) q) counted (r .1) l (omega arith) (omega arith) in
+          rw (append-other creditLink l (val true-value) q (λ e. omega (arith, near)), places-link capacity l (omega (arith, near))) at z,
     )
 
     pub room-push : length (q creditLink) < 16 → ((l : ℕ) → l < pushed-count → length (q l) < capacity) → Able (places capacity) (pushInto g v) q

@@ -1,7 +1,7 @@
 -- Take on the links of the network (verdicts/specs/Running: takeOf), unfolded: document 01, "Take removes one value from each result port". The
 -- result links are different, so what take hands out are their heads as they stand before, and take can be made when each has a token and a set is
 -- untaken. Assumes of the graph that its result links are different and lie below the credit link.
-use Prim.Native.Nat.{ℕ, zero, suc, _+_, _≤_, _<_}
+use Prim.Native.Nat.{ℕ, zero, suc, _<_}
 use mathlib.Core.Path.{_≡_, refl, sym, ap, ap₂, _∙_, subst}
 use mathlib.Core.Logic.{_≢_, _⊎_, inl, inr}
 use mathlib.Core.List.{List, [], _∷_}
