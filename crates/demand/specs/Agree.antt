@@ -21,7 +21,7 @@ use Rattle.verdicts.specs.ResultSets.{valuesIn}
 use Rattle.verdicts.specs.Running.{places, operatorAt, pushOf, takeOf, afterSteps, runSteps}
 use Rattle.view.specs.Sound.{Sound}
 use Rattle.view.specs.Stands.{Stands}
-use Rattle.demand.specs.Claim.{bytesOfCells}
+use Rattle.ends.specs.ResultBytes.{cellBytes}
 
 pub record CallsAgree (x : Exp) (capacity : ℕ) : Type 0 where
   pub sound : Sound (madeOf x)
@@ -54,4 +54,4 @@ pub record CallsAgree (x : Exp) (capacity : ℕ) : Type 0 where
   pub handed : (m : List ℕ) (q : Links) → Stands (madeOf x) capacity m q
       → ltb 0 (untakenOf m) ≡ true → allBelow (length (madeOf x .results)) (resultReady m (sizeOf capacity)) ≡ true
       → (out : List ℕ) → 80 ≤ length out
-      → written 16 m (sizeOf capacity) (length (madeOf x .results)) out ≡ bytesOfCells (cellsOf (valuesIn (label (takeOf x) q))) ++ drop 80 out
+      → written 16 m (sizeOf capacity) (length (madeOf x .results)) out ≡ cellBytes (cellsOf (valuesIn (label (takeOf x) q))) ++ drop 80 out

@@ -3,17 +3,16 @@
 use Prim.Native.Nat.{ℕ, _≤_, _<_}
 use mathlib.Core.Path.{_≡_}
 use mathlib.Core.Logic.{_⊎_, _≢_}
-use mathlib.Core.List.{List, [], _∷_, _++_}
+use mathlib.Core.List.{List, []}
 use lib.ListN.{length, getD}
-use Rattle.value.specs.Bytes.{bytesOf}
 use Rattle.formula.specs.declared.Verdict.the-variants.{Passed}
-use Rattle.eval.specs.declared.Cell.{Cell}
 use Rattle.eval.specs.declared.Evaluation.{Evaluation}
 use Rattle.eval.specs.Evaluate.{evaluationOf}
 use Rattle.formula.specs.declared.Refusal.the-variants.{Altered, NotAble}
 use Rattle.formula.specs.Refusals.{numberOf}
 use Rattle.layout.specs.Layout.{operatorsOf, sizeOf, need}
 use Rattle.calls.specs.Calls.{answers}
+use Rattle.ends.specs.ResultBytes.{cellBytes}
 use Rattle.demand.specs.MemoryCalls.{Call, fire, take, Result, result, answerOf, memoryAfterAll, answersOf, setsPushed, resultsTaken}
 
 -- "Direct evaluation there is the meaning above with as many rounds as it needs"
@@ -24,16 +23,9 @@ Enough sheet set rounds = evaluationOf sheet set rounds .verdict ≡ Passed
 abbrev pub Ends : List ℕ → List ℕ → Type 0
 Ends sheet set = (rounds : ℕ) × Enough sheet set rounds
 
--- The places of a result set in bytes, five a value.
-unfoldable pub bytesOfCells : List Cell → List ℕ
-unfolding bytesOf
-bytesOfCells [] = []
-bytesOfCells (c ∷ cells) = bytesOf (c .v) ++ bytesOfCells cells
-
--- What direct evaluation yields, as a take hands it out.
+-- What direct evaluation yields, as a take hands it out: its width, and its sixteen places in five bytes each.
 unfoldable pub yielded : Evaluation → Result
-unfolding bytesOfCells
-yielded e = result (e .width) (bytesOfCells (e .cells))
+yielded e = result (e .width) (cellBytes (e .cells))
 
 -- What demand 3 says of a list of calls. Sets and results count from 0 here.
 pub record OwnVerdicts (sheet : List ℕ) (capacity : ℕ) (start : List ℕ) (calls : List Call) : Type 0 where

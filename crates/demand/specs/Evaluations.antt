@@ -1,33 +1,27 @@
 -- Direct evaluation of bytes (eval/specs/Evaluate `evaluationOf`) beside the abstract machine's verdicts (verdicts/specs/Results `EndsWith`): for an accepted
 -- sheet and a set that can be read, a number of rounds is enough if and only if the formula yields values with it, and they are the result set's. Assumes
 -- the verdict Passed.
-use Prim.Native.Nat.{ℕ, zero, suc, _+_, _*_}
+use Prim.Native.Nat.{ℕ}
 use mathlib.Core.Path.{_≡_, refl, sym, ap, subst, _∙_}
-use mathlib.Core.Bool.{Bool, true, false}
-use mathlib.Core.List.{List, [], _∷_}
+use mathlib.Core.List.{List}
 use mathlib.Core.Option.{Option, none, some}
-use native.Mathlib.Omega.{arith}
-use lib.Dec.{eqb}
 use lib.ListN.{length}
 use Rattle.value.specs.declared.Value.{Value}
-use Rattle.value.specs.Operators.{pick}
-use Rattle.value.specs.Bytes.{valueOf, wordAt}
-use Rattle.formula.specs.declared.Refusal.{Refusal}
 use Rattle.formula.specs.declared.Verdict.{Verdict}
 use Rattle.formula.specs.declared.Verdict.the-variants.{Passed, Refused}
-use Rattle.formula.specs.Tree.{Exp, formulaOf}
+use Rattle.formula.specs.Tree.{formulaOf}
 use Rattle.formula.specs.Free.{freeE, inputsOf}
 use Rattle.formula.specs.Tests.{verdictOf}
 use Rattle.meaning.specs.Meaning.{Outcome, yields, inputsHold, evalE}
-use Rattle.eval.specs.Evaluate.{cellsOf, joined, consed, valuesFrom, setValues, concluded, evaluated, evaluationOf}
+use Rattle.eval.specs.Evaluate.{cellsOf, setValues, concluded, evaluated, evaluationOf}
 use Rattle.verdicts.specs.Results.{valuesOf, resultOf, EndsWith}
+use Rattle.ends.specs.ResultBytes.{cellBytes}
 use Rattle.demand.specs.MemoryCalls.{Result, result}
-use Rattle.demand.specs.Claim.{Enough, bytesOfCells, yielded}
+use Rattle.demand.specs.Claim.{Enough, yielded}
 
 -- Values as a result set in bytes, with their width.
 unfoldable pub shown : List Value → Result
-unfolding bytesOfCells
-shown r = result (length r) (bytesOfCells (cellsOf r))
+shown r = result (length r) (cellBytes (cellsOf r))
 
 abbrev Is-passed : Verdict → Type 0
 Is-passed Passed = Unit {0}
@@ -36,10 +30,6 @@ Is-passed (Refused r row) = ⊥
 abbrev Is-some : Option (List Value) → Type 0
 Is-some none = ⊥
 Is-some (some vs) = Unit {0}
-
-abbrev listed : Option (List Value) → List Value
-listed none = []
-listed (some vs) = vs
 
 concluded-passed : (rounds : ℕ) (o : Outcome) → concluded rounds o .verdict ≡ Passed
     → (r : List Value) × (valuesOf o ≡ some r) × (yielded (concluded rounds o) ≡ shown r)
@@ -74,27 +64,3 @@ module _ (sheet : List ℕ) (ok : verdictOf sheet ≡ Passed) (set : List ℕ) (
   yields-enough r w =
       let o = evalE (formulaOf sheet) (inputsHold (freeE (formulaOf sheet)) v) (w .0) in
       (w .0, ap (λ z. z .verdict) (evaluation-concludes (w .0)) ∙ concluded-enough (w .0) o r (w .1))
-
--- ---- a set that can be read has a value for each input
-
-values-behind : (v : Value) (o : Option (List Value)) (vs : List Value) → consed v o ≡ some vs → (ws : List Value) × (o ≡ some ws) × (vs ≡ v ∷ ws)
-values-behind v (some ws) vs e = (ws, refl, ap listed (sym e))
-values-behind v none vs e = absurd (subst Is-some (sym e) tt)
-
-values-count : (n at : ℕ) (set : List ℕ) (vs : List Value) → valuesFrom n at set ≡ some vs → length vs ≡ n
-unfolding valuesFrom
-values-count zero at set vs e = ap (λ o. length (listed o)) (sym e)
-values-count (suc n) at set vs e = go (valueOf (wordAt set at)) e (values-count n (at + 5) set)
-  where
-    go : (o : Option Value) → joined o (valuesFrom n (at + 5) set) ≡ some vs → ((ws : List Value) → valuesFrom n (at + 5) set ≡ some ws → length ws ≡ n)
-        → length vs ≡ suc n
-    go (some v) i count = let p = values-behind v (valuesFrom n (at + 5) set) vs i in ap length (p .2) ∙ ap suc (count (p .0) (p .1))
-    go none i count = absurd (subst Is-some (sym i) tt)
-
-pub set-count : (n : ℕ) (set : List ℕ) (vs : List Value) → setValues n set ≡ some vs → length vs ≡ n
-unfolding setValues
-set-count n set vs e = go (eqb (length set) (5 * n)) e
-  where
-    go : (b : Bool) → pick b (valuesFrom n 0 set) none ≡ some vs → length vs ≡ n
-    go true i = values-count n 0 set vs i
-    go false i = absurd (subst Is-some (sym i) tt)

@@ -39,23 +39,12 @@ use Rattle.verdicts.specs.Running.{places, operatorAt, pushOf, takeOf, decAble,
 use Rattle.view.specs.Sound.{Sound}
 use Rattle.view.specs.Stands.{Stands}
 use Rattle.demand.specs.MemoryCalls.{Call, push, fire, run, take, Result, result, accepted, answerOf, memoryAfter, setOf, resultOf, memoryAfterAll, answersOf, setsPushed, resultsTaken}
-use Rattle.demand.specs.Claim.{bytesOfCells}
-use Rattle.demand.specs.Evaluations.{shown, set-count}
-use Rattle.demand.specs.Lent.{stands-lent, stands-behind, size-in, lent-too-little}
+use Rattle.ends.specs.ResultBytes.{cellBytes, resultBytes, cells-result, length-result}
+use Rattle.ends.specs.Sets.{values-set}
+use Rattle.demand.specs.Evaluations.{shown}
+use Rattle.begin.specs.Lent.{stands-lent, stands-behind, short-refused}
+use Rattle.begin.specs.StandsValid.{stands-size}
 use Rattle.demand.specs.Agree.{CallsAgree}
-
--- ---- a result's bytes
-
-cells-bytes : (cells : List Cell) → length (bytesOfCells cells) ≡ 5 * length cells
-unfolding bytesOfCells bytesOf wordBytes
-cells-bytes [] = refl
-cells-bytes (c ∷ cells) = let e = cells-bytes cells in omega (arith, e)
-
-sixteen-cells : (r : List Value) → length r ≤ 16 → length (cellsOf r) ≡ 16
-unfolding cellsOf
-sixteen-cells r h =
-    length-append (map cell r) (replicate (16 - length r) (cell Err)) ∙ ap₂ (λ (a b : ℕ). a + b) (length-map r cell) (length-replicate (16 - length r) (cell Err))
-    ∙ omega arith
 
 -- A take hands out one value for each result port.
 collected : (os : List ℕ) (k : List Token → Demand) (n : ℕ) → ((ts : List Token) (q : Links) → length (label (k ts) q) ≡ n + length ts)
@@ -136,7 +125,7 @@ module _ (x : Exp) (capacity : ℕ) (low : 1 ≤ capacity) (high : capacity ≤ 
     whole-again = take-append-drop lent m
 
     too-little : lent < need (sizeOf capacity) → standing lentPart ≡ numberOf Memory
-    too-little h = lent-too-little capacity low high m (H .capacity-is) lent h
+    too-little h = short-refused (madeOf x) capacity m q low high H lent h
 
     -- ---- push
 
@@ -152,7 +141,7 @@ module _ (x : Exp) (capacity : ℕ) (low : 1 ≤ capacity) (high : capacity ≤ 
           → stepsOf x capacity (pushes v) q ≡ pushing v ∷ []
       unfolding stepsOf
       push-steps v r a =
-          rw (eq-eqb (length v) (madeOf x .inputs) (set-count (madeOf x .inputs) set v r)) (can-accepted (pushing v) (decAble (places capacity) (pushOf x v) q) a)
+          rw (eq-eqb (length v) (madeOf x .inputs) (values-set (madeOf x .inputs) set v r .count)) (can-accepted (pushing v) (decAble (places capacity) (pushOf x v) q) a)
 
       push-made : (v : List Value) → setValues (madeOf x .inputs) set ≡ some v → ltb (untakenOf lentPart) 16 ≡ true
           → roomsOk lentPart (sizeOf capacity) (madeOf x .inputs) ≡ true → Push-follows set (outcome (answers 0 0) (pushedMemory lentPart set))
@@ -176,7 +165,7 @@ module _ (x : Exp) (capacity : ℕ) (low : 1 ≤ capacity) (high : capacity ≤ 
           go true a false e c f = subst (Push-follows set) (sym (pushed-untaken lentPart st set a e)) (push-refused set (numberOf Untaken) (omega arith) (omega arith))
           go true a true e false f = subst (Push-follows set) (sym (pushed-full lentPart st set a e f)) (push-refused set (numberOf Full) (omega arith) (omega arith))
           go true a true e true f =
-              let s = size-in capacity low high lentPart (L .capacity-is) in
+              let s = stands-size (madeOf x) (A .sound) capacity low high lentPart q L in
               let v = A .set-read set (subst (λ (n : ℕ). setOk n set ≡ true) (L .inputs-are) a) in
               subst (Push-follows set) (sym (pushed-accepted lentPart st set a e f))
               (push-made (v .0) (v .1) e (subst (λ (n : ℕ). roomsOk lentPart (sizeOf capacity) n ≡ true) (L .inputs-are) (subst (λ (z : ℕ). roomsOk lentPart z (inputsOf lentPart) ≡ true) s f)))
@@ -222,7 +211,7 @@ module _ (x : Exp) (capacity : ℕ) (low : 1 ≤ capacity) (high : capacity ≤ 
           go false a b e = subst Fire-follows (sym (fired-absent lentPart st i a)) (fire-refused (numberOf NotAble) (omega arith))
           go true a false e = subst Fire-follows (sym (fired-idle lentPart st i a e)) (fire-refused (numberOf NotAble) (omega arith))
           go true a true e =
-              let s = size-in capacity low high lentPart (L .capacity-is) in
+              let s = stands-size (madeOf x) (A .sound) capacity low high lentPart q L in
               let l = ltb-true i (operatorsOf lentPart) a in
               subst Fire-follows (sym (fired-accepted lentPart st i a e ∙ ap (λ (z : ℕ). outcome (answers 0 0) (firedAt lentPart z i)) s))
               (fire-made (omega (arith, L .operators-are)) (subst (λ (z : ℕ). ableAt lentPart z i ≡ true) s e))
@@ -271,7 +260,7 @@ module _ (x : Exp) (capacity : ℕ) (low : 1 ≤ capacity) (high : capacity ≤ 
             (fire-refused (numberOf Memory) (omega arith))
         go (no h) =
             let L = stands-lent (madeOf x) (A .sound) capacity m q H lent (omega arith) in
-            let s = size-in capacity low high lentPart (L .capacity-is) in
+            let s = stands-size (madeOf x) (A .sound) capacity low high lentPart q L in
             subst Fire-follows
             (sym (ran-ended lentPart (A .good lentPart q L) firings ∙ ap₂ (λ (z n : ℕ). ended (runs z n firings lentPart 0) z n) s (L .operators-are)))
             (run-ended firings L (runs (sizeOf capacity) (length (madeOf x .operators)) firings lentPart 0) refl)
@@ -301,9 +290,8 @@ module _ (x : Exp) (capacity : ℕ) (low : 1 ≤ capacity) (high : capacity ≤ 
         take-shows =
             let few = A .sound .few-results in
             let vs = valuesIn (label (takeOf x) q) in
-            let n : length (bytesOfCells (cellsOf vs)) ≡ 80
-            = cells-bytes (cellsOf vs) ∙ ap (λ (k : ℕ). 5 * k) (sixteen-cells vs (omega (arith, label-width))) in
-            ap₂ result (sym label-width) (ap (firstOf 80) (A .handed lentPart q L a b out room) ∙ take-at (bytesOfCells (cellsOf vs)) (drop 80 out) 80 n)
+            let n : length (cellBytes (cellsOf vs)) ≡ 80 = ap length (cells-result vs) ∙ length-result vs (omega (arith, label-width)) in
+            ap₂ result (sym label-width) (ap (firstOf 80) (A .handed lentPart q L a b out room) ∙ take-at (cellBytes (cellsOf vs)) (drop 80 out) 80 n)
 
         take-made : Take-follows (hands (answers 0 (length (madeOf x .results))) (takenMemory lentPart) (written 16 lentPart (sizeOf capacity) (length (madeOf x .results)) out))
         unfolding accepted
@@ -323,7 +311,7 @@ module _ (x : Exp) (capacity : ℕ) (low : 1 ≤ capacity) (high : capacity ≤ 
           st = A .good lentPart q L
 
           s : sizeIn lentPart ≡ sizeOf capacity
-          s = size-in capacity low high lentPart (L .capacity-is)
+          s = stands-size (madeOf x) (A .sound) capacity low high lentPart q L
 
           go : (a : Bool) → ltb 0 (untakenOf lentPart) ≡ a → (b : Bool) → allBelow (resultsOf lentPart) (resultReady lentPart (sizeIn lentPart)) ≡ b
               → Take-follows (taken lentPart out)

@@ -41,7 +41,8 @@ use Rattle.view.specs.Stands.{Stands}
 use Rattle.demand.specs.MemoryCalls.{Call, fire, take, Result, result, answerOf, memoryAfterAll, answersOf, setsPushed, resultsTaken}
 use Rattle.demand.specs.Claim.{Enough, Ends, yielded, OwnVerdicts}
 use Rattle.demand.specs.Evaluations.{shown, enough-yields}
-use Rattle.demand.specs.Lent.{stands-lent, size-in}
+use Rattle.begin.specs.Lent.{stands-lent}
+use Rattle.begin.specs.StandsValid.{stands-size}
 use Rattle.demand.specs.Agree.{CallsAgree}
 use Rattle.demand.specs.Follow.{shownTokens, Follows}
 use Rattle.demand.specs.FollowAll.{calls-follow, calls-unaltered, read-count, read-at}
@@ -132,7 +133,7 @@ module _ (sheet : List ℕ) (ok : verdictOf sheet ≡ Passed) (capacity : ℕ) (
     able-fires : (i : ℕ) → i < length (madeOf x .operators) → ableAt memory (sizeOf capacity) i ≡ true → answerOf (fire (length memory) i) memory ≡ answers 0 0
     unfolding answerOf
     able-fires i l a =
-        let s = size-in capacity low high memory (F .stands .capacity-is) in
+        let s = stands-size (madeOf x) (A .sound) capacity low high memory links (F .stands) in
         ap (λ (m : List ℕ). fired m i .answer) (take-length memory)
         ∙ ap (λ o. o .answer)
         (fired-accepted memory (A .good memory links (F .stands)) i (lt-ltb i (operatorsOf memory) (omega (arith, F .stands .operators-are)))
@@ -157,7 +158,7 @@ module _ (sheet : List ℕ) (ok : verdictOf sheet ≡ Passed) (capacity : ℕ) (
     unfolding answerOf
     take-accepted a lent out h room =
         let L = stands-lent (madeOf x) (A .sound) capacity memory links (F .stands) lent h in
-        let s = size-in capacity low high (firstOf lent memory) (L .capacity-is) in
+        let s = stands-size (madeOf x) (A .sound) capacity low high (firstOf lent memory) links L in
         let r = A .take-ready (firstOf lent memory) links L a in
         ap (λ o. o .answer .refusal)
         (taken-accepted (firstOf lent memory) (A .good (firstOf lent memory) links L) out room (r .0)
