@@ -5,26 +5,24 @@ use Prim.Native.Nat.{ℕ, _+_, _≤_, _<_}
 use mathlib.Core.Path.{_≡_, refl, sym, ap, subst, _∙_}
 use mathlib.Core.Logic.{_≢_}
 use mathlib.Core.Bool.{Bool, true, false, _&&_, false≢true}
-use mathlib.Core.List.{List, [], _∷_}
+use mathlib.Core.List.{List}
 use mathlib.Core.Option.{Option, none, some}
 use native.Mathlib.Omega.{arith}
 use borrow.Author.Tests.{ltb-true, lt-ltb}
-use lib.Dec.{ltb}
 use lib.ListN.{length}
 use Rattle.value.specs.declared.Value.{Value}
 use Rattle.value.specs.Bytes.{decoded}
-use Rattle.network.specs.Rules.{Register}
 use Rattle.network.specs.Net.{Links, Able}
 use Rattle.network.specs.Fill.{remembering}
 use Rattle.network.specs.Decide.{Decision}
-use Rattle.network.specs.Firing.{Holds, none-is-not-some, fill-able, able-fill}
+use Rattle.network.specs.Firing.{Holds, fill-able, able-fill}
 use Rattle.network.specs.FiringLinks.{Output, output1, output2, output3, output, Own-links}
 use Rattle.layout.specs.Layout.{sizeOf}
 use Rattle.machine.specs.Links.{roomAt}
-use Rattle.machine.specs.Fire.{given, planAt, readyFor, ableAt}
+use Rattle.machine.specs.Fire.{given, readyFor, ableAt}
 use Rattle.graph.specs.Assembly.{Operator}
 use Rattle.graph.specs.Translation.{Made}
-use Rattle.reference.specs.Plugged.{nowhere, registers, link-of, portsOf, demandOf}
+use Rattle.reference.specs.Plugged.{registers, link-of, portsOf, demandOf}
 use Rattle.wiring.specs.Machine.{netOf}
 use Rattle.verdicts.specs.Owed.{creditLink}
 use Rattle.verdicts.specs.Running.{places}
@@ -32,7 +30,7 @@ use Rattle.view.specs.Sound.{Ith, Sound}
 use Rattle.view.specs.Stands.{Stands}
 use Rattle.view.specs.Moves.{stands-room}
 use Rattle.view.specs.Operators.{ith-there, net-ith, output-below, own-links}
-use Rattle.view.specs.Decision.{Linked-in, registerNow, decisionNow, planOf, plan-read, plan-none}
+use Rattle.view.specs.Decision.{Linked-in, registerNow, decisionNow, plan-read, plan-none}
 use Rattle.view.specs.Emitting.{Place, room-places, places-room}
 
 both-hold : (a b : Bool) → a && b ≡ true → (a ≡ true) × (b ≡ true)
@@ -109,7 +107,7 @@ module _ (g : Made) (S : Sound g) (capacity : ℕ) (m : List ℕ) (q : Links) (H
         go none e = absurd (false≢true (sym (undecided e) ∙ t))
         go (some d) e = (d, e)
 
-    able-links : 1 ≤ capacity → ableAt m size i ≡ true → Able (places capacity) (demandOf o) q
+    pub able-links : 1 ≤ capacity → ableAt m size i ≡ true → Able (places capacity) (demandOf o) q
     able-links c t =
         let w = decided-able t in
         let p = ready-places (w .0) (w .1) t in

@@ -1,24 +1,21 @@
 -- The decision that the machine makes on the bytes of an operator is the table's decision on the tokens that wait on its links (network/specs/Decide):
 -- kind, first tokens and register are read from a standing memory as they stand in the graph and on the links. Assumes an operator of the graph.
-use Prim.Native.Nat.{ℕ, _+_, _<_}
+use Prim.Native.Nat.{ℕ, _<_}
 use mathlib.Core.Path.{_≡_, refl, sym, ap, subst, _∙_, fun-ext}
-use mathlib.Core.Bool.{Bool, true, false}
+use mathlib.Core.Bool.{true, false}
 use mathlib.Core.List.{List, [], _∷_}
 use mathlib.Core.Option.{Option, none, some}
-use lib.ListN.{length}
 use Rattle.value.specs.declared.Value.{Value}
-use Rattle.value.specs.declared.Decoded.{Decoded}
-use Rattle.value.specs.Bytes.{InRange, wordOf, valueOf, decoded, wordAt}
+use Rattle.value.specs.Bytes.{InRange, valueOf, decoded}
 use Rattle.value.proofs.Words.{value-of-word, no-value}
-use Rattle.network.specs.Rules.{Kind, Register, Input, first, second, third}
-use Rattle.network.specs.Net.{Token, val, Links}
+use Rattle.network.specs.Rules.{Register, Input, first, second, third}
+use Rattle.network.specs.Net.{Token, Links}
 use Rattle.network.specs.Fill.{value-of}
 use Rattle.network.specs.Decide.{Decision, decide}
 use Rattle.network.specs.Firing.{first-token, heads}
-use Rattle.layout.specs.Layout.{noLink, kindByte, portOf, operatorAt, registerAt, sizeOf}
-use Rattle.layout.specs.Kinds.{byteOf, kindOf, kind-of-byte}
-use Rattle.gates.specs.declared.Decided.{Decided}
-use Rattle.gates.specs.Decide.{optional, told, ruled, decideAt}
+use Rattle.layout.specs.Layout.{kindByte, portOf, sizeOf}
+use Rattle.layout.specs.Kinds.{kindOf, kind-of-byte}
+use Rattle.gates.specs.Decide.{optional, told, decideAt}
 use Rattle.gates.specs.Decide.{heads as heads-read}
 use Rattle.machine.specs.Links.{headAt, tokenAt}
 use Rattle.machine.specs.declared.Plan.{Plan}
@@ -27,7 +24,7 @@ use Rattle.graph.specs.Assembly.{Operator}
 use Rattle.graph.specs.Translation.{Made}
 use Rattle.reference.specs.Plugged.{nowhere, link-of, portsOf}
 use Rattle.view.specs.Sound.{Ith, Sound}
-use Rattle.view.specs.Stands.{wordIn, Fine, Registered, Stands}
+use Rattle.view.specs.Stands.{wordIn, Fine, Stands}
 use Rattle.view.specs.Moves.{stands-head, stands-none, stands-value}
 use Rattle.view.specs.Operators.{input-below}
 

@@ -1,7 +1,7 @@
 -- What a firing does link by link, for the room it needs and the links it leaves (network/specs/Net, Fill, Firing): each of its changes looks at one
 -- link alone, so what is elsewhere is as it was, and its tokens find room where the links had it before. Theory of links, no bytes.
 -- Assumes of the operator that it names no link twice (`Own-links`).
-use Prim.Native.Nat.{ℕ, _+_, _≤_, _<_}
+use Prim.Native.Nat.{ℕ, _≤_, _<_}
 use mathlib.Core.Path.{_≡_, refl, sym, ap, subst, _∙_}
 use mathlib.Core.Logic.{_≢_, ite, if-neg}
 use mathlib.Core.Bool.{Bool, true, false}

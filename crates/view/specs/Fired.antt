@@ -1,28 +1,27 @@
 -- A firing on the bytes of a standing memory is the firing on its links: `fired-stands`. Step by step as machine/specs/Fire's `performed` goes: the tokens
 -- taken, the tokens given, the register. Document 01, "The graph" and "Running". Assumes an operator of the graph that can fire.
-use Prim.Native.Nat.{ℕ, _+_, _*_, _≤_, _<_}
+use Prim.Native.Nat.{ℕ, _+_, _<_}
 use mathlib.Core.Path.{_≡_, refl, sym, ap, subst, _∙_}
 use mathlib.Core.Logic.{_≢_}
 use mathlib.Core.Bool.{Bool, true, false}
-use mathlib.Core.List.{List, [], _∷_}
+use mathlib.Core.List.{List}
 use mathlib.Core.Option.{Option, none, some}
 use native.Mathlib.Omega.{arith}
 use native.Mathlib.Decide.{ℕ-discrete, decLt}
-use lib.ListN.{length, getD}
+use lib.ListN.{length}
 use Rattle.value.specs.declared.Value.{Value}
-use Rattle.value.specs.Bytes.{InRange, decoded, wordAt, stored}
+use Rattle.value.specs.Bytes.{decoded, wordAt, stored}
 use Rattle.value.proofs.Words.{length-stored, word-stored, word-before, word-after, byte-before, word-lt}
-use Rattle.network.specs.Rules.{Register, Input, first, second, third, rule}
+use Rattle.network.specs.Rules.{Register, first, second, third, rule}
 use Rattle.network.specs.Net.{Links, act, appends}
-use Rattle.network.specs.Fill.{Ports, input, emission, remembering}
+use Rattle.network.specs.Fill.{Ports, emission, remembering}
 use Rattle.network.specs.Decide.{Decision, untouched}
 use Rattle.network.specs.Firing.{heads, pop-if, gone, Took, pop-if-other, Holds, none-took, carried, fill-acts}
 use Rattle.network.specs.FiringLinks.{Output, output1, output2, output3, output, decided-took, register-after}
-use Rattle.layout.specs.Layout.{noLink, registerAt, linkAt, sizeOf, need}
-use Rattle.layout.specs.Fits.{stretch-fits}
+use Rattle.layout.specs.Layout.{registerAt, linkAt, sizeOf}
 use Rattle.machine.specs.Links.{removedAt, appendedAt}
 use Rattle.machine.specs.LinkLaws.{linkPart, part-stored}
-use Rattle.machine.specs.Fire.{taken, given, wordOr, planAt, performed, ableAt, firedAt}
+use Rattle.machine.specs.Fire.{taken, given, wordOr, performed, ableAt, firedAt}
 use Rattle.graph.specs.Assembly.{Operator}
 use Rattle.graph.specs.Translation.{Made}
 use Rattle.reference.specs.Plugged.{nowhere, registers, link-of, portsOf, demandOf}
@@ -34,7 +33,7 @@ use Rattle.view.specs.Frame.{operator-below, stands-changed}
 use Rattle.view.specs.Moves.{stands-append, stands-remove}
 use Rattle.view.specs.Operators.{ith-there, ith-one, net-ith, input-below, output-below, register-apart}
 use Rattle.view.specs.Given.{Fine-decision, decision-fine}
-use Rattle.view.specs.Decision.{Linked-in, word-given, registerNow, decisionNow, heads-fine, planOf, plan-read}
+use Rattle.view.specs.Decision.{Linked-in, word-given, registerNow, decisionNow, heads-fine, plan-read}
 use Rattle.view.specs.Emitting.{gone-other, emission-other, given-out, carried-beside, Place, place-same}
 use Rattle.view.specs.Able.{owns, holds, ready-places, decided-able}
 
@@ -271,7 +270,7 @@ module _ (g : Made) (S : Sound g) (capacity : ℕ) (m : List ℕ) (q : Links) (H
         fill-acts (o .kind) p q now (owns g S capacity m q H i o at .inputs-apart) (owns g S capacity m q H i o at .register-no-input)
         (holds g S capacity m q H i o at) d e
 
-  fired-operator : Stands g capacity (firedAt m s i) (act (demandOf o) q)
+  pub fired-operator : Stands g capacity (firedAt m s i) (act (demandOf o) q)
   fired-operator =
       let w = chosen in
       subst (λ n. Stands g capacity n (act (demandOf o) q)) (sym (fired-is (w .0) (w .1)))

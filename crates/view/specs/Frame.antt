@@ -2,18 +2,17 @@
 -- records, and for each register and each link what the links now say. One law, `stands-changed`, for every call; `stands-links` for a change of links
 -- alone. Layout of the bytes: layout/specs/Layout. Assumes of the graph the bounds of `Sound`.
 use Prim.Native.Nat.{ℕ, zero, suc, _+_, _*_, _≤_, _<_}
-use mathlib.Core.Path.{_≡_, refl, sym, ap, subst, _∙_}
+use mathlib.Core.Path.{_≡_, refl, sym, ap, _∙_}
 use mathlib.Core.Logic.{_≢_}
 use mathlib.Core.Bool.{Bool, true, false}
 use mathlib.Core.List.{List, [], _∷_}
 use native.Mathlib.Omega.{arith}
 use lib.ListN.{length, getD}
-use Rattle.value.specs.Bytes.{wordAt}
 use Rattle.network.specs.Rules.{Register}
 use Rattle.network.specs.Net.{Links}
-use Rattle.network.specs.Fill.{Ports, remembering}
+use Rattle.network.specs.Fill.{remembering}
 use Rattle.network.specs.Firing.{Holds}
-use Rattle.layout.specs.Layout.{number16, nameAt, capacityByte, operatorsOf, linksOf, inputsOf, resultsOf, untakenOf, triggerOf, inputLink, resultLink, operatorAt, kindByte, portOf, registerAt, sizeOf, need}
+use Rattle.layout.specs.Layout.{number16, nameAt, untakenOf, operatorAt, portOf, registerAt, sizeOf}
 use Rattle.machine.specs.LinkLaws.{linkPart}
 use Rattle.graph.specs.Assembly.{Operator}
 use Rattle.graph.specs.Translation.{Made}

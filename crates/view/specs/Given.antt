@@ -1,7 +1,7 @@
 -- What a firing gives and the register it leaves are values in their range, where the tokens it takes and its register are (document 01, "Values and
 -- operators": "a whole number from -2,147,483,648 to 2,147,483,647"). One line a row of the table of rules (network/specs/Rules). Assumes nothing.
 use Prim.Native.Nat.{ℕ}
-use mathlib.Core.Path.{_≡_, refl, subst}
+use mathlib.Core.Path.{_≡_, subst}
 use mathlib.Core.Bool.{Bool, true, false}
 use mathlib.Core.Option.{Option, none, some}
 use Rattle.value.specs.declared.Value.{Value}

@@ -9,3 +9,5 @@ pub mod Decision
 pub mod Emitting
 pub mod Able
 pub mod Fired
+pub mod FiredHistory
+pub mod Run

@@ -1,25 +1,24 @@
 -- A standing memory's links, one at a time: its first token, whether it has room, and the memory after one token was added or taken away
 -- (machine/specs/Links), which stands with the links of network/specs/Net's `append` and `pop`. Firing, push and take are made of these.
 -- Assumes a link of the graph.
-use Prim.Native.Nat.{ℕ, zero, suc, _+_, _*_, _≤_, _<_}
-use mathlib.Core.Path.{_≡_, refl, sym, ap, subst, _∙_}
+use Prim.Native.Nat.{ℕ, _+_, _*_, _≤_, _<_}
+use mathlib.Core.Path.{_≡_, refl, sym, subst}
 use mathlib.Core.Logic.{_≢_}
-use mathlib.Core.Bool.{Bool, true, false}
-use mathlib.Core.List.{List, [], _∷_, _++_}
+use mathlib.Core.List.{List, [], _∷_}
 use native.Mathlib.Omega.{arith}
 use native.Mathlib.Decide.{ℕ-discrete}
 use borrow.Author.Tests.{lt-ltb}
 use lib.Dec.{ltb}
-use lib.ListN.{length, getD}
+use lib.ListN.{length}
 use Rattle.value.specs.declared.Value.{Value}
 use Rattle.value.specs.Bytes.{InRange, wordOf}
 use Rattle.network.specs.Net.{Token, val, Links, tail, pop, pop-same, pop-other, append, append-same, append-other}
 use Rattle.queue.specs.Stretch.{appended, removed}
-use Rattle.layout.specs.Layout.{linkAt, sizeOf, need}
+use Rattle.layout.specs.Layout.{linkAt, sizeOf}
 use Rattle.layout.specs.Fits.{stretch-fits}
 use Rattle.machine.specs.Parts.{part-length}
 use Rattle.machine.specs.Links.{headAt, roomAt, removedAt, appendedAt}
-use Rattle.machine.specs.LinkLaws.{linkPart, Keeps, keeps-appended, keeps-removed, same-on, other-on, length-removed, low-removed, length-appended, low-appended}
+use Rattle.machine.specs.LinkLaws.{linkPart, keeps-appended, keeps-removed, same-on, other-on, length-removed, low-removed, length-appended, low-appended}
 use Rattle.graph.specs.Translation.{Made}
 use Rattle.view.specs.Sound.{Sound}
 use Rattle.view.specs.Stands.{Waits, Stands}
@@ -57,7 +56,7 @@ module _ (g : Made) (S : Sound g) (capacity : ℕ) (m : List ℕ) (q : Links) (H
 
   -- ---- one link changed
 
-  module _ (f : List ℕ → List ℕ) (kf : Keeps f) (n : List ℕ) (r : Links)
+  module _ (f : List ℕ → List ℕ) (n : List ℕ) (r : Links)
       (same : linkPart n size l ≡ f (linkPart m size l)) (others : (k : ℕ) → k ≢ l → linkPart n size k ≡ linkPart m size k)
       (elsewhere : (k : ℕ) → k ≢ l → r k ≡ q k) (there : Waits capacity (f (linkPart m size l)) (r l)) where
     waits-each : (k : ℕ) → k < g .links → Waits capacity (linkPart n size k) (r k)
@@ -78,7 +77,7 @@ module _ (g : Made) (S : Sound g) (capacity : ℕ) (m : List ℕ) (q : Links) (H
       (length-appended m size (H .long) l (wordOf v))
       (low-appended m size (H .long) l (wordOf v))
       (beyond (append l (val v) q) other)
-      (waits-each f (keeps-appended (wordOf v)) (appendedAt m size l (wordOf v)) (append l (val v) q)
+      (waits-each f (appendedAt m size l (wordOf v)) (append l (val v) q)
       (same-on m size (H .long) l f (keeps-appended (wordOf v)) is-link)
       (other-on m size (H .long) l f (keeps-appended (wordOf v)))
       other
@@ -98,7 +97,7 @@ module _ (g : Made) (S : Sound g) (capacity : ℕ) (m : List ℕ) (q : Links) (H
       (length-removed m size (H .long) l)
       (low-removed m size (H .long) l)
       (beyond (pop l q) other)
-      (waits-each removed keeps-removed (removedAt m size l) (pop l q)
+      (waits-each removed (removedAt m size l) (pop l q)
       (same-on m size (H .long) l removed keeps-removed is-link)
       (other-on m size (H .long) l removed keeps-removed)
       other

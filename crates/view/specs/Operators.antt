@@ -1,6 +1,6 @@
 -- One operator of a sound graph: its ports' links are links of the graph, none is named twice, and its register link is nobody else's. From
 -- wiring/specs/MadeGraph's `WellWired`, in the words that network/specs/Firing and FiringLinks ask for. Assumes that nothing waits nowhere.
-use Prim.Native.Nat.{ℕ, zero, suc, _+_, _≤_, _<_}
+use Prim.Native.Nat.{ℕ, zero, suc, _+_, _<_}
 use mathlib.Core.Path.{_≡_, refl, sym, ap, subst, _∙_}
 use mathlib.Core.Logic.{_≢_, _⊎_, inl, inr}
 use mathlib.Core.Bool.{Bool, true, false}
@@ -10,7 +10,7 @@ use native.Mathlib.Omega.{arith}
 use lib.ListN.{length}
 use Rattle.network.specs.Rules.{Input, first, second, third}
 use Rattle.network.specs.Net.{Links}
-use Rattle.network.specs.Fill.{Ports, input, remembering}
+use Rattle.network.specs.Fill.{input, remembering}
 use Rattle.network.specs.Uses.{In}
 use Rattle.network.specs.Firing.{Apart, Own-register, none-is-not-some, some-same}
 use Rattle.network.specs.FiringLinks.{Output, output1, output2, output3, output, Own-links}

@@ -1,20 +1,19 @@
 -- What the queue's changes do to the tokens that wait in a stretch (document 01, "Running": "A link's waiting tokens fill one stretch of token memory ..
 -- Freed places are used again"). Each law is over one stretch that is as long as its capacity asks. Assumes nothing else.
-use Prim.Native.Nat.{ℕ, zero, suc, _+_, _-_, _*_, _≤_, _<_}
-use mathlib.Core.Path.{_≡_, refl, sym, ap, subst, _∙_}
+use Prim.Native.Nat.{ℕ, suc, _+_, _-_, _*_, _≤_, _<_}
+use mathlib.Core.Path.{_≡_, refl, sym, ap, _∙_}
 use mathlib.Core.Logic.{_≢_}
 use mathlib.Core.Bool.{Bool, true, false}
-use mathlib.Core.List.{List, [], _∷_, _++_, append-assoc}
+use mathlib.Core.List.{List, [], _∷_, _++_}
 use native.Mathlib.Omega.{arith}
 use native.Mathlib.Decide.{decLt}
 use borrow.Author.Tests.{ltb-true, ltb-false, le-leb, lt-leb, ne-eqb, lt-ltb}
-use lib.Dec.{ltb, leb, eqb}
-use lib.ListN.{length, getD, take, drop, set, length-set, length-drop, length-append, List·getD-append}
+use lib.Dec.{ltb, leb}
+use lib.ListN.{length, getD, take, drop, set, length-drop, length-append, List·getD-append}
 use lib.Seq.{paste, length-paste, length-take-le, take-paste, getD-take, getD-drop, getD-set-same, getD-set-other, getD-append-add, getD-append-seam}
 use Rattle.value.specs.declared.Value.{Value}
-use Rattle.value.specs.Operators.{pick}
 use Rattle.value.specs.Bytes.{InRange, wordOf, wordAt, stored}
-use Rattle.value.proofs.Words.{length-stored, word-stored, word-before, byte-before, word-lt}
+use Rattle.value.proofs.Words.{length-stored, word-stored, word-before, word-lt}
 use Rattle.network.specs.Net.{Token, val, mark}
 use Rattle.network.specs.Fill.{value-of}
 use Rattle.queue.specs.Stretch.{waiting, headOf, roomIn, appended, removed}
