@@ -5,3 +5,4 @@ pub mod Agree
 pub mod Follow
 pub mod FollowAll
 pub mod OnMemory
+pub mod Agreed
