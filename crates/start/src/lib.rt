@@ -45,15 +45,7 @@ fn capacity_asked(capacity: u32) -> usize
 }
 
 // Writes the header's figures: no set is untaken.
-fn store_figures(
-    mem: &mut [u8],
-    capacity: u8,
-    operators: u16,
-    links: u16,
-    inputs: u8,
-    results: u8,
-    trigger: u16,
-)
+fn store_figures(mem: &mut [u8], capacity: u8, operators: u16, links: u16, inputs: u8, results: u8, trigger: u16)
     requires { ⌜ 10 ≤ length (now mem) ⌝ }
     ensures { λ _. ⌜ now (mem .exit) ≡ figured (now (mem .entry)) capacity operators links inputs results trigger ⌝ }
 {

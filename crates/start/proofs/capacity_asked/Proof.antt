@@ -10,6 +10,8 @@ use mathlib.Core.Path.{_≡_, refl}
 use borrow.Author.Tests.{le-leb, lt-leb}
 use Rattle.layout.specs.Layout.{capacityIn}
 
+
+
 -- src/lib.rt:39:9  if capacity < 1 { ⏎ return 1;
 returns : tie.Need-returns
 unfolding capacityIn

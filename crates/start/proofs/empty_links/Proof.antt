@@ -13,6 +13,8 @@ use Rattle.layout.specs.Layout.{linkAt}
 use Rattle.start.specs.Start.{emptied}
 use Rattle.start.specs.StartLaws.{emptied-none, emptied-more}
 
+
+
 abbrev Inv-loop : tie.InvT-loop
 Inv-loop mem₀ size k l₀ mem l = (l ≤ k) × (mem ≡ emptied l size mem₀) × (length mem ≡ length mem₀)
 

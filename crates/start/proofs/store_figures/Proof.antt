@@ -12,6 +12,8 @@ use Rattle.layout.specs.Layout.{stored16}
 use Rattle.start.specs.StartLaws.{figures-written}
 use native.Mathlib.Omega.{arith}
 
+
+
 -- src/lib.rt:52:5  { ⏎ mem[0] = capacity;
 slice-write-mem : tie.Need-slice-write-mem
 slice-write-mem c = search needs

@@ -13,6 +13,8 @@ use Rattle.layout.specs.Layout.{stored16}
 use Rattle.start.specs.Start.{named}
 use Rattle.start.specs.StartLaws.{named-none, named-more}
 
+
+
 abbrev Inv-loop : tie.InvT-loop
 Inv-loop mem₀ at links k j₀ mem j = (j ≤ k) × (mem ≡ named j mem₀ at links) × (length mem ≡ length mem₀)
 
