@@ -6,3 +6,5 @@ pub mod Follow
 pub mod FollowAll
 pub mod OnMemory
 pub mod Agreed
+pub mod Started
+pub mod Demand3
