@@ -63,28 +63,28 @@ ith-inside [] i o e = absurd e
 ith-inside (x ∷ os) zero o e = omega arith
 ith-inside (x ∷ os) (suc i) o e = let h = ith-inside os i o e in omega arith
 
-ith-inputs : (os : List Operator) (i : ℕ) (o : Operator) → Ith os i o → inputsAt os i ≡ inputLinks o
+pub ith-inputs : (os : List Operator) (i : ℕ) (o : Operator) → Ith os i o → inputsAt os i ≡ inputLinks o
 unfolding inputsAt
 ith-inputs [] i o e = absurd e
 ith-inputs (x ∷ os) zero o e = ap (λ (y : Operator). inputLinks y) e
 ith-inputs (x ∷ os) (suc i) o e = ith-inputs os i o e
 
-ith-outputs : (os : List Operator) (i : ℕ) (o : Operator) → Ith os i o → outputsAt os i ≡ outputLinks o
+pub ith-outputs : (os : List Operator) (i : ℕ) (o : Operator) → Ith os i o → outputsAt os i ≡ outputLinks o
 unfolding outputsAt
 ith-outputs [] i o e = absurd e
 ith-outputs (x ∷ os) zero o e = ap (λ (y : Operator). outputLinks y) e
 ith-outputs (x ∷ os) (suc i) o e = ith-outputs os i o e
 
-in-first : (l : ℕ) (xs ys : List ℕ) → In l xs → In l (xs ++ ys)
+pub in-first : (l : ℕ) (xs ys : List ℕ) → In l xs → In l (xs ++ ys)
 in-first l [] ys i = absurd i
 in-first l (x ∷ xs) ys (inl e) = inl e
 in-first l (x ∷ xs) ys (inr i) = inr (in-first l xs ys i)
 
-in-rest : (l : ℕ) (xs ys : List ℕ) → In l ys → In l (xs ++ ys)
+pub in-rest : (l : ℕ) (xs ys : List ℕ) → In l ys → In l (xs ++ ys)
 in-rest l [] ys i = i
 in-rest l (x ∷ xs) ys i = inr (in-rest l xs ys i)
 
-in-optional : (l : ℕ) (p : Option ℕ) → p ≡ some l → In l (optional p)
+pub in-optional : (l : ℕ) (p : Option ℕ) → p ≡ some l → In l (optional p)
 in-optional l p e = rw e (inl refl)
 
 pub in-getD : (i : ℕ) (ls : List ℕ) → i < length ls → In (getD ls i 0) ls
