@@ -8,3 +8,4 @@ pub mod OnMemory
 pub mod Agreed
 pub mod Started
 pub mod Demand3
+pub mod LesserStarts
