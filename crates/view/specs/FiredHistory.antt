@@ -34,14 +34,14 @@ use Rattle.view.specs.Emitting.{Place}
 use Rattle.view.specs.Able.{owns, holds, places-ready, able-links}
 use Rattle.view.specs.Fired.{fired-operator}
 
--- From the memory m, which stands with the links q, to the memory after operator i has fired.
-pub record Fires-in-memory (g : Made) (capacity : ℕ) (m : List ℕ) (q : Links) (i : ℕ) (o : Operator) : Type 0 where
+-- From the memory m, which stands with the links q, to the memory n after operator i, which is o, has fired.
+pub record Fires-in-memory (g : Made) (capacity : ℕ) (m : List ℕ) (q : Links) (i : ℕ) (o : Operator) (n : List ℕ) : Type 0 where
   -- the register before, as it is stored
   pub register : Register
   pub stored-register : wordAt m (registerAt i) ≡ wordIn register
   -- the links after, as they are stored
   pub after : Links
-  pub stands : Stands g capacity (firedAt m (sizeOf capacity) i) after
+  pub stands : Stands g capacity n after
   pub by-history : Fires-by-history (o .kind) (portsOf o) register q after
 
 module _ (g : Made) (S : Sound g) (capacity : ℕ) (m : List ℕ) (q : Links) (H : Stands g capacity m q) (i : ℕ) (o : Operator) (at : Ith (g .operators) i o) where
@@ -52,7 +52,7 @@ module _ (g : Made) (S : Sound g) (capacity : ℕ) (m : List ℕ) (q : Links) (H
   now = registerNow g S capacity m q H i o at
 
   -- THE SENTENCE, on the bytes: an accepted fire.
-  pub fired-by-history : 1 ≤ capacity → ableAt m size i ≡ true → Fires-in-memory g capacity m q i o
+  pub fired-by-history : 1 ≤ capacity → ableAt m size i ≡ true → Fires-in-memory g capacity m q i o (firedAt m size i)
   fired-by-history c t =
       record {
         register = now;

@@ -11,3 +11,4 @@ pub mod Able
 pub mod Fired
 pub mod FiredHistory
 pub mod Run
+pub mod FireCall
