@@ -5,3 +5,4 @@ pub mod TakeLinks
 pub mod Credit
 pub mod Push
 pub mod Take
+pub mod FormulaEnds

@@ -83,10 +83,6 @@ pub given-other : (k : ℕ) (v : List Value) (q : Links) (l : ℕ) → k ≤ l �
 given-other zero v q l h = refl
 given-other (suc k) v q l h = append-other k l (val (getD v k Err)) (given k v q) (λ e. omega arith) ∙ given-other k v q l (omega arith)
 
-pub cued-other : (b : Bool) (k : ℕ) (q : Links) (l : ℕ) → k < l → cued b k q l ≡ q l
-cued-other true k q l h = append-other k l (val true-value) q (λ e. omega arith)
-cued-other false k q l h = refl
-
 given-append : (k : ℕ) (v : List Value) (c : ℕ) (t : Token) (q : Links) → k ≤ c → given k v (append c t q) ≡ append c t (given k v q)
 given-append zero v c t q h = refl
 given-append (suc k) v c t q h =
@@ -100,6 +96,10 @@ given-cued true k v q e =
     ap (λ (n : ℕ). given n (v ++ (true-value ∷ [])) q) z
     ∙ ap₂ (λ (u : Value) (p : Links). append k (val u) p) (getD-at v true-value [] Err k e) (given-more k v (true-value ∷ []) q (omega (arith, e)))
 given-cued false k v q e = let z : k + 0 ≡ k = omega arith in ap (λ (n : ℕ). given n v q) z
+
+pub cued-other : (b : Bool) (k : ℕ) (q : Links) (l : ℕ) → k < l → cued b k q l ≡ q l
+cued-other true k q l h = append-other k l (val true-value) q (λ e. omega arith)
+cued-other false k q l h = refl
 
 length-trigger : (b : Bool) (k : ℕ) (v : List Value) → length v ≡ k → length (withTrigger b v) ≡ k + bit b
 length-trigger true k v e = length-append v (true-value ∷ []) ∙ ap (λ (n : ℕ). n + 1) e
