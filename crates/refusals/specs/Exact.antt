@@ -1,10 +1,9 @@
 -- Demand 2: "A call is refused exactly when document 01 gives it a refusal, and with the first in the order there." Each call's refusal is the first of its
 -- table (Conditions), for every memory, set and number; with FirstRefusal's `accepted-exactly` and `refused-exactly` this is the sentence. The calls are
 -- the definitions that the contracts of their entry points cite. Assumes nothing.
-use Prim.Native.Nat.{ℕ, _-_, _≤_, _<_}
+use Prim.Native.Nat.{ℕ, _-_, _≤_}
 use mathlib.Core.Path.{_≡_, refl, sym, ap, _∙_}
 use mathlib.Core.Bool.{Bool, true, false, not, cond, _&&_}
-use mathlib.Core.Logic.{_⊎_, inl, inr, _≢_, _↔_}
 use mathlib.Core.List.{List, [], _∷_, _++_}
 use mathlib.Core.Option.{Option, some, none}
 use native.Mathlib.Omega.{arith}
@@ -31,15 +30,15 @@ use Rattle.meaning.specs.Meaning.{Outcome, yields, inputsHold, evalE}
 use Rattle.eval.specs.declared.Evaluation.{Evaluation}
 use Rattle.eval.specs.Evaluate.{setValues, concluded, evaluatedWith, evaluated, afterVerdict, evaluationOf}
 use Rattle.evaluate.specs.Handed.{told, handedOut, handed as evaluate-handed, answers as evaluate-answers}
-use Rattle.layout.specs.Layout.{sizeOf, need, capacityIn, operatorsOf, inputsOf, resultsOf, untakenOf}
+use Rattle.layout.specs.Layout.{operatorsOf, inputsOf, resultsOf, untakenOf}
 use Rattle.machine.specs.Fire.{ableAt, firedAt}
 use Rattle.valid.specs.Below.{allBelow}
 use Rattle.valid.specs.Valid.{valid}
 use Rattle.runs.specs.Run.{Ran, runs, stillAt}
-use Rattle.calls.specs.Calls.{Outcome as Called, Handed, outcome, handed, answers, refusal, sizeIn, standing, setOk, roomsOk, pushedMemory, pushed, fired, ended, ran, resultReady, written, takenMemory, taken}
-use Rattle.start.specs.Start.{Begun, begun, byVerdict, started, refusal as startRefusal}
-use Rattle.refusals.specs.FirstRefusal.{Row, first-refusal, first-here, first-later, number-positive}
-use Rattle.refusals.specs.Conditions.{short, no-room, altered, no-set, sixteen-untaken, link-full, not-able, can-still-fire, no-result, pushTable, fireTable, runTable, takeTable, failed, sheetTable, short-asked, capacity-outside, startTable, no-values, lacking, rounds-lacking, is-none, is-unfinished, evaluateTable}
+use Rattle.calls.specs.Calls.{outcome, handed, answers, refusal, sizeIn, standing, setOk, roomsOk, pushedMemory, pushed, fired, ended, ran, resultReady, written, takenMemory, taken}
+use Rattle.start.specs.Start.{begun, byVerdict, started, refusal as startRefusal}
+use Rattle.refusals.specs.FirstRefusal.{Row, first-refusal, number-positive}
+use Rattle.refusals.specs.Conditions.{short, no-room, altered, no-set, link-full, pushTable, fireTable, runTable, takeTable, failed, sheetTable, short-asked, startTable, no-values, lacking, rounds-lacking, is-none, is-unfinished, evaluateTable}
 
 -- ---- push, fire, run, take
 

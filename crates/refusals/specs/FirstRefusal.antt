@@ -1,10 +1,10 @@
 -- The first refusal of an ordered table of conditions, and what it means to be the first: demand 2, "A call is refused exactly when document 01 gives it
 -- a refusal, and with the first in the order there". The numbers are formula/specs/Refusals. Assumes nothing.
 use Prim.Native.Nat.{ℕ, _≤_}
-use mathlib.Core.Path.{_≡_, refl, sym, ap, _∙_}
-use mathlib.Core.Bool.{Bool, true, false, cond, false≢true}
+use mathlib.Core.Path.{_≡_, refl, ap, _∙_}
+use mathlib.Core.Bool.{Bool, true, false, cond}
 use mathlib.Core.Logic.{_⊎_, inl, inr, _≢_, _↔_}
-use mathlib.Core.List.{List, [], _∷_, _++_, map}
+use mathlib.Core.List.{List, [], _∷_}
 use native.Mathlib.Omega.{arith}
 use Rattle.formula.specs.declared.Refusal.{Refusal}
 use Rattle.formula.specs.declared.Refusal.the-variants.{Layout, Rows, Malformed, Range, Naming, Named as named, StrayIter, Width, Unused, Operators, Memory, Set, SetFile, Capacity, Altered, Untaken, Full, NotAble, NoResult, Unfinished}

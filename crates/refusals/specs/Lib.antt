@@ -1,3 +1,6 @@
 pub mod FirstRefusal
 pub mod Conditions
 pub mod Exact
+pub mod RunCount
+pub mod Kept
+pub mod Refused
