@@ -183,7 +183,3 @@ startNumbers = 11 ∷ 14 ∷ sheetNumbers
 
 abbrev pub evaluateNumbers : List ℕ
 evaluateNumbers = 11 ∷ (sheetNumbers ++ (12 ∷ 36 ∷ []))
-
--- "3 to 9 give the lowest row at fault, others row 0"
-abbrev pub rowNumbers : List ℕ
-rowNumbers = 3 ∷ 4 ∷ 5 ∷ 6 ∷ 7 ∷ 8 ∷ 9 ∷ []

@@ -1,6 +1,6 @@
 -- What a refused call says and hands back, call by call: demand 1, "hands every lent byte back unaltered, save a run that has used up its lent firings";
 -- document 01, "A refusal's counts and rows are 0 unless stated". Here without the refusals' names, which Refused adds. Assumes nothing.
-use Prim.Native.Nat.{ℕ, _-_}
+use Prim.Native.Nat.{ℕ}
 use mathlib.Core.Path.{_≡_, refl, ap}
 use mathlib.Core.Bool.{Bool, true, false, _&&_}
 use mathlib.Core.Logic.{_⊎_, inl, inr, _≢_}
@@ -11,19 +11,14 @@ use lib.Dec.{leb, ltb, eqb}
 use lib.ListN.{length}
 use Rattle.value.specs.declared.Value.{Value}
 use Rattle.value.specs.Operators.{pick}
-use Rattle.formula.specs.declared.Refusal.{Refusal}
-use Rattle.formula.specs.declared.Refusal.the-variants.{Layout, Rows, Malformed, Range, Naming, Named as named, StrayIter, Width, Unused, Operators, Unfinished}
-use Rattle.formula.specs.declared.Check.{Check}
-use Rattle.formula.specs.declared.Check.the-variants.{Passed, Fault}
+use Rattle.formula.specs.declared.Refusal.the-variants.{Memory, Capacity, Unfinished}
 use Rattle.formula.specs.declared.Verdict.{Verdict}
 use Rattle.formula.specs.declared.Verdict.the-variants.{Passed as passed, Refused as refused}
 use Rattle.formula.specs.declared.Figures.{Figures}
 use Rattle.formula.specs.Refusals.{numberOf}
-use Rattle.formula.specs.Sheet.{rowCount, linesOf, fieldsOf}
-use Rattle.formula.specs.Places.{placesOf}
 use Rattle.formula.specs.Tree.{Exp, formulaOf}
 use Rattle.formula.specs.Free.{freeE, inputsOf as inputsIn}
-use Rattle.formula.specs.Tests.{whole, lowest, laidOut, fewRows, fieldsWell, rangesWell, namesWell, namedOnce, allNamed, placedWell, widthsWell, boundWell, operatorsOf as operatorsIn, afterCheck, verdictBy, verdictOf, tests, rowTests, formulaTests, graphTests, sheetOf, figuresOf, answerBy, readingOf}
+use Rattle.formula.specs.Tests.{verdictOf, figuresOf, answerBy, readingOf}
 use Rattle.sheet.specs.declared.read.ReadAnswer.{ReadAnswer}
 use Rattle.sheet.specs.Reading.{answerOf}
 use Rattle.meaning.specs.Meaning.{Outcome as Ended, yields, inputsHold, evalE}
@@ -37,8 +32,8 @@ use Rattle.runs.specs.Run.{runs, stillAt}
 use Rattle.calls.specs.Calls.{Outcome, Handed, outcome, handed, answers, refusal, sizeIn, standing, setOk, roomsOk, pushedMemory, pushed, fired, ran, resultReady, taken}
 use Rattle.calls.specs.CallLaws.{ran-refused}
 use Rattle.start.specs.Start.{Begun, byVerdict, started}
-use Rattle.refusals.specs.FirstRefusal.{Among}
-use Rattle.refusals.specs.Conditions.{no-room, short-asked, rowNumbers}
+use Rattle.refusals.specs.Conditions.{no-room, short-asked}
+use Rattle.refusals.specs.Rows.{RowTold, VerdictRow, verdict-row}
 use Rattle.refusals.specs.RunCount.{run-is, run-counts}
 
 either : {A : Type 0} (P : A → Type 0) (b : Bool) (x y : A) → P x → P y → P (pick b x y)
@@ -109,99 +104,68 @@ take-keeps m out =
     (both-refused m out 35))
     (both-refused m out (standing m)))
 
--- ---- sheets: the row is 0 unless the refusal is one of 3 to 9
-
-abbrev pub RowStated : ℕ → ℕ → Type 0
-RowStated n row = (row ≡ 0) ⊎ Among n rowNumbers
-
-abbrev VerdictStated : Verdict → Type 0
-VerdictStated passed = Unit {0}
-VerdictStated (refused r row) = RowStated (numberOf r) row
-
-whole-stated : (r : Refusal) (b : Bool) (later : Verdict) → VerdictStated later → VerdictStated (afterCheck r (whole b) later)
-unfolding afterCheck
-whole-stated r true later h = h
-whole-stated r false later h = inl refl
-
-row-stated : (r : Refusal) (c : Check) (later : Verdict) → Among (numberOf r) rowNumbers → VerdictStated later → VerdictStated (afterCheck r c later)
-unfolding afterCheck
-row-stated r Passed later a h = h
-row-stated r (Fault row) later a h = inr a
-
-verdict-stated : (s : List ℕ) → VerdictStated (verdictOf s)
-unfolding verdictOf verdictBy tests rowTests formulaTests graphTests sheetOf
-verdict-stated s =
-    whole-stated Layout (laidOut s (linesOf s)) _
-    (whole-stated Rows (fewRows s) _
-    (row-stated Malformed (lowest (rowCount s) (fieldsWell (linesOf s))) _ (inl refl)
-    (row-stated Range (lowest (rowCount s) (rangesWell (fieldsOf s))) _ (inr (inl refl))
-    (row-stated Naming (lowest (rowCount s) (namesWell (fieldsOf s))) _ (inr (inr (inl refl)))
-    (row-stated named (lowest (rowCount s - 1) (λ r. namedOnce (allNamed (fieldsOf s) (rowCount s)) r)) _ (inr (inr (inr (inl refl))))
-    (row-stated StrayIter (lowest (rowCount s) (placedWell (fieldsOf s) (placesOf (fieldsOf s) (rowCount s)))) _ (inr (inr (inr (inr (inl refl)))))
-    (row-stated Width (lowest (rowCount s) (widthsWell (fieldsOf s) (placesOf (fieldsOf s) (rowCount s)))) _ (inr (inr (inr (inr (inr (inl refl))))))
-    (row-stated Unused (lowest (rowCount s) (boundWell (fieldsOf s) (placesOf (fieldsOf s) (rowCount s)))) _ (inr (inr (inr (inr (inr (inr (inl refl)))))))
-    (whole-stated Operators (leb (operatorsIn (fieldsOf s) (rowCount s)) 1024) _ tt)))))))))
+-- ---- sheets, with the row that goes with the refusal
 
 -- Reading is lent the sheet alone.
-abbrev pub ReadKeeps : ReadAnswer → Type 0
-ReadKeeps a = a .refusal ≢ 0 → RowStated (a .refusal) (a .row) × (a .rows ≡ 0) × (a .operators ≡ 0) × (a .inputs ≡ 0) × (a .results ≡ 0)
+abbrev pub ReadKeeps : List ℕ → ReadAnswer → Type 0
+ReadKeeps sheet a = a .refusal ≢ 0 → RowTold sheet (a .refusal) (a .row) × (a .rows ≡ 0) × (a .operators ≡ 0) × (a .inputs ≡ 0) × (a .results ≡ 0)
 
-read-by : (v : Verdict) (f : Figures) → VerdictStated v → ReadKeeps (answerOf (answerBy v f))
+read-by : (sheet : List ℕ) (v : Verdict) (f : Figures) → VerdictRow sheet v → ReadKeeps sheet (answerOf (answerBy v f))
 unfolding answerBy
-read-by passed f s h = absurd (h refl)
-read-by (refused r row) f s h = (s, refl, refl, refl, refl)
+read-by sheet passed f s h = absurd (h refl)
+read-by sheet (refused r row) f s h = ((r, refl, s), refl, refl, refl, refl)
 
-pub read-keeps : (s : List ℕ) → ReadKeeps (answerOf (readingOf s))
+pub read-keeps : (s : List ℕ) → ReadKeeps s (answerOf (readingOf s))
 unfolding readingOf
-read-keeps s = read-by (verdictOf s) (figuresOf s) (verdict-stated s)
+read-keeps s = read-by s (verdictOf s) (figuresOf s) (verdict-row s)
 
-abbrev pub StartKeeps : List ℕ → Begun → Type 0
-StartKeeps m b = b .answer .refusal ≢ 0
-    → RowStated (b .answer .refusal) (b .answer .row) × (b .answer .operators ≡ 0) × (b .answer .inputs ≡ 0) × (b .answer .results ≡ 0) × (b .mem ≡ m)
+abbrev pub StartKeeps : List ℕ → List ℕ → Begun → Type 0
+StartKeeps sheet m b = b .answer .refusal ≢ 0
+    → RowTold sheet (b .answer .refusal) (b .answer .row) × (b .answer .operators ≡ 0) × (b .answer .inputs ≡ 0) × (b .answer .results ≡ 0) × (b .mem ≡ m)
 
-start-by : (v : Verdict) (x : Exp) (capacity : ℕ) (m : List ℕ) → VerdictStated v → StartKeeps m (byVerdict v x capacity m)
+start-by : (sheet : List ℕ) (v : Verdict) (x : Exp) (capacity : ℕ) (m : List ℕ) → VerdictRow sheet v → StartKeeps sheet m (byVerdict v x capacity m)
 unfolding byVerdict
-start-by passed x capacity m s h = absurd (h refl)
-start-by (refused r row) x capacity m s h = (s, refl, refl, refl, refl)
+start-by sheet passed x capacity m s h = absurd (h refl)
+start-by sheet (refused r row) x capacity m s h = ((r, refl, s), refl, refl, refl, refl)
 
-pub start-keeps : (sheet : List ℕ) (capacity : ℕ) (m : List ℕ) → StartKeeps m (started sheet capacity m)
+pub start-keeps : (sheet : List ℕ) (capacity : ℕ) (m : List ℕ) → StartKeeps sheet m (started sheet capacity m)
 unfolding started
 start-keeps sheet capacity m =
-    either (StartKeeps m) (short-asked capacity m) _ _ (λ h. (inl refl, refl, refl, refl, refl))
-    (either (StartKeeps m) (leb 1 capacity && leb capacity 16) _ _
-    (start-by (verdictOf sheet) (formulaOf sheet) capacity m (verdict-stated sheet))
-    (λ h. (inl refl, refl, refl, refl, refl)))
+    either (StartKeeps sheet m) (short-asked capacity m) _ _ (λ h. ((Memory, refl, refl), refl, refl, refl, refl))
+    (either (StartKeeps sheet m) (leb 1 capacity && leb capacity 16) _ _
+    (start-by sheet (verdictOf sheet) (formulaOf sheet) capacity m (verdict-row sheet))
+    (λ h. ((Capacity, refl, refl), refl, refl, refl, refl)))
 
-abbrev pub EvaluateKeeps : List ℕ → Evaluated → Type 0
-EvaluateKeeps out e = e .answer .refusal ≢ 0
-    → RowStated (e .answer .refusal) (e .answer .row) × (e .answer .width ≡ 0) × (e .answer .rounds ≡ 0) × (e .out ≡ out)
+abbrev pub EvaluateKeeps : List ℕ → List ℕ → Evaluated → Type 0
+EvaluateKeeps sheet out e = e .answer .refusal ≢ 0
+    → RowTold sheet (e .answer .refusal) (e .answer .row) × (e .answer .width ≡ 0) × (e .answer .rounds ≡ 0) × (e .out ≡ out)
 
-told-by : (v : Verdict) (e : Evaluation) (out : List ℕ) → VerdictStated v → EvaluateKeeps out (told v e out)
+told-by : (sheet : List ℕ) (v : Verdict) (e : Evaluation) (out : List ℕ) → VerdictRow sheet v → EvaluateKeeps sheet out (told v e out)
 unfolding told
-told-by passed e out s h = absurd (h refl)
-told-by (refused r row) e out s h = (s, refl, refl, refl)
+told-by sheet passed e out s h = absurd (h refl)
+told-by sheet (refused r row) e out s h = ((r, refl, s), refl, refl, refl)
 
-concluded-stated : (rounds : ℕ) (o : Ended) → VerdictStated (concluded rounds o .verdict)
+concluded-row : (sheet : List ℕ) (rounds : ℕ) (o : Ended) → VerdictRow sheet (concluded rounds o .verdict)
 unfolding concluded
-concluded-stated rounds (yields vs left) = tt
-concluded-stated rounds Ended.unfinished = inl refl
+concluded-row sheet rounds (yields vs left) = tt
+concluded-row sheet rounds Ended.unfinished = refl
 
-set-stated : (x : Exp) (rounds : ℕ) (o : Option (List Value)) → VerdictStated (evaluatedWith x rounds o .verdict)
-set-stated x rounds (some vs) = concluded-stated rounds (evalE x (inputsHold (freeE x) vs) rounds)
-set-stated x rounds none = inl refl
+set-row : (sheet : List ℕ) (x : Exp) (rounds : ℕ) (o : Option (List Value)) → VerdictRow sheet (evaluatedWith x rounds o .verdict)
+set-row sheet x rounds (some vs) = concluded-row sheet rounds (evalE x (inputsHold (freeE x) vs) rounds)
+set-row sheet x rounds none = refl
 
-after-stated : (v : Verdict) (e : Evaluation) → VerdictStated v → VerdictStated (e .verdict) → VerdictStated (afterVerdict v e .verdict)
-after-stated passed e a b = b
-after-stated (refused r row) e a b = a
+after-row : (sheet : List ℕ) (v : Verdict) (e : Evaluation) → VerdictRow sheet v → VerdictRow sheet (e .verdict) → VerdictRow sheet (afterVerdict v e .verdict)
+after-row sheet passed e a b = b
+after-row sheet (refused r row) e a b = a
 
-evaluation-stated : (sheet set : List ℕ) (rounds : ℕ) → VerdictStated (evaluationOf sheet set rounds .verdict)
+evaluation-row : (sheet set : List ℕ) (rounds : ℕ) → VerdictRow sheet (evaluationOf sheet set rounds .verdict)
 unfolding evaluationOf evaluated
-evaluation-stated sheet set rounds =
-    after-stated (verdictOf sheet) (evaluated (formulaOf sheet) set rounds) (verdict-stated sheet)
-    (set-stated (formulaOf sheet) rounds (setValues (length (inputsIn (formulaOf sheet))) set))
+evaluation-row sheet set rounds =
+    after-row sheet (verdictOf sheet) (evaluated (formulaOf sheet) set rounds) (verdict-row sheet)
+    (set-row sheet (formulaOf sheet) rounds (setValues (length (inputsIn (formulaOf sheet))) set))
 
-pub evaluate-keeps : (sheet set : List ℕ) (rounds : ℕ) (out : List ℕ) → EvaluateKeeps out (handedOut sheet set rounds out)
+pub evaluate-keeps : (sheet set : List ℕ) (rounds : ℕ) (out : List ℕ) → EvaluateKeeps sheet out (handedOut sheet set rounds out)
 unfolding handedOut
 evaluate-keeps sheet set rounds out =
-    either (EvaluateKeeps out) (no-room out) _ _ (λ h. (inl refl, refl, refl, refl))
-    (told-by (evaluationOf sheet set rounds .verdict) (evaluationOf sheet set rounds) out (evaluation-stated sheet set rounds))
+    either (EvaluateKeeps sheet out) (no-room out) _ _ (λ h. ((Memory, refl, refl), refl, refl, refl))
+    (told-by sheet (evaluationOf sheet set rounds .verdict) (evaluationOf sheet set rounds) out (evaluation-row sheet set rounds))

@@ -15,9 +15,10 @@ use Rattle.evaluate.specs.Handed.{handedOut}
 use Rattle.calls.specs.Calls.{pushed, fired, ran, taken}
 use Rattle.start.specs.Start.{started}
 use Rattle.refusals.specs.FirstRefusal.{Row, first-refusal, Named, Among, numbers, NoneHolds, FirstHolds, accepted-exactly, refused-exactly, first-among, first-named}
-use Rattle.refusals.specs.Conditions.{pushTable, fireTable, runTable, takeTable, sheetTable, startTable, evaluateTable, sheetNumbers, pushNumbers, fireNumbers, runNumbers, takeNumbers, startNumbers, evaluateNumbers, rowNumbers}
+use Rattle.refusals.specs.Conditions.{pushTable, fireTable, runTable, takeTable, sheetTable, startTable, evaluateTable, sheetNumbers, pushNumbers, fireNumbers, runNumbers, takeNumbers, startNumbers, evaluateNumbers}
+use Rattle.refusals.specs.Rows.{RowTold}
 use Rattle.refusals.specs.Exact.{push-exact, fire-exact, run-exact, take-exact, read-exact, start-exact, evaluate-exact}
-use Rattle.refusals.specs.Kept.{RowStated, read-keeps, start-keeps, push-keeps, fire-keeps, run-keeps, take-keeps, evaluate-keeps}
+use Rattle.refusals.specs.Kept.{read-keeps, start-keeps, push-keeps, fire-keeps, run-keeps, take-keeps, evaluate-keeps}
 
 -- The firmware's entry points with what each is lent, in the order of their parameters.
 pub data Call : Type 0 where
@@ -37,15 +38,6 @@ refusalOf (fire m operator) = fired m operator .answer .refusal
 refusalOf (run m firings) = ran m firings .answer .refusal
 refusalOf (take m out) = taken m out .answer .refusal
 refusalOf (evaluate sheet set rounds out) = handedOut sheet set rounds out .answer .refusal
-
-unfoldable pub rowOf : Call → ℕ
-rowOf (read sheet) = answerOf (readingOf sheet) .row
-rowOf (start sheet capacity m) = started sheet capacity m .answer .row
-rowOf (push m set) = 0
-rowOf (fire m operator) = 0
-rowOf (run m firings) = 0
-rowOf (take m out) = 0
-rowOf (evaluate sheet set rounds out) = handedOut sheet set rounds out .answer .row
 
 -- The other numbers of its answer.
 unfoldable pub countsOf : Call → List ℕ
@@ -109,6 +101,16 @@ UsedUp (run m firings) = (ran m firings .answer .refusal ≡ numberOf Unfinished
 UsedUp (take m out) = ⊥
 UsedUp (evaluate sheet set rounds out) = ⊥
 
+-- The row of the answers that have one.
+abbrev pub RowSaid : Call → Type 0
+RowSaid (read sheet) = RowTold sheet (answerOf (readingOf sheet) .refusal) (answerOf (readingOf sheet) .row)
+RowSaid (start sheet capacity m) = RowTold sheet (started sheet capacity m .answer .refusal) (started sheet capacity m .answer .row)
+RowSaid (push m set) = Unit {0}
+RowSaid (fire m operator) = Unit {0}
+RowSaid (run m firings) = Unit {0}
+RowSaid (take m out) = Unit {0}
+RowSaid (evaluate sheet set rounds out) = RowTold sheet (handedOut sheet set rounds out .answer .refusal) (handedOut sheet set rounds out .answer .row)
+
 -- Demand 2's last sentence for every call: its refusal is the first of its table.
 pub call-exact : (c : Call) → refusalOf c ≡ first-refusal (tableOf c)
 unfolding refusalOf tableOf
@@ -134,7 +136,7 @@ pub record RefusedCall (c : Call) : Type 0 where
   pub names : Named (refusalOf c)
   pub own : Among (refusalOf c) (numbersOf c)
   -- "3 to 9 give the lowest row at fault, others row 0"
-  pub row : (rowOf c ≡ 0) ⊎ Among (refusalOf c) rowNumbers
+  pub row : RowSaid c
   -- "hands every lent byte back unaltered, save a run that has used up its lent firings"
   pub back : ((handed-back c ≡ lent c) × AllZero (countsOf c)) ⊎ UsedUp c
 
@@ -155,15 +157,15 @@ one e = λ i. e i ∷ []
 two : {m m′ o o′ : List ℕ} → m′ ≡ m → o′ ≡ o → _≡_ {A = List (List ℕ)} (m′ ∷ o′ ∷ []) (m ∷ o ∷ [])
 two e f = λ i. e i ∷ f i ∷ []
 
-row-told : (c : Call) → refusalOf c ≢ 0 → RowStated (refusalOf c) (rowOf c)
-unfolding refusalOf rowOf
-row-told (read sheet) h = read-keeps sheet h .0
-row-told (start sheet capacity m) h = start-keeps sheet capacity m h .0
-row-told (push m set) h = inl refl
-row-told (fire m operator) h = inl refl
-row-told (run m firings) h = inl refl
-row-told (take m out) h = inl refl
-row-told (evaluate sheet set rounds out) h = evaluate-keeps sheet set rounds out h .0
+row-said : (c : Call) → refusalOf c ≢ 0 → RowSaid c
+unfolding refusalOf
+row-said (read sheet) h = read-keeps sheet h .0
+row-said (start sheet capacity m) h = start-keeps sheet capacity m h .0
+row-said (push m set) h = tt
+row-said (fire m operator) h = tt
+row-said (run m firings) h = tt
+row-said (take m out) h = tt
+row-said (evaluate sheet set rounds out) h = evaluate-keeps sheet set rounds out h .0
 
 bytes-back : (c : Call) → refusalOf c ≢ 0 → ((handed-back c ≡ lent c) × AllZero (countsOf c)) ⊎ UsedUp c
 unfolding refusalOf handed-back lent countsOf
@@ -187,6 +189,6 @@ refused-call c h =
     record {
       names = subst Named (sym (call-exact c)) (first-named (tableOf c) n);
       own = subst (λ (k : ℕ). Among k (numbersOf c)) (sym (call-exact c)) (table-numbers c (first-refusal (tableOf c)) (first-among (tableOf c) n));
-      row = row-told c h;
+      row = row-said c h;
       back = bytes-back c h;
     }
