@@ -1,7 +1,7 @@
 -- What a refused call says and hands back, call by call: demand 1, "hands every lent byte back unaltered, save a run that has used up its lent firings";
 -- document 01, "A refusal's counts and rows are 0 unless stated". Here without the refusals' names, which Refused adds. Assumes nothing.
 use Prim.Native.Nat.{ℕ}
-use mathlib.Core.Path.{_≡_, refl, ap}
+use mathlib.Core.Path.{_≡_, refl, ap, subst}
 use mathlib.Core.Bool.{Bool, true, false, _&&_}
 use mathlib.Core.Logic.{_⊎_, inl, inr, _≢_}
 use mathlib.Core.List.{List}
@@ -34,7 +34,7 @@ use Rattle.calls.specs.CallLaws.{ran-refused}
 use Rattle.start.specs.Start.{Begun, byVerdict, started}
 use Rattle.refusals.specs.Conditions.{no-room, short-asked}
 use Rattle.refusals.specs.Rows.{RowTold, VerdictRow, verdict-row}
-use Rattle.refusals.specs.RunCount.{run-is, run-counts}
+use Rattle.refusals.specs.RunCount.{Firings, run-is, run-counts}
 
 either : {A : Type 0} (P : A → Type 0) (b : Bool) (x y : A) → P x → P y → P (pick b x y)
 either P true x y p q = p
@@ -70,21 +70,27 @@ fire-keeps m i =
     (either (Keeps m) (ltb i (operatorsOf m) && ableAt m (sizeIn m) i) _ _ (keeps-accepted m (firedAt m (sizeIn m) i) 0) (keeps-refused m 34))
     (keeps-refused m (standing m))
 
--- "A run's 36 keeps its firings and gives their count", which is the lent number; 11 and 31 leave the memory.
+-- "A run's 36 keeps its firings and gives their count", which is the lent number: the memory is the one after that many firings.
+abbrev pub UsedUpFirings : List ℕ → ℕ → Type 0
+UsedUpFirings m firings =
+    (ran m firings .answer .refusal ≡ numberOf Unfinished) × (ran m firings .answer .count ≡ firings) × Firings (sizeIn m) (operatorsOf m) firings m (ran m firings .mem)
+
+-- 11 and 31 leave the memory.
 pub run-keeps : (m : List ℕ) (firings : ℕ) → ran m firings .answer .refusal ≢ 0
-    → ((ran m firings .answer .count ≡ 0) × (ran m firings .mem ≡ m))
-    ⊎ ((ran m firings .answer .refusal ≡ numberOf Unfinished) × (ran m firings .answer .count ≡ firings))
+    → ((ran m firings .answer .count ≡ 0) × (ran m firings .mem ≡ m)) ⊎ UsedUpFirings m firings
 run-keeps m firings h = go (ℕ-discrete (standing m) 0)
   where
-    go : Dec (standing m ≡ 0) → ((ran m firings .answer .count ≡ 0) × (ran m firings .mem ≡ m))
-        ⊎ ((ran m firings .answer .refusal ≡ numberOf Unfinished) × (ran m firings .answer .count ≡ firings))
+    go : Dec (standing m ≡ 0) → ((ran m firings .answer .count ≡ 0) × (ran m firings .mem ≡ m)) ⊎ UsedUpFirings m firings
     go (yes st) = used (stillAt (runs (sizeIn m) (operatorsOf m) firings m 0 .mem) (sizeIn m) (operatorsOf m)) refl
       where
         used : (b : Bool) → stillAt (runs (sizeIn m) (operatorsOf m) firings m 0 .mem) (sizeIn m) (operatorsOf m) ≡ b
-            → ((ran m firings .answer .count ≡ 0) × (ran m firings .mem ≡ m))
-            ⊎ ((ran m firings .answer .refusal ≡ numberOf Unfinished) × (ran m firings .answer .count ≡ firings))
+            → ((ran m firings .answer .count ≡ 0) × (ran m firings .mem ≡ m)) ⊎ UsedUpFirings m firings
         used true e = absurd (h (run-is m firings st true e .2))
-        used false e = let r = run-is m firings st false e .2 in inr (r, run-counts m firings st .unfinished r .0)
+        used false e =
+            let r = run-is m firings st false e .2 in
+            let C = run-counts m firings st in
+            let full = C .unfinished r .0 in
+            inr (r, full, subst (λ (k : ℕ). Firings (sizeIn m) (operatorsOf m) k m (ran m firings .mem)) full (C .between))
     go (no n) = let e = ran-refused m firings n in inl (ap (λ (o : Outcome). o .answer .count) e, ap (λ (o : Outcome). o .mem) e)
 
 abbrev KeepsBoth : List ℕ → List ℕ → Handed → Type 0

@@ -7,7 +7,6 @@ use mathlib.Core.Path.{_≡_, refl, sym, _∙_, subst}
 use mathlib.Core.Logic.{_⊎_, inl, inr, _≢_, _↔_}
 use mathlib.Core.List.{List, [], _∷_}
 use Rattle.formula.specs.declared.Refusal.{Refusal}
-use Rattle.formula.specs.declared.Refusal.the-variants.{Unfinished}
 use Rattle.formula.specs.Refusals.{numberOf}
 use Rattle.formula.specs.Tests.{readingOf}
 use Rattle.sheet.specs.Reading.{answerOf}
@@ -18,7 +17,7 @@ use Rattle.refusals.specs.FirstRefusal.{Row, first-refusal, Named, Among
 use Rattle.refusals.specs.Conditions.{pushTable, fireTable, runTable, takeTable, sheetTable, startTable, evaluateTable, sheetNumbers, pushNumbers, fireNumbers, runNumbers, takeNumbers, startNumbers, evaluateNumbers}
 use Rattle.refusals.specs.Rows.{RowTold}
 use Rattle.refusals.specs.Exact.{push-exact, fire-exact, run-exact, take-exact, read-exact, start-exact, evaluate-exact}
-use Rattle.refusals.specs.Kept.{read-keeps, start-keeps, push-keeps, fire-keeps, run-keeps, take-keeps, evaluate-keeps}
+use Rattle.refusals.specs.Kept.{UsedUpFirings, read-keeps, start-keeps, push-keeps, fire-keeps, run-keeps, take-keeps, evaluate-keeps}
 
 -- The firmware's entry points with what each is lent, in the order of their parameters.
 pub data Call : Type 0 where
@@ -91,13 +90,13 @@ abbrev pub AllZero : List ℕ → Type 0
 AllZero [] = Unit {0}
 AllZero (n ∷ ns) = (n ≡ 0) × AllZero ns
 
--- "a run that has used up its lent firings"
+-- "a run that has used up its lent firings": it gives 36 and their number, and the memory is the one after them.
 abbrev pub UsedUp : Call → Type 0
 UsedUp (read sheet) = ⊥
 UsedUp (start sheet capacity m) = ⊥
 UsedUp (push m set) = ⊥
 UsedUp (fire m operator) = ⊥
-UsedUp (run m firings) = (ran m firings .answer .refusal ≡ numberOf Unfinished) × (ran m firings .answer .count ≡ firings)
+UsedUp (run m firings) = UsedUpFirings m firings
 UsedUp (take m out) = ⊥
 UsedUp (evaluate sheet set rounds out) = ⊥
 
@@ -176,7 +175,7 @@ bytes-back (fire m operator) h = let k = fire-keeps m operator h in inl (one (k 
 bytes-back (run m firings) h = go (run-keeps m firings h)
   where
     go : ((ran m firings .answer .count ≡ 0) × (ran m firings .mem ≡ m))
-        ⊎ ((ran m firings .answer .refusal ≡ numberOf Unfinished) × (ran m firings .answer .count ≡ firings))
+        ⊎ UsedUpFirings m firings
         → ((handed-back (run m firings) ≡ lent (run m firings)) × AllZero (countsOf (run m firings))) ⊎ UsedUp (run m firings)
     go (inl k) = inl (one (k .1), (k .0, tt))
     go (inr k) = inr k
