@@ -1,4 +1,4 @@
--- The example sheets of document 01, as text.
+-- The example sheets of document 01, "Program and readings" and "Marked for proof", as text. Assumes nothing.
 use Prim.Native.Nat.{ℕ, zero, suc}
 use Prim.Native.String.{String, [] as endS, _∷_ as _∷S_}
 use Prim.Native.Char as Char
