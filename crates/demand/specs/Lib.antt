@@ -8,4 +8,5 @@ pub mod OnMemory
 pub mod Agreed
 pub mod Started
 pub mod Demand3
+pub mod Pushes
 pub mod LesserStarts
