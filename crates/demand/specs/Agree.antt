@@ -8,7 +8,7 @@ use mathlib.Core.Option.{some}
 use lib.Dec.{ltb}
 use lib.ListN.{length, drop}
 use Rattle.value.specs.declared.Value.{Value}
-use Rattle.network.specs.Net.{Token, Links, Able, act, label}
+use Rattle.network.specs.Net.{Links, Able, act, label}
 use Rattle.formula.specs.Tree.{Exp}
 use Rattle.graph.specs.Translation.{madeOf}
 use Rattle.eval.specs.Evaluate.{cellsOf, setValues}

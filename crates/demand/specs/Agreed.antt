@@ -1,8 +1,8 @@
 -- The laws of `CallsAgree`, each from where it is proved: fire and run from crate view, push and take from crate ends, good standing and the sound graph
 -- from crate begin. Assumes an accepted sheet and a capacity of 1 to 16.
-use Prim.Native.Nat.{ℕ, _≤_, _<_}
+use Prim.Native.Nat.{ℕ, _≤_}
 use mathlib.Core.Path.{_≡_, sym, ap, _∙_}
-use mathlib.Core.Bool.{true, _&&_}
+use mathlib.Core.Bool.{true}
 use mathlib.Core.List.{List, _++_}
 use lib.Dec.{ltb}
 use lib.ListN.{length, drop}
@@ -13,7 +13,7 @@ use Rattle.formula.specs.Tests.{verdictOf}
 use Rattle.graph.specs.Translation.{madeOf}
 use Rattle.layout.specs.Layout.{sizeOf, resultsOf, untakenOf}
 use Rattle.valid.specs.Below.{allBelow, and-left, and-right, and-both}
-use Rattle.calls.specs.Calls.{roomsOk, resultReady, written}
+use Rattle.calls.specs.Calls.{resultReady, written}
 use Rattle.eval.specs.Evaluate.{cellsOf}
 use Rattle.verdicts.specs.Running.{places, takeOf}
 use Rattle.view.specs.Sound.{Sound}

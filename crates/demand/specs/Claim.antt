@@ -40,7 +40,7 @@ pub record OwnVerdicts (sheet : List ℕ) (capacity : ℕ) (start : List ℕ) (c
   -- each operator would get 34; a whole result is ready when a take would be accepted." The fires are lent the whole memory; the take any number of bytes that
   -- a machine needs, and room for its result.
   pub ready : ((i : ℕ) → i < operatorsOf (memoryAfterAll calls start)
-      → answerOf (fire (length (memoryAfterAll calls start)) i) (memoryAfterAll calls start) ≡ answers (numberOf NotAble) 0)
+      → answerOf (fire (length (memoryAfterAll calls start)) i) (memoryAfterAll calls start) .refusal ≡ numberOf NotAble)
       → (length (resultsTaken calls start) ≡ length (setsPushed calls start))
       ⊎ ((lent : ℕ) (out : List ℕ) → need (sizeOf capacity) ≤ lent → 80 ≤ length out → answerOf (take lent out) (memoryAfterAll calls start) .refusal ≡ 0)
   -- 31 "never given for a machine that start made and nothing but its calls has touched since"

@@ -1,6 +1,6 @@
 -- DEMAND 3 ON REAL MEMORY. "A beacon's verdict comes from its own readings and nobody else's." What it says of a list of calls is the record `OwnVerdicts`
--- (Claim), field by field in the demand's words; what the calls do to the lent bytes are the definitions that the contracts of bench_start, bench_push,
--- bench_fire, bench_run and bench_take cite. Assumes an accepted start and nothing else.
+-- (Claim), field by field in the demand's words. What the calls do to the lent bytes are the definitions that the contracts of bench_push, bench_fire, bench_run
+-- and bench_take cite; start is start/specs/Start `started`. Assumes an accepted start and nothing else.
 use Prim.Native.Nat.{ℕ, _≤_, _<_}
 use mathlib.Core.Path.{_≡_, sym, subst}
 use mathlib.Core.Logic.{_≢_}

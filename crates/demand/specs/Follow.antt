@@ -1,7 +1,7 @@
 -- Each call on bytes is none or one call of the abstract machine (verdicts/specs/Running): a refused call is none, an accepted push, fire or take and
 -- every run that was lent enough is one; the memory stands afterwards with the links as the abstract call leaves them, the set pushed and the result taken are the
 -- abstract ones in bytes, and 31 is never answered. Assumes the laws of `CallsAgree`.
-use Prim.Native.Nat.{ℕ, zero, suc, _+_, _-_, _*_, _≤_, _<_}
+use Prim.Native.Nat.{ℕ, zero, suc, _+_, _≤_, _<_}
 use mathlib.Core.Path.{_≡_, refl, sym, ap, ap₂, subst, _∙_}
 use mathlib.Core.Logic.{_≢_}
 use mathlib.Core.Bool.{Bool, true, false, cond}
@@ -10,13 +10,11 @@ use mathlib.Core.Option.{Option, none, some}
 use native.Mathlib.Omega.{arith}
 use native.Mathlib.Decide.{decLt}
 use borrow.Author.Tests.{eq-eqb, ne-eqb, ltb-true}
-use lib.Dec.{eqb, ltb}
-use lib.ListN.{length, drop, take as firstOf, replicate, take-append-drop, length-append, length-replicate, length-map}
+use lib.Dec.{ltb}
+use lib.ListN.{length, drop, take as firstOf, take-append-drop}
 use lib.Seq.{take-at}
 use Rattle.value.specs.declared.Value.{Value}
-use Rattle.value.specs.declared.Value.the-variants.{Err}
 use Rattle.value.specs.Operators.{pick}
-use Rattle.value.specs.Bytes.{bytesOf, wordBytes}
 use Rattle.network.specs.Net.{Token, Demand, ask, fire as emits, Links, head, pop, Able, act, label}
 use Rattle.network.specs.Ends.{collect}
 use Rattle.pieces.specs.Tape.{Step, pushing, firing, taking, sets-of}
@@ -24,8 +22,7 @@ use Rattle.formula.specs.Tree.{Exp}
 use Rattle.formula.specs.declared.Refusal.the-variants.{Memory, Set, Untaken, Full, NotAble, NoResult, Unfinished, Altered}
 use Rattle.formula.specs.Refusals.{numberOf}
 use Rattle.graph.specs.Translation.{madeOf}
-use Rattle.eval.specs.declared.Cell.{Cell}
-use Rattle.eval.specs.Evaluate.{cell, cellsOf, setValues}
+use Rattle.eval.specs.Evaluate.{cellsOf, setValues}
 use Rattle.layout.specs.Layout.{sizeOf, need, operatorsOf, inputsOf, resultsOf, untakenOf}
 use Rattle.machine.specs.Fire.{ableAt, firedAt}
 use Rattle.valid.specs.Below.{allBelow}
@@ -35,11 +32,10 @@ use Rattle.calls.specs.CallLaws.{pushed-refused, fired-refused, ran-refused, ta
 use Rattle.verdicts.specs.Owed.{creditLink}
 use Rattle.verdicts.specs.ResultSets.{valuesIn}
 use Rattle.verdicts.specs.Running as Abstract
-use Rattle.verdicts.specs.Running.{places, operatorAt, pushOf, takeOf, decAble, pushes, fires, takes, demandOf, afterSteps, handed, accept, leastAble, onward, runSteps, stepsOf, stepsFrom}
-use Rattle.view.specs.Sound.{Sound}
+use Rattle.verdicts.specs.Running.{places, operatorAt, pushOf, takeOf, decAble, pushes, fires, takes, afterSteps, handed, accept, leastAble, onward, runSteps, stepsOf, stepsFrom}
 use Rattle.view.specs.Stands.{Stands}
-use Rattle.demand.specs.MemoryCalls.{Call, push, fire, run, take, Result, result, accepted, answerOf, memoryAfter, setOf, resultOf, memoryAfterAll, answersOf, setsPushed, resultsTaken}
-use Rattle.ends.specs.ResultBytes.{cellBytes, resultBytes, cells-result, length-result}
+use Rattle.demand.specs.MemoryCalls.{Call, push, fire, run, take, Result, result, accepted, answerOf, memoryAfter, setOf, resultOf}
+use Rattle.ends.specs.ResultBytes.{cellBytes, cells-result, length-result}
 use Rattle.ends.specs.Sets.{values-set}
 use Rattle.demand.specs.Evaluations.{shown}
 use Rattle.begin.specs.Lent.{stands-lent, stands-behind, short-refused}

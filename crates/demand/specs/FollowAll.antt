@@ -19,7 +19,7 @@ use Rattle.calls.specs.Calls.{answers}
 use Rattle.verdicts.specs.Running as Abstract
 use Rattle.verdicts.specs.Running.{operatorAt, pushOf, takeOf, demandOf, afterSteps, handed, stepsOf, stepsFrom}
 use Rattle.view.specs.Stands.{Stands}
-use Rattle.demand.specs.MemoryCalls.{Call, Result, answerOf, memoryAfter, setOf, resultOf, memoryAfterAll, answersOf, setsPushed, resultsTaken}
+use Rattle.demand.specs.MemoryCalls.{Call, Result, memoryAfter, setOf, resultOf, memoryAfterAll, answersOf, setsPushed, resultsTaken}
 use Rattle.demand.specs.Agree.{CallsAgree}
 use Rattle.demand.specs.Follow.{EachRead, shownTokens, Follows, follows-none, call-follows}
 

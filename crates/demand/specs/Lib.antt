@@ -8,5 +8,6 @@ pub mod OnMemory
 pub mod Agreed
 pub mod Started
 pub mod Demand3
+pub mod Oldest
 pub mod Pushes
 pub mod LesserStarts

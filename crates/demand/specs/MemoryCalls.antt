@@ -2,7 +2,7 @@
 -- the bytes and numbers that the firmware lends it. What a call does is calls/specs/Calls (`pushed`, `fired`, `ran`, `taken`), the very definitions with
 -- which the contracts of bench_push, bench_fire, bench_run and bench_take are equations. Definitions only; assumes nothing.
 use Prim.Native.Nat.{ℕ}
-use mathlib.Core.Bool.{Bool, true, false, cond}
+use mathlib.Core.Bool.{Bool, cond}
 use mathlib.Core.List.{List, [], _∷_, _++_}
 use lib.Dec.{eqb}
 use lib.ListN.{drop, take as firstOf}

@@ -4,19 +4,18 @@
 use Prim.Native.Nat.{ℕ, zero, suc, _≤_, _<_}
 use mathlib.Core.Path.{_≡_, refl, sym, ap, ap₂, subst, _∙_}
 use mathlib.Core.Logic.{_⊎_, inl, inr}
-use mathlib.Core.Bool.{Bool, true, false}
+use mathlib.Core.Bool.{true}
 use mathlib.Core.List.{List, [], _∷_, map}
 use mathlib.Core.Option.{some}
 use native.Mathlib.Omega.{arith}
 use native.Mathlib.Decide.{decLt}
 use borrow.Author.Tests.{lt-ltb}
-use lib.Dec.{ltb}
 use lib.ListN.{length, getD, take as firstOf, length-map}
 use lib.Seq.{take-length}
 use Rattle.value.specs.declared.Value.{Value}
 use Rattle.network.specs.Net.{Token, Links, Able}
 use Rattle.pieces.specs.Sets.{tokens-of}
-use Rattle.pieces.specs.Tape.{Step, firing, taking, sets-of}
+use Rattle.pieces.specs.Tape.{Step, firing, taking}
 use Rattle.formula.specs.declared.Verdict.the-variants.{Passed}
 use Rattle.formula.specs.declared.Refusal.the-variants.{NotAble}
 use Rattle.formula.specs.Refusals.{numberOf}
@@ -26,19 +25,19 @@ use Rattle.formula.specs.Tests.{verdictOf}
 use Rattle.graph.specs.Translation.{madeOf}
 use Rattle.wiring.specs.Machine.{net-past}
 use Rattle.eval.specs.Evaluate.{setValues, evaluationOf}
-use Rattle.layout.specs.Layout.{operatorsOf, resultsOf, untakenOf, sizeOf, need}
+use Rattle.layout.specs.Layout.{operatorsOf, sizeOf, need}
 use Rattle.machine.specs.Fire.{ableAt}
 use Rattle.valid.specs.Below.{allBelow}
 use Rattle.calls.specs.declared.Answer.{Answer}
-use Rattle.calls.specs.Calls.{answers, sizeIn, resultReady, fired, taken}
+use Rattle.calls.specs.Calls.{answers, resultReady, fired, taken}
 use Rattle.calls.specs.CallLaws.{fired-accepted, taken-accepted}
 use Rattle.verdicts.specs.Results.{EndsWith}
 use Rattle.verdicts.specs.ResultSets.{valuesIn}
 use Rattle.verdicts.specs.Running as Abstract
-use Rattle.verdicts.specs.Running.{places, operatorAt, takeOf, startOf, decAble, fires, takes, afterSteps, handed, accept, stepsOf, stepsFrom}
+use Rattle.verdicts.specs.Running.{places, operatorAt, takeOf, startOf, decAble, fires, accept, stepsOf}
 use Rattle.verdicts.specs.Verdicts as Verdicts
 use Rattle.view.specs.Stands.{Stands}
-use Rattle.demand.specs.MemoryCalls.{Call, fire, take, Result, result, answerOf, memoryAfterAll, answersOf, setsPushed, resultsTaken}
+use Rattle.demand.specs.MemoryCalls.{Call, fire, take, Result, result, answerOf, memoryAfterAll, setsPushed, resultsTaken}
 use Rattle.demand.specs.Claim.{Enough, Ends, yielded, OwnVerdicts}
 use Rattle.demand.specs.Evaluations.{shown, enough-yields}
 use Rattle.begin.specs.Lent.{stands-lent}
@@ -129,7 +128,7 @@ module _ (sheet : List ℕ) (ok : verdictOf sheet ≡ Passed) (capacity : ℕ) (
 
   -- ---- when nothing can fire
 
-  module _ (still : (i : ℕ) → i < operatorsOf memory → answerOf (fire (length memory) i) memory ≡ answers (numberOf NotAble) 0) where
+  module _ (still : (i : ℕ) → i < operatorsOf memory → answerOf (fire (length memory) i) memory .refusal ≡ numberOf NotAble) where
     able-fires : (i : ℕ) → i < length (madeOf x .operators) → ableAt memory (sizeOf capacity) i ≡ true → answerOf (fire (length memory) i) memory ≡ answers 0 0
     unfolding answerOf
     able-fires i l a =
@@ -144,8 +143,8 @@ module _ (sheet : List ℕ) (ok : verdictOf sheet ≡ Passed) (capacity : ℕ) (
       where
         go : Dec (i < length (madeOf x .operators)) → ⊥
         go (yes l) =
-            let e = sym (still i (omega (arith, F .stands .operators-are))) ∙ able-fires i l (A .able-bytes memory links (F .stands) i l a) in
-            let z : numberOf NotAble ≡ 0 = ap (λ (r : Answer). r .refusal) e in
+            let z : numberOf NotAble ≡ 0
+            = sym (still i (omega (arith, F .stands .operators-are))) ∙ ap (λ (r : Answer). r .refusal) (able-fires i l (A .able-bytes memory links (F .stands) i l a)) in
             absurd (omega arith)
         go (no n) = subst (λ d. Able (places capacity) d links) (net-past (madeOf x .operators) i (omega arith)) a
 

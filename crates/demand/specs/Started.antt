@@ -1,8 +1,7 @@
 -- What an accepted start says (start/specs/Start `started`): the sheet is accepted, the capacity is one of 1 to 16, the memory is as long as a machine
 -- needs, and its bytes are the started memory's. And where the first three hold, start accepts. Assumes nothing.
-use Prim.Native.Nat.{ℕ, suc, _≤_, _<_}
-use mathlib.Core.Path.{_≡_, refl, sym, ap, _∙_}
-use mathlib.Core.Logic.{_≢_}
+use Prim.Native.Nat.{ℕ, _≤_}
+use mathlib.Core.Path.{_≡_, refl}
 use mathlib.Core.Bool.{Bool, true, false, _&&_}
 use mathlib.Core.List.{List}
 use native.Mathlib.Omega.{arith}
