@@ -1,0 +1,6 @@
+pub mod FormedGraphs
+pub mod MadeSound
+pub mod StandsValid
+pub mod Lent
+pub mod WrittenRecords
+pub mod StartedStands

@@ -1,0 +1,7 @@
+pub mod Sets
+pub mod ResultBytes
+pub mod PushLinks
+pub mod TakeLinks
+pub mod Credit
+pub mod Push
+pub mod Take

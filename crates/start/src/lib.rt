@@ -1,0 +1,84 @@
+// Starting a machine: the header's figures and names, and the links emptied (document 01, "Running":
+// "Start takes a link capacity of 1 to 16"). The definitions are specs/Start; each contract is an
+// equation on the answer and on every lent byte.
+use formula::Refusal;
+ghost use mathlib.Core.Path.{_≡_};
+ghost use Prim.Native.Nat.{ℕ, _+_, _*_, _≤_, _<_};
+ghost use lib.ListN.{length};
+ghost use Rattle.layout.specs.Layout.{need, capacityIn};
+ghost use Rattle.start.specs.Start.{refusal, figured, named, emptied};
+
+// Start's answer: document 01's number of a refusal, 0 where accepted; its row; the figures of the
+// graph, 0 on a refusal.
+#[repr(C)]
+pub struct StartAnswer {
+    pub refusal: u32,
+    pub row: u32,
+    pub operators: u32,
+    pub inputs: u32,
+    pub results: u32,
+}
+
+fn refused(r: Refusal, row: u32) -> StartAnswer
+    ensures { λ a. ⌜ a ≡ refusal r row ⌝ }
+{
+    StartAnswer {
+        refusal: formula::refusal_number(r),
+        row,
+        operators: 0,
+        inputs: 0,
+        results: 0,
+    }
+}
+
+// The capacity by which the need is reckoned: 1 where the one asked is outside 1..16.
+fn capacity_asked(capacity: u32) -> usize
+    ensures { λ r. ⌜ (r ≡ capacityIn capacity) × (1 ≤ r) × (r ≤ 16) ⌝ }
+{
+    if capacity < 1 {
+        return 1;
+    }
+    if 16 < capacity {
+        return 1;
+    }
+    capacity as usize
+}
+
+// Writes the header's figures: no set is untaken.
+fn store_figures(mem: &mut [u8], capacity: u8, operators: u16, links: u16, inputs: u8, results: u8, trigger: u16)
+    requires { ⌜ 10 ≤ length (now mem) ⌝ }
+    ensures { λ _. ⌜ now (mem .exit) ≡ figured (now (mem .entry)) capacity operators links inputs results trigger ⌝ }
+{
+    mem[0] = capacity;
+    layout::store_number(mem, 1, operators);
+    layout::store_number(mem, 3, links);
+    mem[5] = inputs;
+    mem[6] = results;
+    mem[7] = 0;
+    layout::store_number(mem, 8, trigger);
+}
+
+// Writes the first k of some links from a place of the header on.
+fn store_names(mem: &mut [u8], at: usize, links: &[u16], k: usize)
+    requires { ⌜ (k ≤ 32) × (k ≤ length (now links)) × (at < 256) × (at + 2 * k ≤ length (now mem)) ⌝ }
+    ensures { λ _. ⌜ now (mem .exit) ≡ named k (now (mem .entry)) at (now (links .entry)) ⌝ }
+{
+    let mut j = 0;
+    while j < k {
+        layout::store_number(mem, at + 2 * j, links[j]);
+        j += 1;
+    }
+}
+
+// Empties the first k links.
+fn empty_links(mem: &mut [u8], size: usize, k: usize)
+    requires { ⌜ (1 ≤ size) × (size ≤ 81) × (need size ≤ length (now mem)) × (k ≤ 3105) ⌝ }
+    ensures { λ _. ⌜ now (mem .exit) ≡ emptied k size (now (mem .entry)) ⌝ }
+{
+    let mut l = 0;
+    while l < k {
+        let at = layout::link_at(size, l);
+        mem[at] = 0;
+        l += 1;
+    }
+}
