@@ -253,13 +253,12 @@ static void links_and_tokens(void) {
 }
 
 static void lengths(void) {
-    uint8_t nothing[1] = {0};
     uint8_t out[BENCH_RESULT_BYTES] = {0};
-    expect("push, no memory", bench_push(nothing, 0, five, sizeof five).refusal, BENCH_MEMORY);
-    expect("fire, no memory", bench_fire(nothing, 0, 0).refusal, BENCH_MEMORY);
-    expect("run, no memory", bench_run(nothing, 0, 1).refusal, BENCH_MEMORY);
-    expect("take, no memory", bench_take(nothing, 0, out, sizeof out).refusal, BENCH_MEMORY);
-    expect("start, no memory", bench_start((const uint8_t *)pair, sizeof pair - 1, 1, nothing, 0).refusal, BENCH_MEMORY);
+    expect("push, no memory", bench_push(NULL, 0, five, sizeof five).refusal, BENCH_MEMORY);
+    expect("fire, no memory", bench_fire(NULL, 0, 0).refusal, BENCH_MEMORY);
+    expect("run, no memory", bench_run(NULL, 0, 1).refusal, BENCH_MEMORY);
+    expect("take, no memory", bench_take(NULL, 0, out, sizeof out).refusal, BENCH_MEMORY);
+    expect("start, no memory", bench_start((const uint8_t *)pair, sizeof pair - 1, 1, NULL, 0).refusal, BENCH_MEMORY);
     for (uint32_t capacity = 1; capacity <= 16; capacity++) {
         begin(factorial, capacity);
         length--;

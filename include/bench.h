@@ -5,7 +5,7 @@
  * (bench_start) and then driven by pushes, firings, runs and takes. No call keeps anything but what stands in that memory: there is no
  * heap and no global. Every call always returns, for any bytes and any numbers.
  *
- * Lent memory. A pointer goes with its length in bytes; a length of 0 goes with any pointer that is not NULL. The stretches lent to one
+ * Lent memory. A pointer goes with its length in bytes; a length of 0 goes with any pointer, NULL included. The stretches lent to one
  * call must not overlap, and nothing else may write them during the call. That is all that is asked of a caller: whatever the bytes are,
  * a call touches none outside of them.
  *
