@@ -4,6 +4,7 @@ use Prim.Native.Nat.{ℕ, zero, suc}
 use mathlib.Core.Path.{_≡_, refl}
 use mathlib.Core.Bool.{Bool, true, false}
 use mathlib.Core.List.{List, [], _∷_, _++_, map}
+use native.Mathlib.Decide.{ℕ-discrete}
 use lib.IntN.{pos}
 use lib.ListN.{length, replicate}
 use Rattle.value.specs.declared.Value.{Value}
@@ -19,8 +20,12 @@ use Rattle.formula.specs.Tree.{formulaOf}
 use Rattle.formula.specs.Count.{countE}
 use Rattle.formula.specs.Tests.{fewRows, readingOf}
 use Rattle.graph.specs.Translation.{madeOf}
+use Rattle.network.specs.Net.{append}
 use Rattle.eval.specs.declared.Evaluation.{Evaluation}
 use Rattle.eval.specs.Evaluate.{cell, refused, evaluationOf}
+use Rattle.reference.specs.Marks.{marks}
+use Rattle.verdicts.specs.Running.{startOf}
+use Rattle.demand.specs.Pushes.{pushRefusals}
 use Rattle.examples.specs.Sheets.{bytes, lesser, twice, factorial, iterAlone, letUnused, alike, constantRow}
 
 -- What can be asked of the definitions.
@@ -34,12 +39,16 @@ pub data Question : Type 0 where
   made : List ℕ → Question
   -- a sheet, a set, and the rounds lent
   evaluation : List ℕ → List Value → ℕ → Question
+  -- a sheet, a capacity, a set, and how often it is pushed from the start
+  pushes : List ℕ → ℕ → List Value → ℕ → Question
 
 pub data Answer : Type 0 where
   says : Reading → Answer
   passes : Bool → Answer
   operators : ℕ → Answer
   evaluates : Evaluation → Answer
+  -- what each push answers, 0 where it is accepted
+  refusals : List ℕ → Answer
 
 -- A set in the byte form.
 unfoldable pub setBytes : List Value → List ℕ
@@ -48,12 +57,13 @@ setBytes [] = []
 setBytes (v ∷ vs) = bytesOf v ++ setBytes vs
 
 unfoldable pub got : Question → Answer
-unfolding readingOf countE formulaOf madeOf evaluationOf setBytes
+unfolding readingOf countE formulaOf madeOf evaluationOf setBytes pushRefusals marks append ℕ-discrete
 got (reading s) = says (readingOf s)
 got (test-2 s) = passes (fewRows s)
 got (counted s) = operators (countE (formulaOf s) .operators)
 got (made s) = operators (length (madeOf (formulaOf s) .operators))
 got (evaluation s vs rounds) = evaluates (evaluationOf s (setBytes vs) rounds)
+got (pushes s capacity vs k) = refusals (pushRefusals (formulaOf s) capacity vs k (startOf (formulaOf s)))
 
 pub record Case : Type 0 where
   pub asks : Question
@@ -75,14 +85,21 @@ one v k = evaluates (record { cells = cell v ∷ replicate 15 (cell Err); width 
 abbrev refusal : Refusal → Answer
 refusal r = evaluates (refused r 0)
 
+abbrev pub threeAndFive : List Value
+threeAndFive = number 3 ∷ number 5 ∷ []
+
 unfoldable pub cases : List Case
 unfolding bytes lesser twice factorial iterAlone letUnused alike constantRow
 cases =
+    -- "sixteen pushes at capacity 16 pass, the seventeenth gives 32": on the links; the same on the machine's memory is Pushed's
+    case (pushes (bytes lesser) 16 threeAndFive 17) (refusals (replicate 16 0 ++ 32 ∷ []))
+    -- at capacity 1 the second already finds the input links full
+    ∷ case (pushes (bytes lesser) 1 threeAndFive 2) (refusals (0 ∷ 33 ∷ []))
     -- "this graph has 8 operators", by the count and by the translation
-    case (counted (bytes lesser)) (operators 8)
+    ∷ case (counted (bytes lesser)) (operators 8)
     ∷ case (made (bytes lesser)) (operators 8)
     -- "each of the four results"
-    ∷ case (evaluation (bytes lesser) (number 3 ∷ number 5 ∷ []) 0) (one (number 3) 0)
+    ∷ case (evaluation (bytes lesser) threeAndFive 0) (one (number 3) 0)
     ∷ case (evaluation (bytes lesser) (number 7 ∷ number 7 ∷ []) 0) (one (number 7) 0)
     ∷ case (evaluation (bytes lesser) (Err ∷ number 2 ∷ []) 0) (one Err 0)
     ∷ case (evaluation (bytes lesser) (Truth true ∷ number 1 ∷ []) 0) (one Err 0)

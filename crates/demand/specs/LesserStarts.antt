@@ -4,7 +4,7 @@ use Prim.Native.Nat.{ℕ}
 use mathlib.Core.Path.{_≡_, refl}
 use mathlib.Core.List.{List}
 use lib.ListN.{replicate}
-use Rattle.cases.specs.Sheets.{bytes, lesser}
+use Rattle.examples.specs.Sheets.{bytes, lesser}
 use Rattle.formula.specs.declared.Refusal.the-variants.{Memory, Capacity}
 use Rattle.formula.specs.Refusals.{numberOf}
 use Rattle.formula.specs.Tests.{verdictOf}

@@ -9,4 +9,5 @@ pub mod Agreed
 pub mod Started
 pub mod Demand3
 pub mod Oldest
+pub mod Pushes
 pub mod LesserStarts

@@ -1,11 +1,11 @@
 -- What an accepted start says (start/specs/Start `started`): the sheet is accepted, the capacity is one of 1 to 16, the memory is as long as a machine
--- needs, and its bytes are the started memory's. Assumes nothing.
+-- needs, and its bytes are the started memory's. And where the first three hold, start accepts. Assumes nothing.
 use Prim.Native.Nat.{ℕ, _≤_}
 use mathlib.Core.Path.{_≡_, refl}
 use mathlib.Core.Bool.{Bool, true, false, _&&_}
 use mathlib.Core.List.{List}
 use native.Mathlib.Omega.{arith}
-use borrow.Author.Tests.{ltb-false, leb-true}
+use borrow.Author.Tests.{ltb-false, leb-true, le-leb, le-ltb}
 use lib.Dec.{ltb, leb}
 use lib.ListN.{length}
 use Rattle.value.specs.Operators.{pick}
@@ -18,7 +18,7 @@ use Rattle.formula.specs.Tree.{formulaOf}
 use Rattle.formula.specs.Tests.{verdictOf}
 use Rattle.graph.specs.Translation.{madeOf}
 use Rattle.layout.specs.Layout.{sizeOf, need, capacityIn}
-use Rattle.valid.specs.Below.{and-left, and-right}
+use Rattle.valid.specs.Below.{and-left, and-right, and-both}
 use Rattle.start.specs.Start.{begun, refusal, startedMemory, byVerdict, started}
 
 -- Every refusal has a number, and 0 is none.
@@ -71,3 +71,9 @@ module _ (sheet : List ℕ) (capacity : ℕ) (m : List ℕ) where
             long = rw e at (ltb-false (length m) (need (sizeOf (capacityIn capacity))) p);
             memory = rw (p, e, z) refl;
           }
+
+  pub start-accepts : verdictOf sheet ≡ Passed → 1 ≤ capacity → capacity ≤ 16 → need (sizeOf capacity) ≤ length m → started sheet capacity m .answer .refusal ≡ 0
+  unfolding started byVerdict capacityIn
+  start-accepts passed low high long =
+      let between : leb 1 capacity && leb capacity 16 ≡ true = and-both (le-leb 1 capacity low) (le-leb capacity 16 high) in
+      rw (between, le-ltb (length m) (need (sizeOf capacity)) long, passed) refl
