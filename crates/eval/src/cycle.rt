@@ -52,11 +52,11 @@ fn way_at(t: &[u32], r: usize) -> Way
 }
 
 // Row r as an expression: its values go to the words of `out` from `at` on.
-pub fn expr(
+pub(crate) fn expr(
     t: &[u32],
     widths: &[u8],
     r: usize,
-    env: &[u64],
+    env: &[u64; 32],
     out: &mut [u64],
     at: usize,
     left: u32,
@@ -144,7 +144,7 @@ fn rounds(
     w: usize,
     a: usize,
     b: usize,
-    inner: &mut [u64],
+    inner: &mut [u64; 32],
     out: &mut [u64],
     at: usize,
     left: u32,
@@ -179,7 +179,7 @@ fn body(
     widths: &[u8],
     r: usize,
     w: usize,
-    env: &[u64],
+    env: &[u64; 32],
     out: &mut [u64],
     left: u32,
 ) -> Turn
