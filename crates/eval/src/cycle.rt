@@ -52,7 +52,7 @@ fn way_at(t: &[u32], r: usize) -> Way
 }
 
 // Row r as an expression: its values go to the words of `out` from `at` on.
-pub(crate) fn expr(
+pub fn expr(
     t: &[u32],
     widths: &[u8],
     r: usize,
