@@ -13,7 +13,7 @@ ghost use Rattle.sheet.specs.Reading.{answerOf};
 ghost use Rattle.readcases.specs.Lines.{digitAt, placeAt, six, lineOf, pathOf};
 
 // The last decimal digit of k.
-fn digit(k: usize) -> u8
+fn digit(k: u32) -> u8
     ensures { λ b. ⌜ b ≡ digitAt k ⌝ }
 {
     48 + (k % 10) as u8
@@ -25,12 +25,12 @@ fn place(v: u32, p: u32) -> u8
     ensures { λ b. ⌜ b ≡ placeAt v p ⌝ }
 {
     if p == 1 {
-        return digit(v as usize);
+        return digit(v);
     }
     if v < p {
         return 32;
     }
-    digit((v / p) as usize)
+    digit(v / p)
 }
 
 // Writes v in a field of six characters.
@@ -67,10 +67,26 @@ fn told(sheet: &[u8]) -> [u8; 37]
 }
 
 // The path of sheet k.
-fn path(k: usize) -> [u8; 15]
+fn path(k: u32) -> [u8; 15]
     ensures { λ r. ⌜ r ≡ pathOf k ⌝ }
 {
-    let mut p = [48, 48, 48, 47, 102, 111, 114, 109, 117, 108, 97, 46, 116, 120, 116];
+    let mut p = [
+        48,
+        48,
+        48,
+        47,
+        102,
+        111,
+        114,
+        109,
+        117,
+        108,
+        97,
+        46,
+        116,
+        120,
+        116,
+    ];
     p[0] = digit(k / 100);
     p[1] = digit(k / 10);
     p[2] = digit(k);
@@ -78,7 +94,7 @@ fn path(k: usize) -> [u8; 15]
 }
 
 // Writes the line of sheet k; false where there is none.
-fn show(k: usize) -> bool {
+fn show(k: u32) -> bool {
     let fd = os::open_read(&path(k));
     if fd < 0 {
         return false;
@@ -90,7 +106,7 @@ fn show(k: usize) -> bool {
 }
 
 fn main() {
-    let mut k = 1;
+    let mut k = 1u32;
     while k < 1000 {
         if !show(k) {
             return;
