@@ -1,5 +1,5 @@
 -- How the program writes an answer of reading: six numbers, each right-justified in six characters as a field of document
--- 01's sheet, and a line feed; and where it finds the sheets. `read-back`: what is written is a field with that number.
+-- 01's sheet, and a line feed; and where it finds the sheets.
 use Prim.Native.Nat.{ℕ, zero, suc, _+_, _*_, _-_, _/_, _%_, _≤_, _<_}
 use mathlib.Core.Path.{_≡_, refl}
 use mathlib.Core.Bool.{Bool, true, false, cond}
