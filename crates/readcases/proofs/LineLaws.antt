@@ -31,24 +31,24 @@ first-digit w s p =
     simp (ne-eqb (48 + w % 10) 32 (λ (e : 48 + w % 10 ≡ 32). omega (arith, e)), ne-eqb (48 + w % 10) 48 (λ (e : 48 + w % 10 ≡ 48). omega (arith, e, p)), le-leb 48 (48 + w % 10) (omega arith), le-leb (48 + w % 10) 57 (omega (arith, h)), back (w % 10))
 
 -- The only digit, 0 too.
+one-zero : fieldOf (48 ∷ []) ≡ Number 0
+unfolding fieldOf
+one-zero = refl
+
+is-zero : (w : ℕ) → w % 10 ≡ 0 → digitAt w ≡ 48
+unfolding digitAt
+is-zero w e = omega (arith, e)
+
+no-more : (v : ℕ) → digitsOf v [] ≡ Number v
+unfolding digitsOf
+no-more v = refl
+
 only-digit : (w : ℕ) → fieldOf (digitAt w ∷ []) ≡ Number (w % 10)
 only-digit w = go (ℕ-discrete (w % 10) 0)
   where
-    one-zero : fieldOf (48 ∷ []) ≡ Number 0
-    unfolding fieldOf zeroOf
-    one-zero = refl
-
-    is-zero : w % 10 ≡ 0 → digitAt w ≡ 48
-    unfolding digitAt
-    is-zero e = omega (arith, e)
-
-    end : (v : ℕ) → digitsOf v [] ≡ Number v
-    unfolding digitsOf
-    end v = refl
-
     go : Dec (w % 10 ≡ 0) → fieldOf (digitAt w ∷ []) ≡ Number (w % 10)
-    go (yes e) = ap (λ (b : ℕ). fieldOf (b ∷ [])) (is-zero e) ∙ one-zero ∙ ap Number (sym e)
-    go (no n) = first-digit w [] (omega (arith, n)) ∙ end (w % 10)
+    go (yes e) = ap (λ (b : ℕ). fieldOf (b ∷ [])) (is-zero w e) ∙ one-zero ∙ ap Number (sym e)
+    go (no n) = first-digit w [] (omega (arith, n)) ∙ no-more (w % 10)
 
 module _ (v : ℕ) where
   -- The digits from the power p of ten on.
