@@ -97,21 +97,3 @@ field-last s i end d k p q = go (ℕ-discrete (getD s i 0) 48)
         ap Number z ∙ sym (zero-end s end) ∙ ap (λ (j : ℕ). zeroOf (slice j end s)) (sym d) ∙ sym (field-zero s i end (omega arith) k e)
     go (no n) =
         digits-end s end (getD s i 0 - 48) ∙ ap (λ (j : ℕ). digitsOf (getD s i 0 - 48) (slice j end s)) (sym d) ∙ sym (field-digit s i end (omega arith) k n p q)
-
--- Four bytes that make up the word of four spaces are spaces.
-pub field-four : (s : List ℕ) (at a b c d : ℕ) → at + 6 ≤ length s
-    → a ≡ getD s at 0 → b ≡ getD s (at + 1) 0 → c ≡ getD s (at + 2) 0 → d ≡ getD s (at + 3) 0
-    → a < 256 → b < 256 → c < 256 → d < 256 → a + 256 * b + 65536 * c + 16777216 * d ≡ 538976288
-    → fieldOf (slice (at + 4) (at + 6) s) ≡ fieldOf (slice at (at + 6) s)
-field-four s at a b c d l ea eb ec ed ha hb hc hd e =
-    let d-is : d ≡ 32 = omega arith in
-    let c-is : c ≡ 32 = omega arith in
-    let b-is : b ≡ 32 = omega arith in
-    let a-is : a ≡ 32 = omega arith in
-    let two : at + 1 + 1 ≡ at + 2 = omega arith in
-    let three : at + 2 + 1 ≡ at + 3 = omega arith in
-    let four : at + 3 + 1 ≡ at + 4 = omega arith in
-    sym (field-space s at (at + 6) (omega arith) l (sym ea ∙ a-is)
-    ∙ field-space s (at + 1) (at + 6) (omega arith) l (sym eb ∙ b-is) ∙ ap (λ (j : ℕ). fieldOf (slice j (at + 6) s)) two
-    ∙ field-space s (at + 2) (at + 6) (omega arith) l (sym ec ∙ c-is) ∙ ap (λ (j : ℕ). fieldOf (slice j (at + 6) s)) three
-    ∙ field-space s (at + 3) (at + 6) (omega arith) l (sym ed ∙ d-is) ∙ ap (λ (j : ℕ). fieldOf (slice j (at + 6) s)) four)

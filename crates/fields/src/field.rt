@@ -2,7 +2,7 @@
 // leading zeros; zero is one digit 0").
 use formula::Field;
 ghost use mathlib.Core.Path.{_≡_};
-ghost use mathlib.Core.Bool.{Bool, true};
+ghost use mathlib.Core.Bool.{Bool};
 ghost use Prim.Native.Nat.{_+_, _-_, _≤_, _<_};
 ghost use lib.ListN.{length, getD};
 ghost use lib.Seq.{slice};
@@ -37,59 +37,19 @@ fn digits(s: &[u8], from: usize, end: usize, first: u32) -> Field
     Field::Number(v)
 }
 
-fn wide(b: u8) -> u32
-    ensures { λ r. ⌜ (r ≡ b) × (r < 256) ⌝ }
-{
-    b as u32
-}
-
-// Whether four characters are spaces: one comparison of a word of memory, since most fields have one or two digits.
-fn four_blanks(s: &[u8], at: usize) -> bool
+// How many of the five characters from `at` on are spaces, up to the first that is none: they add nothing to the field.
+fn blanks(s: &[u8], at: usize) -> usize
     requires { ⌜ at + 6 ≤ length (now s) ⌝ }
-    ensures { λ b. ⌜ (b ≡ true → fieldOf (slice (at + 4) (at + 6) (now (s .entry))) ≡ fieldOf (slice at (at + 6) (now (s .entry)))) ⌝ }
+    ensures { λ k. ⌜ (k ≤ 5) × (fieldOf (slice (at + k) (at + 6) (now (s .entry))) ≡ fieldOf (slice at (at + 6) (now (s .entry)))) × (k < 5 → getD (now (s .entry)) (at + k) 0 ≡ 32 → ⊥) ⌝ }
 {
-    let word = wide(s[at])
-        + 256 * wide(s[at + 1])
-        + 65536 * wide(s[at + 2])
-        + 16777216 * wide(s[at + 3]);
-    word == 538976288
-}
-
-// The first character from `at` on that is no space, or the last before `end`.
-fn start_of(s: &[u8], at: usize, end: usize) -> usize
-    requires { ⌜ (at < end) × (end ≤ length (now s)) ⌝ }
-    ensures { λ i. ⌜ (at ≤ i) × (i < end) × (fieldOf (slice i end (now (s .entry))) ≡ fieldOf (slice at end (now (s .entry)))) × (i + 1 < end → getD (now (s .entry)) i 0 ≡ 32 → ⊥) ⌝ }
-{
-    let mut i = at;
-    while i + 1 < end {
-        if s[i] != 32 {
-            return i;
+    let mut k = 0;
+    while k < 5 {
+        if s[at + k] != 32 {
+            return k;
         }
-        i += 1;
+        k += 1;
     }
-    i
-}
-
-// The characters from `at` to `end` as a field.
-fn field_from(s: &[u8], at: usize, end: usize) -> Field
-    requires { ⌜ (at < end) × (end ≤ length (now s)) × (end ≤ at + 6) ⌝ }
-    ensures { λ r. ⌜ r ≡ fieldOf (slice at end (now (s .entry))) ⌝ }
-{
-    let i = start_of(s, at, end);
-    let b = s[i];
-    if b < 48 {
-        return Field::Malformed;
-    }
-    if 57 < b {
-        return Field::Malformed;
-    }
-    if i + 1 == end {
-        return Field::Number(digit(b));
-    }
-    if b == 48 {
-        return Field::Malformed;
-    }
-    digits(s, i + 1, end, digit(b))
+    5
 }
 
 // The field whose six characters start at `at`.
@@ -97,10 +57,22 @@ pub fn field_in(s: &[u8], at: usize) -> Field
     requires { ⌜ at + 6 ≤ length (now s) ⌝ }
     ensures { λ r. ⌜ r ≡ fieldOf (slice at (at + 6) (now (s .entry))) ⌝ }
 {
-    if four_blanks(s, at) {
-        return field_from(s, at + 4, at + 6);
+    let k = blanks(s, at);
+    let i = at + k;
+    let b = s[i];
+    if b < 48 {
+        return Field::Malformed;
     }
-    field_from(s, at, at + 6)
+    if 57 < b {
+        return Field::Malformed;
+    }
+    if k == 5 {
+        return Field::Number(digit(b));
+    }
+    if b == 48 {
+        return Field::Malformed;
+    }
+    digits(s, i + 1, at + 6, digit(b))
 }
 
 // Whether a field is a number.
