@@ -1,1 +1,5 @@
 pub mod Making
+pub mod Room
+pub mod Ranges
+pub mod Parts
+pub mod Rows

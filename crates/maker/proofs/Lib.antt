@@ -1,0 +1,5 @@
+pub mod Numbering
+pub mod Splits
+pub mod Steps
+pub mod Choosing
+pub mod Looping
