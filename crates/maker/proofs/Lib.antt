@@ -3,3 +3,4 @@ pub mod Splits
 pub mod Steps
 pub mod Choosing
 pub mod Looping
+pub mod Whole

@@ -3,3 +3,4 @@ pub mod Room
 pub mod Ranges
 pub mod Parts
 pub mod Rows
+pub mod AcceptedSheets

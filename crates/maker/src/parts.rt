@@ -126,7 +126,11 @@ pub fn applied(mem: &mut [u8], code: u32, x: Emitted) -> Emitted
 {
     let outs = x.outs;
     let l = x.links;
-    store_operator(mem, x.operators, gate_of(code as u8, outs[0], second_of(x), 65535, l));
+    store_operator(
+        mem,
+        x.operators,
+        gate_of(code as u8, outs[0], second_of(x), 65535, l),
+    );
     Emitted {
         outs: [l; 33],
         count: 1,

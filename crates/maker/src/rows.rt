@@ -136,7 +136,18 @@ fn ended(
     let first = f.first;
     let second = f.second;
     let c = constant(mem, Value::Truth(iter), first, f.links, f.operators);
-    let x = row(t, masks, widths, false, 0, k, second, c.links, c.operators, mem);
+    let x = row(
+        t,
+        masks,
+        widths,
+        false,
+        0,
+        k,
+        second,
+        c.links,
+        c.operators,
+        mem,
+    );
     let cs = c.outs;
     let xs = x.outs;
     let outs = join(cs, 1, xs, x.count);
@@ -197,8 +208,30 @@ fn pairs(
     let f = fork(mem, mask_at(masks, a) & mask_at(masks, b), env, n, m);
     let first = f.first;
     let second = f.second;
-    let x = row(t, masks, widths, false, 0, a, first, f.links, f.operators, mem);
-    let y = row(t, masks, widths, false, 0, b, second, x.links, x.operators, mem);
+    let x = row(
+        t,
+        masks,
+        widths,
+        false,
+        0,
+        a,
+        first,
+        f.links,
+        f.operators,
+        mem,
+    );
+    let y = row(
+        t,
+        masks,
+        widths,
+        false,
+        0,
+        b,
+        second,
+        x.links,
+        x.operators,
+        mem,
+    );
     let xs = x.outs;
     let ys = y.outs;
     let outs = join(xs, x.count, ys, y.count);
@@ -234,7 +267,18 @@ fn lets(
     let f = fork(mem, both, env, n, m);
     let first = f.first;
     let second = f.second;
-    let x = row(t, masks, widths, false, 0, c, first, f.links, f.operators, mem);
+    let x = row(
+        t,
+        masks,
+        widths,
+        false,
+        0,
+        c,
+        first,
+        f.links,
+        f.operators,
+        mem,
+    );
     let xs = x.outs;
     let inner = assign(range_mask(a, b), second, xs);
     row(t, masks, widths, p, w, d, inner, x.links, x.operators, mem)
@@ -286,7 +330,18 @@ fn ifs(
     let f = fork(mem, mask_at(masks, a) & (mb | mc), env, n, m);
     let first = f.first;
     let second = f.second;
-    let x = row(t, masks, widths, false, 0, a, first, f.links, f.operators, mem);
+    let x = row(
+        t,
+        masks,
+        widths,
+        false,
+        0,
+        a,
+        first,
+        f.links,
+        f.operators,
+        mem,
+    );
     let g = fork(mem, mb & mc, second, x.links, x.operators);
     let yes = g.first;
     let no = g.second;
@@ -324,9 +379,31 @@ fn fors(
     let f = fork(mem, mask_at(masks, c) & outside(names, a, b), env, n, m);
     let first = f.first;
     let second = f.second;
-    let x = row(t, masks, widths, false, 0, c, first, f.links, f.operators, mem);
+    let x = row(
+        t,
+        masks,
+        widths,
+        false,
+        0,
+        c,
+        first,
+        f.links,
+        f.operators,
+        mem,
+    );
     let inner = numbered(names, x.links);
     let w = width_at(widths, d);
-    let y = row(t, masks, widths, true, w, d, inner, x.links + (k as u16), x.operators, mem);
+    let y = row(
+        t,
+        masks,
+        widths,
+        true,
+        w,
+        d,
+        inner,
+        x.links + (k as u16),
+        x.operators,
+        mem,
+    );
     closed(mem, names, a, b, env, second, inner, x, y)
 }

@@ -15,8 +15,6 @@ use lib.ListN.{getD}
 use native.Mathlib.Omega.{arith}
 use Rattle.layout.specs.declared.Operator.{Operator as Record}
 
-
-
 -- src/parts.rt:129:46  let l = x.links; ⏎ store_operator(mem, x.operators, gate_of(code as u8, outs[0], second_of(x), 65535, l));
 cast-gate-of : tie.Need-cast-gate-of
 cast-gate-of c = search needs

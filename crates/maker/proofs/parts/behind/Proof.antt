@@ -11,8 +11,6 @@ use Prim.Native.Nat.{_+_}
 use Rattle.names.specs.Names.{bit}
 use native.Mathlib.Omega.{arith}
 
-
-
 -- src/parts.rt:219:16  if taken { ⏎ return l + 1;
 add-result : tie.Need-add-result
 add-result c = search needs

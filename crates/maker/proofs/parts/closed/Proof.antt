@@ -22,8 +22,6 @@ use Rattle.emit.specs.Emitted.{assigned, linkIn}
 use Rattle.maker.specs.Ranges.{list-range, mask-of-range}
 use native.Mathlib.Omega.{arith}
 
-
-
 -- src/parts.rt:272:9  { ⏎ let k = names_in(mask);
 names-in-requires : tie.Need-names-in-requires
 names-in-requires c κs = search needs

@@ -12,8 +12,6 @@ use Prim.Native.Nat.{ℕ}
 use lib.ListN.{getD}
 use native.Mathlib.Omega.{arith}
 
-
-
 -- src/parts.rt:92:14  kind: 12, ⏎ in1: env[32],
 array-read-t10 : tie.Need-array-read-t10
 array-read-t10 c = search needs

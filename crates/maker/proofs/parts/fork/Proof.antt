@@ -6,8 +6,6 @@ use Rattle.maker.proofs.parts.fork.Lts as lts
 use mathlib.Core.Path.{_≡_, refl, sym, ap, _∙_}
 use native.Mathlib.Omega.{arith}
 
-
-
 names-in-requires : tie.Need-names-in-requires
 names-in-requires c κs = search needs
 

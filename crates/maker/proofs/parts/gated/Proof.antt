@@ -17,8 +17,6 @@ use Rattle.emit.specs.Emitted.{rowRecords, rowOutputs}
 use native.Mathlib.Omega.{arith}
 use mathlib.Core.List.{List, map}
 
-
-
 -- src/parts.rt:169:9  { ⏎ let k = names_in(mask);
 names-in-requires : tie.Need-names-in-requires
 names-in-requires c κs = search needs

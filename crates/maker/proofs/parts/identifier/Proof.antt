@@ -7,8 +7,6 @@ use mathlib.Core.Path.{_≡_, refl, sym, ap, _∙_}
 use Rattle.emit.specs.Done.{done-wire}
 use native.Mathlib.Omega.{arith}
 
-
-
 -- src/parts.rt:75:13  { ⏎ let l = env[a as usize];
 mul-l : tie.Need-mul-l
 mul-l c = search needs

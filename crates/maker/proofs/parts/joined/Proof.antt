@@ -13,8 +13,6 @@ use mathlib.Core.Bool.{Bool}
 use Rattle.maker.specs.Parts.{JoinNeeds, JoinGives, BodyArms, body-needs, body-gives}
 use Rattle.emit.specs.declared.joins.Emitted.{Emitted}
 
-
-
 -- src/parts.rt:208:46  if p { ⏎ return join_arms(mem, m, n, w, test, results_of(x), results_of(y));
 results-of-requires : tie.Need-results-of-requires
 results-of-requires c κs = (subst (λ (b : Bool). JoinNeeds b (c .before .before .before .args .w) (c .before .before .before .args .n) (c .before .before .before .args .m) (c .before .before .before .args .x) (c .before .before .before .args .y)) (c .before .if1 .taken) (c .before .before .before .pre .0)) .first

@@ -8,8 +8,6 @@ use Rattle.emit.proofs.joins.after_row.Reads as after-row-reads
 use mathlib.Core.Path.{_≡_, refl, sym, ap, _∙_}
 use Rattle.maker.specs.Parts.{merge-gives}
 
-
-
 -- src/parts.rt:189:9  let ys = y.outs; ⏎ let outs = gate_row(mem, m, n, 16, test, xs, ys, k);
 gate-row-requires : tie.Need-gate-row-requires
 gate-row-requires c κs = search needs

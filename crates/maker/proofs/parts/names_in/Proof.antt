@@ -8,8 +8,6 @@ use mathlib.Core.Path.{_≡_, refl, sym, ap, _∙_}
 use Rattle.emit.specs.Masked.{mask-ones, mask-short}
 use native.Mathlib.Omega.{arith}
 
-
-
 -- src/parts.rt:42:5  { ⏎ count(mask) as usize
 count-requires : tie.Need-count-requires
 count-requires c κs = search needs

@@ -14,8 +14,6 @@ use Rattle.maker.proofs.Numbering.{NumberedTo, numbered-none, numbered-
 use native.Mathlib.Omega.{arith}
 use borrow.Author.Needs.{needs}
 
-
-
 abbrev Inv-loop : tie.InvT-loop
 Inv-loop mask n e₀ l₀ i₀ e l i = (i ≤ 33) × (length e ≡ 33) × (l ≡ n + sizeFrom i (namesIn mask)) × ((l ≤ n + i) × (n ≤ 60000)) × NumberedTo i mask n e
 

@@ -10,8 +10,6 @@ use mathlib.Core.Bool.{Bool, cond}
 use lib.ListN.{getD}
 use borrow.Author.Tests.{lt-ltb, le-ltb}
 
-
-
 -- src/parts.rt:117:16  let outs = x.outs; ⏎ return outs[1];
 array-read-result : tie.Need-array-read-result
 array-read-result c = search needs

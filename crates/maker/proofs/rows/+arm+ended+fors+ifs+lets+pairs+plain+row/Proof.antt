@@ -81,8 +81,6 @@ use Rattle.maker.proofs.Looping.{for-first, for-second, for-low, body-s
 use native.Mathlib.Omega.{arith}
 use borrow.Author.Needs.{needs}
 
-
-
 abbrev μ-arm : Measures 4 arm-kinds.ps ℕ
 μ-arm κs a = 8 * a .1 .1 .1 .1 .1 .1 .0 + 5
 

@@ -6,8 +6,6 @@ use Rattle.maker.proofs.rows.way_at.Lts as lts
 use Rattle.sheet.proofs.shape.shape_at.Reads as shape-at-reads
 use mathlib.Core.Path.{_≡_, refl, sym, _∙_}
 
-
-
 -- src/rows.rt:52:11  { ⏎ match shape_at(t, r) {
 shape-at-requires : tie.Need-shape-at-requires
 shape-at-requires c κs = search needs

@@ -7,8 +7,6 @@ use Rattle.maker.proofs.rows.width_at.Lts as lts
 use mathlib.Core.Path.{refl}
 use Prim.Native.Nat.{_-_}
 
-
-
 -- src/rows.rt:70:12  { ⏎ widths[r - 1] as usize
 sub-result : tie.Need-sub-result
 sub-result c = search needs
