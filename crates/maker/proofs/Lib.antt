@@ -1,6 +1,7 @@
 pub mod Numbering
 pub mod Splits
 pub mod Steps
+pub mod Joining
 pub mod Choosing
 pub mod Looping
 pub mod Whole

@@ -1,23 +1,22 @@
 -- What the loop of src/rows needs and gives: its start, its body on links of its own, and the ring (emit/specs/DoneFor). Assumes of a row what
 -- emit/specs/Nodes says of it.
-use Prim.Native.Nat.{ℕ, zero, suc, _+_, _-_, _*_, _^_, _≤_, _<_}
-use mathlib.Core.Path.{_≡_, refl, sym, ap, ap₂, _∙_, subst}
-use mathlib.Core.Bool.{Bool, true, false, false≢true}
+use Prim.Native.Nat.{ℕ, suc, _+_, _-_, _*_, _^_, _≤_, _<_}
+use mathlib.Core.Path.{_≡_, refl, sym, ap, _∙_, subst}
+use mathlib.Core.Bool.{true, false, false≢true}
 use mathlib.Core.List.{List, [], _∷_, _++_}
 use lib.ListN.{length, getD}
 use lib.Bits.{bitAnd}
 use native.Mathlib.Omega.{arith}
-use Rattle.names.specs.Names.{Names, common, without, range, mask}
+use Rattle.names.specs.Names.{Names, common, without, mask}
 use Rattle.names.proofs.Sets.{mask-range, mask-cong}
 use Rattle.formula.specs.declared.Shape.the-variants.{For}
 use Rattle.formula.specs.Sheet.{shapeAt}
 use Rattle.formula.specs.Tree.{forE, expOf, bodyOf}
-use Rattle.formula.specs.Widths.{width, returned, iterated}
+use Rattle.formula.specs.Widths.{returned, iterated}
 use Rattle.formula.specs.Free.{freeE, freeB}
 use Rattle.formula.specs.Admitted.{AdmittedE}
 use Rattle.meaning.specs.WidthLaws.{for-fits}
 use Rattle.yields.specs.Naming.{Small}
-use Rattle.yields.specs.FreeNames.{free-B, small-B}
 use Rattle.yields.specs.BodyWidths.{iterated-16, returnedOutputs, returned-outputs-le}
 use Rattle.graph.specs.Assembly.{Graph, loop, free, memberOf, upFrom, total, linksOf}
 use Rattle.graph.specs.Translation.{graphE, graphB}
@@ -26,11 +25,11 @@ use Rattle.emit.specs.Masked.{listOf, list-is}
 use Rattle.emit.specs.Environments.{listed-small}
 use Rattle.emit.specs.Laid.{listed-length}
 use Rattle.emit.specs.Counts.{operatorCount}
-use Rattle.emit.specs.Nodes.{graphIn, freeIn, FitsIn, some-in, Ready, Child, at-for}
+use Rattle.emit.specs.Nodes.{graphIn, some-in, Ready, Child, at-for}
 use Rattle.emit.specs.Done.{Done, Forked, done-as, done-links, done-operators}
 use Rattle.emit.specs.DoneFor.{done-loop}
 use Rattle.emit.specs.declared.joins.Emitted.{Emitted}
-use Rattle.maker.specs.Room.{Room, room-of, room-less, three-links}
+use Rattle.maker.specs.Room.{Room, three-links}
 use Rattle.maker.specs.Parts.{Gives, Numbered, Closed}
 use Rattle.maker.specs.Rows.{Part}
 use Rattle.maker.proofs.Splits.{Split, split-loop, child-has, child-small, counted-E, counted-B, some-listed}

@@ -2,7 +2,7 @@
 -- results they give. Assumes of the parts what an admitted formula gives.
 use Prim.Native.Nat.{ℕ, zero, suc, _+_, _-_, _*_, _^_, _≤_, _<_}
 use mathlib.Core.Path.{_≡_, refl, sym, ap, ap₂, _∙_, subst}
-use mathlib.Core.Bool.{Bool, true, false, cond, not, _&&_, _||_, false≢true}
+use mathlib.Core.Bool.{Bool, true, false, not, _&&_, _||_, false≢true}
 use mathlib.Core.List.{List, [], _∷_, _++_}
 use lib.ListN.{length, getD, take, set, length-set}
 use lib.Bits.{bitAnd}
@@ -16,16 +16,15 @@ use Rattle.formula.specs.Widths.{width, iterated}
 use Rattle.yields.specs.Naming.{Small, member-upFrom}
 use Rattle.yields.specs.Choice.{Has, unseen}
 use Rattle.yields.specs.FitGraphs.{fit-E, fit-B, count-E, count-B}
-use Rattle.yields.specs.BodyWidths.{iteratedOutputs, returnedOutputs, iterated-outputs}
+use Rattle.yields.specs.BodyWidths.{returnedOutputs, iterated-outputs}
 use Rattle.graph.specs.Fit.{Fit}
-use Rattle.graph.specs.Yields.{outputCount}
-use Rattle.graph.specs.Assembly.{Graph, beside, bind, loop, Env, free, memberOf, upFrom, total, outputs, linksOf}
+use Rattle.graph.specs.Assembly.{Graph, beside, bind, loop, free, memberOf, upFrom, total, linksOf}
 use Rattle.wiring.specs.Conservation.{length-outputs}
 use Rattle.sheet.specs.Masks.{outside}
 use Rattle.emit.specs.Masked.{listOf, Mask, mask-short, list-length}
 use Rattle.emit.specs.Emitted.{linkIn, dealt}
 use Rattle.emit.specs.Counts.{operatorCount}
-use Rattle.emit.specs.Nodes.{graphIn, freeIn, FitsIn, has-in, small-in, some-in, Ready, Child}
+use Rattle.emit.specs.Nodes.{graphIn, freeIn, FitsIn, has-in, small-in, some-in, Child}
 use Rattle.emit.specs.Done.{Done, Forked, fork-room, done-links, done-operators}
 use Rattle.emit.specs.declared.joins.Emitted.{Emitted}
 use Rattle.maker.specs.Room.{Room, room-less, room-of, room-behind, room-forked, three-links}

@@ -1,39 +1,38 @@
 -- What each function of src/rows needs and gives, by the kind of its row: pairs, lets, bodies that end, and rows of one operator. Assumes of a row
 -- what emit/specs/Nodes says of it.
-use Prim.Native.Nat.{ℕ, zero, suc, _+_, _-_, _*_, _^_, _≤_, _<_}
-use mathlib.Core.Path.{_≡_, refl, sym, ap, ap₂, _∙_, subst}
-use mathlib.Core.Bool.{Bool, true, false, cond, not, _&&_, _||_, false≢true}
+use Prim.Native.Nat.{ℕ, _+_, _-_, _*_, _^_, _≤_, _<_}
+use mathlib.Core.Path.{_≡_, refl, sym, ap, _∙_, subst}
+use mathlib.Core.Bool.{Bool, true, false, cond, _&&_, _||_, false≢true}
 use mathlib.Core.List.{List, [], _∷_, _++_}
 use lib.ListN.{length, getD, take}
-use lib.Bits.{bitAnd, bitOr}
+use lib.Bits.{bitAnd}
 use native.Mathlib.Omega.{arith}
 use lib.IntN.{pos}
 use lib.Dec.{eqb}
 use Rattle.value.specs.declared.Value.{Value}
 use Rattle.value.specs.declared.Value.the-variants.{Truth as truth-value, Whole as whole-value}
 use Rattle.value.specs.Operators.{operands, pick}
-use Rattle.names.specs.Names.{Names, trigger, one, union, common, without, range, mask}
-use Rattle.names.proofs.Sets.{mask-one, mask-cong, known-union, known-minus, mask-range}
+use Rattle.names.specs.Names.{Names, trigger, one, common, without, range, mask}
+use Rattle.names.proofs.Sets.{mask-one, known-union, known-minus, mask-range}
 use Rattle.formula.specs.declared.Shape.{Shape}
 use Rattle.formula.specs.declared.Shape.the-variants.{Identifier, Whole, Truth, Pair, Operator, Let, If, For, Iter}
 use Rattle.formula.specs.Sheet.{shapeAt, namedIn}
-use Rattle.formula.specs.Tree.{Exp, pair, operator, expOf, bodyOf, expNode, bodyNode, ret, iter, Body}
+use Rattle.formula.specs.Tree.{Exp, pair, expOf, bodyOf, expNode, bodyNode}
 use Rattle.formula.specs.TreeLaws.{AllBetween, exp-as, body-as, between-as}
-use Rattle.formula.specs.Widths.{width, returned, iterated}
+use Rattle.formula.specs.Widths.{width, iterated}
 use Rattle.formula.specs.Free.{freeE, freeB}
-use Rattle.formula.specs.Admitted.{AdmittedE, AdmittedB}
 use Rattle.meaning.specs.WidthLaws.{operator-fits}
 use Rattle.yields.specs.Choice.{Has}
-use Rattle.yields.specs.FreeNames.{free-E, small-E, small-trigger}
-use Rattle.yields.specs.BodyWidths.{not-too-wide, wide-enough}
+use Rattle.yields.specs.FreeNames.{free-E, small-trigger}
+use Rattle.yields.specs.BodyWidths.{not-too-wide}
 use Rattle.graph.specs.Yields.{outputCount}
-use Rattle.graph.specs.Assembly.{Graph, wire, beside, bind, gate, Gate, const, oper, free, memberOf, upFrom, gateOutputs}
+use Rattle.graph.specs.Assembly.{Graph, beside, bind, gate, oper, free, memberOf, upFrom, gateOutputs}
 use Rattle.graph.specs.Translation.{graphE, graphB, constantOf}
-use Rattle.sheet.specs.Masks.{plainMask, triggerMask, outside, Ranged}
-use Rattle.emit.specs.Masked.{listOf, Mask}
+use Rattle.sheet.specs.Masks.{plainMask, outside, Ranged}
+use Rattle.emit.specs.Masked.{listOf}
 use Rattle.emit.specs.Emitted.{assigned}
 use Rattle.emit.specs.Counts.{operatorCount}
-use Rattle.emit.specs.Nodes.{graphIn, freeIn, FitsIn, Kids, Ready, Child, Ends, at-identifier, at-whole, at-truth, at-pair, at-operator, at-iter, at-let, at-iteration, at-end, at-for}
+use Rattle.emit.specs.Nodes.{graphIn, freeIn, Ready, Child, Ends, at-identifier, at-whole, at-truth, at-pair, at-operator, at-let, at-iteration, at-end, at-for}
 use Rattle.emit.specs.Done.{Done, Forked, done-as, done-beside, done-let}
 use Rattle.emit.specs.declared.joins.Emitted.{Emitted}
 use Rattle.maker.specs.declared.rows.Way.{Way}

@@ -1,14 +1,14 @@
 -- What making the whole graph needs and gives (src/make): the formula's row, with the links of its free names, is the translation's graph.
 use Prim.Native.Nat.{ℕ, zero, suc, _+_, _-_, _*_, _/_, _%_, _^_, _≤_, _<_}
 use mathlib.Core.Path.{_≡_, refl, sym, ap, ap₂, _∙_, subst}
-use mathlib.Core.Bool.{Bool, true, false, cond}
+use mathlib.Core.Bool.{Bool, false, cond}
 use mathlib.Core.List.{List, [], _∷_, _++_}
-use lib.ListN.{length, getD, take, set, replicate, length-append}
+use lib.ListN.{length, getD, take, set, replicate}
 use lib.Seq.{length-take-le}
 use lib.Bits.{bitAnd}
 use lib.Dec.{eqb}
 use native.Mathlib.Omega.{arith}
-use Rattle.names.specs.Names.{Names, trigger, one, without, mask, size, members, sizeFrom, below}
+use Rattle.names.specs.Names.{trigger, one, without, mask, size, sizeFrom, below}
 use Rattle.names.proofs.Sets.{known-minus, known-has, mask-one, size-le}
 use Rattle.names.proofs.Counts.{sizeFrom-le, sizeFrom-cong}
 use Rattle.formula.specs.Sheet.{shapeAt}
@@ -16,17 +16,15 @@ use Rattle.formula.specs.Tree.{Exp, expOf}
 use Rattle.formula.specs.Widths.{width}
 use Rattle.formula.specs.Free.{freeE, inputsOf}
 use Rattle.yields.specs.BodyWidths.{not-too-wide}
-use Rattle.graph.specs.Assembly.{upFrom, Env, operatorsOf, outputs, linksOf}
-use Rattle.graph.specs.Translation.{graphE, portOf, Made, madeOf}
+use Rattle.graph.specs.Assembly.{upFrom, operatorsOf}
+use Rattle.graph.specs.Translation.{graphE, portOf, madeOf}
 use Rattle.wiring.specs.MadeGraph.{trigger-link}
-use Rattle.emit.specs.Encode.{encoded, written}
 use Rattle.emit.specs.Environments.{Agrees}
 use Rattle.emit.specs.Masked.{listOf, Mask, list-is, list-length, namesIn}
 use Rattle.emit.specs.Counts.{operatorCount, operators-length}
 use Rattle.emit.specs.Laid.{Laid}
-use Rattle.emit.specs.Nodes.{Kids, Read, Ready, freeIn}
+use Rattle.emit.specs.Nodes.{Kids, Ready, freeIn}
 use Rattle.emit.specs.declared.joins.Emitted.{Emitted}
-use Rattle.maker.specs.declared.make.Making.{Making}
 use Rattle.maker.specs.Making.{Makeable, makingOf, makingIn, padded}
 use Rattle.maker.specs.Room.{Room}
 use Rattle.maker.specs.Parts.{Numbered}

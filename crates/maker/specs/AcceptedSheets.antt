@@ -1,10 +1,10 @@
 -- The tables that reading an accepted sheet gives (sheet/specs/Reading: Told) are such that the maker can work on them, and the formula that it makes
 -- the graph of is the sheet's. Document 01: "the last is the formula"; tests 1 to 10. Assumes that the sheet was accepted.
-use Prim.Native.Nat.{ℕ, zero, suc, _+_, _-_, _*_, _≤_, _<_}
+use Prim.Native.Nat.{ℕ, _+_, _-_, _*_, _≤_, _<_}
 use mathlib.Core.Path.{_≡_, refl, sym, ap, ap₂, _∙_, subst}
 use mathlib.Core.Bool.{Bool, true, false}
 use mathlib.Core.List.{List}
-use lib.ListN.{length, getD, take}
+use lib.ListN.{length, take}
 use native.Mathlib.Omega.{arith}
 use Rattle.names.specs.Names.{mask}
 use Rattle.formula.specs.declared.Shape.{Shape}
@@ -14,7 +14,7 @@ use Rattle.formula.specs.Sheet.{rowCount, fieldsOf, shapeAt}
 use Rattle.formula.specs.Tree.{expOf, bodyOf, formulaOf}
 use Rattle.formula.specs.Places.{Node, nodeIn, inBody, placesOf}
 use Rattle.formula.specs.PlaceLaws.{last-place}
-use Rattle.formula.specs.Widths.{width, returned}
+use Rattle.formula.specs.Widths.{returned}
 use Rattle.formula.specs.Tests.{verdictOf}
 use Rattle.meaning.specs.Rows.{Placed, widthIn, Accepted}
 use Rattle.meaning.specs.Accepted.{passes, accepted}
@@ -23,7 +23,6 @@ use Rattle.sheet.specs.Nodes.{nodeAt, returnedIn, freeIn as freeOf}
 use Rattle.sheet.specs.Reading.{Accepts, Told}
 use Rattle.verdicts.specs.Admitting.{accepted-admitted}
 use Rattle.verdicts.specs.Verdicts.{accepted-graph}
-use Rattle.graph.specs.Translation.{madeOf}
 use Rattle.emit.specs.Nodes.{Kids, Read, freeIn}
 use Rattle.maker.specs.Making.{Makeable}
 

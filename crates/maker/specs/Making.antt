@@ -3,7 +3,7 @@
 -- if that link exists .. Take removes one value from each result port." Assumes nothing; Makeable is what the maker asks of a sheet's tables.
 use Prim.Native.Nat.{ℕ, _+_, _-_, _*_, _≤_}
 use mathlib.Core.Path.{_≡_}
-use mathlib.Core.Bool.{Bool, true, false, cond}
+use mathlib.Core.Bool.{false, cond}
 use mathlib.Core.List.{List, [], _∷_, _++_}
 use lib.ListN.{length, replicate}
 use Rattle.layout.specs.Layout.{noLink}

@@ -4,7 +4,7 @@ use Prim.Native.Nat.{ℕ, zero, suc, _+_, _-_, _*_, _^_, _≤_, _<_}
 use mathlib.Core.Path.{_≡_, refl, sym, ap, ap₂, _∙_, subst}
 use mathlib.Core.Bool.{Bool, true, false, cond, _&&_}
 use mathlib.Core.List.{List, [], _∷_, map}
-use lib.ListN.{length, getD, take, drop, replicate, getD-replicate}
+use lib.ListN.{length, getD, take, drop}
 use lib.Dec.{ltb}
 use native.Mathlib.Omega.{arith}
 use Rattle.value.specs.declared.Value.{Value}
@@ -23,7 +23,7 @@ use Rattle.emit.specs.Masked.{listOf, namesIn}
 use Rattle.emit.specs.Counts.{operatorCount}
 use Rattle.emit.specs.Laid.{Laid}
 use Rattle.emit.specs.GateRows.{Two, two-T, two-F}
-use Rattle.emit.specs.Done.{Done, Forked, done-gate, done-wire}
+use Rattle.emit.specs.Done.{Done, done-gate, done-wire}
 use Rattle.emit.specs.DoneIf.{ArmDone, done-arm}
 use Rattle.emit.specs.Results.{Reads, ArmLinks, reads-same, merge-laid}
 use Rattle.emit.specs.Sharing.{lone-test}

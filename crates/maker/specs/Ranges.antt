@@ -4,10 +4,10 @@ use mathlib.Core.Path.{_≡_, refl, sym, ap, ap₂, _∙_}
 use mathlib.Core.Bool.{Bool, true, false, _&&_}
 use mathlib.Core.List.{List, [], _∷_}
 use lib.Dec.{leb, ltb}
-use borrow.Author.Tests.{le-leb, lt-leb, lt-ltb, le-ltb, leb-true, leb-false, ltb-true, ltb-false}
+use borrow.Author.Tests.{le-leb, lt-leb, lt-ltb, le-ltb, leb-true}
 use native.Mathlib.Omega.{arith}
 use native.Mathlib.Decide.{decLt}
-use Rattle.names.specs.Names.{Names, range, mask, members, membersFrom, later, put}
+use Rattle.names.specs.Names.{Names, range, members, membersFrom, later, put}
 use Rattle.names.proofs.Sets.{mask-range}
 use Rattle.names.proofs.Walk.{membersFrom-none}
 use Rattle.graph.specs.Assembly.{upFrom}

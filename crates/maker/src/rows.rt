@@ -24,7 +24,7 @@ use sheet::shape::shape_at;
 use value::Value;
 ghost use mathlib.Core.Path.{_≡_};
 ghost use mathlib.Core.Bool.{true, false, cond};
-ghost use Prim.Native.Nat.{ℕ, _+_, _*_, _-_, _≤_, _<_};
+ghost use Prim.Native.Nat.{_+_, _*_, _-_, _≤_, _<_};
 ghost use lib.ListN.{length, getD};
 ghost use Rattle.formula.specs.declared.Shape.the-variants.{Pair, Let, If, For};
 ghost use Rattle.formula.specs.Sheet.{shapeAt};
@@ -190,6 +190,7 @@ fn plain(
     }
 }
 
+// A pair: both rows side by side, each with a copy of the names that both use.
 fn pairs(
     t: &[u32],
     masks: &[u64],
@@ -244,6 +245,7 @@ fn pairs(
     }
 }
 
+// A let, in its place: row c, then row d with its results for the identifiers a to a+b-1.
 fn lets(
     t: &[u32],
     masks: &[u64],
@@ -307,6 +309,8 @@ fn arm(
     row(t, masks, widths, p, w, k, inner, g.links, g.operators, mem)
 }
 
+// An if, in its place: the test, the arms behind their gates, and what joins them. The test's output
+// passes a copy for each arm; the second copy's second output is for the joins.
 fn ifs(
     t: &[u32],
     masks: &[u64],
@@ -357,6 +361,7 @@ fn ifs(
     joined(mem, p, w, k + 1, y, z, z.links, z.operators)
 }
 
+// A loop: row c, then the body on links of its own for all its names, then the ring.
 fn fors(
     t: &[u32],
     masks: &[u64],
