@@ -34,8 +34,8 @@ use Rattle.wiring.specs.Links.{optional, outputLinks}
 use Rattle.wiring.specs.Ports.{Ported}
 use Rattle.verdicts.specs.Owed.{creditLink}
 use Rattle.verdicts.specs.Running.{startOf}
-use Rattle.maker.specs.Encode.{heldOf, encode, encoded, written, length-written}
-use Rattle.maker.specs.Encode.{portOf as portWritten}
+use Rattle.emit.specs.Encode.{heldOf, encode, encoded, written, length-written}
+use Rattle.emit.specs.Encode.{portOf as portWritten}
 use Rattle.start.specs.Start.{headed, emptied, startedMemory}
 use Rattle.start.specs.ReadBack.{length-emptied, emptied-kept, emptied-read}
 use Rattle.start.specs.HeaderLaws.{Fits, length-headed, headed-kept, headed-capacity, headed-operators, headed-links, headed-inputs, headed-results, headed-untaken, headed-trigger, headed-input, headed-result}
