@@ -24,6 +24,7 @@ use Rattle.wiring.specs.FormulaCounts.{made-operators, made-links-bound}
 use Rattle.wiring.specs.MadeGraph.{trigger-link, port-count, result-count, well-wired}
 use Rattle.verdicts.specs.Admitting.{accepted-admitted, accepted-operators}
 use Rattle.reference.specs.Plugged.{Each}
+use Rattle.start.specs.Completed.{made-inputs, made-results}
 use Rattle.view.specs.Sound.{Formed, Sound}
 use Rattle.begin.specs.FormedGraphs.{ProperGate, Proper, graph-formed, each-ith}
 
@@ -99,10 +100,6 @@ mutual
 
 -- ---- the figures
 
-inputs-few : (x : Exp) → madeOf x .inputs ≤ 32
-unfolding madeOf portOf below
-inputs-few x = subst (λ (k : ℕ). k ≤ 32) (trigger-link x) (sizeFrom-le 32 (freeE x))
-
 names-below : (x : Exp) → madeOf x .inputs + bit (madeOf x .triggered) ≤ madeOf x .links
 unfolding madeOf
 names-below x = subst (λ (k : ℕ). k ≤ size (freeE x) + linksOf (graphE x)) (port-count x) (up (size (freeE x)) (linksOf (graphE x)))
@@ -127,9 +124,9 @@ made-sound s accepted =
       wired = well-wired x h few;
       few-operators = subst (λ (n : ℕ). n ≤ 1024) (sym (made-operators x h)) few;
       few-links = made-links-bound x h few;
-      few-inputs = inputs-few x;
+      few-inputs = made-inputs x;
       names-below = names-below x;
       some-result = subst (λ (n : ℕ). 1 ≤ n) (sym (result-count x h)) (wide-enough x h);
-      few-results = subst (λ (n : ℕ). n ≤ 16) (sym (result-count x h)) (not-too-wide x h);
+      few-results = made-results x h;
       formed = each-ith Formed (madeOf x .operators) (operators-formed x h);
     }

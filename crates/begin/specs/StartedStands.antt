@@ -36,7 +36,8 @@ use Rattle.verdicts.specs.Owed.{creditLink}
 use Rattle.verdicts.specs.Running.{startOf}
 use Rattle.emit.specs.Encode.{heldOf, encode, encoded, written, length-written}
 use Rattle.emit.specs.Encode.{portOf as portWritten}
-use Rattle.start.specs.Start.{headed, emptied, startedMemory}
+use Rattle.start.specs.Start.{Begun, headed, emptied, startedMemory, started}
+use Rattle.start.specs.StartLaws.{accepted-start}
 use Rattle.start.specs.ReadBack.{length-emptied, emptied-kept, emptied-read}
 use Rattle.start.specs.HeaderLaws.{Fits, length-headed, headed-kept, headed-capacity, headed-operators, headed-links, headed-inputs, headed-results, headed-untaken, headed-trigger, headed-input, headed-result}
 use Rattle.view.specs.Sound.{Ith, HeldOf, Formed, Sound}
@@ -254,3 +255,11 @@ pub started-stands : (s : List ℕ) → verdictOf s ≡ Passed → (capacity : �
     → Stands (madeOf (formulaOf s)) capacity (startedMemory (madeOf (formulaOf s)) capacity m) (startOf (formulaOf s))
 unfolding startedMemory
 started-stands s accepted capacity low high m long = stands (madeOf (formulaOf s)) (made-sound s accepted) capacity m long
+
+-- So does the memory of every start that gave no refusal.
+pub accepted-stands : (s : List ℕ) (capacity : ℕ) (m : List ℕ) → started s capacity m .answer .refusal ≡ 0
+    → Stands (madeOf (formulaOf s)) capacity (started s capacity m .mem) (startOf (formulaOf s))
+accepted-stands s capacity m e =
+    let a = accepted-start s capacity m e in
+    subst (λ (b : Begun). Stands (madeOf (formulaOf s)) capacity (b .mem) (startOf (formulaOf s))) (sym (a .whole))
+    (started-stands s (a .passed) capacity (a .some) (a .most) m (a .long))

@@ -2,11 +2,13 @@
 // "Start takes a link capacity of 1 to 16"). The definitions are specs/Start; each contract is an
 // equation on the answer and on every lent byte.
 use formula::Refusal;
+use maker::make::Making;
 ghost use mathlib.Core.Path.{_≡_};
 ghost use Prim.Native.Nat.{ℕ, _+_, _*_, _≤_, _<_};
 ghost use lib.ListN.{length};
-ghost use Rattle.layout.specs.Layout.{need, capacityIn};
+ghost use Rattle.layout.specs.Layout.{need, sizeOf, capacityIn};
 ghost use Rattle.start.specs.Start.{refusal, figured, named, emptied};
+ghost use Rattle.start.specs.Completed.{Modest, completed};
 
 // Start's answer: document 01's number of a refusal, 0 where accepted; its row; the figures of the
 // graph, 0 on a refusal.
@@ -58,11 +60,12 @@ fn store_figures(mem: &mut [u8], capacity: u8, operators: u16, links: u16, input
     layout::store_number(mem, 8, trigger);
 }
 
-// Writes the first k of some links from a place of the header on.
-fn store_names(mem: &mut [u8], at: usize, links: &[u16], k: usize)
-    requires { ⌜ (k ≤ 32) × (k ≤ length (now links)) × (at < 256) × (at + 2 * k ≤ length (now mem)) ⌝ }
-    ensures { λ _. ⌜ now (mem .exit) ≡ named k (now (mem .entry)) at (now (links .entry)) ⌝ }
+// Writes link numbers from a place of the header on.
+fn store_names(mem: &mut [u8], at: usize, links: &[u16])
+    requires { ⌜ (length (now links) ≤ 32) × (at < 256) × (at + 2 * length (now links) ≤ length (now mem)) ⌝ }
+    ensures { λ _. ⌜ now (mem .exit) ≡ named (length (now (links .entry))) (now (mem .entry)) at (now (links .entry)) ⌝ }
 {
+    let k = links.len();
     let mut j = 0;
     while j < k {
         layout::store_number(mem, at + 2 * j, links[j]);
@@ -81,4 +84,20 @@ fn empty_links(mem: &mut [u8], size: usize, k: usize)
         mem[at] = 0;
         l += 1;
     }
+}
+
+// Writes the header of what was made and empties its links.
+fn complete(mem: &mut [u8], capacity: usize, made: Making)
+    requires { ⌜ (capacity ≤ 16) × (need (sizeOf capacity) ≤ length (now mem)) × (Modest made) ⌝ }
+    ensures { λ _. ⌜ now (mem .exit) ≡ completed (now (mem .entry)) capacity made ⌝ }
+{
+    let links = made.links;
+    let inputs = made.inputs;
+    let results = made.results;
+    let input_links = made.input_links;
+    let result_links = made.result_links;
+    store_figures(mem, capacity as u8, made.operators as u16, links, inputs as u8, results as u8, made.trigger);
+    store_names(mem, 10, &input_links[..inputs]);
+    store_names(mem, 74, &result_links[..results]);
+    empty_links(mem, 5 * capacity + 1, links as usize);
 }
