@@ -1,3 +1,4 @@
+pub mod Positions
 pub mod FormedGraphs
 pub mod MadeSound
 pub mod StandsValid

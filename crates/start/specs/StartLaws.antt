@@ -1,11 +1,11 @@
 -- Laws of start's definitions: how its loops write names and empty links, and what start gives in each of its cases. Assumes nothing.
-use Prim.Native.Nat.{ℕ, zero, suc, _+_, _-_, _*_, _/_, _%_, _≤_, _<_}
-use mathlib.Core.Path.{_≡_, refl, sym, ap, _∙_}
+use Prim.Native.Nat.{ℕ, suc, _+_, _*_, _≤_, _<_}
+use mathlib.Core.Path.{_≡_, refl, _∙_}
 use mathlib.Core.Bool.{Bool, true, false, _&&_}
-use mathlib.Core.List.{List, [], _∷_}
+use mathlib.Core.List.{List}
 use native.Mathlib.Omega.{arith}
 use lib.Dec.{leb, ltb}
-use lib.ListN.{length, getD, set, length-set}
+use lib.ListN.{length, getD, set}
 use borrow.Author.Tests.{lt-ltb, le-ltb, le-leb, lt-leb, ltb-false, leb-true}
 use Rattle.value.specs.Operators.{pick}
 use Rattle.formula.specs.declared.Refusal.{Refusal}
@@ -16,8 +16,8 @@ use Rattle.formula.specs.Refusals.{numberOf}
 use Rattle.formula.specs.Tree.{Exp, formulaOf}
 use Rattle.formula.specs.Tests.{verdictOf}
 use Rattle.layout.specs.Layout.{stored16, sizeOf, linkAt, need, capacityIn}
-use Rattle.graph.specs.Translation.{Made, madeOf}
-use Rattle.start.specs.Start.{Begun, begun, refusal, accepted, figureBytes, figured, named, emptied, startedMemory, byVerdict, started}
+use Rattle.graph.specs.Translation.{madeOf}
+use Rattle.start.specs.Start.{begun, refusal, accepted, figureBytes, figured, named, emptied, startedMemory, byVerdict, started}
 
 -- ---- the header's figures as they are written
 

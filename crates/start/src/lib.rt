@@ -47,7 +47,15 @@ fn capacity_asked(capacity: u32) -> usize
 }
 
 // Writes the header's figures: no set is untaken.
-fn store_figures(mem: &mut [u8], capacity: u8, operators: u16, links: u16, inputs: u8, results: u8, trigger: u16)
+fn store_figures(
+    mem: &mut [u8],
+    capacity: u8,
+    operators: u16,
+    links: u16,
+    inputs: u8,
+    results: u8,
+    trigger: u16,
+)
     requires { ⌜ 10 ≤ length (now mem) ⌝ }
     ensures { λ _. ⌜ now (mem .exit) ≡ figured (now (mem .entry)) capacity operators links inputs results trigger ⌝ }
 {
@@ -96,7 +104,15 @@ fn complete(mem: &mut [u8], capacity: usize, made: Making)
     let results = made.results;
     let input_links = made.input_links;
     let result_links = made.result_links;
-    store_figures(mem, capacity as u8, made.operators as u16, links, inputs as u8, results as u8, made.trigger);
+    store_figures(
+        mem,
+        capacity as u8,
+        made.operators as u16,
+        links,
+        inputs as u8,
+        results as u8,
+        made.trigger,
+    );
     store_names(mem, 10, &input_links[..inputs]);
     store_names(mem, 74, &result_links[..results]);
     empty_links(mem, 5 * capacity + 1, links as usize);

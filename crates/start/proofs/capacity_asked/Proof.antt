@@ -10,8 +10,6 @@ use borrow.Author.Tests.{le-leb, lt-leb}
 use Rattle.layout.specs.Layout.{capacityIn}
 use native.Mathlib.Omega.{arith}
 
-
-
 -- src/lib.rt:48:9  if capacity < 1 { ⏎ return 1;
 returns : tie.Need-returns
 unfolding capacityIn

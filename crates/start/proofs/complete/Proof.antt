@@ -15,8 +15,6 @@ use Rattle.start.specs.Start.{figured, named, emptied}
 use Rattle.start.specs.Completed.{inputNames, resultNames, completed, input-name-count, result-name-count}
 use native.Mathlib.Omega.{arith}
 
-
-
 -- src/lib.rt:106:24  let result_links = made.result_links; ⏎ store_figures(mem, capacity as u8, made.operators as u16, links, inputs as u8, results as u8, made.trigger);
 cast-store-figures : tie.Need-cast-store-figures
 cast-store-figures c = search needs

@@ -13,8 +13,6 @@ use Rattle.start.specs.StartLaws.{emptied-none, emptied-more}
 use native.Mathlib.Omega.{arith}
 use borrow.Author.Needs.{needs}
 
-
-
 abbrev Inv-loop : tie.InvT-loop
 Inv-loop mem₀ size k l₀ mem l = (l ≤ k) × (mem ≡ emptied l size mem₀) × (length mem ≡ length mem₀)
 

@@ -6,8 +6,6 @@ use Rattle.start.proofs.refused.Lts as lts
 use Rattle.formula.proofs.refusal_number.Reads as refusal-number-reads
 use mathlib.Core.Path.{_≡_, refl}
 
-
-
 -- src/lib.rt:35:18  StartAnswer { ⏎ refusal: formula::refusal_number(r),
 refusal-number-requires : tie.Need-refusal-number-requires
 refusal-number-requires c κs = search needs

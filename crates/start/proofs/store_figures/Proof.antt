@@ -12,8 +12,6 @@ use Rattle.layout.specs.Layout.{stored16}
 use Rattle.start.specs.StartLaws.{figures-written}
 use native.Mathlib.Omega.{arith}
 
-
-
 -- src/lib.rt:61:5  { ⏎ mem[0] = capacity;
 slice-write-mem : tie.Need-slice-write-mem
 slice-write-mem c = search needs

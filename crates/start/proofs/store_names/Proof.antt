@@ -13,8 +13,6 @@ use Rattle.start.specs.StartLaws.{named-none, named-more}
 use native.Mathlib.Omega.{arith}
 use borrow.Author.Needs.{needs}
 
-
-
 abbrev Inv-loop : tie.InvT-loop
 Inv-loop mem₀ at links k j₀ mem j = (j ≤ length links) × (mem ≡ named j mem₀ at links) × (length mem ≡ length mem₀)
 
