@@ -5,3 +5,4 @@ pub mod StandsValid
 pub mod Lent
 pub mod WrittenRecords
 pub mod StartedStands
+pub mod StartCases
