@@ -1,9 +1,10 @@
 -- The made graph of an accepted sheet is sound (view/specs/Sound): its wiring, its figures and its operators are such as the machine's memory asks.
 -- Document 01, refusal 31: "never given for a machine that start made". Assumes nothing but the verdict.
 use Prim.Native.Nat.{ℕ, _+_, _≤_}
-use mathlib.Core.Path.{_≡_, sym, subst}
+use mathlib.Core.Path.{_≡_, refl, sym, subst}
 use mathlib.Core.Bool.{Bool, true, false, cond, _&&_}
 use mathlib.Core.List.{List, [], _∷_}
+use lib.ListN.{length}
 use native.Mathlib.Omega.{arith}
 use Rattle.names.specs.Names.{Names, bit, size, members}
 use Rattle.formula.specs.Tree.{Exp, identifier, whole, truth, pair, operator, letE, ifE, forE, Body, ret, iter, letB, ifB, formulaOf}
@@ -11,7 +12,7 @@ use Rattle.formula.specs.Free.{freeE, freeB}
 use Rattle.formula.specs.Widths.{width, returned, iterated}
 use Rattle.formula.specs.Count.{returns, iterates}
 use Rattle.formula.specs.Admitted.{AdmittedE, AdmittedB}
-use Rattle.formula.specs.Tests.{verdictOf}
+use Rattle.formula.specs.Tests.{verdictOf, figuresOf}
 use Rattle.formula.specs.declared.Verdict.the-variants.{Passed}
 use Rattle.graph.specs.Assembly.{Graph, wire, Gate, T, F, upFrom, linksOf}
 use Rattle.graph.specs.Translation.{row, gated, arm, merged, excepted, mergeRow, exceptRow, straight, copied, iteratedJoin, returnedJoin, joined, graphE, graphB, portOf, madeOf, testName, returnedName, iteratedName, joinName}
@@ -128,3 +129,12 @@ made-sound s accepted =
       few-results = made-results x h;
       formed = each-ith Formed (madeOf x .operators) (operators-formed x h);
     }
+
+-- Start tells the figures that reading tells.
+pub same-figures : (s : List ℕ) → verdictOf s ≡ Passed
+    → (length (madeOf (formulaOf s) .operators) ≡ figuresOf s .operators) × (madeOf (formulaOf s) .inputs ≡ figuresOf s .inputs)
+    × (length (madeOf (formulaOf s) .results) ≡ figuresOf s .results)
+unfolding figuresOf madeOf
+same-figures s accepted =
+    let h : AdmittedE (formulaOf s) = accepted-admitted s accepted in
+    (made-operators (formulaOf s) h, refl, result-count (formulaOf s) h)
