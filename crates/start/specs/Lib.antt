@@ -3,3 +3,5 @@ pub mod StartLaws
 pub mod ReadBack
 pub mod HeaderLaws
 pub mod Completed
+pub mod AcceptedSheets
+pub mod SheetTables
