@@ -1,1 +1,6 @@
 pub mod Making
+pub mod Room
+pub mod Ranges
+pub mod Parts
+pub mod Rows
+pub mod AcceptedSheets

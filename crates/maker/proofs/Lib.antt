@@ -1,0 +1,6 @@
+pub mod Numbering
+pub mod Splits
+pub mod Steps
+pub mod Choosing
+pub mod Looping
+pub mod Whole
