@@ -3,5 +3,4 @@ pub mod StartLaws
 pub mod ReadBack
 pub mod HeaderLaws
 pub mod Completed
-pub mod AcceptedSheets
 pub mod SheetTables

@@ -12,7 +12,7 @@ use Rattle.formula.specs.Tree.{expOf}
 use Rattle.maker.specs.Making.{makingOf}
 use Rattle.maker.specs.declared.make.Making.{Making}
 use Rattle.start.specs.Completed.{Modest, made-modest}
-use Rattle.start.specs.AcceptedSheets.{accepted-makeable}
+use Rattle.maker.specs.AcceptedSheets.{accepted-makeable}
 
 module _ (s : List ℕ) (x : Tables) (told : Told s x) (passes : x .verdict ≡ Passed) where
   abbrev A : Accepts s x
