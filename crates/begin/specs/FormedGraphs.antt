@@ -1,17 +1,17 @@
 -- Each operator of a made graph has the ports and the register of its kind (view/specs/Sound: Formed): for a copy, a gate and the gates of a loop, and
 -- from there by induction over the graph language (graph/specs/Assembly). Document 01, refusal 31: "a stored figure .. outside its range". Assumes of a
 -- graph that it is fit and that its operators have codes 1 to 11 and its constants values in range.
-use Prim.Native.Nat.{ℕ, zero, suc, _+_, _-_, _≤_, _<_}
-use mathlib.Core.Path.{_≡_, refl, sym, ap, _∙_, subst}
-use mathlib.Core.Bool.{Bool, true, false, cond, _||_}
+use Prim.Native.Nat.{ℕ, zero, suc, _+_, _≤_, _<_}
+use mathlib.Core.Path.{_≡_, refl, sym, _∙_, subst}
+use mathlib.Core.Bool.{Bool, true, false}
 use mathlib.Core.List.{List, [], _∷_, _++_}
-use mathlib.Core.Option.{Option, none, some}
+use mathlib.Core.Option.{none, some}
 use lib.ListN.{length, drop, getD}
-use lib.Dec.{leb, ltb, eqb}
-use borrow.Author.Tests.{lt-ltb, le-ltb, le-leb, lt-leb, ne-eqb, eq-eqb}
+use lib.Dec.{ltb}
+use borrow.Author.Tests.{lt-ltb, le-ltb, le-leb, ne-eqb}
 use native.Mathlib.Omega.{arith}
 use native.Mathlib.Decide.{decLt, ℕ-discrete}
-use Rattle.value.specs.Operators.{pick, operands}
+use Rattle.value.specs.Operators.{operands}
 use Rattle.value.specs.Bytes.{InRange}
 use Rattle.names.specs.Names.{Names, common, without}
 use Rattle.layout.specs.Kinds.{hasPort, mayLack, inputsOfKind, outputsOfKind}
@@ -181,8 +181,3 @@ graph-formed (loop ns a b) n env fit proper =
     (each-append Formed B (C ++ R) (graph-formed b (o + s) inner (fit .1) (proper .1))
     (each-append Formed C R (chain-formed s it c)
     (rings-formed (listed (free b)) (memberOf ns) (chainEnds it c s) (named ns (drop 1 outs) env) (named ns (outputs a m e₁) env) (secondUse f g n env) inner))))
-
-pub each-ith : (P : Operator → Type 0) (os : List Operator) → Each P os → (i : ℕ) (o : Operator) → Ith os i o → P o
-each-ith P [] h i o e = absurd e
-each-ith P (x ∷ os) h zero o e = subst P e (h .0)
-each-ith P (x ∷ os) h (suc i) o e = each-ith P os (h .1) i o e

@@ -1,11 +1,11 @@
 -- A machine stands in every memory that agrees with its own in the bytes that a machine needs: a call may be lent the memory in part or with more behind it
 -- (document 01, "Running": "each push, fire, run or take is lent that memory as the call before left it"; 11 where less is lent). Assumes a sound graph.
-use Prim.Native.Nat.{ℕ, zero, suc, _+_, _-_, _*_, _≤_, _<_}
+use Prim.Native.Nat.{ℕ, zero, suc, _+_, _*_, _≤_, _<_}
 use mathlib.Core.Path.{_≡_, refl, sym, ap, ap₂, _∙_, subst}
-use mathlib.Core.Bool.{Bool, true, false}
-use mathlib.Core.List.{List, [], _∷_, _++_}
+use mathlib.Core.Bool.{Bool}
+use mathlib.Core.List.{List, _++_}
 use lib.ListN.{length, getD, take, drop, length-take, length-append, List·getD-append}
-use lib.Seq.{getD-take, getD-drop, ext-getD, length-take-le}
+use lib.Seq.{getD-take, getD-drop, ext-getD}
 use lib.Dec.{ltb}
 use borrow.Author.Tests.{lt-ltb, le-leb}
 use native.Mathlib.Omega.{arith}
@@ -13,11 +13,10 @@ use Rattle.value.specs.Operators.{pick}
 use Rattle.value.specs.Bytes.{wordAt}
 use Rattle.formula.specs.Refusals.{numberOf}
 use Rattle.formula.specs.declared.Refusal.the-variants.{Memory, Altered}
-use Rattle.network.specs.Net.{Token, Links}
+use Rattle.network.specs.Net.{Links}
 use Rattle.layout.specs.Layout.{number16, nameAt, operatorAt, registerAt, sizeOf, linkAt, need, capacityIn, capacityOf, part}
 use Rattle.layout.specs.Fits.{stretch-fits}
 use Rattle.machine.specs.Parts.{part-length}
-use Rattle.machine.specs.LinkLaws.{linkPart}
 use Rattle.valid.specs.Below.{and-both}
 use Rattle.valid.specs.Valid.{valid}
 use Rattle.calls.specs.Calls.{standing}
@@ -25,7 +24,7 @@ use Rattle.graph.specs.Assembly.{Operator}
 use Rattle.graph.specs.Translation.{Made}
 use Rattle.view.specs.Sound.{Ith, Sound}
 use Rattle.view.specs.Stands.{Waits, Recorded, Registered, Stands}
-use Rattle.begin.specs.StandsValid.{ith-inside}
+use Rattle.begin.specs.Positions.{ith-inside}
 
 -- ---- memories that agree up to a place
 

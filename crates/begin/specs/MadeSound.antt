@@ -1,31 +1,31 @@
 -- The made graph of an accepted sheet is sound (view/specs/Sound): its wiring, its figures and its operators are such as the machine's memory asks.
 -- Document 01, refusal 31: "never given for a machine that start made". Assumes nothing but the verdict.
-use Prim.Native.Nat.{ℕ, zero, suc, _+_, _-_, _≤_, _<_}
-use mathlib.Core.Path.{_≡_, refl, sym, ap, _∙_, subst}
+use Prim.Native.Nat.{ℕ, _+_, _≤_}
+use mathlib.Core.Path.{_≡_, refl, sym, subst}
 use mathlib.Core.Bool.{Bool, true, false, cond, _&&_}
 use mathlib.Core.List.{List, [], _∷_}
 use lib.ListN.{length}
 use native.Mathlib.Omega.{arith}
-use Rattle.value.specs.Bytes.{InRange}
-use Rattle.names.specs.Names.{Names, trigger, bit, size, below, members}
-use Rattle.names.proofs.Counts.{sizeFrom-le}
+use Rattle.names.specs.Names.{Names, bit, size, members}
 use Rattle.formula.specs.Tree.{Exp, identifier, whole, truth, pair, operator, letE, ifE, forE, Body, ret, iter, letB, ifB, formulaOf}
-use Rattle.formula.specs.Free.{freeE, freeB, inputsOf}
+use Rattle.formula.specs.Free.{freeE, freeB}
 use Rattle.formula.specs.Widths.{width, returned, iterated}
-use Rattle.formula.specs.Count.{countE, returns, iterates}
+use Rattle.formula.specs.Count.{returns, iterates}
 use Rattle.formula.specs.Admitted.{AdmittedE, AdmittedB}
-use Rattle.formula.specs.Tests.{verdictOf}
+use Rattle.formula.specs.Tests.{verdictOf, figuresOf}
 use Rattle.formula.specs.declared.Verdict.the-variants.{Passed}
-use Rattle.graph.specs.Assembly.{Graph, wire, Gate, T, F, IC, upFrom, linksOf, operatorsOf}
+use Rattle.graph.specs.Assembly.{Graph, wire, Gate, T, F, upFrom, linksOf}
 use Rattle.graph.specs.Translation.{row, gated, arm, merged, excepted, mergeRow, exceptRow, straight, copied, iteratedJoin, returnedJoin, joined, graphE, graphB, portOf, madeOf, testName, returnedName, iteratedName, joinName}
 use Rattle.yields.specs.FitGraphs.{fit-E}
-use Rattle.yields.specs.BodyWidths.{wide-enough, not-too-wide}
+use Rattle.yields.specs.BodyWidths.{wide-enough}
 use Rattle.wiring.specs.FormulaCounts.{made-operators, made-links-bound}
-use Rattle.wiring.specs.MadeGraph.{trigger-link, port-count, result-count, well-wired}
+use Rattle.wiring.specs.MadeGraph.{port-count, result-count, well-wired}
 use Rattle.verdicts.specs.Admitting.{accepted-admitted, accepted-operators}
 use Rattle.reference.specs.Plugged.{Each}
+use Rattle.start.specs.Completed.{made-inputs, made-results}
 use Rattle.view.specs.Sound.{Formed, Sound}
-use Rattle.begin.specs.FormedGraphs.{ProperGate, Proper, graph-formed, each-ith}
+use Rattle.begin.specs.FormedGraphs.{ProperGate, Proper, graph-formed}
+use Rattle.begin.specs.Positions.{each-ith}
 
 -- ---- codes and constants of the translation
 
@@ -99,10 +99,6 @@ mutual
 
 -- ---- the figures
 
-inputs-few : (x : Exp) → madeOf x .inputs ≤ 32
-unfolding madeOf portOf below
-inputs-few x = subst (λ (k : ℕ). k ≤ 32) (trigger-link x) (sizeFrom-le 32 (freeE x))
-
 names-below : (x : Exp) → madeOf x .inputs + bit (madeOf x .triggered) ≤ madeOf x .links
 unfolding madeOf
 names-below x = subst (λ (k : ℕ). k ≤ size (freeE x) + linksOf (graphE x)) (port-count x) (up (size (freeE x)) (linksOf (graphE x)))
@@ -127,9 +123,18 @@ made-sound s accepted =
       wired = well-wired x h few;
       few-operators = subst (λ (n : ℕ). n ≤ 1024) (sym (made-operators x h)) few;
       few-links = made-links-bound x h few;
-      few-inputs = inputs-few x;
+      few-inputs = made-inputs x;
       names-below = names-below x;
       some-result = subst (λ (n : ℕ). 1 ≤ n) (sym (result-count x h)) (wide-enough x h);
-      few-results = subst (λ (n : ℕ). n ≤ 16) (sym (result-count x h)) (not-too-wide x h);
+      few-results = made-results x h;
       formed = each-ith Formed (madeOf x .operators) (operators-formed x h);
     }
+
+-- Start tells the figures that reading tells.
+pub same-figures : (s : List ℕ) → verdictOf s ≡ Passed
+    → (length (madeOf (formulaOf s) .operators) ≡ figuresOf s .operators) × (madeOf (formulaOf s) .inputs ≡ figuresOf s .inputs)
+    × (length (madeOf (formulaOf s) .results) ≡ figuresOf s .results)
+unfolding figuresOf madeOf
+same-figures s accepted =
+    let h : AdmittedE (formulaOf s) = accepted-admitted s accepted in
+    (made-operators (formulaOf s) h, refl, result-count (formulaOf s) h)

@@ -1,8 +1,8 @@
 -- A memory in which a sound graph's machine stands is valid: document 01's refusal 31 is "never given for a machine that start made and nothing but its calls
 -- has touched since". One section for each part of valid/specs/Valid. Assumes a sound graph and a capacity of 1 to 16.
-use Prim.Native.Nat.{ℕ, zero, suc, _+_, _-_, _*_, _≤_, _<_}
+use Prim.Native.Nat.{ℕ, zero, suc, _+_, _*_, _≤_, _<_}
 use mathlib.Core.Path.{_≡_, refl, sym, ap, ap₂, _∙_, subst}
-use mathlib.Core.Logic.{_≢_, _⊎_, inl, inr}
+use mathlib.Core.Logic.{_≢_, inl, inr}
 use mathlib.Core.Bool.{Bool, true, false, cond, _&&_, _||_, not}
 use mathlib.Core.List.{List, [], _∷_, _++_}
 use mathlib.Core.Option.{Option, none, some}
@@ -13,19 +13,19 @@ use native.Mathlib.Omega.{arith}
 use native.Mathlib.Decide.{ℕ-discrete}
 use Rattle.value.specs.declared.Value.{Value}
 use Rattle.value.specs.Operators.{pick}
-use Rattle.value.specs.Bytes.{InRange, wordOf, valueOf, isSome, wordAt}
+use Rattle.value.specs.Bytes.{InRange, wordOf, valueOf, isSome}
 use Rattle.value.proofs.Words.{value-of-word}
 use Rattle.names.specs.Names.{bit}
 use Rattle.formula.specs.Refusals.{numberOf}
 use Rattle.formula.specs.declared.Refusal.the-variants.{Memory, Altered}
 use Rattle.network.specs.Rules.{Kind, constant, copy, operator, T-gate, F-gate, M-gate, E-gate, IC-gate, FM-gate, FS-gate, Register}
-use Rattle.network.specs.Net.{Token, val, mark, Links}
+use Rattle.network.specs.Net.{Token, Links}
 use Rattle.network.specs.Fill.{Ports, remembering}
 use Rattle.network.specs.Firing.{Holds}
 use Rattle.network.specs.Uses.{In}
 use Rattle.pieces.specs.Sets.{Different}
 use Rattle.queue.specs.Stretch.{waiting}
-use Rattle.layout.specs.Layout.{capacityByte, operatorsOf, linksOf, inputsOf, resultsOf, untakenOf, noLink, number16, nameAt, triggerOf, inputLink, resultLink, operatorAt, kindByte, portOf, registerAt, sizeOf, linkAt, need, capacityIn, capacityOf}
+use Rattle.layout.specs.Layout.{capacityByte, operatorsOf, linksOf, inputsOf, resultsOf, untakenOf, noLink, number16, nameAt, triggerOf, inputLink, operatorAt, kindByte, portOf, sizeOf, linkAt, need, capacityIn, capacityOf}
 use Rattle.layout.specs.Fits.{stretch-fits}
 use Rattle.layout.specs.Kinds.{byteOf, Coded, hasPort, mayLack}
 use Rattle.machine.specs.Parts.{part-length}
@@ -37,9 +37,8 @@ use Rattle.graph.specs.Assembly.{Operator}
 use Rattle.graph.specs.Translation.{Made}
 use Rattle.reference.specs.Plugged.{link-of, portsOf}
 use Rattle.wiring.specs.Links.{optional, inputLinks, outputLinks}
-use Rattle.wiring.specs.Wiring.{inputsAt, outputsAt}
-use Rattle.wiring.specs.MadeGraph.{WellWired}
 use Rattle.view.specs.Sound.{Ith, PortOf, PortIs, HeldOf, Formed, Sound}
+use Rattle.begin.specs.Positions.{ith-there, ith-inputs, ith-outputs, in-first, in-rest, in-optional, in-getD, different-parts, different-rest, different-getD}
 use Rattle.view.specs.Stands.{Waits, Recorded, wordIn, Fine, Registered, Stands}
 
 -- ---- truths
@@ -50,62 +49,6 @@ or-first b e = rw e refl
 or-second : (a : Bool) {b : Bool} → b ≡ true → a || b ≡ true
 or-second true e = refl
 or-second false e = e
-
--- ---- positions
-
-pub ith-there : (os : List Operator) (i : ℕ) → i < length os → (o : Operator) × Ith os i o
-ith-there [] i h = absurd (omega arith)
-ith-there (o ∷ os) zero h = (o, refl)
-ith-there (o ∷ os) (suc i) h = ith-there os i (omega arith)
-
-pub ith-inside : (os : List Operator) (i : ℕ) (o : Operator) → Ith os i o → i < length os
-ith-inside [] i o e = absurd e
-ith-inside (x ∷ os) zero o e = omega arith
-ith-inside (x ∷ os) (suc i) o e = let h = ith-inside os i o e in omega arith
-
-pub ith-inputs : (os : List Operator) (i : ℕ) (o : Operator) → Ith os i o → inputsAt os i ≡ inputLinks o
-unfolding inputsAt
-ith-inputs [] i o e = absurd e
-ith-inputs (x ∷ os) zero o e = ap (λ (y : Operator). inputLinks y) e
-ith-inputs (x ∷ os) (suc i) o e = ith-inputs os i o e
-
-pub ith-outputs : (os : List Operator) (i : ℕ) (o : Operator) → Ith os i o → outputsAt os i ≡ outputLinks o
-unfolding outputsAt
-ith-outputs [] i o e = absurd e
-ith-outputs (x ∷ os) zero o e = ap (λ (y : Operator). outputLinks y) e
-ith-outputs (x ∷ os) (suc i) o e = ith-outputs os i o e
-
-pub in-first : (l : ℕ) (xs ys : List ℕ) → In l xs → In l (xs ++ ys)
-in-first l [] ys i = absurd i
-in-first l (x ∷ xs) ys (inl e) = inl e
-in-first l (x ∷ xs) ys (inr i) = inr (in-first l xs ys i)
-
-pub in-rest : (l : ℕ) (xs ys : List ℕ) → In l ys → In l (xs ++ ys)
-in-rest l [] ys i = i
-in-rest l (x ∷ xs) ys i = inr (in-rest l xs ys i)
-
-pub in-optional : (l : ℕ) (p : Option ℕ) → p ≡ some l → In l (optional p)
-in-optional l p e = rw e (inl refl)
-
-pub in-getD : (i : ℕ) (ls : List ℕ) → i < length ls → In (getD ls i 0) ls
-in-getD i [] h = absurd (omega arith)
-in-getD zero (x ∷ ls) h = inl refl
-in-getD (suc i) (x ∷ ls) h = inr (in-getD i ls (omega arith))
-
-different-parts : (l : ℕ) (xs ys : List ℕ) → Different (xs ++ ys) → In l xs → In l ys → ⊥
-different-parts l [] ys d i j = i
-different-parts l (x ∷ xs) ys d (inl e) j = d .0 (subst (λ (z : ℕ). In z (xs ++ ys)) e (in-rest l xs ys j))
-different-parts l (x ∷ xs) ys d (inr i) j = different-parts l xs ys (d .1) i j
-
-different-rest : (xs ys : List ℕ) → Different (xs ++ ys) → Different ys
-different-rest [] ys d = d
-different-rest (x ∷ xs) ys d = different-rest xs ys (d .1)
-
-pub different-getD : (ls : List ℕ) → Different ls → (i j : ℕ) → i < length ls → j < i → getD ls i 0 ≢ getD ls j 0
-different-getD [] d i j h k e = omega arith
-different-getD (x ∷ ls) d zero j h k e = omega arith
-different-getD (x ∷ ls) d (suc i) zero h k e = d .0 (subst (λ (z : ℕ). In z ls) e (in-getD i ls (omega arith)))
-different-getD (x ∷ ls) d (suc i) (suc j) h k e = different-getD ls (d .1) i j (omega arith) (omega arith) e
 
 -- ---- names in a row
 

@@ -1,19 +1,16 @@
 -- Start leaves the machine of the made graph, empty: its operators and registers, its header, no token on any link, no set untaken, and every FM and FS as before
 -- its first firing. Document 01, demand 3: "Start a machine empty for an accepted sheet". Assumes a sound graph, a capacity of 1 to 16 and a memory
 -- of the length that refusal 11 asks for.
-use Prim.Native.Nat.{ℕ, zero, suc, _+_, _-_, _*_, _≤_, _<_}
-use mathlib.Core.Path.{_≡_, refl, sym, ap, ap₂, _∙_, subst}
-use mathlib.Core.Logic.{_⊎_, inl, inr}
-use mathlib.Core.Bool.{Bool, true, false, cond, false≢true}
+use Prim.Native.Nat.{ℕ, zero, suc, _+_, _≤_, _<_}
+use mathlib.Core.Path.{_≡_, refl, sym, ap, _∙_, subst}
+use mathlib.Core.Bool.{Bool, true, false, false≢true}
 use mathlib.Core.List.{List, [], _∷_, _++_}
 use mathlib.Core.Option.{Option, none, some}
 use native.Mathlib.Omega.{arith}
 use lib.ListN.{length, getD, drop}
 use lib.Seq.{getD-take, getD-drop}
-use Rattle.value.specs.declared.Value.{Value}
-use Rattle.value.specs.Bytes.{InRange, wordOf, wordAt}
 use Rattle.value.proofs.Words.{word-lt}
-use Rattle.formula.specs.Tree.{Exp, formulaOf}
+use Rattle.formula.specs.Tree.{formulaOf}
 use Rattle.formula.specs.Tests.{verdictOf}
 use Rattle.formula.specs.declared.Verdict.the-variants.{Passed}
 use Rattle.network.specs.Rules.{Kind, constant, copy, operator, T-gate, F-gate, M-gate, E-gate, IC-gate, FM-gate, FS-gate, Register}
@@ -23,7 +20,7 @@ use Rattle.network.specs.Firing.{Holds}
 use Rattle.network.specs.Uses.{In}
 use Rattle.pieces.specs.Load.{put, put-off, On}
 use Rattle.queue.specs.Stretch.{waiting}
-use Rattle.layout.specs.Layout.{capacityByte, operatorsOf, linksOf, inputsOf, resultsOf, untakenOf, triggerOf, inputLink, resultLink, number16, nameAt, operatorAt, registerAt, sizeOf, linkAt, need, part}
+use Rattle.layout.specs.Layout.{operatorAt, registerAt, sizeOf, linkAt, need}
 use Rattle.layout.specs.Fits.{stretch-fits}
 use Rattle.machine.specs.LinkLaws.{linkPart}
 use Rattle.graph.specs.Assembly.{Operator}
@@ -34,18 +31,18 @@ use Rattle.wiring.specs.Links.{optional, outputLinks}
 use Rattle.wiring.specs.Ports.{Ported}
 use Rattle.verdicts.specs.Owed.{creditLink}
 use Rattle.verdicts.specs.Running.{startOf}
-use Rattle.maker.specs.Encode.{heldOf, encode, encoded, written, length-written}
-use Rattle.maker.specs.Encode.{portOf as portWritten}
-use Rattle.start.specs.Start.{headed, emptied, startedMemory}
+use Rattle.emit.specs.Encode.{heldOf, encode, encoded, written, length-written}
+use Rattle.emit.specs.Encode.{portOf as portWritten}
+use Rattle.start.specs.Start.{Begun, headed, emptied, startedMemory, started}
+use Rattle.start.specs.StartLaws.{accepted-start}
 use Rattle.start.specs.ReadBack.{length-emptied, emptied-kept, emptied-read}
 use Rattle.start.specs.HeaderLaws.{Fits, length-headed, headed-kept, headed-capacity, headed-operators, headed-links, headed-inputs, headed-results, headed-untaken, headed-trigger, headed-input, headed-result}
-use Rattle.view.specs.Sound.{Ith, HeldOf, Formed, Sound}
+use Rattle.view.specs.Sound.{Ith, HeldOf, Sound}
 use Rattle.view.specs.Stands.{Waits, Recorded, wordIn, Fine, Registered, Stands}
-use Rattle.begin.specs.FormedGraphs.{each-ith}
-use Rattle.begin.specs.StandsValid.{ith-inside, ith-outputs, in-first, in-optional, in-getD}
+use Rattle.begin.specs.Positions.{each-ith, ith-each, ith-inside, ith-outputs, in-first, in-optional, in-getD}
 use Rattle.begin.specs.MadeSound.{made-sound}
 use Rattle.begin.specs.Lent.{agree-number, agree-name}
-use Rattle.begin.specs.WrittenRecords.{Holds-record, Same-operator, record-kept, Elsewhere, written-kept, written-read}
+use Rattle.begin.specs.WrittenRecords.{Holds-record, Same-operator, record-kept, written-read}
 
 -- ---- registers at the start
 
@@ -91,10 +88,6 @@ port-is (some l) = refl
 -- the links on which a mark lies
 abbrev Marked : ℕ → Type 0
 Marked r = (registers ≤ r) × (r < registers + 3105)
-
-ith-each : (P : Operator → Type 0) (os : List Operator) → ((i : ℕ) (o : Operator) → Ith os i o → P o) → Each P os
-ith-each P [] h = tt
-ith-each P (o ∷ os) h = (h zero o refl, ith-each P os (λ i y e. h (suc i) y e))
 
 module _ (g : Made) (S : Sound g) where
   -- no token waits; FM and FS are marked as not yet fired
@@ -254,3 +247,11 @@ pub started-stands : (s : List ℕ) → verdictOf s ≡ Passed → (capacity : �
     → Stands (madeOf (formulaOf s)) capacity (startedMemory (madeOf (formulaOf s)) capacity m) (startOf (formulaOf s))
 unfolding startedMemory
 started-stands s accepted capacity low high m long = stands (madeOf (formulaOf s)) (made-sound s accepted) capacity m long
+
+-- So does the memory of every start that gave no refusal.
+pub accepted-stands : (s : List ℕ) (capacity : ℕ) (m : List ℕ) → started s capacity m .answer .refusal ≡ 0
+    → Stands (madeOf (formulaOf s)) capacity (started s capacity m .mem) (startOf (formulaOf s))
+accepted-stands s capacity m e =
+    let a = accepted-start s capacity m e in
+    subst (λ (b : Begun). Stands (madeOf (formulaOf s)) capacity (b .mem) (startOf (formulaOf s))) (sym (a .whole))
+    (started-stands s (a .passed) capacity (a .some) (a .most) m (a .long))

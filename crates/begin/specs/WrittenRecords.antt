@@ -1,20 +1,20 @@
--- What is read from a memory into which the operators of a graph were written (maker/specs/Encode: written; layout/specs/Record: placed): each has its own record and
+-- What is read from a memory into which the operators of a graph were written (emit/specs/Encode: written; layout/specs/Record: placed): each has its own record and
 -- register, and all other bytes are as they were. Assumes at most 1,024 operators and a memory that has room for them.
-use Prim.Native.Nat.{ℕ, zero, suc, _+_, _-_, _*_, _/_, _%_, _≤_, _<_}
+use Prim.Native.Nat.{ℕ, zero, suc, _+_, _*_, _/_, _%_, _≤_, _<_}
 use mathlib.Core.Path.{_≡_, refl, sym, ap, ap₂, _∙_, subst}
 use mathlib.Core.Logic.{_⊎_, inl, inr}
 use mathlib.Core.List.{List, [], _∷_}
 use native.Mathlib.Omega.{arith}
 use lib.ListN.{length, getD}
 use lib.Seq.{length-sets}
-use Rattle.value.specs.Bytes.{wordAt, stored}
+use Rattle.value.specs.Bytes.{wordAt}
 use Rattle.value.proofs.Words.{word-stored, byte-before}
 use Rattle.layout.specs.Layout.{number16, nameAt, operatorAt, kindByte, portOf, registerAt}
 use Rattle.layout.specs.Record.{recordBytes, recorded, placed}
 use Rattle.layout.specs.declared.Operator.{Operator as Record}
 use Rattle.machine.specs.LinkLaws.{byte-kept}
 use Rattle.graph.specs.Assembly.{Operator}
-use Rattle.maker.specs.Encode.{heldOf, encode, encoded, written, length-placed}
+use Rattle.emit.specs.Encode.{heldOf, encode, encoded, written, length-placed}
 use Rattle.start.specs.ReadBack.{Beside, row-kept, row-read}
 use Rattle.view.specs.Sound.{Ith}
 

@@ -2,3 +2,5 @@ pub mod Start
 pub mod StartLaws
 pub mod ReadBack
 pub mod HeaderLaws
+pub mod Completed
+pub mod SheetTables

@@ -1,13 +1,13 @@
 -- What is read from a memory into which start wrote: figures of two bytes, bytes in a row, names in a row, empty links; and that all other bytes are as they
 -- were (document 01: a contract "on its answer and every lent byte at its end"). Assumes that what is written lies in the memory.
-use Prim.Native.Nat.{ℕ, zero, suc, _+_, _-_, _*_, _/_, _%_, _≤_, _<_}
-use mathlib.Core.Path.{_≡_, refl, sym, ap, ap₂, _∙_}
-use mathlib.Core.Logic.{_≢_, _⊎_, inl, inr, ⊎-elim}
+use Prim.Native.Nat.{ℕ, zero, suc, _+_, _*_, _/_, _%_, _≤_, _<_}
+use mathlib.Core.Path.{_≡_, refl, sym, ap₂, _∙_}
+use mathlib.Core.Logic.{_⊎_, inl, inr}
 use mathlib.Core.List.{List, [], _∷_}
 use native.Mathlib.Omega.{arith}
 use native.Mathlib.Decide.{ℕ-discrete}
 use lib.ListN.{length, getD, set, length-set}
-use lib.Seq.{sets, length-sets, getD-set-same, getD-set-other}
+use lib.Seq.{sets, getD-set-same, getD-set-other}
 use Rattle.layout.specs.Layout.{number16, stored16, nameAt, linkAt}
 use Rattle.layout.specs.Fits.{apart}
 use Rattle.start.specs.Start.{named, emptied}

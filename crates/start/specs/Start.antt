@@ -2,7 +2,7 @@
 -- of 1 to 16"; "Reading, start and evaluation make 1 to 10"; "11 comes before all"; "14 capacity outside 1..16 (start: after 11, before 1)". A
 -- refused start leaves every byte as it was. The layout is layout/specs/Layout. Assumes nothing.
 use Prim.Native.Nat.{ℕ, zero, suc, _+_, _*_, _/_, _%_}
-use mathlib.Core.Bool.{Bool, true, false, cond, _&&_}
+use mathlib.Core.Bool.{cond, _&&_}
 use mathlib.Core.List.{List, [], _∷_}
 use lib.ListN.{length, getD, set}
 use lib.Seq.{sets}
@@ -18,7 +18,7 @@ use Rattle.formula.specs.Tests.{verdictOf}
 use Rattle.layout.specs.Layout.{stored16, noLink, sizeOf, linkAt, need, capacityIn}
 use Rattle.graph.specs.Assembly.{upFrom}
 use Rattle.graph.specs.Translation.{Made, madeOf}
-use Rattle.maker.specs.Encode.{encoded, written}
+use Rattle.emit.specs.Encode.{encoded, written}
 use Rattle.start.specs.declared.StartAnswer.{StartAnswer}
 
 -- ---- the answer
