@@ -1,10 +1,10 @@
-// How much stack the product's `bench_evaluate` takes, for the deepest sheets of each kind of row: the stack below the call
-// is filled with a pattern, and afterwards the lowest byte that changed is looked for.
+// How much stack the product's `bench_evaluate` and `bench_start` take, for the deepest sheets of each kind of row: the stack below the call is
+// filled with a pattern, and afterwards the lowest byte that changed is looked for.
 
 use compare::bytes::{self, OUT_BYTES};
-use compare::product;
 use compare::sheet::{self, write};
 use compare::value::Value;
+use compare::{memory, product};
 use std::hint::black_box;
 use std::thread;
 
@@ -15,21 +15,39 @@ fn main() {
     for (name, sheet, value) in sheets() {
         let refused = sheet::read(&sheet).err();
         assert!(refused.is_none(), "{name}: {refused:?}");
-        let run = thread::Builder::new().stack_size(4 * PAINTED).spawn(move || measure(&sheet, value));
-        let (refusal, bytes) = run.expect("a thread").join().expect("no panic");
-        println!("{name:44} refusal {refusal:2}, {bytes:7} bytes of stack");
+        let copy = sheet.clone();
+        let (refusal, bytes) = apart(move || evaluation(&sheet, value));
+        println!("evaluate: {name:34} refusal {refusal:2}, {bytes:7} bytes of stack");
+        let (refusal, bytes) = apart(move || starting(&copy));
+        println!("start:    {name:34} refusal {refusal:2}, {bytes:7} bytes of stack");
     }
+}
+
+/// A measurement on a stack of its own.
+fn apart(measure: impl FnOnce() -> (u32, usize) + Send + 'static) -> (u32, usize) {
+    let run = thread::Builder::new().stack_size(4 * PAINTED).spawn(measure);
+    run.expect("a thread").join().expect("no panic")
 }
 
 /// The refusal, and how far below this frame the call wrote.
 #[inline(never)]
-fn measure(sheet: &[u8], value: Value) -> (u32, usize) {
+fn evaluation(sheet: &[u8], value: Value) -> (u32, usize) {
     let inputs = bytes::read(sheet).inputs as usize;
     let set = bytes::encode_set(&vec![value; inputs]);
     let mut out = [0; OUT_BYTES];
     paint();
     let here = black_box(&out).as_ptr() as usize;
     let refusal = product::evaluate(sheet, &set, 1000, &mut out).refusal;
+    (refusal, here - lowest_changed(here))
+}
+
+#[inline(never)]
+fn starting(sheet: &[u8]) -> (u32, usize) {
+    let mut mem = vec![0; memory::need(1)];
+    let here = [0u8; 16];
+    paint();
+    let here = black_box(&here).as_ptr() as usize;
+    let refusal = product::start(sheet, 1, &mut mem).refusal;
     (refusal, here - lowest_changed(here))
 }
 
