@@ -1,6 +1,7 @@
 // A second implementation of document 01, written from the paper alone and sharing nothing with the product.
 // Where both are run on the same bytes, a misreading in either shows up as a difference.
 
+pub mod arguments;
 pub mod bench;
 pub mod bytes;
 pub mod cases;

@@ -2,6 +2,7 @@
 // difference, which it prints in full. Usage: compare CASES SEED [FIRST]. A case is made from the seed and its number
 // alone, so that `compare 1 SEED NUMBER` makes it again.
 
+use compare::arguments::Cases;
 use compare::bytes::{self, EvaluateAnswer, OUT_BYTES, VALUE_BYTES};
 use compare::product;
 use compare::random::turns::random_sheet;
@@ -17,22 +18,17 @@ const ROUNDS: u32 = 2_000;
 type Counts = BTreeMap<String, u64>;
 
 fn main() {
-    let words: Vec<u64> = env::args().skip(1).map(|word| word.parse().unwrap_or_else(|_| usage())).collect();
-    let (cases, seed, first) = match words[..] {
-        [cases, seed] => (cases, seed, 0),
-        [cases, seed, first] => (cases, seed, first),
-        _ => usage(),
-    };
+    let cases = Cases::from(&env::args().skip(1).collect::<Vec<_>>(), "compare");
     let mut counts = Counts::new();
-    for number in first..first + cases {
-        let mut rng = Rng::new(seed.wrapping_mul(1 << 32).wrapping_add(number));
+    for number in cases.numbers() {
+        let mut rng = cases.rng(number);
         let (kind, made) = random_sheet(number, &mut rng);
         let compared = compare_read(&made.bytes, &mut counts, &mut rng).and_then(|()| {
             *counts.entry(kind.clone()).or_default() += 1;
             (0..3).try_for_each(|_| compare_evaluate(&made, &mut counts, &mut rng))
         });
         if let Err(difference) = compared {
-            println!("case {number} of seed {seed}, {kind}\nsheet of {} bytes:", made.bytes.len());
+            println!("case {number} of seed {}, {kind}\nsheet of {} bytes:", cases.seed, made.bytes.len());
             println!("{}\n{difference}", made.bytes.escape_ascii().to_string().replace("\\n", "\\n\n"));
             process::exit(1);
         }
@@ -40,11 +36,6 @@ fn main() {
     note_err_bits();
     let list: Vec<String> = counts.iter().map(|(kind, count)| format!("{kind} {count}")).collect();
     println!("no difference; compared: {}", list.join(", "));
-}
-
-fn usage() -> ! {
-    eprintln!("usage: compare CASES SEED [FIRST]");
-    process::exit(2)
 }
 
 /// Bytes with others on both sides, so that a call which reads or writes past its ends gives itself away.

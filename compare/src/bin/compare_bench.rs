@@ -2,6 +2,7 @@
 // Usage: compare_bench PROGRAM CASES SEED [FIRST]. `compare_bench PROGRAM 1 SEED NUMBER` makes a case again.
 // Results before a 36 may depend on the numbering of operators: there each printed line must be a set's own result.
 
+use compare::arguments::Cases;
 use compare::bench::{bench, write_set, MOST_SET_BYTES};
 use compare::random::faults::plant;
 use compare::random::{accepted_sheet, heavy_sheet, mutate, random_set, Made, Rng, Sort};
@@ -19,32 +20,22 @@ type Counts = BTreeMap<String, u64>;
 
 fn main() {
     let words: Vec<String> = env::args().skip(1).collect();
-    let numbers: Vec<u64> = words.iter().skip(1).map(|word| word.parse().unwrap_or_else(|_| usage())).collect();
-    let (cases, seed, first) = match numbers[..] {
-        [cases, seed] => (cases, seed, 0),
-        [cases, seed, first] => (cases, seed, first),
-        _ => usage(),
-    };
-    let program = fs::canonicalize(&words[0]).unwrap_or_else(|_| usage());
+    let cases = Cases::from(words.get(1..).unwrap_or_default(), "compare_bench PROGRAM");
+    let program = fs::canonicalize(&words[0]).expect("the product's program");
     let folder = env::temp_dir().join(format!("compare_bench.{}", process::id()));
     fs::create_dir_all(&folder).expect("a folder of one's own");
     let mut counts = Counts::new();
-    for number in first..first + cases {
-        let mut rng = Rng::new(seed.wrapping_mul(1 << 32).wrapping_add(number));
+    for number in cases.numbers() {
+        let mut rng = cases.rng(number);
         let (formula, sets) = random_files(number, &mut rng);
         if let Err(difference) = compare_run(&program, &folder, &formula, &sets, &mut counts) {
-            println!("case {number} of seed {seed}, in {}\n{difference}", folder.display());
+            println!("case {number} of seed {}, in {}\n{difference}", cases.seed, folder.display());
             process::exit(1);
         }
     }
     fs::remove_dir_all(&folder).expect("the folder is there");
     let list: Vec<String> = counts.iter().map(|(kind, count)| format!("{kind} {count}")).collect();
-    println!("no difference in {cases} cases; compared: {}", list.join(", "));
-}
-
-fn usage() -> ! {
-    eprintln!("usage: compare_bench PROGRAM CASES SEED [FIRST]");
-    process::exit(2)
+    println!("no difference in {} cases; compared: {}", cases.count, list.join(", "));
 }
 
 fn random_files(number: u64, rng: &mut Rng) -> (Option<Vec<u8>>, Option<Vec<u8>>) {

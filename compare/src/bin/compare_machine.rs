@@ -3,6 +3,7 @@
 // memory, each result taken must also be what direct evaluation gives for the set pushed (demand 3).
 // Usage: compare_machine CASES SEED [FIRST]. `compare_machine 1 SEED NUMBER` makes a case again.
 
+use compare::arguments::Cases;
 use compare::bytes::{self, OUT_BYTES, VALUE_BYTES};
 use compare::memory::{self, Answer, MOST_LINKS};
 use compare::random::faults::plant;
@@ -21,29 +22,23 @@ const MARGIN: usize = 32;
 type Counts = BTreeMap<String, u64>;
 
 fn main() {
-    let words: Vec<u64> = env::args().skip(1).map(|word| word.parse().unwrap_or_else(|_| usage())).collect();
-    let (cases, seed, first) = match words[..] {
-        [cases, seed] => (cases, seed, 0),
-        [cases, seed, first] => (cases, seed, first),
-        _ => usage(),
-    };
+    let cases = Cases::from(&env::args().skip(1).collect::<Vec<_>>(), "compare_machine");
     let mut counts = Counts::new();
-    for number in first..first + cases {
-        let mut rng = Rng::new(seed.wrapping_mul(1 << 32).wrapping_add(number));
+    for number in cases.numbers() {
+        let mut rng = cases.rng(number);
         let made = random_sheet(number, &mut rng);
         if let Err(difference) = compare_case(number, &made, &mut counts, &mut rng) {
-            println!("case {number} of seed {seed}\n{}", made.bytes.escape_ascii().to_string().replace("\\n", "\\n\n"));
+            println!(
+                "case {number} of seed {}\n{}",
+                cases.seed,
+                made.bytes.escape_ascii().to_string().replace("\\n", "\\n\n")
+            );
             println!("{difference}");
             process::exit(1);
         }
     }
     let list: Vec<String> = counts.iter().map(|(kind, count)| format!("{kind} {count}")).collect();
-    println!("no difference in {cases} cases; compared: {}", list.join(", "));
-}
-
-fn usage() -> ! {
-    eprintln!("usage: compare_machine CASES SEED [FIRST]");
-    process::exit(2)
+    println!("no difference in {} cases; compared: {}", cases.count, list.join(", "));
 }
 
 fn random_sheet(number: u64, rng: &mut Rng) -> Made {
