@@ -7,11 +7,11 @@ use mathlib.Core.List.{List}
 use native.Mathlib.Omega.{arith}
 use native.Mathlib.Nat.{pow-suc, lt-of-le-of-lt, div-le-self}
 use native.Mathlib.Decide.{ℕ-discrete, decLt}
-use lib.Bits.{bitAnd, bitOr, and-step, or-step}
+use lib.Bits.{bitAnd, bitOr, and-step, or-step, or-zero-r}
 use lib.Count.{trailingZeros, under}
 use lib.Pow.{pow-lt, shr-shr, shl-exact}
 use lib.ListN.{length, getD, set, length-set, replicate, getD-replicate}
-use lib.Seq.{getD-set-same, getD-set-other}
+use lib.Seq.{getD-set-same, getD-set-other, set-getD}
 
 unfoldable pub bit : ℕ → ℕ → ℕ
 bit w k = w / 2 ^ k % 2
@@ -108,6 +108,15 @@ bit-le w k = omega arith
 pub shifted-one : (i : ℕ) → i < 64 → (1 * 2 ^ i) % 2 ^ 64 ≡ 2 ^ i
 shifted-one i h = shl-exact 1 i 64 (omega arith) (omega arith) ∙ omega arith
 
+or-marked : (a k : ℕ) → bit a k ≡ 1 → bitOr a (2 ^ k) ≡ a
+or-marked a zero e =
+    let odd : a % 2 ≡ 1 = sym (bit-zero a) ∙ e in
+    let last : max (a % 2) (1 % 2) ≡ 1 = rw odd refl in
+    or-step a 1 ∙ rw (or-zero-r (a / 2), last) (omega arith)
+or-marked a (suc k) e =
+    let last : max (a % 2) (2 ^ suc k % 2) ≡ a % 2 = omega (arith, pow-suc 2 k) in
+    or-step a (2 ^ suc k) ∙ rw (half-pow k, or-marked (a / 2) k (sym (bit-suc a k) ∙ e), last) (omega arith)
+
 -- ---- trailing zeros
 
 pub below-lowest : (n w k : ℕ) → k < trailingZeros n w → bit w k ≡ 0
@@ -155,6 +164,14 @@ module _ (w : List ℕ) (u : ℕ) (h : u / 64 < length w) where
           let a = getD w (u / 64) 0 in
           mark-set-word (bitOr a (2 ^ (u % 64))) x e ∙ bit-or a (2 ^ (u % 64)) (x % 64) ∙ rw (e, bit-pow-other (u % 64) (x % 64) (omega arith)) (omega arith)
       go (no q) = mark-set-other (bitOr (getD w (u / 64) 0) (2 ^ (u % 64))) x q
+
+  -- marking one that has a mark changes nothing
+  pub woken-marked : getD w (u / 64) 0 / 2 ^ (u % 64) % 2 ≢ 0 → woken w u ≡ w
+  unfolding woken bit
+  woken-marked e =
+      let a = getD w (u / 64) 0 in
+      let m : bit a (u % 64) ≡ 1 = omega (arith, bit-le a (u % 64)) in
+      ap (set w (u / 64)) (or-marked a (u % 64) m) ∙ set-getD w (u / 64) 0
 
   bit-kept : (k : ℕ) → k < 64 → bit ((2 ^ 64 - 1) - 2 ^ (u % 64)) k ≡ 1 - bit (2 ^ (u % 64)) k
   bit-kept k l = bit-not 64 (2 ^ (u % 64)) k (pow-lt {i = u % 64} {j = 64} (omega arith)) l

@@ -98,13 +98,16 @@ fn fill_users(mem: &[u8], n: usize, users: &mut [u16]) -> bool
     true
 }
 
-// Marks operator u.
+// Marks operator u. A mark that is there is not written anew: most are, and a write would hold up the next read.
 fn set_mark(awake: &mut [u64], u: usize)
     requires { ⌜ (16 ≤ length (now awake)) × (u < 1024) ⌝ }
     ensures { λ _. ⌜ now (awake .exit) ≡ woken (now (awake .entry)) u ⌝ }
 {
     let at = u / 64;
-    awake[at] = awake[at] | (1u64 << (u % 64));
+    let word = awake[at];
+    if (word >> (u % 64)) % 2 == 0 {
+        awake[at] = word | (1u64 << (u % 64));
+    }
 }
 
 // Takes the mark of operator u away.

@@ -8,33 +8,33 @@ use Prim.Native.Nat.{ℕ, _+_, _-_, _*_, _/_, _%_, _^_, _≤_, _<_}
 use mathlib.Core.Path.{_≡_, sym, _∙_, ap, refl}
 use mathlib.Core.List.{List}
 use lib.ListN.{length, getD, set, length-set}
-use Rattle.runs.specs.Words.{mark, woken, slept, None, mark-woken, mark-slept, mark-all, none-none, none-then, none-in-word, in-word, first-mark, none-before, shifted-one}
+use Rattle.runs.specs.Words.{slept, shifted-one}
 
--- src/lib.rt:116:17  let at = u / 64; ⏎ awake[at] = awake[at] & !(1u64 << (u % 64));
+-- src/lib.rt:119:17  let at = u / 64; ⏎ awake[at] = awake[at] & !(1u64 << (u % 64));
 mul-awake : tie.Need-mul-awake
 mul-awake c = search needs
 
--- src/lib.rt:116:17  let at = u / 64; ⏎ awake[at] = awake[at] & !(1u64 << (u % 64));
+-- src/lib.rt:119:17  let at = u / 64; ⏎ awake[at] = awake[at] & !(1u64 << (u % 64));
 slice-read-awake : tie.Need-slice-read-awake
 slice-read-awake c = search needs
 
--- src/lib.rt:116:31  let at = u / 64; ⏎ awake[at] = awake[at] & !(1u64 << (u % 64));
+-- src/lib.rt:119:31  let at = u / 64; ⏎ awake[at] = awake[at] & !(1u64 << (u % 64));
 shl-awake : tie.Need-shl-awake
 shl-awake c = search needs
 
--- src/lib.rt:116:5  let at = u / 64; ⏎ awake[at] = awake[at] & !(1u64 << (u % 64));
+-- src/lib.rt:119:5  let at = u / 64; ⏎ awake[at] = awake[at] & !(1u64 << (u % 64));
 mul-awake-2 : tie.Need-mul-awake-2
 mul-awake-2 c = search needs
 
--- src/lib.rt:116:5  let at = u / 64; ⏎ awake[at] = awake[at] & !(1u64 << (u % 64));
+-- src/lib.rt:119:5  let at = u / 64; ⏎ awake[at] = awake[at] & !(1u64 << (u % 64));
 slice-write-awake : tie.Need-slice-write-awake
 slice-write-awake c = search needs
 
--- src/lib.rt:111:1  // Takes the mark of operator u away. ⏎ fn clear_mark(awake: &mut [u64], u: usize)
+-- src/lib.rt:114:1  // Takes the mark of operator u away. ⏎ fn clear_mark(awake: &mut [u64], u: usize)
 same-length : tie.Need-same-length
 same-length c = search needs
 
--- src/lib.rt:111:1  // Takes the mark of operator u away. ⏎ fn clear_mark(awake: &mut [u64], u: usize)
+-- src/lib.rt:114:1  // Takes the mark of operator u away. ⏎ fn clear_mark(awake: &mut [u64], u: usize)
 returns : tie.Need-returns
 unfolding slept
 returns c = rw (shifted-one (c .before .args .u % 64) (omega arith)) refl

@@ -27,7 +27,7 @@ use mathlib.Core.Logic.{_≢_, _⊎_, inl, inr, ⊎-elim}
 use Rattle.layout.specs.Layout.{need}
 use Rattle.runs.specs.Far.{name}
 use Rattle.runs.specs.Users.{Found, Noted, noted-skip, noted-have1, noted-have2, noted-full, noted-set1, noted-set2, Covers, Filling, filling-start, filling-more}
-use Rattle.runs.specs.Words.{mark, woken, slept, None, mark-woken, mark-slept, mark-all, none-none, none-then, none-in-word, in-word, first-mark, none-before, shifted-one}
+use Rattle.runs.specs.Words.{mark-all}
 use Rattle.runs.specs.Marks.{Awake, Woke, woke-none, woke-then, woke-one, Hits, hits-none, hits-more, Fast, fast-start, fast-skip, fast-next, fast-fire}
 use lib.ListN.{replicate, getD-replicate, length-replicate}
 
@@ -37,105 +37,105 @@ Inv-loop mem₀ size n budget users known awake₀ count₀ i₀ mem awake count
 abbrev μ-loop : tie.MeasureT-loop
 μ-loop mem₀ size n budget users known awake₀ count₀ i₀ mem awake count i = 1025 * (budget - count) + (n - i)
 
--- src/lib.rt:187:36  let mut users = [65535u16; 6210]; ⏎ let known = fill_users(mem, n, &mut users);
+-- src/lib.rt:190:36  let mut users = [65535u16; 6210]; ⏎ let known = fill_users(mem, n, &mut users);
 slice-aggregate-fill-users : tie.Need-slice-aggregate-fill-users Inv-loop μ-loop
 slice-aggregate-fill-users c = search needs
 
--- src/lib.rt:187:9  let mut users = [65535u16; 6210]; ⏎ let known = fill_users(mem, n, &mut users);
+-- src/lib.rt:190:9  let mut users = [65535u16; 6210]; ⏎ let known = fill_users(mem, n, &mut users);
 fill-users-requires : tie.Need-fill-users-requires Inv-loop μ-loop
 fill-users-requires c κs = omega arith
 
--- src/lib.rt:192:9  let mut i: usize = 0; ⏎ while count < budget {
+-- src/lib.rt:195:9  let mut i: usize = 0; ⏎ while count < budget {
 loop-holds : tie.Need-loop-holds Inv-loop μ-loop
 loop-holds c = fast-start _ (c .before .before .before .before .before .before .args .mem .now) (replicate {A = ℕ} 16 18446744073709551615) (c .before .before .before .before .before .before .args .size) (c .before .before .before .before .before .before .args .n) (c .before .before .before .before .before .before .args .budget) (omega arith) (length-replicate {A = ℕ} 16 18446744073709551615) mark-all
 
--- src/lib.rt:193:27  while count < budget { ⏎ i = next_mark(&awake, i);
+-- src/lib.rt:196:27  while count < budget { ⏎ i = next_mark(&awake, i);
 slice-aggregate-next-mark : tie.Need-slice-aggregate-next-mark Inv-loop μ-loop
 slice-aggregate-next-mark c = sym (c .before .before .loop .inv .wide)
 
--- src/lib.rt:193:13  while count < budget { ⏎ i = next_mark(&awake, i);
+-- src/lib.rt:196:13  while count < budget { ⏎ i = next_mark(&awake, i);
 next-mark-requires : tie.Need-next-mark-requires Inv-loop μ-loop
 next-mark-requires c κs = (omega (arith, c .before .before .loop .inv .wide), omega (arith, c .before .before .loop .inv .going .upto))
 
--- src/lib.rt:195:17  if n <= i { ⏎ return count;
+-- src/lib.rt:198:17  if n <= i { ⏎ return count;
 same-length : tie.Need-same-length Inv-loop μ-loop
 same-length c = c .before .before .before .before .loop .inv .going .len
 
--- src/lib.rt:195:17  if n <= i { ⏎ return count;
+-- src/lib.rt:198:17  if n <= i { ⏎ return count;
 returns : tie.Need-returns Inv-loop μ-loop
 returns c =
     let there = fast-skip (c .before .before .before .before .before .before .before .fill-users .last .1 .1 .0) (c .before .before .before .before .before .before .before .before .before .before .before .args .mem .now) (c .before .before .before .before .before .before .before .before .before .before .before .args .size) (c .before .before .before .before .before .before .before .before .before .before .before .args .n) (c .before .before .before .before .before .before .before .before .before .before .before .args .budget) (c .before .before .before .before .loop .mem) (c .before .before .before .before .loop .awake) (c .before .before .before .before .loop .count) (c .before .before .before .before .loop .i) (c .before .before .before .before .loop .inv) (omega arith) (omega (arith, c .before .before .before .before .loop .inv .going .len)) (c .before .before .before .before .before .before .before .before .before .before .before .args .n) (omega (arith, c .before .before .before .before .loop .inv .going .upto, c .before .next-mark .ensures .0)) (omega arith) (λ x l h. c .before .next-mark .ensures .2 x l (omega arith)) in
     going-end (c .before .before .before .before .before .before .before .before .before .before .before .args .mem .now) (c .before .before .before .before .before .before .before .before .before .before .before .args .size) (c .before .before .before .before .before .before .before .before .before .before .before .args .n) (c .before .before .before .before .before .before .before .before .before .before .before .args .budget) (c .before .before .before .before .loop .mem) (c .before .before .before .before .loop .count) (c .before .before .before .before .before .before .before .before .before .before .before .args .n) (there .going) refl
 
--- src/lib.rt:197:16  } ⏎ if machine::fire_at(mem, size, i) {
+-- src/lib.rt:200:16  } ⏎ if machine::fire_at(mem, size, i) {
 fire-at-requires : tie.Need-fire-at-requires Inv-loop μ-loop
 fire-at-requires c κs = omega (arith, c .before .before .before .before .before .loop .inv .going .len)
 
--- src/lib.rt:198:17  if machine::fire_at(mem, size, i) { ⏎ count += 1;
+-- src/lib.rt:201:17  if machine::fire_at(mem, size, i) { ⏎ count += 1;
 add-count : tie.Need-add-count Inv-loop μ-loop
 add-count c = omega arith
 
--- src/lib.rt:199:31  count += 1; ⏎ i = wake(mem, &users, &mut awake, i);
+-- src/lib.rt:202:31  count += 1; ⏎ i = wake(mem, &users, &mut awake, i);
 slice-aggregate-wake : tie.Need-slice-aggregate-wake Inv-loop μ-loop
 slice-aggregate-wake c = search needs
 
--- src/lib.rt:199:39  count += 1; ⏎ i = wake(mem, &users, &mut awake, i);
+-- src/lib.rt:202:39  count += 1; ⏎ i = wake(mem, &users, &mut awake, i);
 slice-aggregate-wake-2 : tie.Need-slice-aggregate-wake-2 Inv-loop μ-loop
 slice-aggregate-wake-2 c = sym (c .before .before .before .before .before .before .before .before .before .before .before .before .loop .inv .wide)
 
--- src/lib.rt:199:17  count += 1; ⏎ i = wake(mem, &users, &mut awake, i);
+-- src/lib.rt:202:17  count += 1; ⏎ i = wake(mem, &users, &mut awake, i);
 wake-requires : tie.Need-wake-requires Inv-loop μ-loop
 wake-requires c κs = (omega (arith, c .before .before .before .before .before .before .before .before .before .before .before .before .loop .inv .going .len), omega (arith, c .before .before .before .before .before .before .before .before .before .before .before .before .loop .inv .wide), omega arith, omega arith)
 
--- src/lib.rt:192:9  let mut i: usize = 0; ⏎ while count < budget {
+-- src/lib.rt:195:9  let mut i: usize = 0; ⏎ while count < budget {
 loop-less : tie.Need-loop-less Inv-loop μ-loop
 loop-less c = omega (arith, c .before .before .before .before .before .before .before .before .before .before .before .before .before .before .loop .inv .going .upto, c .before .wake .ensures .0 .less)
 
--- src/lib.rt:192:9  let mut i: usize = 0; ⏎ while count < budget {
+-- src/lib.rt:195:9  let mut i: usize = 0; ⏎ while count < budget {
 loop-again : tie.Need-loop-again Inv-loop μ-loop
 loop-again c =
     let there = fast-skip (c .before .before .before .before .before .before .before .before .before .before .before .before .before .before .before .before .before .fill-users .last .1 .1 .0) (c .before .before .before .before .before .before .before .before .before .before .before .before .before .before .before .before .before .before .before .before .before .args .mem .now) (c .before .before .before .before .before .before .before .before .before .before .before .before .before .before .before .before .before .before .before .before .before .args .size) (c .before .before .before .before .before .before .before .before .before .before .before .before .before .before .before .before .before .before .before .before .before .args .n) (c .before .before .before .before .before .before .before .before .before .before .before .before .before .before .before .before .before .before .before .before .before .args .budget) (c .before .before .before .before .before .before .before .before .before .before .before .before .before .before .loop .mem) (c .before .before .before .before .before .before .before .before .before .before .before .before .before .before .loop .awake) (c .before .before .before .before .before .before .before .before .before .before .before .before .before .before .loop .count) (c .before .before .before .before .before .before .before .before .before .before .before .before .before .before .loop .i) (c .before .before .before .before .before .before .before .before .before .before .before .before .before .before .loop .inv) (omega arith) (omega (arith, c .before .before .before .before .before .before .before .before .before .before .before .before .before .before .loop .inv .going .len)) (c .before .before .before .before .before .before .before .before .before .before .before .next-mark .result) (omega (arith, c .before .before .before .before .before .before .before .before .before .before .before .before .before .before .loop .inv .going .upto, c .before .before .before .before .before .before .before .before .before .before .before .next-mark .ensures .0)) (omega arith) (c .before .before .before .before .before .before .before .before .before .before .before .next-mark .ensures .2) in
     rw (c .before .before .before .before .before .before .before .before .fire-at .ensures .1) (fast-fire (c .before .before .before .before .before .before .before .before .before .before .before .before .before .before .before .before .before .fill-users .last .1 .1 .0) (c .before .before .before .before .before .before .before .before .before .before .before .before .before .before .before .before .before .before .before .before .before .args .mem .now) (c .before .before .before .before .before .before .before .before .before .before .before .before .before .before .before .before .before .before .before .before .before .args .size) (c .before .before .before .before .before .before .before .before .before .before .before .before .before .before .before .before .before .before .before .before .before .args .n) (c .before .before .before .before .before .before .before .before .before .before .before .before .before .before .before .before .before .before .before .before .before .args .budget) (c .before .before .before .before .before .before .before .before .before .before .before .before .before .before .loop .mem) (c .before .before .before .before .before .before .before .before .before .before .before .before .before .before .loop .awake) (c .before .before .before .before .before .before .before .before .before .before .before .before .before .before .loop .count) (c .before .before .before .before .before .before .before .before .before .before .before .next-mark .result) there (omega arith) (omega (arith, c .before .before .before .before .before .before .before .before .before .before .before .before .before .before .loop .inv .going .len)) (c .before .before .before .before .before .before .before .before .before .before .before .before .before .before .before .before .before .fill-users .ensures (c .before .before .before .before .before .before .before .before .before .before .before .before .before .before .before .if1 .taken)) (c .before .wake .last .1 .1 .0) (c .before .wake .result) (c .before .wake .ensures .0) (rw (c .before .before .before .before .before .before .before .before .fire-at .ensures .1) at (c .before .wake .ensures .1)) (omega arith) (λ z. omega (arith, z, c .before .before .before .before .before .before .before .before .before .before .before .next-mark .ensures .3 (omega arith))) (omega arith) (sym (c .before .before .before .before .before .before .before .before .fire-at .ensures .0) ∙ c .before .before .before .before .before .if3 .taken) (omega (arith, ap length (c .before .before .before .before .before .before .before .before .fire-at .ensures .1))))
 
--- src/lib.rt:201:28  } else { ⏎ clear_mark(&mut awake, i);
+-- src/lib.rt:204:28  } else { ⏎ clear_mark(&mut awake, i);
 slice-aggregate-clear-mark : tie.Need-slice-aggregate-clear-mark Inv-loop μ-loop
 slice-aggregate-clear-mark c = sym (c .before .before .before .before .before .before .before .before .before .before .loop .inv .wide)
 
--- src/lib.rt:201:17  } else { ⏎ clear_mark(&mut awake, i);
+-- src/lib.rt:204:17  } else { ⏎ clear_mark(&mut awake, i);
 clear-mark-requires : tie.Need-clear-mark-requires Inv-loop μ-loop
 clear-mark-requires c κs = (omega (arith, c .before .before .before .before .before .before .before .before .before .before .loop .inv .wide), omega arith)
 
--- src/lib.rt:202:17  clear_mark(&mut awake, i); ⏎ i += 1;
+-- src/lib.rt:205:17  clear_mark(&mut awake, i); ⏎ i += 1;
 add-i : tie.Need-add-i Inv-loop μ-loop
 add-i c = omega arith
 
--- src/lib.rt:192:9  let mut i: usize = 0; ⏎ while count < budget {
+-- src/lib.rt:195:9  let mut i: usize = 0; ⏎ while count < budget {
 loop-less-2 : tie.Need-loop-less-2 Inv-loop μ-loop
 loop-less-2 c = omega (arith, c .before .before .before .before .before .before .before .before .before .before .before .before .loop .inv .going .upto, c .before .before .before .before .before .before .before .before .before .next-mark .ensures .0)
 
--- src/lib.rt:192:9  let mut i: usize = 0; ⏎ while count < budget {
+-- src/lib.rt:195:9  let mut i: usize = 0; ⏎ while count < budget {
 loop-again-2 : tie.Need-loop-again-2 Inv-loop μ-loop
 loop-again-2 c =
     let there = fast-skip (c .before .before .before .before .before .before .before .before .before .before .before .before .before .before .before .fill-users .last .1 .1 .0) (c .before .before .before .before .before .before .before .before .before .before .before .before .before .before .before .before .before .before .before .args .mem .now) (c .before .before .before .before .before .before .before .before .before .before .before .before .before .before .before .before .before .before .before .args .size) (c .before .before .before .before .before .before .before .before .before .before .before .before .before .before .before .before .before .before .before .args .n) (c .before .before .before .before .before .before .before .before .before .before .before .before .before .before .before .before .before .before .before .args .budget) (c .before .before .before .before .before .before .before .before .before .before .before .before .loop .mem) (c .before .before .before .before .before .before .before .before .before .before .before .before .loop .awake) (c .before .before .before .before .before .before .before .before .before .before .before .before .loop .count) (c .before .before .before .before .before .before .before .before .before .before .before .before .loop .i) (c .before .before .before .before .before .before .before .before .before .before .before .before .loop .inv) (omega arith) (omega (arith, c .before .before .before .before .before .before .before .before .before .before .before .before .loop .inv .going .len)) (c .before .before .before .before .before .before .before .before .before .next-mark .result) (omega (arith, c .before .before .before .before .before .before .before .before .before .before .before .before .loop .inv .going .upto, c .before .before .before .before .before .before .before .before .before .next-mark .ensures .0)) (omega arith) (c .before .before .before .before .before .before .before .before .before .next-mark .ensures .2) in
     rw (c .before .before .before .before .before .before .fire-at .ensures .1, c .before .clear-mark .ensures) (fast-next (c .before .before .before .before .before .before .before .before .before .before .before .before .before .before .before .fill-users .last .1 .1 .0) (c .before .before .before .before .before .before .before .before .before .before .before .before .before .before .before .before .before .before .before .args .mem .now) (c .before .before .before .before .before .before .before .before .before .before .before .before .before .before .before .before .before .before .before .args .size) (c .before .before .before .before .before .before .before .before .before .before .before .before .before .before .before .before .before .before .before .args .n) (c .before .before .before .before .before .before .before .before .before .before .before .before .before .before .before .before .before .before .before .args .budget) (c .before .before .before .before .before .before .before .before .before .before .before .before .loop .mem) (c .before .before .before .before .before .before .before .before .before .before .before .before .loop .awake) (c .before .before .before .before .before .before .before .before .before .before .before .before .loop .count) (c .before .before .before .before .before .before .before .before .before .next-mark .result) there (omega arith) (omega (arith, c .before .before .before .before .before .before .before .before .before .before .before .before .loop .inv .going .len)) (omega arith) (sym (c .before .before .before .before .before .before .fire-at .ensures .0) ∙ c .before .before .before .if3 .left))
 
--- src/lib.rt:205:9  } ⏎ return count;
+-- src/lib.rt:208:9  } ⏎ return count;
 same-length-2 : tie.Need-same-length-2 Inv-loop μ-loop
 same-length-2 c = c .before .loop .inv .going .len
 
--- src/lib.rt:205:9  } ⏎ return count;
+-- src/lib.rt:208:9  } ⏎ return count;
 returns-2 : tie.Need-returns-2 Inv-loop μ-loop
 returns-2 c = going-full (c .before .before .before .before .before .before .before .before .args .mem .now) (c .before .before .before .before .before .before .before .before .args .size) (c .before .before .before .before .before .before .before .before .args .n) (c .before .before .before .before .before .before .before .before .args .budget) (c .before .loop .mem) (c .before .loop .count) (c .before .loop .i) (c .before .loop .inv .going) (omega arith)
 
--- src/lib.rt:207:5  } ⏎ run_plain(mem, size, n, budget)
+-- src/lib.rt:210:5  } ⏎ run_plain(mem, size, n, budget)
 run-plain-requires : tie.Need-run-plain-requires Inv-loop μ-loop
 run-plain-requires c κs = search needs
 
--- src/lib.rt:182:1  // The run, with a mark for each operator that may be able. ⏎ pub fn run(mem: &mut [u8], size: usize, n: usize, budget: u32) -> u32
+-- src/lib.rt:185:1  // The run, with a mark for each operator that may be able. ⏎ pub fn run(mem: &mut [u8], size: usize, n: usize, budget: u32) -> u32
 same-length-3 : tie.Need-same-length-3 Inv-loop μ-loop
 same-length-3 c = search needs
 
--- src/lib.rt:182:1  // The run, with a mark for each operator that may be able. ⏎ pub fn run(mem: &mut [u8], size: usize, n: usize, budget: u32) -> u32
+-- src/lib.rt:185:1  // The run, with a mark for each operator that may be able. ⏎ pub fn run(mem: &mut [u8], size: usize, n: usize, budget: u32) -> u32
 returns-3 : tie.Need-returns-3 Inv-loop μ-loop
 returns-3 c = c .before .before .run-plain .ensures
 
