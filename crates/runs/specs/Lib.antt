@@ -2,4 +2,5 @@ pub mod Run
 pub mod RunLaws
 pub mod Far
 pub mod Users
+pub mod Words
 pub mod Marks

@@ -4,12 +4,13 @@
 // (specs/Marks). Assumes that the memory is as long as a machine needs, and nothing of its contents.
 ghost use mathlib.Core.Path.{_≡_};
 ghost use mathlib.Core.Bool.{true};
-ghost use Prim.Native.Nat.{ℕ, _+_, _-_, _*_, _≤_, _<_};
+ghost use Prim.Native.Nat.{ℕ, _+_, _-_, _*_, _/_, _≤_, _<_};
 ghost use lib.ListN.{length, getD};
 ghost use Rattle.layout.specs.Layout.{need};
 ghost use Rattle.runs.specs.Run.{Ran, ran, runs, stillAt};
 ghost use Rattle.runs.specs.Far.{name};
 ghost use Rattle.runs.specs.Users.{Found, Noted, Covers};
+ghost use Rattle.runs.specs.Words.{mark, woken, slept, None};
 ghost use Rattle.runs.specs.Marks.{Awake, Woke, Hits};
 
 // Scans from the first operator after each firing.
@@ -97,13 +98,50 @@ fn fill_users(mem: &[u8], n: usize, users: &mut [u16]) -> bool
     true
 }
 
+// Marks operator u. A mark that is there is not written anew: most are, and a write would hold up the next read.
+fn set_mark(awake: &mut [u64], u: usize)
+    requires { ⌜ (16 ≤ length (now awake)) × (u < 1024) ⌝ }
+    ensures { λ _. ⌜ now (awake .exit) ≡ woken (now (awake .entry)) u ⌝ }
+{
+    let at = u / 64;
+    let word = awake[at];
+    if (word >> (u % 64)) % 2 == 0 {
+        awake[at] = word | (1u64 << (u % 64));
+    }
+}
+
+// Takes the mark of operator u away.
+fn clear_mark(awake: &mut [u64], u: usize)
+    requires { ⌜ (16 ≤ length (now awake)) × (u < 1024) ⌝ }
+    ensures { λ _. ⌜ now (awake .exit) ≡ slept (now (awake .entry)) u ⌝ }
+{
+    let at = u / 64;
+    awake[at] = awake[at] & !(1u64 << (u % 64));
+}
+
+// The first marked operator from i on, or 1024.
+fn next_mark(awake: &[u64], i: usize) -> usize
+    requires { ⌜ (16 ≤ length (now awake)) × (i ≤ 1024) ⌝ }
+    ensures { λ r. ⌜ (i ≤ r) × (r ≤ 1024) × (None (now (awake .entry)) i r) × (r < 1024 → mark (now (awake .entry)) r ≡ 1) ⌝ }
+{
+    let mut j = i;
+    while j < 1024 {
+        let rest = awake[j / 64] >> (j % 64);
+        if rest != 0 {
+            return j + u64::trailing_zeros(rest) as usize;
+        }
+        j = 64 * (j / 64 + 1);
+    }
+    1024
+}
+
 // Marks operator u, and tells the lesser of u and low.
-fn wake_one(awake: &mut [u8], u: usize, low: usize) -> usize
-    requires { ⌜ 1024 ≤ length (now awake) ⌝ }
+fn wake_one(awake: &mut [u64], u: usize, low: usize) -> usize
+    requires { ⌜ 16 ≤ length (now awake) ⌝ }
     ensures { λ r. ⌜ (Woke (now (awake .entry)) low (now (awake .exit)) r) × (u < 1024 → Awake (now (awake .exit)) r u) ⌝ }
 {
     if u < 1024 {
-        awake[u] = 1;
+        set_mark(awake, u);
         if u < low {
             return u;
         }
@@ -113,8 +151,8 @@ fn wake_one(awake: &mut [u8], u: usize, low: usize) -> usize
 }
 
 // Marks the operators that name link l.
-fn wake_link(users: &[u16], awake: &mut [u8], l: usize, low: usize) -> usize
-    requires { ⌜ (1024 ≤ length (now awake)) × (6210 ≤ length (now users)) ⌝ }
+fn wake_link(users: &[u16], awake: &mut [u64], l: usize, low: usize) -> usize
+    requires { ⌜ (16 ≤ length (now awake)) × (6210 ≤ length (now users)) ⌝ }
     ensures { λ r. ⌜ (Woke (now (awake .entry)) low (now (awake .exit)) r) × ((x : ℕ) → x < 1024 → l < 3105 → Found (now (users .entry)) l x → Awake (now (awake .exit)) r x) ⌝ }
 {
     if l < 3105 {
@@ -129,8 +167,8 @@ fn wake_link(users: &[u16], awake: &mut [u8], l: usize, low: usize) -> usize
 }
 
 // Marks the operators that name a link of operator i, and tells the least number among them and i.
-fn wake(mem: &[u8], users: &[u16], awake: &mut [u8], i: usize) -> usize
-    requires { ⌜ (16640 ≤ length (now mem)) × (1024 ≤ length (now awake)) × (6210 ≤ length (now users)) × (i < 1024) ⌝ }
+fn wake(mem: &[u8], users: &[u16], awake: &mut [u64], i: usize) -> usize
+    requires { ⌜ (16640 ≤ length (now mem)) × (16 ≤ length (now awake)) × (6210 ≤ length (now users)) × (i < 1024) ⌝ }
     ensures { λ r. ⌜ (Woke (now (awake .entry)) i (now (awake .exit)) r) × Hits (now (users .entry)) (now (mem .entry)) i 6 (now (awake .exit)) r ⌝ }
 {
     let mut low = i;
@@ -151,23 +189,20 @@ pub fn run(mem: &mut [u8], size: usize, n: usize, budget: u32) -> u32
     let mut users = [65535u16; 6210];
     let known = fill_users(mem, n, &mut users);
     if known {
-        let mut awake = [1u8; 1024];
+        let mut awake = [18446744073709551615u64; 16];
         let mut count: u32 = 0;
         let mut i: usize = 0;
         while count < budget {
-            if i == n {
+            i = next_mark(&awake, i);
+            if n <= i {
                 return count;
             }
-            if awake[i] == 0 {
-                i += 1;
+            if machine::fire_at(mem, size, i) {
+                count += 1;
+                i = wake(mem, &users, &mut awake, i);
             } else {
-                if machine::fire_at(mem, size, i) {
-                    count += 1;
-                    i = wake(mem, &users, &mut awake, i);
-                } else {
-                    awake[i] = 0;
-                    i += 1;
-                }
+                clear_mark(&mut awake, i);
+                i += 1;
             }
         }
         return count;

@@ -1,14 +1,15 @@
 -- The tests, as paths name them:
 --   tie if1  let known = fill_users(mem, n, &mut users); ⏎ if known {
---   tie if2  while count < budget { ⏎ if i == n {
---   tie if3  } ⏎ if awake[i] == 0 {
---   tie if4  } else { ⏎ if machine::fire_at(mem, size, i) {
+--   tie if2  i = next_mark(&awake, i); ⏎ if n <= i {
+--   tie if3  } ⏎ if machine::fire_at(mem, size, i) {
 use Rattle.runs.proofs.run.Statement.{statement}
 use Rattle.runs.proofs.run.Tie as tie
 use Rattle.runs.proofs.run.Reads as reads
 use Rattle.runs.proofs.run.Lts as lts
 use Rattle.machine.proofs.fire_at.Reads as fire-at-reads
+use Rattle.runs.proofs.clear_mark.Reads as clear-mark-reads
 use Rattle.runs.proofs.fill_users.Reads as fill-users-reads
+use Rattle.runs.proofs.next_mark.Reads as next-mark-reads
 use Rattle.runs.proofs.run_plain.Reads as run-plain-reads
 use Rattle.runs.proofs.wake.Reads as wake-reads
 use borrow.Author.Needs.{needs}
@@ -26,6 +27,7 @@ use mathlib.Core.Logic.{_≢_, _⊎_, inl, inr, ⊎-elim}
 use Rattle.layout.specs.Layout.{need}
 use Rattle.runs.specs.Far.{name}
 use Rattle.runs.specs.Users.{Found, Noted, noted-skip, noted-have1, noted-have2, noted-full, noted-set1, noted-set2, Covers, Filling, filling-start, filling-more}
+use Rattle.runs.specs.Words.{mark-all}
 use Rattle.runs.specs.Marks.{Awake, Woke, woke-none, woke-then, woke-one, Hits, hits-none, hits-more, Fast, fast-start, fast-skip, fast-next, fast-fire}
 use lib.ListN.{replicate, getD-replicate, length-replicate}
 
@@ -35,103 +37,105 @@ Inv-loop mem₀ size n budget users known awake₀ count₀ i₀ mem awake count
 abbrev μ-loop : tie.MeasureT-loop
 μ-loop mem₀ size n budget users known awake₀ count₀ i₀ mem awake count i = 1025 * (budget - count) + (n - i)
 
--- src/lib.rt:152:36  let mut users = [65535u16; 6210]; ⏎ let known = fill_users(mem, n, &mut users);
+-- src/lib.rt:190:36  let mut users = [65535u16; 6210]; ⏎ let known = fill_users(mem, n, &mut users);
 slice-aggregate-fill-users : tie.Need-slice-aggregate-fill-users Inv-loop μ-loop
 slice-aggregate-fill-users c = search needs
 
--- src/lib.rt:152:9  let mut users = [65535u16; 6210]; ⏎ let known = fill_users(mem, n, &mut users);
+-- src/lib.rt:190:9  let mut users = [65535u16; 6210]; ⏎ let known = fill_users(mem, n, &mut users);
 fill-users-requires : tie.Need-fill-users-requires Inv-loop μ-loop
 fill-users-requires c κs = omega arith
 
--- src/lib.rt:157:9  let mut i: usize = 0; ⏎ while count < budget {
+-- src/lib.rt:195:9  let mut i: usize = 0; ⏎ while count < budget {
 loop-holds : tie.Need-loop-holds Inv-loop μ-loop
-loop-holds c = fast-start _ (c .before .before .before .before .before .before .args .mem .now) (replicate {A = ℕ} 1024 1) (c .before .before .before .before .before .before .args .size) (c .before .before .before .before .before .before .args .n) (c .before .before .before .before .before .before .args .budget) (omega arith) (length-replicate {A = ℕ} 1024 1) (λ j h. getD-replicate {A = ℕ} 1024 j 1 0 h)
+loop-holds c = fast-start _ (c .before .before .before .before .before .before .args .mem .now) (replicate {A = ℕ} 16 18446744073709551615) (c .before .before .before .before .before .before .args .size) (c .before .before .before .before .before .before .args .n) (c .before .before .before .before .before .before .args .budget) (omega arith) (length-replicate {A = ℕ} 16 18446744073709551615) mark-all
 
--- src/lib.rt:159:17  if i == n { ⏎ return count;
+-- src/lib.rt:196:27  while count < budget { ⏎ i = next_mark(&awake, i);
+slice-aggregate-next-mark : tie.Need-slice-aggregate-next-mark Inv-loop μ-loop
+slice-aggregate-next-mark c = sym (c .before .before .loop .inv .wide)
+
+-- src/lib.rt:196:13  while count < budget { ⏎ i = next_mark(&awake, i);
+next-mark-requires : tie.Need-next-mark-requires Inv-loop μ-loop
+next-mark-requires c κs = (omega (arith, c .before .before .loop .inv .wide), omega (arith, c .before .before .loop .inv .going .upto))
+
+-- src/lib.rt:198:17  if n <= i { ⏎ return count;
 same-length : tie.Need-same-length Inv-loop μ-loop
-same-length c = c .before .before .loop .inv .going .len
+same-length c = c .before .before .before .before .loop .inv .going .len
 
--- src/lib.rt:159:17  if i == n { ⏎ return count;
+-- src/lib.rt:198:17  if n <= i { ⏎ return count;
 returns : tie.Need-returns Inv-loop μ-loop
-returns c = going-end (c .before .before .before .before .before .before .before .before .before .args .mem .now) (c .before .before .before .before .before .before .before .before .before .args .size) (c .before .before .before .before .before .before .before .before .before .args .n) (c .before .before .before .before .before .before .before .before .before .args .budget) (c .before .before .loop .mem) (c .before .before .loop .count) (c .before .before .loop .i) (c .before .before .loop .inv .going) (c .if2 .taken)
+returns c =
+    let there = fast-skip (c .before .before .before .before .before .before .before .fill-users .last .1 .1 .0) (c .before .before .before .before .before .before .before .before .before .before .before .args .mem .now) (c .before .before .before .before .before .before .before .before .before .before .before .args .size) (c .before .before .before .before .before .before .before .before .before .before .before .args .n) (c .before .before .before .before .before .before .before .before .before .before .before .args .budget) (c .before .before .before .before .loop .mem) (c .before .before .before .before .loop .awake) (c .before .before .before .before .loop .count) (c .before .before .before .before .loop .i) (c .before .before .before .before .loop .inv) (omega arith) (omega (arith, c .before .before .before .before .loop .inv .going .len)) (c .before .before .before .before .before .before .before .before .before .before .before .args .n) (omega (arith, c .before .before .before .before .loop .inv .going .upto, c .before .next-mark .ensures .0)) (omega arith) (λ x l h. c .before .next-mark .ensures .2 x l (omega arith)) in
+    going-end (c .before .before .before .before .before .before .before .before .before .before .before .args .mem .now) (c .before .before .before .before .before .before .before .before .before .before .before .args .size) (c .before .before .before .before .before .before .before .before .before .before .before .args .n) (c .before .before .before .before .before .before .before .before .before .before .before .args .budget) (c .before .before .before .before .loop .mem) (c .before .before .before .before .loop .count) (c .before .before .before .before .before .before .before .before .before .before .before .args .n) (there .going) refl
 
--- src/lib.rt:161:16  } ⏎ if awake[i] == 0 {
-array-read-if3 : tie.Need-array-read-if3 Inv-loop μ-loop
-array-read-if3 c = omega (arith, c .before .before .loop .inv .going .upto)
-
--- src/lib.rt:162:17  if awake[i] == 0 { ⏎ i += 1;
-add-i : tie.Need-add-i Inv-loop μ-loop
-add-i c = omega (arith, c .before .before .before .loop .inv .going .upto)
-
--- src/lib.rt:157:9  let mut i: usize = 0; ⏎ while count < budget {
-loop-less : tie.Need-loop-less Inv-loop μ-loop
-loop-less c = omega (arith, c .before .before .before .loop .inv .going .upto)
-
--- src/lib.rt:157:9  let mut i: usize = 0; ⏎ while count < budget {
-loop-again : tie.Need-loop-again Inv-loop μ-loop
-loop-again c = fast-skip (c .before .before .before .before .before .before .fill-users .last .1 .1 .0) (c .before .before .before .before .before .before .before .before .before .before .args .mem .now) (c .before .before .before .before .before .before .before .before .before .before .args .size) (c .before .before .before .before .before .before .before .before .before .before .args .n) (c .before .before .before .before .before .before .before .before .before .before .args .budget) (c .before .before .before .loop .mem) (c .before .before .before .loop .awake) (c .before .before .before .loop .count) (c .before .before .before .loop .i) (c .before .before .before .loop .inv) (omega arith) (omega (arith, c .before .before .before .loop .inv .going .len)) (omega (arith, c .before .before .before .loop .inv .going .upto)) (c .if3 .taken)
-
--- src/lib.rt:164:20  } else { ⏎ if machine::fire_at(mem, size, i) {
+-- src/lib.rt:200:16  } ⏎ if machine::fire_at(mem, size, i) {
 fire-at-requires : tie.Need-fire-at-requires Inv-loop μ-loop
-fire-at-requires c κs = omega (arith, c .before .before .before .before .loop .inv .going .upto, c .before .before .before .before .loop .inv .going .len)
+fire-at-requires c κs = omega (arith, c .before .before .before .before .before .loop .inv .going .len)
 
--- src/lib.rt:165:21  if machine::fire_at(mem, size, i) { ⏎ count += 1;
+-- src/lib.rt:201:17  if machine::fire_at(mem, size, i) { ⏎ count += 1;
 add-count : tie.Need-add-count Inv-loop μ-loop
 add-count c = omega arith
 
--- src/lib.rt:166:35  count += 1; ⏎ i = wake(mem, &users, &mut awake, i);
+-- src/lib.rt:202:31  count += 1; ⏎ i = wake(mem, &users, &mut awake, i);
 slice-aggregate-wake : tie.Need-slice-aggregate-wake Inv-loop μ-loop
 slice-aggregate-wake c = search needs
 
--- src/lib.rt:166:43  count += 1; ⏎ i = wake(mem, &users, &mut awake, i);
+-- src/lib.rt:202:39  count += 1; ⏎ i = wake(mem, &users, &mut awake, i);
 slice-aggregate-wake-2 : tie.Need-slice-aggregate-wake-2 Inv-loop μ-loop
-slice-aggregate-wake-2 c = sym (c .before .before .before .before .before .before .before .before .before .before .before .loop .inv .wide)
+slice-aggregate-wake-2 c = sym (c .before .before .before .before .before .before .before .before .before .before .before .before .loop .inv .wide)
 
--- src/lib.rt:166:21  count += 1; ⏎ i = wake(mem, &users, &mut awake, i);
+-- src/lib.rt:202:17  count += 1; ⏎ i = wake(mem, &users, &mut awake, i);
 wake-requires : tie.Need-wake-requires Inv-loop μ-loop
-wake-requires c κs = (omega (arith, c .before .before .before .before .before .before .before .before .before .before .before .loop .inv .going .len), omega (arith, c .before .before .before .before .before .before .before .before .before .before .before .loop .inv .wide), omega arith, omega (arith, c .before .before .before .before .before .before .before .before .before .before .before .loop .inv .going .upto))
+wake-requires c κs = (omega (arith, c .before .before .before .before .before .before .before .before .before .before .before .before .loop .inv .going .len), omega (arith, c .before .before .before .before .before .before .before .before .before .before .before .before .loop .inv .wide), omega arith, omega arith)
 
--- src/lib.rt:157:9  let mut i: usize = 0; ⏎ while count < budget {
+-- src/lib.rt:195:9  let mut i: usize = 0; ⏎ while count < budget {
+loop-less : tie.Need-loop-less Inv-loop μ-loop
+loop-less c = omega (arith, c .before .before .before .before .before .before .before .before .before .before .before .before .before .before .loop .inv .going .upto, c .before .wake .ensures .0 .less)
+
+-- src/lib.rt:195:9  let mut i: usize = 0; ⏎ while count < budget {
+loop-again : tie.Need-loop-again Inv-loop μ-loop
+loop-again c =
+    let there = fast-skip (c .before .before .before .before .before .before .before .before .before .before .before .before .before .before .before .before .before .fill-users .last .1 .1 .0) (c .before .before .before .before .before .before .before .before .before .before .before .before .before .before .before .before .before .before .before .before .before .args .mem .now) (c .before .before .before .before .before .before .before .before .before .before .before .before .before .before .before .before .before .before .before .before .before .args .size) (c .before .before .before .before .before .before .before .before .before .before .before .before .before .before .before .before .before .before .before .before .before .args .n) (c .before .before .before .before .before .before .before .before .before .before .before .before .before .before .before .before .before .before .before .before .before .args .budget) (c .before .before .before .before .before .before .before .before .before .before .before .before .before .before .loop .mem) (c .before .before .before .before .before .before .before .before .before .before .before .before .before .before .loop .awake) (c .before .before .before .before .before .before .before .before .before .before .before .before .before .before .loop .count) (c .before .before .before .before .before .before .before .before .before .before .before .before .before .before .loop .i) (c .before .before .before .before .before .before .before .before .before .before .before .before .before .before .loop .inv) (omega arith) (omega (arith, c .before .before .before .before .before .before .before .before .before .before .before .before .before .before .loop .inv .going .len)) (c .before .before .before .before .before .before .before .before .before .before .before .next-mark .result) (omega (arith, c .before .before .before .before .before .before .before .before .before .before .before .before .before .before .loop .inv .going .upto, c .before .before .before .before .before .before .before .before .before .before .before .next-mark .ensures .0)) (omega arith) (c .before .before .before .before .before .before .before .before .before .before .before .next-mark .ensures .2) in
+    rw (c .before .before .before .before .before .before .before .before .fire-at .ensures .1) (fast-fire (c .before .before .before .before .before .before .before .before .before .before .before .before .before .before .before .before .before .fill-users .last .1 .1 .0) (c .before .before .before .before .before .before .before .before .before .before .before .before .before .before .before .before .before .before .before .before .before .args .mem .now) (c .before .before .before .before .before .before .before .before .before .before .before .before .before .before .before .before .before .before .before .before .before .args .size) (c .before .before .before .before .before .before .before .before .before .before .before .before .before .before .before .before .before .before .before .before .before .args .n) (c .before .before .before .before .before .before .before .before .before .before .before .before .before .before .before .before .before .before .before .before .before .args .budget) (c .before .before .before .before .before .before .before .before .before .before .before .before .before .before .loop .mem) (c .before .before .before .before .before .before .before .before .before .before .before .before .before .before .loop .awake) (c .before .before .before .before .before .before .before .before .before .before .before .before .before .before .loop .count) (c .before .before .before .before .before .before .before .before .before .before .before .next-mark .result) there (omega arith) (omega (arith, c .before .before .before .before .before .before .before .before .before .before .before .before .before .before .loop .inv .going .len)) (c .before .before .before .before .before .before .before .before .before .before .before .before .before .before .before .before .before .fill-users .ensures (c .before .before .before .before .before .before .before .before .before .before .before .before .before .before .before .if1 .taken)) (c .before .wake .last .1 .1 .0) (c .before .wake .result) (c .before .wake .ensures .0) (rw (c .before .before .before .before .before .before .before .before .fire-at .ensures .1) at (c .before .wake .ensures .1)) (omega arith) (λ z. omega (arith, z, c .before .before .before .before .before .before .before .before .before .before .before .next-mark .ensures .3 (omega arith))) (omega arith) (sym (c .before .before .before .before .before .before .before .before .fire-at .ensures .0) ∙ c .before .before .before .before .before .if3 .taken) (omega (arith, ap length (c .before .before .before .before .before .before .before .before .fire-at .ensures .1))))
+
+-- src/lib.rt:204:28  } else { ⏎ clear_mark(&mut awake, i);
+slice-aggregate-clear-mark : tie.Need-slice-aggregate-clear-mark Inv-loop μ-loop
+slice-aggregate-clear-mark c = sym (c .before .before .before .before .before .before .before .before .before .before .loop .inv .wide)
+
+-- src/lib.rt:204:17  } else { ⏎ clear_mark(&mut awake, i);
+clear-mark-requires : tie.Need-clear-mark-requires Inv-loop μ-loop
+clear-mark-requires c κs = (omega (arith, c .before .before .before .before .before .before .before .before .before .before .loop .inv .wide), omega arith)
+
+-- src/lib.rt:205:17  clear_mark(&mut awake, i); ⏎ i += 1;
+add-i : tie.Need-add-i Inv-loop μ-loop
+add-i c = omega arith
+
+-- src/lib.rt:195:9  let mut i: usize = 0; ⏎ while count < budget {
 loop-less-2 : tie.Need-loop-less-2 Inv-loop μ-loop
-loop-less-2 c = omega (arith, c .before .before .before .before .before .before .before .before .before .before .before .before .before .loop .inv .going .upto, c .before .wake .ensures .0 .less)
+loop-less-2 c = omega (arith, c .before .before .before .before .before .before .before .before .before .before .before .before .loop .inv .going .upto, c .before .before .before .before .before .before .before .before .before .next-mark .ensures .0)
 
--- src/lib.rt:157:9  let mut i: usize = 0; ⏎ while count < budget {
+-- src/lib.rt:195:9  let mut i: usize = 0; ⏎ while count < budget {
 loop-again-2 : tie.Need-loop-again-2 Inv-loop μ-loop
-loop-again-2 c = rw (c .before .before .before .before .before .before .before .before .fire-at .ensures .1) (fast-fire (c .before .before .before .before .before .before .before .before .before .before .before .before .before .before .before .before .fill-users .last .1 .1 .0) (c .before .before .before .before .before .before .before .before .before .before .before .before .before .before .before .before .before .before .before .before .args .mem .now) (c .before .before .before .before .before .before .before .before .before .before .before .before .before .before .before .before .before .before .before .before .args .size) (c .before .before .before .before .before .before .before .before .before .before .before .before .before .before .before .before .before .before .before .before .args .n) (c .before .before .before .before .before .before .before .before .before .before .before .before .before .before .before .before .before .before .before .before .args .budget) (c .before .before .before .before .before .before .before .before .before .before .before .before .before .loop .mem) (c .before .before .before .before .before .before .before .before .before .before .before .before .before .loop .awake) (c .before .before .before .before .before .before .before .before .before .before .before .before .before .loop .count) (c .before .before .before .before .before .before .before .before .before .before .before .before .before .loop .i) (c .before .before .before .before .before .before .before .before .before .before .before .before .before .loop .inv) (omega arith) (omega (arith, c .before .before .before .before .before .before .before .before .before .before .before .before .before .loop .inv .going .len)) (c .before .before .before .before .before .before .before .before .before .before .before .before .before .before .before .before .fill-users .ensures (c .before .before .before .before .before .before .before .before .before .before .before .before .before .before .if1 .taken)) (c .before .wake .last .1 .1 .0) (c .before .wake .result) (c .before .wake .ensures .0) (rw (c .before .before .before .before .before .before .before .before .fire-at .ensures .1) at (c .before .wake .ensures .1)) (omega (arith, c .before .before .before .before .before .before .before .before .before .before .before .before .before .loop .inv .going .upto)) (c .before .before .before .before .before .before .before .before .before .before .if3 .left) (omega arith) (sym (c .before .before .before .before .before .before .before .before .fire-at .ensures .0) ∙ c .before .before .before .before .before .if4 .taken) (omega (arith, ap length (c .before .before .before .before .before .before .before .before .fire-at .ensures .1))))
+loop-again-2 c =
+    let there = fast-skip (c .before .before .before .before .before .before .before .before .before .before .before .before .before .before .before .fill-users .last .1 .1 .0) (c .before .before .before .before .before .before .before .before .before .before .before .before .before .before .before .before .before .before .before .args .mem .now) (c .before .before .before .before .before .before .before .before .before .before .before .before .before .before .before .before .before .before .before .args .size) (c .before .before .before .before .before .before .before .before .before .before .before .before .before .before .before .before .before .before .before .args .n) (c .before .before .before .before .before .before .before .before .before .before .before .before .before .before .before .before .before .before .before .args .budget) (c .before .before .before .before .before .before .before .before .before .before .before .before .loop .mem) (c .before .before .before .before .before .before .before .before .before .before .before .before .loop .awake) (c .before .before .before .before .before .before .before .before .before .before .before .before .loop .count) (c .before .before .before .before .before .before .before .before .before .before .before .before .loop .i) (c .before .before .before .before .before .before .before .before .before .before .before .before .loop .inv) (omega arith) (omega (arith, c .before .before .before .before .before .before .before .before .before .before .before .before .loop .inv .going .len)) (c .before .before .before .before .before .before .before .before .before .next-mark .result) (omega (arith, c .before .before .before .before .before .before .before .before .before .before .before .before .loop .inv .going .upto, c .before .before .before .before .before .before .before .before .before .next-mark .ensures .0)) (omega arith) (c .before .before .before .before .before .before .before .before .before .next-mark .ensures .2) in
+    rw (c .before .before .before .before .before .before .fire-at .ensures .1, c .before .clear-mark .ensures) (fast-next (c .before .before .before .before .before .before .before .before .before .before .before .before .before .before .before .fill-users .last .1 .1 .0) (c .before .before .before .before .before .before .before .before .before .before .before .before .before .before .before .before .before .before .before .args .mem .now) (c .before .before .before .before .before .before .before .before .before .before .before .before .before .before .before .before .before .before .before .args .size) (c .before .before .before .before .before .before .before .before .before .before .before .before .before .before .before .before .before .before .before .args .n) (c .before .before .before .before .before .before .before .before .before .before .before .before .before .before .before .before .before .before .before .args .budget) (c .before .before .before .before .before .before .before .before .before .before .before .before .loop .mem) (c .before .before .before .before .before .before .before .before .before .before .before .before .loop .awake) (c .before .before .before .before .before .before .before .before .before .before .before .before .loop .count) (c .before .before .before .before .before .before .before .before .before .next-mark .result) there (omega arith) (omega (arith, c .before .before .before .before .before .before .before .before .before .before .before .before .loop .inv .going .len)) (omega arith) (sym (c .before .before .before .before .before .before .fire-at .ensures .0) ∙ c .before .before .before .if3 .left))
 
--- src/lib.rt:168:21  } else { ⏎ awake[i] = 0;
-array-write-awake : tie.Need-array-write-awake Inv-loop μ-loop
-array-write-awake c = omega (arith, c .before .before .before .before .before .before .before .before .loop .inv .going .upto)
-
--- src/lib.rt:169:21  awake[i] = 0; ⏎ i += 1;
-add-i-2 : tie.Need-add-i-2 Inv-loop μ-loop
-add-i-2 c = omega (arith, c .before .before .before .before .before .before .before .before .loop .inv .going .upto)
-
--- src/lib.rt:157:9  let mut i: usize = 0; ⏎ while count < budget {
-loop-less-3 : tie.Need-loop-less-3 Inv-loop μ-loop
-loop-less-3 c = omega (arith, c .before .before .before .before .before .before .before .before .loop .inv .going .upto)
-
--- src/lib.rt:157:9  let mut i: usize = 0; ⏎ while count < budget {
-loop-again-3 : tie.Need-loop-again-3 Inv-loop μ-loop
-loop-again-3 c = rw (c .before .before .before .fire-at .ensures .1) (fast-next (c .before .before .before .before .before .before .before .before .before .before .before .fill-users .last .1 .1 .0) (c .before .before .before .before .before .before .before .before .before .before .before .before .before .before .before .args .mem .now) (c .before .before .before .before .before .before .before .before .before .before .before .before .before .before .before .args .size) (c .before .before .before .before .before .before .before .before .before .before .before .before .before .before .before .args .n) (c .before .before .before .before .before .before .before .before .before .before .before .before .before .before .before .args .budget) (c .before .before .before .before .before .before .before .before .loop .mem) (c .before .before .before .before .before .before .before .before .loop .awake) (c .before .before .before .before .before .before .before .before .loop .count) (c .before .before .before .before .before .before .before .before .loop .i) (c .before .before .before .before .before .before .before .before .loop .inv) (omega arith) (omega (arith, c .before .before .before .before .before .before .before .before .loop .inv .going .len)) (omega (arith, c .before .before .before .before .before .before .before .before .loop .inv .going .upto)) (sym (c .before .before .before .fire-at .ensures .0) ∙ c .if4 .left))
-
--- src/lib.rt:173:9  } ⏎ return count;
+-- src/lib.rt:208:9  } ⏎ return count;
 same-length-2 : tie.Need-same-length-2 Inv-loop μ-loop
 same-length-2 c = c .before .loop .inv .going .len
 
--- src/lib.rt:173:9  } ⏎ return count;
+-- src/lib.rt:208:9  } ⏎ return count;
 returns-2 : tie.Need-returns-2 Inv-loop μ-loop
 returns-2 c = going-full (c .before .before .before .before .before .before .before .before .args .mem .now) (c .before .before .before .before .before .before .before .before .args .size) (c .before .before .before .before .before .before .before .before .args .n) (c .before .before .before .before .before .before .before .before .args .budget) (c .before .loop .mem) (c .before .loop .count) (c .before .loop .i) (c .before .loop .inv .going) (omega arith)
 
--- src/lib.rt:175:5  } ⏎ run_plain(mem, size, n, budget)
+-- src/lib.rt:210:5  } ⏎ run_plain(mem, size, n, budget)
 run-plain-requires : tie.Need-run-plain-requires Inv-loop μ-loop
 run-plain-requires c κs = search needs
 
--- src/lib.rt:147:1  // The run, with a mark for each operator that may be able. ⏎ pub fn run(mem: &mut [u8], size: usize, n: usize, budget: u32) -> u32
+-- src/lib.rt:185:1  // The run, with a mark for each operator that may be able. ⏎ pub fn run(mem: &mut [u8], size: usize, n: usize, budget: u32) -> u32
 same-length-3 : tie.Need-same-length-3 Inv-loop μ-loop
 same-length-3 c = search needs
 
--- src/lib.rt:147:1  // The run, with a mark for each operator that may be able. ⏎ pub fn run(mem: &mut [u8], size: usize, n: usize, budget: u32) -> u32
+-- src/lib.rt:185:1  // The run, with a mark for each operator that may be able. ⏎ pub fn run(mem: &mut [u8], size: usize, n: usize, budget: u32) -> u32
 returns-3 : tie.Need-returns-3 Inv-loop μ-loop
 returns-3 c = c .before .before .run-plain .ensures
 
@@ -144,23 +148,22 @@ run-spec =
     slice-aggregate-fill-users
     fill-users-requires
     loop-holds
+    slice-aggregate-next-mark
+    next-mark-requires
     same-length
     returns
-    array-read-if3
-    add-i
-    loop-less
-    loop-again
     fire-at-requires
     add-count
     slice-aggregate-wake
     slice-aggregate-wake-2
     wake-requires
+    loop-less
+    loop-again
+    slice-aggregate-clear-mark
+    clear-mark-requires
+    add-i
     loop-less-2
     loop-again-2
-    array-write-awake
-    add-i-2
-    loop-less-3
-    loop-again-3
     same-length-2
     returns-2
     run-plain-requires

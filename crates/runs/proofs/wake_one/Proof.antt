@@ -1,16 +1,20 @@
 -- The tests, as paths name them:
 --   tie if1  { ⏎ if u < 1024 {
---   tie if2  awake[u] = 1; ⏎ if u < low {
+--   tie if2  set_mark(awake, u); ⏎ if u < low {
 use borrow.Author.Needs.{needs}
 use Rattle.runs.proofs.wake_one.Statement.{statement}
 use Rattle.runs.proofs.wake_one.Tie as tie
 use Rattle.runs.proofs.wake_one.Reads as reads
 use Rattle.runs.proofs.wake_one.Lts as lts
+use Rattle.runs.proofs.set_mark.Reads as set-mark-reads
 use native.Mathlib.Omega.{arith}
-use Prim.Native.Nat.{ℕ, _+_, _-_, _*_, _≤_, _<_}
+use Prim.Native.Nat.{ℕ, _+_, _-_, _*_, _/_, _≤_, _<_}
 use mathlib.Core.Path.{_≡_, sym, _∙_, ap, refl}
-use mathlib.Core.Bool.{Bool, true, false}
 use mathlib.Core.List.{List}
+use lib.ListN.{length}
+use Rattle.runs.specs.Words.{woken, length-woken, mark-woken}
+use Rattle.runs.specs.Marks.{Awake, Woke, woke-none, woke-one}
+use mathlib.Core.Bool.{Bool, true, false}
 use Rattle.machine.specs.Fire.{ableAt, firedAt}
 use Rattle.runs.specs.Run.{Ran, ran, runs}
 use Rattle.runs.specs.RunLaws.{Quiet, quiet-none, Going, going-start, going-fire, going-next, going-end, going-full}
@@ -22,30 +26,30 @@ use Rattle.runs.specs.Far.{name}
 use Rattle.runs.specs.Users.{Found, Noted, noted-skip, noted-have1, noted-have2, noted-full, noted-set1, noted-set2, Covers, Filling, filling-start, filling-more}
 use Rattle.runs.specs.Marks.{Awake, Woke, woke-none, woke-then, woke-one, Hits, hits-none, hits-more, Fast, fast-start, fast-skip, fast-next, fast-fire}
 
--- src/lib.rt:106:9  if u < 1024 { ⏎ awake[u] = 1;
-slice-write-awake : tie.Need-slice-write-awake
-slice-write-awake c = search needs
+-- src/lib.rt:141:9  if u < 1024 { ⏎ set_mark(awake, u);
+set-mark-requires : tie.Need-set-mark-requires
+set-mark-requires c κs = omega arith
 
--- src/lib.rt:108:13  if u < low { ⏎ return u;
+-- src/lib.rt:143:13  if u < low { ⏎ return u;
 same-length : tie.Need-same-length
-same-length c = search needs
+same-length c = ap length (c .before .before .before .set-mark .ensures) ∙ length-woken (c .before .before .before .before .before .before .before .args .awake .now) (c .before .before .before .before .before .before .before .args .u)
 
--- src/lib.rt:108:13  if u < low { ⏎ return u;
+-- src/lib.rt:143:13  if u < low { ⏎ return u;
 returns : tie.Need-returns
-returns c = (woke-one (c .before .before .args .awake .now) (c .before .before .args .low) (c .before .before .args .u) (c .before .before .args .u) (omega arith) (omega arith) (omega arith), λ h. (getD-set-same (c .before .before .args .awake .now) (c .before .before .args .u) 1 0 (omega arith), omega arith))
+returns c = rw (c .before .before .before .set-mark .ensures) (woke-one (c .before .before .before .before .before .before .before .args .awake .now) (c .before .before .before .before .before .before .before .args .low) (c .before .before .before .before .before .before .before .args .u) (c .before .before .before .before .before .before .before .args .u) (omega arith) (omega arith) (omega arith), λ h. (mark-woken (c .before .before .before .before .before .before .before .args .awake .now) (c .before .before .before .before .before .before .before .args .u) (omega arith), omega arith))
 
--- src/lib.rt:110:9  } ⏎ return low;
+-- src/lib.rt:145:9  } ⏎ return low;
 same-length-2 : tie.Need-same-length-2
-same-length-2 c = search needs
+same-length-2 c = ap length (c .before .before .before .set-mark .ensures) ∙ length-woken (c .before .before .before .before .before .before .before .args .awake .now) (c .before .before .before .before .before .before .before .args .u)
 
--- src/lib.rt:110:9  } ⏎ return low;
+-- src/lib.rt:145:9  } ⏎ return low;
 returns-2 : tie.Need-returns-2
-returns-2 c = (woke-one (c .before .before .args .awake .now) (c .before .before .args .low) (c .before .before .args .u) (c .before .before .args .low) (omega arith) (omega arith) (omega arith), λ h. (getD-set-same (c .before .before .args .awake .now) (c .before .before .args .u) 1 0 (omega arith), omega arith))
+returns-2 c = rw (c .before .before .before .set-mark .ensures) (woke-one (c .before .before .before .before .before .before .before .args .awake .now) (c .before .before .before .before .before .before .before .args .low) (c .before .before .before .before .before .before .before .args .u) (c .before .before .before .before .before .before .before .args .low) (omega arith) (omega arith) (omega arith), λ h. (mark-woken (c .before .before .before .before .before .before .before .args .awake .now) (c .before .before .before .before .before .before .before .args .u) (omega arith), omega arith))
 
--- src/lib.rt:101:1  // Marks operator u, and tells the lesser of u and low. ⏎ fn wake_one(awake: &mut [u8], u: usize, low: usize) -> usize
+-- src/lib.rt:136:1  // Marks operator u, and tells the lesser of u and low. ⏎ fn wake_one(awake: &mut [u64], u: usize, low: usize) -> usize
 returns-3 : tie.Need-returns-3
-returns-3 c = (woke-none (c .before .args .awake .now) (c .before .args .low), λ h. absurd (omega arith))
+returns-3 c = (woke-none (c .before .before .args .awake .now) (c .before .before .args .low), λ h. absurd (omega arith))
 
 pub wake-one-spec : {M : Type 1} → statement M
 wake-one-spec =
-    tie.close (tie.spec slice-write-awake same-length returns same-length-2 returns-2 returns-3)
+    tie.close (tie.spec set-mark-requires same-length returns same-length-2 returns-2 returns-3)
