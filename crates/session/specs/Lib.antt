@@ -1,0 +1,5 @@
+pub mod Passes
+pub mod Waiting
+pub mod PassLaws
+pub mod FeedLaws
+pub mod StageLaws
