@@ -85,7 +85,7 @@ pub fn encode_result(set: &ResultSet) -> [u8; OUT_BYTES] {
     out
 }
 
-fn decode(bytes: &[u8]) -> Option<Value> {
+pub fn decode(bytes: &[u8]) -> Option<Value> {
     let bits = u32::from_le_bytes([bytes[1], bytes[2], bytes[3], bytes[4]]);
     match (bytes[0], bits) {
         (1, _) => Some(Value::Whole(bits as i32)),

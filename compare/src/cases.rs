@@ -55,13 +55,10 @@ pub fn list() -> Vec<Case> {
     list.0
 }
 
-/// What `expected` says of a sheet: the refusal and its row, or 0, rows, operators, inputs and results.
+/// What `expected` says of a sheet: refusal, row, rows, operators, inputs and results, in six-character fields.
 pub fn answer_line(sheet: &[u8]) -> String {
-    let answer = read(sheet);
-    match answer.refusal {
-        0 => format!("{:6}{:6}{:6}{:6}{:6}", 0, answer.rows, answer.operators, answer.inputs, answer.results),
-        number => format!("{:6}{:6}", number, answer.row),
-    }
+    let ReadAnswer { refusal, row, rows, operators, inputs, results } = read(sheet);
+    format!("{refusal:6}{row:6}{rows:6}{operators:6}{inputs:6}{results:6}")
 }
 
 fn lesser() -> Rows {
@@ -161,6 +158,10 @@ fn bytes_and_rows(list: &mut List) {
     list.refused(1, 0, "empty", Vec::new());
     list.refused(1, 0, "a lone line feed", b"\n".to_vec());
     list.refused(1, 0, "a missing last line feed", one[..30].to_vec());
+    list.refused(1, 0, "seven rows, the last without its line feed", {
+        let bytes = write(&lesser());
+        bytes[..bytes.len() - 1].to_vec()
+    });
     let text = String::from_utf8(write(&lesser())).unwrap();
     list.refused(1, 0, "CR LF ends, 32 bytes a row", text.replace('\n', "\r\n").into_bytes());
     list.refused(3, 1, "CR in the place of the last character", text.replace("0\n", "\r\n").into_bytes());
@@ -237,6 +238,9 @@ fn ranges(list: &mut List) {
     list.refused(4, 1, "truth 2", write(&[[3, 2, 0, 0, 0]]));
     let named = [[2, 1, 0, 0, 0], [1, 31, 0, 0, 0], [6, 31, 1, 1, 2]];
     list.accepted([3, 1, 0, 1], "a let of identifier 31", write(&named));
+    let (one, last) = ([2, 1, 0, 0, 0], [1, 31, 0, 0, 0]);
+    let two = [one, one, [4, 1, 2, 0, 0], [1, 30, 0, 0, 0], last, [4, 4, 5, 0, 0], [6, 30, 2, 3, 6]];
+    list.accepted([7, 3, 0, 2], "a let of identifiers 30 and 31", write(&two));
     for (what, kind) in [("let", 6), ("for", 8)] {
         for (a, b) in [(0, 0), (31, 0), (31, 2), (32, 1), (0, 33), (999_999, 999_999), (1, 32)] {
             let rows = [[2, 1, 0, 0, 0], [1, 31, 0, 0, 0], [kind, a, b, 1, 2]];
@@ -327,7 +331,7 @@ mod tests {
 
     #[test]
     fn an_expected_line_has_fields_of_six() {
-        assert_eq!(answer_line(b""), "     1     0");
-        assert_eq!(answer_line(&write(&lesser())), "     0     7     8     2     1");
+        assert_eq!(answer_line(b""), "     1     0     0     0     0     0");
+        assert_eq!(answer_line(&write(&lesser())), "     0     0     7     8     2     1");
     }
 }

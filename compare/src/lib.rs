@@ -6,10 +6,13 @@ pub mod bytes;
 pub mod cases;
 pub mod count;
 pub mod eval;
+pub mod examples;
 pub mod graph;
 pub mod machine;
+pub mod memory;
 #[cfg(feature = "product")]
 pub mod product;
 pub mod random;
 pub mod sheet;
+pub mod timing;
 pub mod value;

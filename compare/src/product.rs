@@ -1,7 +1,8 @@
 // The product's functions from its static library, declared by hand and wrapped over slices.
-// Assumes that the archive exports them with these C signatures.
+// Assumes that the archive exports them with these C signatures (include/bench.h).
 
 use crate::bytes::{EvaluateAnswer, ReadAnswer};
+use crate::memory::{Answer, StartAnswer};
 
 extern "C" {
     fn bench_read(sheet: *const u8, sheet_len: usize) -> ReadAnswer;
@@ -14,14 +15,39 @@ extern "C" {
         out: *mut u8,
         out_len: usize,
     ) -> EvaluateAnswer;
+    fn bench_start(sheet: *const u8, sheet_len: usize, capacity: u32, mem: *mut u8, mem_len: usize) -> StartAnswer;
+    fn bench_push(mem: *mut u8, mem_len: usize, set: *const u8, set_len: usize) -> Answer;
+    fn bench_fire(mem: *mut u8, mem_len: usize, operator: u32) -> Answer;
+    fn bench_run(mem: *mut u8, mem_len: usize, firings: u32) -> Answer;
+    fn bench_take(mem: *mut u8, mem_len: usize, out: *mut u8, out_len: usize) -> Answer;
 }
 
+// In each function the pointers and lengths are slices', and what is written is lent to that call alone.
+
 pub fn read(sheet: &[u8]) -> ReadAnswer {
-    // The pointer and length are a slice's.
     unsafe { bench_read(sheet.as_ptr(), sheet.len()) }
 }
 
 pub fn evaluate(sheet: &[u8], set: &[u8], rounds: u32, out: &mut [u8]) -> EvaluateAnswer {
-    // The pointers and lengths are slices', and `out` is lent to this call alone.
     unsafe { bench_evaluate(sheet.as_ptr(), sheet.len(), set.as_ptr(), set.len(), rounds, out.as_mut_ptr(), out.len()) }
+}
+
+pub fn start(sheet: &[u8], capacity: u32, mem: &mut [u8]) -> StartAnswer {
+    unsafe { bench_start(sheet.as_ptr(), sheet.len(), capacity, mem.as_mut_ptr(), mem.len()) }
+}
+
+pub fn push(mem: &mut [u8], set: &[u8]) -> Answer {
+    unsafe { bench_push(mem.as_mut_ptr(), mem.len(), set.as_ptr(), set.len()) }
+}
+
+pub fn fire(mem: &mut [u8], operator: u32) -> Answer {
+    unsafe { bench_fire(mem.as_mut_ptr(), mem.len(), operator) }
+}
+
+pub fn run(mem: &mut [u8], firings: u32) -> Answer {
+    unsafe { bench_run(mem.as_mut_ptr(), mem.len(), firings) }
+}
+
+pub fn take(mem: &mut [u8], out: &mut [u8]) -> Answer {
+    unsafe { bench_take(mem.as_mut_ptr(), mem.len(), out.as_mut_ptr(), out.len()) }
 }

@@ -5,6 +5,7 @@ pub mod faults;
 pub mod formulas;
 pub mod sheets;
 pub mod tree;
+pub mod turns;
 
 use crate::sheet::Sheet;
 use crate::value::Value;

@@ -4,9 +4,8 @@
 
 use compare::bytes::{self, EvaluateAnswer, OUT_BYTES, VALUE_BYTES};
 use compare::product;
-use compare::random::faults::plant;
-use compare::random::{accepted_sheet, heavy_sheet, loose_sheet, mutate, random_set, random_value, renamed_sheet};
-use compare::random::{Made, Rng, Sort};
+use compare::random::turns::random_sheet;
+use compare::random::{random_set, random_value, Made, Rng, Sort};
 use compare::sheet;
 use std::collections::BTreeMap;
 use std::{env, process};
@@ -46,30 +45,6 @@ fn main() {
 fn usage() -> ! {
     eprintln!("usage: compare CASES SEED [FIRST]");
     process::exit(2)
-}
-
-/// The kinds of cases by turns: half of them accepted sheets, and each refusal planted.
-fn random_sheet(number: u64, rng: &mut Rng) -> (String, Made) {
-    let bytes = |kind: &str, bytes| (kind.to_string(), Made { bytes, sorts: [Sort::Whole; 32] });
-    match number % 40 {
-        0 | 1 => ("sheet with many operators".into(), heavy_sheet(rng)),
-        fault @ 2..=11 => bytes(&format!("sheet with fault {:2}", fault - 1), plant(fault as u32 - 1, rng).bytes),
-        12..=15 => bytes("sheet with altered bytes", mutate(&accepted_sheet(rng).bytes, rng)),
-        16..=18 => bytes("rows at random", loose_sheet(rng)),
-        19..=21 => bytes("sheet with other names", renamed_sheet(rng)),
-        22 => bytes("bytes at random", random_bytes(rng)),
-        _ => ("accepted sheet".into(), accepted_sheet(rng)),
-    }
-}
-
-fn random_bytes(rng: &mut Rng) -> Vec<u8> {
-    let length = rng.pick(&[0, 1, 30, 31, 62, 93, 6200, 6231]);
-    let mut bytes: Vec<u8> = (0..length).map(|_| rng.pick(b"       00123456789")).collect();
-    bytes.iter_mut().skip(30).step_by(31).for_each(|byte| *byte = b'\n');
-    if rng.chance(30) && length > 0 {
-        bytes[rng.below(length)] = rng.number() as u8;
-    }
-    bytes
 }
 
 /// Bytes with others on both sides, so that a call which reads or writes past its ends gives itself away.

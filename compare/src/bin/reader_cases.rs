@@ -1,5 +1,5 @@
-// Writes the list of sheets in src/cases.rs as test data: FOLDER/NNN/formula.txt, and FOLDER/expected with a line each,
-// the refusal and its row, or 0, rows, operators, inputs and results, in six-character fields.
+// Writes the list of sheets in src/cases.rs as test data: FOLDER/NNN/formula.txt, and FOLDER/expected with a line each:
+// refusal, row, rows, operators, inputs and results, in six-character fields. The product's crate readcases holds both.
 
 use compare::cases;
 use std::path::Path;
@@ -17,7 +17,7 @@ fn main() -> io::Result<()> {
         fs::create_dir_all(&place)?;
         fs::write(place.join("formula.txt"), &case.sheet)?;
         let line = cases::answer_line(&case.sheet);
-        println!("{number:03} {line:30} {}", case.name);
+        println!("{number:03} {line} {}", case.name);
         expected.push_str(&line);
         expected.push('\n');
     }

@@ -1,70 +1,123 @@
-// Times the reader and the evaluator here and, with the feature `product`, the product's beside them in the same run.
-// A figure is the least time of a call over many batches; the batches of the two take turns, so that both see the
-// same machine. The last column is the product's time over ours.
+// Times the reader, the evaluator and the machine's calls here and, with the feature `product`, the product's beside them in the same run. The last
+// column is the product's speed over ours: 1.00 is as fast, 0.50 takes twice as long.
 
-use compare::bytes;
-use compare::graph;
-use compare::machine::Machine;
-use compare::random::{heavy_sheet, random_set, Made, Rng};
-use compare::sheet::{self, write};
+use compare::bytes::{self, OUT_BYTES};
+use compare::examples::{factorial, lesser, many_operators, negations};
+use compare::memory::{self, Answer, StartAnswer};
+use compare::random::{random_set, Rng};
+use compare::sheet;
+use compare::timing::{side_by_side, Call};
 use compare::value::Value;
 use std::hint::black_box;
-use std::time::{Duration, Instant};
-
-const BATCHES: usize = 200;
-const BATCH: Duration = Duration::from_millis(1);
-
-/// A call to be timed; it gives its refusal.
-type Call<'a> = Box<dyn FnMut() -> u32 + 'a>;
 
 fn main() {
-    println!("{:44}{:>12}{:>12}{:>9}", "", "ours, ns", "product, ns", "ratio");
+    println!("{:44}{:>12}{:>12}{:>8}", "", "ours, ns", "product, ns", "speed");
     for (name, bytes) in sheets() {
         let text = format!("read: {name}, {} bytes", bytes.len());
-        report(&text, &mut || bytes::read(black_box(&bytes)).refusal, &mut product_read(&bytes));
+        report(&text, 1, &mut || bytes::read(black_box(&bytes)).refusal, &mut product_read(&bytes));
     }
     for (name, bytes, set, rounds) in evaluations() {
-        let mut out = [0; bytes::OUT_BYTES];
-        let text = format!("evaluate: {name}");
+        let mut out = [0; OUT_BYTES];
         let mut ours = || bytes::evaluate(black_box(&bytes), &set, rounds, &mut out).refusal;
-        report(&text, &mut ours, &mut product_evaluate(&bytes, &set, rounds));
+        report(&format!("evaluate: {name}"), 1, &mut ours, &mut product_evaluate(&bytes, &set, rounds));
     }
-    machine_alone();
-}
-
-/// Prints one line: our time, and the product's where it is linked.
-fn report(name: &str, ours: &mut dyn FnMut() -> u32, product: &mut Option<Call<'_>>) {
-    let repeats = repeats_for(ours);
-    let other_repeats = product.as_mut().map_or(1, |call| repeats_for(call));
-    let (mut least, mut other_least) = (f64::MAX, f64::MAX);
-    for _ in 0..BATCHES {
-        least = least.min(time(ours, repeats));
-        if let Some(call) = product {
-            other_least = other_least.min(time(call, other_repeats));
-        }
-    }
-    match product {
-        Some(_) => println!("{name:44}{least:12.0}{other_least:12.0}{:9.2}", other_least / least),
-        None => println!("{name:44}{least:12.0}{:>12}{:>9}", "-", "-"),
+    for (name, bytes, set, _) in evaluations() {
+        machine(&name, &bytes, &set);
     }
 }
 
-/// Nanoseconds a call.
-fn time(call: &mut dyn FnMut() -> u32, repeats: u32) -> f64 {
-    let start = Instant::now();
-    for _ in 0..repeats {
-        black_box(call());
+/// Prints one line, the times divided by a number of like steps.
+fn report(name: &str, steps: u32, ours: &mut dyn FnMut() -> u32, product: &mut Option<Call<'_>>) {
+    let (least, other) = side_by_side(ours, product);
+    let (least, other) = (least / f64::from(steps), other.map(|time| time / f64::from(steps)));
+    match other {
+        Some(other) => println!("{name:44}{least:12.1}{other:12.1}{:8.2}", least / other),
+        None => println!("{name:44}{least:12.1}{:>12}{:>8}", "-", "-"),
     }
-    start.elapsed().as_nanos() as f64 / f64::from(repeats)
 }
 
-/// How many calls fill a batch.
-fn repeats_for(call: &mut dyn FnMut() -> u32) -> u32 {
-    let mut repeats = 1;
-    while time(call, repeats) * f64::from(repeats) < BATCH.as_nanos() as f64 {
-        repeats *= 2;
+/// The calls on a machine at capacity 2: a start; a run of as many sets as fit, by the firing; a take with the push of another set.
+fn machine(name: &str, sheet: &[u8], set: &[u8]) {
+    let start = product_calls().map_or(memory::start as fn(&[u8], u32, &mut [u8]) -> StartAnswer, |calls| calls.start);
+    let mut fresh = vec![0; memory::need(2)];
+    if start(sheet, 2, &mut fresh).refusal != 0 {
+        return;
     }
-    repeats
+    report(
+        &format!("start: {name}"),
+        1,
+        &mut starting(PLAIN, sheet),
+        &mut product_calls().map(|calls| starting(calls, sheet)),
+    );
+
+    let mut loaded = fresh.clone();
+    while memory::push(&mut loaded, set).refusal == 0 {}
+    let firings = memory::run(&mut loaded.clone(), FIRINGS).count;
+    let mut product = product_calls().map(|calls| running(calls, &loaded));
+    report(&format!("run: a firing of {firings}, {name}"), firings, &mut running(PLAIN, &loaded), &mut product);
+
+    let mut done = fresh.clone();
+    memory::push(&mut done, set);
+    memory::run(&mut done, FIRINGS);
+    let mut product = product_calls().map(|calls| taking(calls, &done, set));
+    report(&format!("take and push: {name}"), 1, &mut taking(PLAIN, &done, set), &mut product);
+}
+
+const FIRINGS: u32 = 1_000_000;
+
+fn starting(calls: Calls, sheet: &[u8]) -> Call<'_> {
+    let mut mem = vec![0; memory::need(2)];
+    Box::new(move || (calls.start)(black_box(sheet), 2, &mut mem).refusal)
+}
+
+fn running(calls: Calls, loaded: &[u8]) -> Call<'_> {
+    let mut mem = loaded.to_vec();
+    Box::new(move || {
+        restore(&mut mem, loaded);
+        (calls.run)(&mut mem, FIRINGS).count
+    })
+}
+
+fn taking<'a>(calls: Calls, done: &'a [u8], set: &'a [u8]) -> Call<'a> {
+    let mut mem = done.to_vec();
+    let mut out = [0; OUT_BYTES];
+    Box::new(move || {
+        restore(&mut mem, done);
+        (calls.take)(&mut mem, &mut out).count + (calls.push)(&mut mem, set).refusal
+    })
+}
+
+/// The part of a machine that its calls change, as it was: registers and links.
+fn restore(mem: &mut [u8], from: &[u8]) {
+    let figure = |at: usize| usize::from(u16::from_le_bytes([from[at], from[at + 1]]));
+    mem[7] = from[7];
+    let registers = 16_640..16_640 + 5 * figure(1);
+    mem[registers.clone()].copy_from_slice(&from[registers]);
+    let links = 21_760..21_760 + 11 * figure(3);
+    mem[links.clone()].copy_from_slice(&from[links]);
+}
+
+/// The calls on a machine.
+#[derive(Clone, Copy)]
+struct Calls {
+    start: fn(&[u8], u32, &mut [u8]) -> StartAnswer,
+    push: fn(&mut [u8], &[u8]) -> Answer,
+    run: fn(&mut [u8], u32) -> Answer,
+    take: fn(&mut [u8], &mut [u8]) -> Answer,
+}
+
+const PLAIN: Calls = Calls { start: memory::start, push: memory::push, run: memory::run, take: memory::take };
+
+/// The product's, where it is linked.
+#[cfg(feature = "product")]
+fn product_calls() -> Option<Calls> {
+    use compare::product::{push, run, start, take};
+    Some(Calls { start, push, run, take })
+}
+
+#[cfg(not(feature = "product"))]
+fn product_calls() -> Option<Calls> {
+    None
 }
 
 #[cfg(feature = "product")]
@@ -79,42 +132,13 @@ fn product_read(_: &[u8]) -> Option<Call<'_>> {
 
 #[cfg(feature = "product")]
 fn product_evaluate<'a>(sheet: &'a [u8], set: &'a [u8], rounds: u32) -> Option<Call<'a>> {
-    let mut out = [0; bytes::OUT_BYTES];
+    let mut out = [0; OUT_BYTES];
     Some(Box::new(move || compare::product::evaluate(black_box(sheet), set, rounds, &mut out).refusal))
 }
 
 #[cfg(not(feature = "product"))]
 fn product_evaluate<'a>(_: &'a [u8], _: &'a [u8], _: u32) -> Option<Call<'a>> {
     None
-}
-
-fn lesser() -> Vec<u8> {
-    let names = [[1, 0, 0, 0, 0], [1, 1, 0, 0, 0]];
-    write(&[names[0], names[1], [4, 1, 2, 0, 0], [5, 6, 3, 0, 0], names[0], names[1], [7, 4, 5, 6, 0]])
-}
-
-/// "for i, y = n, 1 do if 1 < i then iter i - 1, y * i else y".
-fn factorial() -> Vec<u8> {
-    let (i, y, n, one) = ([1, 0, 0, 0, 0], [1, 1, 0, 0, 0], [1, 2, 0, 0, 0], [2, 1, 0, 0, 0]);
-    let start = [n, one, [4, 1, 2, 0, 0], one, i, [4, 4, 5, 0, 0], [5, 6, 6, 0, 0]];
-    let next = [i, one, [4, 8, 9, 0, 0], [5, 2, 10, 0, 0], y, i, [4, 12, 13, 0, 0], [5, 3, 14, 0, 0]];
-    let end = [[4, 11, 15, 0, 0], [9, 16, 0, 0, 0], y, [7, 7, 17, 18, 0], [8, 0, 2, 3, 19]];
-    write(&[&start[..], &next[..], &end[..]].concat())
-}
-
-fn negations(rows: u32) -> Vec<u8> {
-    let row = |row| if row == 1 { [1, 0, 0, 0, 0] } else { [5, 11, row - 1, 0, 0] };
-    write(&(1..=rows).map(row).collect::<Vec<_>>())
-}
-
-/// A sheet with over 1,000 operators.
-fn many_operators(rng: &mut Rng) -> Made {
-    loop {
-        let made = heavy_sheet(rng);
-        if bytes::read(&made.bytes).operators > 1000 {
-            return made;
-        }
-    }
 }
 
 fn sheets() -> Vec<(String, Vec<u8>)> {
@@ -125,6 +149,8 @@ fn sheets() -> Vec<(String, Vec<u8>)> {
     vec![
         ("the lesser of two".into(), lesser()),
         ("factorial".into(), factorial()),
+        ("50 rows of negations".into(), negations(50)),
+        ("100 rows of negations".into(), negations(100)),
         ("200 rows of negations".into(), negations(200)),
         (format!("{operators} operators"), many),
         ("malformed near its end".into(), malformed),
@@ -147,20 +173,4 @@ fn evaluations() -> Vec<(String, Vec<u8>, Vec<u8>, u32)> {
         ("200 rows of negations".into(), negations(200), number(7), 0),
         (format!("{} operators", sheet.figures.operators), many.bytes, set, 1000),
     ]
-}
-
-/// The machine here: nanoseconds a firing, factorial at capacity 2 with sets behind each other.
-fn machine_alone() {
-    let sheet = sheet::read(&factorial()).expect("an accepted sheet");
-    let graph = graph::build(&sheet);
-    let mut machine = Machine::start(&graph, 2).expect("a capacity in its range");
-    let (mut least, mut firings) = (f64::MAX, 0);
-    for _ in 0..BATCHES {
-        while machine.push(&[Value::Whole(1000)]).is_ok() {}
-        let start = Instant::now();
-        firings = machine.run(u32::MAX).count;
-        least = least.min(start.elapsed().as_nanos() as f64 / f64::from(firings));
-        while machine.take().is_ok() {}
-    }
-    println!("{:44}{least:12.1}{:>12}{:>9}", format!("run: a firing, of {firings} for factorial"), "-", "-");
 }

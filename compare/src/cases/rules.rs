@@ -48,6 +48,9 @@ pub fn iters(list: &mut List) {
         write(&[x, iter, x, x, [9, 4, 0, 0, 0], [7, 2, 3, 5, 0], x, [8, 0, 1, 7, 6]])
     });
     list.refused(7, 2, "iter in row c of a body's let", write(&[x, iter, x, [6, 0, 1, 2, 3], x, [8, 0, 1, 5, 4]]));
+    // for x = x do if x then let y = x in iter y else x: T, F, E, FM, FS and IC, 8 gates, 2 constants, 8 copies.
+    let bound = [x, x, x, [1, 1, 0, 0, 0], [9, 4, 0, 0, 0], [6, 1, 1, 3, 5], x, [7, 2, 6, 7, 0], [8, 0, 1, 1, 8]];
+    list.accepted([9, 18, 1, 1], "iter in row d of a body's let", write(&bound));
     list.refused(7, 2, "iter in a returned pair of a body", write(&[x, iter, x, [4, 2, 3, 0, 0], x, [8, 0, 1, 5, 4]]));
 }
 

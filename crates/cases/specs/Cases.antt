@@ -1,58 +1,137 @@
--- Document 01's marked examples (p): one list of definitions' outcomes with one proof over the list.
+-- Document 01's marked examples (p): "one list of definitions' outcomes with one proof over the list". A case is a question and
+-- what it gives; a question that a later part answers is one constructor more, in `Question`, `Answer` and `got`.
 use Prim.Native.Nat.{ℕ, zero, suc}
 use mathlib.Core.Path.{_≡_, refl}
-use mathlib.Core.List.{List, [], _∷_, map}
-use lib.ListN.{length}
+use mathlib.Core.Bool.{Bool, true, false}
+use mathlib.Core.List.{List, [], _∷_, _++_, map}
+use native.Mathlib.Decide.{ℕ-discrete}
+use lib.IntN.{pos}
+use lib.ListN.{length, replicate}
+use Rattle.value.specs.declared.Value.{Value}
+use Rattle.value.specs.declared.Value.the-variants.{Whole, Truth, Err}
+use Rattle.value.specs.Bytes.{bytesOf}
 use Rattle.formula.specs.declared.Refusal.{Refusal}
-use Rattle.formula.specs.declared.Refusal.the-variants.{Rows, Named, StrayIter, Unused}
+use Rattle.formula.specs.declared.Refusal.the-variants.{Rows, Named, StrayIter, Unused, Set, Unfinished}
+use Rattle.formula.specs.declared.Verdict.the-variants.{Passed}
 use Rattle.formula.specs.declared.Figures.{Figures}
 use Rattle.formula.specs.declared.Reading.{Reading}
 use Rattle.formula.specs.declared.Reading.the-variants.{Accepted, Rejected}
 use Rattle.formula.specs.Tree.{formulaOf}
-use Rattle.formula.specs.Tests.{readingOf}
+use Rattle.formula.specs.Count.{countE}
+use Rattle.formula.specs.Tests.{fewRows, readingOf}
 use Rattle.graph.specs.Translation.{madeOf}
-use Rattle.cases.specs.Sheets.{bytes, lesser, twice, factorial, iterAlone, letUnused, alike, constantRow}
+use Rattle.network.specs.Net.{append}
+use Rattle.eval.specs.declared.Evaluation.{Evaluation}
+use Rattle.eval.specs.Evaluate.{cell, refused, evaluationOf}
+use Rattle.reference.specs.Marks.{marks}
+use Rattle.verdicts.specs.Running.{startOf}
+use Rattle.demand.specs.Pushes.{pushRefusals}
+use Rattle.examples.specs.Sheets.{bytes, lesser, twice, factorial, iterAlone, letUnused, alike, constantRow}
 
-abbrev accepted : ℕ → ℕ → ℕ → ℕ → Reading
-accepted n o i w = Accepted (record { rows = n; operators = o; inputs = i; results = w })
+-- What can be asked of the definitions.
+pub data Question : Type 0 where
+  -- what reading says of a sheet: its figures, or the first refusal with its row
+  reading : List ℕ → Question
+  -- what test 2 alone says of it
+  test-2 : List ℕ → Question
+  -- how many operators test 10 counts, and how many the translation makes
+  counted : List ℕ → Question
+  made : List ℕ → Question
+  -- a sheet, a set, and the rounds lent
+  evaluation : List ℕ → List Value → ℕ → Question
+  -- a sheet, a capacity, a set, and how often it is pushed from the start
+  pushes : List ℕ → ℕ → List Value → ℕ → Question
 
-pub record Read : Type 0 where
-  pub sheet : List ℕ
-  pub gives : Reading
+pub data Answer : Type 0 where
+  says : Reading → Answer
+  passes : Bool → Answer
+  operators : ℕ → Answer
+  evaluates : Evaluation → Answer
+  -- what each push answers, 0 where it is accepted
+  refusals : List ℕ → Answer
 
-abbrev read : List ℕ → Reading → Read
-read s r = record { sheet = s; gives = r }
+-- A set in the byte form.
+unfoldable pub setBytes : List Value → List ℕ
+unfolding bytesOf
+setBytes [] = []
+setBytes (v ∷ vs) = bytesOf v ++ setBytes vs
 
--- Lesser-of-two has 8 operators, x + x has 2; iter as the formula is 7; let x = 1 in 2 is 9; 200 rows pass test 2 (these,
--- each a constant that nothing names, then fail test 6), 201 do not.
-unfoldable pub reads : List Read
+unfoldable pub got : Question → Answer
+unfolding readingOf countE formulaOf madeOf evaluationOf setBytes pushRefusals marks append ℕ-discrete
+got (reading s) = says (readingOf s)
+got (test-2 s) = passes (fewRows s)
+got (counted s) = operators (countE (formulaOf s) .operators)
+got (made s) = operators (length (madeOf (formulaOf s) .operators))
+got (evaluation s vs rounds) = evaluates (evaluationOf s (setBytes vs) rounds)
+got (pushes s capacity vs k) = refusals (pushRefusals (formulaOf s) capacity vs k (startOf (formulaOf s)))
+
+pub record Case : Type 0 where
+  pub asks : Question
+  pub gives : Answer
+
+abbrev case : Question → Answer → Case
+case q a = record { asks = q; gives = a }
+
+abbrev accepted : ℕ → ℕ → ℕ → ℕ → Answer
+accepted n o i w = says (Accepted (record { rows = n; operators = o; inputs = i; results = w }))
+
+abbrev number : ℕ → Value
+number n = Whole (pos n)
+
+-- One value after k rounds.
+abbrev one : Value → ℕ → Answer
+one v k = evaluates (record { cells = cell v ∷ replicate 15 (cell Err); width = 1; rounds = k; verdict = Passed })
+
+abbrev refusal : Refusal → Answer
+refusal r = evaluates (refused r 0)
+
+abbrev pub threeAndFive : List Value
+threeAndFive = number 3 ∷ number 5 ∷ []
+
+unfoldable pub cases : List Case
 unfolding bytes lesser twice factorial iterAlone letUnused alike constantRow
-reads =
-    read (bytes lesser) (accepted 7 8 2 1)
-    ∷ read (bytes twice) (accepted 4 2 1 1)
-    ∷ read (bytes factorial) (accepted 20 32 1 1)
-    ∷ read (bytes iterAlone) (Rejected StrayIter 2)
-    ∷ read (bytes letUnused) (Rejected Unused 3)
-    ∷ read (alike 200 constantRow) (Rejected Named 1)
-    ∷ read (alike 201 constantRow) (Rejected Rows 0)
+cases =
+    -- "sixteen pushes at capacity 16 pass, the seventeenth gives 32": on the links; the same on the machine's memory is Pushed's
+    case (pushes (bytes lesser) 16 threeAndFive 17) (refusals (replicate 16 0 ++ 32 ∷ []))
+    -- at capacity 1 the second already finds the input links full
+    ∷ case (pushes (bytes lesser) 1 threeAndFive 2) (refusals (0 ∷ 33 ∷ []))
+    -- "this graph has 8 operators", by the count and by the translation
+    ∷ case (counted (bytes lesser)) (operators 8)
+    ∷ case (made (bytes lesser)) (operators 8)
+    -- "each of the four results"
+    ∷ case (evaluation (bytes lesser) threeAndFive 0) (one (number 3) 0)
+    ∷ case (evaluation (bytes lesser) (number 7 ∷ number 7 ∷ []) 0) (one (number 7) 0)
+    ∷ case (evaluation (bytes lesser) (Err ∷ number 2 ∷ []) 0) (one Err 0)
+    ∷ case (evaluation (bytes lesser) (Truth true ∷ number 1 ∷ []) 0) (one Err 0)
+    -- "x + x has 2 operators"
+    ∷ case (counted (bytes twice)) (operators 2)
+    ∷ case (made (bytes twice)) (operators 2)
+    -- "n = 5 gives 120 in 5 rounds", also where more are lent; "4 rounds give 36"
+    ∷ case (evaluation (bytes factorial) (number 5 ∷ []) 5) (one (number 120) 5)
+    ∷ case (evaluation (bytes factorial) (number 5 ∷ []) 1000) (one (number 120) 5)
+    ∷ case (evaluation (bytes factorial) (number 5 ∷ []) 4) (refusal Unfinished)
+    -- "n = 0 gives 1", "n = E gives E"
+    ∷ case (evaluation (bytes factorial) (number 0 ∷ []) 1) (one (number 1) 1)
+    ∷ case (evaluation (bytes factorial) (Err ∷ []) 1) (one Err 1)
+    -- "n = 12 gives 479,001,600", "n = 13 gives E"
+    ∷ case (evaluation (bytes factorial) (number 12 ∷ []) 12) (one (number 479001600) 12)
+    ∷ case (evaluation (bytes factorial) (number 13 ∷ []) 13) (one Err 13)
+    -- a value too few
+    ∷ case (evaluation (bytes lesser) (number 3 ∷ []) 0) (refusal Set)
+    -- "iter as the formula: 7", "let x = 1 in 2: 9"
+    ∷ case (reading (bytes iterAlone)) (says (Rejected StrayIter 2))
+    ∷ case (reading (bytes letUnused)) (says (Rejected Unused 3))
+    -- "200 rows pass test 2, 201 do not": of constants that nothing names, 200 then fail test 6
+    ∷ case (test-2 (alike 200 constantRow)) (passes true)
+    ∷ case (test-2 (alike 201 constantRow)) (passes false)
+    ∷ case (reading (alike 200 constantRow)) (says (Rejected Named 1))
+    ∷ case (reading (alike 201 constantRow)) (says (Rejected Rows 0))
+    -- the sheets above are accepted, with these rows, operators, inputs and results
+    ∷ case (reading (bytes lesser)) (accepted 7 8 2 1)
+    ∷ case (reading (bytes twice)) (accepted 4 2 1 1)
+    ∷ case (reading (bytes factorial)) (accepted 20 32 1 1)
     ∷ []
 
-pub reads-worked : map (λ c. readingOf (c .sheet)) reads ≡ map (λ c. c .gives) reads
-unfolding reads readingOf
-reads-worked = refl
-
--- The same numbers, of the graphs that the translation makes: lesser-of-two has 8 operators, x + x has 2.
-pub record Graph : Type 0 where
-  pub sheet : List ℕ
-  pub operators : ℕ
-
-abbrev graph : List ℕ → ℕ → Graph
-graph s n = record { sheet = s; operators = n }
-
-unfoldable pub graphs : List Graph
-unfolding bytes lesser twice
-graphs = graph (bytes lesser) 8 ∷ graph (bytes twice) 2 ∷ []
-
-pub graphs-worked : map (λ c. length (madeOf (formulaOf (c .sheet)) .operators)) graphs ≡ map (λ c. c .operators) graphs
-unfolding graphs madeOf formulaOf
-graphs-worked = refl
+pub cases-worked : map (λ c. got (c .asks)) cases ≡ map (λ c. c .gives) cases
+unfolding cases got
+cases-worked = refl

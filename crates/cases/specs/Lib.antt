@@ -1,2 +1,2 @@
-pub mod Sheets
 pub mod Cases
+pub mod Pushed

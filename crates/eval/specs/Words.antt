@@ -4,11 +4,11 @@
 use Prim.Native.Nat.{ℕ, zero, suc, _+_, _-_, _≤_, _<_}
 use mathlib.Core.Path.{_≡_, refl, sym, ap, _∙_, subst}
 use mathlib.Core.Bool.{Bool, true, false}
-use mathlib.Core.List.{List, [], _∷_, _++_, append-assoc, append-nil}
+use mathlib.Core.List.{List, [], _∷_, _++_, append-assoc}
 use mathlib.Core.Option.{Option, some, none}
 use lib.Dec.{ltb}
 use lib.ListN.{length, getD, set, take, drop, replicate, List·getD-append, getD-replicate}
-use lib.Seq.{getD-append-add, getD-set-same, getD-set-other, getD-take, getD-drop, length-take-le, take-all, paste}
+use lib.Seq.{getD-append-add, getD-set-same, getD-set-other, getD-take, getD-drop, length-take-le, paste}
 use borrow.Author.Tests.{ltb-true, ltb-false}
 use native.Mathlib.Omega.{arith}
 use Rattle.value.specs.declared.Value.{Value}
@@ -138,12 +138,6 @@ module _ (l : List ℕ) (at : ℕ) (s : List ℕ) (n : ℕ) (room : at + n ≤ l
       (λ k p q. ap heldOf (paste-among k p q) ∙ h (k - at) (omega arith))
       (λ k p. ap heldOf (paste-before k p))
       (λ k p. ap heldOf (paste-behind k p))
-
--- A copy of all words of an array.
-pub paste-all : (s : List ℕ) → length s ≡ 32 → paste (replicate 32 0) 0 s 32 ≡ s
-paste-all s h =
-    let e : take 32 s ≡ s = take-all 32 s (omega (arith, h)) in
-    append-nil (take 32 s) ∙ e
 
 pub errs-binds : (l : List ℕ) (at n : ℕ) → at + n ≤ length l → n ≤ 16
     → envOf (paste l at (replicate 16 3) n) ≡ bind at n (replicate n Err) (envOf l)

@@ -3,9 +3,9 @@
 use formula::Verdict;
 use value::Value;
 
-pub mod cycle; // cycle.rt: the expression and body evaluators
+mod cycle; // cycle.rt: the expression and body evaluators
 pub mod evaluate; // evaluate.rt: the evaluation of an accepted sheet on a set
-pub mod words; // words.rt: values as words in lent arrays
+mod words; // words.rt: values as words in lent arrays
 
 // Which arm of an if a test's value chooses: the first on true, the second on false, neither where it is no truth.
 pub enum Choice {

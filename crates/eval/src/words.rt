@@ -46,8 +46,8 @@ pub fn put(out: &mut [u64], at: usize, v: Value)
 }
 
 // The value of identifier a.
-pub fn put_name(out: &mut [u64], at: usize, env: &[u64], a: u32)
-    requires { ⌜ (at < length (now out)) × (a < length (now env)) ⌝ }
+pub fn put_name(out: &mut [u64], at: usize, env: &[u64; 32], a: u32)
+    requires { ⌜ (at < length (now out)) × (a < 32) ⌝ }
     ensures { λ _. ⌜ (envOf (now (out .exit)) ≡ bind at 1 (envOf (now (env .entry)) a ∷ []) (envOf (now (out .entry)))) × (length (now (out .exit)) ≡ length (now (out .entry))) ⌝ }
 {
     put_word(out, at, env[a as usize]);
@@ -118,13 +118,10 @@ pub fn put_errs(out: &mut [u64], at: usize, n: usize)
 }
 
 // An environment's words, to be bound anew.
-pub fn copied(env: &[u64]) -> [u64; 32]
-    requires { ⌜ length (now env) ≡ 32 ⌝ }
+pub fn copied(env: &[u64; 32]) -> [u64; 32]
     ensures { λ r. ⌜ r ≡ now (env .entry) ⌝ }
 {
-    let mut inner = [0; 32];
-    copy(&mut inner, 0, env, 32);
-    inner
+    *env
 }
 
 // The width of row r.

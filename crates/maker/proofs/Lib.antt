@@ -1,2 +1,7 @@
-pub mod Turns
-pub mod Emits
+pub mod Numbering
+pub mod Splits
+pub mod Steps
+pub mod Joining
+pub mod Choosing
+pub mod Looping
+pub mod Whole

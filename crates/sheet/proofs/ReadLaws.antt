@@ -21,10 +21,10 @@ use Rattle.formula.specs.PlaceLaws.{Sound}
 use Rattle.formula.specs.Tests.{afterCheck, whole, is-passed, lowest, endedAt, laidOut, fewRows, fieldsWell, rangesWell, namesWell, namedOnce, allNamed, placedWell, widthsWell, boundWell, operatorsOf, verdictOf, verdictBy, tests, rowTests, formulaTests, graphTests, sheetOf}
 use Rattle.formula.specs.TestLaws.{passed-each}
 use Rattle.formula.specs.TreeLaws.{and-true}
-use Rattle.sheet.specs.Rows.{seen}
+use Rattle.fields.specs.Rows.{seen}
 use Rattle.sheet.specs.Ready.{Ready, Noded}
 use Rattle.sheet.specs.Reading.{rowVerdict, placeVerdict, nodeVerdict, graphVerdict, formulaVerdict, Rowed}
-use Rattle.sheet.proofs.RowLaws.{named-by}
+use Rattle.fields.proofs.RowLaws.{named-by}
 
 -- All tests in their order.
 pub verdict-is : (s : List ℕ) → verdictOf s

@@ -3,8 +3,8 @@
 use crate::masks::mask_at;
 use crate::masks::outside;
 use crate::masks::plain_mask;
-use crate::shape::shape_at;
 use crate::widths::width_at;
+use fields::shape::shape_at;
 use formula::Check;
 use formula::Shape;
 use names::count;

@@ -1,6 +1,6 @@
 // How each row ends (document 01, "The graph": "an arm that ends, behind any lets, in a body if always returns"), from the
 // first row up: 1 returns, 2 iterates, 3 both.
-use crate::shape::shape_at;
+use fields::shape::shape_at;
 use formula::Shape;
 ghost use mathlib.Core.Path.{_≡_};
 ghost use Prim.Native.Nat.{ℕ, _+_, _-_, _≤_};

@@ -1,6 +1,6 @@
 // For each row in a body place the returned width of the innermost for above it (document 01, "The graph": "as many as the
 // whole loop returns"), from the last row down.
-use crate::shape::shape_at;
+use fields::shape::shape_at;
 use formula::Shape;
 ghost use mathlib.Core.Path.{_≡_};
 ghost use mathlib.Core.List.{[], _∷_};

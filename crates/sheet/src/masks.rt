@@ -1,5 +1,5 @@
 // The free names of each row as a u64 mask, and test 9 of document 01, "a bound identifier not free in row d".
-use crate::shape::shape_at;
+use fields::shape::shape_at;
 use formula::Check;
 use formula::Shape;
 use names::count;

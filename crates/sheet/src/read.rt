@@ -1,19 +1,19 @@
 // The reader: all tests of a sheet in their order, the tables of an accepted sheet, and the entry points (document 01,
 // "Said by what was handed in", 1 to 10). Any bytes of any length may be handed in.
-use crate::blank;
 use crate::count::test_operators;
-use crate::decode::decode;
 use crate::ends::find_ends;
-use crate::layout::few_rows;
-use crate::layout::laid_out;
 use crate::loops::find_loops;
 use crate::masks::test_bound;
-use crate::places::find_places;
-use crate::places::test_places;
-use crate::rows::test_named;
-use crate::rows::test_naming;
-use crate::rows::test_ranges;
 use crate::widths::test_widths;
+use fields::blank;
+use fields::decode::decode;
+use fields::layout::few_rows;
+use fields::layout::laid_out;
+use fields::places::find_places;
+use fields::places::test_places;
+use fields::rows::test_named;
+use fields::rows::test_naming;
+use fields::rows::test_ranges;
 use formula::Check;
 use formula::Figures;
 use formula::Reading;

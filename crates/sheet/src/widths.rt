@@ -1,5 +1,5 @@
 // Test 8 of document 01, "a width rule broken": the returned and the iterated width of each row, from the first row up.
-use crate::shape::shape_at;
+use fields::shape::shape_at;
 use formula::Check;
 use formula::Shape;
 ghost use mathlib.Core.Path.{_≡_};

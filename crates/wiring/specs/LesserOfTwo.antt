@@ -9,7 +9,7 @@ use Rattle.network.specs.Rules.{Kind, operator as operatorKind, T-gate, F-gate,
 use Rattle.formula.specs.Tree.{Exp, identifier, pair, operator, ifE, formulaOf}
 use Rattle.graph.specs.Assembly.{Operator, copyOf, made, nth}
 use Rattle.graph.specs.Translation.{madeOf}
-use Rattle.cases.specs.Sheets.{bytes, lesser}
+use Rattle.examples.specs.Sheets.{bytes, lesser}
 
 abbrev pub lesserOfTwo : Exp
 lesserOfTwo = ifE (operator 6 (pair (identifier 0) (identifier 1))) (identifier 0) (identifier 1)

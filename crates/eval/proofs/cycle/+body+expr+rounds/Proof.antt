@@ -125,7 +125,7 @@ body-expr-requires : (t : ℕ) → body-lts.Need-expr-requires (
   put-errs-reads.Asked,
   put-errs-reads.Learnt,
 ) (body-at t) body.Post
-body-expr-requires t c κs = let k : BodyChildren (c .before .before .before .before .before .before .before .before .before .args .t .now) (c .before .before .before .before .before .before .before .before .before .args .widths .now) (c .before .before .before .before .before .before .before .before .before .args .r) (Iter (c .before .before .a .given .0 .0)) = body-children (c .before .before .before .before .before .before .before .before .before .args .t .now) (c .before .before .before .before .before .before .before .before .before .args .widths .now) (c .before .before .before .before .before .before .before .before .before .args .r) (c .before .before .before .before .before .before .before .before .before .pre .1 .0) (Iter (c .before .before .a .given .0 .0)) (shaped-as (shapeAt (c .before .before .before .before .before .before .before .before .before .args .t .now) (c .before .before .before .before .before .before .before .before .before .args .r)) (iter-way (c .before .before .a .given .0 .0)) (sym (c .before .before .a .given .1) ∙ c .before .before .before .before .way-at .ensures)) in let f : BodyNeeds (c .before .before .before .before .before .before .before .before .before .args .t .now) (c .before .before .before .before .before .before .before .before .before .args .widths .now) (c .before .before .before .before .before .before .before .before .before .args .r) (Iter (c .before .before .a .given .0 .0)) = body-needs (c .before .before .before .before .before .before .before .before .before .args .t .now) (c .before .before .before .before .before .before .before .before .before .args .widths .now) (c .before .before .before .before .before .before .before .before .before .args .r) (c .before .before .before .before .before .before .before .before .before .pre .1 .0) (Iter (c .before .before .a .given .0 .0)) (shaped-as (shapeAt (c .before .before .before .before .before .before .before .before .before .args .t .now) (c .before .before .before .before .before .before .before .before .before .args .r)) (iter-way (c .before .before .a .given .0 .0)) (sym (c .before .before .a .given .1) ∙ c .before .before .before .before .way-at .ensures)) in (omega (arith, k .1), (k .0, c .before .before .before .before .before .before .before .before .before .pre .1 .3, omega (arith, f, c .before .before .before .before .before .before .before .before .before .pre .1 .4)))
+body-expr-requires t c κs = let k : BodyChildren (c .before .before .before .before .before .before .before .before .args .t .now) (c .before .before .before .before .before .before .before .before .args .widths .now) (c .before .before .before .before .before .before .before .before .args .r) (Iter (c .before .before .a .given .0 .0)) = body-children (c .before .before .before .before .before .before .before .before .args .t .now) (c .before .before .before .before .before .before .before .before .args .widths .now) (c .before .before .before .before .before .before .before .before .args .r) (c .before .before .before .before .before .before .before .before .pre .1 .0) (Iter (c .before .before .a .given .0 .0)) (shaped-as (shapeAt (c .before .before .before .before .before .before .before .before .args .t .now) (c .before .before .before .before .before .before .before .before .args .r)) (iter-way (c .before .before .a .given .0 .0)) (sym (c .before .before .a .given .1) ∙ c .before .before .before .before .way-at .ensures)) in let f : BodyNeeds (c .before .before .before .before .before .before .before .before .args .t .now) (c .before .before .before .before .before .before .before .before .args .widths .now) (c .before .before .before .before .before .before .before .before .args .r) (Iter (c .before .before .a .given .0 .0)) = body-needs (c .before .before .before .before .before .before .before .before .args .t .now) (c .before .before .before .before .before .before .before .before .args .widths .now) (c .before .before .before .before .before .before .before .before .args .r) (c .before .before .before .before .before .before .before .before .pre .1 .0) (Iter (c .before .before .a .given .0 .0)) (shaped-as (shapeAt (c .before .before .before .before .before .before .before .before .args .t .now) (c .before .before .before .before .before .before .before .before .args .r)) (iter-way (c .before .before .a .given .0 .0)) (sym (c .before .before .a .given .1) ∙ c .before .before .before .before .way-at .ensures)) in (omega (arith, k .1), (k .0, c .before .before .before .before .before .before .before .before .pre .1 .3, omega (arith, f, c .before .before .before .before .before .before .before .before .pre .1 .4)))
 
 -- src/cycle.rt:191:28  Way::Iter(a) => match expr(t, widths, a, env, out, 0, left) { ⏎ Rest::Short => Turn::Short,
 body-enum-told : (t : ℕ) → body-lts.Need-enum-told (
@@ -258,7 +258,7 @@ body-expr-requires-2 : (t : ℕ) → body-lts.Need-expr-requires-2 (
   put-errs-reads.Asked,
   put-errs-reads.Learnt,
 ) (body-at t) body.Post
-body-expr-requires-2 t c κs = let k : BodyChildren (c .before .before .before .before .before .before .before .before .before .before .before .args .t .now) (c .before .before .before .before .before .before .before .before .before .before .before .args .widths .now) (c .before .before .before .before .before .before .before .before .before .before .before .args .r) (Let (c .before .before .before .before .a2 .given .0 .0) ((shaped-as (shapeAt (c .before .before .before .before .before .before .before .before .before .before .before .args .t .now) (c .before .before .before .before .before .before .before .before .before .before .before .args .r)) (let-way (c .before .before .before .before .a2 .given .0 .0) (c .before .before .before .before .a2 .given .0 .1 .0) (c .before .before .before .before .a2 .given .0 .1 .1 .0)) (sym (c .before .before .before .before .a2 .given .1) ∙ c .before .before .before .before .before .before .way-at .ensures)) .width) (c .before .before .before .before .a2 .given .0 .1 .0) (c .before .before .before .before .a2 .given .0 .1 .1 .0)) = body-children (c .before .before .before .before .before .before .before .before .before .before .before .args .t .now) (c .before .before .before .before .before .before .before .before .before .before .before .args .widths .now) (c .before .before .before .before .before .before .before .before .before .before .before .args .r) (c .before .before .before .before .before .before .before .before .before .before .before .pre .1 .0) (Let (c .before .before .before .before .a2 .given .0 .0) ((shaped-as (shapeAt (c .before .before .before .before .before .before .before .before .before .before .before .args .t .now) (c .before .before .before .before .before .before .before .before .before .before .before .args .r)) (let-way (c .before .before .before .before .a2 .given .0 .0) (c .before .before .before .before .a2 .given .0 .1 .0) (c .before .before .before .before .a2 .given .0 .1 .1 .0)) (sym (c .before .before .before .before .a2 .given .1) ∙ c .before .before .before .before .before .before .way-at .ensures)) .width) (c .before .before .before .before .a2 .given .0 .1 .0) (c .before .before .before .before .a2 .given .0 .1 .1 .0)) ((shaped-as (shapeAt (c .before .before .before .before .before .before .before .before .before .before .before .args .t .now) (c .before .before .before .before .before .before .before .before .before .before .before .args .r)) (let-way (c .before .before .before .before .a2 .given .0 .0) (c .before .before .before .before .a2 .given .0 .1 .0) (c .before .before .before .before .a2 .given .0 .1 .1 .0)) (sym (c .before .before .before .before .a2 .given .1) ∙ c .before .before .before .before .before .before .way-at .ensures)) .shape) in let f : BodyNeeds (c .before .before .before .before .before .before .before .before .before .before .before .args .t .now) (c .before .before .before .before .before .before .before .before .before .before .before .args .widths .now) (c .before .before .before .before .before .before .before .before .before .before .before .args .r) (Let (c .before .before .before .before .a2 .given .0 .0) ((shaped-as (shapeAt (c .before .before .before .before .before .before .before .before .before .before .before .args .t .now) (c .before .before .before .before .before .before .before .before .before .before .before .args .r)) (let-way (c .before .before .before .before .a2 .given .0 .0) (c .before .before .before .before .a2 .given .0 .1 .0) (c .before .before .before .before .a2 .given .0 .1 .1 .0)) (sym (c .before .before .before .before .a2 .given .1) ∙ c .before .before .before .before .before .before .way-at .ensures)) .width) (c .before .before .before .before .a2 .given .0 .1 .0) (c .before .before .before .before .a2 .given .0 .1 .1 .0)) = body-needs (c .before .before .before .before .before .before .before .before .before .before .before .args .t .now) (c .before .before .before .before .before .before .before .before .before .before .before .args .widths .now) (c .before .before .before .before .before .before .before .before .before .before .before .args .r) (c .before .before .before .before .before .before .before .before .before .before .before .pre .1 .0) (Let (c .before .before .before .before .a2 .given .0 .0) ((shaped-as (shapeAt (c .before .before .before .before .before .before .before .before .before .before .before .args .t .now) (c .before .before .before .before .before .before .before .before .before .before .before .args .r)) (let-way (c .before .before .before .before .a2 .given .0 .0) (c .before .before .before .before .a2 .given .0 .1 .0) (c .before .before .before .before .a2 .given .0 .1 .1 .0)) (sym (c .before .before .before .before .a2 .given .1) ∙ c .before .before .before .before .before .before .way-at .ensures)) .width) (c .before .before .before .before .a2 .given .0 .1 .0) (c .before .before .before .before .a2 .given .0 .1 .1 .0)) ((shaped-as (shapeAt (c .before .before .before .before .before .before .before .before .before .before .before .args .t .now) (c .before .before .before .before .before .before .before .before .before .before .before .args .r)) (let-way (c .before .before .before .before .a2 .given .0 .0) (c .before .before .before .before .a2 .given .0 .1 .0) (c .before .before .before .before .a2 .given .0 .1 .1 .0)) (sym (c .before .before .before .before .a2 .given .1) ∙ c .before .before .before .before .before .before .way-at .ensures)) .shape) in (omega (arith, k .0 .1), (k .0 .0, c .before .before .before .before .before .before .before .before .before .before .before .pre .1 .3, omega (arith, f .0, f .1, c .wide .ensures, ap length (c .before .before .copied .ensures), c .before .before .before .before .before .before .before .before .before .before .before .pre .1 .3)))
+body-expr-requires-2 t c κs = let k : BodyChildren (c .before .before .before .before .before .before .before .before .before .before .args .t .now) (c .before .before .before .before .before .before .before .before .before .before .args .widths .now) (c .before .before .before .before .before .before .before .before .before .before .args .r) (Let (c .before .before .before .before .a2 .given .0 .0) ((shaped-as (shapeAt (c .before .before .before .before .before .before .before .before .before .before .args .t .now) (c .before .before .before .before .before .before .before .before .before .before .args .r)) (let-way (c .before .before .before .before .a2 .given .0 .0) (c .before .before .before .before .a2 .given .0 .1 .0) (c .before .before .before .before .a2 .given .0 .1 .1 .0)) (sym (c .before .before .before .before .a2 .given .1) ∙ c .before .before .before .before .before .before .way-at .ensures)) .width) (c .before .before .before .before .a2 .given .0 .1 .0) (c .before .before .before .before .a2 .given .0 .1 .1 .0)) = body-children (c .before .before .before .before .before .before .before .before .before .before .args .t .now) (c .before .before .before .before .before .before .before .before .before .before .args .widths .now) (c .before .before .before .before .before .before .before .before .before .before .args .r) (c .before .before .before .before .before .before .before .before .before .before .pre .1 .0) (Let (c .before .before .before .before .a2 .given .0 .0) ((shaped-as (shapeAt (c .before .before .before .before .before .before .before .before .before .before .args .t .now) (c .before .before .before .before .before .before .before .before .before .before .args .r)) (let-way (c .before .before .before .before .a2 .given .0 .0) (c .before .before .before .before .a2 .given .0 .1 .0) (c .before .before .before .before .a2 .given .0 .1 .1 .0)) (sym (c .before .before .before .before .a2 .given .1) ∙ c .before .before .before .before .before .before .way-at .ensures)) .width) (c .before .before .before .before .a2 .given .0 .1 .0) (c .before .before .before .before .a2 .given .0 .1 .1 .0)) ((shaped-as (shapeAt (c .before .before .before .before .before .before .before .before .before .before .args .t .now) (c .before .before .before .before .before .before .before .before .before .before .args .r)) (let-way (c .before .before .before .before .a2 .given .0 .0) (c .before .before .before .before .a2 .given .0 .1 .0) (c .before .before .before .before .a2 .given .0 .1 .1 .0)) (sym (c .before .before .before .before .a2 .given .1) ∙ c .before .before .before .before .before .before .way-at .ensures)) .shape) in let f : BodyNeeds (c .before .before .before .before .before .before .before .before .before .before .args .t .now) (c .before .before .before .before .before .before .before .before .before .before .args .widths .now) (c .before .before .before .before .before .before .before .before .before .before .args .r) (Let (c .before .before .before .before .a2 .given .0 .0) ((shaped-as (shapeAt (c .before .before .before .before .before .before .before .before .before .before .args .t .now) (c .before .before .before .before .before .before .before .before .before .before .args .r)) (let-way (c .before .before .before .before .a2 .given .0 .0) (c .before .before .before .before .a2 .given .0 .1 .0) (c .before .before .before .before .a2 .given .0 .1 .1 .0)) (sym (c .before .before .before .before .a2 .given .1) ∙ c .before .before .before .before .before .before .way-at .ensures)) .width) (c .before .before .before .before .a2 .given .0 .1 .0) (c .before .before .before .before .a2 .given .0 .1 .1 .0)) = body-needs (c .before .before .before .before .before .before .before .before .before .before .args .t .now) (c .before .before .before .before .before .before .before .before .before .before .args .widths .now) (c .before .before .before .before .before .before .before .before .before .before .args .r) (c .before .before .before .before .before .before .before .before .before .before .pre .1 .0) (Let (c .before .before .before .before .a2 .given .0 .0) ((shaped-as (shapeAt (c .before .before .before .before .before .before .before .before .before .before .args .t .now) (c .before .before .before .before .before .before .before .before .before .before .args .r)) (let-way (c .before .before .before .before .a2 .given .0 .0) (c .before .before .before .before .a2 .given .0 .1 .0) (c .before .before .before .before .a2 .given .0 .1 .1 .0)) (sym (c .before .before .before .before .a2 .given .1) ∙ c .before .before .before .before .before .before .way-at .ensures)) .width) (c .before .before .before .before .a2 .given .0 .1 .0) (c .before .before .before .before .a2 .given .0 .1 .1 .0)) ((shaped-as (shapeAt (c .before .before .before .before .before .before .before .before .before .before .args .t .now) (c .before .before .before .before .before .before .before .before .before .before .args .r)) (let-way (c .before .before .before .before .a2 .given .0 .0) (c .before .before .before .before .a2 .given .0 .1 .0) (c .before .before .before .before .a2 .given .0 .1 .1 .0)) (sym (c .before .before .before .before .a2 .given .1) ∙ c .before .before .before .before .before .before .way-at .ensures)) .shape) in (omega (arith, k .0 .1), (k .0 .0, c .before .before .before .before .before .before .before .before .before .before .pre .1 .3, omega (arith, f .0, f .1, c .wide .ensures, ap length (c .before .before .copied .ensures), c .before .before .before .before .before .before .before .before .before .before .pre .1 .3)))
 
 -- src/cycle.rt:197:32  match expr(t, widths, c, env, &mut inner, wide(a), left) { ⏎ Rest::Short => Turn::Short,
 body-enum-told-2 : (t : ℕ) → body-lts.Need-enum-told-2 (
@@ -298,25 +298,6 @@ body-enum-known-l-2 : (t : ℕ) → body-lts.Need-enum-known-l-2 (
 ) (body-at t) body.Post
 body-enum-known-l-2 t c = search needs
 
--- src/cycle.rt:198:56  Rest::Short => Turn::Short, ⏎ Rest::Left(l) => body(t, widths, d, w, &inner, out, l),
-body-slice-aggregate-body : (t : ℕ) → body-lts.Need-slice-aggregate-body (
-  way-at-reads.Asked,
-  way-at-reads.Learnt,
-  expr-below t,
-  expr.Post,
-  copied-reads.Asked,
-  copied-reads.Learnt,
-  wide-reads.Asked,
-  wide-reads.Learnt,
-  body-below t,
-  body.Post,
-  choose-reads.Asked,
-  choose-reads.Learnt,
-  put-errs-reads.Asked,
-  put-errs-reads.Learnt,
-) (body-at t) body.Post
-body-slice-aggregate-body t c = search needs
-
 -- src/cycle.rt:198:34  Rest::Short => Turn::Short, ⏎ Rest::Left(l) => body(t, widths, d, w, &inner, out, l),
 body-body-requires : (t : ℕ) → body-lts.Need-body-requires (
   way-at-reads.Asked,
@@ -334,7 +315,7 @@ body-body-requires : (t : ℕ) → body-lts.Need-body-requires (
   put-errs-reads.Asked,
   put-errs-reads.Learnt,
 ) (body-at t) body.Post
-body-body-requires t c κs = let k : BodyChildren (c .before .before .before .before .before .before .before .before .before .before .before .before .before .before .before .before .before .before .args .t .now) (c .before .before .before .before .before .before .before .before .before .before .before .before .before .before .before .before .before .before .args .widths .now) (c .before .before .before .before .before .before .before .before .before .before .before .before .before .before .before .before .before .before .args .r) (Let (c .before .before .before .before .before .before .before .before .before .before .before .a2 .given .0 .0) ((shaped-as (shapeAt (c .before .before .before .before .before .before .before .before .before .before .before .before .before .before .before .before .before .before .args .t .now) (c .before .before .before .before .before .before .before .before .before .before .before .before .before .before .before .before .before .before .args .r)) (let-way (c .before .before .before .before .before .before .before .before .before .before .before .a2 .given .0 .0) (c .before .before .before .before .before .before .before .before .before .before .before .a2 .given .0 .1 .0) (c .before .before .before .before .before .before .before .before .before .before .before .a2 .given .0 .1 .1 .0)) (sym (c .before .before .before .before .before .before .before .before .before .before .before .a2 .given .1) ∙ c .before .before .before .before .before .before .before .before .before .before .before .before .before .way-at .ensures)) .width) (c .before .before .before .before .before .before .before .before .before .before .before .a2 .given .0 .1 .0) (c .before .before .before .before .before .before .before .before .before .before .before .a2 .given .0 .1 .1 .0)) = body-children (c .before .before .before .before .before .before .before .before .before .before .before .before .before .before .before .before .before .before .args .t .now) (c .before .before .before .before .before .before .before .before .before .before .before .before .before .before .before .before .before .before .args .widths .now) (c .before .before .before .before .before .before .before .before .before .before .before .before .before .before .before .before .before .before .args .r) (c .before .before .before .before .before .before .before .before .before .before .before .before .before .before .before .before .before .before .pre .1 .0) (Let (c .before .before .before .before .before .before .before .before .before .before .before .a2 .given .0 .0) ((shaped-as (shapeAt (c .before .before .before .before .before .before .before .before .before .before .before .before .before .before .before .before .before .before .args .t .now) (c .before .before .before .before .before .before .before .before .before .before .before .before .before .before .before .before .before .before .args .r)) (let-way (c .before .before .before .before .before .before .before .before .before .before .before .a2 .given .0 .0) (c .before .before .before .before .before .before .before .before .before .before .before .a2 .given .0 .1 .0) (c .before .before .before .before .before .before .before .before .before .before .before .a2 .given .0 .1 .1 .0)) (sym (c .before .before .before .before .before .before .before .before .before .before .before .a2 .given .1) ∙ c .before .before .before .before .before .before .before .before .before .before .before .before .before .way-at .ensures)) .width) (c .before .before .before .before .before .before .before .before .before .before .before .a2 .given .0 .1 .0) (c .before .before .before .before .before .before .before .before .before .before .before .a2 .given .0 .1 .1 .0)) ((shaped-as (shapeAt (c .before .before .before .before .before .before .before .before .before .before .before .before .before .before .before .before .before .before .args .t .now) (c .before .before .before .before .before .before .before .before .before .before .before .before .before .before .before .before .before .before .args .r)) (let-way (c .before .before .before .before .before .before .before .before .before .before .before .a2 .given .0 .0) (c .before .before .before .before .before .before .before .before .before .before .before .a2 .given .0 .1 .0) (c .before .before .before .before .before .before .before .before .before .before .before .a2 .given .0 .1 .1 .0)) (sym (c .before .before .before .before .before .before .before .before .before .before .before .a2 .given .1) ∙ c .before .before .before .before .before .before .before .before .before .before .before .before .before .way-at .ensures)) .shape) in let f : BodyNeeds (c .before .before .before .before .before .before .before .before .before .before .before .before .before .before .before .before .before .before .args .t .now) (c .before .before .before .before .before .before .before .before .before .before .before .before .before .before .before .before .before .before .args .widths .now) (c .before .before .before .before .before .before .before .before .before .before .before .before .before .before .before .before .before .before .args .r) (Let (c .before .before .before .before .before .before .before .before .before .before .before .a2 .given .0 .0) ((shaped-as (shapeAt (c .before .before .before .before .before .before .before .before .before .before .before .before .before .before .before .before .before .before .args .t .now) (c .before .before .before .before .before .before .before .before .before .before .before .before .before .before .before .before .before .before .args .r)) (let-way (c .before .before .before .before .before .before .before .before .before .before .before .a2 .given .0 .0) (c .before .before .before .before .before .before .before .before .before .before .before .a2 .given .0 .1 .0) (c .before .before .before .before .before .before .before .before .before .before .before .a2 .given .0 .1 .1 .0)) (sym (c .before .before .before .before .before .before .before .before .before .before .before .a2 .given .1) ∙ c .before .before .before .before .before .before .before .before .before .before .before .before .before .way-at .ensures)) .width) (c .before .before .before .before .before .before .before .before .before .before .before .a2 .given .0 .1 .0) (c .before .before .before .before .before .before .before .before .before .before .before .a2 .given .0 .1 .1 .0)) = body-needs (c .before .before .before .before .before .before .before .before .before .before .before .before .before .before .before .before .before .before .args .t .now) (c .before .before .before .before .before .before .before .before .before .before .before .before .before .before .before .before .before .before .args .widths .now) (c .before .before .before .before .before .before .before .before .before .before .before .before .before .before .before .before .before .before .args .r) (c .before .before .before .before .before .before .before .before .before .before .before .before .before .before .before .before .before .before .pre .1 .0) (Let (c .before .before .before .before .before .before .before .before .before .before .before .a2 .given .0 .0) ((shaped-as (shapeAt (c .before .before .before .before .before .before .before .before .before .before .before .before .before .before .before .before .before .before .args .t .now) (c .before .before .before .before .before .before .before .before .before .before .before .before .before .before .before .before .before .before .args .r)) (let-way (c .before .before .before .before .before .before .before .before .before .before .before .a2 .given .0 .0) (c .before .before .before .before .before .before .before .before .before .before .before .a2 .given .0 .1 .0) (c .before .before .before .before .before .before .before .before .before .before .before .a2 .given .0 .1 .1 .0)) (sym (c .before .before .before .before .before .before .before .before .before .before .before .a2 .given .1) ∙ c .before .before .before .before .before .before .before .before .before .before .before .before .before .way-at .ensures)) .width) (c .before .before .before .before .before .before .before .before .before .before .before .a2 .given .0 .1 .0) (c .before .before .before .before .before .before .before .before .before .before .before .a2 .given .0 .1 .1 .0)) ((shaped-as (shapeAt (c .before .before .before .before .before .before .before .before .before .before .before .before .before .before .before .before .before .before .args .t .now) (c .before .before .before .before .before .before .before .before .before .before .before .before .before .before .before .before .before .before .args .r)) (let-way (c .before .before .before .before .before .before .before .before .before .before .before .a2 .given .0 .0) (c .before .before .before .before .before .before .before .before .before .before .before .a2 .given .0 .1 .0) (c .before .before .before .before .before .before .before .before .before .before .before .a2 .given .0 .1 .1 .0)) (sym (c .before .before .before .before .before .before .before .before .before .before .before .a2 .given .1) ∙ c .before .before .before .before .before .before .before .before .before .before .before .before .before .way-at .ensures)) .shape) in (omega (arith, k .1 .1), (k .1 .0, rw (f .2) (c .before .before .before .before .before .before .before .before .before .before .before .before .before .before .before .before .before .before .pre .1 .1), c .before .before .before .before .before .before .before .before .before .before .before .before .before .before .before .before .before .before .pre .1 .2, c .before .before .before .before .before .before .expr2 .ensures .1 ∙ ap length (c .before .before .before .before .before .before .before .before .before .copied .ensures) ∙ c .before .before .before .before .before .before .before .before .before .before .before .before .before .before .before .before .before .before .pre .1 .3, c .before .before .before .before .before .before .before .before .before .before .before .before .before .before .before .before .before .before .pre .1 .4))
+body-body-requires t c κs = let k : BodyChildren (c .before .before .before .before .before .before .before .before .before .before .before .before .before .before .before .before .before .args .t .now) (c .before .before .before .before .before .before .before .before .before .before .before .before .before .before .before .before .before .args .widths .now) (c .before .before .before .before .before .before .before .before .before .before .before .before .before .before .before .before .before .args .r) (Let (c .before .before .before .before .before .before .before .before .before .before .before .a2 .given .0 .0) ((shaped-as (shapeAt (c .before .before .before .before .before .before .before .before .before .before .before .before .before .before .before .before .before .args .t .now) (c .before .before .before .before .before .before .before .before .before .before .before .before .before .before .before .before .before .args .r)) (let-way (c .before .before .before .before .before .before .before .before .before .before .before .a2 .given .0 .0) (c .before .before .before .before .before .before .before .before .before .before .before .a2 .given .0 .1 .0) (c .before .before .before .before .before .before .before .before .before .before .before .a2 .given .0 .1 .1 .0)) (sym (c .before .before .before .before .before .before .before .before .before .before .before .a2 .given .1) ∙ c .before .before .before .before .before .before .before .before .before .before .before .before .before .way-at .ensures)) .width) (c .before .before .before .before .before .before .before .before .before .before .before .a2 .given .0 .1 .0) (c .before .before .before .before .before .before .before .before .before .before .before .a2 .given .0 .1 .1 .0)) = body-children (c .before .before .before .before .before .before .before .before .before .before .before .before .before .before .before .before .before .args .t .now) (c .before .before .before .before .before .before .before .before .before .before .before .before .before .before .before .before .before .args .widths .now) (c .before .before .before .before .before .before .before .before .before .before .before .before .before .before .before .before .before .args .r) (c .before .before .before .before .before .before .before .before .before .before .before .before .before .before .before .before .before .pre .1 .0) (Let (c .before .before .before .before .before .before .before .before .before .before .before .a2 .given .0 .0) ((shaped-as (shapeAt (c .before .before .before .before .before .before .before .before .before .before .before .before .before .before .before .before .before .args .t .now) (c .before .before .before .before .before .before .before .before .before .before .before .before .before .before .before .before .before .args .r)) (let-way (c .before .before .before .before .before .before .before .before .before .before .before .a2 .given .0 .0) (c .before .before .before .before .before .before .before .before .before .before .before .a2 .given .0 .1 .0) (c .before .before .before .before .before .before .before .before .before .before .before .a2 .given .0 .1 .1 .0)) (sym (c .before .before .before .before .before .before .before .before .before .before .before .a2 .given .1) ∙ c .before .before .before .before .before .before .before .before .before .before .before .before .before .way-at .ensures)) .width) (c .before .before .before .before .before .before .before .before .before .before .before .a2 .given .0 .1 .0) (c .before .before .before .before .before .before .before .before .before .before .before .a2 .given .0 .1 .1 .0)) ((shaped-as (shapeAt (c .before .before .before .before .before .before .before .before .before .before .before .before .before .before .before .before .before .args .t .now) (c .before .before .before .before .before .before .before .before .before .before .before .before .before .before .before .before .before .args .r)) (let-way (c .before .before .before .before .before .before .before .before .before .before .before .a2 .given .0 .0) (c .before .before .before .before .before .before .before .before .before .before .before .a2 .given .0 .1 .0) (c .before .before .before .before .before .before .before .before .before .before .before .a2 .given .0 .1 .1 .0)) (sym (c .before .before .before .before .before .before .before .before .before .before .before .a2 .given .1) ∙ c .before .before .before .before .before .before .before .before .before .before .before .before .before .way-at .ensures)) .shape) in let f : BodyNeeds (c .before .before .before .before .before .before .before .before .before .before .before .before .before .before .before .before .before .args .t .now) (c .before .before .before .before .before .before .before .before .before .before .before .before .before .before .before .before .before .args .widths .now) (c .before .before .before .before .before .before .before .before .before .before .before .before .before .before .before .before .before .args .r) (Let (c .before .before .before .before .before .before .before .before .before .before .before .a2 .given .0 .0) ((shaped-as (shapeAt (c .before .before .before .before .before .before .before .before .before .before .before .before .before .before .before .before .before .args .t .now) (c .before .before .before .before .before .before .before .before .before .before .before .before .before .before .before .before .before .args .r)) (let-way (c .before .before .before .before .before .before .before .before .before .before .before .a2 .given .0 .0) (c .before .before .before .before .before .before .before .before .before .before .before .a2 .given .0 .1 .0) (c .before .before .before .before .before .before .before .before .before .before .before .a2 .given .0 .1 .1 .0)) (sym (c .before .before .before .before .before .before .before .before .before .before .before .a2 .given .1) ∙ c .before .before .before .before .before .before .before .before .before .before .before .before .before .way-at .ensures)) .width) (c .before .before .before .before .before .before .before .before .before .before .before .a2 .given .0 .1 .0) (c .before .before .before .before .before .before .before .before .before .before .before .a2 .given .0 .1 .1 .0)) = body-needs (c .before .before .before .before .before .before .before .before .before .before .before .before .before .before .before .before .before .args .t .now) (c .before .before .before .before .before .before .before .before .before .before .before .before .before .before .before .before .before .args .widths .now) (c .before .before .before .before .before .before .before .before .before .before .before .before .before .before .before .before .before .args .r) (c .before .before .before .before .before .before .before .before .before .before .before .before .before .before .before .before .before .pre .1 .0) (Let (c .before .before .before .before .before .before .before .before .before .before .before .a2 .given .0 .0) ((shaped-as (shapeAt (c .before .before .before .before .before .before .before .before .before .before .before .before .before .before .before .before .before .args .t .now) (c .before .before .before .before .before .before .before .before .before .before .before .before .before .before .before .before .before .args .r)) (let-way (c .before .before .before .before .before .before .before .before .before .before .before .a2 .given .0 .0) (c .before .before .before .before .before .before .before .before .before .before .before .a2 .given .0 .1 .0) (c .before .before .before .before .before .before .before .before .before .before .before .a2 .given .0 .1 .1 .0)) (sym (c .before .before .before .before .before .before .before .before .before .before .before .a2 .given .1) ∙ c .before .before .before .before .before .before .before .before .before .before .before .before .before .way-at .ensures)) .width) (c .before .before .before .before .before .before .before .before .before .before .before .a2 .given .0 .1 .0) (c .before .before .before .before .before .before .before .before .before .before .before .a2 .given .0 .1 .1 .0)) ((shaped-as (shapeAt (c .before .before .before .before .before .before .before .before .before .before .before .before .before .before .before .before .before .args .t .now) (c .before .before .before .before .before .before .before .before .before .before .before .before .before .before .before .before .before .args .r)) (let-way (c .before .before .before .before .before .before .before .before .before .before .before .a2 .given .0 .0) (c .before .before .before .before .before .before .before .before .before .before .before .a2 .given .0 .1 .0) (c .before .before .before .before .before .before .before .before .before .before .before .a2 .given .0 .1 .1 .0)) (sym (c .before .before .before .before .before .before .before .before .before .before .before .a2 .given .1) ∙ c .before .before .before .before .before .before .before .before .before .before .before .before .before .way-at .ensures)) .shape) in (omega (arith, k .1 .1), (k .1 .0, rw (f .2) (c .before .before .before .before .before .before .before .before .before .before .before .before .before .before .before .before .before .pre .1 .1), c .before .before .before .before .before .before .before .before .before .before .before .before .before .before .before .before .before .pre .1 .2, c .before .before .before .before .before .before .expr2 .ensures .1 ∙ ap length (c .before .before .before .before .before .before .before .before .before .copied .ensures) ∙ c .before .before .before .before .before .before .before .before .before .before .before .before .before .before .before .before .before .pre .1 .3, c .before .before .before .before .before .before .before .before .before .before .before .before .before .before .before .before .before .pre .1 .4))
 
 -- src/cycle.rt:201:17  } ⏎ Way::If(a, b, c) => {
 body-enum-known-a-3 : (t : ℕ) → body-lts.Need-enum-known-a-3 (
@@ -391,7 +372,7 @@ body-expr-requires-3 : (t : ℕ) → body-lts.Need-expr-requires-3 (
   put-errs-reads.Asked,
   put-errs-reads.Learnt,
 ) (body-at t) body.Post
-body-expr-requires-3 t c κs = let k : BodyChildren (c .before .before .before .before .before .before .before .before .before .args .t .now) (c .before .before .before .before .before .before .before .before .before .args .widths .now) (c .before .before .before .before .before .before .before .before .before .args .r) (If (c .before .before .a3 .given .0 .0) (c .before .before .a3 .given .0 .1 .0) (c .before .before .a3 .given .0 .1 .1 .0)) = body-children (c .before .before .before .before .before .before .before .before .before .args .t .now) (c .before .before .before .before .before .before .before .before .before .args .widths .now) (c .before .before .before .before .before .before .before .before .before .args .r) (c .before .before .before .before .before .before .before .before .before .pre .1 .0) (If (c .before .before .a3 .given .0 .0) (c .before .before .a3 .given .0 .1 .0) (c .before .before .a3 .given .0 .1 .1 .0)) (shaped-as (shapeAt (c .before .before .before .before .before .before .before .before .before .args .t .now) (c .before .before .before .before .before .before .before .before .before .args .r)) (if-way (c .before .before .a3 .given .0 .0) (c .before .before .a3 .given .0 .1 .0) (c .before .before .a3 .given .0 .1 .1 .0)) (sym (c .before .before .a3 .given .1) ∙ c .before .before .before .before .way-at .ensures)) in let f : BodyNeeds (c .before .before .before .before .before .before .before .before .before .args .t .now) (c .before .before .before .before .before .before .before .before .before .args .widths .now) (c .before .before .before .before .before .before .before .before .before .args .r) (If (c .before .before .a3 .given .0 .0) (c .before .before .a3 .given .0 .1 .0) (c .before .before .a3 .given .0 .1 .1 .0)) = body-needs (c .before .before .before .before .before .before .before .before .before .args .t .now) (c .before .before .before .before .before .before .before .before .before .args .widths .now) (c .before .before .before .before .before .before .before .before .before .args .r) (c .before .before .before .before .before .before .before .before .before .pre .1 .0) (If (c .before .before .a3 .given .0 .0) (c .before .before .a3 .given .0 .1 .0) (c .before .before .a3 .given .0 .1 .1 .0)) (shaped-as (shapeAt (c .before .before .before .before .before .before .before .before .before .args .t .now) (c .before .before .before .before .before .before .before .before .before .args .r)) (if-way (c .before .before .a3 .given .0 .0) (c .before .before .a3 .given .0 .1 .0) (c .before .before .a3 .given .0 .1 .1 .0)) (sym (c .before .before .a3 .given .1) ∙ c .before .before .before .before .way-at .ensures)) in (omega (arith, k .0 .1), (k .0 .0, c .before .before .before .before .before .before .before .before .before .pre .1 .3, omega (arith, f .0)))
+body-expr-requires-3 t c κs = let k : BodyChildren (c .before .before .before .before .before .before .before .before .args .t .now) (c .before .before .before .before .before .before .before .before .args .widths .now) (c .before .before .before .before .before .before .before .before .args .r) (If (c .before .before .a3 .given .0 .0) (c .before .before .a3 .given .0 .1 .0) (c .before .before .a3 .given .0 .1 .1 .0)) = body-children (c .before .before .before .before .before .before .before .before .args .t .now) (c .before .before .before .before .before .before .before .before .args .widths .now) (c .before .before .before .before .before .before .before .before .args .r) (c .before .before .before .before .before .before .before .before .pre .1 .0) (If (c .before .before .a3 .given .0 .0) (c .before .before .a3 .given .0 .1 .0) (c .before .before .a3 .given .0 .1 .1 .0)) (shaped-as (shapeAt (c .before .before .before .before .before .before .before .before .args .t .now) (c .before .before .before .before .before .before .before .before .args .r)) (if-way (c .before .before .a3 .given .0 .0) (c .before .before .a3 .given .0 .1 .0) (c .before .before .a3 .given .0 .1 .1 .0)) (sym (c .before .before .a3 .given .1) ∙ c .before .before .before .before .way-at .ensures)) in let f : BodyNeeds (c .before .before .before .before .before .before .before .before .args .t .now) (c .before .before .before .before .before .before .before .before .args .widths .now) (c .before .before .before .before .before .before .before .before .args .r) (If (c .before .before .a3 .given .0 .0) (c .before .before .a3 .given .0 .1 .0) (c .before .before .a3 .given .0 .1 .1 .0)) = body-needs (c .before .before .before .before .before .before .before .before .args .t .now) (c .before .before .before .before .before .before .before .before .args .widths .now) (c .before .before .before .before .before .before .before .before .args .r) (c .before .before .before .before .before .before .before .before .pre .1 .0) (If (c .before .before .a3 .given .0 .0) (c .before .before .a3 .given .0 .1 .0) (c .before .before .a3 .given .0 .1 .1 .0)) (shaped-as (shapeAt (c .before .before .before .before .before .before .before .before .args .t .now) (c .before .before .before .before .before .before .before .before .args .r)) (if-way (c .before .before .a3 .given .0 .0) (c .before .before .a3 .given .0 .1 .0) (c .before .before .a3 .given .0 .1 .1 .0)) (sym (c .before .before .a3 .given .1) ∙ c .before .before .before .before .way-at .ensures)) in (omega (arith, k .0 .1), (k .0 .0, c .before .before .before .before .before .before .before .before .pre .1 .3, omega (arith, f .0)))
 
 -- src/cycle.rt:204:32  match expr(t, widths, a, env, &mut test, 0, left) { ⏎ Rest::Short => Turn::Short,
 body-enum-told-3 : (t : ℕ) → body-lts.Need-enum-told-3 (
@@ -505,7 +486,7 @@ body-body-requires-2 : (t : ℕ) → body-lts.Need-body-requires-2 (
   put-errs-reads.Asked,
   put-errs-reads.Learnt,
 ) (body-at t) body.Post
-body-body-requires-2 t c κs = let k : BodyChildren (c .before .before .before .before .before .before .before .before .before .before .before .before .before .before .before .before .before .before .before .args .t .now) (c .before .before .before .before .before .before .before .before .before .before .before .before .before .before .before .before .before .before .before .args .widths .now) (c .before .before .before .before .before .before .before .before .before .before .before .before .before .before .before .before .before .before .before .args .r) (If (c .before .before .before .before .before .before .before .before .before .before .before .before .a3 .given .0 .0) (c .before .before .before .before .before .before .before .before .before .before .before .before .a3 .given .0 .1 .0) (c .before .before .before .before .before .before .before .before .before .before .before .before .a3 .given .0 .1 .1 .0)) = body-children (c .before .before .before .before .before .before .before .before .before .before .before .before .before .before .before .before .before .before .before .args .t .now) (c .before .before .before .before .before .before .before .before .before .before .before .before .before .before .before .before .before .before .before .args .widths .now) (c .before .before .before .before .before .before .before .before .before .before .before .before .before .before .before .before .before .before .before .args .r) (c .before .before .before .before .before .before .before .before .before .before .before .before .before .before .before .before .before .before .before .pre .1 .0) (If (c .before .before .before .before .before .before .before .before .before .before .before .before .a3 .given .0 .0) (c .before .before .before .before .before .before .before .before .before .before .before .before .a3 .given .0 .1 .0) (c .before .before .before .before .before .before .before .before .before .before .before .before .a3 .given .0 .1 .1 .0)) (shaped-as (shapeAt (c .before .before .before .before .before .before .before .before .before .before .before .before .before .before .before .before .before .before .before .args .t .now) (c .before .before .before .before .before .before .before .before .before .before .before .before .before .before .before .before .before .before .before .args .r)) (if-way (c .before .before .before .before .before .before .before .before .before .before .before .before .a3 .given .0 .0) (c .before .before .before .before .before .before .before .before .before .before .before .before .a3 .given .0 .1 .0) (c .before .before .before .before .before .before .before .before .before .before .before .before .a3 .given .0 .1 .1 .0)) (sym (c .before .before .before .before .before .before .before .before .before .before .before .before .a3 .given .1) ∙ c .before .before .before .before .before .before .before .before .before .before .before .before .before .before .way-at .ensures)) in let f : BodyNeeds (c .before .before .before .before .before .before .before .before .before .before .before .before .before .before .before .before .before .before .before .args .t .now) (c .before .before .before .before .before .before .before .before .before .before .before .before .before .before .before .before .before .before .before .args .widths .now) (c .before .before .before .before .before .before .before .before .before .before .before .before .before .before .before .before .before .before .before .args .r) (If (c .before .before .before .before .before .before .before .before .before .before .before .before .a3 .given .0 .0) (c .before .before .before .before .before .before .before .before .before .before .before .before .a3 .given .0 .1 .0) (c .before .before .before .before .before .before .before .before .before .before .before .before .a3 .given .0 .1 .1 .0)) = body-needs (c .before .before .before .before .before .before .before .before .before .before .before .before .before .before .before .before .before .before .before .args .t .now) (c .before .before .before .before .before .before .before .before .before .before .before .before .before .before .before .before .before .before .before .args .widths .now) (c .before .before .before .before .before .before .before .before .before .before .before .before .before .before .before .before .before .before .before .args .r) (c .before .before .before .before .before .before .before .before .before .before .before .before .before .before .before .before .before .before .before .pre .1 .0) (If (c .before .before .before .before .before .before .before .before .before .before .before .before .a3 .given .0 .0) (c .before .before .before .before .before .before .before .before .before .before .before .before .a3 .given .0 .1 .0) (c .before .before .before .before .before .before .before .before .before .before .before .before .a3 .given .0 .1 .1 .0)) (shaped-as (shapeAt (c .before .before .before .before .before .before .before .before .before .before .before .before .before .before .before .before .before .before .before .args .t .now) (c .before .before .before .before .before .before .before .before .before .before .before .before .before .before .before .before .before .before .before .args .r)) (if-way (c .before .before .before .before .before .before .before .before .before .before .before .before .a3 .given .0 .0) (c .before .before .before .before .before .before .before .before .before .before .before .before .a3 .given .0 .1 .0) (c .before .before .before .before .before .before .before .before .before .before .before .before .a3 .given .0 .1 .1 .0)) (sym (c .before .before .before .before .before .before .before .before .before .before .before .before .a3 .given .1) ∙ c .before .before .before .before .before .before .before .before .before .before .before .before .before .before .way-at .ensures)) in (omega (arith, k .1 .1), (k .1 .0, f .1 (c .before .before .before .before .before .before .before .before .before .before .before .before .before .before .before .before .before .before .before .args .w) (c .before .before .before .before .before .before .before .before .before .before .before .before .before .before .before .before .before .before .before .pre .1 .1) .0, c .before .before .before .before .before .before .before .before .before .before .before .before .before .before .before .before .before .before .before .pre .1 .2, c .before .before .before .before .before .before .before .before .before .before .before .before .before .before .before .before .before .before .before .pre .1 .3, c .before .before .before .before .before .before .before .before .before .before .before .before .before .before .before .before .before .before .before .pre .1 .4))
+body-body-requires-2 t c κs = let k : BodyChildren (c .before .before .before .before .before .before .before .before .before .before .before .before .before .before .before .before .before .before .args .t .now) (c .before .before .before .before .before .before .before .before .before .before .before .before .before .before .before .before .before .before .args .widths .now) (c .before .before .before .before .before .before .before .before .before .before .before .before .before .before .before .before .before .before .args .r) (If (c .before .before .before .before .before .before .before .before .before .before .before .before .a3 .given .0 .0) (c .before .before .before .before .before .before .before .before .before .before .before .before .a3 .given .0 .1 .0) (c .before .before .before .before .before .before .before .before .before .before .before .before .a3 .given .0 .1 .1 .0)) = body-children (c .before .before .before .before .before .before .before .before .before .before .before .before .before .before .before .before .before .before .args .t .now) (c .before .before .before .before .before .before .before .before .before .before .before .before .before .before .before .before .before .before .args .widths .now) (c .before .before .before .before .before .before .before .before .before .before .before .before .before .before .before .before .before .before .args .r) (c .before .before .before .before .before .before .before .before .before .before .before .before .before .before .before .before .before .before .pre .1 .0) (If (c .before .before .before .before .before .before .before .before .before .before .before .before .a3 .given .0 .0) (c .before .before .before .before .before .before .before .before .before .before .before .before .a3 .given .0 .1 .0) (c .before .before .before .before .before .before .before .before .before .before .before .before .a3 .given .0 .1 .1 .0)) (shaped-as (shapeAt (c .before .before .before .before .before .before .before .before .before .before .before .before .before .before .before .before .before .before .args .t .now) (c .before .before .before .before .before .before .before .before .before .before .before .before .before .before .before .before .before .before .args .r)) (if-way (c .before .before .before .before .before .before .before .before .before .before .before .before .a3 .given .0 .0) (c .before .before .before .before .before .before .before .before .before .before .before .before .a3 .given .0 .1 .0) (c .before .before .before .before .before .before .before .before .before .before .before .before .a3 .given .0 .1 .1 .0)) (sym (c .before .before .before .before .before .before .before .before .before .before .before .before .a3 .given .1) ∙ c .before .before .before .before .before .before .before .before .before .before .before .before .before .before .way-at .ensures)) in let f : BodyNeeds (c .before .before .before .before .before .before .before .before .before .before .before .before .before .before .before .before .before .before .args .t .now) (c .before .before .before .before .before .before .before .before .before .before .before .before .before .before .before .before .before .before .args .widths .now) (c .before .before .before .before .before .before .before .before .before .before .before .before .before .before .before .before .before .before .args .r) (If (c .before .before .before .before .before .before .before .before .before .before .before .before .a3 .given .0 .0) (c .before .before .before .before .before .before .before .before .before .before .before .before .a3 .given .0 .1 .0) (c .before .before .before .before .before .before .before .before .before .before .before .before .a3 .given .0 .1 .1 .0)) = body-needs (c .before .before .before .before .before .before .before .before .before .before .before .before .before .before .before .before .before .before .args .t .now) (c .before .before .before .before .before .before .before .before .before .before .before .before .before .before .before .before .before .before .args .widths .now) (c .before .before .before .before .before .before .before .before .before .before .before .before .before .before .before .before .before .before .args .r) (c .before .before .before .before .before .before .before .before .before .before .before .before .before .before .before .before .before .before .pre .1 .0) (If (c .before .before .before .before .before .before .before .before .before .before .before .before .a3 .given .0 .0) (c .before .before .before .before .before .before .before .before .before .before .before .before .a3 .given .0 .1 .0) (c .before .before .before .before .before .before .before .before .before .before .before .before .a3 .given .0 .1 .1 .0)) (shaped-as (shapeAt (c .before .before .before .before .before .before .before .before .before .before .before .before .before .before .before .before .before .before .args .t .now) (c .before .before .before .before .before .before .before .before .before .before .before .before .before .before .before .before .before .before .args .r)) (if-way (c .before .before .before .before .before .before .before .before .before .before .before .before .a3 .given .0 .0) (c .before .before .before .before .before .before .before .before .before .before .before .before .a3 .given .0 .1 .0) (c .before .before .before .before .before .before .before .before .before .before .before .before .a3 .given .0 .1 .1 .0)) (sym (c .before .before .before .before .before .before .before .before .before .before .before .before .a3 .given .1) ∙ c .before .before .before .before .before .before .before .before .before .before .before .before .before .before .way-at .ensures)) in (omega (arith, k .1 .1), (k .1 .0, f .1 (c .before .before .before .before .before .before .before .before .before .before .before .before .before .before .before .before .before .before .args .w) (c .before .before .before .before .before .before .before .before .before .before .before .before .before .before .before .before .before .before .pre .1 .1) .0, c .before .before .before .before .before .before .before .before .before .before .before .before .before .before .before .before .before .before .pre .1 .2, c .before .before .before .before .before .before .before .before .before .before .before .before .before .before .before .before .before .before .pre .1 .3, c .before .before .before .before .before .before .before .before .before .before .before .before .before .before .before .before .before .before .pre .1 .4))
 
 -- src/cycle.rt:207:66  Choice::First => body(t, widths, b, w, env, out, l), ⏎ Choice::Second => body(t, widths, c, w, env, out, l),
 body-enum-told-5 : (t : ℕ) → body-lts.Need-enum-told-5 (
@@ -543,7 +524,7 @@ body-body-requires-3 : (t : ℕ) → body-lts.Need-body-requires-3 (
   put-errs-reads.Asked,
   put-errs-reads.Learnt,
 ) (body-at t) body.Post
-body-body-requires-3 t c κs = let k : BodyChildren (c .before .before .before .before .before .before .before .before .before .before .before .before .before .before .before .before .before .before .before .args .t .now) (c .before .before .before .before .before .before .before .before .before .before .before .before .before .before .before .before .before .before .before .args .widths .now) (c .before .before .before .before .before .before .before .before .before .before .before .before .before .before .before .before .before .before .before .args .r) (If (c .before .before .before .before .before .before .before .before .before .before .before .before .a3 .given .0 .0) (c .before .before .before .before .before .before .before .before .before .before .before .before .a3 .given .0 .1 .0) (c .before .before .before .before .before .before .before .before .before .before .before .before .a3 .given .0 .1 .1 .0)) = body-children (c .before .before .before .before .before .before .before .before .before .before .before .before .before .before .before .before .before .before .before .args .t .now) (c .before .before .before .before .before .before .before .before .before .before .before .before .before .before .before .before .before .before .before .args .widths .now) (c .before .before .before .before .before .before .before .before .before .before .before .before .before .before .before .before .before .before .before .args .r) (c .before .before .before .before .before .before .before .before .before .before .before .before .before .before .before .before .before .before .before .pre .1 .0) (If (c .before .before .before .before .before .before .before .before .before .before .before .before .a3 .given .0 .0) (c .before .before .before .before .before .before .before .before .before .before .before .before .a3 .given .0 .1 .0) (c .before .before .before .before .before .before .before .before .before .before .before .before .a3 .given .0 .1 .1 .0)) (shaped-as (shapeAt (c .before .before .before .before .before .before .before .before .before .before .before .before .before .before .before .before .before .before .before .args .t .now) (c .before .before .before .before .before .before .before .before .before .before .before .before .before .before .before .before .before .before .before .args .r)) (if-way (c .before .before .before .before .before .before .before .before .before .before .before .before .a3 .given .0 .0) (c .before .before .before .before .before .before .before .before .before .before .before .before .a3 .given .0 .1 .0) (c .before .before .before .before .before .before .before .before .before .before .before .before .a3 .given .0 .1 .1 .0)) (sym (c .before .before .before .before .before .before .before .before .before .before .before .before .a3 .given .1) ∙ c .before .before .before .before .before .before .before .before .before .before .before .before .before .before .way-at .ensures)) in let f : BodyNeeds (c .before .before .before .before .before .before .before .before .before .before .before .before .before .before .before .before .before .before .before .args .t .now) (c .before .before .before .before .before .before .before .before .before .before .before .before .before .before .before .before .before .before .before .args .widths .now) (c .before .before .before .before .before .before .before .before .before .before .before .before .before .before .before .before .before .before .before .args .r) (If (c .before .before .before .before .before .before .before .before .before .before .before .before .a3 .given .0 .0) (c .before .before .before .before .before .before .before .before .before .before .before .before .a3 .given .0 .1 .0) (c .before .before .before .before .before .before .before .before .before .before .before .before .a3 .given .0 .1 .1 .0)) = body-needs (c .before .before .before .before .before .before .before .before .before .before .before .before .before .before .before .before .before .before .before .args .t .now) (c .before .before .before .before .before .before .before .before .before .before .before .before .before .before .before .before .before .before .before .args .widths .now) (c .before .before .before .before .before .before .before .before .before .before .before .before .before .before .before .before .before .before .before .args .r) (c .before .before .before .before .before .before .before .before .before .before .before .before .before .before .before .before .before .before .before .pre .1 .0) (If (c .before .before .before .before .before .before .before .before .before .before .before .before .a3 .given .0 .0) (c .before .before .before .before .before .before .before .before .before .before .before .before .a3 .given .0 .1 .0) (c .before .before .before .before .before .before .before .before .before .before .before .before .a3 .given .0 .1 .1 .0)) (shaped-as (shapeAt (c .before .before .before .before .before .before .before .before .before .before .before .before .before .before .before .before .before .before .before .args .t .now) (c .before .before .before .before .before .before .before .before .before .before .before .before .before .before .before .before .before .before .before .args .r)) (if-way (c .before .before .before .before .before .before .before .before .before .before .before .before .a3 .given .0 .0) (c .before .before .before .before .before .before .before .before .before .before .before .before .a3 .given .0 .1 .0) (c .before .before .before .before .before .before .before .before .before .before .before .before .a3 .given .0 .1 .1 .0)) (sym (c .before .before .before .before .before .before .before .before .before .before .before .before .a3 .given .1) ∙ c .before .before .before .before .before .before .before .before .before .before .before .before .before .before .way-at .ensures)) in (omega (arith, k .2 .1), (k .2 .0, f .1 (c .before .before .before .before .before .before .before .before .before .before .before .before .before .before .before .before .before .before .before .args .w) (c .before .before .before .before .before .before .before .before .before .before .before .before .before .before .before .before .before .before .before .pre .1 .1) .1, c .before .before .before .before .before .before .before .before .before .before .before .before .before .before .before .before .before .before .before .pre .1 .2, c .before .before .before .before .before .before .before .before .before .before .before .before .before .before .before .before .before .before .before .pre .1 .3, c .before .before .before .before .before .before .before .before .before .before .before .before .before .before .before .before .before .before .before .pre .1 .4))
+body-body-requires-3 t c κs = let k : BodyChildren (c .before .before .before .before .before .before .before .before .before .before .before .before .before .before .before .before .before .before .args .t .now) (c .before .before .before .before .before .before .before .before .before .before .before .before .before .before .before .before .before .before .args .widths .now) (c .before .before .before .before .before .before .before .before .before .before .before .before .before .before .before .before .before .before .args .r) (If (c .before .before .before .before .before .before .before .before .before .before .before .before .a3 .given .0 .0) (c .before .before .before .before .before .before .before .before .before .before .before .before .a3 .given .0 .1 .0) (c .before .before .before .before .before .before .before .before .before .before .before .before .a3 .given .0 .1 .1 .0)) = body-children (c .before .before .before .before .before .before .before .before .before .before .before .before .before .before .before .before .before .before .args .t .now) (c .before .before .before .before .before .before .before .before .before .before .before .before .before .before .before .before .before .before .args .widths .now) (c .before .before .before .before .before .before .before .before .before .before .before .before .before .before .before .before .before .before .args .r) (c .before .before .before .before .before .before .before .before .before .before .before .before .before .before .before .before .before .before .pre .1 .0) (If (c .before .before .before .before .before .before .before .before .before .before .before .before .a3 .given .0 .0) (c .before .before .before .before .before .before .before .before .before .before .before .before .a3 .given .0 .1 .0) (c .before .before .before .before .before .before .before .before .before .before .before .before .a3 .given .0 .1 .1 .0)) (shaped-as (shapeAt (c .before .before .before .before .before .before .before .before .before .before .before .before .before .before .before .before .before .before .args .t .now) (c .before .before .before .before .before .before .before .before .before .before .before .before .before .before .before .before .before .before .args .r)) (if-way (c .before .before .before .before .before .before .before .before .before .before .before .before .a3 .given .0 .0) (c .before .before .before .before .before .before .before .before .before .before .before .before .a3 .given .0 .1 .0) (c .before .before .before .before .before .before .before .before .before .before .before .before .a3 .given .0 .1 .1 .0)) (sym (c .before .before .before .before .before .before .before .before .before .before .before .before .a3 .given .1) ∙ c .before .before .before .before .before .before .before .before .before .before .before .before .before .before .way-at .ensures)) in let f : BodyNeeds (c .before .before .before .before .before .before .before .before .before .before .before .before .before .before .before .before .before .before .args .t .now) (c .before .before .before .before .before .before .before .before .before .before .before .before .before .before .before .before .before .before .args .widths .now) (c .before .before .before .before .before .before .before .before .before .before .before .before .before .before .before .before .before .before .args .r) (If (c .before .before .before .before .before .before .before .before .before .before .before .before .a3 .given .0 .0) (c .before .before .before .before .before .before .before .before .before .before .before .before .a3 .given .0 .1 .0) (c .before .before .before .before .before .before .before .before .before .before .before .before .a3 .given .0 .1 .1 .0)) = body-needs (c .before .before .before .before .before .before .before .before .before .before .before .before .before .before .before .before .before .before .args .t .now) (c .before .before .before .before .before .before .before .before .before .before .before .before .before .before .before .before .before .before .args .widths .now) (c .before .before .before .before .before .before .before .before .before .before .before .before .before .before .before .before .before .before .args .r) (c .before .before .before .before .before .before .before .before .before .before .before .before .before .before .before .before .before .before .pre .1 .0) (If (c .before .before .before .before .before .before .before .before .before .before .before .before .a3 .given .0 .0) (c .before .before .before .before .before .before .before .before .before .before .before .before .a3 .given .0 .1 .0) (c .before .before .before .before .before .before .before .before .before .before .before .before .a3 .given .0 .1 .1 .0)) (shaped-as (shapeAt (c .before .before .before .before .before .before .before .before .before .before .before .before .before .before .before .before .before .before .args .t .now) (c .before .before .before .before .before .before .before .before .before .before .before .before .before .before .before .before .before .before .args .r)) (if-way (c .before .before .before .before .before .before .before .before .before .before .before .before .a3 .given .0 .0) (c .before .before .before .before .before .before .before .before .before .before .before .before .a3 .given .0 .1 .0) (c .before .before .before .before .before .before .before .before .before .before .before .before .a3 .given .0 .1 .1 .0)) (sym (c .before .before .before .before .before .before .before .before .before .before .before .before .a3 .given .1) ∙ c .before .before .before .before .before .before .before .before .before .before .before .before .before .before .way-at .ensures)) in (omega (arith, k .2 .1), (k .2 .0, f .1 (c .before .before .before .before .before .before .before .before .before .before .before .before .before .before .before .before .before .before .args .w) (c .before .before .before .before .before .before .before .before .before .before .before .before .before .before .before .before .before .before .pre .1 .1) .1, c .before .before .before .before .before .before .before .before .before .before .before .before .before .before .before .before .before .before .pre .1 .2, c .before .before .before .before .before .before .before .before .before .before .before .before .before .before .before .before .before .before .pre .1 .3, c .before .before .before .before .before .before .before .before .before .before .before .before .before .before .before .before .before .before .pre .1 .4))
 
 -- src/cycle.rt:209:34  Choice::Neither => { ⏎ put_errs(out, 0, w);
 body-enum-told-6 : (t : ℕ) → body-lts.Need-enum-told-6 (
@@ -619,7 +600,7 @@ body-expr-requires-4 : (t : ℕ) → body-lts.Need-expr-requires-4 (
   put-errs-reads.Asked,
   put-errs-reads.Learnt,
 ) (body-at t) body.Post
-body-expr-requires-4 t c κs = (omega arith, ((ending-row (c .before .before .before .before .before .before .before .before .args .t .now) (c .before .before .before .before .before .before .before .before .args .widths .now) (c .before .before .before .before .before .before .before .before .args .r) (c .before .before .before .before .before .before .before .before .pre .1 .0) (shaped-as (shapeAt (c .before .before .before .before .before .before .before .before .args .t .now) (c .before .before .before .before .before .before .before .before .args .r)) End (sym (c .before .enum-told7 .given .1) ∙ c .before .before .before .way-at .ensures))), c .before .before .before .before .before .before .before .before .pre .1 .3, omega (arith, narrow (c .before .before .before .before .before .before .before .before .args .t .now) (c .before .before .before .before .before .before .before .before .args .widths .now) (c .before .before .before .before .before .before .before .before .args .r) (ending-row (c .before .before .before .before .before .before .before .before .args .t .now) (c .before .before .before .before .before .before .before .before .args .widths .now) (c .before .before .before .before .before .before .before .before .args .r) (c .before .before .before .before .before .before .before .before .pre .1 .0) (shaped-as (shapeAt (c .before .before .before .before .before .before .before .before .args .t .now) (c .before .before .before .before .before .before .before .before .args .r)) End (sym (c .before .enum-told7 .given .1) ∙ c .before .before .before .way-at .ensures))), c .before .before .before .before .before .before .before .before .pre .1 .4)))
+body-expr-requires-4 t c κs = (omega arith, ((ending-row (c .before .before .before .before .before .before .before .args .t .now) (c .before .before .before .before .before .before .before .args .widths .now) (c .before .before .before .before .before .before .before .args .r) (c .before .before .before .before .before .before .before .pre .1 .0) (shaped-as (shapeAt (c .before .before .before .before .before .before .before .args .t .now) (c .before .before .before .before .before .before .before .args .r)) End (sym (c .before .enum-told7 .given .1) ∙ c .before .before .before .way-at .ensures))), c .before .before .before .before .before .before .before .pre .1 .3, omega (arith, narrow (c .before .before .before .before .before .before .before .args .t .now) (c .before .before .before .before .before .before .before .args .widths .now) (c .before .before .before .before .before .before .before .args .r) (ending-row (c .before .before .before .before .before .before .before .args .t .now) (c .before .before .before .before .before .before .before .args .widths .now) (c .before .before .before .before .before .before .before .args .r) (c .before .before .before .before .before .before .before .pre .1 .0) (shaped-as (shapeAt (c .before .before .before .before .before .before .before .args .t .now) (c .before .before .before .before .before .before .before .args .r)) End (sym (c .before .enum-told7 .given .1) ∙ c .before .before .before .way-at .ensures))), c .before .before .before .before .before .before .before .pre .1 .4)))
 
 -- src/cycle.rt:216:28  Way::End => match expr(t, widths, r, env, out, 0, left) { ⏎ Rest::Short => Turn::Short,
 body-enum-told-8 : (t : ℕ) → body-lts.Need-enum-told-8 (
@@ -695,7 +676,7 @@ body-returns : (t : ℕ) → body-lts.Need-returns (
   put-errs-reads.Asked,
   put-errs-reads.Learnt,
 ) (body-at t) body.Post
-body-returns t c = (tell-stopped-B (c .before .before .before .before .before .before .before .before .before .before .before .before .before .before .args .t .now) (c .before .before .before .before .before .before .before .before .before .before .before .before .before .before .args .widths .now) (c .before .before .before .before .before .before .before .before .before .before .before .before .before .before .args .r) (c .before .before .before .before .before .before .before .before .before .before .before .before .before .before .pre .1 .0) (c .before .before .before .before .before .before .before .before .before .before .before .before .before .before .args .w) (envOf (c .before .before .before .before .before .before .before .before .before .before .before .before .before .before .args .env .now)) (c .before .before .before .before .before .before .before .before .before .before .before .before .before .before .args .left) (Iter (c .before .before .before .before .before .before .before .a .given .0 .0)) (shaped-as (shapeAt (c .before .before .before .before .before .before .before .before .before .before .before .before .before .before .args .t .now) (c .before .before .before .before .before .before .before .before .before .before .before .before .before .before .args .r)) (iter-way (c .before .before .before .before .before .before .before .a .given .0 .0)) (sym (c .before .before .before .before .before .before .before .a .given .1) ∙ c .before .before .before .before .before .before .before .before .before .way-at .ensures)) (c .before .before .before .before .before .before .before .a .given .0 .0) refl 0 (c .before .before .before .before .before .before .before .before .before .before .before .before .before .before .args .out .now) (c .before .before .before .before .expr .last .1 .1 .1 .1 .0) (c .before .before .before .before .before .before .before .before .before .before .before .before .before .before .args .out .now) (c .before .before .before .before .expr .last .1 .1 .1 .1 .0) (rw (c .enum-told .given .1) at (c .before .before .before .before .expr .ensures .0)), c .before .before .before .before .expr .ensures .1)
+body-returns t c = (tell-stopped-B (c .before .before .before .before .before .before .before .before .before .before .before .before .before .args .t .now) (c .before .before .before .before .before .before .before .before .before .before .before .before .before .args .widths .now) (c .before .before .before .before .before .before .before .before .before .before .before .before .before .args .r) (c .before .before .before .before .before .before .before .before .before .before .before .before .before .pre .1 .0) (c .before .before .before .before .before .before .before .before .before .before .before .before .before .args .w) (envOf (c .before .before .before .before .before .before .before .before .before .before .before .before .before .args .env .now)) (c .before .before .before .before .before .before .before .before .before .before .before .before .before .args .left) (Iter (c .before .before .before .before .before .before .before .a .given .0 .0)) (shaped-as (shapeAt (c .before .before .before .before .before .before .before .before .before .before .before .before .before .args .t .now) (c .before .before .before .before .before .before .before .before .before .before .before .before .before .args .r)) (iter-way (c .before .before .before .before .before .before .before .a .given .0 .0)) (sym (c .before .before .before .before .before .before .before .a .given .1) ∙ c .before .before .before .before .before .before .before .before .before .way-at .ensures)) (c .before .before .before .before .before .before .before .a .given .0 .0) refl 0 (c .before .before .before .before .before .before .before .before .before .before .before .before .before .args .out .now) (c .before .before .before .before .expr .last .1 .1 .1 .1 .0) (c .before .before .before .before .before .before .before .before .before .before .before .before .before .args .out .now) (c .before .before .before .before .expr .last .1 .1 .1 .1 .0) (rw (c .enum-told .given .1) at (c .before .before .before .before .expr .ensures .0)), c .before .before .before .before .expr .ensures .1)
 
 -- src/cycle.rt:177:1  // `out`. ⏎ fn body(
 body-same-length-2 : (t : ℕ) → body-lts.Need-same-length-2 (
@@ -733,7 +714,7 @@ body-returns-2 : (t : ℕ) → body-lts.Need-returns-2 (
   put-errs-reads.Asked,
   put-errs-reads.Learnt,
 ) (body-at t) body.Post
-body-returns-2 t c = (tell-iter (c .before .before .before .before .before .before .before .before .before .before .before .before .before .before .before .args .t .now) (c .before .before .before .before .before .before .before .before .before .before .before .before .before .before .before .args .widths .now) (c .before .before .before .before .before .before .before .before .before .before .before .before .before .before .before .args .r) (c .before .before .before .before .before .before .before .before .before .before .before .before .before .before .before .pre .1 .0) (c .before .before .before .before .before .before .before .before .before .before .before .before .before .before .before .args .w) (envOf (c .before .before .before .before .before .before .before .before .before .before .before .before .before .before .before .args .env .now)) (c .before .before .before .before .before .before .before .before .before .before .before .before .before .before .before .args .left) (c .before .before .before .before .before .before .before .before .before .before .before .before .before .before .before .args .out .now) (c .before .before .before .before .before .expr .last .1 .1 .1 .1 .0) (c .before .before .before .before .before .before .before .before .a .given .0 .0) (shaped-as (shapeAt (c .before .before .before .before .before .before .before .before .before .before .before .before .before .before .before .args .t .now) (c .before .before .before .before .before .before .before .before .before .before .before .before .before .before .before .args .r)) (iter-way (c .before .before .before .before .before .before .before .before .a .given .0 .0)) (sym (c .before .before .before .before .before .before .before .before .a .given .1) ∙ c .before .before .before .before .before .before .before .before .before .before .way-at .ensures)) (c .before .l .given .0 .0) (rw (c .before .l .given .1) at (c .before .before .before .before .before .expr .ensures .0)), c .before .before .before .before .before .expr .ensures .1)
+body-returns-2 t c = (tell-iter (c .before .before .before .before .before .before .before .before .before .before .before .before .before .before .args .t .now) (c .before .before .before .before .before .before .before .before .before .before .before .before .before .before .args .widths .now) (c .before .before .before .before .before .before .before .before .before .before .before .before .before .before .args .r) (c .before .before .before .before .before .before .before .before .before .before .before .before .before .before .pre .1 .0) (c .before .before .before .before .before .before .before .before .before .before .before .before .before .before .args .w) (envOf (c .before .before .before .before .before .before .before .before .before .before .before .before .before .before .args .env .now)) (c .before .before .before .before .before .before .before .before .before .before .before .before .before .before .args .left) (c .before .before .before .before .before .before .before .before .before .before .before .before .before .before .args .out .now) (c .before .before .before .before .before .expr .last .1 .1 .1 .1 .0) (c .before .before .before .before .before .before .before .before .a .given .0 .0) (shaped-as (shapeAt (c .before .before .before .before .before .before .before .before .before .before .before .before .before .before .args .t .now) (c .before .before .before .before .before .before .before .before .before .before .before .before .before .before .args .r)) (iter-way (c .before .before .before .before .before .before .before .before .a .given .0 .0)) (sym (c .before .before .before .before .before .before .before .before .a .given .1) ∙ c .before .before .before .before .before .before .before .before .before .before .way-at .ensures)) (c .before .l .given .0 .0) (rw (c .before .l .given .1) at (c .before .before .before .before .before .expr .ensures .0)), c .before .before .before .before .before .expr .ensures .1)
 
 -- src/cycle.rt:177:1  // `out`. ⏎ fn body(
 body-returns-3 : (t : ℕ) → body-lts.Need-returns-3 (
@@ -752,7 +733,7 @@ body-returns-3 : (t : ℕ) → body-lts.Need-returns-3 (
   put-errs-reads.Asked,
   put-errs-reads.Learnt,
 ) (body-at t) body.Post
-body-returns-3 t c = (tell-stopped-B (c .before .before .before .before .before .before .before .before .before .before .before .before .before .before .before .args .t .now) (c .before .before .before .before .before .before .before .before .before .before .before .before .before .before .before .args .widths .now) (c .before .before .before .before .before .before .before .before .before .before .before .before .before .before .before .args .r) (c .before .before .before .before .before .before .before .before .before .before .before .before .before .before .before .pre .1 .0) (c .before .before .before .before .before .before .before .before .before .before .before .before .before .before .before .args .w) (envOf (c .before .before .before .before .before .before .before .before .before .before .before .before .before .before .before .args .env .now)) (c .before .before .before .before .before .before .before .before .before .before .before .before .before .before .before .args .left) (Let (c .before .before .before .before .before .before .before .before .a2 .given .0 .0) ((shaped-as (shapeAt (c .before .before .before .before .before .before .before .before .before .before .before .before .before .before .before .args .t .now) (c .before .before .before .before .before .before .before .before .before .before .before .before .before .before .before .args .r)) (let-way (c .before .before .before .before .before .before .before .before .a2 .given .0 .0) (c .before .before .before .before .before .before .before .before .a2 .given .0 .1 .0) (c .before .before .before .before .before .before .before .before .a2 .given .0 .1 .1 .0)) (sym (c .before .before .before .before .before .before .before .before .a2 .given .1) ∙ c .before .before .before .before .before .before .before .before .before .before .way-at .ensures)) .width) (c .before .before .before .before .before .before .before .before .a2 .given .0 .1 .0) (c .before .before .before .before .before .before .before .before .a2 .given .0 .1 .1 .0)) ((shaped-as (shapeAt (c .before .before .before .before .before .before .before .before .before .before .before .before .before .before .before .args .t .now) (c .before .before .before .before .before .before .before .before .before .before .before .before .before .before .before .args .r)) (let-way (c .before .before .before .before .before .before .before .before .a2 .given .0 .0) (c .before .before .before .before .before .before .before .before .a2 .given .0 .1 .0) (c .before .before .before .before .before .before .before .before .a2 .given .0 .1 .1 .0)) (sym (c .before .before .before .before .before .before .before .before .a2 .given .1) ∙ c .before .before .before .before .before .before .before .before .before .before .way-at .ensures)) .shape) (c .before .before .before .before .before .before .before .before .a2 .given .0 .1 .0) refl (c .before .before .before .before .wide .result) (c .before .before .before .before .before .before .before .before .before .before .before .before .before .before .before .args .out .now) (c .before .before .before .before .before .before .before .before .before .before .before .before .before .before .before .args .out .now) (c .before .before .before .before .before .before .copied .result) (c .before .before .before .expr2 .last .1 .1 .1 .1 .0) (rw (c .enum-told2 .given .1) at (c .before .before .before .expr2 .ensures .0)), refl)
+body-returns-3 t c = (tell-stopped-B (c .before .before .before .before .before .before .before .before .before .before .before .before .before .before .args .t .now) (c .before .before .before .before .before .before .before .before .before .before .before .before .before .before .args .widths .now) (c .before .before .before .before .before .before .before .before .before .before .before .before .before .before .args .r) (c .before .before .before .before .before .before .before .before .before .before .before .before .before .before .pre .1 .0) (c .before .before .before .before .before .before .before .before .before .before .before .before .before .before .args .w) (envOf (c .before .before .before .before .before .before .before .before .before .before .before .before .before .before .args .env .now)) (c .before .before .before .before .before .before .before .before .before .before .before .before .before .before .args .left) (Let (c .before .before .before .before .before .before .before .before .a2 .given .0 .0) ((shaped-as (shapeAt (c .before .before .before .before .before .before .before .before .before .before .before .before .before .before .args .t .now) (c .before .before .before .before .before .before .before .before .before .before .before .before .before .before .args .r)) (let-way (c .before .before .before .before .before .before .before .before .a2 .given .0 .0) (c .before .before .before .before .before .before .before .before .a2 .given .0 .1 .0) (c .before .before .before .before .before .before .before .before .a2 .given .0 .1 .1 .0)) (sym (c .before .before .before .before .before .before .before .before .a2 .given .1) ∙ c .before .before .before .before .before .before .before .before .before .before .way-at .ensures)) .width) (c .before .before .before .before .before .before .before .before .a2 .given .0 .1 .0) (c .before .before .before .before .before .before .before .before .a2 .given .0 .1 .1 .0)) ((shaped-as (shapeAt (c .before .before .before .before .before .before .before .before .before .before .before .before .before .before .args .t .now) (c .before .before .before .before .before .before .before .before .before .before .before .before .before .before .args .r)) (let-way (c .before .before .before .before .before .before .before .before .a2 .given .0 .0) (c .before .before .before .before .before .before .before .before .a2 .given .0 .1 .0) (c .before .before .before .before .before .before .before .before .a2 .given .0 .1 .1 .0)) (sym (c .before .before .before .before .before .before .before .before .a2 .given .1) ∙ c .before .before .before .before .before .before .before .before .before .before .way-at .ensures)) .shape) (c .before .before .before .before .before .before .before .before .a2 .given .0 .1 .0) refl (c .before .before .before .before .wide .result) (c .before .before .before .before .before .before .before .before .before .before .before .before .before .before .args .out .now) (c .before .before .before .before .before .before .before .before .before .before .before .before .before .before .args .out .now) (c .before .before .before .before .before .before .copied .result) (c .before .before .before .expr2 .last .1 .1 .1 .1 .0) (rw (c .enum-told2 .given .1) at (c .before .before .before .expr2 .ensures .0)), refl)
 
 -- src/cycle.rt:177:1  // `out`. ⏎ fn body(
 body-same-length-3 : (t : ℕ) → body-lts.Need-same-length-3 (
@@ -790,7 +771,7 @@ body-returns-4 : (t : ℕ) → body-lts.Need-returns-4 (
   put-errs-reads.Asked,
   put-errs-reads.Learnt,
 ) (body-at t) body.Post
-body-returns-4 t c = (tell-let-B (c .before .before .before .before .before .before .before .before .before .before .before .before .before .before .before .before .before .before .before .before .before .args .t .now) (c .before .before .before .before .before .before .before .before .before .before .before .before .before .before .before .before .before .before .before .before .before .args .widths .now) (c .before .before .before .before .before .before .before .before .before .before .before .before .before .before .before .before .before .before .before .before .before .args .r) (c .before .before .before .before .before .before .before .before .before .before .before .before .before .before .before .before .before .before .before .before .before .pre .1 .0) (c .before .before .before .before .before .before .before .before .before .before .before .before .before .before .before .before .before .before .before .before .before .args .w) (envOf (c .before .before .before .before .before .before .before .before .before .before .before .before .before .before .before .before .before .before .before .before .before .args .env .now)) (c .before .before .before .before .before .before .before .before .before .before .before .before .before .before .before .before .before .before .before .before .before .args .left) (c .before .before .before .before .before .before .before .before .before .before .before .before .before .before .before .before .before .before .before .before .before .args .out .now) (c .before .before .body .last .1 .1 .1 .1 .1 .0) (c .before .before .before .before .before .before .before .before .before .before .before .before .before .before .a2 .given .0 .0) ((shaped-as (shapeAt (c .before .before .before .before .before .before .before .before .before .before .before .before .before .before .before .before .before .before .before .before .before .args .t .now) (c .before .before .before .before .before .before .before .before .before .before .before .before .before .before .before .before .before .before .before .before .before .args .r)) (let-way (c .before .before .before .before .before .before .before .before .before .before .before .before .before .before .a2 .given .0 .0) (c .before .before .before .before .before .before .before .before .before .before .before .before .before .before .a2 .given .0 .1 .0) (c .before .before .before .before .before .before .before .before .before .before .before .before .before .before .a2 .given .0 .1 .1 .0)) (sym (c .before .before .before .before .before .before .before .before .before .before .before .before .before .before .a2 .given .1) ∙ c .before .before .before .before .before .before .before .before .before .before .before .before .before .before .before .before .way-at .ensures)) .width) (c .before .before .before .before .before .before .before .before .before .before .before .before .before .before .a2 .given .0 .1 .0) (c .before .before .before .before .before .before .before .before .before .before .before .before .before .before .a2 .given .0 .1 .1 .0) ((shaped-as (shapeAt (c .before .before .before .before .before .before .before .before .before .before .before .before .before .before .before .before .before .before .before .before .before .args .t .now) (c .before .before .before .before .before .before .before .before .before .before .before .before .before .before .before .before .before .before .before .before .before .args .r)) (let-way (c .before .before .before .before .before .before .before .before .before .before .before .before .before .before .a2 .given .0 .0) (c .before .before .before .before .before .before .before .before .before .before .before .before .before .before .a2 .given .0 .1 .0) (c .before .before .before .before .before .before .before .before .before .before .before .before .before .before .a2 .given .0 .1 .1 .0)) (sym (c .before .before .before .before .before .before .before .before .before .before .before .before .before .before .a2 .given .1) ∙ c .before .before .before .before .before .before .before .before .before .before .before .before .before .before .before .before .way-at .ensures)) .shape) (c .before .before .before .before .before .before .before .before .before .before .before .before .copied .result) (c .before .before .before .before .before .before .before .before .before .expr2 .last .1 .1 .1 .1 .0) (c .before .before .before .before .before .before .l2 .given .0 .0) (c .before .before .body .result) (ap envOf (c .before .before .before .before .before .before .before .before .before .before .before .before .copied .ensures)) (rw (c .before .before .before .before .before .before .before .before .before .before .wide .ensures, c .before .before .before .before .before .before .l2 .given .1) at (c .before .before .before .before .before .before .before .before .before .expr2 .ensures .0)) (c .before .before .body .ensures .0), c .before .before .body .ensures .1)
+body-returns-4 t c = (tell-let-B (c .before .before .before .before .before .before .before .before .before .before .before .before .before .before .before .before .before .before .before .before .args .t .now) (c .before .before .before .before .before .before .before .before .before .before .before .before .before .before .before .before .before .before .before .before .args .widths .now) (c .before .before .before .before .before .before .before .before .before .before .before .before .before .before .before .before .before .before .before .before .args .r) (c .before .before .before .before .before .before .before .before .before .before .before .before .before .before .before .before .before .before .before .before .pre .1 .0) (c .before .before .before .before .before .before .before .before .before .before .before .before .before .before .before .before .before .before .before .before .args .w) (envOf (c .before .before .before .before .before .before .before .before .before .before .before .before .before .before .before .before .before .before .before .before .args .env .now)) (c .before .before .before .before .before .before .before .before .before .before .before .before .before .before .before .before .before .before .before .before .args .left) (c .before .before .before .before .before .before .before .before .before .before .before .before .before .before .before .before .before .before .before .before .args .out .now) (c .before .before .body .last .1 .1 .1 .1 .1 .0) (c .before .before .before .before .before .before .before .before .before .before .before .before .before .before .a2 .given .0 .0) ((shaped-as (shapeAt (c .before .before .before .before .before .before .before .before .before .before .before .before .before .before .before .before .before .before .before .before .args .t .now) (c .before .before .before .before .before .before .before .before .before .before .before .before .before .before .before .before .before .before .before .before .args .r)) (let-way (c .before .before .before .before .before .before .before .before .before .before .before .before .before .before .a2 .given .0 .0) (c .before .before .before .before .before .before .before .before .before .before .before .before .before .before .a2 .given .0 .1 .0) (c .before .before .before .before .before .before .before .before .before .before .before .before .before .before .a2 .given .0 .1 .1 .0)) (sym (c .before .before .before .before .before .before .before .before .before .before .before .before .before .before .a2 .given .1) ∙ c .before .before .before .before .before .before .before .before .before .before .before .before .before .before .before .before .way-at .ensures)) .width) (c .before .before .before .before .before .before .before .before .before .before .before .before .before .before .a2 .given .0 .1 .0) (c .before .before .before .before .before .before .before .before .before .before .before .before .before .before .a2 .given .0 .1 .1 .0) ((shaped-as (shapeAt (c .before .before .before .before .before .before .before .before .before .before .before .before .before .before .before .before .before .before .before .before .args .t .now) (c .before .before .before .before .before .before .before .before .before .before .before .before .before .before .before .before .before .before .before .before .args .r)) (let-way (c .before .before .before .before .before .before .before .before .before .before .before .before .before .before .a2 .given .0 .0) (c .before .before .before .before .before .before .before .before .before .before .before .before .before .before .a2 .given .0 .1 .0) (c .before .before .before .before .before .before .before .before .before .before .before .before .before .before .a2 .given .0 .1 .1 .0)) (sym (c .before .before .before .before .before .before .before .before .before .before .before .before .before .before .a2 .given .1) ∙ c .before .before .before .before .before .before .before .before .before .before .before .before .before .before .before .before .way-at .ensures)) .shape) (c .before .before .before .before .before .before .before .before .before .before .before .before .copied .result) (c .before .before .before .before .before .before .before .before .before .expr2 .last .1 .1 .1 .1 .0) (c .before .before .before .before .before .before .l2 .given .0 .0) (c .before .before .body .result) (ap envOf (c .before .before .before .before .before .before .before .before .before .before .before .before .copied .ensures)) (rw (c .before .before .before .before .before .before .before .before .before .before .wide .ensures, c .before .before .before .before .before .before .l2 .given .1) at (c .before .before .before .before .before .before .before .before .before .expr2 .ensures .0)) (c .before .before .body .ensures .0), c .before .before .body .ensures .1)
 
 -- src/cycle.rt:177:1  // `out`. ⏎ fn body(
 body-returns-5 : (t : ℕ) → body-lts.Need-returns-5 (
@@ -809,7 +790,7 @@ body-returns-5 : (t : ℕ) → body-lts.Need-returns-5 (
   put-errs-reads.Asked,
   put-errs-reads.Learnt,
 ) (body-at t) body.Post
-body-returns-5 t c = (tell-stopped-B (c .before .before .before .before .before .before .before .before .before .before .before .before .before .args .t .now) (c .before .before .before .before .before .before .before .before .before .before .before .before .before .args .widths .now) (c .before .before .before .before .before .before .before .before .before .before .before .before .before .args .r) (c .before .before .before .before .before .before .before .before .before .before .before .before .before .pre .1 .0) (c .before .before .before .before .before .before .before .before .before .before .before .before .before .args .w) (envOf (c .before .before .before .before .before .before .before .before .before .before .before .before .before .args .env .now)) (c .before .before .before .before .before .before .before .before .before .before .before .before .before .args .left) (If (c .before .before .before .before .before .before .a3 .given .0 .0) (c .before .before .before .before .before .before .a3 .given .0 .1 .0) (c .before .before .before .before .before .before .a3 .given .0 .1 .1 .0)) (shaped-as (shapeAt (c .before .before .before .before .before .before .before .before .before .before .before .before .before .args .t .now) (c .before .before .before .before .before .before .before .before .before .before .before .before .before .args .r)) (if-way (c .before .before .before .before .before .before .a3 .given .0 .0) (c .before .before .before .before .before .before .a3 .given .0 .1 .0) (c .before .before .before .before .before .before .a3 .given .0 .1 .1 .0)) (sym (c .before .before .before .before .before .before .a3 .given .1) ∙ c .before .before .before .before .before .before .before .before .way-at .ensures)) (c .before .before .before .before .before .before .a3 .given .0 .0) refl 0 (c .before .before .before .before .before .before .before .before .before .before .before .before .before .args .out .now) (c .before .before .before .before .before .before .before .before .before .before .before .before .before .args .out .now) (0 ∷ []) (c .before .before .before .expr3 .last .1 .1 .1 .1 .0) (rw (c .enum-told3 .given .1) at (c .before .before .before .expr3 .ensures .0)), refl)
+body-returns-5 t c = (tell-stopped-B (c .before .before .before .before .before .before .before .before .before .before .before .before .args .t .now) (c .before .before .before .before .before .before .before .before .before .before .before .before .args .widths .now) (c .before .before .before .before .before .before .before .before .before .before .before .before .args .r) (c .before .before .before .before .before .before .before .before .before .before .before .before .pre .1 .0) (c .before .before .before .before .before .before .before .before .before .before .before .before .args .w) (envOf (c .before .before .before .before .before .before .before .before .before .before .before .before .args .env .now)) (c .before .before .before .before .before .before .before .before .before .before .before .before .args .left) (If (c .before .before .before .before .before .before .a3 .given .0 .0) (c .before .before .before .before .before .before .a3 .given .0 .1 .0) (c .before .before .before .before .before .before .a3 .given .0 .1 .1 .0)) (shaped-as (shapeAt (c .before .before .before .before .before .before .before .before .before .before .before .before .args .t .now) (c .before .before .before .before .before .before .before .before .before .before .before .before .args .r)) (if-way (c .before .before .before .before .before .before .a3 .given .0 .0) (c .before .before .before .before .before .before .a3 .given .0 .1 .0) (c .before .before .before .before .before .before .a3 .given .0 .1 .1 .0)) (sym (c .before .before .before .before .before .before .a3 .given .1) ∙ c .before .before .before .before .before .before .before .before .way-at .ensures)) (c .before .before .before .before .before .before .a3 .given .0 .0) refl 0 (c .before .before .before .before .before .before .before .before .before .before .before .before .args .out .now) (c .before .before .before .before .before .before .before .before .before .before .before .before .args .out .now) (0 ∷ []) (c .before .before .before .expr3 .last .1 .1 .1 .1 .0) (rw (c .enum-told3 .given .1) at (c .before .before .before .expr3 .ensures .0)), refl)
 
 -- src/cycle.rt:177:1  // `out`. ⏎ fn body(
 body-same-length-4 : (t : ℕ) → body-lts.Need-same-length-4 (
@@ -847,7 +828,7 @@ body-returns-6 : (t : ℕ) → body-lts.Need-returns-6 (
   put-errs-reads.Asked,
   put-errs-reads.Learnt,
 ) (body-at t) body.Post
-body-returns-6 t c = (tell-first-B (c .before .before .before .before .before .before .before .before .before .before .before .before .before .before .before .before .before .before .before .before .before .before .args .t .now) (c .before .before .before .before .before .before .before .before .before .before .before .before .before .before .before .before .before .before .before .before .before .before .args .widths .now) (c .before .before .before .before .before .before .before .before .before .before .before .before .before .before .before .before .before .before .before .before .before .before .args .r) (c .before .before .before .before .before .before .before .before .before .before .before .before .before .before .before .before .before .before .before .before .before .before .pre .1 .0) (c .before .before .before .before .before .before .before .before .before .before .before .before .before .before .before .before .before .before .before .before .before .before .args .w) (envOf (c .before .before .before .before .before .before .before .before .before .before .before .before .before .before .before .before .before .before .before .before .before .before .args .env .now)) (c .before .before .before .before .before .before .before .before .before .before .before .before .before .before .before .before .before .before .before .before .before .before .args .left) (c .before .before .before .before .before .before .before .before .before .before .before .before .before .before .before .before .before .before .before .before .before .before .args .out .now) (c .before .before .body2 .last .1 .1 .1 .1 .1 .0) (c .before .before .before .before .before .before .before .before .before .before .before .before .before .before .before .a3 .given .0 .0) (c .before .before .before .before .before .before .before .before .before .before .before .before .before .before .before .a3 .given .0 .1 .0) (c .before .before .before .before .before .before .before .before .before .before .before .before .before .before .before .a3 .given .0 .1 .1 .0) (shaped-as (shapeAt (c .before .before .before .before .before .before .before .before .before .before .before .before .before .before .before .before .before .before .before .before .before .before .args .t .now) (c .before .before .before .before .before .before .before .before .before .before .before .before .before .before .before .before .before .before .before .before .before .before .args .r)) (if-way (c .before .before .before .before .before .before .before .before .before .before .before .before .before .before .before .a3 .given .0 .0) (c .before .before .before .before .before .before .before .before .before .before .before .before .before .before .before .a3 .given .0 .1 .0) (c .before .before .before .before .before .before .before .before .before .before .before .before .before .before .before .a3 .given .0 .1 .1 .0)) (sym (c .before .before .before .before .before .before .before .before .before .before .before .before .before .before .before .a3 .given .1) ∙ c .before .before .before .before .before .before .before .before .before .before .before .before .before .before .before .before .before .way-at .ensures)) (0 ∷ []) (c .before .before .before .before .before .before .before .before .before .before .before .before .expr3 .last .1 .1 .1 .1 .0) (c .before .before .before .before .before .before .before .before .before .l3 .given .0 .0) (zeros-err 1) (rw (c .before .before .before .before .before .before .before .before .before .l3 .given .1) at (c .before .before .before .before .before .before .before .before .before .before .before .before .expr3 .ensures .0)) (c .before .before .body2 .result) (sym (c .before .before .before .before .before .before .choose .ensures) ∙ c .before .before .before .before .enum-told4 .given .1) (c .before .before .body2 .ensures .0), c .before .before .body2 .ensures .1)
+body-returns-6 t c = (tell-first-B (c .before .before .before .before .before .before .before .before .before .before .before .before .before .before .before .before .before .before .before .before .before .args .t .now) (c .before .before .before .before .before .before .before .before .before .before .before .before .before .before .before .before .before .before .before .before .before .args .widths .now) (c .before .before .before .before .before .before .before .before .before .before .before .before .before .before .before .before .before .before .before .before .before .args .r) (c .before .before .before .before .before .before .before .before .before .before .before .before .before .before .before .before .before .before .before .before .before .pre .1 .0) (c .before .before .before .before .before .before .before .before .before .before .before .before .before .before .before .before .before .before .before .before .before .args .w) (envOf (c .before .before .before .before .before .before .before .before .before .before .before .before .before .before .before .before .before .before .before .before .before .args .env .now)) (c .before .before .before .before .before .before .before .before .before .before .before .before .before .before .before .before .before .before .before .before .before .args .left) (c .before .before .before .before .before .before .before .before .before .before .before .before .before .before .before .before .before .before .before .before .before .args .out .now) (c .before .before .body2 .last .1 .1 .1 .1 .1 .0) (c .before .before .before .before .before .before .before .before .before .before .before .before .before .before .before .a3 .given .0 .0) (c .before .before .before .before .before .before .before .before .before .before .before .before .before .before .before .a3 .given .0 .1 .0) (c .before .before .before .before .before .before .before .before .before .before .before .before .before .before .before .a3 .given .0 .1 .1 .0) (shaped-as (shapeAt (c .before .before .before .before .before .before .before .before .before .before .before .before .before .before .before .before .before .before .before .before .before .args .t .now) (c .before .before .before .before .before .before .before .before .before .before .before .before .before .before .before .before .before .before .before .before .before .args .r)) (if-way (c .before .before .before .before .before .before .before .before .before .before .before .before .before .before .before .a3 .given .0 .0) (c .before .before .before .before .before .before .before .before .before .before .before .before .before .before .before .a3 .given .0 .1 .0) (c .before .before .before .before .before .before .before .before .before .before .before .before .before .before .before .a3 .given .0 .1 .1 .0)) (sym (c .before .before .before .before .before .before .before .before .before .before .before .before .before .before .before .a3 .given .1) ∙ c .before .before .before .before .before .before .before .before .before .before .before .before .before .before .before .before .before .way-at .ensures)) (0 ∷ []) (c .before .before .before .before .before .before .before .before .before .before .before .before .expr3 .last .1 .1 .1 .1 .0) (c .before .before .before .before .before .before .before .before .before .l3 .given .0 .0) (zeros-err 1) (rw (c .before .before .before .before .before .before .before .before .before .l3 .given .1) at (c .before .before .before .before .before .before .before .before .before .before .before .before .expr3 .ensures .0)) (c .before .before .body2 .result) (sym (c .before .before .before .before .before .before .choose .ensures) ∙ c .before .before .before .before .enum-told4 .given .1) (c .before .before .body2 .ensures .0), c .before .before .body2 .ensures .1)
 
 -- src/cycle.rt:177:1  // `out`. ⏎ fn body(
 body-same-length-5 : (t : ℕ) → body-lts.Need-same-length-5 (
@@ -885,7 +866,7 @@ body-returns-7 : (t : ℕ) → body-lts.Need-returns-7 (
   put-errs-reads.Asked,
   put-errs-reads.Learnt,
 ) (body-at t) body.Post
-body-returns-7 t c = (tell-second-B (c .before .before .before .before .before .before .before .before .before .before .before .before .before .before .before .before .before .before .before .before .before .before .args .t .now) (c .before .before .before .before .before .before .before .before .before .before .before .before .before .before .before .before .before .before .before .before .before .before .args .widths .now) (c .before .before .before .before .before .before .before .before .before .before .before .before .before .before .before .before .before .before .before .before .before .before .args .r) (c .before .before .before .before .before .before .before .before .before .before .before .before .before .before .before .before .before .before .before .before .before .before .pre .1 .0) (c .before .before .before .before .before .before .before .before .before .before .before .before .before .before .before .before .before .before .before .before .before .before .args .w) (envOf (c .before .before .before .before .before .before .before .before .before .before .before .before .before .before .before .before .before .before .before .before .before .before .args .env .now)) (c .before .before .before .before .before .before .before .before .before .before .before .before .before .before .before .before .before .before .before .before .before .before .args .left) (c .before .before .before .before .before .before .before .before .before .before .before .before .before .before .before .before .before .before .before .before .before .before .args .out .now) (c .before .before .body3 .last .1 .1 .1 .1 .1 .0) (c .before .before .before .before .before .before .before .before .before .before .before .before .before .before .before .a3 .given .0 .0) (c .before .before .before .before .before .before .before .before .before .before .before .before .before .before .before .a3 .given .0 .1 .0) (c .before .before .before .before .before .before .before .before .before .before .before .before .before .before .before .a3 .given .0 .1 .1 .0) (shaped-as (shapeAt (c .before .before .before .before .before .before .before .before .before .before .before .before .before .before .before .before .before .before .before .before .before .before .args .t .now) (c .before .before .before .before .before .before .before .before .before .before .before .before .before .before .before .before .before .before .before .before .before .before .args .r)) (if-way (c .before .before .before .before .before .before .before .before .before .before .before .before .before .before .before .a3 .given .0 .0) (c .before .before .before .before .before .before .before .before .before .before .before .before .before .before .before .a3 .given .0 .1 .0) (c .before .before .before .before .before .before .before .before .before .before .before .before .before .before .before .a3 .given .0 .1 .1 .0)) (sym (c .before .before .before .before .before .before .before .before .before .before .before .before .before .before .before .a3 .given .1) ∙ c .before .before .before .before .before .before .before .before .before .before .before .before .before .before .before .before .before .way-at .ensures)) (0 ∷ []) (c .before .before .before .before .before .before .before .before .before .before .before .before .expr3 .last .1 .1 .1 .1 .0) (c .before .before .before .before .before .before .before .before .before .l3 .given .0 .0) (zeros-err 1) (rw (c .before .before .before .before .before .before .before .before .before .l3 .given .1) at (c .before .before .before .before .before .before .before .before .before .before .before .before .expr3 .ensures .0)) (c .before .before .body3 .result) (sym (c .before .before .before .before .before .before .choose .ensures) ∙ c .before .before .before .before .enum-told5 .given .1) (c .before .before .body3 .ensures .0), c .before .before .body3 .ensures .1)
+body-returns-7 t c = (tell-second-B (c .before .before .before .before .before .before .before .before .before .before .before .before .before .before .before .before .before .before .before .before .before .args .t .now) (c .before .before .before .before .before .before .before .before .before .before .before .before .before .before .before .before .before .before .before .before .before .args .widths .now) (c .before .before .before .before .before .before .before .before .before .before .before .before .before .before .before .before .before .before .before .before .before .args .r) (c .before .before .before .before .before .before .before .before .before .before .before .before .before .before .before .before .before .before .before .before .before .pre .1 .0) (c .before .before .before .before .before .before .before .before .before .before .before .before .before .before .before .before .before .before .before .before .before .args .w) (envOf (c .before .before .before .before .before .before .before .before .before .before .before .before .before .before .before .before .before .before .before .before .before .args .env .now)) (c .before .before .before .before .before .before .before .before .before .before .before .before .before .before .before .before .before .before .before .before .before .args .left) (c .before .before .before .before .before .before .before .before .before .before .before .before .before .before .before .before .before .before .before .before .before .args .out .now) (c .before .before .body3 .last .1 .1 .1 .1 .1 .0) (c .before .before .before .before .before .before .before .before .before .before .before .before .before .before .before .a3 .given .0 .0) (c .before .before .before .before .before .before .before .before .before .before .before .before .before .before .before .a3 .given .0 .1 .0) (c .before .before .before .before .before .before .before .before .before .before .before .before .before .before .before .a3 .given .0 .1 .1 .0) (shaped-as (shapeAt (c .before .before .before .before .before .before .before .before .before .before .before .before .before .before .before .before .before .before .before .before .before .args .t .now) (c .before .before .before .before .before .before .before .before .before .before .before .before .before .before .before .before .before .before .before .before .before .args .r)) (if-way (c .before .before .before .before .before .before .before .before .before .before .before .before .before .before .before .a3 .given .0 .0) (c .before .before .before .before .before .before .before .before .before .before .before .before .before .before .before .a3 .given .0 .1 .0) (c .before .before .before .before .before .before .before .before .before .before .before .before .before .before .before .a3 .given .0 .1 .1 .0)) (sym (c .before .before .before .before .before .before .before .before .before .before .before .before .before .before .before .a3 .given .1) ∙ c .before .before .before .before .before .before .before .before .before .before .before .before .before .before .before .before .before .way-at .ensures)) (0 ∷ []) (c .before .before .before .before .before .before .before .before .before .before .before .before .expr3 .last .1 .1 .1 .1 .0) (c .before .before .before .before .before .before .before .before .before .l3 .given .0 .0) (zeros-err 1) (rw (c .before .before .before .before .before .before .before .before .before .l3 .given .1) at (c .before .before .before .before .before .before .before .before .before .before .before .before .expr3 .ensures .0)) (c .before .before .body3 .result) (sym (c .before .before .before .before .before .before .choose .ensures) ∙ c .before .before .before .before .enum-told5 .given .1) (c .before .before .body3 .ensures .0), c .before .before .body3 .ensures .1)
 
 -- src/cycle.rt:177:1  // `out`. ⏎ fn body(
 body-same-length-6 : (t : ℕ) → body-lts.Need-same-length-6 (
@@ -923,7 +904,7 @@ body-returns-8 : (t : ℕ) → body-lts.Need-returns-8 (
   put-errs-reads.Asked,
   put-errs-reads.Learnt,
 ) (body-at t) body.Post
-body-returns-8 t c = (tell-neither-B (c .before .before .before .before .before .before .before .before .before .before .before .before .before .before .before .before .before .before .before .before .before .before .args .t .now) (c .before .before .before .before .before .before .before .before .before .before .before .before .before .before .before .before .before .before .before .before .before .before .args .widths .now) (c .before .before .before .before .before .before .before .before .before .before .before .before .before .before .before .before .before .before .before .before .before .before .args .r) (c .before .before .before .before .before .before .before .before .before .before .before .before .before .before .before .before .before .before .before .before .before .before .pre .1 .0) (c .before .before .before .before .before .before .before .before .before .before .before .before .before .before .before .before .before .before .before .before .before .before .args .w) (envOf (c .before .before .before .before .before .before .before .before .before .before .before .before .before .before .before .before .before .before .before .before .before .before .args .env .now)) (c .before .before .before .before .before .before .before .before .before .before .before .before .before .before .before .before .before .before .before .before .before .before .args .left) (c .before .before .before .before .before .before .before .before .before .before .before .before .before .before .before .before .before .before .before .before .before .before .args .out .now) (c .before .before .put-errs .last .0) (c .before .before .before .before .before .before .before .before .before .before .before .before .before .before .before .a3 .given .0 .0) (c .before .before .before .before .before .before .before .before .before .before .before .before .before .before .before .a3 .given .0 .1 .0) (c .before .before .before .before .before .before .before .before .before .before .before .before .before .before .before .a3 .given .0 .1 .1 .0) (shaped-as (shapeAt (c .before .before .before .before .before .before .before .before .before .before .before .before .before .before .before .before .before .before .before .before .before .before .args .t .now) (c .before .before .before .before .before .before .before .before .before .before .before .before .before .before .before .before .before .before .before .before .before .before .args .r)) (if-way (c .before .before .before .before .before .before .before .before .before .before .before .before .before .before .before .a3 .given .0 .0) (c .before .before .before .before .before .before .before .before .before .before .before .before .before .before .before .a3 .given .0 .1 .0) (c .before .before .before .before .before .before .before .before .before .before .before .before .before .before .before .a3 .given .0 .1 .1 .0)) (sym (c .before .before .before .before .before .before .before .before .before .before .before .before .before .before .before .a3 .given .1) ∙ c .before .before .before .before .before .before .before .before .before .before .before .before .before .before .before .before .before .way-at .ensures)) (0 ∷ []) (c .before .before .before .before .before .before .before .before .before .before .before .before .expr3 .last .1 .1 .1 .1 .0) (c .before .before .before .before .before .before .before .before .before .l3 .given .0 .0) (zeros-err 1) (rw (c .before .before .before .before .before .before .before .before .before .l3 .given .1) at (c .before .before .before .before .before .before .before .before .before .before .before .before .expr3 .ensures .0)) (sym (c .before .before .before .before .before .before .choose .ensures) ∙ c .before .before .before .before .enum-told6 .given .1) (c .before .before .put-errs .ensures .0), c .before .before .put-errs .ensures .1)
+body-returns-8 t c = (tell-neither-B (c .before .before .before .before .before .before .before .before .before .before .before .before .before .before .before .before .before .before .before .before .before .args .t .now) (c .before .before .before .before .before .before .before .before .before .before .before .before .before .before .before .before .before .before .before .before .before .args .widths .now) (c .before .before .before .before .before .before .before .before .before .before .before .before .before .before .before .before .before .before .before .before .before .args .r) (c .before .before .before .before .before .before .before .before .before .before .before .before .before .before .before .before .before .before .before .before .before .pre .1 .0) (c .before .before .before .before .before .before .before .before .before .before .before .before .before .before .before .before .before .before .before .before .before .args .w) (envOf (c .before .before .before .before .before .before .before .before .before .before .before .before .before .before .before .before .before .before .before .before .before .args .env .now)) (c .before .before .before .before .before .before .before .before .before .before .before .before .before .before .before .before .before .before .before .before .before .args .left) (c .before .before .before .before .before .before .before .before .before .before .before .before .before .before .before .before .before .before .before .before .before .args .out .now) (c .before .before .put-errs .last .0) (c .before .before .before .before .before .before .before .before .before .before .before .before .before .before .before .a3 .given .0 .0) (c .before .before .before .before .before .before .before .before .before .before .before .before .before .before .before .a3 .given .0 .1 .0) (c .before .before .before .before .before .before .before .before .before .before .before .before .before .before .before .a3 .given .0 .1 .1 .0) (shaped-as (shapeAt (c .before .before .before .before .before .before .before .before .before .before .before .before .before .before .before .before .before .before .before .before .before .args .t .now) (c .before .before .before .before .before .before .before .before .before .before .before .before .before .before .before .before .before .before .before .before .before .args .r)) (if-way (c .before .before .before .before .before .before .before .before .before .before .before .before .before .before .before .a3 .given .0 .0) (c .before .before .before .before .before .before .before .before .before .before .before .before .before .before .before .a3 .given .0 .1 .0) (c .before .before .before .before .before .before .before .before .before .before .before .before .before .before .before .a3 .given .0 .1 .1 .0)) (sym (c .before .before .before .before .before .before .before .before .before .before .before .before .before .before .before .a3 .given .1) ∙ c .before .before .before .before .before .before .before .before .before .before .before .before .before .before .before .before .before .way-at .ensures)) (0 ∷ []) (c .before .before .before .before .before .before .before .before .before .before .before .before .expr3 .last .1 .1 .1 .1 .0) (c .before .before .before .before .before .before .before .before .before .l3 .given .0 .0) (zeros-err 1) (rw (c .before .before .before .before .before .before .before .before .before .l3 .given .1) at (c .before .before .before .before .before .before .before .before .before .before .before .before .expr3 .ensures .0)) (sym (c .before .before .before .before .before .before .choose .ensures) ∙ c .before .before .before .before .enum-told6 .given .1) (c .before .before .put-errs .ensures .0), c .before .before .put-errs .ensures .1)
 
 -- src/cycle.rt:177:1  // `out`. ⏎ fn body(
 body-same-length-7 : (t : ℕ) → body-lts.Need-same-length-7 (
@@ -961,7 +942,7 @@ body-returns-9 : (t : ℕ) → body-lts.Need-returns-9 (
   put-errs-reads.Asked,
   put-errs-reads.Learnt,
 ) (body-at t) body.Post
-body-returns-9 t c = (tell-ending-stopped (c .before .before .before .before .before .before .before .before .before .before .before .before .before .args .t .now) (c .before .before .before .before .before .before .before .before .before .before .before .before .before .args .widths .now) (c .before .before .before .before .before .before .before .before .before .before .before .before .before .args .r) (c .before .before .before .before .before .before .before .before .before .before .before .before .before .pre .1 .0) (c .before .before .before .before .before .before .before .before .before .before .before .before .before .args .w) (envOf (c .before .before .before .before .before .before .before .before .before .before .before .before .before .args .env .now)) (c .before .before .before .before .before .before .before .before .before .before .before .before .before .args .left) (c .before .before .before .before .before .before .before .before .before .before .before .before .before .args .out .now) (c .before .before .before .before .expr4 .last .1 .1 .1 .1 .0) (shaped-as (shapeAt (c .before .before .before .before .before .before .before .before .before .before .before .before .before .args .t .now) (c .before .before .before .before .before .before .before .before .before .before .before .before .before .args .r)) End (sym (c .before .before .before .before .before .before .enum-told7 .given .1) ∙ c .before .before .before .before .before .before .before .before .way-at .ensures)) (c .before .before .before .before .before .before .before .before .before .before .before .before .before .args .out .now) (c .before .before .before .before .expr4 .last .1 .1 .1 .1 .0) (rw (c .enum-told8 .given .1) at (c .before .before .before .before .expr4 .ensures .0)), c .before .before .before .before .expr4 .ensures .1)
+body-returns-9 t c = (tell-ending-stopped (c .before .before .before .before .before .before .before .before .before .before .before .before .args .t .now) (c .before .before .before .before .before .before .before .before .before .before .before .before .args .widths .now) (c .before .before .before .before .before .before .before .before .before .before .before .before .args .r) (c .before .before .before .before .before .before .before .before .before .before .before .before .pre .1 .0) (c .before .before .before .before .before .before .before .before .before .before .before .before .args .w) (envOf (c .before .before .before .before .before .before .before .before .before .before .before .before .args .env .now)) (c .before .before .before .before .before .before .before .before .before .before .before .before .args .left) (c .before .before .before .before .before .before .before .before .before .before .before .before .args .out .now) (c .before .before .before .before .expr4 .last .1 .1 .1 .1 .0) (shaped-as (shapeAt (c .before .before .before .before .before .before .before .before .before .before .before .before .args .t .now) (c .before .before .before .before .before .before .before .before .before .before .before .before .args .r)) End (sym (c .before .before .before .before .before .before .enum-told7 .given .1) ∙ c .before .before .before .before .before .before .before .before .way-at .ensures)) (c .before .before .before .before .before .before .before .before .before .before .before .before .args .out .now) (c .before .before .before .before .expr4 .last .1 .1 .1 .1 .0) (rw (c .enum-told8 .given .1) at (c .before .before .before .before .expr4 .ensures .0)), c .before .before .before .before .expr4 .ensures .1)
 
 -- src/cycle.rt:177:1  // `out`. ⏎ fn body(
 body-same-length-8 : (t : ℕ) → body-lts.Need-same-length-8 (
@@ -999,7 +980,7 @@ body-returns-10 : (t : ℕ) → body-lts.Need-returns-10 (
   put-errs-reads.Asked,
   put-errs-reads.Learnt,
 ) (body-at t) body.Post
-body-returns-10 t c = (tell-ending (c .before .before .before .before .before .before .before .before .before .before .before .before .before .before .args .t .now) (c .before .before .before .before .before .before .before .before .before .before .before .before .before .before .args .widths .now) (c .before .before .before .before .before .before .before .before .before .before .before .before .before .before .args .r) (c .before .before .before .before .before .before .before .before .before .before .before .before .before .before .pre .1 .0) (c .before .before .before .before .before .before .before .before .before .before .before .before .before .before .args .w) (envOf (c .before .before .before .before .before .before .before .before .before .before .before .before .before .before .args .env .now)) (c .before .before .before .before .before .before .before .before .before .before .before .before .before .before .args .left) (c .before .before .before .before .before .before .before .before .before .before .before .before .before .before .args .out .now) (c .before .before .before .before .before .expr4 .last .1 .1 .1 .1 .0) (shaped-as (shapeAt (c .before .before .before .before .before .before .before .before .before .before .before .before .before .before .args .t .now) (c .before .before .before .before .before .before .before .before .before .before .before .before .before .before .args .r)) End (sym (c .before .before .before .before .before .before .before .enum-told7 .given .1) ∙ c .before .before .before .before .before .before .before .before .before .way-at .ensures)) (c .before .l4 .given .0 .0) (rw (c .before .l4 .given .1) at (c .before .before .before .before .before .expr4 .ensures .0)), c .before .before .before .before .before .expr4 .ensures .1)
+body-returns-10 t c = (tell-ending (c .before .before .before .before .before .before .before .before .before .before .before .before .before .args .t .now) (c .before .before .before .before .before .before .before .before .before .before .before .before .before .args .widths .now) (c .before .before .before .before .before .before .before .before .before .before .before .before .before .args .r) (c .before .before .before .before .before .before .before .before .before .before .before .before .before .pre .1 .0) (c .before .before .before .before .before .before .before .before .before .before .before .before .before .args .w) (envOf (c .before .before .before .before .before .before .before .before .before .before .before .before .before .args .env .now)) (c .before .before .before .before .before .before .before .before .before .before .before .before .before .args .left) (c .before .before .before .before .before .before .before .before .before .before .before .before .before .args .out .now) (c .before .before .before .before .before .expr4 .last .1 .1 .1 .1 .0) (shaped-as (shapeAt (c .before .before .before .before .before .before .before .before .before .before .before .before .before .args .t .now) (c .before .before .before .before .before .before .before .before .before .before .before .before .before .args .r)) End (sym (c .before .before .before .before .before .before .before .enum-told7 .given .1) ∙ c .before .before .before .before .before .before .before .before .before .way-at .ensures)) (c .before .l4 .given .0 .0) (rw (c .before .l4 .given .1) at (c .before .before .before .before .before .expr4 .ensures .0)), c .before .before .before .before .before .expr4 .ensures .1)
 
 -- src/cycle.rt:67:11  { ⏎ match shape_at(t, r) {
 expr-shape-at-requires : (t : ℕ) → expr-lts.Need-shape-at-requires (
@@ -1086,7 +1067,7 @@ expr-put-name-requires : (t : ℕ) → expr-lts.Need-put-name-requires (
   rounds-below t,
   rounds.Post,
 ) (expr-at t) expr.Post
-expr-put-name-requires t c κs = let k : ExpChildren (c .before .before .before .before .before .before .before .before .before .args .t .now) (c .before .before .before .before .before .before .before .before .before .args .widths .now) (c .before .before .before .before .before .before .before .before .before .args .r) (Identifier (c .before .before .a .given .0 .0)) = exp-children (c .before .before .before .before .before .before .before .before .before .args .t .now) (c .before .before .before .before .before .before .before .before .before .args .widths .now) (c .before .before .before .before .before .before .before .before .before .args .r) (c .before .before .before .before .before .before .before .before .before .pre .1 .0) (Identifier (c .before .before .a .given .0 .0)) (sym (c .before .before .before .before .shape-at .ensures) ∙ c .before .before .a .given .1) in let f : ExpNeeds (c .before .before .before .before .before .before .before .before .before .args .t .now) (c .before .before .before .before .before .before .before .before .before .args .widths .now) (c .before .before .before .before .before .before .before .before .before .args .r) (Identifier (c .before .before .a .given .0 .0)) = exp-needs (c .before .before .before .before .before .before .before .before .before .args .t .now) (c .before .before .before .before .before .before .before .before .before .args .widths .now) (c .before .before .before .before .before .before .before .before .before .args .r) (c .before .before .before .before .before .before .before .before .before .pre .1 .0) (Identifier (c .before .before .a .given .0 .0)) (sym (c .before .before .before .before .shape-at .ensures) ∙ c .before .before .a .given .1) in (omega (arith, f .0, c .before .before .before .before .before .before .before .before .before .pre .1 .2), omega (arith, f .1, c .before .before .before .before .before .before .before .before .before .pre .1 .1))
+expr-put-name-requires t c κs = let k : ExpChildren (c .before .before .before .before .before .before .before .before .args .t .now) (c .before .before .before .before .before .before .before .before .args .widths .now) (c .before .before .before .before .before .before .before .before .args .r) (Identifier (c .before .before .a .given .0 .0)) = exp-children (c .before .before .before .before .before .before .before .before .args .t .now) (c .before .before .before .before .before .before .before .before .args .widths .now) (c .before .before .before .before .before .before .before .before .args .r) (c .before .before .before .before .before .before .before .before .pre .1 .0) (Identifier (c .before .before .a .given .0 .0)) (sym (c .before .before .before .before .shape-at .ensures) ∙ c .before .before .a .given .1) in let f : ExpNeeds (c .before .before .before .before .before .before .before .before .args .t .now) (c .before .before .before .before .before .before .before .before .args .widths .now) (c .before .before .before .before .before .before .before .before .args .r) (Identifier (c .before .before .a .given .0 .0)) = exp-needs (c .before .before .before .before .before .before .before .before .args .t .now) (c .before .before .before .before .before .before .before .before .args .widths .now) (c .before .before .before .before .before .before .before .before .args .r) (c .before .before .before .before .before .before .before .before .pre .1 .0) (Identifier (c .before .before .a .given .0 .0)) (sym (c .before .before .before .before .shape-at .ensures) ∙ c .before .before .a .given .1) in (omega (arith, f .0, c .before .before .before .before .before .before .before .before .pre .1 .2), omega (arith, f .1, c .before .before .before .before .before .before .before .before .pre .1 .1))
 
 -- src/cycle.rt:72:22  } ⏎ Shape::Whole(a) => {
 expr-enum-known-a-2 : (t : ℕ) → expr-lts.Need-enum-known-a-2 (
@@ -1144,7 +1125,7 @@ expr-put-whole-requires : (t : ℕ) → expr-lts.Need-put-whole-requires (
   rounds-below t,
   rounds.Post,
 ) (expr-at t) expr.Post
-expr-put-whole-requires t c κs = let k : ExpChildren (c .before .before .before .before .before .before .before .before .before .args .t .now) (c .before .before .before .before .before .before .before .before .before .args .widths .now) (c .before .before .before .before .before .before .before .before .before .args .r) (Whole (c .before .before .a2 .given .0 .0)) = exp-children (c .before .before .before .before .before .before .before .before .before .args .t .now) (c .before .before .before .before .before .before .before .before .before .args .widths .now) (c .before .before .before .before .before .before .before .before .before .args .r) (c .before .before .before .before .before .before .before .before .before .pre .1 .0) (Whole (c .before .before .a2 .given .0 .0)) (sym (c .before .before .before .before .shape-at .ensures) ∙ c .before .before .a2 .given .1) in let f : ExpNeeds (c .before .before .before .before .before .before .before .before .before .args .t .now) (c .before .before .before .before .before .before .before .before .before .args .widths .now) (c .before .before .before .before .before .before .before .before .before .args .r) (Whole (c .before .before .a2 .given .0 .0)) = exp-needs (c .before .before .before .before .before .before .before .before .before .args .t .now) (c .before .before .before .before .before .before .before .before .before .args .widths .now) (c .before .before .before .before .before .before .before .before .before .args .r) (c .before .before .before .before .before .before .before .before .before .pre .1 .0) (Whole (c .before .before .a2 .given .0 .0)) (sym (c .before .before .before .before .shape-at .ensures) ∙ c .before .before .a2 .given .1) in (omega (arith, f .0, c .before .before .before .before .before .before .before .before .before .pre .1 .2), f .1)
+expr-put-whole-requires t c κs = let k : ExpChildren (c .before .before .before .before .before .before .before .before .args .t .now) (c .before .before .before .before .before .before .before .before .args .widths .now) (c .before .before .before .before .before .before .before .before .args .r) (Whole (c .before .before .a2 .given .0 .0)) = exp-children (c .before .before .before .before .before .before .before .before .args .t .now) (c .before .before .before .before .before .before .before .before .args .widths .now) (c .before .before .before .before .before .before .before .before .args .r) (c .before .before .before .before .before .before .before .before .pre .1 .0) (Whole (c .before .before .a2 .given .0 .0)) (sym (c .before .before .before .before .shape-at .ensures) ∙ c .before .before .a2 .given .1) in let f : ExpNeeds (c .before .before .before .before .before .before .before .before .args .t .now) (c .before .before .before .before .before .before .before .before .args .widths .now) (c .before .before .before .before .before .before .before .before .args .r) (Whole (c .before .before .a2 .given .0 .0)) = exp-needs (c .before .before .before .before .before .before .before .before .args .t .now) (c .before .before .before .before .before .before .before .before .args .widths .now) (c .before .before .before .before .before .before .before .before .args .r) (c .before .before .before .before .before .before .before .before .pre .1 .0) (Whole (c .before .before .a2 .given .0 .0)) (sym (c .before .before .before .before .shape-at .ensures) ∙ c .before .before .a2 .given .1) in (omega (arith, f .0, c .before .before .before .before .before .before .before .before .pre .1 .2), f .1)
 
 -- src/cycle.rt:76:22  } ⏎ Shape::Truth(a) => {
 expr-enum-known-a-3 : (t : ℕ) → expr-lts.Need-enum-known-a-3 (
@@ -1202,7 +1183,7 @@ expr-put-truth-requires : (t : ℕ) → expr-lts.Need-put-truth-requires (
   rounds-below t,
   rounds.Post,
 ) (expr-at t) expr.Post
-expr-put-truth-requires t c κs = let k : ExpChildren (c .before .before .before .before .before .before .before .before .before .args .t .now) (c .before .before .before .before .before .before .before .before .before .args .widths .now) (c .before .before .before .before .before .before .before .before .before .args .r) (Truth (c .before .before .a3 .given .0 .0)) = exp-children (c .before .before .before .before .before .before .before .before .before .args .t .now) (c .before .before .before .before .before .before .before .before .before .args .widths .now) (c .before .before .before .before .before .before .before .before .before .args .r) (c .before .before .before .before .before .before .before .before .before .pre .1 .0) (Truth (c .before .before .a3 .given .0 .0)) (sym (c .before .before .before .before .shape-at .ensures) ∙ c .before .before .a3 .given .1) in let f : ExpNeeds (c .before .before .before .before .before .before .before .before .before .args .t .now) (c .before .before .before .before .before .before .before .before .before .args .widths .now) (c .before .before .before .before .before .before .before .before .before .args .r) (Truth (c .before .before .a3 .given .0 .0)) = exp-needs (c .before .before .before .before .before .before .before .before .before .args .t .now) (c .before .before .before .before .before .before .before .before .before .args .widths .now) (c .before .before .before .before .before .before .before .before .before .args .r) (c .before .before .before .before .before .before .before .before .before .pre .1 .0) (Truth (c .before .before .a3 .given .0 .0)) (sym (c .before .before .before .before .shape-at .ensures) ∙ c .before .before .a3 .given .1) in omega (arith, f, c .before .before .before .before .before .before .before .before .before .pre .1 .2)
+expr-put-truth-requires t c κs = let k : ExpChildren (c .before .before .before .before .before .before .before .before .args .t .now) (c .before .before .before .before .before .before .before .before .args .widths .now) (c .before .before .before .before .before .before .before .before .args .r) (Truth (c .before .before .a3 .given .0 .0)) = exp-children (c .before .before .before .before .before .before .before .before .args .t .now) (c .before .before .before .before .before .before .before .before .args .widths .now) (c .before .before .before .before .before .before .before .before .args .r) (c .before .before .before .before .before .before .before .before .pre .1 .0) (Truth (c .before .before .a3 .given .0 .0)) (sym (c .before .before .before .before .shape-at .ensures) ∙ c .before .before .a3 .given .1) in let f : ExpNeeds (c .before .before .before .before .before .before .before .before .args .t .now) (c .before .before .before .before .before .before .before .before .args .widths .now) (c .before .before .before .before .before .before .before .before .args .r) (Truth (c .before .before .a3 .given .0 .0)) = exp-needs (c .before .before .before .before .before .before .before .before .args .t .now) (c .before .before .before .before .before .before .before .before .args .widths .now) (c .before .before .before .before .before .before .before .before .args .r) (c .before .before .before .before .before .before .before .before .pre .1 .0) (Truth (c .before .before .a3 .given .0 .0)) (sym (c .before .before .before .before .shape-at .ensures) ∙ c .before .before .a3 .given .1) in omega (arith, f, c .before .before .before .before .before .before .before .before .pre .1 .2)
 
 -- src/cycle.rt:80:21  } ⏎ Shape::Pair(a, b) => match expr(t, widths, a, env, out, at, left) {
 expr-enum-known-a-4 : (t : ℕ) → expr-lts.Need-enum-known-a-4 (
@@ -1260,7 +1241,7 @@ expr-expr-requires : (t : ℕ) → expr-lts.Need-expr-requires (
   rounds-below t,
   rounds.Post,
 ) (expr-at t) expr.Post
-expr-expr-requires t c κs = let k : ExpChildren (c .before .before .before .before .before .before .before .before .before .args .t .now) (c .before .before .before .before .before .before .before .before .before .args .widths .now) (c .before .before .before .before .before .before .before .before .before .args .r) (Pair (c .before .before .a4 .given .0 .0) (c .before .before .a4 .given .0 .1 .0)) = exp-children (c .before .before .before .before .before .before .before .before .before .args .t .now) (c .before .before .before .before .before .before .before .before .before .args .widths .now) (c .before .before .before .before .before .before .before .before .before .args .r) (c .before .before .before .before .before .before .before .before .before .pre .1 .0) (Pair (c .before .before .a4 .given .0 .0) (c .before .before .a4 .given .0 .1 .0)) (sym (c .before .before .before .before .shape-at .ensures) ∙ c .before .before .a4 .given .1) in let f : ExpNeeds (c .before .before .before .before .before .before .before .before .before .args .t .now) (c .before .before .before .before .before .before .before .before .before .args .widths .now) (c .before .before .before .before .before .before .before .before .before .args .r) (Pair (c .before .before .a4 .given .0 .0) (c .before .before .a4 .given .0 .1 .0)) = exp-needs (c .before .before .before .before .before .before .before .before .before .args .t .now) (c .before .before .before .before .before .before .before .before .before .args .widths .now) (c .before .before .before .before .before .before .before .before .before .args .r) (c .before .before .before .before .before .before .before .before .before .pre .1 .0) (Pair (c .before .before .a4 .given .0 .0) (c .before .before .a4 .given .0 .1 .0)) (sym (c .before .before .before .before .shape-at .ensures) ∙ c .before .before .a4 .given .1) in (omega (arith, k .0 .1), (k .0 .0, c .before .before .before .before .before .before .before .before .before .pre .1 .1, omega (arith, f, c .before .before .before .before .before .before .before .before .before .pre .1 .2)))
+expr-expr-requires t c κs = let k : ExpChildren (c .before .before .before .before .before .before .before .before .args .t .now) (c .before .before .before .before .before .before .before .before .args .widths .now) (c .before .before .before .before .before .before .before .before .args .r) (Pair (c .before .before .a4 .given .0 .0) (c .before .before .a4 .given .0 .1 .0)) = exp-children (c .before .before .before .before .before .before .before .before .args .t .now) (c .before .before .before .before .before .before .before .before .args .widths .now) (c .before .before .before .before .before .before .before .before .args .r) (c .before .before .before .before .before .before .before .before .pre .1 .0) (Pair (c .before .before .a4 .given .0 .0) (c .before .before .a4 .given .0 .1 .0)) (sym (c .before .before .before .before .shape-at .ensures) ∙ c .before .before .a4 .given .1) in let f : ExpNeeds (c .before .before .before .before .before .before .before .before .args .t .now) (c .before .before .before .before .before .before .before .before .args .widths .now) (c .before .before .before .before .before .before .before .before .args .r) (Pair (c .before .before .a4 .given .0 .0) (c .before .before .a4 .given .0 .1 .0)) = exp-needs (c .before .before .before .before .before .before .before .before .args .t .now) (c .before .before .before .before .before .before .before .before .args .widths .now) (c .before .before .before .before .before .before .before .before .args .r) (c .before .before .before .before .before .before .before .before .pre .1 .0) (Pair (c .before .before .a4 .given .0 .0) (c .before .before .a4 .given .0 .1 .0)) (sym (c .before .before .before .before .shape-at .ensures) ∙ c .before .before .a4 .given .1) in (omega (arith, k .0 .1), (k .0 .0, c .before .before .before .before .before .before .before .before .pre .1 .1, omega (arith, f, c .before .before .before .before .before .before .before .before .pre .1 .2)))
 
 -- src/cycle.rt:81:28  Shape::Pair(a, b) => match expr(t, widths, a, env, out, at, left) { ⏎ Rest::Short => Rest::Short,
 expr-enum-told : (t : ℕ) → expr-lts.Need-enum-told (
@@ -1347,7 +1328,7 @@ expr-width-at-requires : (t : ℕ) → expr-lts.Need-width-at-requires (
   rounds-below t,
   rounds.Post,
 ) (expr-at t) expr.Post
-expr-width-at-requires t c κs = let k : ExpChildren (c .before .before .before .before .before .before .before .before .before .before .before .before .before .before .before .before .args .t .now) (c .before .before .before .before .before .before .before .before .before .before .before .before .before .before .before .before .args .widths .now) (c .before .before .before .before .before .before .before .before .before .before .before .before .before .before .before .before .args .r) (Pair (c .before .before .before .before .before .before .before .before .before .a4 .given .0 .0) (c .before .before .before .before .before .before .before .before .before .a4 .given .0 .1 .0)) = exp-children (c .before .before .before .before .before .before .before .before .before .before .before .before .before .before .before .before .args .t .now) (c .before .before .before .before .before .before .before .before .before .before .before .before .before .before .before .before .args .widths .now) (c .before .before .before .before .before .before .before .before .before .before .before .before .before .before .before .before .args .r) (c .before .before .before .before .before .before .before .before .before .before .before .before .before .before .before .before .pre .1 .0) (Pair (c .before .before .before .before .before .before .before .before .before .a4 .given .0 .0) (c .before .before .before .before .before .before .before .before .before .a4 .given .0 .1 .0)) (sym (c .before .before .before .before .before .before .before .before .before .before .before .shape-at .ensures) ∙ c .before .before .before .before .before .before .before .before .before .a4 .given .1) in let f : ExpNeeds (c .before .before .before .before .before .before .before .before .before .before .before .before .before .before .before .before .args .t .now) (c .before .before .before .before .before .before .before .before .before .before .before .before .before .before .before .before .args .widths .now) (c .before .before .before .before .before .before .before .before .before .before .before .before .before .before .before .before .args .r) (Pair (c .before .before .before .before .before .before .before .before .before .a4 .given .0 .0) (c .before .before .before .before .before .before .before .before .before .a4 .given .0 .1 .0)) = exp-needs (c .before .before .before .before .before .before .before .before .before .before .before .before .before .before .before .before .args .t .now) (c .before .before .before .before .before .before .before .before .before .before .before .before .before .before .before .before .args .widths .now) (c .before .before .before .before .before .before .before .before .before .before .before .before .before .before .before .before .args .r) (c .before .before .before .before .before .before .before .before .before .before .before .before .before .before .before .before .pre .1 .0) (Pair (c .before .before .before .before .before .before .before .before .before .a4 .given .0 .0) (c .before .before .before .before .before .before .before .before .before .a4 .given .0 .1 .0)) (sym (c .before .before .before .before .before .before .before .before .before .before .before .shape-at .ensures) ∙ c .before .before .before .before .before .before .before .before .before .a4 .given .1) in (k .0 .0 .low, omega (arith, k .0 .0 .high, k .0 .0 .accepted .table))
+expr-width-at-requires t c κs = let k : ExpChildren (c .before .before .before .before .before .before .before .before .before .before .before .before .before .before .before .args .t .now) (c .before .before .before .before .before .before .before .before .before .before .before .before .before .before .before .args .widths .now) (c .before .before .before .before .before .before .before .before .before .before .before .before .before .before .before .args .r) (Pair (c .before .before .before .before .before .before .before .before .before .a4 .given .0 .0) (c .before .before .before .before .before .before .before .before .before .a4 .given .0 .1 .0)) = exp-children (c .before .before .before .before .before .before .before .before .before .before .before .before .before .before .before .args .t .now) (c .before .before .before .before .before .before .before .before .before .before .before .before .before .before .before .args .widths .now) (c .before .before .before .before .before .before .before .before .before .before .before .before .before .before .before .args .r) (c .before .before .before .before .before .before .before .before .before .before .before .before .before .before .before .pre .1 .0) (Pair (c .before .before .before .before .before .before .before .before .before .a4 .given .0 .0) (c .before .before .before .before .before .before .before .before .before .a4 .given .0 .1 .0)) (sym (c .before .before .before .before .before .before .before .before .before .before .before .shape-at .ensures) ∙ c .before .before .before .before .before .before .before .before .before .a4 .given .1) in let f : ExpNeeds (c .before .before .before .before .before .before .before .before .before .before .before .before .before .before .before .args .t .now) (c .before .before .before .before .before .before .before .before .before .before .before .before .before .before .before .args .widths .now) (c .before .before .before .before .before .before .before .before .before .before .before .before .before .before .before .args .r) (Pair (c .before .before .before .before .before .before .before .before .before .a4 .given .0 .0) (c .before .before .before .before .before .before .before .before .before .a4 .given .0 .1 .0)) = exp-needs (c .before .before .before .before .before .before .before .before .before .before .before .before .before .before .before .args .t .now) (c .before .before .before .before .before .before .before .before .before .before .before .before .before .before .before .args .widths .now) (c .before .before .before .before .before .before .before .before .before .before .before .before .before .before .before .args .r) (c .before .before .before .before .before .before .before .before .before .before .before .before .before .before .before .pre .1 .0) (Pair (c .before .before .before .before .before .before .before .before .before .a4 .given .0 .0) (c .before .before .before .before .before .before .before .before .before .a4 .given .0 .1 .0)) (sym (c .before .before .before .before .before .before .before .before .before .before .before .shape-at .ensures) ∙ c .before .before .before .before .before .before .before .before .before .a4 .given .1) in (k .0 .0 .low, omega (arith, k .0 .0 .high, k .0 .0 .accepted .table))
 
 -- src/cycle.rt:82:59  Rest::Short => Rest::Short, ⏎ Rest::Left(l) => expr(t, widths, b, env, out, at + width_at(widths, a), l),
 expr-add-expr : (t : ℕ) → expr-lts.Need-add-expr (
@@ -1405,7 +1386,7 @@ expr-expr-requires-2 : (t : ℕ) → expr-lts.Need-expr-requires-2 (
   rounds-below t,
   rounds.Post,
 ) (expr-at t) expr.Post
-expr-expr-requires-2 t c κs = let k : ExpChildren (c .before .before .before .before .before .before .before .before .before .before .before .before .before .before .before .before .before .args .t .now) (c .before .before .before .before .before .before .before .before .before .before .before .before .before .before .before .before .before .args .widths .now) (c .before .before .before .before .before .before .before .before .before .before .before .before .before .before .before .before .before .args .r) (Pair (c .before .before .before .before .before .before .before .before .before .before .a4 .given .0 .0) (c .before .before .before .before .before .before .before .before .before .before .a4 .given .0 .1 .0)) = exp-children (c .before .before .before .before .before .before .before .before .before .before .before .before .before .before .before .before .before .args .t .now) (c .before .before .before .before .before .before .before .before .before .before .before .before .before .before .before .before .before .args .widths .now) (c .before .before .before .before .before .before .before .before .before .before .before .before .before .before .before .before .before .args .r) (c .before .before .before .before .before .before .before .before .before .before .before .before .before .before .before .before .before .pre .1 .0) (Pair (c .before .before .before .before .before .before .before .before .before .before .a4 .given .0 .0) (c .before .before .before .before .before .before .before .before .before .before .a4 .given .0 .1 .0)) (sym (c .before .before .before .before .before .before .before .before .before .before .before .before .shape-at .ensures) ∙ c .before .before .before .before .before .before .before .before .before .before .a4 .given .1) in let f : ExpNeeds (c .before .before .before .before .before .before .before .before .before .before .before .before .before .before .before .before .before .args .t .now) (c .before .before .before .before .before .before .before .before .before .before .before .before .before .before .before .before .before .args .widths .now) (c .before .before .before .before .before .before .before .before .before .before .before .before .before .before .before .before .before .args .r) (Pair (c .before .before .before .before .before .before .before .before .before .before .a4 .given .0 .0) (c .before .before .before .before .before .before .before .before .before .before .a4 .given .0 .1 .0)) = exp-needs (c .before .before .before .before .before .before .before .before .before .before .before .before .before .before .before .before .before .args .t .now) (c .before .before .before .before .before .before .before .before .before .before .before .before .before .before .before .before .before .args .widths .now) (c .before .before .before .before .before .before .before .before .before .before .before .before .before .before .before .before .before .args .r) (c .before .before .before .before .before .before .before .before .before .before .before .before .before .before .before .before .before .pre .1 .0) (Pair (c .before .before .before .before .before .before .before .before .before .before .a4 .given .0 .0) (c .before .before .before .before .before .before .before .before .before .before .a4 .given .0 .1 .0)) (sym (c .before .before .before .before .before .before .before .before .before .before .before .before .shape-at .ensures) ∙ c .before .before .before .before .before .before .before .before .before .before .a4 .given .1) in (omega (arith, k .1 .1), (k .1 .0, c .before .before .before .before .before .before .before .before .before .before .before .before .before .before .before .before .before .pre .1 .1, omega (arith, f, c .before .before .before .before .before .before .before .before .before .before .before .before .before .before .before .before .before .pre .1 .2, c .width-at .ensures .0, c .before .before .before .before .before .before .before .expr .ensures .1)))
+expr-expr-requires-2 t c κs = let k : ExpChildren (c .before .before .before .before .before .before .before .before .before .before .before .before .before .before .before .before .args .t .now) (c .before .before .before .before .before .before .before .before .before .before .before .before .before .before .before .before .args .widths .now) (c .before .before .before .before .before .before .before .before .before .before .before .before .before .before .before .before .args .r) (Pair (c .before .before .before .before .before .before .before .before .before .before .a4 .given .0 .0) (c .before .before .before .before .before .before .before .before .before .before .a4 .given .0 .1 .0)) = exp-children (c .before .before .before .before .before .before .before .before .before .before .before .before .before .before .before .before .args .t .now) (c .before .before .before .before .before .before .before .before .before .before .before .before .before .before .before .before .args .widths .now) (c .before .before .before .before .before .before .before .before .before .before .before .before .before .before .before .before .args .r) (c .before .before .before .before .before .before .before .before .before .before .before .before .before .before .before .before .pre .1 .0) (Pair (c .before .before .before .before .before .before .before .before .before .before .a4 .given .0 .0) (c .before .before .before .before .before .before .before .before .before .before .a4 .given .0 .1 .0)) (sym (c .before .before .before .before .before .before .before .before .before .before .before .before .shape-at .ensures) ∙ c .before .before .before .before .before .before .before .before .before .before .a4 .given .1) in let f : ExpNeeds (c .before .before .before .before .before .before .before .before .before .before .before .before .before .before .before .before .args .t .now) (c .before .before .before .before .before .before .before .before .before .before .before .before .before .before .before .before .args .widths .now) (c .before .before .before .before .before .before .before .before .before .before .before .before .before .before .before .before .args .r) (Pair (c .before .before .before .before .before .before .before .before .before .before .a4 .given .0 .0) (c .before .before .before .before .before .before .before .before .before .before .a4 .given .0 .1 .0)) = exp-needs (c .before .before .before .before .before .before .before .before .before .before .before .before .before .before .before .before .args .t .now) (c .before .before .before .before .before .before .before .before .before .before .before .before .before .before .before .before .args .widths .now) (c .before .before .before .before .before .before .before .before .before .before .before .before .before .before .before .before .args .r) (c .before .before .before .before .before .before .before .before .before .before .before .before .before .before .before .before .pre .1 .0) (Pair (c .before .before .before .before .before .before .before .before .before .before .a4 .given .0 .0) (c .before .before .before .before .before .before .before .before .before .before .a4 .given .0 .1 .0)) (sym (c .before .before .before .before .before .before .before .before .before .before .before .before .shape-at .ensures) ∙ c .before .before .before .before .before .before .before .before .before .before .a4 .given .1) in (omega (arith, k .1 .1), (k .1 .0, c .before .before .before .before .before .before .before .before .before .before .before .before .before .before .before .before .pre .1 .1, omega (arith, f, c .before .before .before .before .before .before .before .before .before .before .before .before .before .before .before .before .pre .1 .2, c .width-at .ensures .0, c .before .before .before .before .before .before .before .expr .ensures .1)))
 
 -- src/cycle.rt:84:25  }, ⏎ Shape::Operator(code, b) => {
 expr-enum-known-code : (t : ℕ) → expr-lts.Need-enum-known-code (
@@ -1492,7 +1473,7 @@ expr-expr-requires-3 : (t : ℕ) → expr-lts.Need-expr-requires-3 (
   rounds-below t,
   rounds.Post,
 ) (expr-at t) expr.Post
-expr-expr-requires-3 t c κs = let k : ExpChildren (c .before .before .before .before .before .before .before .before .before .args .t .now) (c .before .before .before .before .before .before .before .before .before .args .widths .now) (c .before .before .before .before .before .before .before .before .before .args .r) (Operator (c .before .before .code .given .0 .0) (c .before .before .code .given .0 .1 .0)) = exp-children (c .before .before .before .before .before .before .before .before .before .args .t .now) (c .before .before .before .before .before .before .before .before .before .args .widths .now) (c .before .before .before .before .before .before .before .before .before .args .r) (c .before .before .before .before .before .before .before .before .before .pre .1 .0) (Operator (c .before .before .code .given .0 .0) (c .before .before .code .given .0 .1 .0)) (sym (c .before .before .before .before .shape-at .ensures) ∙ c .before .before .code .given .1) in let f : ExpNeeds (c .before .before .before .before .before .before .before .before .before .args .t .now) (c .before .before .before .before .before .before .before .before .before .args .widths .now) (c .before .before .before .before .before .before .before .before .before .args .r) (Operator (c .before .before .code .given .0 .0) (c .before .before .code .given .0 .1 .0)) = exp-needs (c .before .before .before .before .before .before .before .before .before .args .t .now) (c .before .before .before .before .before .before .before .before .before .args .widths .now) (c .before .before .before .before .before .before .before .before .before .args .r) (c .before .before .before .before .before .before .before .before .before .pre .1 .0) (Operator (c .before .before .code .given .0 .0) (c .before .before .code .given .0 .1 .0)) (sym (c .before .before .before .before .shape-at .ensures) ∙ c .before .before .code .given .1) in (omega (arith, k .1), (k .0, c .before .before .before .before .before .before .before .before .before .pre .1 .1, omega (arith, f .1)))
+expr-expr-requires-3 t c κs = let k : ExpChildren (c .before .before .before .before .before .before .before .before .args .t .now) (c .before .before .before .before .before .before .before .before .args .widths .now) (c .before .before .before .before .before .before .before .before .args .r) (Operator (c .before .before .code .given .0 .0) (c .before .before .code .given .0 .1 .0)) = exp-children (c .before .before .before .before .before .before .before .before .args .t .now) (c .before .before .before .before .before .before .before .before .args .widths .now) (c .before .before .before .before .before .before .before .before .args .r) (c .before .before .before .before .before .before .before .before .pre .1 .0) (Operator (c .before .before .code .given .0 .0) (c .before .before .code .given .0 .1 .0)) (sym (c .before .before .before .before .shape-at .ensures) ∙ c .before .before .code .given .1) in let f : ExpNeeds (c .before .before .before .before .before .before .before .before .args .t .now) (c .before .before .before .before .before .before .before .before .args .widths .now) (c .before .before .before .before .before .before .before .before .args .r) (Operator (c .before .before .code .given .0 .0) (c .before .before .code .given .0 .1 .0)) = exp-needs (c .before .before .before .before .before .before .before .before .args .t .now) (c .before .before .before .before .before .before .before .before .args .widths .now) (c .before .before .before .before .before .before .before .before .args .r) (c .before .before .before .before .before .before .before .before .pre .1 .0) (Operator (c .before .before .code .given .0 .0) (c .before .before .code .given .0 .1 .0)) (sym (c .before .before .before .before .shape-at .ensures) ∙ c .before .before .code .given .1) in (omega (arith, k .1), (k .0, c .before .before .before .before .before .before .before .before .pre .1 .1, omega (arith, f .1)))
 
 -- src/cycle.rt:87:32  match expr(t, widths, b, env, &mut operands, 0, left) { ⏎ Rest::Short => Rest::Short,
 expr-enum-told-2 : (t : ℕ) → expr-lts.Need-enum-told-2 (
@@ -1608,7 +1589,7 @@ expr-put-operator-requires : (t : ℕ) → expr-lts.Need-put-operator-requires (
   rounds-below t,
   rounds.Post,
 ) (expr-at t) expr.Post
-expr-put-operator-requires t c κs = let k : ExpChildren (c .before .before .before .before .before .before .before .before .before .before .before .before .before .before .before .before .args .t .now) (c .before .before .before .before .before .before .before .before .before .before .before .before .before .before .before .before .args .widths .now) (c .before .before .before .before .before .before .before .before .before .before .before .before .before .before .before .before .args .r) (Operator (c .before .before .before .before .before .before .before .before .before .code .given .0 .0) (c .before .before .before .before .before .before .before .before .before .code .given .0 .1 .0)) = exp-children (c .before .before .before .before .before .before .before .before .before .before .before .before .before .before .before .before .args .t .now) (c .before .before .before .before .before .before .before .before .before .before .before .before .before .before .before .before .args .widths .now) (c .before .before .before .before .before .before .before .before .before .before .before .before .before .before .before .before .args .r) (c .before .before .before .before .before .before .before .before .before .before .before .before .before .before .before .before .pre .1 .0) (Operator (c .before .before .before .before .before .before .before .before .before .code .given .0 .0) (c .before .before .before .before .before .before .before .before .before .code .given .0 .1 .0)) (sym (c .before .before .before .before .before .before .before .before .before .before .before .shape-at .ensures) ∙ c .before .before .before .before .before .before .before .before .before .code .given .1) in let f : ExpNeeds (c .before .before .before .before .before .before .before .before .before .before .before .before .before .before .before .before .args .t .now) (c .before .before .before .before .before .before .before .before .before .before .before .before .before .before .before .before .args .widths .now) (c .before .before .before .before .before .before .before .before .before .before .before .before .before .before .before .before .args .r) (Operator (c .before .before .before .before .before .before .before .before .before .code .given .0 .0) (c .before .before .before .before .before .before .before .before .before .code .given .0 .1 .0)) = exp-needs (c .before .before .before .before .before .before .before .before .before .before .before .before .before .before .before .before .args .t .now) (c .before .before .before .before .before .before .before .before .before .before .before .before .before .before .before .before .args .widths .now) (c .before .before .before .before .before .before .before .before .before .before .before .before .before .before .before .before .args .r) (c .before .before .before .before .before .before .before .before .before .before .before .before .before .before .before .before .pre .1 .0) (Operator (c .before .before .before .before .before .before .before .before .before .code .given .0 .0) (c .before .before .before .before .before .before .before .before .before .code .given .0 .1 .0)) (sym (c .before .before .before .before .before .before .before .before .before .before .before .shape-at .ensures) ∙ c .before .before .before .before .before .before .before .before .before .code .given .1) in (omega (arith, f .0, c .before .before .before .before .before .before .before .before .before .before .before .before .before .before .before .before .pre .1 .2), f .2, omega (arith, c .before .before .before .before .before .before .expr3 .ensures .1))
+expr-put-operator-requires t c κs = let k : ExpChildren (c .before .before .before .before .before .before .before .before .before .before .before .before .before .before .before .args .t .now) (c .before .before .before .before .before .before .before .before .before .before .before .before .before .before .before .args .widths .now) (c .before .before .before .before .before .before .before .before .before .before .before .before .before .before .before .args .r) (Operator (c .before .before .before .before .before .before .before .before .before .code .given .0 .0) (c .before .before .before .before .before .before .before .before .before .code .given .0 .1 .0)) = exp-children (c .before .before .before .before .before .before .before .before .before .before .before .before .before .before .before .args .t .now) (c .before .before .before .before .before .before .before .before .before .before .before .before .before .before .before .args .widths .now) (c .before .before .before .before .before .before .before .before .before .before .before .before .before .before .before .args .r) (c .before .before .before .before .before .before .before .before .before .before .before .before .before .before .before .pre .1 .0) (Operator (c .before .before .before .before .before .before .before .before .before .code .given .0 .0) (c .before .before .before .before .before .before .before .before .before .code .given .0 .1 .0)) (sym (c .before .before .before .before .before .before .before .before .before .before .before .shape-at .ensures) ∙ c .before .before .before .before .before .before .before .before .before .code .given .1) in let f : ExpNeeds (c .before .before .before .before .before .before .before .before .before .before .before .before .before .before .before .args .t .now) (c .before .before .before .before .before .before .before .before .before .before .before .before .before .before .before .args .widths .now) (c .before .before .before .before .before .before .before .before .before .before .before .before .before .before .before .args .r) (Operator (c .before .before .before .before .before .before .before .before .before .code .given .0 .0) (c .before .before .before .before .before .before .before .before .before .code .given .0 .1 .0)) = exp-needs (c .before .before .before .before .before .before .before .before .before .before .before .before .before .before .before .args .t .now) (c .before .before .before .before .before .before .before .before .before .before .before .before .before .before .before .args .widths .now) (c .before .before .before .before .before .before .before .before .before .before .before .before .before .before .before .args .r) (c .before .before .before .before .before .before .before .before .before .before .before .before .before .before .before .pre .1 .0) (Operator (c .before .before .before .before .before .before .before .before .before .code .given .0 .0) (c .before .before .before .before .before .before .before .before .before .code .given .0 .1 .0)) (sym (c .before .before .before .before .before .before .before .before .before .before .before .shape-at .ensures) ∙ c .before .before .before .before .before .before .before .before .before .code .given .1) in (omega (arith, f .0, c .before .before .before .before .before .before .before .before .before .before .before .before .before .before .before .pre .1 .2), f .2, omega (arith, c .before .before .before .before .before .before .expr3 .ensures .1))
 
 -- src/cycle.rt:94:20  } ⏎ Shape::Let(a, _, c, d) => {
 expr-enum-known-a-5 : (t : ℕ) → expr-lts.Need-enum-known-a-5 (
@@ -1753,7 +1734,7 @@ expr-expr-requires-4 : (t : ℕ) → expr-lts.Need-expr-requires-4 (
   rounds-below t,
   rounds.Post,
 ) (expr-at t) expr.Post
-expr-expr-requires-4 t c κs = let k : ExpChildren (c .before .before .before .before .before .before .before .before .before .before .before .args .t .now) (c .before .before .before .before .before .before .before .before .before .before .before .args .widths .now) (c .before .before .before .before .before .before .before .before .before .before .before .args .r) (Let (c .before .before .before .before .a5 .given .0 .0) (c .before .before .before .before .a5 .given .0 .1 .0) (c .before .before .before .before .a5 .given .0 .1 .1 .0) (c .before .before .before .before .a5 .given .0 .1 .1 .1 .0)) = exp-children (c .before .before .before .before .before .before .before .before .before .before .before .args .t .now) (c .before .before .before .before .before .before .before .before .before .before .before .args .widths .now) (c .before .before .before .before .before .before .before .before .before .before .before .args .r) (c .before .before .before .before .before .before .before .before .before .before .before .pre .1 .0) (Let (c .before .before .before .before .a5 .given .0 .0) (c .before .before .before .before .a5 .given .0 .1 .0) (c .before .before .before .before .a5 .given .0 .1 .1 .0) (c .before .before .before .before .a5 .given .0 .1 .1 .1 .0)) (sym (c .before .before .before .before .before .before .shape-at .ensures) ∙ c .before .before .before .before .a5 .given .1) in let f : ExpNeeds (c .before .before .before .before .before .before .before .before .before .before .before .args .t .now) (c .before .before .before .before .before .before .before .before .before .before .before .args .widths .now) (c .before .before .before .before .before .before .before .before .before .before .before .args .r) (Let (c .before .before .before .before .a5 .given .0 .0) (c .before .before .before .before .a5 .given .0 .1 .0) (c .before .before .before .before .a5 .given .0 .1 .1 .0) (c .before .before .before .before .a5 .given .0 .1 .1 .1 .0)) = exp-needs (c .before .before .before .before .before .before .before .before .before .before .before .args .t .now) (c .before .before .before .before .before .before .before .before .before .before .before .args .widths .now) (c .before .before .before .before .before .before .before .before .before .before .before .args .r) (c .before .before .before .before .before .before .before .before .before .before .before .pre .1 .0) (Let (c .before .before .before .before .a5 .given .0 .0) (c .before .before .before .before .a5 .given .0 .1 .0) (c .before .before .before .before .a5 .given .0 .1 .1 .0) (c .before .before .before .before .a5 .given .0 .1 .1 .1 .0)) (sym (c .before .before .before .before .before .before .shape-at .ensures) ∙ c .before .before .before .before .a5 .given .1) in (omega (arith, k .0 .1), (k .0 .0, c .before .before .before .before .before .before .before .before .before .before .before .pre .1 .1, omega (arith, f .0, f .1, c .wide .ensures, ap length (c .before .before .copied .ensures), c .before .before .before .before .before .before .before .before .before .before .before .pre .1 .1)))
+expr-expr-requires-4 t c κs = let k : ExpChildren (c .before .before .before .before .before .before .before .before .before .before .args .t .now) (c .before .before .before .before .before .before .before .before .before .before .args .widths .now) (c .before .before .before .before .before .before .before .before .before .before .args .r) (Let (c .before .before .before .before .a5 .given .0 .0) (c .before .before .before .before .a5 .given .0 .1 .0) (c .before .before .before .before .a5 .given .0 .1 .1 .0) (c .before .before .before .before .a5 .given .0 .1 .1 .1 .0)) = exp-children (c .before .before .before .before .before .before .before .before .before .before .args .t .now) (c .before .before .before .before .before .before .before .before .before .before .args .widths .now) (c .before .before .before .before .before .before .before .before .before .before .args .r) (c .before .before .before .before .before .before .before .before .before .before .pre .1 .0) (Let (c .before .before .before .before .a5 .given .0 .0) (c .before .before .before .before .a5 .given .0 .1 .0) (c .before .before .before .before .a5 .given .0 .1 .1 .0) (c .before .before .before .before .a5 .given .0 .1 .1 .1 .0)) (sym (c .before .before .before .before .before .before .shape-at .ensures) ∙ c .before .before .before .before .a5 .given .1) in let f : ExpNeeds (c .before .before .before .before .before .before .before .before .before .before .args .t .now) (c .before .before .before .before .before .before .before .before .before .before .args .widths .now) (c .before .before .before .before .before .before .before .before .before .before .args .r) (Let (c .before .before .before .before .a5 .given .0 .0) (c .before .before .before .before .a5 .given .0 .1 .0) (c .before .before .before .before .a5 .given .0 .1 .1 .0) (c .before .before .before .before .a5 .given .0 .1 .1 .1 .0)) = exp-needs (c .before .before .before .before .before .before .before .before .before .before .args .t .now) (c .before .before .before .before .before .before .before .before .before .before .args .widths .now) (c .before .before .before .before .before .before .before .before .before .before .args .r) (c .before .before .before .before .before .before .before .before .before .before .pre .1 .0) (Let (c .before .before .before .before .a5 .given .0 .0) (c .before .before .before .before .a5 .given .0 .1 .0) (c .before .before .before .before .a5 .given .0 .1 .1 .0) (c .before .before .before .before .a5 .given .0 .1 .1 .1 .0)) (sym (c .before .before .before .before .before .before .shape-at .ensures) ∙ c .before .before .before .before .a5 .given .1) in (omega (arith, k .0 .1), (k .0 .0, c .before .before .before .before .before .before .before .before .before .before .pre .1 .1, omega (arith, f .0, f .1, c .wide .ensures, ap length (c .before .before .copied .ensures), c .before .before .before .before .before .before .before .before .before .before .pre .1 .1)))
 
 -- src/cycle.rt:97:32  match expr(t, widths, c, env, &mut inner, wide(a), left) { ⏎ Rest::Short => Rest::Short,
 expr-enum-told-3 : (t : ℕ) → expr-lts.Need-enum-told-3 (
@@ -1813,35 +1794,6 @@ expr-enum-known-l-3 : (t : ℕ) → expr-lts.Need-enum-known-l-3 (
 ) (expr-at t) expr.Post
 expr-enum-known-l-3 t c = search needs
 
--- src/cycle.rt:98:53  Rest::Short => Rest::Short, ⏎ Rest::Left(l) => expr(t, widths, d, &inner, out, at, l),
-expr-slice-aggregate-expr-3 : (t : ℕ) → expr-lts.Need-slice-aggregate-expr-3 (
-  shape-at-reads.Asked,
-  shape-at-reads.Learnt,
-  put-name-reads.Asked,
-  put-name-reads.Learnt,
-  put-whole-reads.Asked,
-  put-whole-reads.Learnt,
-  put-truth-reads.Asked,
-  put-truth-reads.Learnt,
-  expr-below t,
-  expr.Post,
-  width-at-reads.Asked,
-  width-at-reads.Learnt,
-  put-operator-reads.Asked,
-  put-operator-reads.Learnt,
-  copied-reads.Asked,
-  copied-reads.Learnt,
-  wide-reads.Asked,
-  wide-reads.Learnt,
-  choose-reads.Asked,
-  choose-reads.Learnt,
-  put-errs-reads.Asked,
-  put-errs-reads.Learnt,
-  rounds-below t,
-  rounds.Post,
-) (expr-at t) expr.Post
-expr-slice-aggregate-expr-3 t c = search needs
-
 -- src/cycle.rt:98:34  Rest::Short => Rest::Short, ⏎ Rest::Left(l) => expr(t, widths, d, &inner, out, at, l),
 expr-expr-requires-5 : (t : ℕ) → expr-lts.Need-expr-requires-5 (
   shape-at-reads.Asked,
@@ -1869,7 +1821,7 @@ expr-expr-requires-5 : (t : ℕ) → expr-lts.Need-expr-requires-5 (
   rounds-below t,
   rounds.Post,
 ) (expr-at t) expr.Post
-expr-expr-requires-5 t c κs = let k : ExpChildren (c .before .before .before .before .before .before .before .before .before .before .before .before .before .before .before .before .before .before .args .t .now) (c .before .before .before .before .before .before .before .before .before .before .before .before .before .before .before .before .before .before .args .widths .now) (c .before .before .before .before .before .before .before .before .before .before .before .before .before .before .before .before .before .before .args .r) (Let (c .before .before .before .before .before .before .before .before .before .before .before .a5 .given .0 .0) (c .before .before .before .before .before .before .before .before .before .before .before .a5 .given .0 .1 .0) (c .before .before .before .before .before .before .before .before .before .before .before .a5 .given .0 .1 .1 .0) (c .before .before .before .before .before .before .before .before .before .before .before .a5 .given .0 .1 .1 .1 .0)) = exp-children (c .before .before .before .before .before .before .before .before .before .before .before .before .before .before .before .before .before .before .args .t .now) (c .before .before .before .before .before .before .before .before .before .before .before .before .before .before .before .before .before .before .args .widths .now) (c .before .before .before .before .before .before .before .before .before .before .before .before .before .before .before .before .before .before .args .r) (c .before .before .before .before .before .before .before .before .before .before .before .before .before .before .before .before .before .before .pre .1 .0) (Let (c .before .before .before .before .before .before .before .before .before .before .before .a5 .given .0 .0) (c .before .before .before .before .before .before .before .before .before .before .before .a5 .given .0 .1 .0) (c .before .before .before .before .before .before .before .before .before .before .before .a5 .given .0 .1 .1 .0) (c .before .before .before .before .before .before .before .before .before .before .before .a5 .given .0 .1 .1 .1 .0)) (sym (c .before .before .before .before .before .before .before .before .before .before .before .before .before .shape-at .ensures) ∙ c .before .before .before .before .before .before .before .before .before .before .before .a5 .given .1) in let f : ExpNeeds (c .before .before .before .before .before .before .before .before .before .before .before .before .before .before .before .before .before .before .args .t .now) (c .before .before .before .before .before .before .before .before .before .before .before .before .before .before .before .before .before .before .args .widths .now) (c .before .before .before .before .before .before .before .before .before .before .before .before .before .before .before .before .before .before .args .r) (Let (c .before .before .before .before .before .before .before .before .before .before .before .a5 .given .0 .0) (c .before .before .before .before .before .before .before .before .before .before .before .a5 .given .0 .1 .0) (c .before .before .before .before .before .before .before .before .before .before .before .a5 .given .0 .1 .1 .0) (c .before .before .before .before .before .before .before .before .before .before .before .a5 .given .0 .1 .1 .1 .0)) = exp-needs (c .before .before .before .before .before .before .before .before .before .before .before .before .before .before .before .before .before .before .args .t .now) (c .before .before .before .before .before .before .before .before .before .before .before .before .before .before .before .before .before .before .args .widths .now) (c .before .before .before .before .before .before .before .before .before .before .before .before .before .before .before .before .before .before .args .r) (c .before .before .before .before .before .before .before .before .before .before .before .before .before .before .before .before .before .before .pre .1 .0) (Let (c .before .before .before .before .before .before .before .before .before .before .before .a5 .given .0 .0) (c .before .before .before .before .before .before .before .before .before .before .before .a5 .given .0 .1 .0) (c .before .before .before .before .before .before .before .before .before .before .before .a5 .given .0 .1 .1 .0) (c .before .before .before .before .before .before .before .before .before .before .before .a5 .given .0 .1 .1 .1 .0)) (sym (c .before .before .before .before .before .before .before .before .before .before .before .before .before .shape-at .ensures) ∙ c .before .before .before .before .before .before .before .before .before .before .before .a5 .given .1) in (omega (arith, k .1 .1), (k .1 .0, c .before .before .before .before .before .before .expr4 .ensures .1 ∙ ap length (c .before .before .before .before .before .before .before .before .before .copied .ensures) ∙ c .before .before .before .before .before .before .before .before .before .before .before .before .before .before .before .before .before .before .pre .1 .1, omega (arith, f .2, c .before .before .before .before .before .before .before .before .before .before .before .before .before .before .before .before .before .before .pre .1 .2)))
+expr-expr-requires-5 t c κs = let k : ExpChildren (c .before .before .before .before .before .before .before .before .before .before .before .before .before .before .before .before .before .args .t .now) (c .before .before .before .before .before .before .before .before .before .before .before .before .before .before .before .before .before .args .widths .now) (c .before .before .before .before .before .before .before .before .before .before .before .before .before .before .before .before .before .args .r) (Let (c .before .before .before .before .before .before .before .before .before .before .before .a5 .given .0 .0) (c .before .before .before .before .before .before .before .before .before .before .before .a5 .given .0 .1 .0) (c .before .before .before .before .before .before .before .before .before .before .before .a5 .given .0 .1 .1 .0) (c .before .before .before .before .before .before .before .before .before .before .before .a5 .given .0 .1 .1 .1 .0)) = exp-children (c .before .before .before .before .before .before .before .before .before .before .before .before .before .before .before .before .before .args .t .now) (c .before .before .before .before .before .before .before .before .before .before .before .before .before .before .before .before .before .args .widths .now) (c .before .before .before .before .before .before .before .before .before .before .before .before .before .before .before .before .before .args .r) (c .before .before .before .before .before .before .before .before .before .before .before .before .before .before .before .before .before .pre .1 .0) (Let (c .before .before .before .before .before .before .before .before .before .before .before .a5 .given .0 .0) (c .before .before .before .before .before .before .before .before .before .before .before .a5 .given .0 .1 .0) (c .before .before .before .before .before .before .before .before .before .before .before .a5 .given .0 .1 .1 .0) (c .before .before .before .before .before .before .before .before .before .before .before .a5 .given .0 .1 .1 .1 .0)) (sym (c .before .before .before .before .before .before .before .before .before .before .before .before .before .shape-at .ensures) ∙ c .before .before .before .before .before .before .before .before .before .before .before .a5 .given .1) in let f : ExpNeeds (c .before .before .before .before .before .before .before .before .before .before .before .before .before .before .before .before .before .args .t .now) (c .before .before .before .before .before .before .before .before .before .before .before .before .before .before .before .before .before .args .widths .now) (c .before .before .before .before .before .before .before .before .before .before .before .before .before .before .before .before .before .args .r) (Let (c .before .before .before .before .before .before .before .before .before .before .before .a5 .given .0 .0) (c .before .before .before .before .before .before .before .before .before .before .before .a5 .given .0 .1 .0) (c .before .before .before .before .before .before .before .before .before .before .before .a5 .given .0 .1 .1 .0) (c .before .before .before .before .before .before .before .before .before .before .before .a5 .given .0 .1 .1 .1 .0)) = exp-needs (c .before .before .before .before .before .before .before .before .before .before .before .before .before .before .before .before .before .args .t .now) (c .before .before .before .before .before .before .before .before .before .before .before .before .before .before .before .before .before .args .widths .now) (c .before .before .before .before .before .before .before .before .before .before .before .before .before .before .before .before .before .args .r) (c .before .before .before .before .before .before .before .before .before .before .before .before .before .before .before .before .before .pre .1 .0) (Let (c .before .before .before .before .before .before .before .before .before .before .before .a5 .given .0 .0) (c .before .before .before .before .before .before .before .before .before .before .before .a5 .given .0 .1 .0) (c .before .before .before .before .before .before .before .before .before .before .before .a5 .given .0 .1 .1 .0) (c .before .before .before .before .before .before .before .before .before .before .before .a5 .given .0 .1 .1 .1 .0)) (sym (c .before .before .before .before .before .before .before .before .before .before .before .before .before .shape-at .ensures) ∙ c .before .before .before .before .before .before .before .before .before .before .before .a5 .given .1) in (omega (arith, k .1 .1), (k .1 .0, c .before .before .before .before .before .before .expr4 .ensures .1 ∙ ap length (c .before .before .before .before .before .before .before .before .before .copied .ensures) ∙ c .before .before .before .before .before .before .before .before .before .before .before .before .before .before .before .before .before .pre .1 .1, omega (arith, f .2, c .before .before .before .before .before .before .before .before .before .before .before .before .before .before .before .before .before .pre .1 .2)))
 
 -- src/cycle.rt:101:19  } ⏎ Shape::If(a, b, c) => {
 expr-enum-known-a-6 : (t : ℕ) → expr-lts.Need-enum-known-a-6 (
@@ -1901,7 +1853,7 @@ expr-enum-known-a-6 : (t : ℕ) → expr-lts.Need-enum-known-a-6 (
 expr-enum-known-a-6 t c = search needs
 
 -- src/cycle.rt:103:43  let mut test = [0; 1]; ⏎ match expr(t, widths, a, env, &mut test, 0, left) {
-expr-slice-aggregate-expr-4 : (t : ℕ) → expr-lts.Need-slice-aggregate-expr-4 (
+expr-slice-aggregate-expr-3 : (t : ℕ) → expr-lts.Need-slice-aggregate-expr-3 (
   shape-at-reads.Asked,
   shape-at-reads.Learnt,
   put-name-reads.Asked,
@@ -1927,7 +1879,7 @@ expr-slice-aggregate-expr-4 : (t : ℕ) → expr-lts.Need-slice-aggregate-expr-4
   rounds-below t,
   rounds.Post,
 ) (expr-at t) expr.Post
-expr-slice-aggregate-expr-4 t c = search needs
+expr-slice-aggregate-expr-3 t c = search needs
 
 -- src/cycle.rt:103:19  let mut test = [0; 1]; ⏎ match expr(t, widths, a, env, &mut test, 0, left) {
 expr-expr-requires-6 : (t : ℕ) → expr-lts.Need-expr-requires-6 (
@@ -1956,7 +1908,7 @@ expr-expr-requires-6 : (t : ℕ) → expr-lts.Need-expr-requires-6 (
   rounds-below t,
   rounds.Post,
 ) (expr-at t) expr.Post
-expr-expr-requires-6 t c κs = let k : ExpChildren (c .before .before .before .before .before .before .before .before .before .args .t .now) (c .before .before .before .before .before .before .before .before .before .args .widths .now) (c .before .before .before .before .before .before .before .before .before .args .r) (If (c .before .before .a6 .given .0 .0) (c .before .before .a6 .given .0 .1 .0) (c .before .before .a6 .given .0 .1 .1 .0)) = exp-children (c .before .before .before .before .before .before .before .before .before .args .t .now) (c .before .before .before .before .before .before .before .before .before .args .widths .now) (c .before .before .before .before .before .before .before .before .before .args .r) (c .before .before .before .before .before .before .before .before .before .pre .1 .0) (If (c .before .before .a6 .given .0 .0) (c .before .before .a6 .given .0 .1 .0) (c .before .before .a6 .given .0 .1 .1 .0)) (sym (c .before .before .before .before .shape-at .ensures) ∙ c .before .before .a6 .given .1) in let f : ExpNeeds (c .before .before .before .before .before .before .before .before .before .args .t .now) (c .before .before .before .before .before .before .before .before .before .args .widths .now) (c .before .before .before .before .before .before .before .before .before .args .r) (If (c .before .before .a6 .given .0 .0) (c .before .before .a6 .given .0 .1 .0) (c .before .before .a6 .given .0 .1 .1 .0)) = exp-needs (c .before .before .before .before .before .before .before .before .before .args .t .now) (c .before .before .before .before .before .before .before .before .before .args .widths .now) (c .before .before .before .before .before .before .before .before .before .args .r) (c .before .before .before .before .before .before .before .before .before .pre .1 .0) (If (c .before .before .a6 .given .0 .0) (c .before .before .a6 .given .0 .1 .0) (c .before .before .a6 .given .0 .1 .1 .0)) (sym (c .before .before .before .before .shape-at .ensures) ∙ c .before .before .a6 .given .1) in (omega (arith, k .0 .1), (k .0 .0, c .before .before .before .before .before .before .before .before .before .pre .1 .1, omega (arith, f .0)))
+expr-expr-requires-6 t c κs = let k : ExpChildren (c .before .before .before .before .before .before .before .before .args .t .now) (c .before .before .before .before .before .before .before .before .args .widths .now) (c .before .before .before .before .before .before .before .before .args .r) (If (c .before .before .a6 .given .0 .0) (c .before .before .a6 .given .0 .1 .0) (c .before .before .a6 .given .0 .1 .1 .0)) = exp-children (c .before .before .before .before .before .before .before .before .args .t .now) (c .before .before .before .before .before .before .before .before .args .widths .now) (c .before .before .before .before .before .before .before .before .args .r) (c .before .before .before .before .before .before .before .before .pre .1 .0) (If (c .before .before .a6 .given .0 .0) (c .before .before .a6 .given .0 .1 .0) (c .before .before .a6 .given .0 .1 .1 .0)) (sym (c .before .before .before .before .shape-at .ensures) ∙ c .before .before .a6 .given .1) in let f : ExpNeeds (c .before .before .before .before .before .before .before .before .args .t .now) (c .before .before .before .before .before .before .before .before .args .widths .now) (c .before .before .before .before .before .before .before .before .args .r) (If (c .before .before .a6 .given .0 .0) (c .before .before .a6 .given .0 .1 .0) (c .before .before .a6 .given .0 .1 .1 .0)) = exp-needs (c .before .before .before .before .before .before .before .before .args .t .now) (c .before .before .before .before .before .before .before .before .args .widths .now) (c .before .before .before .before .before .before .before .before .args .r) (c .before .before .before .before .before .before .before .before .pre .1 .0) (If (c .before .before .a6 .given .0 .0) (c .before .before .a6 .given .0 .1 .0) (c .before .before .a6 .given .0 .1 .1 .0)) (sym (c .before .before .before .before .shape-at .ensures) ∙ c .before .before .a6 .given .1) in (omega (arith, k .0 .1), (k .0 .0, c .before .before .before .before .before .before .before .before .pre .1 .1, omega (arith, f .0)))
 
 -- src/cycle.rt:104:32  match expr(t, widths, a, env, &mut test, 0, left) { ⏎ Rest::Short => Rest::Short,
 expr-enum-told-4 : (t : ℕ) → expr-lts.Need-enum-told-4 (
@@ -2130,7 +2082,7 @@ expr-expr-requires-7 : (t : ℕ) → expr-lts.Need-expr-requires-7 (
   rounds-below t,
   rounds.Post,
 ) (expr-at t) expr.Post
-expr-expr-requires-7 t c κs = let k : ExpChildren (c .before .before .before .before .before .before .before .before .before .before .before .before .before .before .before .before .before .before .before .args .t .now) (c .before .before .before .before .before .before .before .before .before .before .before .before .before .before .before .before .before .before .before .args .widths .now) (c .before .before .before .before .before .before .before .before .before .before .before .before .before .before .before .before .before .before .before .args .r) (If (c .before .before .before .before .before .before .before .before .before .before .before .before .a6 .given .0 .0) (c .before .before .before .before .before .before .before .before .before .before .before .before .a6 .given .0 .1 .0) (c .before .before .before .before .before .before .before .before .before .before .before .before .a6 .given .0 .1 .1 .0)) = exp-children (c .before .before .before .before .before .before .before .before .before .before .before .before .before .before .before .before .before .before .before .args .t .now) (c .before .before .before .before .before .before .before .before .before .before .before .before .before .before .before .before .before .before .before .args .widths .now) (c .before .before .before .before .before .before .before .before .before .before .before .before .before .before .before .before .before .before .before .args .r) (c .before .before .before .before .before .before .before .before .before .before .before .before .before .before .before .before .before .before .before .pre .1 .0) (If (c .before .before .before .before .before .before .before .before .before .before .before .before .a6 .given .0 .0) (c .before .before .before .before .before .before .before .before .before .before .before .before .a6 .given .0 .1 .0) (c .before .before .before .before .before .before .before .before .before .before .before .before .a6 .given .0 .1 .1 .0)) (sym (c .before .before .before .before .before .before .before .before .before .before .before .before .before .before .shape-at .ensures) ∙ c .before .before .before .before .before .before .before .before .before .before .before .before .a6 .given .1) in let f : ExpNeeds (c .before .before .before .before .before .before .before .before .before .before .before .before .before .before .before .before .before .before .before .args .t .now) (c .before .before .before .before .before .before .before .before .before .before .before .before .before .before .before .before .before .before .before .args .widths .now) (c .before .before .before .before .before .before .before .before .before .before .before .before .before .before .before .before .before .before .before .args .r) (If (c .before .before .before .before .before .before .before .before .before .before .before .before .a6 .given .0 .0) (c .before .before .before .before .before .before .before .before .before .before .before .before .a6 .given .0 .1 .0) (c .before .before .before .before .before .before .before .before .before .before .before .before .a6 .given .0 .1 .1 .0)) = exp-needs (c .before .before .before .before .before .before .before .before .before .before .before .before .before .before .before .before .before .before .before .args .t .now) (c .before .before .before .before .before .before .before .before .before .before .before .before .before .before .before .before .before .before .before .args .widths .now) (c .before .before .before .before .before .before .before .before .before .before .before .before .before .before .before .before .before .before .before .args .r) (c .before .before .before .before .before .before .before .before .before .before .before .before .before .before .before .before .before .before .before .pre .1 .0) (If (c .before .before .before .before .before .before .before .before .before .before .before .before .a6 .given .0 .0) (c .before .before .before .before .before .before .before .before .before .before .before .before .a6 .given .0 .1 .0) (c .before .before .before .before .before .before .before .before .before .before .before .before .a6 .given .0 .1 .1 .0)) (sym (c .before .before .before .before .before .before .before .before .before .before .before .before .before .before .shape-at .ensures) ∙ c .before .before .before .before .before .before .before .before .before .before .before .before .a6 .given .1) in (omega (arith, k .1 .1), (k .1 .0, c .before .before .before .before .before .before .before .before .before .before .before .before .before .before .before .before .before .before .before .pre .1 .1, omega (arith, f .1, c .before .before .before .before .before .before .before .before .before .before .before .before .before .before .before .before .before .before .before .pre .1 .2)))
+expr-expr-requires-7 t c κs = let k : ExpChildren (c .before .before .before .before .before .before .before .before .before .before .before .before .before .before .before .before .before .before .args .t .now) (c .before .before .before .before .before .before .before .before .before .before .before .before .before .before .before .before .before .before .args .widths .now) (c .before .before .before .before .before .before .before .before .before .before .before .before .before .before .before .before .before .before .args .r) (If (c .before .before .before .before .before .before .before .before .before .before .before .before .a6 .given .0 .0) (c .before .before .before .before .before .before .before .before .before .before .before .before .a6 .given .0 .1 .0) (c .before .before .before .before .before .before .before .before .before .before .before .before .a6 .given .0 .1 .1 .0)) = exp-children (c .before .before .before .before .before .before .before .before .before .before .before .before .before .before .before .before .before .before .args .t .now) (c .before .before .before .before .before .before .before .before .before .before .before .before .before .before .before .before .before .before .args .widths .now) (c .before .before .before .before .before .before .before .before .before .before .before .before .before .before .before .before .before .before .args .r) (c .before .before .before .before .before .before .before .before .before .before .before .before .before .before .before .before .before .before .pre .1 .0) (If (c .before .before .before .before .before .before .before .before .before .before .before .before .a6 .given .0 .0) (c .before .before .before .before .before .before .before .before .before .before .before .before .a6 .given .0 .1 .0) (c .before .before .before .before .before .before .before .before .before .before .before .before .a6 .given .0 .1 .1 .0)) (sym (c .before .before .before .before .before .before .before .before .before .before .before .before .before .before .shape-at .ensures) ∙ c .before .before .before .before .before .before .before .before .before .before .before .before .a6 .given .1) in let f : ExpNeeds (c .before .before .before .before .before .before .before .before .before .before .before .before .before .before .before .before .before .before .args .t .now) (c .before .before .before .before .before .before .before .before .before .before .before .before .before .before .before .before .before .before .args .widths .now) (c .before .before .before .before .before .before .before .before .before .before .before .before .before .before .before .before .before .before .args .r) (If (c .before .before .before .before .before .before .before .before .before .before .before .before .a6 .given .0 .0) (c .before .before .before .before .before .before .before .before .before .before .before .before .a6 .given .0 .1 .0) (c .before .before .before .before .before .before .before .before .before .before .before .before .a6 .given .0 .1 .1 .0)) = exp-needs (c .before .before .before .before .before .before .before .before .before .before .before .before .before .before .before .before .before .before .args .t .now) (c .before .before .before .before .before .before .before .before .before .before .before .before .before .before .before .before .before .before .args .widths .now) (c .before .before .before .before .before .before .before .before .before .before .before .before .before .before .before .before .before .before .args .r) (c .before .before .before .before .before .before .before .before .before .before .before .before .before .before .before .before .before .before .pre .1 .0) (If (c .before .before .before .before .before .before .before .before .before .before .before .before .a6 .given .0 .0) (c .before .before .before .before .before .before .before .before .before .before .before .before .a6 .given .0 .1 .0) (c .before .before .before .before .before .before .before .before .before .before .before .before .a6 .given .0 .1 .1 .0)) (sym (c .before .before .before .before .before .before .before .before .before .before .before .before .before .before .shape-at .ensures) ∙ c .before .before .before .before .before .before .before .before .before .before .before .before .a6 .given .1) in (omega (arith, k .1 .1), (k .1 .0, c .before .before .before .before .before .before .before .before .before .before .before .before .before .before .before .before .before .before .pre .1 .1, omega (arith, f .1, c .before .before .before .before .before .before .before .before .before .before .before .before .before .before .before .before .before .before .pre .1 .2)))
 
 -- src/cycle.rt:107:63  Choice::First => expr(t, widths, b, env, out, at, l), ⏎ Choice::Second => expr(t, widths, c, env, out, at, l),
 expr-enum-told-6 : (t : ℕ) → expr-lts.Need-enum-told-6 (
@@ -2188,7 +2140,7 @@ expr-expr-requires-8 : (t : ℕ) → expr-lts.Need-expr-requires-8 (
   rounds-below t,
   rounds.Post,
 ) (expr-at t) expr.Post
-expr-expr-requires-8 t c κs = let k : ExpChildren (c .before .before .before .before .before .before .before .before .before .before .before .before .before .before .before .before .before .before .before .args .t .now) (c .before .before .before .before .before .before .before .before .before .before .before .before .before .before .before .before .before .before .before .args .widths .now) (c .before .before .before .before .before .before .before .before .before .before .before .before .before .before .before .before .before .before .before .args .r) (If (c .before .before .before .before .before .before .before .before .before .before .before .before .a6 .given .0 .0) (c .before .before .before .before .before .before .before .before .before .before .before .before .a6 .given .0 .1 .0) (c .before .before .before .before .before .before .before .before .before .before .before .before .a6 .given .0 .1 .1 .0)) = exp-children (c .before .before .before .before .before .before .before .before .before .before .before .before .before .before .before .before .before .before .before .args .t .now) (c .before .before .before .before .before .before .before .before .before .before .before .before .before .before .before .before .before .before .before .args .widths .now) (c .before .before .before .before .before .before .before .before .before .before .before .before .before .before .before .before .before .before .before .args .r) (c .before .before .before .before .before .before .before .before .before .before .before .before .before .before .before .before .before .before .before .pre .1 .0) (If (c .before .before .before .before .before .before .before .before .before .before .before .before .a6 .given .0 .0) (c .before .before .before .before .before .before .before .before .before .before .before .before .a6 .given .0 .1 .0) (c .before .before .before .before .before .before .before .before .before .before .before .before .a6 .given .0 .1 .1 .0)) (sym (c .before .before .before .before .before .before .before .before .before .before .before .before .before .before .shape-at .ensures) ∙ c .before .before .before .before .before .before .before .before .before .before .before .before .a6 .given .1) in let f : ExpNeeds (c .before .before .before .before .before .before .before .before .before .before .before .before .before .before .before .before .before .before .before .args .t .now) (c .before .before .before .before .before .before .before .before .before .before .before .before .before .before .before .before .before .before .before .args .widths .now) (c .before .before .before .before .before .before .before .before .before .before .before .before .before .before .before .before .before .before .before .args .r) (If (c .before .before .before .before .before .before .before .before .before .before .before .before .a6 .given .0 .0) (c .before .before .before .before .before .before .before .before .before .before .before .before .a6 .given .0 .1 .0) (c .before .before .before .before .before .before .before .before .before .before .before .before .a6 .given .0 .1 .1 .0)) = exp-needs (c .before .before .before .before .before .before .before .before .before .before .before .before .before .before .before .before .before .before .before .args .t .now) (c .before .before .before .before .before .before .before .before .before .before .before .before .before .before .before .before .before .before .before .args .widths .now) (c .before .before .before .before .before .before .before .before .before .before .before .before .before .before .before .before .before .before .before .args .r) (c .before .before .before .before .before .before .before .before .before .before .before .before .before .before .before .before .before .before .before .pre .1 .0) (If (c .before .before .before .before .before .before .before .before .before .before .before .before .a6 .given .0 .0) (c .before .before .before .before .before .before .before .before .before .before .before .before .a6 .given .0 .1 .0) (c .before .before .before .before .before .before .before .before .before .before .before .before .a6 .given .0 .1 .1 .0)) (sym (c .before .before .before .before .before .before .before .before .before .before .before .before .before .before .shape-at .ensures) ∙ c .before .before .before .before .before .before .before .before .before .before .before .before .a6 .given .1) in (omega (arith, k .2 .1), (k .2 .0, c .before .before .before .before .before .before .before .before .before .before .before .before .before .before .before .before .before .before .before .pre .1 .1, omega (arith, f .2, c .before .before .before .before .before .before .before .before .before .before .before .before .before .before .before .before .before .before .before .pre .1 .2)))
+expr-expr-requires-8 t c κs = let k : ExpChildren (c .before .before .before .before .before .before .before .before .before .before .before .before .before .before .before .before .before .before .args .t .now) (c .before .before .before .before .before .before .before .before .before .before .before .before .before .before .before .before .before .before .args .widths .now) (c .before .before .before .before .before .before .before .before .before .before .before .before .before .before .before .before .before .before .args .r) (If (c .before .before .before .before .before .before .before .before .before .before .before .before .a6 .given .0 .0) (c .before .before .before .before .before .before .before .before .before .before .before .before .a6 .given .0 .1 .0) (c .before .before .before .before .before .before .before .before .before .before .before .before .a6 .given .0 .1 .1 .0)) = exp-children (c .before .before .before .before .before .before .before .before .before .before .before .before .before .before .before .before .before .before .args .t .now) (c .before .before .before .before .before .before .before .before .before .before .before .before .before .before .before .before .before .before .args .widths .now) (c .before .before .before .before .before .before .before .before .before .before .before .before .before .before .before .before .before .before .args .r) (c .before .before .before .before .before .before .before .before .before .before .before .before .before .before .before .before .before .before .pre .1 .0) (If (c .before .before .before .before .before .before .before .before .before .before .before .before .a6 .given .0 .0) (c .before .before .before .before .before .before .before .before .before .before .before .before .a6 .given .0 .1 .0) (c .before .before .before .before .before .before .before .before .before .before .before .before .a6 .given .0 .1 .1 .0)) (sym (c .before .before .before .before .before .before .before .before .before .before .before .before .before .before .shape-at .ensures) ∙ c .before .before .before .before .before .before .before .before .before .before .before .before .a6 .given .1) in let f : ExpNeeds (c .before .before .before .before .before .before .before .before .before .before .before .before .before .before .before .before .before .before .args .t .now) (c .before .before .before .before .before .before .before .before .before .before .before .before .before .before .before .before .before .before .args .widths .now) (c .before .before .before .before .before .before .before .before .before .before .before .before .before .before .before .before .before .before .args .r) (If (c .before .before .before .before .before .before .before .before .before .before .before .before .a6 .given .0 .0) (c .before .before .before .before .before .before .before .before .before .before .before .before .a6 .given .0 .1 .0) (c .before .before .before .before .before .before .before .before .before .before .before .before .a6 .given .0 .1 .1 .0)) = exp-needs (c .before .before .before .before .before .before .before .before .before .before .before .before .before .before .before .before .before .before .args .t .now) (c .before .before .before .before .before .before .before .before .before .before .before .before .before .before .before .before .before .before .args .widths .now) (c .before .before .before .before .before .before .before .before .before .before .before .before .before .before .before .before .before .before .args .r) (c .before .before .before .before .before .before .before .before .before .before .before .before .before .before .before .before .before .before .pre .1 .0) (If (c .before .before .before .before .before .before .before .before .before .before .before .before .a6 .given .0 .0) (c .before .before .before .before .before .before .before .before .before .before .before .before .a6 .given .0 .1 .0) (c .before .before .before .before .before .before .before .before .before .before .before .before .a6 .given .0 .1 .1 .0)) (sym (c .before .before .before .before .before .before .before .before .before .before .before .before .before .before .shape-at .ensures) ∙ c .before .before .before .before .before .before .before .before .before .before .before .before .a6 .given .1) in (omega (arith, k .2 .1), (k .2 .0, c .before .before .before .before .before .before .before .before .before .before .before .before .before .before .before .before .before .before .pre .1 .1, omega (arith, f .2, c .before .before .before .before .before .before .before .before .before .before .before .before .before .before .before .before .before .before .pre .1 .2)))
 
 -- src/cycle.rt:109:34  Choice::Neither => { ⏎ put_errs(out, at, width_at(widths, b));
 expr-enum-told-7 : (t : ℕ) → expr-lts.Need-enum-told-7 (
@@ -2246,7 +2198,7 @@ expr-width-at-requires-2 : (t : ℕ) → expr-lts.Need-width-at-requires-2 (
   rounds-below t,
   rounds.Post,
 ) (expr-at t) expr.Post
-expr-width-at-requires-2 t c κs = let k : ExpChildren (c .before .before .before .before .before .before .before .before .before .before .before .before .before .before .before .before .before .before .before .args .t .now) (c .before .before .before .before .before .before .before .before .before .before .before .before .before .before .before .before .before .before .before .args .widths .now) (c .before .before .before .before .before .before .before .before .before .before .before .before .before .before .before .before .before .before .before .args .r) (If (c .before .before .before .before .before .before .before .before .before .before .before .before .a6 .given .0 .0) (c .before .before .before .before .before .before .before .before .before .before .before .before .a6 .given .0 .1 .0) (c .before .before .before .before .before .before .before .before .before .before .before .before .a6 .given .0 .1 .1 .0)) = exp-children (c .before .before .before .before .before .before .before .before .before .before .before .before .before .before .before .before .before .before .before .args .t .now) (c .before .before .before .before .before .before .before .before .before .before .before .before .before .before .before .before .before .before .before .args .widths .now) (c .before .before .before .before .before .before .before .before .before .before .before .before .before .before .before .before .before .before .before .args .r) (c .before .before .before .before .before .before .before .before .before .before .before .before .before .before .before .before .before .before .before .pre .1 .0) (If (c .before .before .before .before .before .before .before .before .before .before .before .before .a6 .given .0 .0) (c .before .before .before .before .before .before .before .before .before .before .before .before .a6 .given .0 .1 .0) (c .before .before .before .before .before .before .before .before .before .before .before .before .a6 .given .0 .1 .1 .0)) (sym (c .before .before .before .before .before .before .before .before .before .before .before .before .before .before .shape-at .ensures) ∙ c .before .before .before .before .before .before .before .before .before .before .before .before .a6 .given .1) in let f : ExpNeeds (c .before .before .before .before .before .before .before .before .before .before .before .before .before .before .before .before .before .before .before .args .t .now) (c .before .before .before .before .before .before .before .before .before .before .before .before .before .before .before .before .before .before .before .args .widths .now) (c .before .before .before .before .before .before .before .before .before .before .before .before .before .before .before .before .before .before .before .args .r) (If (c .before .before .before .before .before .before .before .before .before .before .before .before .a6 .given .0 .0) (c .before .before .before .before .before .before .before .before .before .before .before .before .a6 .given .0 .1 .0) (c .before .before .before .before .before .before .before .before .before .before .before .before .a6 .given .0 .1 .1 .0)) = exp-needs (c .before .before .before .before .before .before .before .before .before .before .before .before .before .before .before .before .before .before .before .args .t .now) (c .before .before .before .before .before .before .before .before .before .before .before .before .before .before .before .before .before .before .before .args .widths .now) (c .before .before .before .before .before .before .before .before .before .before .before .before .before .before .before .before .before .before .before .args .r) (c .before .before .before .before .before .before .before .before .before .before .before .before .before .before .before .before .before .before .before .pre .1 .0) (If (c .before .before .before .before .before .before .before .before .before .before .before .before .a6 .given .0 .0) (c .before .before .before .before .before .before .before .before .before .before .before .before .a6 .given .0 .1 .0) (c .before .before .before .before .before .before .before .before .before .before .before .before .a6 .given .0 .1 .1 .0)) (sym (c .before .before .before .before .before .before .before .before .before .before .before .before .before .before .shape-at .ensures) ∙ c .before .before .before .before .before .before .before .before .before .before .before .before .a6 .given .1) in (k .1 .0 .low, omega (arith, k .1 .0 .high, k .1 .0 .accepted .table))
+expr-width-at-requires-2 t c κs = let k : ExpChildren (c .before .before .before .before .before .before .before .before .before .before .before .before .before .before .before .before .before .before .args .t .now) (c .before .before .before .before .before .before .before .before .before .before .before .before .before .before .before .before .before .before .args .widths .now) (c .before .before .before .before .before .before .before .before .before .before .before .before .before .before .before .before .before .before .args .r) (If (c .before .before .before .before .before .before .before .before .before .before .before .before .a6 .given .0 .0) (c .before .before .before .before .before .before .before .before .before .before .before .before .a6 .given .0 .1 .0) (c .before .before .before .before .before .before .before .before .before .before .before .before .a6 .given .0 .1 .1 .0)) = exp-children (c .before .before .before .before .before .before .before .before .before .before .before .before .before .before .before .before .before .before .args .t .now) (c .before .before .before .before .before .before .before .before .before .before .before .before .before .before .before .before .before .before .args .widths .now) (c .before .before .before .before .before .before .before .before .before .before .before .before .before .before .before .before .before .before .args .r) (c .before .before .before .before .before .before .before .before .before .before .before .before .before .before .before .before .before .before .pre .1 .0) (If (c .before .before .before .before .before .before .before .before .before .before .before .before .a6 .given .0 .0) (c .before .before .before .before .before .before .before .before .before .before .before .before .a6 .given .0 .1 .0) (c .before .before .before .before .before .before .before .before .before .before .before .before .a6 .given .0 .1 .1 .0)) (sym (c .before .before .before .before .before .before .before .before .before .before .before .before .before .before .shape-at .ensures) ∙ c .before .before .before .before .before .before .before .before .before .before .before .before .a6 .given .1) in let f : ExpNeeds (c .before .before .before .before .before .before .before .before .before .before .before .before .before .before .before .before .before .before .args .t .now) (c .before .before .before .before .before .before .before .before .before .before .before .before .before .before .before .before .before .before .args .widths .now) (c .before .before .before .before .before .before .before .before .before .before .before .before .before .before .before .before .before .before .args .r) (If (c .before .before .before .before .before .before .before .before .before .before .before .before .a6 .given .0 .0) (c .before .before .before .before .before .before .before .before .before .before .before .before .a6 .given .0 .1 .0) (c .before .before .before .before .before .before .before .before .before .before .before .before .a6 .given .0 .1 .1 .0)) = exp-needs (c .before .before .before .before .before .before .before .before .before .before .before .before .before .before .before .before .before .before .args .t .now) (c .before .before .before .before .before .before .before .before .before .before .before .before .before .before .before .before .before .before .args .widths .now) (c .before .before .before .before .before .before .before .before .before .before .before .before .before .before .before .before .before .before .args .r) (c .before .before .before .before .before .before .before .before .before .before .before .before .before .before .before .before .before .before .pre .1 .0) (If (c .before .before .before .before .before .before .before .before .before .before .before .before .a6 .given .0 .0) (c .before .before .before .before .before .before .before .before .before .before .before .before .a6 .given .0 .1 .0) (c .before .before .before .before .before .before .before .before .before .before .before .before .a6 .given .0 .1 .1 .0)) (sym (c .before .before .before .before .before .before .before .before .before .before .before .before .before .before .shape-at .ensures) ∙ c .before .before .before .before .before .before .before .before .before .before .before .before .a6 .given .1) in (k .1 .0 .low, omega (arith, k .1 .0 .high, k .1 .0 .accepted .table))
 
 -- src/cycle.rt:109:25  Choice::Neither => { ⏎ put_errs(out, at, width_at(widths, b));
 expr-put-errs-requires : (t : ℕ) → expr-lts.Need-put-errs-requires (
@@ -2275,7 +2227,7 @@ expr-put-errs-requires : (t : ℕ) → expr-lts.Need-put-errs-requires (
   rounds-below t,
   rounds.Post,
 ) (expr-at t) expr.Post
-expr-put-errs-requires t c κs = let k : ExpChildren (c .before .before .before .before .before .before .before .before .before .before .before .before .before .before .before .before .before .before .before .before .args .t .now) (c .before .before .before .before .before .before .before .before .before .before .before .before .before .before .before .before .before .before .before .before .args .widths .now) (c .before .before .before .before .before .before .before .before .before .before .before .before .before .before .before .before .before .before .before .before .args .r) (If (c .before .before .before .before .before .before .before .before .before .before .before .before .before .a6 .given .0 .0) (c .before .before .before .before .before .before .before .before .before .before .before .before .before .a6 .given .0 .1 .0) (c .before .before .before .before .before .before .before .before .before .before .before .before .before .a6 .given .0 .1 .1 .0)) = exp-children (c .before .before .before .before .before .before .before .before .before .before .before .before .before .before .before .before .before .before .before .before .args .t .now) (c .before .before .before .before .before .before .before .before .before .before .before .before .before .before .before .before .before .before .before .before .args .widths .now) (c .before .before .before .before .before .before .before .before .before .before .before .before .before .before .before .before .before .before .before .before .args .r) (c .before .before .before .before .before .before .before .before .before .before .before .before .before .before .before .before .before .before .before .before .pre .1 .0) (If (c .before .before .before .before .before .before .before .before .before .before .before .before .before .a6 .given .0 .0) (c .before .before .before .before .before .before .before .before .before .before .before .before .before .a6 .given .0 .1 .0) (c .before .before .before .before .before .before .before .before .before .before .before .before .before .a6 .given .0 .1 .1 .0)) (sym (c .before .before .before .before .before .before .before .before .before .before .before .before .before .before .before .shape-at .ensures) ∙ c .before .before .before .before .before .before .before .before .before .before .before .before .before .a6 .given .1) in let f : ExpNeeds (c .before .before .before .before .before .before .before .before .before .before .before .before .before .before .before .before .before .before .before .before .args .t .now) (c .before .before .before .before .before .before .before .before .before .before .before .before .before .before .before .before .before .before .before .before .args .widths .now) (c .before .before .before .before .before .before .before .before .before .before .before .before .before .before .before .before .before .before .before .before .args .r) (If (c .before .before .before .before .before .before .before .before .before .before .before .before .before .a6 .given .0 .0) (c .before .before .before .before .before .before .before .before .before .before .before .before .before .a6 .given .0 .1 .0) (c .before .before .before .before .before .before .before .before .before .before .before .before .before .a6 .given .0 .1 .1 .0)) = exp-needs (c .before .before .before .before .before .before .before .before .before .before .before .before .before .before .before .before .before .before .before .before .args .t .now) (c .before .before .before .before .before .before .before .before .before .before .before .before .before .before .before .before .before .before .before .before .args .widths .now) (c .before .before .before .before .before .before .before .before .before .before .before .before .before .before .before .before .before .before .before .before .args .r) (c .before .before .before .before .before .before .before .before .before .before .before .before .before .before .before .before .before .before .before .before .pre .1 .0) (If (c .before .before .before .before .before .before .before .before .before .before .before .before .before .a6 .given .0 .0) (c .before .before .before .before .before .before .before .before .before .before .before .before .before .a6 .given .0 .1 .0) (c .before .before .before .before .before .before .before .before .before .before .before .before .before .a6 .given .0 .1 .1 .0)) (sym (c .before .before .before .before .before .before .before .before .before .before .before .before .before .before .before .shape-at .ensures) ∙ c .before .before .before .before .before .before .before .before .before .before .before .before .before .a6 .given .1) in (omega (arith, f .1, c .before .before .before .before .before .before .before .before .before .before .before .before .before .before .before .before .before .before .before .before .pre .1 .2, c .width-at2 .ensures .0), omega (arith, narrow (c .before .before .before .before .before .before .before .before .before .before .before .before .before .before .before .before .before .before .before .before .args .t .now) (c .before .before .before .before .before .before .before .before .before .before .before .before .before .before .before .before .before .before .before .before .args .widths .now) (c .before .before .before .before .before .before .before .before .before .before .before .before .before .a6 .given .0 .1 .0) (k .1 .0), c .width-at2 .ensures .0))
+expr-put-errs-requires t c κs = let k : ExpChildren (c .before .before .before .before .before .before .before .before .before .before .before .before .before .before .before .before .before .before .before .args .t .now) (c .before .before .before .before .before .before .before .before .before .before .before .before .before .before .before .before .before .before .before .args .widths .now) (c .before .before .before .before .before .before .before .before .before .before .before .before .before .before .before .before .before .before .before .args .r) (If (c .before .before .before .before .before .before .before .before .before .before .before .before .before .a6 .given .0 .0) (c .before .before .before .before .before .before .before .before .before .before .before .before .before .a6 .given .0 .1 .0) (c .before .before .before .before .before .before .before .before .before .before .before .before .before .a6 .given .0 .1 .1 .0)) = exp-children (c .before .before .before .before .before .before .before .before .before .before .before .before .before .before .before .before .before .before .before .args .t .now) (c .before .before .before .before .before .before .before .before .before .before .before .before .before .before .before .before .before .before .before .args .widths .now) (c .before .before .before .before .before .before .before .before .before .before .before .before .before .before .before .before .before .before .before .args .r) (c .before .before .before .before .before .before .before .before .before .before .before .before .before .before .before .before .before .before .before .pre .1 .0) (If (c .before .before .before .before .before .before .before .before .before .before .before .before .before .a6 .given .0 .0) (c .before .before .before .before .before .before .before .before .before .before .before .before .before .a6 .given .0 .1 .0) (c .before .before .before .before .before .before .before .before .before .before .before .before .before .a6 .given .0 .1 .1 .0)) (sym (c .before .before .before .before .before .before .before .before .before .before .before .before .before .before .before .shape-at .ensures) ∙ c .before .before .before .before .before .before .before .before .before .before .before .before .before .a6 .given .1) in let f : ExpNeeds (c .before .before .before .before .before .before .before .before .before .before .before .before .before .before .before .before .before .before .before .args .t .now) (c .before .before .before .before .before .before .before .before .before .before .before .before .before .before .before .before .before .before .before .args .widths .now) (c .before .before .before .before .before .before .before .before .before .before .before .before .before .before .before .before .before .before .before .args .r) (If (c .before .before .before .before .before .before .before .before .before .before .before .before .before .a6 .given .0 .0) (c .before .before .before .before .before .before .before .before .before .before .before .before .before .a6 .given .0 .1 .0) (c .before .before .before .before .before .before .before .before .before .before .before .before .before .a6 .given .0 .1 .1 .0)) = exp-needs (c .before .before .before .before .before .before .before .before .before .before .before .before .before .before .before .before .before .before .before .args .t .now) (c .before .before .before .before .before .before .before .before .before .before .before .before .before .before .before .before .before .before .before .args .widths .now) (c .before .before .before .before .before .before .before .before .before .before .before .before .before .before .before .before .before .before .before .args .r) (c .before .before .before .before .before .before .before .before .before .before .before .before .before .before .before .before .before .before .before .pre .1 .0) (If (c .before .before .before .before .before .before .before .before .before .before .before .before .before .a6 .given .0 .0) (c .before .before .before .before .before .before .before .before .before .before .before .before .before .a6 .given .0 .1 .0) (c .before .before .before .before .before .before .before .before .before .before .before .before .before .a6 .given .0 .1 .1 .0)) (sym (c .before .before .before .before .before .before .before .before .before .before .before .before .before .before .before .shape-at .ensures) ∙ c .before .before .before .before .before .before .before .before .before .before .before .before .before .a6 .given .1) in (omega (arith, f .1, c .before .before .before .before .before .before .before .before .before .before .before .before .before .before .before .before .before .before .before .pre .1 .2, c .width-at2 .ensures .0), omega (arith, narrow (c .before .before .before .before .before .before .before .before .before .before .before .before .before .before .before .before .before .before .before .args .t .now) (c .before .before .before .before .before .before .before .before .before .before .before .before .before .before .before .before .before .before .before .args .widths .now) (c .before .before .before .before .before .before .before .before .before .before .before .before .before .a6 .given .0 .1 .0) (k .1 .0), c .width-at2 .ensures .0))
 
 -- src/cycle.rt:115:20  } ⏎ Shape::For(a, b, c, d) => {
 expr-enum-known-a-7 : (t : ℕ) → expr-lts.Need-enum-known-a-7 (
@@ -2336,7 +2288,7 @@ expr-copied-requires-2 : (t : ℕ) → expr-lts.Need-copied-requires-2 (
 expr-copied-requires-2 t c κs = search needs
 
 -- src/cycle.rt:117:43  let mut inner = copied(env); ⏎ match expr(t, widths, c, env, &mut inner, wide(a), left) {
-expr-slice-aggregate-expr-5 : (t : ℕ) → expr-lts.Need-slice-aggregate-expr-5 (
+expr-slice-aggregate-expr-4 : (t : ℕ) → expr-lts.Need-slice-aggregate-expr-4 (
   shape-at-reads.Asked,
   shape-at-reads.Learnt,
   put-name-reads.Asked,
@@ -2362,7 +2314,7 @@ expr-slice-aggregate-expr-5 : (t : ℕ) → expr-lts.Need-slice-aggregate-expr-5
   rounds-below t,
   rounds.Post,
 ) (expr-at t) expr.Post
-expr-slice-aggregate-expr-5 t c = search needs
+expr-slice-aggregate-expr-4 t c = search needs
 
 -- src/cycle.rt:117:55  let mut inner = copied(env); ⏎ match expr(t, widths, c, env, &mut inner, wide(a), left) {
 expr-wide-requires-2 : (t : ℕ) → expr-lts.Need-wide-requires-2 (
@@ -2420,7 +2372,7 @@ expr-expr-requires-9 : (t : ℕ) → expr-lts.Need-expr-requires-9 (
   rounds-below t,
   rounds.Post,
 ) (expr-at t) expr.Post
-expr-expr-requires-9 t c κs = let k : ExpChildren (c .before .before .before .before .before .before .before .before .before .before .before .args .t .now) (c .before .before .before .before .before .before .before .before .before .before .before .args .widths .now) (c .before .before .before .before .before .before .before .before .before .before .before .args .r) (For (c .before .before .before .before .a7 .given .0 .0) (c .before .before .before .before .a7 .given .0 .1 .0) (c .before .before .before .before .a7 .given .0 .1 .1 .0) (c .before .before .before .before .a7 .given .0 .1 .1 .1 .0)) = exp-children (c .before .before .before .before .before .before .before .before .before .before .before .args .t .now) (c .before .before .before .before .before .before .before .before .before .before .before .args .widths .now) (c .before .before .before .before .before .before .before .before .before .before .before .args .r) (c .before .before .before .before .before .before .before .before .before .before .before .pre .1 .0) (For (c .before .before .before .before .a7 .given .0 .0) (c .before .before .before .before .a7 .given .0 .1 .0) (c .before .before .before .before .a7 .given .0 .1 .1 .0) (c .before .before .before .before .a7 .given .0 .1 .1 .1 .0)) (sym (c .before .before .before .before .before .before .shape-at .ensures) ∙ c .before .before .before .before .a7 .given .1) in let f : ExpNeeds (c .before .before .before .before .before .before .before .before .before .before .before .args .t .now) (c .before .before .before .before .before .before .before .before .before .before .before .args .widths .now) (c .before .before .before .before .before .before .before .before .before .before .before .args .r) (For (c .before .before .before .before .a7 .given .0 .0) (c .before .before .before .before .a7 .given .0 .1 .0) (c .before .before .before .before .a7 .given .0 .1 .1 .0) (c .before .before .before .before .a7 .given .0 .1 .1 .1 .0)) = exp-needs (c .before .before .before .before .before .before .before .before .before .before .before .args .t .now) (c .before .before .before .before .before .before .before .before .before .before .before .args .widths .now) (c .before .before .before .before .before .before .before .before .before .before .before .args .r) (c .before .before .before .before .before .before .before .before .before .before .before .pre .1 .0) (For (c .before .before .before .before .a7 .given .0 .0) (c .before .before .before .before .a7 .given .0 .1 .0) (c .before .before .before .before .a7 .given .0 .1 .1 .0) (c .before .before .before .before .a7 .given .0 .1 .1 .1 .0)) (sym (c .before .before .before .before .before .before .shape-at .ensures) ∙ c .before .before .before .before .a7 .given .1) in (omega (arith, k .0 .1), (k .0 .0, c .before .before .before .before .before .before .before .before .before .before .before .pre .1 .1, omega (arith, f .0, f .1, c .wide2 .ensures, ap length (c .before .before .copied2 .ensures), c .before .before .before .before .before .before .before .before .before .before .before .pre .1 .1)))
+expr-expr-requires-9 t c κs = let k : ExpChildren (c .before .before .before .before .before .before .before .before .before .before .args .t .now) (c .before .before .before .before .before .before .before .before .before .before .args .widths .now) (c .before .before .before .before .before .before .before .before .before .before .args .r) (For (c .before .before .before .before .a7 .given .0 .0) (c .before .before .before .before .a7 .given .0 .1 .0) (c .before .before .before .before .a7 .given .0 .1 .1 .0) (c .before .before .before .before .a7 .given .0 .1 .1 .1 .0)) = exp-children (c .before .before .before .before .before .before .before .before .before .before .args .t .now) (c .before .before .before .before .before .before .before .before .before .before .args .widths .now) (c .before .before .before .before .before .before .before .before .before .before .args .r) (c .before .before .before .before .before .before .before .before .before .before .pre .1 .0) (For (c .before .before .before .before .a7 .given .0 .0) (c .before .before .before .before .a7 .given .0 .1 .0) (c .before .before .before .before .a7 .given .0 .1 .1 .0) (c .before .before .before .before .a7 .given .0 .1 .1 .1 .0)) (sym (c .before .before .before .before .before .before .shape-at .ensures) ∙ c .before .before .before .before .a7 .given .1) in let f : ExpNeeds (c .before .before .before .before .before .before .before .before .before .before .args .t .now) (c .before .before .before .before .before .before .before .before .before .before .args .widths .now) (c .before .before .before .before .before .before .before .before .before .before .args .r) (For (c .before .before .before .before .a7 .given .0 .0) (c .before .before .before .before .a7 .given .0 .1 .0) (c .before .before .before .before .a7 .given .0 .1 .1 .0) (c .before .before .before .before .a7 .given .0 .1 .1 .1 .0)) = exp-needs (c .before .before .before .before .before .before .before .before .before .before .args .t .now) (c .before .before .before .before .before .before .before .before .before .before .args .widths .now) (c .before .before .before .before .before .before .before .before .before .before .args .r) (c .before .before .before .before .before .before .before .before .before .before .pre .1 .0) (For (c .before .before .before .before .a7 .given .0 .0) (c .before .before .before .before .a7 .given .0 .1 .0) (c .before .before .before .before .a7 .given .0 .1 .1 .0) (c .before .before .before .before .a7 .given .0 .1 .1 .1 .0)) (sym (c .before .before .before .before .before .before .shape-at .ensures) ∙ c .before .before .before .before .a7 .given .1) in (omega (arith, k .0 .1), (k .0 .0, c .before .before .before .before .before .before .before .before .before .before .pre .1 .1, omega (arith, f .0, f .1, c .wide2 .ensures, ap length (c .before .before .copied2 .ensures), c .before .before .before .before .before .before .before .before .before .before .pre .1 .1)))
 
 -- src/cycle.rt:118:32  match expr(t, widths, c, env, &mut inner, wide(a), left) { ⏎ Rest::Short => Rest::Short,
 expr-enum-told-8 : (t : ℕ) → expr-lts.Need-enum-told-8 (
@@ -2567,35 +2519,6 @@ expr-wide-requires-4 : (t : ℕ) → expr-lts.Need-wide-requires-4 (
 ) (expr-at t) expr.Post
 expr-wide-requires-4 t c κs = search needs
 
--- src/cycle.rt:126:21  wide(b), ⏎ &mut inner,
-expr-slice-aggregate-rounds : (t : ℕ) → expr-lts.Need-slice-aggregate-rounds (
-  shape-at-reads.Asked,
-  shape-at-reads.Learnt,
-  put-name-reads.Asked,
-  put-name-reads.Learnt,
-  put-whole-reads.Asked,
-  put-whole-reads.Learnt,
-  put-truth-reads.Asked,
-  put-truth-reads.Learnt,
-  expr-below t,
-  expr.Post,
-  width-at-reads.Asked,
-  width-at-reads.Learnt,
-  put-operator-reads.Asked,
-  put-operator-reads.Learnt,
-  copied-reads.Asked,
-  copied-reads.Learnt,
-  wide-reads.Asked,
-  wide-reads.Learnt,
-  choose-reads.Asked,
-  choose-reads.Learnt,
-  put-errs-reads.Asked,
-  put-errs-reads.Learnt,
-  rounds-below t,
-  rounds.Post,
-) (expr-at t) expr.Post
-expr-slice-aggregate-rounds t c = search needs
-
 -- src/cycle.rt:119:34  Rest::Short => Rest::Short, ⏎ Rest::Left(l) => rounds(
 expr-rounds-requires : (t : ℕ) → expr-lts.Need-rounds-requires (
   shape-at-reads.Asked,
@@ -2623,7 +2546,7 @@ expr-rounds-requires : (t : ℕ) → expr-lts.Need-rounds-requires (
   rounds-below t,
   rounds.Post,
 ) (expr-at t) expr.Post
-expr-rounds-requires t c κs = let k : ExpChildren (c .before .before .before .before .before .before .before .before .before .before .before .before .before .before .before .before .before .before .before .before .before .args .t .now) (c .before .before .before .before .before .before .before .before .before .before .before .before .before .before .before .before .before .before .before .before .before .args .widths .now) (c .before .before .before .before .before .before .before .before .before .before .before .before .before .before .before .before .before .before .before .before .before .args .r) (For (c .before .before .before .before .before .before .before .before .before .before .before .before .before .before .a7 .given .0 .0) (c .before .before .before .before .before .before .before .before .before .before .before .before .before .before .a7 .given .0 .1 .0) (c .before .before .before .before .before .before .before .before .before .before .before .before .before .before .a7 .given .0 .1 .1 .0) (c .before .before .before .before .before .before .before .before .before .before .before .before .before .before .a7 .given .0 .1 .1 .1 .0)) = exp-children (c .before .before .before .before .before .before .before .before .before .before .before .before .before .before .before .before .before .before .before .before .before .args .t .now) (c .before .before .before .before .before .before .before .before .before .before .before .before .before .before .before .before .before .before .before .before .before .args .widths .now) (c .before .before .before .before .before .before .before .before .before .before .before .before .before .before .before .before .before .before .before .before .before .args .r) (c .before .before .before .before .before .before .before .before .before .before .before .before .before .before .before .before .before .before .before .before .before .pre .1 .0) (For (c .before .before .before .before .before .before .before .before .before .before .before .before .before .before .a7 .given .0 .0) (c .before .before .before .before .before .before .before .before .before .before .before .before .before .before .a7 .given .0 .1 .0) (c .before .before .before .before .before .before .before .before .before .before .before .before .before .before .a7 .given .0 .1 .1 .0) (c .before .before .before .before .before .before .before .before .before .before .before .before .before .before .a7 .given .0 .1 .1 .1 .0)) (sym (c .before .before .before .before .before .before .before .before .before .before .before .before .before .before .before .before .shape-at .ensures) ∙ c .before .before .before .before .before .before .before .before .before .before .before .before .before .before .a7 .given .1) in let f : ExpNeeds (c .before .before .before .before .before .before .before .before .before .before .before .before .before .before .before .before .before .before .before .before .before .args .t .now) (c .before .before .before .before .before .before .before .before .before .before .before .before .before .before .before .before .before .before .before .before .before .args .widths .now) (c .before .before .before .before .before .before .before .before .before .before .before .before .before .before .before .before .before .before .before .before .before .args .r) (For (c .before .before .before .before .before .before .before .before .before .before .before .before .before .before .a7 .given .0 .0) (c .before .before .before .before .before .before .before .before .before .before .before .before .before .before .a7 .given .0 .1 .0) (c .before .before .before .before .before .before .before .before .before .before .before .before .before .before .a7 .given .0 .1 .1 .0) (c .before .before .before .before .before .before .before .before .before .before .before .before .before .before .a7 .given .0 .1 .1 .1 .0)) = exp-needs (c .before .before .before .before .before .before .before .before .before .before .before .before .before .before .before .before .before .before .before .before .before .args .t .now) (c .before .before .before .before .before .before .before .before .before .before .before .before .before .before .before .before .before .before .before .before .before .args .widths .now) (c .before .before .before .before .before .before .before .before .before .before .before .before .before .before .before .before .before .before .before .before .before .args .r) (c .before .before .before .before .before .before .before .before .before .before .before .before .before .before .before .before .before .before .before .before .before .pre .1 .0) (For (c .before .before .before .before .before .before .before .before .before .before .before .before .before .before .a7 .given .0 .0) (c .before .before .before .before .before .before .before .before .before .before .before .before .before .before .a7 .given .0 .1 .0) (c .before .before .before .before .before .before .before .before .before .before .before .before .before .before .a7 .given .0 .1 .1 .0) (c .before .before .before .before .before .before .before .before .before .before .before .before .before .before .a7 .given .0 .1 .1 .1 .0)) (sym (c .before .before .before .before .before .before .before .before .before .before .before .before .before .before .before .before .shape-at .ensures) ∙ c .before .before .before .before .before .before .before .before .before .before .before .before .before .before .a7 .given .1) in (omega (arith, k .1 .1), (k .1 .0, f .3 ∙ sym (c .before .before .before .before .width-at3 .ensures .0), f .4 ∙ sym (c .before .before .wide4 .ensures), omega (arith, narrow (c .before .before .before .before .before .before .before .before .before .before .before .before .before .before .before .before .before .before .before .before .before .args .t .now) (c .before .before .before .before .before .before .before .before .before .before .before .before .before .before .before .before .before .before .before .before .before .args .widths .now) (c .before .before .before .before .before .before .before .before .before .before .before .before .before .before .before .before .before .before .before .before .before .args .r) (c .before .before .before .before .before .before .before .before .before .before .before .before .before .before .before .before .before .before .before .before .before .pre .1 .0), c .before .before .before .before .width-at3 .ensures .0), omega (arith, f .2, c .before .before .wide4 .ensures), omega (arith, f .1, c .before .before .before .wide3 .ensures, c .before .before .wide4 .ensures), c .before .before .before .before .before .before .before .before .before .expr9 .ensures .1 ∙ ap length (c .before .before .before .before .before .before .before .before .before .before .before .before .copied2 .ensures) ∙ c .before .before .before .before .before .before .before .before .before .before .before .before .before .before .before .before .before .before .before .before .before .pre .1 .1, omega (arith, c .before .before .before .before .before .before .before .before .before .before .before .before .before .before .before .before .before .before .before .before .before .pre .1 .2, c .before .before .before .before .width-at3 .ensures .0)))
+expr-rounds-requires t c κs = let k : ExpChildren (c .before .before .before .before .before .before .before .before .before .before .before .before .before .before .before .before .before .before .before .before .args .t .now) (c .before .before .before .before .before .before .before .before .before .before .before .before .before .before .before .before .before .before .before .before .args .widths .now) (c .before .before .before .before .before .before .before .before .before .before .before .before .before .before .before .before .before .before .before .before .args .r) (For (c .before .before .before .before .before .before .before .before .before .before .before .before .before .before .a7 .given .0 .0) (c .before .before .before .before .before .before .before .before .before .before .before .before .before .before .a7 .given .0 .1 .0) (c .before .before .before .before .before .before .before .before .before .before .before .before .before .before .a7 .given .0 .1 .1 .0) (c .before .before .before .before .before .before .before .before .before .before .before .before .before .before .a7 .given .0 .1 .1 .1 .0)) = exp-children (c .before .before .before .before .before .before .before .before .before .before .before .before .before .before .before .before .before .before .before .before .args .t .now) (c .before .before .before .before .before .before .before .before .before .before .before .before .before .before .before .before .before .before .before .before .args .widths .now) (c .before .before .before .before .before .before .before .before .before .before .before .before .before .before .before .before .before .before .before .before .args .r) (c .before .before .before .before .before .before .before .before .before .before .before .before .before .before .before .before .before .before .before .before .pre .1 .0) (For (c .before .before .before .before .before .before .before .before .before .before .before .before .before .before .a7 .given .0 .0) (c .before .before .before .before .before .before .before .before .before .before .before .before .before .before .a7 .given .0 .1 .0) (c .before .before .before .before .before .before .before .before .before .before .before .before .before .before .a7 .given .0 .1 .1 .0) (c .before .before .before .before .before .before .before .before .before .before .before .before .before .before .a7 .given .0 .1 .1 .1 .0)) (sym (c .before .before .before .before .before .before .before .before .before .before .before .before .before .before .before .before .shape-at .ensures) ∙ c .before .before .before .before .before .before .before .before .before .before .before .before .before .before .a7 .given .1) in let f : ExpNeeds (c .before .before .before .before .before .before .before .before .before .before .before .before .before .before .before .before .before .before .before .before .args .t .now) (c .before .before .before .before .before .before .before .before .before .before .before .before .before .before .before .before .before .before .before .before .args .widths .now) (c .before .before .before .before .before .before .before .before .before .before .before .before .before .before .before .before .before .before .before .before .args .r) (For (c .before .before .before .before .before .before .before .before .before .before .before .before .before .before .a7 .given .0 .0) (c .before .before .before .before .before .before .before .before .before .before .before .before .before .before .a7 .given .0 .1 .0) (c .before .before .before .before .before .before .before .before .before .before .before .before .before .before .a7 .given .0 .1 .1 .0) (c .before .before .before .before .before .before .before .before .before .before .before .before .before .before .a7 .given .0 .1 .1 .1 .0)) = exp-needs (c .before .before .before .before .before .before .before .before .before .before .before .before .before .before .before .before .before .before .before .before .args .t .now) (c .before .before .before .before .before .before .before .before .before .before .before .before .before .before .before .before .before .before .before .before .args .widths .now) (c .before .before .before .before .before .before .before .before .before .before .before .before .before .before .before .before .before .before .before .before .args .r) (c .before .before .before .before .before .before .before .before .before .before .before .before .before .before .before .before .before .before .before .before .pre .1 .0) (For (c .before .before .before .before .before .before .before .before .before .before .before .before .before .before .a7 .given .0 .0) (c .before .before .before .before .before .before .before .before .before .before .before .before .before .before .a7 .given .0 .1 .0) (c .before .before .before .before .before .before .before .before .before .before .before .before .before .before .a7 .given .0 .1 .1 .0) (c .before .before .before .before .before .before .before .before .before .before .before .before .before .before .a7 .given .0 .1 .1 .1 .0)) (sym (c .before .before .before .before .before .before .before .before .before .before .before .before .before .before .before .before .shape-at .ensures) ∙ c .before .before .before .before .before .before .before .before .before .before .before .before .before .before .a7 .given .1) in (omega (arith, k .1 .1), (k .1 .0, f .3 ∙ sym (c .before .before .before .before .width-at3 .ensures .0), f .4 ∙ sym (c .before .before .wide4 .ensures), omega (arith, narrow (c .before .before .before .before .before .before .before .before .before .before .before .before .before .before .before .before .before .before .before .before .args .t .now) (c .before .before .before .before .before .before .before .before .before .before .before .before .before .before .before .before .before .before .before .before .args .widths .now) (c .before .before .before .before .before .before .before .before .before .before .before .before .before .before .before .before .before .before .before .before .args .r) (c .before .before .before .before .before .before .before .before .before .before .before .before .before .before .before .before .before .before .before .before .pre .1 .0), c .before .before .before .before .width-at3 .ensures .0), omega (arith, f .2, c .before .before .wide4 .ensures), omega (arith, f .1, c .before .before .before .wide3 .ensures, c .before .before .wide4 .ensures), c .before .before .before .before .before .before .before .before .before .expr9 .ensures .1 ∙ ap length (c .before .before .before .before .before .before .before .before .before .before .before .before .copied2 .ensures) ∙ c .before .before .before .before .before .before .before .before .before .before .before .before .before .before .before .before .before .before .before .before .pre .1 .1, omega (arith, c .before .before .before .before .before .before .before .before .before .before .before .before .before .before .before .before .before .before .before .before .pre .1 .2, c .before .before .before .before .width-at3 .ensures .0)))
 
 -- src/cycle.rt:134:27  // refused by 7 ⏎ Shape::Iter(_) => Rest::Short,
 expr-enum-told-9 : (t : ℕ) → expr-lts.Need-enum-told-9 (
@@ -2654,7 +2577,7 @@ expr-enum-told-9 : (t : ℕ) → expr-lts.Need-enum-told-9 (
 ) (expr-at t) expr.Post
 expr-enum-told-9 t c = search needs
 
--- src/cycle.rt:55:1  // Row r as an expression: its values go to the words of `out` from `at` on. ⏎ pub fn expr(
+-- src/cycle.rt:55:1  // Row r as an expression: its values go to the words of `out` from `at` on. ⏎ pub(crate) fn expr(
 expr-same-length : (t : ℕ) → expr-lts.Need-same-length (
   shape-at-reads.Asked,
   shape-at-reads.Learnt,
@@ -2683,7 +2606,7 @@ expr-same-length : (t : ℕ) → expr-lts.Need-same-length (
 ) (expr-at t) expr.Post
 expr-same-length t c = search needs
 
--- src/cycle.rt:55:1  // Row r as an expression: its values go to the words of `out` from `at` on. ⏎ pub fn expr(
+-- src/cycle.rt:55:1  // Row r as an expression: its values go to the words of `out` from `at` on. ⏎ pub(crate) fn expr(
 expr-returns : (t : ℕ) → expr-lts.Need-returns (
   shape-at-reads.Asked,
   shape-at-reads.Learnt,
@@ -2710,9 +2633,9 @@ expr-returns : (t : ℕ) → expr-lts.Need-returns (
   rounds-below t,
   rounds.Post,
 ) (expr-at t) expr.Post
-expr-returns t c = (tell-identifier (c .before .before .before .before .before .before .before .before .before .before .before .before .args .t .now) (c .before .before .before .before .before .before .before .before .before .before .before .before .args .widths .now) (c .before .before .before .before .before .before .before .before .before .before .before .before .args .r) (c .before .before .before .before .before .before .before .before .before .before .before .before .pre .1 .0) (envOf (c .before .before .before .before .before .before .before .before .before .before .before .before .args .env .now)) (c .before .before .before .before .before .before .before .before .before .before .before .before .args .left) (c .before .before .before .before .before .before .before .before .before .before .before .before .args .at) (c .before .before .before .before .before .before .before .before .before .before .before .before .args .out .now) (c .before .before .put-name .last .0) (c .before .before .before .before .before .a .given .0 .0) (sym (c .before .before .before .before .before .before .before .shape-at .ensures) ∙ c .before .before .before .before .before .a .given .1) (c .before .before .put-name .ensures .0), c .before .before .put-name .ensures .1)
+expr-returns t c = (tell-identifier (c .before .before .before .before .before .before .before .before .before .before .before .args .t .now) (c .before .before .before .before .before .before .before .before .before .before .before .args .widths .now) (c .before .before .before .before .before .before .before .before .before .before .before .args .r) (c .before .before .before .before .before .before .before .before .before .before .before .pre .1 .0) (envOf (c .before .before .before .before .before .before .before .before .before .before .before .args .env .now)) (c .before .before .before .before .before .before .before .before .before .before .before .args .left) (c .before .before .before .before .before .before .before .before .before .before .before .args .at) (c .before .before .before .before .before .before .before .before .before .before .before .args .out .now) (c .before .before .put-name .last .0) (c .before .before .before .before .before .a .given .0 .0) (sym (c .before .before .before .before .before .before .before .shape-at .ensures) ∙ c .before .before .before .before .before .a .given .1) (c .before .before .put-name .ensures .0), c .before .before .put-name .ensures .1)
 
--- src/cycle.rt:55:1  // Row r as an expression: its values go to the words of `out` from `at` on. ⏎ pub fn expr(
+-- src/cycle.rt:55:1  // Row r as an expression: its values go to the words of `out` from `at` on. ⏎ pub(crate) fn expr(
 expr-same-length-2 : (t : ℕ) → expr-lts.Need-same-length-2 (
   shape-at-reads.Asked,
   shape-at-reads.Learnt,
@@ -2741,7 +2664,7 @@ expr-same-length-2 : (t : ℕ) → expr-lts.Need-same-length-2 (
 ) (expr-at t) expr.Post
 expr-same-length-2 t c = search needs
 
--- src/cycle.rt:55:1  // Row r as an expression: its values go to the words of `out` from `at` on. ⏎ pub fn expr(
+-- src/cycle.rt:55:1  // Row r as an expression: its values go to the words of `out` from `at` on. ⏎ pub(crate) fn expr(
 expr-returns-2 : (t : ℕ) → expr-lts.Need-returns-2 (
   shape-at-reads.Asked,
   shape-at-reads.Learnt,
@@ -2768,9 +2691,9 @@ expr-returns-2 : (t : ℕ) → expr-lts.Need-returns-2 (
   rounds-below t,
   rounds.Post,
 ) (expr-at t) expr.Post
-expr-returns-2 t c = (tell-whole (c .before .before .before .before .before .before .before .before .before .before .before .before .args .t .now) (c .before .before .before .before .before .before .before .before .before .before .before .before .args .widths .now) (c .before .before .before .before .before .before .before .before .before .before .before .before .args .r) (c .before .before .before .before .before .before .before .before .before .before .before .before .pre .1 .0) (envOf (c .before .before .before .before .before .before .before .before .before .before .before .before .args .env .now)) (c .before .before .before .before .before .before .before .before .before .before .before .before .args .left) (c .before .before .before .before .before .before .before .before .before .before .before .before .args .at) (c .before .before .before .before .before .before .before .before .before .before .before .before .args .out .now) (c .before .before .put-whole .last .0) (c .before .before .before .before .before .a2 .given .0 .0) (sym (c .before .before .before .before .before .before .before .shape-at .ensures) ∙ c .before .before .before .before .before .a2 .given .1) (c .before .before .put-whole .ensures .0), c .before .before .put-whole .ensures .1)
+expr-returns-2 t c = (tell-whole (c .before .before .before .before .before .before .before .before .before .before .before .args .t .now) (c .before .before .before .before .before .before .before .before .before .before .before .args .widths .now) (c .before .before .before .before .before .before .before .before .before .before .before .args .r) (c .before .before .before .before .before .before .before .before .before .before .before .pre .1 .0) (envOf (c .before .before .before .before .before .before .before .before .before .before .before .args .env .now)) (c .before .before .before .before .before .before .before .before .before .before .before .args .left) (c .before .before .before .before .before .before .before .before .before .before .before .args .at) (c .before .before .before .before .before .before .before .before .before .before .before .args .out .now) (c .before .before .put-whole .last .0) (c .before .before .before .before .before .a2 .given .0 .0) (sym (c .before .before .before .before .before .before .before .shape-at .ensures) ∙ c .before .before .before .before .before .a2 .given .1) (c .before .before .put-whole .ensures .0), c .before .before .put-whole .ensures .1)
 
--- src/cycle.rt:55:1  // Row r as an expression: its values go to the words of `out` from `at` on. ⏎ pub fn expr(
+-- src/cycle.rt:55:1  // Row r as an expression: its values go to the words of `out` from `at` on. ⏎ pub(crate) fn expr(
 expr-same-length-3 : (t : ℕ) → expr-lts.Need-same-length-3 (
   shape-at-reads.Asked,
   shape-at-reads.Learnt,
@@ -2799,7 +2722,7 @@ expr-same-length-3 : (t : ℕ) → expr-lts.Need-same-length-3 (
 ) (expr-at t) expr.Post
 expr-same-length-3 t c = search needs
 
--- src/cycle.rt:55:1  // Row r as an expression: its values go to the words of `out` from `at` on. ⏎ pub fn expr(
+-- src/cycle.rt:55:1  // Row r as an expression: its values go to the words of `out` from `at` on. ⏎ pub(crate) fn expr(
 expr-returns-3 : (t : ℕ) → expr-lts.Need-returns-3 (
   shape-at-reads.Asked,
   shape-at-reads.Learnt,
@@ -2826,9 +2749,9 @@ expr-returns-3 : (t : ℕ) → expr-lts.Need-returns-3 (
   rounds-below t,
   rounds.Post,
 ) (expr-at t) expr.Post
-expr-returns-3 t c = (tell-truth (c .before .before .before .before .before .before .before .before .before .before .before .before .args .t .now) (c .before .before .before .before .before .before .before .before .before .before .before .before .args .widths .now) (c .before .before .before .before .before .before .before .before .before .before .before .before .args .r) (c .before .before .before .before .before .before .before .before .before .before .before .before .pre .1 .0) (envOf (c .before .before .before .before .before .before .before .before .before .before .before .before .args .env .now)) (c .before .before .before .before .before .before .before .before .before .before .before .before .args .left) (c .before .before .before .before .before .before .before .before .before .before .before .before .args .at) (c .before .before .before .before .before .before .before .before .before .before .before .before .args .out .now) (c .before .before .put-truth .last .0) (c .before .before .before .before .before .a3 .given .0 .0) (sym (c .before .before .before .before .before .before .before .shape-at .ensures) ∙ c .before .before .before .before .before .a3 .given .1) (c .before .before .put-truth .ensures .0), c .before .before .put-truth .ensures .1)
+expr-returns-3 t c = (tell-truth (c .before .before .before .before .before .before .before .before .before .before .before .args .t .now) (c .before .before .before .before .before .before .before .before .before .before .before .args .widths .now) (c .before .before .before .before .before .before .before .before .before .before .before .args .r) (c .before .before .before .before .before .before .before .before .before .before .before .pre .1 .0) (envOf (c .before .before .before .before .before .before .before .before .before .before .before .args .env .now)) (c .before .before .before .before .before .before .before .before .before .before .before .args .left) (c .before .before .before .before .before .before .before .before .before .before .before .args .at) (c .before .before .before .before .before .before .before .before .before .before .before .args .out .now) (c .before .before .put-truth .last .0) (c .before .before .before .before .before .a3 .given .0 .0) (sym (c .before .before .before .before .before .before .before .shape-at .ensures) ∙ c .before .before .before .before .before .a3 .given .1) (c .before .before .put-truth .ensures .0), c .before .before .put-truth .ensures .1)
 
--- src/cycle.rt:55:1  // Row r as an expression: its values go to the words of `out` from `at` on. ⏎ pub fn expr(
+-- src/cycle.rt:55:1  // Row r as an expression: its values go to the words of `out` from `at` on. ⏎ pub(crate) fn expr(
 expr-same-length-4 : (t : ℕ) → expr-lts.Need-same-length-4 (
   shape-at-reads.Asked,
   shape-at-reads.Learnt,
@@ -2857,7 +2780,7 @@ expr-same-length-4 : (t : ℕ) → expr-lts.Need-same-length-4 (
 ) (expr-at t) expr.Post
 expr-same-length-4 t c = search needs
 
--- src/cycle.rt:55:1  // Row r as an expression: its values go to the words of `out` from `at` on. ⏎ pub fn expr(
+-- src/cycle.rt:55:1  // Row r as an expression: its values go to the words of `out` from `at` on. ⏎ pub(crate) fn expr(
 expr-returns-4 : (t : ℕ) → expr-lts.Need-returns-4 (
   shape-at-reads.Asked,
   shape-at-reads.Learnt,
@@ -2884,9 +2807,9 @@ expr-returns-4 : (t : ℕ) → expr-lts.Need-returns-4 (
   rounds-below t,
   rounds.Post,
 ) (expr-at t) expr.Post
-expr-returns-4 t c = (tell-stopped (c .before .before .before .before .before .before .before .before .before .before .before .before .before .before .args .t .now) (c .before .before .before .before .before .before .before .before .before .before .before .before .before .before .args .widths .now) (c .before .before .before .before .before .before .before .before .before .before .before .before .before .before .args .r) (c .before .before .before .before .before .before .before .before .before .before .before .before .before .before .pre .1 .0) (envOf (c .before .before .before .before .before .before .before .before .before .before .before .before .before .before .args .env .now)) (c .before .before .before .before .before .before .before .before .before .before .before .before .before .before .args .left) (Pair (c .before .before .before .before .before .before .before .a4 .given .0 .0) (c .before .before .before .before .before .before .before .a4 .given .0 .1 .0)) (sym (c .before .before .before .before .before .before .before .before .before .shape-at .ensures) ∙ c .before .before .before .before .before .before .before .a4 .given .1) (c .before .before .before .before .before .before .before .a4 .given .0 .0) refl (c .before .before .before .before .before .before .before .before .before .before .before .before .before .before .args .at) (c .before .before .before .before .before .before .before .before .before .before .before .before .before .before .args .at) (c .before .before .before .before .before .before .before .before .before .before .before .before .before .before .args .out .now) (c .before .before .before .before .expr .last .1 .1 .1 .1 .0) (c .before .before .before .before .before .before .before .before .before .before .before .before .before .before .args .out .now) (c .before .before .before .before .expr .last .1 .1 .1 .1 .0) (rw (c .enum-told .given .1) at (c .before .before .before .before .expr .ensures .0)), c .before .before .before .before .expr .ensures .1)
+expr-returns-4 t c = (tell-stopped (c .before .before .before .before .before .before .before .before .before .before .before .before .before .args .t .now) (c .before .before .before .before .before .before .before .before .before .before .before .before .before .args .widths .now) (c .before .before .before .before .before .before .before .before .before .before .before .before .before .args .r) (c .before .before .before .before .before .before .before .before .before .before .before .before .before .pre .1 .0) (envOf (c .before .before .before .before .before .before .before .before .before .before .before .before .before .args .env .now)) (c .before .before .before .before .before .before .before .before .before .before .before .before .before .args .left) (Pair (c .before .before .before .before .before .before .before .a4 .given .0 .0) (c .before .before .before .before .before .before .before .a4 .given .0 .1 .0)) (sym (c .before .before .before .before .before .before .before .before .before .shape-at .ensures) ∙ c .before .before .before .before .before .before .before .a4 .given .1) (c .before .before .before .before .before .before .before .a4 .given .0 .0) refl (c .before .before .before .before .before .before .before .before .before .before .before .before .before .args .at) (c .before .before .before .before .before .before .before .before .before .before .before .before .before .args .at) (c .before .before .before .before .before .before .before .before .before .before .before .before .before .args .out .now) (c .before .before .before .before .expr .last .1 .1 .1 .1 .0) (c .before .before .before .before .before .before .before .before .before .before .before .before .before .args .out .now) (c .before .before .before .before .expr .last .1 .1 .1 .1 .0) (rw (c .enum-told .given .1) at (c .before .before .before .before .expr .ensures .0)), c .before .before .before .before .expr .ensures .1)
 
--- src/cycle.rt:55:1  // Row r as an expression: its values go to the words of `out` from `at` on. ⏎ pub fn expr(
+-- src/cycle.rt:55:1  // Row r as an expression: its values go to the words of `out` from `at` on. ⏎ pub(crate) fn expr(
 expr-same-length-5 : (t : ℕ) → expr-lts.Need-same-length-5 (
   shape-at-reads.Asked,
   shape-at-reads.Learnt,
@@ -2915,7 +2838,7 @@ expr-same-length-5 : (t : ℕ) → expr-lts.Need-same-length-5 (
 ) (expr-at t) expr.Post
 expr-same-length-5 t c = search needs
 
--- src/cycle.rt:55:1  // Row r as an expression: its values go to the words of `out` from `at` on. ⏎ pub fn expr(
+-- src/cycle.rt:55:1  // Row r as an expression: its values go to the words of `out` from `at` on. ⏎ pub(crate) fn expr(
 expr-returns-5 : (t : ℕ) → expr-lts.Need-returns-5 (
   shape-at-reads.Asked,
   shape-at-reads.Learnt,
@@ -2942,9 +2865,9 @@ expr-returns-5 : (t : ℕ) → expr-lts.Need-returns-5 (
   rounds-below t,
   rounds.Post,
 ) (expr-at t) expr.Post
-expr-returns-5 t c = (tell-pair (c .before .before .before .before .before .before .before .before .before .before .before .before .before .before .before .before .before .before .before .before .args .t .now) (c .before .before .before .before .before .before .before .before .before .before .before .before .before .before .before .before .before .before .before .before .args .widths .now) (c .before .before .before .before .before .before .before .before .before .before .before .before .before .before .before .before .before .before .before .before .args .r) (c .before .before .before .before .before .before .before .before .before .before .before .before .before .before .before .before .before .before .before .before .pre .1 .0) (envOf (c .before .before .before .before .before .before .before .before .before .before .before .before .before .before .before .before .before .before .before .before .args .env .now)) (c .before .before .before .before .before .before .before .before .before .before .before .before .before .before .before .before .before .before .before .before .args .left) (c .before .before .before .before .before .before .before .before .before .before .before .before .before .before .before .before .before .before .before .before .args .at) (c .before .before .before .before .before .before .before .before .before .before .before .before .before .before .before .before .before .before .before .before .args .out .now) (c .before .before .expr2 .last .1 .1 .1 .1 .0) (c .before .before .before .before .before .before .before .before .before .before .before .before .before .a4 .given .0 .0) (c .before .before .before .before .before .before .before .before .before .before .before .before .before .a4 .given .0 .1 .0) (sym (c .before .before .before .before .before .before .before .before .before .before .before .before .before .before .before .shape-at .ensures) ∙ c .before .before .before .before .before .before .before .before .before .before .before .before .before .a4 .given .1) (c .before .before .before .before .before .before .before .before .before .before .expr .last .1 .1 .1 .1 .0) (c .before .before .before .before .before .before .l .given .0 .0) (c .before .before .expr2 .result) (rw (c .before .before .before .before .before .before .l .given .1) at (c .before .before .before .before .before .before .before .before .before .before .expr .ensures .0)) (rw (c .before .before .before .width-at .ensures .0) at (c .before .before .expr2 .ensures .0)), c .before .before .expr2 .ensures .1 ∙ c .before .before .before .before .before .before .before .before .before .before .expr .ensures .1)
+expr-returns-5 t c = (tell-pair (c .before .before .before .before .before .before .before .before .before .before .before .before .before .before .before .before .before .before .before .args .t .now) (c .before .before .before .before .before .before .before .before .before .before .before .before .before .before .before .before .before .before .before .args .widths .now) (c .before .before .before .before .before .before .before .before .before .before .before .before .before .before .before .before .before .before .before .args .r) (c .before .before .before .before .before .before .before .before .before .before .before .before .before .before .before .before .before .before .before .pre .1 .0) (envOf (c .before .before .before .before .before .before .before .before .before .before .before .before .before .before .before .before .before .before .before .args .env .now)) (c .before .before .before .before .before .before .before .before .before .before .before .before .before .before .before .before .before .before .before .args .left) (c .before .before .before .before .before .before .before .before .before .before .before .before .before .before .before .before .before .before .before .args .at) (c .before .before .before .before .before .before .before .before .before .before .before .before .before .before .before .before .before .before .before .args .out .now) (c .before .before .expr2 .last .1 .1 .1 .1 .0) (c .before .before .before .before .before .before .before .before .before .before .before .before .before .a4 .given .0 .0) (c .before .before .before .before .before .before .before .before .before .before .before .before .before .a4 .given .0 .1 .0) (sym (c .before .before .before .before .before .before .before .before .before .before .before .before .before .before .before .shape-at .ensures) ∙ c .before .before .before .before .before .before .before .before .before .before .before .before .before .a4 .given .1) (c .before .before .before .before .before .before .before .before .before .before .expr .last .1 .1 .1 .1 .0) (c .before .before .before .before .before .before .l .given .0 .0) (c .before .before .expr2 .result) (rw (c .before .before .before .before .before .before .l .given .1) at (c .before .before .before .before .before .before .before .before .before .before .expr .ensures .0)) (rw (c .before .before .before .width-at .ensures .0) at (c .before .before .expr2 .ensures .0)), c .before .before .expr2 .ensures .1 ∙ c .before .before .before .before .before .before .before .before .before .before .expr .ensures .1)
 
--- src/cycle.rt:55:1  // Row r as an expression: its values go to the words of `out` from `at` on. ⏎ pub fn expr(
+-- src/cycle.rt:55:1  // Row r as an expression: its values go to the words of `out` from `at` on. ⏎ pub(crate) fn expr(
 expr-returns-6 : (t : ℕ) → expr-lts.Need-returns-6 (
   shape-at-reads.Asked,
   shape-at-reads.Learnt,
@@ -2971,9 +2894,9 @@ expr-returns-6 : (t : ℕ) → expr-lts.Need-returns-6 (
   rounds-below t,
   rounds.Post,
 ) (expr-at t) expr.Post
-expr-returns-6 t c = (tell-stopped (c .before .before .before .before .before .before .before .before .before .before .before .before .before .args .t .now) (c .before .before .before .before .before .before .before .before .before .before .before .before .before .args .widths .now) (c .before .before .before .before .before .before .before .before .before .before .before .before .before .args .r) (c .before .before .before .before .before .before .before .before .before .before .before .before .before .pre .1 .0) (envOf (c .before .before .before .before .before .before .before .before .before .before .before .before .before .args .env .now)) (c .before .before .before .before .before .before .before .before .before .before .before .before .before .args .left) (Operator (c .before .before .before .before .before .before .code .given .0 .0) (c .before .before .before .before .before .before .code .given .0 .1 .0)) (sym (c .before .before .before .before .before .before .before .before .shape-at .ensures) ∙ c .before .before .before .before .before .before .code .given .1) (c .before .before .before .before .before .before .code .given .0 .1 .0) refl (c .before .before .before .before .before .before .before .before .before .before .before .before .before .args .at) 0 (c .before .before .before .before .before .before .before .before .before .before .before .before .before .args .out .now) (c .before .before .before .before .before .before .before .before .before .before .before .before .before .args .out .now) (0 ∷ 0 ∷ []) (c .before .before .before .expr3 .last .1 .1 .1 .1 .0) (rw (c .enum-told2 .given .1) at (c .before .before .before .expr3 .ensures .0)), refl)
+expr-returns-6 t c = (tell-stopped (c .before .before .before .before .before .before .before .before .before .before .before .before .args .t .now) (c .before .before .before .before .before .before .before .before .before .before .before .before .args .widths .now) (c .before .before .before .before .before .before .before .before .before .before .before .before .args .r) (c .before .before .before .before .before .before .before .before .before .before .before .before .pre .1 .0) (envOf (c .before .before .before .before .before .before .before .before .before .before .before .before .args .env .now)) (c .before .before .before .before .before .before .before .before .before .before .before .before .args .left) (Operator (c .before .before .before .before .before .before .code .given .0 .0) (c .before .before .before .before .before .before .code .given .0 .1 .0)) (sym (c .before .before .before .before .before .before .before .before .shape-at .ensures) ∙ c .before .before .before .before .before .before .code .given .1) (c .before .before .before .before .before .before .code .given .0 .1 .0) refl (c .before .before .before .before .before .before .before .before .before .before .before .before .args .at) 0 (c .before .before .before .before .before .before .before .before .before .before .before .before .args .out .now) (c .before .before .before .before .before .before .before .before .before .before .before .before .args .out .now) (0 ∷ 0 ∷ []) (c .before .before .before .expr3 .last .1 .1 .1 .1 .0) (rw (c .enum-told2 .given .1) at (c .before .before .before .expr3 .ensures .0)), refl)
 
--- src/cycle.rt:55:1  // Row r as an expression: its values go to the words of `out` from `at` on. ⏎ pub fn expr(
+-- src/cycle.rt:55:1  // Row r as an expression: its values go to the words of `out` from `at` on. ⏎ pub(crate) fn expr(
 expr-same-length-6 : (t : ℕ) → expr-lts.Need-same-length-6 (
   shape-at-reads.Asked,
   shape-at-reads.Learnt,
@@ -3002,7 +2925,7 @@ expr-same-length-6 : (t : ℕ) → expr-lts.Need-same-length-6 (
 ) (expr-at t) expr.Post
 expr-same-length-6 t c = search needs
 
--- src/cycle.rt:55:1  // Row r as an expression: its values go to the words of `out` from `at` on. ⏎ pub fn expr(
+-- src/cycle.rt:55:1  // Row r as an expression: its values go to the words of `out` from `at` on. ⏎ pub(crate) fn expr(
 expr-returns-7 : (t : ℕ) → expr-lts.Need-returns-7 (
   shape-at-reads.Asked,
   shape-at-reads.Learnt,
@@ -3029,9 +2952,9 @@ expr-returns-7 : (t : ℕ) → expr-lts.Need-returns-7 (
   rounds-below t,
   rounds.Post,
 ) (expr-at t) expr.Post
-expr-returns-7 t c = (tell-operator (c .before .before .before .before .before .before .before .before .before .before .before .before .before .before .before .before .before .before .before .args .t .now) (c .before .before .before .before .before .before .before .before .before .before .before .before .before .before .before .before .before .before .before .args .widths .now) (c .before .before .before .before .before .before .before .before .before .before .before .before .before .before .before .before .before .before .before .args .r) (c .before .before .before .before .before .before .before .before .before .before .before .before .before .before .before .before .before .before .before .pre .1 .0) (envOf (c .before .before .before .before .before .before .before .before .before .before .before .before .before .before .before .before .before .before .before .args .env .now)) (c .before .before .before .before .before .before .before .before .before .before .before .before .before .before .before .before .before .before .before .args .left) (c .before .before .before .before .before .before .before .before .before .before .before .before .before .before .before .before .before .before .before .args .at) (c .before .before .before .before .before .before .before .before .before .before .before .before .before .before .before .before .before .before .before .args .out .now) (c .before .before .put-operator .last .0) (c .before .before .before .before .before .before .before .before .before .before .before .before .code .given .0 .0) (c .before .before .before .before .before .before .before .before .before .before .before .before .code .given .0 .1 .0) (sym (c .before .before .before .before .before .before .before .before .before .before .before .before .before .before .shape-at .ensures) ∙ c .before .before .before .before .before .before .before .before .before .before .before .before .code .given .1) (0 ∷ 0 ∷ []) (c .before .before .before .before .before .before .before .before .before .expr3 .last .1 .1 .1 .1 .0) (c .before .before .before .before .before .before .l2 .given .0 .0) (zeros-err 2) (rw (c .before .before .before .before .before .before .l2 .given .1) at (c .before .before .before .before .before .before .before .before .before .expr3 .ensures .0)) (c .before .before .put-operator .ensures .0), c .before .before .put-operator .ensures .1)
+expr-returns-7 t c = (tell-operator (c .before .before .before .before .before .before .before .before .before .before .before .before .before .before .before .before .before .before .args .t .now) (c .before .before .before .before .before .before .before .before .before .before .before .before .before .before .before .before .before .before .args .widths .now) (c .before .before .before .before .before .before .before .before .before .before .before .before .before .before .before .before .before .before .args .r) (c .before .before .before .before .before .before .before .before .before .before .before .before .before .before .before .before .before .before .pre .1 .0) (envOf (c .before .before .before .before .before .before .before .before .before .before .before .before .before .before .before .before .before .before .args .env .now)) (c .before .before .before .before .before .before .before .before .before .before .before .before .before .before .before .before .before .before .args .left) (c .before .before .before .before .before .before .before .before .before .before .before .before .before .before .before .before .before .before .args .at) (c .before .before .before .before .before .before .before .before .before .before .before .before .before .before .before .before .before .before .args .out .now) (c .before .before .put-operator .last .0) (c .before .before .before .before .before .before .before .before .before .before .before .before .code .given .0 .0) (c .before .before .before .before .before .before .before .before .before .before .before .before .code .given .0 .1 .0) (sym (c .before .before .before .before .before .before .before .before .before .before .before .before .before .before .shape-at .ensures) ∙ c .before .before .before .before .before .before .before .before .before .before .before .before .code .given .1) (0 ∷ 0 ∷ []) (c .before .before .before .before .before .before .before .before .before .expr3 .last .1 .1 .1 .1 .0) (c .before .before .before .before .before .before .l2 .given .0 .0) (zeros-err 2) (rw (c .before .before .before .before .before .before .l2 .given .1) at (c .before .before .before .before .before .before .before .before .before .expr3 .ensures .0)) (c .before .before .put-operator .ensures .0), c .before .before .put-operator .ensures .1)
 
--- src/cycle.rt:55:1  // Row r as an expression: its values go to the words of `out` from `at` on. ⏎ pub fn expr(
+-- src/cycle.rt:55:1  // Row r as an expression: its values go to the words of `out` from `at` on. ⏎ pub(crate) fn expr(
 expr-returns-8 : (t : ℕ) → expr-lts.Need-returns-8 (
   shape-at-reads.Asked,
   shape-at-reads.Learnt,
@@ -3058,9 +2981,9 @@ expr-returns-8 : (t : ℕ) → expr-lts.Need-returns-8 (
   rounds-below t,
   rounds.Post,
 ) (expr-at t) expr.Post
-expr-returns-8 t c = (tell-stopped (c .before .before .before .before .before .before .before .before .before .before .before .before .before .before .before .args .t .now) (c .before .before .before .before .before .before .before .before .before .before .before .before .before .before .before .args .widths .now) (c .before .before .before .before .before .before .before .before .before .before .before .before .before .before .before .args .r) (c .before .before .before .before .before .before .before .before .before .before .before .before .before .before .before .pre .1 .0) (envOf (c .before .before .before .before .before .before .before .before .before .before .before .before .before .before .before .args .env .now)) (c .before .before .before .before .before .before .before .before .before .before .before .before .before .before .before .args .left) (Let (c .before .before .before .before .before .before .before .before .a5 .given .0 .0) (c .before .before .before .before .before .before .before .before .a5 .given .0 .1 .0) (c .before .before .before .before .before .before .before .before .a5 .given .0 .1 .1 .0) (c .before .before .before .before .before .before .before .before .a5 .given .0 .1 .1 .1 .0)) (sym (c .before .before .before .before .before .before .before .before .before .before .shape-at .ensures) ∙ c .before .before .before .before .before .before .before .before .a5 .given .1) (c .before .before .before .before .before .before .before .before .a5 .given .0 .1 .1 .0) refl (c .before .before .before .before .before .before .before .before .before .before .before .before .before .before .before .args .at) (c .before .before .before .before .wide .result) (c .before .before .before .before .before .before .before .before .before .before .before .before .before .before .before .args .out .now) (c .before .before .before .before .before .before .before .before .before .before .before .before .before .before .before .args .out .now) (c .before .before .before .before .before .before .copied .result) (c .before .before .before .expr4 .last .1 .1 .1 .1 .0) (rw (c .enum-told3 .given .1) at (c .before .before .before .expr4 .ensures .0)), refl)
+expr-returns-8 t c = (tell-stopped (c .before .before .before .before .before .before .before .before .before .before .before .before .before .before .args .t .now) (c .before .before .before .before .before .before .before .before .before .before .before .before .before .before .args .widths .now) (c .before .before .before .before .before .before .before .before .before .before .before .before .before .before .args .r) (c .before .before .before .before .before .before .before .before .before .before .before .before .before .before .pre .1 .0) (envOf (c .before .before .before .before .before .before .before .before .before .before .before .before .before .before .args .env .now)) (c .before .before .before .before .before .before .before .before .before .before .before .before .before .before .args .left) (Let (c .before .before .before .before .before .before .before .before .a5 .given .0 .0) (c .before .before .before .before .before .before .before .before .a5 .given .0 .1 .0) (c .before .before .before .before .before .before .before .before .a5 .given .0 .1 .1 .0) (c .before .before .before .before .before .before .before .before .a5 .given .0 .1 .1 .1 .0)) (sym (c .before .before .before .before .before .before .before .before .before .before .shape-at .ensures) ∙ c .before .before .before .before .before .before .before .before .a5 .given .1) (c .before .before .before .before .before .before .before .before .a5 .given .0 .1 .1 .0) refl (c .before .before .before .before .before .before .before .before .before .before .before .before .before .before .args .at) (c .before .before .before .before .wide .result) (c .before .before .before .before .before .before .before .before .before .before .before .before .before .before .args .out .now) (c .before .before .before .before .before .before .before .before .before .before .before .before .before .before .args .out .now) (c .before .before .before .before .before .before .copied .result) (c .before .before .before .expr4 .last .1 .1 .1 .1 .0) (rw (c .enum-told3 .given .1) at (c .before .before .before .expr4 .ensures .0)), refl)
 
--- src/cycle.rt:55:1  // Row r as an expression: its values go to the words of `out` from `at` on. ⏎ pub fn expr(
+-- src/cycle.rt:55:1  // Row r as an expression: its values go to the words of `out` from `at` on. ⏎ pub(crate) fn expr(
 expr-same-length-7 : (t : ℕ) → expr-lts.Need-same-length-7 (
   shape-at-reads.Asked,
   shape-at-reads.Learnt,
@@ -3089,7 +3012,7 @@ expr-same-length-7 : (t : ℕ) → expr-lts.Need-same-length-7 (
 ) (expr-at t) expr.Post
 expr-same-length-7 t c = search needs
 
--- src/cycle.rt:55:1  // Row r as an expression: its values go to the words of `out` from `at` on. ⏎ pub fn expr(
+-- src/cycle.rt:55:1  // Row r as an expression: its values go to the words of `out` from `at` on. ⏎ pub(crate) fn expr(
 expr-returns-9 : (t : ℕ) → expr-lts.Need-returns-9 (
   shape-at-reads.Asked,
   shape-at-reads.Learnt,
@@ -3116,9 +3039,9 @@ expr-returns-9 : (t : ℕ) → expr-lts.Need-returns-9 (
   rounds-below t,
   rounds.Post,
 ) (expr-at t) expr.Post
-expr-returns-9 t c = (tell-let (c .before .before .before .before .before .before .before .before .before .before .before .before .before .before .before .before .before .before .before .before .before .args .t .now) (c .before .before .before .before .before .before .before .before .before .before .before .before .before .before .before .before .before .before .before .before .before .args .widths .now) (c .before .before .before .before .before .before .before .before .before .before .before .before .before .before .before .before .before .before .before .before .before .args .r) (c .before .before .before .before .before .before .before .before .before .before .before .before .before .before .before .before .before .before .before .before .before .pre .1 .0) (envOf (c .before .before .before .before .before .before .before .before .before .before .before .before .before .before .before .before .before .before .before .before .before .args .env .now)) (c .before .before .before .before .before .before .before .before .before .before .before .before .before .before .before .before .before .before .before .before .before .args .left) (c .before .before .before .before .before .before .before .before .before .before .before .before .before .before .before .before .before .before .before .before .before .args .at) (c .before .before .before .before .before .before .before .before .before .before .before .before .before .before .before .before .before .before .before .before .before .args .out .now) (c .before .before .expr5 .last .1 .1 .1 .1 .0) (c .before .before .before .before .before .before .before .before .before .before .before .before .before .before .a5 .given .0 .0) (c .before .before .before .before .before .before .before .before .before .before .before .before .before .before .a5 .given .0 .1 .0) (c .before .before .before .before .before .before .before .before .before .before .before .before .before .before .a5 .given .0 .1 .1 .0) (c .before .before .before .before .before .before .before .before .before .before .before .before .before .before .a5 .given .0 .1 .1 .1 .0) (sym (c .before .before .before .before .before .before .before .before .before .before .before .before .before .before .before .before .shape-at .ensures) ∙ c .before .before .before .before .before .before .before .before .before .before .before .before .before .before .a5 .given .1) (c .before .before .before .before .before .before .before .before .before .before .before .before .copied .result) (c .before .before .before .before .before .before .before .before .before .expr4 .last .1 .1 .1 .1 .0) (c .before .before .before .before .before .before .l3 .given .0 .0) (c .before .before .expr5 .result) (ap envOf (c .before .before .before .before .before .before .before .before .before .before .before .before .copied .ensures)) (rw (c .before .before .before .before .before .before .before .before .before .before .wide .ensures, c .before .before .before .before .before .before .l3 .given .1) at (c .before .before .before .before .before .before .before .before .before .expr4 .ensures .0)) (c .before .before .expr5 .ensures .0), c .before .before .expr5 .ensures .1)
+expr-returns-9 t c = (tell-let (c .before .before .before .before .before .before .before .before .before .before .before .before .before .before .before .before .before .before .before .before .args .t .now) (c .before .before .before .before .before .before .before .before .before .before .before .before .before .before .before .before .before .before .before .before .args .widths .now) (c .before .before .before .before .before .before .before .before .before .before .before .before .before .before .before .before .before .before .before .before .args .r) (c .before .before .before .before .before .before .before .before .before .before .before .before .before .before .before .before .before .before .before .before .pre .1 .0) (envOf (c .before .before .before .before .before .before .before .before .before .before .before .before .before .before .before .before .before .before .before .before .args .env .now)) (c .before .before .before .before .before .before .before .before .before .before .before .before .before .before .before .before .before .before .before .before .args .left) (c .before .before .before .before .before .before .before .before .before .before .before .before .before .before .before .before .before .before .before .before .args .at) (c .before .before .before .before .before .before .before .before .before .before .before .before .before .before .before .before .before .before .before .before .args .out .now) (c .before .before .expr5 .last .1 .1 .1 .1 .0) (c .before .before .before .before .before .before .before .before .before .before .before .before .before .before .a5 .given .0 .0) (c .before .before .before .before .before .before .before .before .before .before .before .before .before .before .a5 .given .0 .1 .0) (c .before .before .before .before .before .before .before .before .before .before .before .before .before .before .a5 .given .0 .1 .1 .0) (c .before .before .before .before .before .before .before .before .before .before .before .before .before .before .a5 .given .0 .1 .1 .1 .0) (sym (c .before .before .before .before .before .before .before .before .before .before .before .before .before .before .before .before .shape-at .ensures) ∙ c .before .before .before .before .before .before .before .before .before .before .before .before .before .before .a5 .given .1) (c .before .before .before .before .before .before .before .before .before .before .before .before .copied .result) (c .before .before .before .before .before .before .before .before .before .expr4 .last .1 .1 .1 .1 .0) (c .before .before .before .before .before .before .l3 .given .0 .0) (c .before .before .expr5 .result) (ap envOf (c .before .before .before .before .before .before .before .before .before .before .before .before .copied .ensures)) (rw (c .before .before .before .before .before .before .before .before .before .before .wide .ensures, c .before .before .before .before .before .before .l3 .given .1) at (c .before .before .before .before .before .before .before .before .before .expr4 .ensures .0)) (c .before .before .expr5 .ensures .0), c .before .before .expr5 .ensures .1)
 
--- src/cycle.rt:55:1  // Row r as an expression: its values go to the words of `out` from `at` on. ⏎ pub fn expr(
+-- src/cycle.rt:55:1  // Row r as an expression: its values go to the words of `out` from `at` on. ⏎ pub(crate) fn expr(
 expr-returns-10 : (t : ℕ) → expr-lts.Need-returns-10 (
   shape-at-reads.Asked,
   shape-at-reads.Learnt,
@@ -3145,9 +3068,9 @@ expr-returns-10 : (t : ℕ) → expr-lts.Need-returns-10 (
   rounds-below t,
   rounds.Post,
 ) (expr-at t) expr.Post
-expr-returns-10 t c = (tell-stopped (c .before .before .before .before .before .before .before .before .before .before .before .before .before .args .t .now) (c .before .before .before .before .before .before .before .before .before .before .before .before .before .args .widths .now) (c .before .before .before .before .before .before .before .before .before .before .before .before .before .args .r) (c .before .before .before .before .before .before .before .before .before .before .before .before .before .pre .1 .0) (envOf (c .before .before .before .before .before .before .before .before .before .before .before .before .before .args .env .now)) (c .before .before .before .before .before .before .before .before .before .before .before .before .before .args .left) (If (c .before .before .before .before .before .before .a6 .given .0 .0) (c .before .before .before .before .before .before .a6 .given .0 .1 .0) (c .before .before .before .before .before .before .a6 .given .0 .1 .1 .0)) (sym (c .before .before .before .before .before .before .before .before .shape-at .ensures) ∙ c .before .before .before .before .before .before .a6 .given .1) (c .before .before .before .before .before .before .a6 .given .0 .0) refl (c .before .before .before .before .before .before .before .before .before .before .before .before .before .args .at) 0 (c .before .before .before .before .before .before .before .before .before .before .before .before .before .args .out .now) (c .before .before .before .before .before .before .before .before .before .before .before .before .before .args .out .now) (0 ∷ []) (c .before .before .before .expr6 .last .1 .1 .1 .1 .0) (rw (c .enum-told4 .given .1) at (c .before .before .before .expr6 .ensures .0)), refl)
+expr-returns-10 t c = (tell-stopped (c .before .before .before .before .before .before .before .before .before .before .before .before .args .t .now) (c .before .before .before .before .before .before .before .before .before .before .before .before .args .widths .now) (c .before .before .before .before .before .before .before .before .before .before .before .before .args .r) (c .before .before .before .before .before .before .before .before .before .before .before .before .pre .1 .0) (envOf (c .before .before .before .before .before .before .before .before .before .before .before .before .args .env .now)) (c .before .before .before .before .before .before .before .before .before .before .before .before .args .left) (If (c .before .before .before .before .before .before .a6 .given .0 .0) (c .before .before .before .before .before .before .a6 .given .0 .1 .0) (c .before .before .before .before .before .before .a6 .given .0 .1 .1 .0)) (sym (c .before .before .before .before .before .before .before .before .shape-at .ensures) ∙ c .before .before .before .before .before .before .a6 .given .1) (c .before .before .before .before .before .before .a6 .given .0 .0) refl (c .before .before .before .before .before .before .before .before .before .before .before .before .args .at) 0 (c .before .before .before .before .before .before .before .before .before .before .before .before .args .out .now) (c .before .before .before .before .before .before .before .before .before .before .before .before .args .out .now) (0 ∷ []) (c .before .before .before .expr6 .last .1 .1 .1 .1 .0) (rw (c .enum-told4 .given .1) at (c .before .before .before .expr6 .ensures .0)), refl)
 
--- src/cycle.rt:55:1  // Row r as an expression: its values go to the words of `out` from `at` on. ⏎ pub fn expr(
+-- src/cycle.rt:55:1  // Row r as an expression: its values go to the words of `out` from `at` on. ⏎ pub(crate) fn expr(
 expr-same-length-8 : (t : ℕ) → expr-lts.Need-same-length-8 (
   shape-at-reads.Asked,
   shape-at-reads.Learnt,
@@ -3176,7 +3099,7 @@ expr-same-length-8 : (t : ℕ) → expr-lts.Need-same-length-8 (
 ) (expr-at t) expr.Post
 expr-same-length-8 t c = search needs
 
--- src/cycle.rt:55:1  // Row r as an expression: its values go to the words of `out` from `at` on. ⏎ pub fn expr(
+-- src/cycle.rt:55:1  // Row r as an expression: its values go to the words of `out` from `at` on. ⏎ pub(crate) fn expr(
 expr-returns-11 : (t : ℕ) → expr-lts.Need-returns-11 (
   shape-at-reads.Asked,
   shape-at-reads.Learnt,
@@ -3203,9 +3126,9 @@ expr-returns-11 : (t : ℕ) → expr-lts.Need-returns-11 (
   rounds-below t,
   rounds.Post,
 ) (expr-at t) expr.Post
-expr-returns-11 t c = (tell-first (c .before .before .before .before .before .before .before .before .before .before .before .before .before .before .before .before .before .before .before .before .before .before .args .t .now) (c .before .before .before .before .before .before .before .before .before .before .before .before .before .before .before .before .before .before .before .before .before .before .args .widths .now) (c .before .before .before .before .before .before .before .before .before .before .before .before .before .before .before .before .before .before .before .before .before .before .args .r) (c .before .before .before .before .before .before .before .before .before .before .before .before .before .before .before .before .before .before .before .before .before .before .pre .1 .0) (envOf (c .before .before .before .before .before .before .before .before .before .before .before .before .before .before .before .before .before .before .before .before .before .before .args .env .now)) (c .before .before .before .before .before .before .before .before .before .before .before .before .before .before .before .before .before .before .before .before .before .before .args .left) (c .before .before .before .before .before .before .before .before .before .before .before .before .before .before .before .before .before .before .before .before .before .before .args .at) (c .before .before .before .before .before .before .before .before .before .before .before .before .before .before .before .before .before .before .before .before .before .before .args .out .now) (c .before .before .expr7 .last .1 .1 .1 .1 .0) (c .before .before .before .before .before .before .before .before .before .before .before .before .before .before .before .a6 .given .0 .0) (c .before .before .before .before .before .before .before .before .before .before .before .before .before .before .before .a6 .given .0 .1 .0) (c .before .before .before .before .before .before .before .before .before .before .before .before .before .before .before .a6 .given .0 .1 .1 .0) (sym (c .before .before .before .before .before .before .before .before .before .before .before .before .before .before .before .before .before .shape-at .ensures) ∙ c .before .before .before .before .before .before .before .before .before .before .before .before .before .before .before .a6 .given .1) (0 ∷ []) (c .before .before .before .before .before .before .before .before .before .before .before .before .expr6 .last .1 .1 .1 .1 .0) (c .before .before .before .before .before .before .before .before .before .l4 .given .0 .0) (zeros-err 1) (rw (c .before .before .before .before .before .before .before .before .before .l4 .given .1) at (c .before .before .before .before .before .before .before .before .before .before .before .before .expr6 .ensures .0)) (c .before .before .expr7 .result) (sym (c .before .before .before .before .before .before .choose .ensures) ∙ c .before .before .before .before .enum-told5 .given .1) (c .before .before .expr7 .ensures .0), c .before .before .expr7 .ensures .1)
+expr-returns-11 t c = (tell-first (c .before .before .before .before .before .before .before .before .before .before .before .before .before .before .before .before .before .before .before .before .before .args .t .now) (c .before .before .before .before .before .before .before .before .before .before .before .before .before .before .before .before .before .before .before .before .before .args .widths .now) (c .before .before .before .before .before .before .before .before .before .before .before .before .before .before .before .before .before .before .before .before .before .args .r) (c .before .before .before .before .before .before .before .before .before .before .before .before .before .before .before .before .before .before .before .before .before .pre .1 .0) (envOf (c .before .before .before .before .before .before .before .before .before .before .before .before .before .before .before .before .before .before .before .before .before .args .env .now)) (c .before .before .before .before .before .before .before .before .before .before .before .before .before .before .before .before .before .before .before .before .before .args .left) (c .before .before .before .before .before .before .before .before .before .before .before .before .before .before .before .before .before .before .before .before .before .args .at) (c .before .before .before .before .before .before .before .before .before .before .before .before .before .before .before .before .before .before .before .before .before .args .out .now) (c .before .before .expr7 .last .1 .1 .1 .1 .0) (c .before .before .before .before .before .before .before .before .before .before .before .before .before .before .before .a6 .given .0 .0) (c .before .before .before .before .before .before .before .before .before .before .before .before .before .before .before .a6 .given .0 .1 .0) (c .before .before .before .before .before .before .before .before .before .before .before .before .before .before .before .a6 .given .0 .1 .1 .0) (sym (c .before .before .before .before .before .before .before .before .before .before .before .before .before .before .before .before .before .shape-at .ensures) ∙ c .before .before .before .before .before .before .before .before .before .before .before .before .before .before .before .a6 .given .1) (0 ∷ []) (c .before .before .before .before .before .before .before .before .before .before .before .before .expr6 .last .1 .1 .1 .1 .0) (c .before .before .before .before .before .before .before .before .before .l4 .given .0 .0) (zeros-err 1) (rw (c .before .before .before .before .before .before .before .before .before .l4 .given .1) at (c .before .before .before .before .before .before .before .before .before .before .before .before .expr6 .ensures .0)) (c .before .before .expr7 .result) (sym (c .before .before .before .before .before .before .choose .ensures) ∙ c .before .before .before .before .enum-told5 .given .1) (c .before .before .expr7 .ensures .0), c .before .before .expr7 .ensures .1)
 
--- src/cycle.rt:55:1  // Row r as an expression: its values go to the words of `out` from `at` on. ⏎ pub fn expr(
+-- src/cycle.rt:55:1  // Row r as an expression: its values go to the words of `out` from `at` on. ⏎ pub(crate) fn expr(
 expr-same-length-9 : (t : ℕ) → expr-lts.Need-same-length-9 (
   shape-at-reads.Asked,
   shape-at-reads.Learnt,
@@ -3234,7 +3157,7 @@ expr-same-length-9 : (t : ℕ) → expr-lts.Need-same-length-9 (
 ) (expr-at t) expr.Post
 expr-same-length-9 t c = search needs
 
--- src/cycle.rt:55:1  // Row r as an expression: its values go to the words of `out` from `at` on. ⏎ pub fn expr(
+-- src/cycle.rt:55:1  // Row r as an expression: its values go to the words of `out` from `at` on. ⏎ pub(crate) fn expr(
 expr-returns-12 : (t : ℕ) → expr-lts.Need-returns-12 (
   shape-at-reads.Asked,
   shape-at-reads.Learnt,
@@ -3261,9 +3184,9 @@ expr-returns-12 : (t : ℕ) → expr-lts.Need-returns-12 (
   rounds-below t,
   rounds.Post,
 ) (expr-at t) expr.Post
-expr-returns-12 t c = (tell-second (c .before .before .before .before .before .before .before .before .before .before .before .before .before .before .before .before .before .before .before .before .before .before .args .t .now) (c .before .before .before .before .before .before .before .before .before .before .before .before .before .before .before .before .before .before .before .before .before .before .args .widths .now) (c .before .before .before .before .before .before .before .before .before .before .before .before .before .before .before .before .before .before .before .before .before .before .args .r) (c .before .before .before .before .before .before .before .before .before .before .before .before .before .before .before .before .before .before .before .before .before .before .pre .1 .0) (envOf (c .before .before .before .before .before .before .before .before .before .before .before .before .before .before .before .before .before .before .before .before .before .before .args .env .now)) (c .before .before .before .before .before .before .before .before .before .before .before .before .before .before .before .before .before .before .before .before .before .before .args .left) (c .before .before .before .before .before .before .before .before .before .before .before .before .before .before .before .before .before .before .before .before .before .before .args .at) (c .before .before .before .before .before .before .before .before .before .before .before .before .before .before .before .before .before .before .before .before .before .before .args .out .now) (c .before .before .expr8 .last .1 .1 .1 .1 .0) (c .before .before .before .before .before .before .before .before .before .before .before .before .before .before .before .a6 .given .0 .0) (c .before .before .before .before .before .before .before .before .before .before .before .before .before .before .before .a6 .given .0 .1 .0) (c .before .before .before .before .before .before .before .before .before .before .before .before .before .before .before .a6 .given .0 .1 .1 .0) (sym (c .before .before .before .before .before .before .before .before .before .before .before .before .before .before .before .before .before .shape-at .ensures) ∙ c .before .before .before .before .before .before .before .before .before .before .before .before .before .before .before .a6 .given .1) (0 ∷ []) (c .before .before .before .before .before .before .before .before .before .before .before .before .expr6 .last .1 .1 .1 .1 .0) (c .before .before .before .before .before .before .before .before .before .l4 .given .0 .0) (zeros-err 1) (rw (c .before .before .before .before .before .before .before .before .before .l4 .given .1) at (c .before .before .before .before .before .before .before .before .before .before .before .before .expr6 .ensures .0)) (c .before .before .expr8 .result) (sym (c .before .before .before .before .before .before .choose .ensures) ∙ c .before .before .before .before .enum-told6 .given .1) (c .before .before .expr8 .ensures .0), c .before .before .expr8 .ensures .1)
+expr-returns-12 t c = (tell-second (c .before .before .before .before .before .before .before .before .before .before .before .before .before .before .before .before .before .before .before .before .before .args .t .now) (c .before .before .before .before .before .before .before .before .before .before .before .before .before .before .before .before .before .before .before .before .before .args .widths .now) (c .before .before .before .before .before .before .before .before .before .before .before .before .before .before .before .before .before .before .before .before .before .args .r) (c .before .before .before .before .before .before .before .before .before .before .before .before .before .before .before .before .before .before .before .before .before .pre .1 .0) (envOf (c .before .before .before .before .before .before .before .before .before .before .before .before .before .before .before .before .before .before .before .before .before .args .env .now)) (c .before .before .before .before .before .before .before .before .before .before .before .before .before .before .before .before .before .before .before .before .before .args .left) (c .before .before .before .before .before .before .before .before .before .before .before .before .before .before .before .before .before .before .before .before .before .args .at) (c .before .before .before .before .before .before .before .before .before .before .before .before .before .before .before .before .before .before .before .before .before .args .out .now) (c .before .before .expr8 .last .1 .1 .1 .1 .0) (c .before .before .before .before .before .before .before .before .before .before .before .before .before .before .before .a6 .given .0 .0) (c .before .before .before .before .before .before .before .before .before .before .before .before .before .before .before .a6 .given .0 .1 .0) (c .before .before .before .before .before .before .before .before .before .before .before .before .before .before .before .a6 .given .0 .1 .1 .0) (sym (c .before .before .before .before .before .before .before .before .before .before .before .before .before .before .before .before .before .shape-at .ensures) ∙ c .before .before .before .before .before .before .before .before .before .before .before .before .before .before .before .a6 .given .1) (0 ∷ []) (c .before .before .before .before .before .before .before .before .before .before .before .before .expr6 .last .1 .1 .1 .1 .0) (c .before .before .before .before .before .before .before .before .before .l4 .given .0 .0) (zeros-err 1) (rw (c .before .before .before .before .before .before .before .before .before .l4 .given .1) at (c .before .before .before .before .before .before .before .before .before .before .before .before .expr6 .ensures .0)) (c .before .before .expr8 .result) (sym (c .before .before .before .before .before .before .choose .ensures) ∙ c .before .before .before .before .enum-told6 .given .1) (c .before .before .expr8 .ensures .0), c .before .before .expr8 .ensures .1)
 
--- src/cycle.rt:55:1  // Row r as an expression: its values go to the words of `out` from `at` on. ⏎ pub fn expr(
+-- src/cycle.rt:55:1  // Row r as an expression: its values go to the words of `out` from `at` on. ⏎ pub(crate) fn expr(
 expr-same-length-10 : (t : ℕ) → expr-lts.Need-same-length-10 (
   shape-at-reads.Asked,
   shape-at-reads.Learnt,
@@ -3292,7 +3215,7 @@ expr-same-length-10 : (t : ℕ) → expr-lts.Need-same-length-10 (
 ) (expr-at t) expr.Post
 expr-same-length-10 t c = search needs
 
--- src/cycle.rt:55:1  // Row r as an expression: its values go to the words of `out` from `at` on. ⏎ pub fn expr(
+-- src/cycle.rt:55:1  // Row r as an expression: its values go to the words of `out` from `at` on. ⏎ pub(crate) fn expr(
 expr-returns-13 : (t : ℕ) → expr-lts.Need-returns-13 (
   shape-at-reads.Asked,
   shape-at-reads.Learnt,
@@ -3319,9 +3242,9 @@ expr-returns-13 : (t : ℕ) → expr-lts.Need-returns-13 (
   rounds-below t,
   rounds.Post,
 ) (expr-at t) expr.Post
-expr-returns-13 t c = (tell-neither (c .before .before .before .before .before .before .before .before .before .before .before .before .before .before .before .before .before .before .before .before .before .before .before .args .t .now) (c .before .before .before .before .before .before .before .before .before .before .before .before .before .before .before .before .before .before .before .before .before .before .before .args .widths .now) (c .before .before .before .before .before .before .before .before .before .before .before .before .before .before .before .before .before .before .before .before .before .before .before .args .r) (c .before .before .before .before .before .before .before .before .before .before .before .before .before .before .before .before .before .before .before .before .before .before .before .pre .1 .0) (envOf (c .before .before .before .before .before .before .before .before .before .before .before .before .before .before .before .before .before .before .before .before .before .before .before .args .env .now)) (c .before .before .before .before .before .before .before .before .before .before .before .before .before .before .before .before .before .before .before .before .before .before .before .args .left) (c .before .before .before .before .before .before .before .before .before .before .before .before .before .before .before .before .before .before .before .before .before .before .before .args .at) (c .before .before .before .before .before .before .before .before .before .before .before .before .before .before .before .before .before .before .before .before .before .before .before .args .out .now) (c .before .before .put-errs .last .0) (c .before .before .before .before .before .before .before .before .before .before .before .before .before .before .before .before .a6 .given .0 .0) (c .before .before .before .before .before .before .before .before .before .before .before .before .before .before .before .before .a6 .given .0 .1 .0) (c .before .before .before .before .before .before .before .before .before .before .before .before .before .before .before .before .a6 .given .0 .1 .1 .0) (sym (c .before .before .before .before .before .before .before .before .before .before .before .before .before .before .before .before .before .before .shape-at .ensures) ∙ c .before .before .before .before .before .before .before .before .before .before .before .before .before .before .before .before .a6 .given .1) (0 ∷ []) (c .before .before .before .before .before .before .before .before .before .before .before .before .before .expr6 .last .1 .1 .1 .1 .0) (c .before .before .before .before .before .before .before .before .before .before .l4 .given .0 .0) (zeros-err 1) (rw (c .before .before .before .before .before .before .before .before .before .before .l4 .given .1) at (c .before .before .before .before .before .before .before .before .before .before .before .before .before .expr6 .ensures .0)) (sym (c .before .before .before .before .before .before .before .choose .ensures) ∙ c .before .before .before .before .before .enum-told7 .given .1) (rw (c .before .before .before .width-at2 .ensures .0) at (c .before .before .put-errs .ensures .0)), c .before .before .put-errs .ensures .1)
+expr-returns-13 t c = (tell-neither (c .before .before .before .before .before .before .before .before .before .before .before .before .before .before .before .before .before .before .before .before .before .before .args .t .now) (c .before .before .before .before .before .before .before .before .before .before .before .before .before .before .before .before .before .before .before .before .before .before .args .widths .now) (c .before .before .before .before .before .before .before .before .before .before .before .before .before .before .before .before .before .before .before .before .before .before .args .r) (c .before .before .before .before .before .before .before .before .before .before .before .before .before .before .before .before .before .before .before .before .before .before .pre .1 .0) (envOf (c .before .before .before .before .before .before .before .before .before .before .before .before .before .before .before .before .before .before .before .before .before .before .args .env .now)) (c .before .before .before .before .before .before .before .before .before .before .before .before .before .before .before .before .before .before .before .before .before .before .args .left) (c .before .before .before .before .before .before .before .before .before .before .before .before .before .before .before .before .before .before .before .before .before .before .args .at) (c .before .before .before .before .before .before .before .before .before .before .before .before .before .before .before .before .before .before .before .before .before .before .args .out .now) (c .before .before .put-errs .last .0) (c .before .before .before .before .before .before .before .before .before .before .before .before .before .before .before .before .a6 .given .0 .0) (c .before .before .before .before .before .before .before .before .before .before .before .before .before .before .before .before .a6 .given .0 .1 .0) (c .before .before .before .before .before .before .before .before .before .before .before .before .before .before .before .before .a6 .given .0 .1 .1 .0) (sym (c .before .before .before .before .before .before .before .before .before .before .before .before .before .before .before .before .before .before .shape-at .ensures) ∙ c .before .before .before .before .before .before .before .before .before .before .before .before .before .before .before .before .a6 .given .1) (0 ∷ []) (c .before .before .before .before .before .before .before .before .before .before .before .before .before .expr6 .last .1 .1 .1 .1 .0) (c .before .before .before .before .before .before .before .before .before .before .l4 .given .0 .0) (zeros-err 1) (rw (c .before .before .before .before .before .before .before .before .before .before .l4 .given .1) at (c .before .before .before .before .before .before .before .before .before .before .before .before .before .expr6 .ensures .0)) (sym (c .before .before .before .before .before .before .before .choose .ensures) ∙ c .before .before .before .before .before .enum-told7 .given .1) (rw (c .before .before .before .width-at2 .ensures .0) at (c .before .before .put-errs .ensures .0)), c .before .before .put-errs .ensures .1)
 
--- src/cycle.rt:55:1  // Row r as an expression: its values go to the words of `out` from `at` on. ⏎ pub fn expr(
+-- src/cycle.rt:55:1  // Row r as an expression: its values go to the words of `out` from `at` on. ⏎ pub(crate) fn expr(
 expr-returns-14 : (t : ℕ) → expr-lts.Need-returns-14 (
   shape-at-reads.Asked,
   shape-at-reads.Learnt,
@@ -3348,9 +3271,9 @@ expr-returns-14 : (t : ℕ) → expr-lts.Need-returns-14 (
   rounds-below t,
   rounds.Post,
 ) (expr-at t) expr.Post
-expr-returns-14 t c = (tell-stopped (c .before .before .before .before .before .before .before .before .before .before .before .before .before .before .before .args .t .now) (c .before .before .before .before .before .before .before .before .before .before .before .before .before .before .before .args .widths .now) (c .before .before .before .before .before .before .before .before .before .before .before .before .before .before .before .args .r) (c .before .before .before .before .before .before .before .before .before .before .before .before .before .before .before .pre .1 .0) (envOf (c .before .before .before .before .before .before .before .before .before .before .before .before .before .before .before .args .env .now)) (c .before .before .before .before .before .before .before .before .before .before .before .before .before .before .before .args .left) (For (c .before .before .before .before .before .before .before .before .a7 .given .0 .0) (c .before .before .before .before .before .before .before .before .a7 .given .0 .1 .0) (c .before .before .before .before .before .before .before .before .a7 .given .0 .1 .1 .0) (c .before .before .before .before .before .before .before .before .a7 .given .0 .1 .1 .1 .0)) (sym (c .before .before .before .before .before .before .before .before .before .before .shape-at .ensures) ∙ c .before .before .before .before .before .before .before .before .a7 .given .1) (c .before .before .before .before .before .before .before .before .a7 .given .0 .1 .1 .0) refl (c .before .before .before .before .before .before .before .before .before .before .before .before .before .before .before .args .at) (c .before .before .before .before .wide2 .result) (c .before .before .before .before .before .before .before .before .before .before .before .before .before .before .before .args .out .now) (c .before .before .before .before .before .before .before .before .before .before .before .before .before .before .before .args .out .now) (c .before .before .before .before .before .before .copied2 .result) (c .before .before .before .expr9 .last .1 .1 .1 .1 .0) (rw (c .enum-told8 .given .1) at (c .before .before .before .expr9 .ensures .0)), refl)
+expr-returns-14 t c = (tell-stopped (c .before .before .before .before .before .before .before .before .before .before .before .before .before .before .args .t .now) (c .before .before .before .before .before .before .before .before .before .before .before .before .before .before .args .widths .now) (c .before .before .before .before .before .before .before .before .before .before .before .before .before .before .args .r) (c .before .before .before .before .before .before .before .before .before .before .before .before .before .before .pre .1 .0) (envOf (c .before .before .before .before .before .before .before .before .before .before .before .before .before .before .args .env .now)) (c .before .before .before .before .before .before .before .before .before .before .before .before .before .before .args .left) (For (c .before .before .before .before .before .before .before .before .a7 .given .0 .0) (c .before .before .before .before .before .before .before .before .a7 .given .0 .1 .0) (c .before .before .before .before .before .before .before .before .a7 .given .0 .1 .1 .0) (c .before .before .before .before .before .before .before .before .a7 .given .0 .1 .1 .1 .0)) (sym (c .before .before .before .before .before .before .before .before .before .before .shape-at .ensures) ∙ c .before .before .before .before .before .before .before .before .a7 .given .1) (c .before .before .before .before .before .before .before .before .a7 .given .0 .1 .1 .0) refl (c .before .before .before .before .before .before .before .before .before .before .before .before .before .before .args .at) (c .before .before .before .before .wide2 .result) (c .before .before .before .before .before .before .before .before .before .before .before .before .before .before .args .out .now) (c .before .before .before .before .before .before .before .before .before .before .before .before .before .before .args .out .now) (c .before .before .before .before .before .before .copied2 .result) (c .before .before .before .expr9 .last .1 .1 .1 .1 .0) (rw (c .enum-told8 .given .1) at (c .before .before .before .expr9 .ensures .0)), refl)
 
--- src/cycle.rt:55:1  // Row r as an expression: its values go to the words of `out` from `at` on. ⏎ pub fn expr(
+-- src/cycle.rt:55:1  // Row r as an expression: its values go to the words of `out` from `at` on. ⏎ pub(crate) fn expr(
 expr-same-length-11 : (t : ℕ) → expr-lts.Need-same-length-11 (
   shape-at-reads.Asked,
   shape-at-reads.Learnt,
@@ -3379,7 +3302,7 @@ expr-same-length-11 : (t : ℕ) → expr-lts.Need-same-length-11 (
 ) (expr-at t) expr.Post
 expr-same-length-11 t c = search needs
 
--- src/cycle.rt:55:1  // Row r as an expression: its values go to the words of `out` from `at` on. ⏎ pub fn expr(
+-- src/cycle.rt:55:1  // Row r as an expression: its values go to the words of `out` from `at` on. ⏎ pub(crate) fn expr(
 expr-returns-15 : (t : ℕ) → expr-lts.Need-returns-15 (
   shape-at-reads.Asked,
   shape-at-reads.Learnt,
@@ -3406,9 +3329,9 @@ expr-returns-15 : (t : ℕ) → expr-lts.Need-returns-15 (
   rounds-below t,
   rounds.Post,
 ) (expr-at t) expr.Post
-expr-returns-15 t c = (tell-for (c .before .before .before .before .before .before .before .before .before .before .before .before .before .before .before .before .before .before .before .before .before .before .before .before .before .args .t .now) (c .before .before .before .before .before .before .before .before .before .before .before .before .before .before .before .before .before .before .before .before .before .before .before .before .before .args .widths .now) (c .before .before .before .before .before .before .before .before .before .before .before .before .before .before .before .before .before .before .before .before .before .before .before .before .before .args .r) (c .before .before .before .before .before .before .before .before .before .before .before .before .before .before .before .before .before .before .before .before .before .before .before .before .before .pre .1 .0) (envOf (c .before .before .before .before .before .before .before .before .before .before .before .before .before .before .before .before .before .before .before .before .before .before .before .before .before .args .env .now)) (c .before .before .before .before .before .before .before .before .before .before .before .before .before .before .before .before .before .before .before .before .before .before .before .before .before .args .left) (c .before .before .before .before .before .before .before .before .before .before .before .before .before .before .before .before .before .before .before .before .before .before .before .before .before .args .at) (c .before .before .before .before .before .before .before .before .before .before .before .before .before .before .before .before .before .before .before .before .before .before .before .before .before .args .out .now) (c .before .before .before .rounds .last .1 .1 .1 .1 .1 .1 .1 .0) (c .before .before .before .before .before .before .before .before .before .before .before .before .before .before .before .before .before .before .a7 .given .0 .0) (c .before .before .before .before .before .before .before .before .before .before .before .before .before .before .before .before .before .before .a7 .given .0 .1 .0) (c .before .before .before .before .before .before .before .before .before .before .before .before .before .before .before .before .before .before .a7 .given .0 .1 .1 .0) (c .before .before .before .before .before .before .before .before .before .before .before .before .before .before .before .before .before .before .a7 .given .0 .1 .1 .1 .0) (sym (c .before .before .before .before .before .before .before .before .before .before .before .before .before .before .before .before .before .before .before .before .shape-at .ensures) ∙ c .before .before .before .before .before .before .before .before .before .before .before .before .before .before .before .before .before .before .a7 .given .1) (c .before .before .before .before .before .before .before .before .before .before .before .before .before .before .before .before .copied2 .result) (c .before .before .before .before .before .before .before .before .before .before .before .before .before .expr9 .last .1 .1 .1 .1 .0) (c .before .before .before .before .before .before .before .before .before .before .l5 .given .0 .0) (c .before .before .before .rounds .result) (ap envOf (c .before .before .before .before .before .before .before .before .before .before .before .before .before .before .before .before .copied2 .ensures)) (rw (c .before .before .before .before .before .before .before .before .before .before .before .before .before .before .wide2 .ensures, c .before .before .before .before .before .before .before .before .before .before .l5 .given .1) at (c .before .before .before .before .before .before .before .before .before .before .before .before .before .expr9 .ensures .0)) (rw (c .before .before .before .before .before .before .before .wide3 .ensures, c .before .before .before .before .before .before .wide4 .ensures) at (c .before .before .before .rounds .ensures .0)), c .before .before .before .rounds .ensures .1)
+expr-returns-15 t c = (tell-for (c .before .before .before .before .before .before .before .before .before .before .before .before .before .before .before .before .before .before .before .before .before .before .before .args .t .now) (c .before .before .before .before .before .before .before .before .before .before .before .before .before .before .before .before .before .before .before .before .before .before .before .args .widths .now) (c .before .before .before .before .before .before .before .before .before .before .before .before .before .before .before .before .before .before .before .before .before .before .before .args .r) (c .before .before .before .before .before .before .before .before .before .before .before .before .before .before .before .before .before .before .before .before .before .before .before .pre .1 .0) (envOf (c .before .before .before .before .before .before .before .before .before .before .before .before .before .before .before .before .before .before .before .before .before .before .before .args .env .now)) (c .before .before .before .before .before .before .before .before .before .before .before .before .before .before .before .before .before .before .before .before .before .before .before .args .left) (c .before .before .before .before .before .before .before .before .before .before .before .before .before .before .before .before .before .before .before .before .before .before .before .args .at) (c .before .before .before .before .before .before .before .before .before .before .before .before .before .before .before .before .before .before .before .before .before .before .before .args .out .now) (c .before .before .rounds .last .1 .1 .1 .1 .1 .1 .1 .0) (c .before .before .before .before .before .before .before .before .before .before .before .before .before .before .before .before .before .a7 .given .0 .0) (c .before .before .before .before .before .before .before .before .before .before .before .before .before .before .before .before .before .a7 .given .0 .1 .0) (c .before .before .before .before .before .before .before .before .before .before .before .before .before .before .before .before .before .a7 .given .0 .1 .1 .0) (c .before .before .before .before .before .before .before .before .before .before .before .before .before .before .before .before .before .a7 .given .0 .1 .1 .1 .0) (sym (c .before .before .before .before .before .before .before .before .before .before .before .before .before .before .before .before .before .before .before .shape-at .ensures) ∙ c .before .before .before .before .before .before .before .before .before .before .before .before .before .before .before .before .before .a7 .given .1) (c .before .before .before .before .before .before .before .before .before .before .before .before .before .before .before .copied2 .result) (c .before .before .before .before .before .before .before .before .before .before .before .before .expr9 .last .1 .1 .1 .1 .0) (c .before .before .before .before .before .before .before .before .before .l5 .given .0 .0) (c .before .before .rounds .result) (ap envOf (c .before .before .before .before .before .before .before .before .before .before .before .before .before .before .before .copied2 .ensures)) (rw (c .before .before .before .before .before .before .before .before .before .before .before .before .before .wide2 .ensures, c .before .before .before .before .before .before .before .before .before .l5 .given .1) at (c .before .before .before .before .before .before .before .before .before .before .before .before .expr9 .ensures .0)) (rw (c .before .before .before .before .before .before .wide3 .ensures, c .before .before .before .before .before .wide4 .ensures) at (c .before .before .rounds .ensures .0)), c .before .before .rounds .ensures .1)
 
--- src/cycle.rt:55:1  // Row r as an expression: its values go to the words of `out` from `at` on. ⏎ pub fn expr(
+-- src/cycle.rt:55:1  // Row r as an expression: its values go to the words of `out` from `at` on. ⏎ pub(crate) fn expr(
 expr-returns-16 : (t : ℕ) → expr-lts.Need-returns-16 (
   shape-at-reads.Asked,
   shape-at-reads.Learnt,
@@ -3435,7 +3358,7 @@ expr-returns-16 : (t : ℕ) → expr-lts.Need-returns-16 (
   rounds-below t,
   rounds.Post,
 ) (expr-at t) expr.Post
-expr-returns-16 t c = absurd (exp-children (c .before .before .before .before .before .before .before .args .t .now) (c .before .before .before .before .before .before .before .args .widths .now) (c .before .before .before .before .before .before .before .args .r) (c .before .before .before .before .before .before .before .pre .1 .0) (Iter (c .enum-told9 .given .0 .0)) (sym (c .before .before .shape-at .ensures) ∙ c .enum-told9 .given .1))
+expr-returns-16 t c = absurd (exp-children (c .before .before .before .before .before .before .args .t .now) (c .before .before .before .before .before .before .args .widths .now) (c .before .before .before .before .before .before .args .r) (c .before .before .before .before .before .before .pre .1 .0) (Iter (c .enum-told9 .given .0 .0)) (sym (c .before .before .shape-at .ensures) ∙ c .enum-told9 .given .1))
 
 abbrev rounds-Inv-loop : rounds-lts.InvT-loop
 rounds-Inv-loop t widths d w a b inner₀ out₀ at left values₀ l₀ inner out values l = Turning (bodyOf t d) a b inner₀ inner left l × (length inner ≡ 32) × (length values ≡ 16) × (out ≡ out₀)
@@ -3498,22 +3421,13 @@ rounds-same-length : (t : ℕ) → rounds-lts.Need-same-length (
 rounds-same-length t c = search needs
 
 -- src/cycle.rt:160:17  Turn::Short => { ⏎ return Rest::Short;
-rounds-same-length-2 : (t : ℕ) → rounds-lts.Need-same-length-2 (
-  body-below t,
-  body.Post,
-  copy-reads.Asked,
-  copy-reads.Learnt,
-) (rounds-at t) rounds.Post rounds-Inv-loop rounds-μ-loop
-rounds-same-length-2 t c = search needs
-
--- src/cycle.rt:160:17  Turn::Short => { ⏎ return Rest::Short;
 rounds-returns : (t : ℕ) → rounds-lts.Need-returns (
   body-below t,
   body.Post,
   copy-reads.Asked,
   copy-reads.Learnt,
 ) (rounds-at t) rounds.Post rounds-Inv-loop rounds-μ-loop
-rounds-returns t c = (round-short (c .before .before .before .before .before .before .before .before .before .before .before .before .args .t .now) (c .before .before .before .before .before .before .before .before .before .before .before .before .args .widths .now) (c .before .before .before .before .before .before .before .before .before .before .before .before .args .d) (c .before .before .before .before .before .before .before .before .before .before .before .before .pre .1 .0) (c .before .before .before .before .before .before .before .before .before .before .before .before .args .a) (c .before .before .before .before .before .before .before .before .before .before .before .before .args .b) (c .before .before .before .before .before .before .before .before .before .before .before .before .args .w) (c .before .before .before .before .before .before .before .before .before .before .before .before .pre .1 .1) (c .before .before .before .before .before .before .before .before .before .before .before .before .pre .1 .2) (c .before .before .before .before .before .before .before .before .before .before .before .before .args .inner .now) (c .before .before .before .before .before .before .before .loop .inner) (c .before .before .before .before .before .before .before .before .before .before .before .before .args .left) (c .before .before .before .before .before .before .before .loop .l) (c .before .before .before .before .before .before .before .loop .inv .0) (c .before .before .before .before .before .before .loop-test .taken) (c .before .before .before .before .before .before .before .loop .values) (c .before .before .before .body .last .1 .1 .1 .1 .1 .0) (rw (c .enum-told .given .1) at (c .before .before .before .body .ensures .0)) (c .before .before .before .before .before .before .before .before .before .before .before .before .args .at) (c .before .before .before .before .before .before .before .before .before .before .before .before .args .out .now) (c .before .before .before .before .before .before .before .loop .out), ap length (c .before .before .before .before .before .before .before .loop .inv .3))
+rounds-returns t c = (round-short (c .before .before .before .before .before .before .before .before .before .before .before .args .t .now) (c .before .before .before .before .before .before .before .before .before .before .before .args .widths .now) (c .before .before .before .before .before .before .before .before .before .before .before .args .d) (c .before .before .before .before .before .before .before .before .before .before .before .pre .1 .0) (c .before .before .before .before .before .before .before .before .before .before .before .args .a) (c .before .before .before .before .before .before .before .before .before .before .before .args .b) (c .before .before .before .before .before .before .before .before .before .before .before .args .w) (c .before .before .before .before .before .before .before .before .before .before .before .pre .1 .1) (c .before .before .before .before .before .before .before .before .before .before .before .pre .1 .2) (c .before .before .before .before .before .before .before .before .before .before .before .args .inner .now) (c .before .before .before .before .before .before .before .loop .inner) (c .before .before .before .before .before .before .before .before .before .before .before .args .left) (c .before .before .before .before .before .before .before .loop .l) (c .before .before .before .before .before .before .before .loop .inv .0) (c .before .before .before .before .before .before .loop-test .taken) (c .before .before .before .before .before .before .before .loop .values) (c .before .before .before .body .last .1 .1 .1 .1 .1 .0) (rw (c .enum-told .given .1) at (c .before .before .before .body .ensures .0)) (c .before .before .before .before .before .before .before .before .before .before .before .args .at) (c .before .before .before .before .before .before .before .before .before .before .before .args .out .now) (c .before .before .before .before .before .before .before .loop .out), ap length (c .before .before .before .before .before .before .before .loop .inv .3))
 
 -- src/cycle.rt:162:24  } ⏎ Turn::Back(m) => {
 rounds-enum-known-m : (t : ℕ) → rounds-lts.Need-enum-known-m (
@@ -3540,25 +3454,16 @@ rounds-copy-requires : (t : ℕ) → rounds-lts.Need-copy-requires (
   copy-reads.Asked,
   copy-reads.Learnt,
 ) (rounds-at t) rounds.Post rounds-Inv-loop rounds-μ-loop
-rounds-copy-requires t c κs = (omega (arith, ap length (c .before .before .before .before .before .before .before .before .before .before .loop .inv .3), c .before .before .before .before .before .before .before .before .before .before .before .before .before .before .before .pre .1 .7), omega (arith, c .before .before .before .before .before .before .body .ensures .1, c .before .before .before .before .before .before .before .before .before .before .loop .inv .2, c .before .before .before .before .before .before .before .before .before .before .before .before .before .before .before .pre .1 .3))
+rounds-copy-requires t c κs = (omega (arith, ap length (c .before .before .before .before .before .before .before .before .before .before .loop .inv .3), c .before .before .before .before .before .before .before .before .before .before .before .before .before .before .pre .1 .7), omega (arith, c .before .before .before .before .before .before .body .ensures .1, c .before .before .before .before .before .before .before .before .before .before .loop .inv .2, c .before .before .before .before .before .before .before .before .before .before .before .before .before .before .pre .1 .3))
 
 -- src/cycle.rt:164:17  copy(out, at, &values, w); ⏎ return Rest::Left(m);
-rounds-same-length-3 : (t : ℕ) → rounds-lts.Need-same-length-3 (
+rounds-same-length-2 : (t : ℕ) → rounds-lts.Need-same-length-2 (
   body-below t,
   body.Post,
   copy-reads.Asked,
   copy-reads.Learnt,
 ) (rounds-at t) rounds.Post rounds-Inv-loop rounds-μ-loop
-rounds-same-length-3 t c = search needs
-
--- src/cycle.rt:164:17  copy(out, at, &values, w); ⏎ return Rest::Left(m);
-rounds-same-length-4 : (t : ℕ) → rounds-lts.Need-same-length-4 (
-  body-below t,
-  body.Post,
-  copy-reads.Asked,
-  copy-reads.Learnt,
-) (rounds-at t) rounds.Post rounds-Inv-loop rounds-μ-loop
-rounds-same-length-4 t c = c .before .before .copy .ensures .1 ∙ ap length (c .before .before .before .before .before .before .before .before .before .before .before .before .before .loop .inv .3)
+rounds-same-length-2 t c = c .before .before .copy .ensures .1 ∙ ap length (c .before .before .before .before .before .before .before .before .before .before .before .before .before .loop .inv .3)
 
 -- src/cycle.rt:164:17  copy(out, at, &values, w); ⏎ return Rest::Left(m);
 rounds-returns-2 : (t : ℕ) → rounds-lts.Need-returns-2 (
@@ -3567,7 +3472,7 @@ rounds-returns-2 : (t : ℕ) → rounds-lts.Need-returns-2 (
   copy-reads.Asked,
   copy-reads.Learnt,
 ) (rounds-at t) rounds.Post rounds-Inv-loop rounds-μ-loop
-rounds-returns-2 t c = (subst (λ (z : List ℕ). Told (turns (bodyOf (c .before .before .before .before .before .before .before .before .before .before .before .before .before .before .before .before .before .before .args .t .now) (c .before .before .before .before .before .before .before .before .before .before .before .before .before .before .before .before .before .before .args .d)) (c .before .before .before .before .before .before .before .before .before .before .before .before .before .before .before .before .before .before .args .a) (c .before .before .before .before .before .before .before .before .before .before .before .before .before .before .before .before .before .before .args .b) (envOf (c .before .before .before .before .before .before .before .before .before .before .before .before .before .before .before .before .before .before .args .inner .now)) (envOf (c .before .before .before .before .before .before .before .before .before .before .before .before .before .before .before .before .before .before .args .inner .now)) (c .before .before .before .before .before .before .before .before .before .before .before .before .before .before .before .before .before .before .args .left)) (Left (c .before .before .before .before .before .before .m .given .0 .0)) (c .before .before .before .before .before .before .before .before .before .before .before .before .before .before .before .before .before .before .args .at) (c .before .before .before .before .before .before .before .before .before .before .before .before .before .before .before .before .before .before .args .out .now) z) (sym (c .before .before .copy .ensures .0 ∙ ap (λ (z : List ℕ). paste z (c .before .before .before .before .before .before .before .before .before .before .before .before .before .before .before .before .before .before .args .at) (c .before .before .before .before .before .before .before .before .before .body .last .1 .1 .1 .1 .1 .0) (c .before .before .before .before .before .before .before .before .before .before .before .before .before .before .before .before .before .before .args .w)) (c .before .before .before .before .before .before .before .before .before .before .before .before .before .loop .inv .3))) (round-back (c .before .before .before .before .before .before .before .before .before .before .before .before .before .before .before .before .before .before .args .t .now) (c .before .before .before .before .before .before .before .before .before .before .before .before .before .before .before .before .before .before .args .widths .now) (c .before .before .before .before .before .before .before .before .before .before .before .before .before .before .before .before .before .before .args .d) (c .before .before .before .before .before .before .before .before .before .before .before .before .before .before .before .before .before .before .pre .1 .0) (c .before .before .before .before .before .before .before .before .before .before .before .before .before .before .before .before .before .before .args .a) (c .before .before .before .before .before .before .before .before .before .before .before .before .before .before .before .before .before .before .args .b) (c .before .before .before .before .before .before .before .before .before .before .before .before .before .before .before .before .before .before .args .w) (c .before .before .before .before .before .before .before .before .before .before .before .before .before .before .before .before .before .before .pre .1 .1) (c .before .before .before .before .before .before .before .before .before .before .before .before .before .before .before .before .before .before .pre .1 .2) (c .before .before .before .before .before .before .before .before .before .before .before .before .before .before .before .before .before .before .args .inner .now) (c .before .before .before .before .before .before .before .before .before .before .before .before .before .loop .inner) (c .before .before .before .before .before .before .before .before .before .before .before .before .before .before .before .before .before .before .args .left) (c .before .before .before .before .before .before .before .before .before .before .before .before .before .loop .l) (c .before .before .before .before .before .before .before .before .before .before .before .before .before .loop .inv .0) (c .before .before .before .before .before .before .before .before .before .before .before .before .loop-test .taken) (c .before .before .before .before .before .before .before .before .before .before .before .before .before .loop .values) (c .before .before .before .before .before .before .before .before .before .body .last .1 .1 .1 .1 .1 .0) (c .before .before .before .before .before .before .m .given .0 .0) (rw (c .before .before .before .before .before .before .m .given .1) at (c .before .before .before .before .before .before .before .before .before .body .ensures .0)) (c .before .before .before .before .before .before .before .before .before .before .before .before .before .before .before .before .before .before .args .at) (c .before .before .before .before .before .before .before .before .before .before .before .before .before .before .before .before .before .before .args .out .now) (c .before .before .before .before .before .before .before .before .before .before .before .before .before .before .before .before .before .before .pre .1 .7) (omega (arith, c .before .before .before .before .before .before .before .before .before .body .ensures .1, c .before .before .before .before .before .before .before .before .before .before .before .before .before .loop .inv .2, c .before .before .before .before .before .before .before .before .before .before .before .before .before .before .before .before .before .before .pre .1 .3))), c .before .before .copy .ensures .1 ∙ ap length (c .before .before .before .before .before .before .before .before .before .before .before .before .before .loop .inv .3))
+rounds-returns-2 t c = (subst (λ (z : List ℕ). Told (turns (bodyOf (c .before .before .before .before .before .before .before .before .before .before .before .before .before .before .before .before .before .args .t .now) (c .before .before .before .before .before .before .before .before .before .before .before .before .before .before .before .before .before .args .d)) (c .before .before .before .before .before .before .before .before .before .before .before .before .before .before .before .before .before .args .a) (c .before .before .before .before .before .before .before .before .before .before .before .before .before .before .before .before .before .args .b) (envOf (c .before .before .before .before .before .before .before .before .before .before .before .before .before .before .before .before .before .args .inner .now)) (envOf (c .before .before .before .before .before .before .before .before .before .before .before .before .before .before .before .before .before .args .inner .now)) (c .before .before .before .before .before .before .before .before .before .before .before .before .before .before .before .before .before .args .left)) (Left (c .before .before .before .before .before .before .m .given .0 .0)) (c .before .before .before .before .before .before .before .before .before .before .before .before .before .before .before .before .before .args .at) (c .before .before .before .before .before .before .before .before .before .before .before .before .before .before .before .before .before .args .out .now) z) (sym (c .before .before .copy .ensures .0 ∙ ap (λ (z : List ℕ). paste z (c .before .before .before .before .before .before .before .before .before .before .before .before .before .before .before .before .before .args .at) (c .before .before .before .before .before .before .before .before .before .body .last .1 .1 .1 .1 .1 .0) (c .before .before .before .before .before .before .before .before .before .before .before .before .before .before .before .before .before .args .w)) (c .before .before .before .before .before .before .before .before .before .before .before .before .before .loop .inv .3))) (round-back (c .before .before .before .before .before .before .before .before .before .before .before .before .before .before .before .before .before .args .t .now) (c .before .before .before .before .before .before .before .before .before .before .before .before .before .before .before .before .before .args .widths .now) (c .before .before .before .before .before .before .before .before .before .before .before .before .before .before .before .before .before .args .d) (c .before .before .before .before .before .before .before .before .before .before .before .before .before .before .before .before .before .pre .1 .0) (c .before .before .before .before .before .before .before .before .before .before .before .before .before .before .before .before .before .args .a) (c .before .before .before .before .before .before .before .before .before .before .before .before .before .before .before .before .before .args .b) (c .before .before .before .before .before .before .before .before .before .before .before .before .before .before .before .before .before .args .w) (c .before .before .before .before .before .before .before .before .before .before .before .before .before .before .before .before .before .pre .1 .1) (c .before .before .before .before .before .before .before .before .before .before .before .before .before .before .before .before .before .pre .1 .2) (c .before .before .before .before .before .before .before .before .before .before .before .before .before .before .before .before .before .args .inner .now) (c .before .before .before .before .before .before .before .before .before .before .before .before .before .loop .inner) (c .before .before .before .before .before .before .before .before .before .before .before .before .before .before .before .before .before .args .left) (c .before .before .before .before .before .before .before .before .before .before .before .before .before .loop .l) (c .before .before .before .before .before .before .before .before .before .before .before .before .before .loop .inv .0) (c .before .before .before .before .before .before .before .before .before .before .before .before .loop-test .taken) (c .before .before .before .before .before .before .before .before .before .before .before .before .before .loop .values) (c .before .before .before .before .before .before .before .before .before .body .last .1 .1 .1 .1 .1 .0) (c .before .before .before .before .before .before .m .given .0 .0) (rw (c .before .before .before .before .before .before .m .given .1) at (c .before .before .before .before .before .before .before .before .before .body .ensures .0)) (c .before .before .before .before .before .before .before .before .before .before .before .before .before .before .before .before .before .args .at) (c .before .before .before .before .before .before .before .before .before .before .before .before .before .before .before .before .before .args .out .now) (c .before .before .before .before .before .before .before .before .before .before .before .before .before .before .before .before .before .pre .1 .7) (omega (arith, c .before .before .before .before .before .before .before .before .before .body .ensures .1, c .before .before .before .before .before .before .before .before .before .before .before .before .before .loop .inv .2, c .before .before .before .before .before .before .before .before .before .before .before .before .before .before .before .before .before .pre .1 .3))), c .before .before .copy .ensures .1 ∙ ap length (c .before .before .before .before .before .before .before .before .before .before .before .before .before .loop .inv .3))
 
 -- src/cycle.rt:166:25  } ⏎ Turn::Again(m) => {
 rounds-enum-known-m-2 : (t : ℕ) → rounds-lts.Need-enum-known-m-2 (
@@ -3603,7 +3508,7 @@ rounds-loop-less : (t : ℕ) → rounds-lts.Need-loop-less (
   copy-reads.Asked,
   copy-reads.Learnt,
 ) (rounds-at t) rounds.Post rounds-Inv-loop rounds-μ-loop
-rounds-loop-less t c = round-again (c .before .before .before .before .before .before .before .before .before .before .before .before .before .before .before .before .before .before .args .t .now) (c .before .before .before .before .before .before .before .before .before .before .before .before .before .before .before .before .before .before .args .widths .now) (c .before .before .before .before .before .before .before .before .before .before .before .before .before .before .before .before .before .before .args .d) (c .before .before .before .before .before .before .before .before .before .before .before .before .before .before .before .before .before .before .pre .1 .0) (c .before .before .before .before .before .before .before .before .before .before .before .before .before .before .before .before .before .before .args .a) (c .before .before .before .before .before .before .before .before .before .before .before .before .before .before .before .before .before .before .args .b) (c .before .before .before .before .before .before .before .before .before .before .before .before .before .before .before .before .before .before .args .w) (c .before .before .before .before .before .before .before .before .before .before .before .before .before .before .before .before .before .before .pre .1 .1) (c .before .before .before .before .before .before .before .before .before .before .before .before .before .before .before .before .before .before .pre .1 .2) (c .before .before .before .before .before .before .before .before .before .before .before .before .before .before .before .before .before .before .args .inner .now) (c .before .before .before .before .before .before .before .before .before .before .before .before .before .loop .inner) (c .before .before .before .before .before .before .before .before .before .before .before .before .before .before .before .before .before .before .args .left) (c .before .before .before .before .before .before .before .before .before .before .before .before .before .loop .l) (c .before .before .before .before .before .before .before .before .before .before .before .before .before .loop .inv .0) (c .before .before .before .before .before .before .before .before .before .before .before .before .loop-test .taken) (c .before .before .before .before .before .before .before .before .before .before .before .before .before .loop .values) (c .before .before .before .before .before .before .before .before .before .body .last .1 .1 .1 .1 .1 .0) (c .before .before .before .before .before .before .m2 .given .0 .0) (rw (c .before .before .before .before .before .before .m2 .given .1) at (c .before .before .before .before .before .before .before .before .before .body .ensures .0)) (omega (arith, c .before .before .before .before .before .before .before .before .before .before .before .before .before .loop .inv .1, c .before .before .before .before .before .before .before .before .before .before .before .before .before .before .before .before .before .before .pre .1 .5)) (omega (arith, c .before .before .before .before .before .before .before .before .before .body .ensures .1, c .before .before .before .before .before .before .before .before .before .before .before .before .before .loop .inv .2, c .before .before .before .before .before .before .before .before .before .before .before .before .before .before .before .before .before .before .pre .1 .4)) .1
+rounds-loop-less t c = round-again (c .before .before .before .before .before .before .before .before .before .before .before .before .before .before .before .args .t .now) (c .before .before .before .before .before .before .before .before .before .before .before .before .before .before .before .args .widths .now) (c .before .before .before .before .before .before .before .before .before .before .before .before .before .before .before .args .d) (c .before .before .before .before .before .before .before .before .before .before .before .before .before .before .before .pre .1 .0) (c .before .before .before .before .before .before .before .before .before .before .before .before .before .before .before .args .a) (c .before .before .before .before .before .before .before .before .before .before .before .before .before .before .before .args .b) (c .before .before .before .before .before .before .before .before .before .before .before .before .before .before .before .args .w) (c .before .before .before .before .before .before .before .before .before .before .before .before .before .before .before .pre .1 .1) (c .before .before .before .before .before .before .before .before .before .before .before .before .before .before .before .pre .1 .2) (c .before .before .before .before .before .before .before .before .before .before .before .before .before .before .before .args .inner .now) (c .before .before .before .before .before .before .before .before .before .before .before .loop .inner) (c .before .before .before .before .before .before .before .before .before .before .before .before .before .before .before .args .left) (c .before .before .before .before .before .before .before .before .before .before .before .loop .l) (c .before .before .before .before .before .before .before .before .before .before .before .loop .inv .0) (c .before .before .before .before .before .before .before .before .before .before .loop-test .taken) (c .before .before .before .before .before .before .before .before .before .before .before .loop .values) (c .before .before .before .before .before .before .before .body .last .1 .1 .1 .1 .1 .0) (c .before .before .before .before .m2 .given .0 .0) (rw (c .before .before .before .before .m2 .given .1) at (c .before .before .before .before .before .before .before .body .ensures .0)) (omega (arith, c .before .before .before .before .before .before .before .before .before .before .before .loop .inv .1, c .before .before .before .before .before .before .before .before .before .before .before .before .before .before .before .pre .1 .5)) (omega (arith, c .before .before .before .before .before .before .before .body .ensures .1, c .before .before .before .before .before .before .before .before .before .before .before .loop .inv .2, c .before .before .before .before .before .before .before .before .before .before .before .before .before .before .before .pre .1 .4)) .1
 
 -- src/cycle.rt:157:5  let mut l = left; ⏎ while 0 < l {
 rounds-loop-again : (t : ℕ) → rounds-lts.Need-loop-again (
@@ -3612,25 +3517,16 @@ rounds-loop-again : (t : ℕ) → rounds-lts.Need-loop-again (
   copy-reads.Asked,
   copy-reads.Learnt,
 ) (rounds-at t) rounds.Post rounds-Inv-loop rounds-μ-loop
-rounds-loop-again t c = (subst (λ (z : List ℕ). Turning (bodyOf (c .before .before .before .before .before .before .before .before .before .before .before .before .before .before .before .before .before .before .args .t .now) (c .before .before .before .before .before .before .before .before .before .before .before .before .before .before .before .before .before .before .args .d)) (c .before .before .before .before .before .before .before .before .before .before .before .before .before .before .before .before .before .before .args .a) (c .before .before .before .before .before .before .before .before .before .before .before .before .before .before .before .before .before .before .args .b) (c .before .before .before .before .before .before .before .before .before .before .before .before .before .before .before .before .before .before .args .inner .now) z (c .before .before .before .before .before .before .before .before .before .before .before .before .before .before .before .before .before .before .args .left) (c .before .before .before .before .before .before .m2 .given .0 .0)) (sym (c .before .before .copy2 .ensures .0)) (round-again (c .before .before .before .before .before .before .before .before .before .before .before .before .before .before .before .before .before .before .args .t .now) (c .before .before .before .before .before .before .before .before .before .before .before .before .before .before .before .before .before .before .args .widths .now) (c .before .before .before .before .before .before .before .before .before .before .before .before .before .before .before .before .before .before .args .d) (c .before .before .before .before .before .before .before .before .before .before .before .before .before .before .before .before .before .before .pre .1 .0) (c .before .before .before .before .before .before .before .before .before .before .before .before .before .before .before .before .before .before .args .a) (c .before .before .before .before .before .before .before .before .before .before .before .before .before .before .before .before .before .before .args .b) (c .before .before .before .before .before .before .before .before .before .before .before .before .before .before .before .before .before .before .args .w) (c .before .before .before .before .before .before .before .before .before .before .before .before .before .before .before .before .before .before .pre .1 .1) (c .before .before .before .before .before .before .before .before .before .before .before .before .before .before .before .before .before .before .pre .1 .2) (c .before .before .before .before .before .before .before .before .before .before .before .before .before .before .before .before .before .before .args .inner .now) (c .before .before .before .before .before .before .before .before .before .before .before .before .before .loop .inner) (c .before .before .before .before .before .before .before .before .before .before .before .before .before .before .before .before .before .before .args .left) (c .before .before .before .before .before .before .before .before .before .before .before .before .before .loop .l) (c .before .before .before .before .before .before .before .before .before .before .before .before .before .loop .inv .0) (c .before .before .before .before .before .before .before .before .before .before .before .before .loop-test .taken) (c .before .before .before .before .before .before .before .before .before .before .before .before .before .loop .values) (c .before .before .before .before .before .before .before .before .before .body .last .1 .1 .1 .1 .1 .0) (c .before .before .before .before .before .before .m2 .given .0 .0) (rw (c .before .before .before .before .before .before .m2 .given .1) at (c .before .before .before .before .before .before .before .before .before .body .ensures .0)) (omega (arith, c .before .before .before .before .before .before .before .before .before .before .before .before .before .loop .inv .1, c .before .before .before .before .before .before .before .before .before .before .before .before .before .before .before .before .before .before .pre .1 .5)) (omega (arith, c .before .before .before .before .before .before .before .before .before .body .ensures .1, c .before .before .before .before .before .before .before .before .before .before .before .before .before .loop .inv .2, c .before .before .before .before .before .before .before .before .before .before .before .before .before .before .before .before .before .before .pre .1 .4)) .0), c .before .before .copy2 .ensures .1 ∙ c .before .before .before .before .before .before .before .before .before .before .before .before .before .loop .inv .1, c .before .before .before .before .before .before .before .before .before .body .ensures .1 ∙ c .before .before .before .before .before .before .before .before .before .before .before .before .before .loop .inv .2, c .before .before .before .before .before .before .before .before .before .before .before .before .before .loop .inv .3)
+rounds-loop-again t c = (subst (λ (z : List ℕ). Turning (bodyOf (c .before .before .before .before .before .before .before .before .before .before .before .before .before .before .before .args .t .now) (c .before .before .before .before .before .before .before .before .before .before .before .before .before .before .before .args .d)) (c .before .before .before .before .before .before .before .before .before .before .before .before .before .before .before .args .a) (c .before .before .before .before .before .before .before .before .before .before .before .before .before .before .before .args .b) (c .before .before .before .before .before .before .before .before .before .before .before .before .before .before .before .args .inner .now) z (c .before .before .before .before .before .before .before .before .before .before .before .before .before .before .before .args .left) (c .before .before .before .before .m2 .given .0 .0)) (sym (c .copy2 .ensures .0)) (round-again (c .before .before .before .before .before .before .before .before .before .before .before .before .before .before .before .args .t .now) (c .before .before .before .before .before .before .before .before .before .before .before .before .before .before .before .args .widths .now) (c .before .before .before .before .before .before .before .before .before .before .before .before .before .before .before .args .d) (c .before .before .before .before .before .before .before .before .before .before .before .before .before .before .before .pre .1 .0) (c .before .before .before .before .before .before .before .before .before .before .before .before .before .before .before .args .a) (c .before .before .before .before .before .before .before .before .before .before .before .before .before .before .before .args .b) (c .before .before .before .before .before .before .before .before .before .before .before .before .before .before .before .args .w) (c .before .before .before .before .before .before .before .before .before .before .before .before .before .before .before .pre .1 .1) (c .before .before .before .before .before .before .before .before .before .before .before .before .before .before .before .pre .1 .2) (c .before .before .before .before .before .before .before .before .before .before .before .before .before .before .before .args .inner .now) (c .before .before .before .before .before .before .before .before .before .before .before .loop .inner) (c .before .before .before .before .before .before .before .before .before .before .before .before .before .before .before .args .left) (c .before .before .before .before .before .before .before .before .before .before .before .loop .l) (c .before .before .before .before .before .before .before .before .before .before .before .loop .inv .0) (c .before .before .before .before .before .before .before .before .before .before .loop-test .taken) (c .before .before .before .before .before .before .before .before .before .before .before .loop .values) (c .before .before .before .before .before .before .before .body .last .1 .1 .1 .1 .1 .0) (c .before .before .before .before .m2 .given .0 .0) (rw (c .before .before .before .before .m2 .given .1) at (c .before .before .before .before .before .before .before .body .ensures .0)) (omega (arith, c .before .before .before .before .before .before .before .before .before .before .before .loop .inv .1, c .before .before .before .before .before .before .before .before .before .before .before .before .before .before .before .pre .1 .5)) (omega (arith, c .before .before .before .before .before .before .before .body .ensures .1, c .before .before .before .before .before .before .before .before .before .before .before .loop .inv .2, c .before .before .before .before .before .before .before .before .before .before .before .before .before .before .before .pre .1 .4)) .0), c .copy2 .ensures .1 ∙ c .before .before .before .before .before .before .before .before .before .before .before .loop .inv .1, c .before .before .before .before .before .before .before .body .ensures .1 ∙ c .before .before .before .before .before .before .before .before .before .before .before .loop .inv .2, c .before .before .before .before .before .before .before .before .before .before .before .loop .inv .3)
 
 -- src/cycle.rt:140:1  // w values go to the words of `out` from `at` on. ⏎ fn rounds(
-rounds-same-length-5 : (t : ℕ) → rounds-lts.Need-same-length-5 (
+rounds-same-length-3 : (t : ℕ) → rounds-lts.Need-same-length-3 (
   body-below t,
   body.Post,
   copy-reads.Asked,
   copy-reads.Learnt,
 ) (rounds-at t) rounds.Post rounds-Inv-loop rounds-μ-loop
-rounds-same-length-5 t c = search needs
-
--- src/cycle.rt:140:1  // w values go to the words of `out` from `at` on. ⏎ fn rounds(
-rounds-same-length-6 : (t : ℕ) → rounds-lts.Need-same-length-6 (
-  body-below t,
-  body.Post,
-  copy-reads.Asked,
-  copy-reads.Learnt,
-) (rounds-at t) rounds.Post rounds-Inv-loop rounds-μ-loop
-rounds-same-length-6 t c = search needs
+rounds-same-length-3 t c = search needs
 
 -- src/cycle.rt:140:1  // w values go to the words of `out` from `at` on. ⏎ fn rounds(
 rounds-returns-3 : (t : ℕ) → rounds-lts.Need-returns-3 (
@@ -3639,7 +3535,7 @@ rounds-returns-3 : (t : ℕ) → rounds-lts.Need-returns-3 (
   copy-reads.Asked,
   copy-reads.Learnt,
 ) (rounds-at t) rounds.Post rounds-Inv-loop rounds-μ-loop
-rounds-returns-3 t c = (turning-none (bodyOf (c .before .before .before .before .before .before .args .t .now) (c .before .before .before .before .before .before .args .d)) (c .before .before .before .before .before .before .args .a) (c .before .before .before .before .before .before .args .b) (c .before .before .before .before .before .before .args .inner .now) (c .before .loop .inner) (c .before .before .before .before .before .before .args .left) (c .before .loop .l) (c .before .loop .inv .0) (c .loop-test .left) (c .before .before .before .before .before .before .args .at) (c .before .before .before .before .before .before .args .out .now) (c .before .loop .out), ap length (c .before .loop .inv .3))
+rounds-returns-3 t c = (turning-none (bodyOf (c .before .before .before .before .before .args .t .now) (c .before .before .before .before .before .args .d)) (c .before .before .before .before .before .args .a) (c .before .before .before .before .before .args .b) (c .before .before .before .before .before .args .inner .now) (c .before .loop .inner) (c .before .before .before .before .before .args .left) (c .before .loop .l) (c .before .loop .inv .0) (c .loop-test .left) (c .before .before .before .before .before .args .at) (c .before .before .before .before .before .args .out .now) (c .before .loop .out), ap length (c .before .loop .inv .3))
 
 pub +body+expr+rounds-spec : {M : Type 1} → statement M
 +body+expr+rounds-spec = close μ-body μ-expr μ-rounds (λ t. body-lts.spec (
@@ -3672,7 +3568,6 @@ pub +body+expr+rounds-spec : {M : Type 1} → statement M
     (body-expr-requires-2 t)
     (body-enum-told-2 t)
     (body-enum-known-l-2 t)
-    (body-slice-aggregate-body t)
     (body-body-requires t)
     (body-enum-known-a-3 t)
     (body-slice-aggregate-expr-2 t)
@@ -3765,10 +3660,9 @@ pub +body+expr+rounds-spec : {M : Type 1} → statement M
     (expr-expr-requires-4 t)
     (expr-enum-told-3 t)
     (expr-enum-known-l-3 t)
-    (expr-slice-aggregate-expr-3 t)
     (expr-expr-requires-5 t)
     (expr-enum-known-a-6 t)
-    (expr-slice-aggregate-expr-4 t)
+    (expr-slice-aggregate-expr-3 t)
     (expr-expr-requires-6 t)
     (expr-enum-told-4 t)
     (expr-enum-known-l-4 t)
@@ -3783,7 +3677,7 @@ pub +body+expr+rounds-spec : {M : Type 1} → statement M
     (expr-put-errs-requires t)
     (expr-enum-known-a-7 t)
     (expr-copied-requires-2 t)
-    (expr-slice-aggregate-expr-5 t)
+    (expr-slice-aggregate-expr-4 t)
     (expr-wide-requires-2 t)
     (expr-expr-requires-9 t)
     (expr-enum-told-8 t)
@@ -3791,7 +3685,6 @@ pub +body+expr+rounds-spec : {M : Type 1} → statement M
     (expr-width-at-requires-3 t)
     (expr-wide-requires-3 t)
     (expr-wide-requires-4 t)
-    (expr-slice-aggregate-rounds t)
     (expr-rounds-requires t)
     (expr-enum-told-9 t)
     (expr-same-length t)
@@ -3833,19 +3726,16 @@ pub +body+expr+rounds-spec : {M : Type 1} → statement M
     (rounds-body-requires t)
     (rounds-enum-told t)
     (rounds-same-length t)
-    (rounds-same-length-2 t)
     (rounds-returns t)
     (rounds-enum-known-m t)
     (rounds-slice-aggregate-copy t)
     (rounds-copy-requires t)
-    (rounds-same-length-3 t)
-    (rounds-same-length-4 t)
+    (rounds-same-length-2 t)
     (rounds-returns-2 t)
     (rounds-enum-known-m-2 t)
     (rounds-slice-aggregate-copy-2 t)
     (rounds-copy-requires-2 t)
     (rounds-loop-less t)
     (rounds-loop-again t)
-    (rounds-same-length-5 t)
-    (rounds-same-length-6 t)
+    (rounds-same-length-3 t)
     (rounds-returns-3 t)

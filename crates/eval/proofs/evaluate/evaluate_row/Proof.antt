@@ -1,6 +1,5 @@
 -- The tests, as paths name them:
 --   tie if1  let inputs = names::count(names::minus(free, names::single(32))) as usize; ⏎ if !is_set(set, inputs) {
-use native.Mathlib.Omega.{arith}
 use borrow.Author.Needs.{needs}
 use Rattle.eval.proofs.evaluate.evaluate_row.Statement.{statement}
 use Rattle.eval.proofs.evaluate.evaluate_row.Tie as tie
@@ -25,88 +24,85 @@ use Rattle.eval.specs.Words.{envOf}
 use Rattle.eval.specs.Needs.{narrow}
 use Rattle.eval.specs.Inputs.{Holds}
 use Rattle.eval.specs.Conclude.{inputs-count, set-length, left-within, evaluated-bad, evaluated-good, concluded-short, concluded-left}
+use native.Mathlib.Omega.{arith}
 
--- src/evaluate.rt:117:50  { ⏎ let inputs = names::count(names::minus(free, names::single(32))) as usize;
+-- src/evaluate.rt:124:50  { ⏎ let inputs = names::count(names::minus(free, names::single(32))) as usize;
 single-requires : tie.Need-single-requires
 single-requires c κs = search needs
 
--- src/evaluate.rt:117:31  { ⏎ let inputs = names::count(names::minus(free, names::single(32))) as usize;
+-- src/evaluate.rt:124:31  { ⏎ let inputs = names::count(names::minus(free, names::single(32))) as usize;
 minus-requires : tie.Need-minus-requires
 minus-requires c κs = search needs
 
--- src/evaluate.rt:117:18  { ⏎ let inputs = names::count(names::minus(free, names::single(32))) as usize;
+-- src/evaluate.rt:124:18  { ⏎ let inputs = names::count(names::minus(free, names::single(32))) as usize;
 count-requires : tie.Need-count-requires
 count-requires c κs = search needs
 
--- src/evaluate.rt:117:18  { ⏎ let inputs = names::count(names::minus(free, names::single(32))) as usize;
+-- src/evaluate.rt:124:18  { ⏎ let inputs = names::count(names::minus(free, names::single(32))) as usize;
 cast-inputs : tie.Need-cast-inputs
 cast-inputs c = search needs
 
--- src/evaluate.rt:118:9  let inputs = names::count(names::minus(free, names::single(32))) as usize; ⏎ if !is_set(set, inputs) {
+-- src/evaluate.rt:125:9  let inputs = names::count(names::minus(free, names::single(32))) as usize; ⏎ if !is_set(set, inputs) {
 is-set-requires : tie.Need-is-set-requires
 is-set-requires c κs = search needs
 
--- src/evaluate.rt:119:9  if !is_set(set, inputs) { ⏎ return refuse(Refusal::Set, 0);
+-- src/evaluate.rt:126:9  if !is_set(set, inputs) { ⏎ return refuse(Refusal::Set, 0);
 refuse-requires : tie.Need-refuse-requires
 refuse-requires c κs = search needs
 
--- src/evaluate.rt:119:9  if !is_set(set, inputs) { ⏎ return refuse(Refusal::Set, 0);
+-- src/evaluate.rt:126:9  if !is_set(set, inputs) { ⏎ return refuse(Refusal::Set, 0);
 returns : tie.Need-returns
 returns c = c .refuse .ensures ∙ evaluated-bad (expOf (c .before .before .before .before .before .before .before .before .before .args .t .now) (c .before .before .before .before .before .before .before .before .before .args .n)) (c .before .before .before .count .result) (c .before .before .before .before .before .before .before .before .before .args .set .now) (c .before .before .before .before .before .before .before .before .before .args .rounds) (inputs-count (expOf (c .before .before .before .before .before .before .before .before .before .args .t .now) (c .before .before .before .before .before .before .before .before .before .args .n)) (c .before .before .before .before .before .before .before .before .before .args .free) (c .before .before .before .before .before .single .result) (c .before .before .before .before .minus .result) (c .before .before .before .count .result) (c .before .before .before .before .before .before .before .before .before .pre .1) (c .before .before .before .before .before .single .ensures) (c .before .before .before .before .minus .ensures) (c .before .before .before .count .ensures .0)) (sym (c .before .before .is-set .ensures) ∙ not-true (c .before .before .is-set .result) (c .before .if1 .taken))
 
--- src/evaluate.rt:122:10  let mut env = [0; 32]; ⏎ hold(&mut env, free, set, inputs);
+-- src/evaluate.rt:129:10  let mut env = [0; 32]; ⏎ hold(&mut env, free, set, inputs);
 slice-aggregate-hold : tie.Need-slice-aggregate-hold
 slice-aggregate-hold c = search needs
 
--- src/evaluate.rt:122:5  let mut env = [0; 32]; ⏎ hold(&mut env, free, set, inputs);
+-- src/evaluate.rt:129:5  let mut env = [0; 32]; ⏎ hold(&mut env, free, set, inputs);
 hold-requires : tie.Need-hold-requires
 hold-requires c κs = (refl, set-length (c .before .before .before .count .result) (c .before .before .before .before .before .before .before .before .before .args .set .now) (sym (c .before .before .is-set .ensures) ∙ not-false (c .before .before .is-set .result) (c .before .if1 .left)), c .before .before .before .count .ensures .1)
 
--- src/evaluate.rt:124:30  let mut out = [0; 16]; ⏎ match expr(t, widths, n, &env, &mut out, 0, rounds) {
+-- src/evaluate.rt:131:36  let mut out = [0; 16]; ⏎ match expr(t, widths, n, &env, &mut out, 0, rounds) {
 slice-aggregate-expr : tie.Need-slice-aggregate-expr
 slice-aggregate-expr c = search needs
 
--- src/evaluate.rt:124:36  let mut out = [0; 16]; ⏎ match expr(t, widths, n, &env, &mut out, 0, rounds) {
-slice-aggregate-expr-2 : tie.Need-slice-aggregate-expr-2
-slice-aggregate-expr-2 c = search needs
-
--- src/evaluate.rt:124:11  let mut out = [0; 16]; ⏎ match expr(t, widths, n, &env, &mut out, 0, rounds) {
+-- src/evaluate.rt:131:11  let mut out = [0; 16]; ⏎ match expr(t, widths, n, &env, &mut out, 0, rounds) {
 expr-requires : tie.Need-expr-requires
 expr-requires c κs = (c .before .before .before .before .before .before .before .before .before .before .before .before .before .pre .0, c .before .before .before .hold .ensures .long, omega (arith, narrow (c .before .before .before .before .before .before .before .before .before .before .before .before .before .args .t .now) (c .before .before .before .before .before .before .before .before .before .before .before .before .before .args .widths .now) (c .before .before .before .before .before .before .before .before .before .before .before .before .before .args .n) (c .before .before .before .before .before .before .before .before .before .before .before .before .before .pre .0)))
 
--- src/evaluate.rt:125:31  match expr(t, widths, n, &env, &mut out, 0, rounds) { ⏎ Rest::Short => refuse(Refusal::Unfinished, 0),
+-- src/evaluate.rt:132:31  match expr(t, widths, n, &env, &mut out, 0, rounds) { ⏎ Rest::Short => refuse(Refusal::Unfinished, 0),
 enum-told : tie.Need-enum-told
 enum-told c = search needs
 
--- src/evaluate.rt:125:24  match expr(t, widths, n, &env, &mut out, 0, rounds) { ⏎ Rest::Short => refuse(Refusal::Unfinished, 0),
+-- src/evaluate.rt:132:24  match expr(t, widths, n, &env, &mut out, 0, rounds) { ⏎ Rest::Short => refuse(Refusal::Unfinished, 0),
 refuse-requires-2 : tie.Need-refuse-requires-2
 refuse-requires-2 c κs = search needs
 
--- src/evaluate.rt:126:20  Rest::Short => refuse(Refusal::Unfinished, 0), ⏎ Rest::Left(l) => conclude(&out, width_at(widths, n), rounds - l),
+-- src/evaluate.rt:133:20  Rest::Short => refuse(Refusal::Unfinished, 0), ⏎ Rest::Left(l) => conclude(&out, width_at(widths, n), rounds - l),
 enum-known-l : tie.Need-enum-known-l
 enum-known-l c = search needs
 
--- src/evaluate.rt:126:35  Rest::Short => refuse(Refusal::Unfinished, 0), ⏎ Rest::Left(l) => conclude(&out, width_at(widths, n), rounds - l),
+-- src/evaluate.rt:133:35  Rest::Short => refuse(Refusal::Unfinished, 0), ⏎ Rest::Left(l) => conclude(&out, width_at(widths, n), rounds - l),
 slice-aggregate-conclude : tie.Need-slice-aggregate-conclude
 slice-aggregate-conclude c = search needs
 
--- src/evaluate.rt:126:41  Rest::Short => refuse(Refusal::Unfinished, 0), ⏎ Rest::Left(l) => conclude(&out, width_at(widths, n), rounds - l),
+-- src/evaluate.rt:133:41  Rest::Short => refuse(Refusal::Unfinished, 0), ⏎ Rest::Left(l) => conclude(&out, width_at(widths, n), rounds - l),
 width-at-requires : tie.Need-width-at-requires
 width-at-requires c κs = search needs
 
--- src/evaluate.rt:126:62  Rest::Short => refuse(Refusal::Unfinished, 0), ⏎ Rest::Left(l) => conclude(&out, width_at(widths, n), rounds - l),
+-- src/evaluate.rt:133:62  Rest::Short => refuse(Refusal::Unfinished, 0), ⏎ Rest::Left(l) => conclude(&out, width_at(widths, n), rounds - l),
 sub-conclude : tie.Need-sub-conclude
 sub-conclude c = left-within (expOf (c .before .before .before .before .before .before .before .before .before .before .before .before .before .before .before .before .before .before .before .before .args .t .now) (c .before .before .before .before .before .before .before .before .before .before .before .before .before .before .before .before .before .before .before .before .args .n)) (envOf (c .before .before .before .before .before .before .before .before .before .before .hold .last .0)) (c .before .before .before .before .before .before .before .before .before .before .before .before .before .before .before .before .before .before .before .before .args .rounds) (c .before .before .before .l .given .0 .0) 0 (replicate 16 0) (c .before .before .before .before .before .before .expr .last .1 .1 .1 .1 .0) (rw (c .before .before .before .l .given .1) at (c .before .before .before .before .before .before .expr .ensures .0))
 
--- src/evaluate.rt:126:26  Rest::Short => refuse(Refusal::Unfinished, 0), ⏎ Rest::Left(l) => conclude(&out, width_at(widths, n), rounds - l),
+-- src/evaluate.rt:133:26  Rest::Short => refuse(Refusal::Unfinished, 0), ⏎ Rest::Left(l) => conclude(&out, width_at(widths, n), rounds - l),
 conclude-requires : tie.Need-conclude-requires
 conclude-requires c κs = search needs
 
--- src/evaluate.rt:113:1  // Row n as the formula, whose free names are the mask `free`, on a set. ⏎ pub fn evaluate_row(t: &[u32], widths: &[u8], n: usize, free: u64, set: &[u8], rounds: u32) -> Evaluation
+-- src/evaluate.rt:113:1  // Row n as the formula, whose free names are the mask `free`, on a set. ⏎ pub fn evaluate_row(
 returns-2 : tie.Need-returns-2
 returns-2 c = c .refuse2 .ensures ∙ concluded-short (evalE (expOf (c .before .before .before .before .before .before .before .before .before .before .before .before .before .before .before .before .before .before .args .t .now) (c .before .before .before .before .before .before .before .before .before .before .before .before .before .before .before .before .before .before .args .n)) (envOf (c .before .before .before .before .before .before .before .before .hold .last .0)) (c .before .before .before .before .before .before .before .before .before .before .before .before .before .before .before .before .before .before .args .rounds)) (c .before .before .before .before .before .before .before .before .before .before .before .before .before .before .before .before .before .before .args .rounds) 0 (replicate 16 0) (c .before .before .before .before .expr .last .1 .1 .1 .1 .0) (rw (c .before .enum-told .given .1) at (c .before .before .before .before .expr .ensures .0)) ∙ evaluated-good (expOf (c .before .before .before .before .before .before .before .before .before .before .before .before .before .before .before .before .before .before .args .t .now) (c .before .before .before .before .before .before .before .before .before .before .before .before .before .before .before .before .before .before .args .n)) (c .before .before .before .before .before .before .before .before .before .before .before .before .count .result) (c .before .before .before .before .before .before .before .before .before .before .before .before .before .before .before .before .before .before .args .set .now) (c .before .before .before .before .before .before .before .before .before .before .before .before .before .before .before .before .before .before .args .rounds) (c .before .before .before .before .before .before .before .before .hold .last .0) (inputs-count (expOf (c .before .before .before .before .before .before .before .before .before .before .before .before .before .before .before .before .before .before .args .t .now) (c .before .before .before .before .before .before .before .before .before .before .before .before .before .before .before .before .before .before .args .n)) (c .before .before .before .before .before .before .before .before .before .before .before .before .before .before .before .before .before .before .args .free) (c .before .before .before .before .before .before .before .before .before .before .before .before .before .before .single .result) (c .before .before .before .before .before .before .before .before .before .before .before .before .before .minus .result) (c .before .before .before .before .before .before .before .before .before .before .before .before .count .result) (c .before .before .before .before .before .before .before .before .before .before .before .before .before .before .before .before .before .before .pre .1) (c .before .before .before .before .before .before .before .before .before .before .before .before .before .before .single .ensures) (c .before .before .before .before .before .before .before .before .before .before .before .before .before .minus .ensures) (c .before .before .before .before .before .before .before .before .before .before .before .before .count .ensures .0)) (sym (c .before .before .before .before .before .before .before .before .before .before .before .is-set .ensures) ∙ not-false (c .before .before .before .before .before .before .before .before .before .before .before .is-set .result) (c .before .before .before .before .before .before .before .before .before .before .if1 .left)) (subst (λ (z : ℕ). Holds (c .before .before .before .before .before .before .before .before .before .before .before .before .before .before .before .before .before .before .args .set .now) (c .before .before .before .before .before .before .before .before .before .before .before .before .count .result) z (c .before .before .before .before .before .before .before .before .hold .last .0) 32) (c .before .before .before .before .before .before .before .before .before .before .before .before .before .before .before .before .before .before .pre .1) (c .before .before .before .before .before .before .before .before .hold .ensures))
 
--- src/evaluate.rt:113:1  // Row n as the formula, whose free names are the mask `free`, on a set. ⏎ pub fn evaluate_row(t: &[u32], widths: &[u8], n: usize, free: u64, set: &[u8], rounds: u32) -> Evaluation
+-- src/evaluate.rt:113:1  // Row n as the formula, whose free names are the mask `free`, on a set. ⏎ pub fn evaluate_row(
 returns-3 : tie.Need-returns-3
 returns-3 c = concluded-left (c .before .before .before .before .before .before .before .before .before .before .before .before .before .before .before .before .before .before .before .before .before .args .t .now) (c .before .before .before .before .before .before .before .before .before .before .before .before .before .before .before .before .before .before .before .before .before .args .widths .now) (c .before .before .before .before .before .before .before .before .before .before .before .before .before .before .before .before .before .before .before .before .before .args .n) (c .before .before .before .before .before .before .before .before .before .before .before .before .before .before .before .before .before .before .before .before .before .pre .0) (envOf (c .before .before .before .before .before .before .before .before .before .before .before .hold .last .0)) (c .before .before .before .before .before .before .before .before .before .before .before .before .before .before .before .before .before .before .before .before .before .args .rounds) (c .before .before .before .before .l .given .0 .0) (c .before .before .before .before .before .before .before .expr .last .1 .1 .1 .1 .0) (c .conclude .result) (rw (c .before .before .before .before .l .given .1) at (c .before .before .before .before .before .before .before .expr .ensures .0)) (c .before .before .before .before .before .before .before .expr .ensures .1) (c .conclude .ensures .0) (c .conclude .ensures .1 ∙ c .before .width-at .ensures .0) (c .conclude .ensures .2) (c .conclude .ensures .3) ∙ evaluated-good (expOf (c .before .before .before .before .before .before .before .before .before .before .before .before .before .before .before .before .before .before .before .before .before .args .t .now) (c .before .before .before .before .before .before .before .before .before .before .before .before .before .before .before .before .before .before .before .before .before .args .n)) (c .before .before .before .before .before .before .before .before .before .before .before .before .before .before .before .count .result) (c .before .before .before .before .before .before .before .before .before .before .before .before .before .before .before .before .before .before .before .before .before .args .set .now) (c .before .before .before .before .before .before .before .before .before .before .before .before .before .before .before .before .before .before .before .before .before .args .rounds) (c .before .before .before .before .before .before .before .before .before .before .before .hold .last .0) (inputs-count (expOf (c .before .before .before .before .before .before .before .before .before .before .before .before .before .before .before .before .before .before .before .before .before .args .t .now) (c .before .before .before .before .before .before .before .before .before .before .before .before .before .before .before .before .before .before .before .before .before .args .n)) (c .before .before .before .before .before .before .before .before .before .before .before .before .before .before .before .before .before .before .before .before .before .args .free) (c .before .before .before .before .before .before .before .before .before .before .before .before .before .before .before .before .before .single .result) (c .before .before .before .before .before .before .before .before .before .before .before .before .before .before .before .before .minus .result) (c .before .before .before .before .before .before .before .before .before .before .before .before .before .before .before .count .result) (c .before .before .before .before .before .before .before .before .before .before .before .before .before .before .before .before .before .before .before .before .before .pre .1) (c .before .before .before .before .before .before .before .before .before .before .before .before .before .before .before .before .before .single .ensures) (c .before .before .before .before .before .before .before .before .before .before .before .before .before .before .before .before .minus .ensures) (c .before .before .before .before .before .before .before .before .before .before .before .before .before .before .before .count .ensures .0)) (sym (c .before .before .before .before .before .before .before .before .before .before .before .before .before .before .is-set .ensures) ∙ not-false (c .before .before .before .before .before .before .before .before .before .before .before .before .before .before .is-set .result) (c .before .before .before .before .before .before .before .before .before .before .before .before .before .if1 .left)) (subst (λ (z : ℕ). Holds (c .before .before .before .before .before .before .before .before .before .before .before .before .before .before .before .before .before .before .before .before .before .args .set .now) (c .before .before .before .before .before .before .before .before .before .before .before .before .before .before .before .count .result) z (c .before .before .before .before .before .before .before .before .before .before .before .hold .last .0) 32) (c .before .before .before .before .before .before .before .before .before .before .before .before .before .before .before .before .before .before .before .before .before .pre .1) (c .before .before .before .before .before .before .before .before .before .before .before .hold .ensures))
 
@@ -124,7 +120,6 @@ evaluate-row-spec =
     slice-aggregate-hold
     hold-requires
     slice-aggregate-expr
-    slice-aggregate-expr-2
     expr-requires
     enum-told
     refuse-requires-2

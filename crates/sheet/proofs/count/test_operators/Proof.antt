@@ -7,7 +7,7 @@ use Rattle.sheet.proofs.count.links_of.Reads as links-of-reads
 use Rattle.sheet.proofs.count.named_total.Reads as named-total-reads
 use Rattle.sheet.proofs.count.operators_of.Reads as operators-of-reads
 use Rattle.sheet.proofs.count.own_of.Reads as own-of-reads
-use Rattle.sheet.proofs.shape.shape_at.Reads as shape-at-reads
+use Rattle.fields.proofs.shape.shape_at.Reads as shape-at-reads
 use Rattle.sheet.proofs.widths.width_at.Reads as width-at-reads
 use mathlib.Core.Path.{sym, _∙_, ap, refl, subst, _≡_}
 use mathlib.Core.Bool.{true, false}

@@ -4,7 +4,7 @@ use Rattle.sheet.proofs.ends.find_ends.Tie as tie
 use Rattle.sheet.proofs.ends.find_ends.Reads as reads
 use Rattle.sheet.proofs.ends.find_ends.Lts as lts
 use Rattle.sheet.proofs.ends.ends_of.Reads as ends-of-reads
-use Rattle.sheet.proofs.shape.shape_at.Reads as shape-at-reads
+use Rattle.fields.proofs.shape.shape_at.Reads as shape-at-reads
 use mathlib.Core.Path.{sym, _∙_, ap, refl, subst, _≡_}
 use native.Mathlib.Omega.{arith}
 use Prim.Native.Nat.{ℕ, _+_, _-_, _≤_}

@@ -5,7 +5,7 @@ use Rattle.sheet.proofs.loops.find_loops.Reads as reads
 use Rattle.sheet.proofs.loops.find_loops.Lts as lts
 use Rattle.sheet.proofs.loops.fill_row.Reads as fill-row-reads
 use Rattle.sheet.proofs.loops.hand_on.Reads as hand-on-reads
-use Rattle.sheet.proofs.shape.shape_at.Reads as shape-at-reads
+use Rattle.fields.proofs.shape.shape_at.Reads as shape-at-reads
 use mathlib.Core.Path.{sym, _∙_, ap, refl, subst, _≡_}
 use mathlib.Core.Bool.{false}
 use native.Mathlib.Omega.{arith}

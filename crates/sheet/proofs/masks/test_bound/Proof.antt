@@ -5,7 +5,7 @@ use Rattle.sheet.proofs.masks.test_bound.Reads as reads
 use Rattle.sheet.proofs.masks.test_bound.Lts as lts
 use Rattle.sheet.proofs.masks.bound_well.Reads as bound-well-reads
 use Rattle.sheet.proofs.masks.mask_of.Reads as mask-of-reads
-use Rattle.sheet.proofs.shape.shape_at.Reads as shape-at-reads
+use Rattle.fields.proofs.shape.shape_at.Reads as shape-at-reads
 use mathlib.Core.Path.{sym, _∙_, ap, refl, subst, _≡_}
 use mathlib.Core.Bool.{true, false}
 use native.Mathlib.Omega.{arith}

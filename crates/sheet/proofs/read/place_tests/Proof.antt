@@ -3,9 +3,9 @@ use Rattle.sheet.proofs.read.place_tests.Statement.{statement}
 use Rattle.sheet.proofs.read.place_tests.Tie as tie
 use Rattle.sheet.proofs.read.place_tests.Reads as reads
 use Rattle.sheet.proofs.read.place_tests.Lts as lts
-use Rattle.sheet.proofs.places.find_places.Reads as find-places-reads
-use Rattle.sheet.proofs.places.test_places.Reads as test-places-reads
-use Rattle.sheet.proofs.rows.test_named.Reads as test-named-reads
+use Rattle.fields.proofs.places.find_places.Reads as find-places-reads
+use Rattle.fields.proofs.places.test_places.Reads as test-places-reads
+use Rattle.fields.proofs.rows.test_named.Reads as test-named-reads
 use mathlib.Core.Path.{sym, _∙_, ap, refl, subst, _≡_}
 use mathlib.Core.Bool.{true, false}
 use native.Mathlib.Omega.{arith}

@@ -3,11 +3,11 @@ use Rattle.sheet.proofs.read.read_tables.Statement.{statement}
 use Rattle.sheet.proofs.read.read_tables.Tie as tie
 use Rattle.sheet.proofs.read.read_tables.Reads as reads
 use Rattle.sheet.proofs.read.read_tables.Lts as lts
-use Rattle.sheet.proofs.blank.bytes.Reads as bytes-reads
-use Rattle.sheet.proofs.blank.fields.Reads as fields-reads
-use Rattle.sheet.proofs.blank.marks.Reads as marks-reads
-use Rattle.sheet.proofs.blank.numbers.Reads as numbers-reads
-use Rattle.sheet.proofs.blank.words.Reads as words-reads
+use Rattle.fields.proofs.blank.bytes.Reads as bytes-reads
+use Rattle.fields.proofs.blank.fields.Reads as fields-reads
+use Rattle.fields.proofs.blank.marks.Reads as marks-reads
+use Rattle.fields.proofs.blank.numbers.Reads as numbers-reads
+use Rattle.fields.proofs.blank.words.Reads as words-reads
 use Rattle.sheet.proofs.read.formula_tests.Reads as formula-tests-reads
 use Rattle.sheet.proofs.read.row_tests.Reads as row-tests-reads
 use mathlib.Core.Path.{sym, _∙_, ap, refl, subst, _≡_}
@@ -22,8 +22,8 @@ use Rattle.formula.specs.Sheet.{rowCount, fieldsOf}
 use Rattle.formula.specs.SheetLaws.{fields-length}
 use Rattle.formula.specs.Tests.{lowest, rangesWell, namesWell}
 use Rattle.sheet.specs.Reading.{formulaVerdict, Rowed}
-use Rattle.sheet.proofs.RowLaws.{take-replicate}
-use Rattle.sheet.proofs.TableLaws.{part-length, part-back}
+use Rattle.fields.proofs.RowLaws.{take-replicate}
+use Rattle.fields.proofs.TableLaws.{part-length, part-back}
 use Rattle.sheet.proofs.ReadLaws.{rowwise, rows-few, some-rows, rows-refuse, formula-decides, rowed-as}
 
 -- src/read.rt:198:22  { ⏎ let mut fields = blank::fields();

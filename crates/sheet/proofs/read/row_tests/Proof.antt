@@ -3,11 +3,11 @@ use Rattle.sheet.proofs.read.row_tests.Statement.{statement}
 use Rattle.sheet.proofs.read.row_tests.Tie as tie
 use Rattle.sheet.proofs.read.row_tests.Reads as reads
 use Rattle.sheet.proofs.read.row_tests.Lts as lts
-use Rattle.sheet.proofs.decode.decode.Reads as decode-reads
-use Rattle.sheet.proofs.layout.few_rows.Reads as few-rows-reads
-use Rattle.sheet.proofs.layout.laid_out.Reads as laid-out-reads
-use Rattle.sheet.proofs.rows.test_naming.Reads as test-naming-reads
-use Rattle.sheet.proofs.rows.test_ranges.Reads as test-ranges-reads
+use Rattle.fields.proofs.decode.decode.Reads as decode-reads
+use Rattle.fields.proofs.layout.few_rows.Reads as few-rows-reads
+use Rattle.fields.proofs.layout.laid_out.Reads as laid-out-reads
+use Rattle.fields.proofs.rows.test_naming.Reads as test-naming-reads
+use Rattle.fields.proofs.rows.test_ranges.Reads as test-ranges-reads
 use mathlib.Core.Path.{sym, _∙_, ap, refl, subst, _≡_}
 use mathlib.Core.Bool.{true, false}
 use native.Mathlib.Omega.{arith}

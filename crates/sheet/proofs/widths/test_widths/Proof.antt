@@ -3,7 +3,7 @@ use Rattle.sheet.proofs.widths.test_widths.Statement.{statement}
 use Rattle.sheet.proofs.widths.test_widths.Tie as tie
 use Rattle.sheet.proofs.widths.test_widths.Reads as reads
 use Rattle.sheet.proofs.widths.test_widths.Lts as lts
-use Rattle.sheet.proofs.shape.shape_at.Reads as shape-at-reads
+use Rattle.fields.proofs.shape.shape_at.Reads as shape-at-reads
 use Rattle.sheet.proofs.widths.wide.Reads as wide-reads
 use Rattle.sheet.proofs.widths.widths_of.Reads as widths-of-reads
 use mathlib.Core.Path.{sym, _∙_, ap, refl, subst, _≡_}

@@ -13,7 +13,7 @@ use native.Mathlib.Omega.{arith}
 use Rattle.formula.specs.Sheet.{namedIn}
 use Rattle.formula.specs.TreeLaws.{AllBetween}
 use Rattle.sheet.specs.Widths.{widthsBy}
-use Rattle.sheet.proofs.RowLaws.{and-true-last}
+use Rattle.fields.proofs.RowLaws.{and-true-last}
 
 -- src/widths.rt:96:33  match s { ⏎ Shape::Identifier(_) => one(),
 enum-told : tie.Need-enum-told

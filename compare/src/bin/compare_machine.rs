@@ -1,0 +1,236 @@
+// Runs random lists of calls through the product's machine and through the plain one here, on the same bytes, and stops at the first difference, which it
+// prints. After every call the answers and every byte must agree; bytes past the lent ones must be as they were. Where nothing but calls wrote the
+// memory, each result taken must also be what direct evaluation gives for the set pushed (demand 3).
+// Usage: compare_machine CASES SEED [FIRST]. `compare_machine 1 SEED NUMBER` makes a case again.
+
+use compare::bytes::{self, OUT_BYTES, VALUE_BYTES};
+use compare::memory::{self, Answer, MOST_LINKS};
+use compare::random::faults::plant;
+use compare::random::{accepted_sheet, heavy_sheet, random_set, random_value, Made, Rng, Sort};
+use compare::sheet::{self, Sheet};
+use compare::{eval, product};
+use std::collections::{BTreeMap, VecDeque};
+use std::{env, process};
+
+/// The rounds within which an evaluation is looked for.
+const ROUNDS: u32 = 2_000;
+
+/// Bytes behind the lent ones.
+const MARGIN: usize = 32;
+
+type Counts = BTreeMap<String, u64>;
+
+fn main() {
+    let words: Vec<u64> = env::args().skip(1).map(|word| word.parse().unwrap_or_else(|_| usage())).collect();
+    let (cases, seed, first) = match words[..] {
+        [cases, seed] => (cases, seed, 0),
+        [cases, seed, first] => (cases, seed, first),
+        _ => usage(),
+    };
+    let mut counts = Counts::new();
+    for number in first..first + cases {
+        let mut rng = Rng::new(seed.wrapping_mul(1 << 32).wrapping_add(number));
+        let made = random_sheet(number, &mut rng);
+        if let Err(difference) = compare_case(number, &made, &mut counts, &mut rng) {
+            println!("case {number} of seed {seed}\n{}", made.bytes.escape_ascii().to_string().replace("\\n", "\\n\n"));
+            println!("{difference}");
+            process::exit(1);
+        }
+    }
+    let list: Vec<String> = counts.iter().map(|(kind, count)| format!("{kind} {count}")).collect();
+    println!("no difference in {cases} cases; compared: {}", list.join(", "));
+}
+
+fn usage() -> ! {
+    eprintln!("usage: compare_machine CASES SEED [FIRST]");
+    process::exit(2)
+}
+
+fn random_sheet(number: u64, rng: &mut Rng) -> Made {
+    match number % 20 {
+        0 => heavy_sheet(rng),
+        1 => Made { bytes: plant(rng.between(1, 10) as u32, rng).bytes, sorts: [Sort::Whole; 32] },
+        _ => accepted_sheet(rng),
+    }
+}
+
+/// A machine under comparison: its memory, and the sets pushed and not yet taken while nothing else wrote it.
+struct Run<'a> {
+    made: &'a Made,
+    sheet: &'a Sheet,
+    mem: Vec<u8>,
+    pushed: VecDeque<Vec<u8>>,
+    altered: bool,
+    counts: &'a mut Counts,
+}
+
+fn compare_case(number: u64, made: &Made, counts: &mut Counts, rng: &mut Rng) -> Result<(), String> {
+    let capacity = if rng.chance(95) { rng.between(1, 16) as u32 } else { rng.pick(&[0, 17, 255, 256, 257, u32::MAX]) };
+    let need = memory::need(capacity as usize);
+    let length = if rng.chance(95) { need + rng.below(3) } else { rng.pick(&[0, 1, 21_760, need - 1]) };
+    let fill = rng.number() as u8;
+    let held: Vec<u8> = (0..length + MARGIN).map(|at| (at as u8).wrapping_mul(31).wrapping_add(fill)).collect();
+    let (mut plain, mut mem) = (held.clone(), held.clone());
+    let ours = memory::start(&made.bytes, capacity, &mut plain[..length]);
+    let theirs = product::start(&made.bytes, capacity, &mut mem[..length]);
+    *counts.entry(format!("start with {:2}", ours.refusal)).or_default() += 1;
+    if ours != theirs || mem[length..] != held[length..] || (theirs.refusal != 0 && mem != held) {
+        return Err(format!("start at capacity {capacity} gives here {ours:?}, the product answers {theirs:?}"));
+    }
+    if ours.refusal != 0 {
+        return Ok(());
+    }
+    let sheet = sheet::read(&made.bytes).map_err(|refusal| format!("{refusal:?}"))?;
+    // The product's own graph, and now and then the one made here: the calls must do with both.
+    let mem = if number % 4 == 3 { plain } else { mem };
+    let mut run = Run { made, sheet: &sheet, mem, pushed: VecDeque::new(), altered: false, counts };
+    let alters = rng.chance(40);
+    for _ in 0..rng.between(10, 80) {
+        if alters && rng.chance(15) {
+            alter(&mut run.mem, length, rng);
+            run.altered = true;
+        }
+        run.call(length, rng)?;
+    }
+    Ok(())
+}
+
+impl Run<'_> {
+    fn call(&mut self, length: usize, rng: &mut Rng) -> Result<(), String> {
+        let lent = if rng.chance(97) { length } else { rng.pick(&[0, 1, 8, length - 1 - length / 3, length - 3]) };
+        let (mut plain, mut mem) = (self.mem.clone(), self.mem.clone());
+        let (mut plain_out, mut out) = (vec![0x55; 90], vec![0x55; 90]);
+        let room = if rng.chance(97) { OUT_BYTES + rng.below(3) } else { rng.pick(&[0, 79]) };
+        let (name, ours, theirs, set) = match rng.below(10) {
+            0..=2 => {
+                let set = self.random_set(rng);
+                ("push", memory::push(&mut plain[..lent], &set), product::push(&mut mem[..lent], &set), set)
+            }
+            3 | 4 => {
+                let operators = self.sheet.figures.operators.max(1);
+                let number = if rng.chance(90) {
+                    rng.below(operators as usize) as u32
+                } else {
+                    rng.pick(&[0, operators - 1, operators, u32::MAX])
+                };
+                ("fire", memory::fire(&mut plain[..lent], number), product::fire(&mut mem[..lent], number), vec![])
+            }
+            5 | 6 => {
+                let firings = rng.pick(&[0, 1, 2, 7, 50, 1000, 20_000]);
+                ("run", memory::run(&mut plain[..lent], firings), product::run(&mut mem[..lent], firings), vec![])
+            }
+            _ => {
+                let ours = memory::take(&mut plain[..lent], &mut plain_out[..room]);
+                ("take", ours, product::take(&mut mem[..lent], &mut out[..room]), vec![])
+            }
+        };
+        *self.counts.entry(format!("{name} with {:2}", ours.refusal)).or_default() += 1;
+        if ours != theirs || mem != plain || out != plain_out {
+            return Err(format!("{name}: {}", difference(ours, theirs, &plain, &mem)));
+        }
+        let unaltered =
+            ours.refusal == 0 || (ours.refusal == 36 && ours.count > 0) || (mem == self.mem && out == [0x55; 90]);
+        if !unaltered {
+            return Err(format!("{name} refused with {} altered its memory", ours.refusal));
+        }
+        if ours.refusal == 31 && !self.altered {
+            return Err(format!("{name} gives 31 for memory that only calls wrote"));
+        }
+        self.mem = mem;
+        self.follow(name, ours, set, &out)
+    }
+
+    /// Demand 3: the result taken is that of the oldest set untaken.
+    fn follow(&mut self, name: &str, answer: Answer, set: Vec<u8>, out: &[u8]) -> Result<(), String> {
+        if self.altered || answer.refusal != 0 {
+            return Ok(());
+        }
+        if name == "push" {
+            self.pushed.push_back(set);
+        }
+        if name != "take" {
+            return Ok(());
+        }
+        let set = self.pushed.pop_front().ok_or("a result was taken that no set was pushed for")?;
+        let values = bytes::decode_set(&set).ok_or("a bad set was accepted")?;
+        if let Ok(done) = eval::evaluate(self.sheet, &values, ROUNDS) {
+            *self.counts.entry("results held to evaluation".into()).or_default() += 1;
+            if bytes::encode_result(&done.set) != out[..OUT_BYTES] || done.set.width as u32 != answer.count {
+                return Err(format!("the result of {set:02x?} is {out:02x?}, evaluation gives {:?}", done.set));
+            }
+        }
+        Ok(())
+    }
+
+    /// Mostly a set that fits.
+    fn random_set(&self, rng: &mut Rng) -> Vec<u8> {
+        let mut values = random_set(self.made, self.sheet, rng);
+        if rng.chance(3) {
+            values.push(random_value(Sort::Whole, rng));
+        }
+        let mut set = bytes::encode_set(&values);
+        if rng.chance(3) && !set.is_empty() {
+            let at = rng.below(set.len());
+            set[at] = rng.pick(&[0, 1, 2, 3, 4, 255]);
+        }
+        if rng.chance(2) {
+            set.pop();
+        }
+        set
+    }
+}
+
+fn difference(ours: Answer, theirs: Answer, plain: &[u8], mem: &[u8]) -> String {
+    let places: Vec<usize> = (0..mem.len()).filter(|&at| mem[at] != plain[at]).take(8).collect();
+    format!("here {ours:?}, the product answers {theirs:?}; bytes differ at {places:?}")
+}
+
+/// A change of one figure: header, record, register, length or token, to a value about its range.
+fn alter(mem: &mut [u8], length: usize, rng: &mut Rng) {
+    let word = |mem: &[u8], at: usize| usize::from(mem[at]) + 256 * usize::from(mem[at + 1]);
+    let (operators, links) = (word(mem, 1).clamp(1, 1024), word(mem, 3).clamp(1, MOST_LINKS));
+    let size = 1 + VALUE_BYTES * usize::from(mem[0]).clamp(1, 16);
+    let operator = rng.below(operators);
+    // A changed capacity moves the stretches: the last place then stands for one past the end.
+    let link = (21_760 + rng.below(links) * size).min(length - 6);
+    match rng.below(12) {
+        0 => mem[rng.pick(&[0, 5, 6, 7])] = rng.pick(&[0, 1, 2, 15, 16, 17, 31, 32, 33, 255]),
+        1 => write(
+            mem,
+            rng.pick(&[1, 3]),
+            rng.pick(&[0, operators, operators + 1, links, links + 1, links - 1, 1024, 1025, 3105, 3106, 65_535]),
+        ),
+        2 => write(mem, rng.pick(&[8, 10, 12, 74, 76]), rng.pick(&[0, 1, links - 1, links, 65_535])),
+        3 => mem[256 + 16 * operator] = rng.between(0, 22) as u8,
+        4 | 5 => write(
+            mem,
+            256 + 16 * operator + 2 + 2 * rng.below(6),
+            rng.pick(&[rng_link(links, 3), rng_link(links, 7), links, 65_535]),
+        ),
+        6 => mem[16_640 + 5 * operator + rng.below(5)] = rng.pick(&[0, 1, 2, 3, 4, 255]),
+        7 | 8 => mem[link] = rng.pick(&[0, 1, 2, 15, 16, 17, 255]),
+        9 | 10 => {
+            let value = rng.pick(&[
+                [1, 5, 0, 0, 0],
+                [2, 0, 0, 0, 0],
+                [2, 1, 0, 0, 0],
+                [2, 2, 0, 0, 0],
+                [3, 0, 0, 0, 0],
+                [3, 1, 0, 0, 0],
+                [0; 5],
+                [4, 0, 0, 0, 0],
+            ]);
+            mem[link + 1..link + 6].copy_from_slice(&value);
+            mem[link] = mem[link].max(1);
+        }
+        _ => mem[rng.below(length)] = rng.number() as u8,
+    }
+}
+
+fn rng_link(links: usize, step: usize) -> usize {
+    links * step % 11 * links / 11 % links
+}
+
+fn write(mem: &mut [u8], at: usize, number: usize) {
+    mem[at..at + 2].copy_from_slice(&(number as u16).to_le_bytes());
+}

@@ -1,0 +1,49 @@
+-- Document 01's marked example "sixteen pushes at capacity 16 pass, the seventeenth gives 32" on the machine's memory: the case of the one list (Cases), which
+-- reads the answers off the links, carried over by the law that pushes on bytes are answered as the links say (demand/specs/Pushes). For every memory of the
+-- length that start needs, and pushes lent no less of it. Assumes nothing else.
+use Prim.Native.Nat.{ℕ, _≤_}
+use mathlib.Core.Path.{_≡_, refl, ap, _∙_}
+use mathlib.Core.List.{List, [], _∷_, _++_}
+use mathlib.Core.Option.{some}
+use native.Mathlib.Omega.{arith}
+use lib.ListN.{length, getD, replicate}
+use Rattle.formula.specs.declared.Verdict.the-variants.{Passed}
+use Rattle.formula.specs.Tree.{formulaOf}
+use Rattle.formula.specs.Tests.{verdictOf}
+use Rattle.graph.specs.Translation.{madeOf}
+use Rattle.eval.specs.Evaluate.{setValues}
+use Rattle.layout.specs.Layout.{sizeOf, need}
+use Rattle.verdicts.specs.Running.{startOf}
+use Rattle.start.specs.Start.{started}
+use Rattle.demand.specs.Started.{start-accepts}
+use Rattle.demand.specs.Pushes.{pushRefusals, pushAnswers, pushes-from-start}
+use Rattle.examples.specs.Sheets.{bytes, lesser}
+use Rattle.cases.specs.Cases.{Answer, says, passes, operators, evaluates, refusals, setBytes, threeAndFive, got, cases, cases-worked}
+
+unfoldable refusalsIn : Answer → List ℕ
+refusalsIn (says r) = []
+refusalsIn (passes b) = []
+refusalsIn (operators n) = []
+refusalsIn (evaluates e) = []
+refusalsIn (refusals rs) = rs
+
+-- The first case of the list.
+case-worked : pushRefusals (formulaOf (bytes lesser)) 16 threeAndFive 17 (startOf (formulaOf (bytes lesser))) ≡ replicate 16 0 ++ (32 ∷ [])
+unfolding cases got refusalsIn
+case-worked = ap (λ (gs : List Answer). refusalsIn (getD gs 0 (refusals []))) cases-worked
+
+lesser-passed : verdictOf (bytes lesser) ≡ Passed
+unfolding verdictOf bytes lesser
+lesser-passed = refl
+
+set-read : setValues (madeOf (formulaOf (bytes lesser)) .inputs) (setBytes threeAndFive) ≡ some threeAndFive
+unfolding setValues madeOf formulaOf bytes lesser setBytes
+set-read = refl
+
+-- "sixteen pushes at capacity 16 pass, the seventeenth gives 32"
+pub seventeenth-refused : (memory : List ℕ) → need (sizeOf 16) ≤ length memory → (lent : ℕ) → need (sizeOf 16) ≤ lent
+    → pushAnswers lent 17 (setBytes threeAndFive) (started (bytes lesser) 16 memory .mem) ≡ replicate 16 0 ++ (32 ∷ [])
+seventeenth-refused memory long lent enough =
+    pushes-from-start (bytes lesser) 16 memory (start-accepts (bytes lesser) 16 memory lesser-passed (omega arith) (omega arith) long)
+    (setBytes threeAndFive) threeAndFive set-read lent enough 17
+    ∙ case-worked

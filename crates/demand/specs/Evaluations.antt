@@ -1,0 +1,66 @@
+-- Direct evaluation of bytes (eval/specs/Evaluate `evaluationOf`) beside the abstract machine's verdicts (verdicts/specs/Results `EndsWith`): for an accepted
+-- sheet and a set that can be read, a number of rounds is enough if and only if the formula yields values with it, and they are the result set's. Assumes
+-- the verdict Passed.
+use Prim.Native.Nat.{ℕ}
+use mathlib.Core.Path.{_≡_, refl, sym, ap, subst, _∙_}
+use mathlib.Core.List.{List}
+use mathlib.Core.Option.{Option, none, some}
+use lib.ListN.{length}
+use Rattle.value.specs.declared.Value.{Value}
+use Rattle.formula.specs.declared.Verdict.{Verdict}
+use Rattle.formula.specs.declared.Verdict.the-variants.{Passed, Refused}
+use Rattle.formula.specs.Tree.{formulaOf}
+use Rattle.formula.specs.Free.{freeE, inputsOf}
+use Rattle.formula.specs.Tests.{verdictOf}
+use Rattle.meaning.specs.Meaning.{Outcome, yields, inputsHold, evalE}
+use Rattle.eval.specs.Evaluate.{cellsOf, setValues, concluded, evaluated, evaluationOf}
+use Rattle.verdicts.specs.Results.{valuesOf, resultOf, EndsWith}
+use Rattle.ends.specs.ResultBytes.{cellBytes}
+use Rattle.demand.specs.MemoryCalls.{Result, result}
+use Rattle.demand.specs.Claim.{Enough, yielded}
+
+-- Values as a result set in bytes, with their width.
+unfoldable pub shown : List Value → Result
+shown r = result (length r) (cellBytes (cellsOf r))
+
+abbrev Is-passed : Verdict → Type 0
+Is-passed Passed = Unit {0}
+Is-passed (Refused r row) = ⊥
+
+abbrev Is-some : Option (List Value) → Type 0
+Is-some none = ⊥
+Is-some (some vs) = Unit {0}
+
+concluded-passed : (rounds : ℕ) (o : Outcome) → concluded rounds o .verdict ≡ Passed
+    → (r : List Value) × (valuesOf o ≡ some r) × (yielded (concluded rounds o) ≡ shown r)
+unfolding concluded yielded shown
+concluded-passed rounds (yields vs left) e = (vs, refl, refl)
+concluded-passed rounds Outcome.unfinished e = absurd (subst Is-passed (sym e) tt)
+
+concluded-enough : (rounds : ℕ) (o : Outcome) (r : List Value) → valuesOf o ≡ some r → concluded rounds o .verdict ≡ Passed
+unfolding concluded
+concluded-enough rounds (yields vs left) r e = refl
+concluded-enough rounds Outcome.unfinished r e = absurd (subst Is-some (sym e) tt)
+
+module _ (sheet : List ℕ) (ok : verdictOf sheet ≡ Passed) (set : List ℕ) (v : List Value) (read : setValues (length (inputsOf (formulaOf sheet))) set ≡ some v) where
+  evaluation-concludes : (rounds : ℕ)
+      → evaluationOf sheet set rounds ≡ concluded rounds (evalE (formulaOf sheet) (inputsHold (freeE (formulaOf sheet)) v) rounds)
+  unfolding evaluationOf evaluated
+  evaluation-concludes rounds = rw (ok, read) refl
+
+  -- A number of rounds that is enough yields the formula's values for the set.
+  pub enough-yields : (rounds : ℕ) → Enough sheet set rounds
+      → (r : List Value) × EndsWith (formulaOf sheet) v r × (yielded (evaluationOf sheet set rounds) ≡ shown r)
+  unfolding resultOf
+  enough-yields rounds h =
+      let e = evaluation-concludes rounds in
+      let o = evalE (formulaOf sheet) (inputsHold (freeE (formulaOf sheet)) v) rounds in
+      let p = concluded-passed rounds o (ap (λ z. z .verdict) (sym e) ∙ h) in
+      (p .0, (rounds, p .1), ap yielded e ∙ p .2)
+
+  -- Whatever the formula yields, some number of rounds is enough for.
+  pub yields-enough : (r : List Value) → EndsWith (formulaOf sheet) v r → (rounds : ℕ) × Enough sheet set rounds
+  unfolding resultOf
+  yields-enough r w =
+      let o = evalE (formulaOf sheet) (inputsHold (freeE (formulaOf sheet)) v) (w .0) in
+      (w .0, ap (λ z. z .verdict) (evaluation-concludes (w .0)) ∙ concluded-enough (w .0) o r (w .1))

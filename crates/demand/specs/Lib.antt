@@ -1,0 +1,13 @@
+pub mod MemoryCalls
+pub mod Claim
+pub mod Evaluations
+pub mod Agree
+pub mod Follow
+pub mod FollowAll
+pub mod OnMemory
+pub mod Agreed
+pub mod Started
+pub mod Demand3
+pub mod Oldest
+pub mod Pushes
+pub mod LesserStarts

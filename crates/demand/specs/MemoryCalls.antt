@@ -1,0 +1,88 @@
+-- Lists of calls on real memory (document 01, "Running": "Demand 3 is one claim over every list of these calls"): pushes, fires, runs and takes, each with
+-- the bytes and numbers that the firmware lends it. What a call does is calls/specs/Calls (`pushed`, `fired`, `ran`, `taken`), the very definitions with
+-- which the contracts of bench_push, bench_fire, bench_run and bench_take are equations. Definitions only; assumes nothing.
+use Prim.Native.Nat.{ℕ}
+use mathlib.Core.Bool.{Bool, cond}
+use mathlib.Core.List.{List, [], _∷_, _++_}
+use lib.Dec.{eqb}
+use lib.ListN.{drop, take as firstOf}
+use Rattle.calls.specs.declared.Answer.{Answer}
+use Rattle.calls.specs.Calls.{pushed, fired, ran, taken}
+
+-- "each push, fire, run or take is lent that memory as the call before left it (a call lent too little gets 11 and is one of the refused)": the first number
+-- says how many bytes, counted from the memory's first; a call lent more than there is gets all. Then come push's set, fire's operator, run's firings
+-- and the bytes into which take writes.
+pub data Call : Type 0 where
+  push : ℕ → List ℕ → Call
+  fire : ℕ → ℕ → Call
+  run : ℕ → ℕ → Call
+  take : ℕ → List ℕ → Call
+
+-- ---- one call on the memory that the call before left
+
+-- Its answer: the refusal's number, 0 where accepted, and its count.
+unfoldable pub answerOf : Call → List ℕ → Answer
+answerOf (push lent set) m = pushed (firstOf lent m) set .answer
+answerOf (fire lent operator) m = fired (firstOf lent m) operator .answer
+answerOf (run lent firings) m = ran (firstOf lent m) firings .answer
+answerOf (take lent out) m = taken (firstOf lent m) out .answer
+
+-- The memory as it leaves it: what it was not lent stays, "and nothing else writes it meanwhile".
+unfoldable pub memoryAfter : Call → List ℕ → List ℕ
+memoryAfter (push lent set) m = pushed (firstOf lent m) set .mem ++ drop lent m
+memoryAfter (fire lent operator) m = fired (firstOf lent m) operator .mem ++ drop lent m
+memoryAfter (run lent firings) m = ran (firstOf lent m) firings .mem ++ drop lent m
+memoryAfter (take lent out) m = taken (firstOf lent m) out .mem ++ drop lent m
+
+-- A result as the firmware gets it: the width that take's answer counts, and the eighty bytes of its sixteen values.
+pub record Result : Type 0 where
+  pub width : ℕ
+  pub bytes : List ℕ
+
+abbrev pub result : ℕ → List ℕ → Result
+result w b = record { width = w; bytes = b }
+
+unfoldable pub accepted : Answer → Bool
+accepted a = eqb (a .refusal) 0
+
+-- "Count by the calls and by whether each was accepted: an accepted push adds its set, an accepted take takes the oldest untaken, every other call, run's 36
+-- included, does neither."
+unfoldable pub setOf : Call → List ℕ → List (List ℕ)
+unfolding accepted
+setOf (push lent set) m = cond (accepted (pushed (firstOf lent m) set .answer)) (set ∷ []) []
+setOf (fire lent operator) m = []
+setOf (run lent firings) m = []
+setOf (take lent out) m = []
+
+unfoldable pub resultOf : Call → List ℕ → List Result
+unfolding accepted
+resultOf (push lent set) m = []
+resultOf (fire lent operator) m = []
+resultOf (run lent firings) m = []
+resultOf (take lent out) m =
+    let h = taken (firstOf lent m) out in
+    cond (accepted (h .answer)) (result (h .answer .count) (firstOf 80 (h .out)) ∷ []) []
+
+-- ---- a list of calls from a memory
+
+unfoldable pub memoryAfterAll : List Call → List ℕ → List ℕ
+unfolding memoryAfter
+memoryAfterAll [] m = m
+memoryAfterAll (c ∷ calls) m = memoryAfterAll calls (memoryAfter c m)
+
+unfoldable pub answersOf : List Call → List ℕ → List Answer
+unfolding memoryAfter answerOf
+answersOf [] m = []
+answersOf (c ∷ calls) m = answerOf c m ∷ answersOf calls (memoryAfter c m)
+
+-- The sets pushed, the first pushed first.
+unfoldable pub setsPushed : List Call → List ℕ → List (List ℕ)
+unfolding memoryAfter setOf
+setsPushed [] m = []
+setsPushed (c ∷ calls) m = setOf c m ++ setsPushed calls (memoryAfter c m)
+
+-- The results taken, the first taken first.
+unfoldable pub resultsTaken : List Call → List ℕ → List Result
+unfolding memoryAfter resultOf
+resultsTaken [] m = []
+resultsTaken (c ∷ calls) m = resultOf c m ++ resultsTaken calls (memoryAfter c m)

@@ -1,0 +1,97 @@
+-- "either every pushed set has been taken, or the oldest untaken one has its whole result ready to take": the take that would be accepted hands out the oldest
+-- untaken set's verdict. It is demand 3 (Demand3) of the list with that take behind it. Assumes an accepted start and nothing else.
+use Prim.Native.Nat.{ℕ, _+_, _≤_, _<_}
+use mathlib.Core.Path.{_≡_, refl, sym, ap, subst, _∙_}
+use mathlib.Core.Logic.{_⊎_, inl, inr}
+use mathlib.Core.Bool.{cond}
+use mathlib.Core.List.{List, [], _∷_, _++_, append-assoc, append-nil}
+use native.Mathlib.Omega.{arith}
+use borrow.Author.Tests.{eq-eqb}
+use lib.ListN.{length, getD, take as firstOf, length-append}
+use lib.Seq.{getD-append-seam}
+use Rattle.formula.specs.declared.Refusal.the-variants.{NotAble}
+use Rattle.formula.specs.Refusals.{numberOf}
+use Rattle.eval.specs.Evaluate.{evaluationOf}
+use Rattle.layout.specs.Layout.{operatorsOf, sizeOf, need}
+use Rattle.calls.specs.Calls.{taken}
+use Rattle.start.specs.Start.{started}
+use Rattle.demand.specs.MemoryCalls.{Call, fire, take, Result, result, accepted, answerOf, memoryAfter, setOf, resultOf, memoryAfterAll, setsPushed, resultsTaken}
+use Rattle.demand.specs.Claim.{Enough, Ends, yielded}
+use Rattle.demand.specs.Demand3.{demand-3}
+
+-- ---- a list with one call more
+
+pub results-with : (calls : List Call) (c : Call) (m : List ℕ) → resultsTaken (calls ++ (c ∷ [])) m ≡ resultsTaken calls m ++ resultOf c (memoryAfterAll calls m)
+unfolding resultsTaken memoryAfterAll
+results-with [] c m = append-nil (resultOf c m)
+results-with (d ∷ calls) c m =
+    ap (λ (z : List Result). resultOf d m ++ z) (results-with calls c (memoryAfter d m))
+    ∙ sym (append-assoc (resultOf d m) (resultsTaken calls (memoryAfter d m)) (resultOf c (memoryAfterAll calls (memoryAfter d m))))
+
+pub sets-with : (calls : List Call) (c : Call) (m : List ℕ) → setsPushed (calls ++ (c ∷ [])) m ≡ setsPushed calls m ++ setOf c (memoryAfterAll calls m)
+unfolding setsPushed memoryAfterAll
+sets-with [] c m = append-nil (setOf c m)
+sets-with (d ∷ calls) c m =
+    ap (λ (z : List (List ℕ)). setOf d m ++ z) (sets-with calls c (memoryAfter d m))
+    ∙ sym (append-assoc (setOf d m) (setsPushed calls (memoryAfter d m)) (setOf c (memoryAfterAll calls (memoryAfter d m))))
+
+-- What a take hands out where it is accepted.
+unfoldable pub handedOut : ℕ → List ℕ → List ℕ → Result
+handedOut lent out m = result (taken (firstOf lent m) out .answer .count) (firstOf 80 (taken (firstOf lent m) out .out))
+
+accepted-hands : (lent : ℕ) (out m : List ℕ) → answerOf (take lent out) m .refusal ≡ 0 → resultOf (take lent out) m ≡ handedOut lent out m ∷ []
+unfolding answerOf resultOf accepted handedOut
+accepted-hands lent out m e =
+    ap (λ b. cond b (result (taken (firstOf lent m) out .answer .count) (firstOf 80 (taken (firstOf lent m) out .out)) ∷ []) [])
+    (eq-eqb (taken (firstOf lent m) out .answer .refusal) 0 e)
+
+take-no-set : (lent : ℕ) (out m : List ℕ) → setOf (take lent out) m ≡ []
+unfolding setOf
+take-no-set lent out m = refl
+
+module _ (sheet : List ℕ) (capacity : ℕ) (memory : List ℕ) (h : started sheet capacity memory .answer .refusal ≡ 0) (calls : List Call) where
+  abbrev start : List ℕ
+  start = started sheet capacity memory .mem
+
+  abbrev now : List ℕ
+  now = memoryAfterAll calls start
+
+  -- Sets count from 0, so the oldest untaken one is that with the number of results taken.
+  pub oldest-ready : ((i : ℕ) → i < operatorsOf now → answerOf (fire (length now) i) now .refusal ≡ numberOf NotAble)
+      → length (resultsTaken calls start) < length (setsPushed calls start)
+      → (lent : ℕ) (out : List ℕ) → need (sizeOf capacity) ≤ lent → 80 ≤ length out
+      → (answerOf (take lent out) now .refusal ≡ 0)
+      × (((j : ℕ) → j ≤ length (resultsTaken calls start) → Ends sheet (getD (setsPushed calls start) j []))
+      → (rounds : ℕ) → Enough sheet (getD (setsPushed calls start) (length (resultsTaken calls start)) []) rounds
+      → handedOut lent out now ≡ yielded (evaluationOf sheet (getD (setsPushed calls start) (length (resultsTaken calls start)) []) rounds))
+  oldest-ready still untaken lent out long room = (ok, verdict)
+    where
+      ok : answerOf (take lent out) now .refusal ≡ 0
+      ok = go (demand-3 sheet capacity memory h calls .ready still)
+        where
+          go : (length (resultsTaken calls start) ≡ length (setsPushed calls start))
+              ⊎ ((lent : ℕ) (out : List ℕ) → need (sizeOf capacity) ≤ lent → 80 ≤ length out → answerOf (take lent out) now .refusal ≡ 0)
+              → answerOf (take lent out) now .refusal ≡ 0
+          go (inl e) = absurd (omega arith)
+          go (inr f) = f lent out long room
+
+      results-are : resultsTaken (calls ++ (take lent out ∷ [])) start ≡ resultsTaken calls start ++ (handedOut lent out now ∷ [])
+      results-are = results-with calls (take lent out) start ∙ ap (λ (z : List Result). resultsTaken calls start ++ z) (accepted-hands lent out now ok)
+
+      sets-are : setsPushed (calls ++ (take lent out ∷ [])) start ≡ setsPushed calls start
+      sets-are =
+          sets-with calls (take lent out) start ∙ ap (λ (z : List (List ℕ)). setsPushed calls start ++ z) (take-no-set lent out now)
+          ∙ append-nil (setsPushed calls start)
+
+      verdict : ((j : ℕ) → j ≤ length (resultsTaken calls start) → Ends sheet (getD (setsPushed calls start) j []))
+          → (rounds : ℕ) → Enough sheet (getD (setsPushed calls start) (length (resultsTaken calls start)) []) rounds
+          → handedOut lent out now ≡ yielded (evaluationOf sheet (getD (setsPushed calls start) (length (resultsTaken calls start)) []) rounds)
+      verdict ends rounds enough =
+          let k = length (resultsTaken calls start) in
+          let more : length (resultsTaken (calls ++ (take lent out ∷ [])) start) ≡ k + 1
+          = ap length results-are ∙ length-append (resultsTaken calls start) (handedOut lent out now ∷ []) in
+          sym (ap (λ (z : List Result). getD z k (result 0 [])) results-are ∙ getD-append-seam (resultsTaken calls start) (handedOut lent out now) [] (result 0 []))
+          ∙ demand-3 sheet capacity memory h (calls ++ (take lent out ∷ [])) .own k (omega arith)
+          (λ j l. subst (λ (z : List (List ℕ)). Ends sheet (getD z j [])) (sym sets-are) (ends j l)) rounds
+          (subst (λ (z : List (List ℕ)). Enough sheet (getD z k []) rounds) (sym sets-are) enough)
+          ∙ ap (λ (z : List (List ℕ)). yielded (evaluationOf sheet (getD z k []) rounds)) sets-are

@@ -1,0 +1,17 @@
+pub mod Encode
+pub mod Emitted
+pub mod Masked
+pub mod Environments
+pub mod Laid
+pub mod Sharing
+pub mod Rows
+pub mod GateRows
+pub mod Choices
+pub mod Joined
+pub mod Results
+pub mod Counts
+pub mod Arms
+pub mod Nodes
+pub mod Done
+pub mod DoneIf
+pub mod DoneFor

@@ -1,0 +1,8 @@
+pub mod Sets
+pub mod ResultBytes
+pub mod PushLinks
+pub mod TakeLinks
+pub mod Credit
+pub mod Push
+pub mod Take
+pub mod FormulaEnds

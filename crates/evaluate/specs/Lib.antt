@@ -1,0 +1,3 @@
+pub mod Handed
+pub mod Rows
+pub mod Small

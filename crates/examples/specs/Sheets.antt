@@ -1,0 +1,39 @@
+-- The example sheets of document 01, "Program and readings" and "Marked for proof", as text. Assumes nothing.
+use Prim.Native.Nat.{ℕ, zero, suc}
+use Prim.Native.String.{String, [] as endS, _∷_ as _∷S_}
+use Prim.Native.Char as Char
+use mathlib.Core.List.{List, [], _∷_, _++_}
+
+-- The bytes of a text.
+unfoldable pub bytes : String → List ℕ
+bytes endS = []
+bytes (c ∷S s) = Char.code c ∷ bytes s
+
+-- The lesser of two: if x < y then x else y.
+unfoldable pub lesser : String
+lesser = "     1     0     0     0     0\n     1     1     0     0     0\n     4     1     2     0     0\n     5     6     3     0     0\n     1     0     0     0     0\n     1     1     0     0     0\n     7     4     5     6     0\n"
+
+-- x + x
+unfoldable pub twice : String
+twice = "     1     0     0     0     0\n     1     0     0     0     0\n     4     1     2     0     0\n     5     1     3     0     0\n"
+
+-- for i, y = n, 1 do if 1 < i then iter i - 1, y * i else y; n is identifier 0, i and y are 1 and 2.
+unfoldable pub factorial : String
+factorial = "     1     0     0     0     0\n     2     1     0     0     0\n     4     1     2     0     0\n     2     1     0     0     0\n     1     1     0     0     0\n     4     4     5     0     0\n     5     6     6     0     0\n     1     1     0     0     0\n     2     1     0     0     0\n     4     8     9     0     0\n     5     2    10     0     0\n     1     2     0     0     0\n     1     1     0     0     0\n     4    12    13     0     0\n     5     3    14     0     0\n     4    11    15     0     0\n     9    16     0     0     0\n     1     2     0     0     0\n     7     7    17    18     0\n     8     1     2     3    19\n"
+
+-- An iter as the formula.
+unfoldable pub iterAlone : String
+iterAlone = "     2     1     0     0     0\n     9     1     0     0     0\n"
+
+-- let x = 1 in 2
+unfoldable pub letUnused : String
+letUnused = "     2     1     0     0     0\n     2     2     0     0     0\n     6     0     1     1     2\n"
+
+-- n rows alike.
+unfoldable pub alike : ℕ → String → List ℕ
+unfolding bytes
+alike zero s = []
+alike (suc n) s = bytes s ++ alike n s
+
+unfoldable pub constantRow : String
+constantRow = "     2     1     0     0     0\n"

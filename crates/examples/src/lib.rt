@@ -1,0 +1,1 @@
+// The example sheets of document 01, as text: specs/Sheets. No functions.

@@ -1,0 +1,44 @@
+// Every call of the firmware and of formula editors in one archive, over byte slices and numbers (document 01, "calls push, run and take with
+// numbers and byte memory"). No call asks anything of its caller; each contract is an equation on the answer and on every lent byte.
+// include/bench.h says the same in C.
+use calls::Answer;
+use sheet::read::ReadAnswer;
+ghost use mathlib.Core.Path.{_≡_};
+ghost use Rattle.formula.specs.Tests.{readingOf};
+ghost use Rattle.sheet.specs.Reading.{answerOf};
+ghost use Rattle.calls.specs.Calls.{outcome, handed, pushed, fired, ran, taken};
+
+#[no_mangle]
+pub extern "C" fn bench_read(sheet: &[u8]) -> ReadAnswer
+    ensures { λ r. ⌜ r ≡ answerOf (readingOf (now (sheet .entry))) ⌝ }
+{
+    sheet::read::bench_read(sheet)
+}
+
+#[no_mangle]
+pub extern "C" fn bench_push(mem: &mut [u8], set: &[u8]) -> Answer
+    ensures { λ a. ⌜ outcome a (now (mem .exit)) ≡ pushed (now (mem .entry)) (now (set .entry)) ⌝ }
+{
+    calls::push(mem, set)
+}
+
+#[no_mangle]
+pub extern "C" fn bench_fire(mem: &mut [u8], operator: u32) -> Answer
+    ensures { λ a. ⌜ outcome a (now (mem .exit)) ≡ fired (now (mem .entry)) operator ⌝ }
+{
+    calls::fire(mem, operator)
+}
+
+#[no_mangle]
+pub extern "C" fn bench_run(mem: &mut [u8], firings: u32) -> Answer
+    ensures { λ a. ⌜ outcome a (now (mem .exit)) ≡ ran (now (mem .entry)) firings ⌝ }
+{
+    calls::run(mem, firings)
+}
+
+#[no_mangle]
+pub extern "C" fn bench_take(mem: &mut [u8], out: &mut [u8]) -> Answer
+    ensures { λ a. ⌜ handed a (now (mem .exit)) (now (out .exit)) ≡ taken (now (mem .entry)) (now (out .entry)) ⌝ }
+{
+    calls::take(mem, out)
+}

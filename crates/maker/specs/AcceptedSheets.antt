@@ -1,0 +1,127 @@
+-- The tables that reading an accepted sheet gives (sheet/specs/Reading: Told) are such that the maker can work on them, and the formula that it makes
+-- the graph of is the sheet's. Document 01: "the last is the formula"; tests 1 to 10. Assumes that the sheet was accepted.
+use Prim.Native.Nat.{ℕ, _+_, _-_, _*_, _≤_, _<_}
+use mathlib.Core.Path.{_≡_, refl, sym, ap, ap₂, _∙_, subst}
+use mathlib.Core.Bool.{Bool, true, false}
+use mathlib.Core.List.{List}
+use lib.ListN.{length, take}
+use native.Mathlib.Omega.{arith}
+use Rattle.names.specs.Names.{mask}
+use Rattle.formula.specs.declared.Shape.{Shape}
+use Rattle.formula.specs.declared.Shape.the-variants.{Identifier, Whole, Truth, Pair, Operator, Let, If, For, Iter}
+use Rattle.formula.specs.declared.Verdict.the-variants.{Passed as passed}
+use Rattle.formula.specs.Sheet.{rowCount, fieldsOf, shapeAt}
+use Rattle.formula.specs.Tree.{expOf, bodyOf, formulaOf}
+use Rattle.formula.specs.Places.{Node, nodeIn, inBody, placesOf}
+use Rattle.formula.specs.PlaceLaws.{last-place}
+use Rattle.formula.specs.Widths.{returned}
+use Rattle.formula.specs.Tests.{verdictOf}
+use Rattle.meaning.specs.Rows.{Placed, widthIn, Accepted}
+use Rattle.meaning.specs.Accepted.{passes, accepted}
+use Rattle.sheet.specs.declared.read.Tables.{Tables}
+use Rattle.sheet.specs.Nodes.{nodeAt, returnedIn, freeIn as freeOf}
+use Rattle.sheet.specs.Reading.{Accepts, Told}
+use Rattle.verdicts.specs.Admitting.{accepted-admitted}
+use Rattle.verdicts.specs.Verdicts.{accepted-graph}
+use Rattle.emit.specs.Nodes.{Kids, Read, freeIn}
+use Rattle.maker.specs.Making.{Makeable}
+
+placed-kids : (P : List Bool) (b : Bool) (s : Shape) → Placed P b s → Kids (λ k. inBody P k) b s
+placed-kids P b (Identifier a) h = tt
+placed-kids P b (Whole a) h = tt
+placed-kids P b (Truth a) h = tt
+placed-kids P b (Pair x y) h = h
+placed-kids P b (Operator k x) h = h
+placed-kids P b (Let a k x y) h = h
+placed-kids P b (If x y z) h = h
+placed-kids P b (For a k x y) h = h
+placed-kids P b (Iter x) h = h
+
+module _ (s : List ℕ) (x : Tables) (told : Told s x) (well : x .verdict ≡ passed) where
+  accepts : Accepts s x
+  accepts = told .accepts well
+
+  verdict : verdictOf s ≡ passed
+  verdict = sym (told .verdict) ∙ well
+
+  abbrev t : List ℕ
+  t = fieldsOf s
+
+  abbrev n : ℕ
+  n = rowCount s
+
+  abbrev masks : List ℕ
+  masks = take (rowCount s) (x .masks)
+
+  abbrev widths : List ℕ
+  widths = take (rowCount s) (x .returned)
+
+  abbrev place : ℕ → Bool
+  place r = inBody (placesOf (fieldsOf s) (rowCount s)) r
+
+  same-node : (r : ℕ) → nodeAt t (take (rowCount s) (x .places)) r ≡ nodeIn (place r) t r
+  same-node r = ap (λ (q : List Bool). nodeIn (inBody q r) t r) (accepts .tables .ready .places)
+
+  width-of : (b : Bool) (r : ℕ) → returnedIn (nodeIn b t r) ≡ widthIn b t r
+  unfolding nodeIn widthIn
+  width-of true r = refl
+  width-of false r = refl
+
+  free-of : (b : Bool) (r : ℕ) → mask (freeOf (nodeIn b t r)) ≡ mask (freeIn b t r)
+  unfolding nodeIn
+  free-of true r = refl
+  free-of false r = refl
+
+  returned-of : (b : Bool) (r : ℕ) → b ≡ true → returnedIn (nodeIn b t r) ≡ returned (bodyOf t r)
+  unfolding nodeIn
+  returned-of b r e = subst (λ (q : Bool). returnedIn (nodeIn q t r) ≡ returned (bodyOf t r)) (sym e) refl
+
+  widths-long : length widths ≡ n
+  widths-long = accepts .tables .nodes .returned-size
+
+  masks-long : length masks ≡ n
+  masks-long = accepts .tables .nodes .masks-size
+
+  rows-accepted : Accepted t widths n
+  rows-accepted =
+      accepted s (passes s verdict) widths (omega (arith, widths-long))
+      (λ r l u. accepts .tables .nodes .returned .entry r l u ∙ ap returnedIn (same-node r) ∙ width-of (place r) r)
+
+  read : Read t masks widths
+  read =
+      record {
+        rows = n;
+        place = place;
+        long = omega (arith, rows-accepted .fields);
+        masks-long = omega (arith, masks-long);
+        widths-long = omega (arith, widths-long);
+        named = rows-accepted .named;
+        kids = λ r l u. placed-kids (placesOf t n) (place r) (shapeAt t r) (rows-accepted .placed r l u);
+        masked = λ r l u. accepts .tables .nodes .masks .entry r l u ∙ ap (λ (z : Node). mask (freeOf z)) (same-node r) ∙ free-of (place r) r;
+        returns = λ r l u e. accepts .tables .nodes .returned .entry r l u ∙ ap returnedIn (same-node r) ∙ returned-of (place r) r e;
+      }
+
+  sheet-makeable : Makeable (fieldsOf s) (rowCount s) masks widths
+  unfolding formulaOf read
+  sheet-makeable =
+      record {
+        read = read;
+        rows = refl;
+        some = accepts .some;
+        place = last-place t n (rows-accepted .named) (accepts .some);
+        admitted = accepted-admitted s verdict;
+        few = accepted-graph s verdict .0;
+        low = accepted-graph s verdict .1;
+      }
+
+  same-fields : take (5 * x .rows) (x .fields) ≡ fieldsOf s
+  same-fields = ap (λ (k : ℕ). take (5 * k) (x .fields)) (accepts .rows) ∙ accepts .fields
+
+  pub accepted-formula : expOf (take (5 * x .rows) (x .fields)) (x .rows) ≡ formulaOf s
+  unfolding formulaOf
+  accepted-formula = ap₂ expOf same-fields (accepts .rows)
+
+  pub accepted-makeable : Makeable (take (5 * x .rows) (x .fields)) (x .rows) (take (x .rows) (x .masks)) (take (x .rows) (x .returned))
+  accepted-makeable =
+      subst (λ (k : ℕ). Makeable (take (5 * x .rows) (x .fields)) k (take k (x .masks)) (take k (x .returned))) (sym (accepts .rows))
+      (subst (λ (f : List ℕ). Makeable f (rowCount s) masks widths) (sym same-fields) sheet-makeable)

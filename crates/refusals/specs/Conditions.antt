@@ -1,0 +1,185 @@
+-- The refusals of each call as an ordered table, each condition by name: document 01, "Said by what was handed in" and "Said by how the machine stands",
+-- "11 comes before all", "Order: 11, 31, 12, then these", "14 .. (start: after 11, before 1)". Definitions only; assumes nothing.
+use Prim.Native.Nat.{ℕ, _-_}
+use mathlib.Core.Bool.{Bool, true, false, not, _&&_}
+use mathlib.Core.List.{List, [], _∷_, _++_}
+use mathlib.Core.Option.{Option, some, none}
+use lib.Dec.{leb, ltb}
+use lib.ListN.{length}
+use Rattle.value.specs.declared.Value.{Value}
+use Rattle.formula.specs.declared.Refusal.the-variants.{Layout, Rows, Malformed, Range, Naming, Named, StrayIter, Width, Unused, Operators, Memory, Set, Capacity, Altered, Untaken, Full, NotAble, NoResult, Unfinished}
+use Rattle.formula.specs.declared.Check.{Check}
+use Rattle.formula.specs.declared.Check.the-variants.{Passed, Fault}
+use Rattle.formula.specs.Sheet.{rowCount, linesOf, fieldsOf}
+use Rattle.formula.specs.Places.{placesOf}
+use Rattle.formula.specs.Tree.{Exp, formulaOf}
+use Rattle.formula.specs.Free.{freeE, inputsOf as inputsIn}
+use Rattle.formula.specs.Tests.{lowest, laidOut, fewRows, fieldsWell, rangesWell, namesWell, namedOnce, allNamed, placedWell, widthsWell, boundWell, operatorsOf as operatorsIn}
+use Rattle.meaning.specs.Meaning.{Outcome, yields, inputsHold, evalE}
+use Rattle.eval.specs.Evaluate.{setValues}
+use Rattle.layout.specs.Layout.{sizeOf, need, capacityIn, operatorsOf, inputsOf, resultsOf, untakenOf}
+use Rattle.machine.specs.Fire.{ableAt}
+use Rattle.valid.specs.Below.{allBelow}
+use Rattle.valid.specs.Valid.{valid}
+use Rattle.runs.specs.Run.{runs, stillAt}
+use Rattle.calls.specs.Calls.{sizeIn, setOk, roomsOk, resultReady}
+use Rattle.refusals.specs.FirstRefusal.{Row}
+
+-- ---- how the machine stands
+
+-- 11 "lent memory shorter than the call's need", by the capacity stored
+abbrev pub short : List ℕ → Bool
+short m = ltb (length m) (need (sizeIn m))
+
+-- 11 for what the call writes out: a result set is eighty bytes
+abbrev pub no-room : List ℕ → Bool
+no-room out = ltb (length out) 80
+
+-- 31 "a stored figure or token outside its range, or a link named twice by one operator, the inputs or the results"
+abbrev pub altered : List ℕ → Bool
+altered m = not (valid m)
+
+-- 12 "a set with another number of values than inputs, a bad value field"
+abbrev pub no-set : List ℕ → List ℕ → Bool
+no-set m set = not (setOk (inputsOf m) set)
+
+-- 32 "sixteen sets untaken"
+abbrev pub sixteen-untaken : List ℕ → Bool
+sixteen-untaken m = leb 16 (untakenOf m)
+
+-- 33 "an input link, or the trigger's link where it exists, full"
+abbrev pub link-full : List ℕ → Bool
+link-full m = not (roomsOk m (sizeIn m) (inputsOf m))
+
+-- 34 "the operator is absent or not able"
+abbrev pub not-able : List ℕ → ℕ → Bool
+not-able m i = not (ltb i (operatorsOf m) && ableAt m (sizeIn m) i)
+
+-- 36 "run: something can still fire after the lent firings"
+abbrev pub can-still-fire : List ℕ → ℕ → Bool
+can-still-fire m firings = not (stillAt (runs (sizeIn m) (operatorsOf m) firings m 0 .mem) (sizeIn m) (operatorsOf m))
+
+-- 35 "a result port empty or no set untaken"
+abbrev pub no-result : List ℕ → Bool
+no-result m = not (ltb 0 (untakenOf m) && allBelow (resultsOf m) (resultReady m (sizeIn m)))
+
+-- "Order: 11, 31, 12, then these"
+abbrev pub pushTable : List ℕ → List ℕ → List Row
+pushTable m set =
+    (short m, Memory)
+    ∷ (altered m, Altered)
+    ∷ (no-set m set, Set)
+    ∷ (sixteen-untaken m, Untaken)
+    ∷ (link-full m, Full)
+    ∷ []
+
+abbrev pub fireTable : List ℕ → ℕ → List Row
+fireTable m i =
+    (short m, Memory)
+    ∷ (altered m, Altered)
+    ∷ (not-able m i, NotAble)
+    ∷ []
+
+abbrev pub runTable : List ℕ → ℕ → List Row
+runTable m firings =
+    (short m, Memory)
+    ∷ (altered m, Altered)
+    ∷ (can-still-fire m firings, Unfinished)
+    ∷ []
+
+abbrev pub takeTable : List ℕ → List ℕ → List Row
+takeTable m out =
+    (no-room out, Memory)
+    ∷ (short m, Memory)
+    ∷ (altered m, Altered)
+    ∷ (no-result m, NoResult)
+    ∷ []
+
+-- ---- what was handed in
+
+-- some row is at fault
+abbrev pub failed : Check → Bool
+failed Passed = false
+failed (Fault row) = true
+
+-- 1 to 10, each "tested over the whole sheet before the next"
+abbrev pub sheetTable : List ℕ → List Row
+sheetTable s =
+    (not (laidOut s (linesOf s)), Layout)
+    ∷ (not (fewRows s), Rows)
+    ∷ (failed (lowest (rowCount s) (fieldsWell (linesOf s))), Malformed)
+    ∷ (failed (lowest (rowCount s) (rangesWell (fieldsOf s))), Range)
+    ∷ (failed (lowest (rowCount s) (namesWell (fieldsOf s))), Naming)
+    ∷ (failed (lowest (rowCount s - 1) (λ r. namedOnce (allNamed (fieldsOf s) (rowCount s)) r)), Named)
+    ∷ (failed (lowest (rowCount s) (placedWell (fieldsOf s) (placesOf (fieldsOf s) (rowCount s)))), StrayIter)
+    ∷ (failed (lowest (rowCount s) (widthsWell (fieldsOf s) (placesOf (fieldsOf s) (rowCount s)))), Width)
+    ∷ (failed (lowest (rowCount s) (boundWell (fieldsOf s) (placesOf (fieldsOf s) (rowCount s)))), Unused)
+    ∷ (not (leb (operatorsIn (fieldsOf s) (rowCount s)) 1024), Operators)
+    ∷ []
+
+-- 11 by the capacity asked
+abbrev pub short-asked : ℕ → List ℕ → Bool
+short-asked capacity m = ltb (length m) (need (sizeOf (capacityIn capacity)))
+
+-- 14 "capacity outside 1..16"
+abbrev pub capacity-outside : ℕ → Bool
+capacity-outside capacity = not (leb 1 capacity && leb capacity 16)
+
+-- "14 .. (start: after 11, before 1)"
+abbrev pub startTable : List ℕ → ℕ → List ℕ → List Row
+startTable sheet capacity m =
+    (short-asked capacity m, Memory)
+    ∷ (capacity-outside capacity, Capacity)
+    ∷ sheetTable sheet
+
+abbrev pub is-none : Option (List Value) → Bool
+is-none (some vs) = false
+is-none none = true
+
+abbrev pub is-unfinished : Outcome → Bool
+is-unfinished (yields vs left) = false
+is-unfinished Outcome.unfinished = true
+
+-- 12 for evaluation: the set's bytes are not as many values as the formula has inputs
+abbrev pub no-values : List ℕ → List ℕ → Bool
+no-values sheet set = is-none (setValues (length (inputsIn (formulaOf sheet))) set)
+
+abbrev pub lacking : Exp → ℕ → Option (List Value) → Bool
+lacking x rounds (some vs) = is-unfinished (evalE x (inputsHold (freeE x) vs) rounds)
+lacking x rounds none = false
+
+-- 36 "evaluation: more rounds needed than lent"
+abbrev pub rounds-lacking : List ℕ → List ℕ → ℕ → Bool
+rounds-lacking sheet set rounds = lacking (formulaOf sheet) rounds (setValues (length (inputsIn (formulaOf sheet))) set)
+
+-- 11, 1 to 10, 12, 36
+abbrev pub evaluateTable : List ℕ → List ℕ → ℕ → List ℕ → List Row
+evaluateTable sheet set rounds out =
+    (no-room out, Memory)
+    ∷ (sheetTable sheet
+    ++ ((no-values sheet set, Set)
+    ∷ (rounds-lacking sheet set rounds, Unfinished)
+    ∷ []))
+
+-- ---- the numbers that each call can give, in their order
+
+abbrev pub sheetNumbers : List ℕ
+sheetNumbers = 1 ∷ 2 ∷ 3 ∷ 4 ∷ 5 ∷ 6 ∷ 7 ∷ 8 ∷ 9 ∷ 10 ∷ []
+
+abbrev pub pushNumbers : List ℕ
+pushNumbers = 11 ∷ 31 ∷ 12 ∷ 32 ∷ 33 ∷ []
+
+abbrev pub fireNumbers : List ℕ
+fireNumbers = 11 ∷ 31 ∷ 34 ∷ []
+
+abbrev pub runNumbers : List ℕ
+runNumbers = 11 ∷ 31 ∷ 36 ∷ []
+
+abbrev pub takeNumbers : List ℕ
+takeNumbers = 11 ∷ 31 ∷ 35 ∷ []
+
+abbrev pub startNumbers : List ℕ
+startNumbers = 11 ∷ 14 ∷ sheetNumbers
+
+abbrev pub evaluateNumbers : List ℕ
+evaluateNumbers = 11 ∷ (sheetNumbers ++ (12 ∷ 36 ∷ []))

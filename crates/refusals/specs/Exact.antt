@@ -1,0 +1,249 @@
+-- Demand 2: "A call is refused exactly when document 01 gives it a refusal, and with the first in the order there." Each call's refusal is the first of its
+-- table (Conditions), for every memory, set and number; with FirstRefusal's `accepted-exactly` and `refused-exactly` this is the sentence. The calls are
+-- the definitions that the contracts of their entry points cite. Assumes nothing.
+use Prim.Native.Nat.{ℕ, _-_, _≤_}
+use mathlib.Core.Path.{_≡_, refl, sym, ap, _∙_}
+use mathlib.Core.Bool.{Bool, true, false, not, cond, _&&_}
+use mathlib.Core.List.{List, [], _∷_, _++_}
+use mathlib.Core.Option.{Option, some, none}
+use native.Mathlib.Omega.{arith}
+use borrow.Author.Tests.{ltb-true, ltb-false, le-leb, lt-leb}
+use lib.Dec.{leb, ltb, eqb}
+use lib.ListN.{length}
+use Rattle.value.specs.declared.Value.{Value}
+use Rattle.value.specs.Operators.{pick}
+use Rattle.formula.specs.declared.Refusal.{Refusal}
+use Rattle.formula.specs.declared.Refusal.the-variants.{Layout, Rows, Malformed, Range, Naming, Named, StrayIter, Width, Unused, Operators, Memory, Set, Capacity, Altered, Untaken, Full, NotAble, NoResult, Unfinished}
+use Rattle.formula.specs.declared.Check.{Check}
+use Rattle.formula.specs.declared.Check.the-variants.{Passed, Fault}
+use Rattle.formula.specs.declared.Verdict.{Verdict}
+use Rattle.formula.specs.declared.Verdict.the-variants.{Passed as passed, Refused}
+use Rattle.formula.specs.declared.Figures.{Figures}
+use Rattle.formula.specs.Refusals.{numberOf}
+use Rattle.formula.specs.Sheet.{rowCount, linesOf, fieldsOf}
+use Rattle.formula.specs.Places.{placesOf}
+use Rattle.formula.specs.Tree.{Exp, formulaOf}
+use Rattle.formula.specs.Free.{freeE, inputsOf as inputsIn}
+use Rattle.formula.specs.Tests.{whole, lowest, laidOut, fewRows, fieldsWell, rangesWell, namesWell, namedOnce, allNamed, placedWell, widthsWell, boundWell, operatorsOf as operatorsIn, afterCheck, verdictBy, verdictOf, tests, rowTests, formulaTests, graphTests, sheetOf, figuresOf, answerBy, readingOf}
+use Rattle.sheet.specs.Reading.{answerOf}
+use Rattle.meaning.specs.Meaning.{Outcome, yields, inputsHold, evalE}
+use Rattle.eval.specs.declared.Evaluation.{Evaluation}
+use Rattle.eval.specs.Evaluate.{setValues, concluded, evaluatedWith, evaluated, afterVerdict, evaluationOf}
+use Rattle.evaluate.specs.Handed.{told, handedOut, handed as evaluate-handed, answers as evaluate-answers}
+use Rattle.layout.specs.Layout.{operatorsOf, inputsOf, resultsOf, untakenOf}
+use Rattle.machine.specs.Fire.{ableAt, firedAt}
+use Rattle.valid.specs.Below.{allBelow}
+use Rattle.valid.specs.Valid.{valid}
+use Rattle.runs.specs.Run.{Ran, runs, stillAt}
+use Rattle.calls.specs.Calls.{outcome, handed, answers, refusal, sizeIn, standing, setOk, roomsOk, pushedMemory, pushed, fired, ended, ran, resultReady, written, takenMemory, taken}
+use Rattle.start.specs.Start.{begun, byVerdict, started, refusal as startRefusal}
+use Rattle.refusals.specs.FirstRefusal.{Row, first-refusal, number-positive}
+use Rattle.refusals.specs.Conditions.{short, no-room, altered, no-set, link-full, pushTable, fireTable, runTable, takeTable, failed, sheetTable, short-asked, startTable, no-values, lacking, rounds-lacking, is-none, is-unfinished, evaluateTable}
+
+-- ---- push, fire, run, take
+
+sixteen : (n : ℕ) → leb 16 n ≡ not (ltb n 16)
+sixteen n = go (ltb n 16) refl
+  where
+    go : (b : Bool) → ltb n 16 ≡ b → leb 16 n ≡ not b
+    go true e = lt-leb 16 n (ltb-true n 16 e)
+    go false e = le-leb 16 n (ltb-false n 16 e)
+
+push-order : (s v i u r : Bool) (m m′ : List ℕ) → pick (eqb (pick s 11 (pick v 0 31)) 0)
+    (pick i (pick u (pick r (outcome (answers 0 0) m′) (outcome (refusal Full) m)) (outcome (refusal Untaken) m)) (outcome (refusal Set) m))
+    (outcome (answers (pick s 11 (pick v 0 31)) 0) m) .answer .refusal
+    ≡ first-refusal ((s, Memory) ∷ (not v, Altered) ∷ (not i, Set) ∷ (not u, Untaken) ∷ (not r, Full) ∷ [])
+unfolding first-refusal
+push-order true v i u r m m′ = refl
+push-order false false i u r m m′ = refl
+push-order false true false u r m m′ = refl
+push-order false true true false r m m′ = refl
+push-order false true true true false m m′ = refl
+push-order false true true true true m m′ = refl
+
+-- 11, 31, 12, 32, 33
+pub push-exact : (m set : List ℕ) → pushed m set .answer .refusal ≡ first-refusal (pushTable m set)
+unfolding pushed standing
+push-exact m set =
+    push-order (short m) (valid m) (setOk (inputsOf m) set) (ltb (untakenOf m) 16) (roomsOk m (sizeIn m) (inputsOf m)) m (pushedMemory m set)
+    ∙ ap (λ (b : Bool). first-refusal ((short m, Memory) ∷ (altered m, Altered) ∷ (no-set m set, Set) ∷ (b, Untaken) ∷ (link-full m, Full) ∷ []))
+    (sym (sixteen (untakenOf m)))
+
+fire-order : (s v a : Bool) (m m′ : List ℕ) → pick (eqb (pick s 11 (pick v 0 31)) 0)
+    (pick a (outcome (answers 0 0) m′) (outcome (refusal NotAble) m))
+    (outcome (answers (pick s 11 (pick v 0 31)) 0) m) .answer .refusal
+    ≡ first-refusal ((s, Memory) ∷ (not v, Altered) ∷ (not a, NotAble) ∷ [])
+unfolding first-refusal
+fire-order true v a m m′ = refl
+fire-order false false a m m′ = refl
+fire-order false true false m m′ = refl
+fire-order false true true m m′ = refl
+
+-- 11, 31, 34
+pub fire-exact : (m : List ℕ) (i : ℕ) → fired m i .answer .refusal ≡ first-refusal (fireTable m i)
+unfolding fired standing
+fire-exact m i = fire-order (short m) (valid m) (ltb i (operatorsOf m) && ableAt m (sizeIn m) i) m (firedAt m (sizeIn m) i)
+
+run-order : (s v t : Bool) (m m′ : List ℕ) (c : ℕ) → pick (eqb (pick s 11 (pick v 0 31)) 0)
+    (pick t (outcome (answers 0 c) m′) (outcome (answers 36 c) m′))
+    (outcome (answers (pick s 11 (pick v 0 31)) 0) m) .answer .refusal
+    ≡ first-refusal ((s, Memory) ∷ (not v, Altered) ∷ (not t, Unfinished) ∷ [])
+unfolding first-refusal
+run-order true v t m m′ c = refl
+run-order false false t m m′ c = refl
+run-order false true false m m′ c = refl
+run-order false true true m m′ c = refl
+
+-- 11, 31, 36
+pub run-exact : (m : List ℕ) (firings : ℕ) → ran m firings .answer .refusal ≡ first-refusal (runTable m firings)
+unfolding ran standing ended
+run-exact m firings =
+    let r : Ran = runs (sizeIn m) (operatorsOf m) firings m 0 in
+    run-order (short m) (valid m) (stillAt (r .mem) (sizeIn m) (operatorsOf m)) m (r .mem) (r .count)
+
+take-order : (o s v t : Bool) (m m′ out out′ : List ℕ) (k : ℕ) → pick o (handed (refusal Memory) m out)
+    (pick (eqb (pick s 11 (pick v 0 31)) 0)
+    (pick t (handed (answers 0 k) m′ out′) (handed (refusal NoResult) m out))
+    (handed (answers (pick s 11 (pick v 0 31)) 0) m out)) .answer .refusal
+    ≡ first-refusal ((o, Memory) ∷ (s, Memory) ∷ (not v, Altered) ∷ (not t, NoResult) ∷ [])
+unfolding first-refusal
+take-order true s v t m m′ out out′ k = refl
+take-order false true v t m m′ out out′ k = refl
+take-order false false false t m m′ out out′ k = refl
+take-order false false true false m m′ out out′ k = refl
+take-order false false true true m m′ out out′ k = refl
+
+-- 11, 31, 35
+pub take-exact : (m out : List ℕ) → taken m out .answer .refusal ≡ first-refusal (takeTable m out)
+unfolding taken standing
+take-exact m out =
+    take-order (no-room out) (short m) (valid m) (ltb 0 (untakenOf m) && allBelow (resultsOf m) (resultReady m (sizeIn m)))
+    m (takenMemory m) out (written 16 m (sizeIn m) (resultsOf m) out) (resultsOf m)
+
+-- ---- what reading says
+
+-- The number of a verdict, 0 where the sheet passed.
+abbrev pub numberIn : Verdict → ℕ
+numberIn passed = 0
+numberIn (Refused r row) = numberOf r
+
+after-row : (r : Refusal) (c : Check) (later : Verdict) (cs : List Row) → numberIn later ≡ first-refusal cs
+    → numberIn (afterCheck r c later) ≡ first-refusal ((failed c, r) ∷ cs)
+unfolding afterCheck first-refusal
+after-row r Passed later cs h = h
+after-row r (Fault row) later cs h = refl
+
+after-whole : (r : Refusal) (b : Bool) (later : Verdict) (cs : List Row) → numberIn later ≡ first-refusal cs
+    → numberIn (afterCheck r (whole b) later) ≡ first-refusal ((not b, r) ∷ cs)
+unfolding afterCheck first-refusal
+after-whole r true later cs h = h
+after-whole r false later cs h = refl
+
+none-left : numberIn passed ≡ first-refusal []
+unfolding first-refusal
+none-left = refl
+
+-- 1 to 10
+pub sheet-exact : (s : List ℕ) → numberIn (verdictOf s) ≡ first-refusal (sheetTable s)
+unfolding verdictOf verdictBy tests rowTests formulaTests graphTests sheetOf
+sheet-exact s =
+    after-whole Layout (laidOut s (linesOf s)) _ _
+    (after-whole Rows (fewRows s) _ _
+    (after-row Malformed (lowest (rowCount s) (fieldsWell (linesOf s))) _ _
+    (after-row Range (lowest (rowCount s) (rangesWell (fieldsOf s))) _ _
+    (after-row Naming (lowest (rowCount s) (namesWell (fieldsOf s))) _ _
+    (after-row Named (lowest (rowCount s - 1) (λ r. namedOnce (allNamed (fieldsOf s) (rowCount s)) r)) _ _
+    (after-row StrayIter (lowest (rowCount s) (placedWell (fieldsOf s) (placesOf (fieldsOf s) (rowCount s)))) _ _
+    (after-row Width (lowest (rowCount s) (widthsWell (fieldsOf s) (placesOf (fieldsOf s) (rowCount s)))) _ _
+    (after-row Unused (lowest (rowCount s) (boundWell (fieldsOf s) (placesOf (fieldsOf s) (rowCount s)))) _ _
+    (after-whole Operators (leb (operatorsIn (fieldsOf s) (rowCount s)) 1024) _ _
+    none-left)))))))))
+
+reads : (v : Verdict) (f : Figures) → answerOf (answerBy v f) .refusal ≡ numberIn v
+unfolding answerBy
+reads passed f = refl
+reads (Refused r row) f = refl
+
+pub read-exact : (s : List ℕ) → answerOf (readingOf s) .refusal ≡ first-refusal (sheetTable s)
+unfolding readingOf
+read-exact s = reads (verdictOf s) (figuresOf s) ∙ sheet-exact s
+
+-- ---- start
+
+start-order : (s c : Bool) (v : Verdict) (x : Exp) (capacity : ℕ) (m : List ℕ) (cs : List Row) → numberIn v ≡ first-refusal cs
+    → pick s (begun (startRefusal Memory 0) m) (pick c (byVerdict v x capacity m) (begun (startRefusal Capacity 0) m)) .answer .refusal
+    ≡ first-refusal ((s, Memory) ∷ (not c, Capacity) ∷ cs)
+unfolding first-refusal byVerdict
+start-order true c v x capacity m cs h = refl
+start-order false false v x capacity m cs h = refl
+start-order false true passed x capacity m cs h = h
+start-order false true (Refused r row) x capacity m cs h = h
+
+-- 11, 14, 1 to 10
+pub start-exact : (sheet : List ℕ) (capacity : ℕ) (m : List ℕ) → started sheet capacity m .answer .refusal ≡ first-refusal (startTable sheet capacity m)
+unfolding started
+start-exact sheet capacity m =
+    start-order (short-asked capacity m) (leb 1 capacity && leb capacity 16) (verdictOf sheet) (formulaOf sheet) capacity m (sheetTable sheet) (sheet-exact sheet)
+
+-- ---- evaluation
+
+-- A table behind another: looked at where the other gives nothing.
+behind-none : (cs ds : List Row) → first-refusal cs ≡ 0 → first-refusal (cs ++ ds) ≡ first-refusal ds
+unfolding first-refusal
+behind-none [] ds h = refl
+behind-none (c ∷ cs) ds h = go (c .0) h (behind-none cs ds)
+  where
+    go : (b : Bool) → cond b (numberOf (c .1)) (first-refusal cs) ≡ 0 → (first-refusal cs ≡ 0 → first-refusal (cs ++ ds) ≡ first-refusal ds)
+        → cond b (numberOf (c .1)) (first-refusal (cs ++ ds)) ≡ first-refusal ds
+    go true e ih = absurd (omega (arith, number-positive (c .1)))
+    go false e ih = ih e
+
+behind-some : (cs ds : List Row) (n : ℕ) → 1 ≤ n → n ≡ first-refusal cs → n ≡ first-refusal (cs ++ ds)
+unfolding first-refusal
+behind-some [] ds n p h = absurd (omega arith)
+behind-some (c ∷ cs) ds n p h = go (c .0) h (behind-some cs ds n p)
+  where
+    go : (b : Bool) → n ≡ cond b (numberOf (c .1)) (first-refusal cs) → (n ≡ first-refusal cs → n ≡ first-refusal (cs ++ ds))
+        → n ≡ cond b (numberOf (c .1)) (first-refusal (cs ++ ds))
+    go true e ih = e
+    go false e ih = ih e
+
+concludes : (rounds : ℕ) (o : Outcome) → numberIn (concluded rounds o .verdict) ≡ first-refusal ((is-unfinished o, Unfinished) ∷ [])
+unfolding concluded first-refusal
+concludes rounds (yields vs left) = refl
+concludes rounds Outcome.unfinished = refl
+
+-- What evaluation says of an accepted sheet: 12, then 36.
+set-order : (x : Exp) (rounds : ℕ) (o : Option (List Value))
+    → numberIn (evaluatedWith x rounds o .verdict) ≡ first-refusal ((is-none o, Set) ∷ (lacking x rounds o, Unfinished) ∷ [])
+unfolding first-refusal
+set-order x rounds (some vs) = concludes rounds (evalE x (inputsHold (freeE x) vs) rounds)
+set-order x rounds none = refl
+
+verdict-order : (v : Verdict) (e : Evaluation) (cs ds : List Row) → numberIn v ≡ first-refusal cs → numberIn (e .verdict) ≡ first-refusal ds
+    → numberIn (afterVerdict v e .verdict) ≡ first-refusal (cs ++ ds)
+verdict-order passed e cs ds h k = k ∙ sym (behind-none cs ds (sym h))
+verdict-order (Refused r row) e cs ds h k = behind-some cs ds (numberOf r) (number-positive r) h
+
+-- 1 to 10, 12, 36
+pub evaluation-exact : (sheet set : List ℕ) (rounds : ℕ)
+    → numberIn (evaluationOf sheet set rounds .verdict)
+    ≡ first-refusal (sheetTable sheet ++ ((no-values sheet set, Set) ∷ (rounds-lacking sheet set rounds, Unfinished) ∷ []))
+unfolding evaluationOf evaluated
+evaluation-exact sheet set rounds =
+    verdict-order (verdictOf sheet) (evaluated (formulaOf sheet) set rounds) (sheetTable sheet) _ (sheet-exact sheet)
+    (set-order (formulaOf sheet) rounds (setValues (length (inputsIn (formulaOf sheet))) set))
+
+told-order : (s : Bool) (v : Verdict) (e : Evaluation) (out : List ℕ) (cs : List Row) → numberIn v ≡ first-refusal cs
+    → pick s (evaluate-handed (evaluate-answers 11 0 0 0) out) (told v e out) .answer .refusal ≡ first-refusal ((s, Memory) ∷ cs)
+unfolding told first-refusal
+told-order true v e out cs h = refl
+told-order false passed e out cs h = h
+told-order false (Refused r row) e out cs h = h
+
+-- 11, 1 to 10, 12, 36
+pub evaluate-exact : (sheet set : List ℕ) (rounds : ℕ) (out : List ℕ)
+    → handedOut sheet set rounds out .answer .refusal ≡ first-refusal (evaluateTable sheet set rounds out)
+unfolding handedOut
+evaluate-exact sheet set rounds out =
+    told-order (no-room out) (evaluationOf sheet set rounds .verdict) (evaluationOf sheet set rounds) out _ (evaluation-exact sheet set rounds)

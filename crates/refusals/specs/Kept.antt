@@ -1,0 +1,177 @@
+-- What a refused call says and hands back, call by call: demand 1, "hands every lent byte back unaltered, save a run that has used up its lent firings";
+-- document 01, "A refusal's counts and rows are 0 unless stated". Here without the refusals' names, which Refused adds. Assumes nothing.
+use Prim.Native.Nat.{ℕ}
+use mathlib.Core.Path.{_≡_, refl, ap, subst}
+use mathlib.Core.Bool.{Bool, true, false, _&&_}
+use mathlib.Core.Logic.{_⊎_, inl, inr, _≢_}
+use mathlib.Core.List.{List}
+use mathlib.Core.Option.{Option, some, none}
+use native.Mathlib.Decide.{ℕ-discrete}
+use lib.Dec.{leb, ltb, eqb}
+use lib.ListN.{length}
+use Rattle.value.specs.declared.Value.{Value}
+use Rattle.value.specs.Operators.{pick}
+use Rattle.formula.specs.declared.Refusal.the-variants.{Memory, Capacity, Unfinished}
+use Rattle.formula.specs.declared.Verdict.{Verdict}
+use Rattle.formula.specs.declared.Verdict.the-variants.{Passed as passed, Refused as refused}
+use Rattle.formula.specs.declared.Figures.{Figures}
+use Rattle.formula.specs.Refusals.{numberOf}
+use Rattle.formula.specs.Tree.{Exp, formulaOf}
+use Rattle.formula.specs.Free.{freeE, inputsOf as inputsIn}
+use Rattle.formula.specs.Tests.{verdictOf, figuresOf, answerBy, readingOf}
+use Rattle.sheet.specs.declared.read.ReadAnswer.{ReadAnswer}
+use Rattle.sheet.specs.Reading.{answerOf}
+use Rattle.meaning.specs.Meaning.{Outcome as Ended, yields, inputsHold, evalE}
+use Rattle.eval.specs.declared.Evaluation.{Evaluation}
+use Rattle.eval.specs.Evaluate.{setValues, concluded, evaluatedWith, evaluated, afterVerdict, evaluationOf}
+use Rattle.evaluate.specs.Handed.{told, handedOut, Handed as Evaluated}
+use Rattle.layout.specs.Layout.{operatorsOf, inputsOf, resultsOf, untakenOf}
+use Rattle.machine.specs.Fire.{ableAt, firedAt}
+use Rattle.valid.specs.Below.{allBelow}
+use Rattle.runs.specs.Run.{runs, stillAt}
+use Rattle.calls.specs.Calls.{Outcome, Handed, outcome, handed, answers, refusal, sizeIn, standing, setOk, roomsOk, pushedMemory, pushed, fired, ran, resultReady, taken}
+use Rattle.calls.specs.CallLaws.{ran-refused}
+use Rattle.start.specs.Start.{Begun, byVerdict, started}
+use Rattle.refusals.specs.Conditions.{no-room, short-asked}
+use Rattle.refusals.specs.Rows.{RowTold, VerdictRow, verdict-row}
+use Rattle.refusals.specs.RunCount.{Firings, run-is, run-counts}
+
+either : {A : Type 0} (P : A → Type 0) (b : Bool) (x y : A) → P x → P y → P (pick b x y)
+either P true x y p q = p
+either P false x y p q = q
+
+-- A refusal with count 0 that leaves the memory, or an acceptance.
+abbrev Keeps : List ℕ → Outcome → Type 0
+Keeps m o = o .answer .refusal ≢ 0 → (o .answer .count ≡ 0) × (o .mem ≡ m)
+
+keeps-refused : (m : List ℕ) (n : ℕ) → Keeps m (outcome (answers n 0) m)
+keeps-refused m n h = (refl, refl)
+
+keeps-accepted : (m m′ : List ℕ) (c : ℕ) → Keeps m (outcome (answers 0 c) m′)
+keeps-accepted m m′ c h = absurd (h refl)
+
+pub push-keeps : (m set : List ℕ) → pushed m set .answer .refusal ≢ 0 → (pushed m set .answer .count ≡ 0) × (pushed m set .mem ≡ m)
+unfolding pushed
+push-keeps m set =
+    either (Keeps m) (eqb (standing m) 0) _ _
+    (either (Keeps m) (setOk (inputsOf m) set) _ _
+    (either (Keeps m) (ltb (untakenOf m) 16) _ _
+    (either (Keeps m) (roomsOk m (sizeIn m) (inputsOf m)) _ _
+    (keeps-accepted m (pushedMemory m set) 0)
+    (keeps-refused m 33))
+    (keeps-refused m 32))
+    (keeps-refused m 12))
+    (keeps-refused m (standing m))
+
+pub fire-keeps : (m : List ℕ) (i : ℕ) → fired m i .answer .refusal ≢ 0 → (fired m i .answer .count ≡ 0) × (fired m i .mem ≡ m)
+unfolding fired
+fire-keeps m i =
+    either (Keeps m) (eqb (standing m) 0) _ _
+    (either (Keeps m) (ltb i (operatorsOf m) && ableAt m (sizeIn m) i) _ _ (keeps-accepted m (firedAt m (sizeIn m) i) 0) (keeps-refused m 34))
+    (keeps-refused m (standing m))
+
+-- "A run's 36 keeps its firings and gives their count", which is the lent number: the memory is the one after that many firings.
+abbrev pub UsedUpFirings : List ℕ → ℕ → Type 0
+UsedUpFirings m firings =
+    (ran m firings .answer .refusal ≡ numberOf Unfinished) × (ran m firings .answer .count ≡ firings) × Firings (sizeIn m) (operatorsOf m) firings m (ran m firings .mem)
+
+-- 11 and 31 leave the memory.
+pub run-keeps : (m : List ℕ) (firings : ℕ) → ran m firings .answer .refusal ≢ 0
+    → ((ran m firings .answer .count ≡ 0) × (ran m firings .mem ≡ m)) ⊎ UsedUpFirings m firings
+run-keeps m firings h = go (ℕ-discrete (standing m) 0)
+  where
+    go : Dec (standing m ≡ 0) → ((ran m firings .answer .count ≡ 0) × (ran m firings .mem ≡ m)) ⊎ UsedUpFirings m firings
+    go (yes st) = used (stillAt (runs (sizeIn m) (operatorsOf m) firings m 0 .mem) (sizeIn m) (operatorsOf m)) refl
+      where
+        used : (b : Bool) → stillAt (runs (sizeIn m) (operatorsOf m) firings m 0 .mem) (sizeIn m) (operatorsOf m) ≡ b
+            → ((ran m firings .answer .count ≡ 0) × (ran m firings .mem ≡ m)) ⊎ UsedUpFirings m firings
+        used true e = absurd (h (run-is m firings st true e .2))
+        used false e =
+            let r = run-is m firings st false e .2 in
+            let C = run-counts m firings st in
+            let full = C .unfinished r .0 in
+            inr (r, full, subst (λ (k : ℕ). Firings (sizeIn m) (operatorsOf m) k m (ran m firings .mem)) full (C .between))
+    go (no n) = let e = ran-refused m firings n in inl (ap (λ (o : Outcome). o .answer .count) e, ap (λ (o : Outcome). o .mem) e)
+
+abbrev KeepsBoth : List ℕ → List ℕ → Handed → Type 0
+KeepsBoth m out h = h .answer .refusal ≢ 0 → (h .answer .count ≡ 0) × (h .mem ≡ m) × (h .out ≡ out)
+
+both-refused : (m out : List ℕ) (n : ℕ) → KeepsBoth m out (handed (answers n 0) m out)
+both-refused m out n h = (refl, refl, refl)
+
+pub take-keeps : (m out : List ℕ) → taken m out .answer .refusal ≢ 0
+    → (taken m out .answer .count ≡ 0) × (taken m out .mem ≡ m) × (taken m out .out ≡ out)
+unfolding taken
+take-keeps m out =
+    either (KeepsBoth m out) (ltb (length out) 80) _ _ (both-refused m out 11)
+    (either (KeepsBoth m out) (eqb (standing m) 0) _ _
+    (either (KeepsBoth m out) (ltb 0 (untakenOf m) && allBelow (resultsOf m) (resultReady m (sizeIn m))) _ _
+    (λ h. absurd (h refl))
+    (both-refused m out 35))
+    (both-refused m out (standing m)))
+
+-- ---- sheets, with the row that goes with the refusal
+
+-- Reading is lent the sheet alone.
+abbrev pub ReadKeeps : List ℕ → ReadAnswer → Type 0
+ReadKeeps sheet a = a .refusal ≢ 0 → RowTold sheet (a .refusal) (a .row) × (a .rows ≡ 0) × (a .operators ≡ 0) × (a .inputs ≡ 0) × (a .results ≡ 0)
+
+read-by : (sheet : List ℕ) (v : Verdict) (f : Figures) → VerdictRow sheet v → ReadKeeps sheet (answerOf (answerBy v f))
+unfolding answerBy
+read-by sheet passed f s h = absurd (h refl)
+read-by sheet (refused r row) f s h = ((r, refl, s), refl, refl, refl, refl)
+
+pub read-keeps : (s : List ℕ) → ReadKeeps s (answerOf (readingOf s))
+unfolding readingOf
+read-keeps s = read-by s (verdictOf s) (figuresOf s) (verdict-row s)
+
+abbrev pub StartKeeps : List ℕ → List ℕ → Begun → Type 0
+StartKeeps sheet m b = b .answer .refusal ≢ 0
+    → RowTold sheet (b .answer .refusal) (b .answer .row) × (b .answer .operators ≡ 0) × (b .answer .inputs ≡ 0) × (b .answer .results ≡ 0) × (b .mem ≡ m)
+
+start-by : (sheet : List ℕ) (v : Verdict) (x : Exp) (capacity : ℕ) (m : List ℕ) → VerdictRow sheet v → StartKeeps sheet m (byVerdict v x capacity m)
+unfolding byVerdict
+start-by sheet passed x capacity m s h = absurd (h refl)
+start-by sheet (refused r row) x capacity m s h = ((r, refl, s), refl, refl, refl, refl)
+
+pub start-keeps : (sheet : List ℕ) (capacity : ℕ) (m : List ℕ) → StartKeeps sheet m (started sheet capacity m)
+unfolding started
+start-keeps sheet capacity m =
+    either (StartKeeps sheet m) (short-asked capacity m) _ _ (λ h. ((Memory, refl, refl), refl, refl, refl, refl))
+    (either (StartKeeps sheet m) (leb 1 capacity && leb capacity 16) _ _
+    (start-by sheet (verdictOf sheet) (formulaOf sheet) capacity m (verdict-row sheet))
+    (λ h. ((Capacity, refl, refl), refl, refl, refl, refl)))
+
+abbrev pub EvaluateKeeps : List ℕ → List ℕ → Evaluated → Type 0
+EvaluateKeeps sheet out e = e .answer .refusal ≢ 0
+    → RowTold sheet (e .answer .refusal) (e .answer .row) × (e .answer .width ≡ 0) × (e .answer .rounds ≡ 0) × (e .out ≡ out)
+
+told-by : (sheet : List ℕ) (v : Verdict) (e : Evaluation) (out : List ℕ) → VerdictRow sheet v → EvaluateKeeps sheet out (told v e out)
+unfolding told
+told-by sheet passed e out s h = absurd (h refl)
+told-by sheet (refused r row) e out s h = ((r, refl, s), refl, refl, refl)
+
+concluded-row : (sheet : List ℕ) (rounds : ℕ) (o : Ended) → VerdictRow sheet (concluded rounds o .verdict)
+unfolding concluded
+concluded-row sheet rounds (yields vs left) = tt
+concluded-row sheet rounds Ended.unfinished = refl
+
+set-row : (sheet : List ℕ) (x : Exp) (rounds : ℕ) (o : Option (List Value)) → VerdictRow sheet (evaluatedWith x rounds o .verdict)
+set-row sheet x rounds (some vs) = concluded-row sheet rounds (evalE x (inputsHold (freeE x) vs) rounds)
+set-row sheet x rounds none = refl
+
+after-row : (sheet : List ℕ) (v : Verdict) (e : Evaluation) → VerdictRow sheet v → VerdictRow sheet (e .verdict) → VerdictRow sheet (afterVerdict v e .verdict)
+after-row sheet passed e a b = b
+after-row sheet (refused r row) e a b = a
+
+evaluation-row : (sheet set : List ℕ) (rounds : ℕ) → VerdictRow sheet (evaluationOf sheet set rounds .verdict)
+unfolding evaluationOf evaluated
+evaluation-row sheet set rounds =
+    after-row sheet (verdictOf sheet) (evaluated (formulaOf sheet) set rounds) (verdict-row sheet)
+    (set-row sheet (formulaOf sheet) rounds (setValues (length (inputsIn (formulaOf sheet))) set))
+
+pub evaluate-keeps : (sheet set : List ℕ) (rounds : ℕ) (out : List ℕ) → EvaluateKeeps sheet out (handedOut sheet set rounds out)
+unfolding handedOut
+evaluate-keeps sheet set rounds out =
+    either (EvaluateKeeps sheet out) (no-room out) _ _ (λ h. ((Memory, refl, refl), refl, refl, refl))
+    (told-by sheet (evaluationOf sheet set rounds .verdict) (evaluationOf sheet set rounds) out (evaluation-row sheet set rounds))

@@ -1,0 +1,193 @@
+-- DEMAND 1, second sentence: "A refused call names one of the refusals in document 01 and hands every lent byte back unaltered, save a run that has used up its
+-- lent firings", as `refused-call` over all calls; and demand 2, "A call is refused exactly when document 01 gives it a refusal, and with the first in the
+-- order there", as `call-exact`. The calls are the definitions that the contracts of their entry points cite; a sheet or a set is lent for reading
+-- only. Assumes nothing.
+use Prim.Native.Nat.{ℕ}
+use mathlib.Core.Path.{_≡_, refl, sym, _∙_, subst}
+use mathlib.Core.Logic.{_⊎_, inl, inr, _≢_, _↔_}
+use mathlib.Core.List.{List, [], _∷_}
+use Rattle.formula.specs.declared.Refusal.{Refusal}
+use Rattle.formula.specs.Refusals.{numberOf}
+use Rattle.formula.specs.Tests.{readingOf}
+use Rattle.sheet.specs.Reading.{answerOf}
+use Rattle.evaluate.specs.Handed.{handedOut}
+use Rattle.calls.specs.Calls.{pushed, fired, ran, taken}
+use Rattle.start.specs.Start.{started}
+use Rattle.refusals.specs.FirstRefusal.{Row, first-refusal, Named, Among, numbers, NoneHolds, FirstHolds, accepted-exactly, refused-exactly, first-among, first-named}
+use Rattle.refusals.specs.Conditions.{pushTable, fireTable, runTable, takeTable, sheetTable, startTable, evaluateTable, sheetNumbers, pushNumbers, fireNumbers, runNumbers, takeNumbers, startNumbers, evaluateNumbers}
+use Rattle.refusals.specs.Rows.{RowTold}
+use Rattle.refusals.specs.Exact.{push-exact, fire-exact, run-exact, take-exact, read-exact, start-exact, evaluate-exact}
+use Rattle.refusals.specs.Kept.{UsedUpFirings, read-keeps, start-keeps, push-keeps, fire-keeps, run-keeps, take-keeps, evaluate-keeps}
+
+-- The firmware's entry points with what each is lent, in the order of their parameters.
+pub data Call : Type 0 where
+  read : List ℕ → Call
+  start : List ℕ → ℕ → List ℕ → Call
+  push : List ℕ → List ℕ → Call
+  fire : List ℕ → ℕ → Call
+  run : List ℕ → ℕ → Call
+  take : List ℕ → List ℕ → Call
+  evaluate : List ℕ → List ℕ → ℕ → List ℕ → Call
+
+unfoldable pub refusalOf : Call → ℕ
+refusalOf (read sheet) = answerOf (readingOf sheet) .refusal
+refusalOf (start sheet capacity m) = started sheet capacity m .answer .refusal
+refusalOf (push m set) = pushed m set .answer .refusal
+refusalOf (fire m operator) = fired m operator .answer .refusal
+refusalOf (run m firings) = ran m firings .answer .refusal
+refusalOf (take m out) = taken m out .answer .refusal
+refusalOf (evaluate sheet set rounds out) = handedOut sheet set rounds out .answer .refusal
+
+-- The other numbers of its answer.
+unfoldable pub countsOf : Call → List ℕ
+countsOf (read sheet) = let a = answerOf (readingOf sheet) in a .rows ∷ a .operators ∷ a .inputs ∷ a .results ∷ []
+countsOf (start sheet capacity m) = let a = started sheet capacity m .answer in a .operators ∷ a .inputs ∷ a .results ∷ []
+countsOf (push m set) = pushed m set .answer .count ∷ []
+countsOf (fire m operator) = fired m operator .answer .count ∷ []
+countsOf (run m firings) = ran m firings .answer .count ∷ []
+countsOf (take m out) = taken m out .answer .count ∷ []
+countsOf (evaluate sheet set rounds out) = let a = handedOut sheet set rounds out .answer in a .width ∷ a .rounds ∷ []
+
+-- The bytes lent for writing, and the same at the call's end.
+unfoldable pub lent : Call → List (List ℕ)
+lent (read sheet) = []
+lent (start sheet capacity m) = m ∷ []
+lent (push m set) = m ∷ []
+lent (fire m operator) = m ∷ []
+lent (run m firings) = m ∷ []
+lent (take m out) = m ∷ out ∷ []
+lent (evaluate sheet set rounds out) = out ∷ []
+
+unfoldable pub handed-back : Call → List (List ℕ)
+handed-back (read sheet) = []
+handed-back (start sheet capacity m) = started sheet capacity m .mem ∷ []
+handed-back (push m set) = pushed m set .mem ∷ []
+handed-back (fire m operator) = fired m operator .mem ∷ []
+handed-back (run m firings) = ran m firings .mem ∷ []
+handed-back (take m out) = taken m out .mem ∷ taken m out .out ∷ []
+handed-back (evaluate sheet set rounds out) = handedOut sheet set rounds out .out ∷ []
+
+-- The table of its refusals, and their numbers.
+unfoldable pub tableOf : Call → List Row
+tableOf (read sheet) = sheetTable sheet
+tableOf (start sheet capacity m) = startTable sheet capacity m
+tableOf (push m set) = pushTable m set
+tableOf (fire m operator) = fireTable m operator
+tableOf (run m firings) = runTable m firings
+tableOf (take m out) = takeTable m out
+tableOf (evaluate sheet set rounds out) = evaluateTable sheet set rounds out
+
+unfoldable pub numbersOf : Call → List ℕ
+numbersOf (read sheet) = sheetNumbers
+numbersOf (start sheet capacity m) = startNumbers
+numbersOf (push m set) = pushNumbers
+numbersOf (fire m operator) = fireNumbers
+numbersOf (run m firings) = runNumbers
+numbersOf (take m out) = takeNumbers
+numbersOf (evaluate sheet set rounds out) = evaluateNumbers
+
+abbrev pub AllZero : List ℕ → Type 0
+AllZero [] = Unit {0}
+AllZero (n ∷ ns) = (n ≡ 0) × AllZero ns
+
+-- "a run that has used up its lent firings": it gives 36 and their number, and the memory is the one after them.
+abbrev pub UsedUp : Call → Type 0
+UsedUp (read sheet) = ⊥
+UsedUp (start sheet capacity m) = ⊥
+UsedUp (push m set) = ⊥
+UsedUp (fire m operator) = ⊥
+UsedUp (run m firings) = UsedUpFirings m firings
+UsedUp (take m out) = ⊥
+UsedUp (evaluate sheet set rounds out) = ⊥
+
+-- The row of the answers that have one.
+abbrev pub RowSaid : Call → Type 0
+RowSaid (read sheet) = RowTold sheet (answerOf (readingOf sheet) .refusal) (answerOf (readingOf sheet) .row)
+RowSaid (start sheet capacity m) = RowTold sheet (started sheet capacity m .answer .refusal) (started sheet capacity m .answer .row)
+RowSaid (push m set) = Unit {0}
+RowSaid (fire m operator) = Unit {0}
+RowSaid (run m firings) = Unit {0}
+RowSaid (take m out) = Unit {0}
+RowSaid (evaluate sheet set rounds out) = RowTold sheet (handedOut sheet set rounds out .answer .refusal) (handedOut sheet set rounds out .answer .row)
+
+-- Demand 2's last sentence for every call: its refusal is the first of its table.
+pub call-exact : (c : Call) → refusalOf c ≡ first-refusal (tableOf c)
+unfolding refusalOf tableOf
+call-exact (read sheet) = read-exact sheet
+call-exact (start sheet capacity m) = start-exact sheet capacity m
+call-exact (push m set) = push-exact m set
+call-exact (fire m operator) = fire-exact m operator
+call-exact (run m firings) = run-exact m firings
+call-exact (take m out) = take-exact m out
+call-exact (evaluate sheet set rounds out) = evaluate-exact sheet set rounds out
+
+-- Accepted exactly where no condition of its table holds; refused with a number exactly where that number's condition is the first that holds.
+pub call-accepted : (c : Call) → (refusalOf c ≡ 0) ↔ NoneHolds (tableOf c)
+call-accepted c = let i = accepted-exactly (tableOf c) in (λ h. i .0 (sym (call-exact c) ∙ h), λ h. call-exact c ∙ i .1 h)
+
+pub call-refused : (c : Call) (r : Refusal) → (refusalOf c ≡ numberOf r) ↔ FirstHolds (numberOf r) (tableOf c)
+call-refused c r = let i = refused-exactly (tableOf c) r in (λ h. i .0 (sym (call-exact c) ∙ h), λ h. call-exact c ∙ i .1 h)
+
+-- ---- a refused call
+
+pub record RefusedCall (c : Call) : Type 0 where
+  -- "names one of the refusals in document 01", one of its own
+  pub names : Named (refusalOf c)
+  pub own : Among (refusalOf c) (numbersOf c)
+  -- "3 to 9 give the lowest row at fault, others row 0"
+  pub row : RowSaid c
+  -- "hands every lent byte back unaltered, save a run that has used up its lent firings"
+  pub back : ((handed-back c ≡ lent c) × AllZero (countsOf c)) ⊎ UsedUp c
+
+table-numbers : (c : Call) (n : ℕ) → Among n (numbers (tableOf c)) → Among n (numbersOf c)
+unfolding tableOf numbersOf
+table-numbers (read sheet) n a = a
+table-numbers (start sheet capacity m) n a = a
+table-numbers (push m set) n a = a
+table-numbers (fire m operator) n a = a
+table-numbers (run m firings) n a = a
+table-numbers (take m out) n (inl e) = inl e
+table-numbers (take m out) n (inr a) = a
+table-numbers (evaluate sheet set rounds out) n a = a
+
+one : {m m′ : List ℕ} → m′ ≡ m → _≡_ {A = List (List ℕ)} (m′ ∷ []) (m ∷ [])
+one e = λ i. e i ∷ []
+
+two : {m m′ o o′ : List ℕ} → m′ ≡ m → o′ ≡ o → _≡_ {A = List (List ℕ)} (m′ ∷ o′ ∷ []) (m ∷ o ∷ [])
+two e f = λ i. e i ∷ f i ∷ []
+
+row-said : (c : Call) → refusalOf c ≢ 0 → RowSaid c
+unfolding refusalOf
+row-said (read sheet) h = read-keeps sheet h .0
+row-said (start sheet capacity m) h = start-keeps sheet capacity m h .0
+row-said (push m set) h = tt
+row-said (fire m operator) h = tt
+row-said (run m firings) h = tt
+row-said (take m out) h = tt
+row-said (evaluate sheet set rounds out) h = evaluate-keeps sheet set rounds out h .0
+
+bytes-back : (c : Call) → refusalOf c ≢ 0 → ((handed-back c ≡ lent c) × AllZero (countsOf c)) ⊎ UsedUp c
+unfolding refusalOf handed-back lent countsOf
+bytes-back (read sheet) h = let k = read-keeps sheet h in inl (refl, (k .1, (k .2, (k .3, (k .4, tt)))))
+bytes-back (start sheet capacity m) h = let k = start-keeps sheet capacity m h in inl (one (k .4), (k .1, (k .2, (k .3, tt))))
+bytes-back (push m set) h = let k = push-keeps m set h in inl (one (k .1), (k .0, tt))
+bytes-back (fire m operator) h = let k = fire-keeps m operator h in inl (one (k .1), (k .0, tt))
+bytes-back (run m firings) h = go (run-keeps m firings h)
+  where
+    go : ((ran m firings .answer .count ≡ 0) × (ran m firings .mem ≡ m))
+        ⊎ UsedUpFirings m firings
+        → ((handed-back (run m firings) ≡ lent (run m firings)) × AllZero (countsOf (run m firings))) ⊎ UsedUp (run m firings)
+    go (inl k) = inl (one (k .1), (k .0, tt))
+    go (inr k) = inr k
+bytes-back (take m out) h = let k = take-keeps m out h in inl (two (k .1) (k .2), (k .0, tt))
+bytes-back (evaluate sheet set rounds out) h = let k = evaluate-keeps sheet set rounds out h in inl (one (k .3), (k .1, (k .2, tt)))
+
+pub refused-call : (c : Call) → refusalOf c ≢ 0 → RefusedCall c
+refused-call c h =
+    let n : first-refusal (tableOf c) ≢ 0 = λ e. h (call-exact c ∙ e) in
+    record {
+      names = subst Named (sym (call-exact c)) (first-named (tableOf c) n);
+      own = subst (λ (k : ℕ). Among k (numbersOf c)) (sym (call-exact c)) (table-numbers c (first-refusal (tableOf c)) (first-among (tableOf c) n));
+      row = row-said c h;
+      back = bytes-back c h;
+    }

@@ -1,0 +1,6 @@
+pub mod Start
+pub mod StartLaws
+pub mod ReadBack
+pub mod HeaderLaws
+pub mod Completed
+pub mod SheetTables

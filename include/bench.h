@@ -1,0 +1,133 @@
+/*
+ * The formula machine of the beacon bench.
+ *
+ * A formula sheet is read (bench_read), evaluated directly (bench_evaluate), or started as a machine on memory that the caller lends
+ * (bench_start) and then driven by pushes, firings, runs and takes. No call keeps anything but what stands in that memory: there is no
+ * heap and no global. Every call always returns, for any bytes and any numbers.
+ *
+ * Lent memory. A pointer goes with its length in bytes; a length of 0 goes with any pointer, NULL included. The stretches lent to one
+ * call must not overlap, and nothing else may write them during the call. That is all that is asked of a caller: whatever the bytes are,
+ * a call touches none outside of them.
+ *
+ * Refusals. `refusal` is 0 where a call is accepted, else one of the numbers below, the first that applies in the order each call gives.
+ * A refused call leaves every lent byte as it was, and its other numbers are 0, save `row` where it names a row, and a run refused with
+ * BENCH_UNFINISHED, which keeps its firings and gives their count.
+ *
+ * Values. A value is five bytes: a tag (1 whole number, 2 truth, 3 err) and four bytes, lowest first: a whole number as int32_t, a truth
+ * as 0 or 1, an err as 0. Nothing else is a value. A set is its values one after another, in the order of the inputs, rising.
+ */
+#ifndef BENCH_H
+#define BENCH_H
+
+#include <stddef.h>
+#include <stdint.h>
+
+#ifdef __cplusplus
+extern "C" {
+#endif
+
+/* Said of what was handed in. `row` counts from 1 for 3 to 9 and is 0 for the others. */
+enum {
+    BENCH_ACCEPTED = 0,
+    BENCH_LINES = 1,      /* empty, not in 31-byte rows, or a row without its line feed */
+    BENCH_ROWS = 2,       /* over 200 rows */
+    BENCH_FIELD = 3,      /* a malformed field */
+    BENCH_RANGE = 4,      /* kind, code, identifier, constant or unlisted field outside its range */
+    BENCH_NAMING = 5,     /* a row that names one wrongly */
+    BENCH_NAMED = 6,      /* a row before the last not named once */
+    BENCH_ITER = 7,       /* iter in an expression place */
+    BENCH_WIDTH = 8,      /* a width rule broken */
+    BENCH_BOUND = 9,      /* a bound identifier not free in row d */
+    BENCH_OPERATORS = 10, /* over 1,024 operators */
+    BENCH_MEMORY = 11,    /* lent memory shorter than the call's need */
+    BENCH_SET = 12,       /* a set with another number of values than inputs, or a bad value */
+    BENCH_CAPACITY = 14,  /* a capacity outside 1..16 */
+
+    /* Said of how the machine stands. */
+    BENCH_ALTERED = 31,   /* a stored figure or token outside its range, or a link named twice; never given where only these calls wrote */
+    BENCH_UNTAKEN = 32,   /* sixteen sets untaken */
+    BENCH_FULL = 33,      /* an input link, or the trigger's, full */
+    BENCH_NOT_ABLE = 34,  /* the operator is absent or not able to fire */
+    BENCH_NO_RESULT = 35, /* a result port empty, or no set untaken */
+    BENCH_UNFINISHED = 36 /* run: something can still fire after the lent firings; evaluation: more rounds needed than lent */
+};
+
+/* What a result set needs: sixteen values of five bytes. */
+#define BENCH_RESULT_BYTES 80
+
+/* What a machine needs at a capacity of 1 to 16: 40,390 bytes at 1, 55,915 at 2, 15,525 more for each further place. */
+#define BENCH_MACHINE_BYTES(capacity) ((size_t)21760 + 3105 * (5 * (size_t)(capacity) + 1))
+
+typedef struct {
+    uint32_t refusal;
+    uint32_t row;
+    uint32_t rows;
+    uint32_t operators;
+    uint32_t inputs;
+    uint32_t results;
+} bench_read_answer;
+
+typedef struct {
+    uint32_t refusal;
+    uint32_t row;
+    uint32_t width;  /* how many of the sixteen values are the formula's; the others are err */
+    uint32_t rounds; /* rounds used */
+} bench_evaluate_answer;
+
+typedef struct {
+    uint32_t refusal;
+    uint32_t row;
+    uint32_t operators;
+    uint32_t inputs;
+    uint32_t results;
+} bench_start_answer;
+
+typedef struct {
+    uint32_t refusal;
+    uint32_t count; /* a run's firings, a taken result set's width, else 0 */
+} bench_answer;
+
+/* Reads a formula sheet. Refusals, in this order: 1 to 10. */
+bench_read_answer bench_read(const uint8_t *sheet, size_t sheet_bytes);
+
+/*
+ * Evaluates a sheet on a set within the lent rounds; a round is one entry into a loop's body. Writes sixteen values to `out`, err past the
+ * width; bytes of `out` past 80 are left alone. Refusals, in this order: 11 (`out` shorter than 80 bytes), 1 to 10, 12, 36.
+ */
+bench_evaluate_answer bench_evaluate(const uint8_t *sheet, size_t sheet_bytes, const uint8_t *set, size_t set_bytes, uint32_t rounds,
+                                     uint8_t *out, size_t out_bytes);
+
+/*
+ * Starts an empty machine for a sheet, with links that hold `capacity` tokens, in `memory` (any contents). Refusals, in this order: 11
+ * (shorter than BENCH_MACHINE_BYTES of the capacity asked, or of 1 where that is outside 1..16), 14, 1 to 10.
+ */
+bench_start_answer bench_start(const uint8_t *sheet, size_t sheet_bytes, uint32_t capacity, uint8_t *memory, size_t memory_bytes);
+
+/*
+ * The calls on a machine. Each needs BENCH_MACHINE_BYTES of the stored capacity (of 1 where the stored one is outside 1..16), looks first
+ * at that (11) and at all that is stored (31), and then gives its own refusals.
+ */
+
+/* Gives one value to each input link, and a trigger where the formula has constants. Refusals, in this order: 11, 31, 12, 32, 33. */
+bench_answer bench_push(uint8_t *memory, size_t memory_bytes, const uint8_t *set, size_t set_bytes);
+
+/* Fires one operator, counted from 0. Refusals, in this order: 11, 31, 34. */
+bench_answer bench_fire(uint8_t *memory, size_t memory_bytes, uint32_t operator_number);
+
+/*
+ * Fires the least-numbered able operator again and again, up to `firings` times, and counts. Refusals, in this order: 11, 31; 36 where
+ * something can still fire after the lent firings, which are kept.
+ */
+bench_answer bench_run(uint8_t *memory, size_t memory_bytes, uint32_t firings);
+
+/*
+ * Takes the result set of the oldest set untaken: sixteen values into `out`, err past the width, which is the answer's count; bytes of
+ * `out` past 80 are left alone. Refusals, in this order: 11 (also where `out` is shorter than 80 bytes), 31, 35.
+ */
+bench_answer bench_take(uint8_t *memory, size_t memory_bytes, uint8_t *out, size_t out_bytes);
+
+#ifdef __cplusplus
+}
+#endif
+
+#endif
