@@ -1,6 +1,6 @@
 // The text of the bench program (document 01, "Program and readings"): printed fields, value fields and set lines, and test
 // 1 of a sheet over a file that is read part by part. The definitions are in specs/. Assumes nothing.
-pub mod fields; // fields.rt: a value field of eleven characters
+pub mod values; // values.rt: a value field of eleven characters
 pub mod printed; // printed.rt: printed fields and lines
 pub mod scan; // scan.rt: test 1 part by part
 pub mod sets; // sets.rt: set lines

@@ -1,6 +1,6 @@
 // Set lines (specs/SetLines; document 01, "Program and readings" and refusal 12).
 use crate::Lines;
-use crate::fields::word_in;
+use crate::values::word_in;
 ghost use mathlib.Core.Path.{_≡_};
 ghost use mathlib.Core.Bool.{Bool, true};
 ghost use mathlib.Core.List.{_++_};

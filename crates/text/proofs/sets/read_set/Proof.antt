@@ -6,7 +6,7 @@ use Rattle.text.proofs.sets.read_set.Statement.{statement}
 use Rattle.text.proofs.sets.read_set.Tie as tie
 use Rattle.text.proofs.sets.read_set.Reads as reads
 use Rattle.text.proofs.sets.read_set.Lts as lts
-use Rattle.text.proofs.fields.word_in.Reads as word-in-reads
+use Rattle.text.proofs.values.word_in.Reads as word-in-reads
 use Rattle.value.proofs.bytes.store.Reads as store-reads
 use borrow.Author.Needs.{needs}
 use native.Mathlib.Omega.{arith}
