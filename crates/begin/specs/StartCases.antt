@@ -8,7 +8,7 @@ use Rattle.formula.specs.declared.Refusal.the-variants.{Layout, StrayIter, Unus
 use Rattle.formula.specs.Tree.{formulaOf}
 use Rattle.formula.specs.Tests.{verdictOf}
 use Rattle.layout.specs.Layout.{capacityIn}
-use Rattle.cases.specs.Sheets.{bytes, lesser, twice, factorial, iterAlone, letUnused}
+use Rattle.examples.specs.Sheets.{bytes, lesser, twice, factorial, iterAlone, letUnused}
 use Rattle.start.specs.declared.StartAnswer.{StartAnswer}
 use Rattle.start.specs.Start.{refusal, started}
 

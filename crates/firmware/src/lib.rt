@@ -2,10 +2,14 @@
 // numbers and byte memory"). No call asks anything of its caller; each contract is an equation on the answer and on every lent byte.
 // include/bench.h says the same in C.
 use calls::Answer;
+use evaluate::EvaluateAnswer;
 use sheet::read::ReadAnswer;
+use start::StartAnswer;
 ghost use mathlib.Core.Path.{_≡_};
 ghost use Rattle.formula.specs.Tests.{readingOf};
 ghost use Rattle.sheet.specs.Reading.{answerOf};
+ghost use Rattle.evaluate.specs.Handed.{handed as evaluationHanded, handedOut};
+ghost use Rattle.start.specs.Start.{begun, started};
 ghost use Rattle.calls.specs.Calls.{outcome, handed, pushed, fired, ran, taken};
 
 #[no_mangle]
@@ -13,6 +17,25 @@ pub extern "C" fn bench_read(sheet: &[u8]) -> ReadAnswer
     ensures { λ r. ⌜ r ≡ answerOf (readingOf (now (sheet .entry))) ⌝ }
 {
     sheet::read::bench_read(sheet)
+}
+
+#[no_mangle]
+pub extern "C" fn bench_evaluate(
+    sheet: &[u8],
+    set: &[u8],
+    rounds: u32,
+    out: &mut [u8],
+) -> EvaluateAnswer
+    ensures { λ a. ⌜ evaluationHanded a (now (out .exit)) ≡ handedOut (now (sheet .entry)) (now (set .entry)) rounds (now (out .entry)) ⌝ }
+{
+    evaluate::bench_evaluate(sheet, set, rounds, out)
+}
+
+#[no_mangle]
+pub extern "C" fn bench_start(sheet: &[u8], capacity: u32, mem: &mut [u8]) -> StartAnswer
+    ensures { λ a. ⌜ begun a (now (mem .exit)) ≡ started (now (sheet .entry)) capacity (now (mem .entry)) ⌝ }
+{
+    start::start(sheet, capacity, mem)
 }
 
 #[no_mangle]
