@@ -6,3 +6,4 @@ pub mod StageLaws
 pub mod Output
 pub mod Opening
 pub mod OpeningLaws
+pub mod Reading

@@ -3,3 +3,4 @@
 // writes.
 pub mod opening; // opening.rt: the tests and the first line
 pub mod passes; // passes.rt: one repetition of the loop
+pub mod run; // run.rt: the program on two files

@@ -349,3 +349,50 @@ pub one-read : (n : ℕ) (b : List ℕ) (f : SetFile) → moreThan n (oneMore b 
 unfolding oneMore
 one-read n b (setsIn ss) = let e : n + suc (length ss) ≡ n + 1 + length ss = omega arith in rw e refl
 one-read n b (badLine i) = refl
+
+-- ---- no more lines than bytes
+
+before-few : (b : ℕ) (ls : List (List ℕ)) → length (before b ls) ≤ suc (length ls)
+unfolding before
+before-few b [] = omega arith
+before-few b (l ∷ ls) = omega arith
+
+lines-few : (s : List ℕ) → length (linesOf s) ≤ length s
+unfolding linesOf
+lines-few [] = omega arith
+lines-few (b ∷ s) = go (eqb b 10) (lines-few s)
+  where
+    go : (x : Bool) → length (linesOf s) ≤ length s → length (cond x ((10 ∷ []) ∷ linesOf s) (before b (linesOf s))) ≤ suc (length s)
+    go true h = omega arith
+    go false h = omega (arith, before-few b (linesOf s), h)
+
+abbrev pub Few : SetFile → ℕ → Type 0
+Few (setsIn ss) n = length ss ≤ n
+Few (badLine i) n = i ≤ n
+
+-- The lines from line i on go no further than line n.
+abbrev Sized : SetFile → ℕ → ℕ → Type 0
+Sized (setsIn ss) i n = i + length ss ≤ n + 1
+Sized (badLine j) i n = j ≤ n
+
+few : (f : SetFile) (n : ℕ) → Sized f 1 n → Few f n
+few (setsIn ss) n h = omega arith
+few (badLine j) n h = h
+
+one-sized : (b : List ℕ) (f : SetFile) (i n : ℕ) → Sized f (suc i) n → Sized (oneMore b f) i n
+unfolding oneMore
+one-sized b (setsIn ss) i n p = omega arith
+one-sized b (badLine j) i n p = p
+
+sets-few : (k i n : ℕ) (ls : List (List ℕ)) → i + length ls ≤ n + 1 → Sized (setsFrom k i ls) i n
+unfolding setsFrom
+sets-few k i n [] h = omega arith
+sets-few k i n (l ∷ ls) h = go (isSetLine k l) (sets-few k (suc i) n ls (omega arith))
+  where
+    go : (x : Bool) → Sized (setsFrom k (suc i) ls) (suc i) n → Sized (pick x (oneMore (fieldBytes k l) (setsFrom k (suc i) ls)) (badLine i)) i n
+    go true p = one-sized (fieldBytes k l) (setsFrom k (suc i) ls) i n p
+    go false p = omega arith
+
+pub file-few : (k : ℕ) (s : List ℕ) → Few (setsOf k s) (length s)
+unfolding setsOf
+file-few k s = few (setsFrom k 1 (linesOf s)) (length s) (sets-few k 1 (length s) (linesOf s) (omega (arith, lines-few s)))
