@@ -54,3 +54,6 @@ long-sheet first n u x y h k e p c =
         at-hand = inr (rw (length-take-le n first h) k);
       };
     }
+
+pub seen-on : (x y z : Seen) → Continued x y → Continued y z → Continued x z
+seen-on x y z c d = part-more x y z (d .more) c (d .seen-is)

@@ -102,6 +102,15 @@ fn load(path: &[u8], buf: &mut [u8]) -> usize
     n
 }
 
+fn turns_of(sets: u64, firings: u64) -> u64 {
+    if sets < 4294967296 {
+        if firings < 4294967296 {
+            return sets + firings;
+        }
+    }
+    sets
+}
+
 // Writes the first part, and repeats until every set is taken. Each repetition fires or takes (specs/Passes), so the turns
 // do not run out first.
 fn repeat(mem: &mut [u8], sets: &[u8], opened: Opened, out: &mut [u8])
@@ -109,7 +118,7 @@ fn repeat(mem: &mut [u8], sets: &[u8], opened: Opened, out: &mut [u8])
 {
     let inputs = opened.inputs;
     let mut stage = opened.stage;
-    let mut turns = stage.remaining as u64 + stage.firings as u64;
+    let mut turns = turns_of(stage.remaining as u64, stage.firings as u64);
     let mut printed = stage.printed;
     io::write_all(STDOUT_FILENO, &out[..printed]);
     while 0 < turns {
