@@ -1,0 +1,58 @@
+-- How the program's output begins, as the opening's contract says it: the first part is printed, and what follows are the repetitions. Both files may go
+-- on behind the bytes at hand, where those decide already. Assumes nothing.
+use Prim.Native.Nat.{ℕ, _+_, _≤_, _<_}
+use mathlib.Core.Path.{_≡_}
+use mathlib.Core.Logic.{_⊎_}
+use mathlib.Core.List.{List, [], _++_}
+use lib.ListN.{length, take}
+use Rattle.formula.specs.declared.Refusal.the-variants.{Set}
+use Rattle.formula.specs.Refusals.{numberOf}
+use Rattle.text.specs.declared.Seen.{Seen}
+use Rattle.text.specs.Printed.{headLine, refusalLine}
+use Rattle.text.specs.SetLines.{SetFile as Sets, sets, badLine, setsOf}
+use Rattle.text.specs.Scan.{seenOf}
+use Rattle.session.specs.declared.passes.Stage.{Stage}
+use Rattle.session.specs.declared.opening.Opened.{Opened}
+use Rattle.session.specs.Passes.{passes}
+use Rattle.session.specs.Waiting.{Waiting}
+use Rattle.session.specs.Output.{allFirings, benchOutput}
+
+-- A refusal is printed alone.
+pub record Refuses (number row end : ℕ) (r : Opened) (before out : List ℕ) : Type 0 where
+  pub inputs-are : r .inputs ≡ 0
+  pub at-end : r .stage .at ≡ end
+  pub none-left : r .stage .remaining ≡ 0
+  pub none-fired : r .stage .firings ≡ 0
+  pub length-is : r .stage .printed ≡ 13
+  pub prints : take 13 out ≡ refusalLine number row
+
+-- What the set file's test decides.
+pub record Heads (inputs results : ℕ) (ss : List (List ℕ)) (r : Opened) (out : List ℕ) : Type 0 where
+  pub inputs-are : r .inputs ≡ inputs
+  pub at-start : r .stage .at ≡ 0
+  pub all-left : r .stage .remaining ≡ length ss
+  pub all-firings : r .stage .firings ≡ allFirings
+  pub length-is : r .stage .printed ≡ 19
+  pub prints : take 19 out ≡ headLine inputs results (length ss)
+
+abbrev pub JudgesBy : Sets → ℕ → ℕ → ℕ → Opened → List ℕ → List ℕ → Type 0
+JudgesBy (badLine i) inputs results end r before out = Refuses (numberOf Set) i end r before out
+JudgesBy (sets ss) inputs results end r before out = Heads inputs results ss r out
+
+abbrev pub Judges : ℕ → ℕ → List ℕ → Opened → List ℕ → List ℕ → Type 0
+Judges inputs results file r before out = JudgesBy (setsOf inputs file) inputs results (length file) r before out
+
+-- The sheet's first bytes, and what was seen of it in all: behind 200 rows the bytes themselves matter no more.
+pub record Whole (first : List ℕ) (x : Seen) (more : List ℕ) : Type 0 where
+  pub seen-is : x ≡ seenOf (first ++ more)
+  pub at-hand : (more ≡ []) ⊎ (6200 ≤ length first)
+
+pub record Begins (formula file : List ℕ) (at-hand m : List ℕ) (r : Opened) (m′ out : List ℕ) : Type 0 where
+  pub rest : List (List ℕ)
+  pub waits : Waiting (r .inputs) at-hand (r .stage .at) rest
+  pub output-is : benchOutput formula file m
+      ≡ take (r .stage .printed) out ++ passes (r .stage .remaining + r .stage .firings) (r .stage .remaining) rest m′ (r .stage .firings)
+
+abbrev pub OpensTo : List ℕ → Seen → List ℕ → List ℕ → Opened → List ℕ → List ℕ → Type 0
+OpensTo first x file m r m′ out =
+    (more moreSets : List ℕ) → Whole first x more → (moreSets ≡ []) ⊎ (65536 < length file) → Begins (first ++ more) (file ++ moreSets) file m r m′ out

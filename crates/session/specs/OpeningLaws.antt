@@ -1,0 +1,261 @@
+-- Laws of the opening: each way in which it ends, from what the code has found out. Assumes nothing.
+use Prim.Native.Nat.{ℕ, zero, suc, _+_, _*_, _/_, _%_, _≤_, _<_}
+use mathlib.Core.Path.{_≡_, refl, sym, ap, subst, _∙_}
+use mathlib.Core.Logic.{_⊎_, inl, inr}
+use mathlib.Core.Bool.{Bool, true, false, not, _&&_}
+use mathlib.Core.List.{List, [], _∷_, _++_, append-nil}
+use native.Mathlib.Omega.{arith}
+use borrow.Author.Tests.{lt-ltb, le-ltb, lt-leb, le-leb, eqb-true}
+use lib.Dec.{eqb, ltb}
+use lib.ListN.{length, take, drop, length-append}
+use lib.Seq.{sets, drop-length}
+use Rattle.value.specs.Operators.{pick}
+use Rattle.formula.specs.declared.Refusal.{Refusal}
+use Rattle.formula.specs.declared.Refusal.the-variants.{Layout, Rows, Set, SetFile}
+use Rattle.formula.specs.declared.Verdict.{Verdict}
+use Rattle.formula.specs.declared.Verdict.the-variants.{Passed, Refused}
+use Rattle.formula.specs.Refusals.{numberOf}
+use Rattle.formula.specs.Sheet.{linesOf, rowCount}
+use Rattle.formula.specs.Tree.{formulaOf}
+use Rattle.formula.specs.Tests.{verdictOf, verdictBy, afterCheck, tests, rowTests, sheetOf, laidOut, fewRows, figuresOf, is-passed, lowest, endedAt}
+use Rattle.layout.specs.Layout.{need, sizeOf, capacityIn}
+use Rattle.graph.specs.Translation.{madeOf}
+use Rattle.start.specs.declared.StartAnswer.{StartAnswer}
+use Rattle.start.specs.Start.{Begun, begun, refusal, accepted, startedMemory, byVerdict, started}
+use Rattle.start.specs.StartLaws.{AcceptedStart, accepted-start, started-read, capacity-in}
+use Rattle.begin.specs.MadeSound.{made-sound, same-figures}
+use Rattle.text.specs.declared.Seen.{Seen}
+use Rattle.text.specs.declared.Lines.{Lines}
+use Rattle.text.specs.declared.Lines.the-variants.{Sets as counted, Bad as bad}
+use Rattle.text.specs.Printed.{headLine, refusalLine}
+use Rattle.text.specs.PrintLaws.{refusal-length, head-length, written-front}
+use Rattle.text.specs.Scan.{seenOf, seenLaidOut}
+use Rattle.text.specs.ScanLaws.{seen-laid-out, seen-many, seen-few}
+use Rattle.text.specs.SetLines.{SetFile as File, sets as setsIn, badLine, setsOf, setsFrom, countOf}
+use Rattle.text.specs.SetLines.{linesOf as fileLines}
+use Rattle.text.specs.SetLineLaws.{no-line, Few, file-few}
+use Rattle.session.specs.declared.passes.Stage.{Stage}
+use Rattle.session.specs.declared.opening.Opened.{Opened}
+use Rattle.session.specs.Passes.{passes}
+use Rattle.session.specs.Waiting.{Waiting}
+use Rattle.session.specs.Output.{allFirings, linkCapacity, judged, outputBy, benchOutput}
+use Rattle.session.specs.Opening.{Refuses, Heads, JudgesBy, Judges, Whole, Begins, OpensTo}
+
+-- ---- what is printed
+
+pub refusal-printed : (number row end : ℕ) (l out : List ℕ) → 13 ≤ length l → out ≡ sets l 0 (refusalLine number row)
+    → Refuses number row end (record { inputs = 0; stage = record { at = end; remaining = 0; firings = 0; printed = 13 } }) l out
+refusal-printed number row end l out h e =
+    record {
+      inputs-are = refl;
+      at-end = refl;
+      none-left = refl;
+      none-fired = refl;
+      length-is = refl;
+      prints = ap (take 13) e ∙ written-front l 0 13 (refusalLine number row) (refusal-length number row) h;
+    }
+
+pub head-printed : (inputs results : ℕ) (ss : List (List ℕ)) (n : ℕ) (l out : List ℕ) → 19 ≤ length l → n ≡ length ss → out ≡ sets l 0 (headLine inputs results n)
+    → Heads inputs results ss (record { inputs = inputs; stage = record { at = 0; remaining = n; firings = 1000000; printed = 19 } }) out
+head-printed inputs results ss n l out h q e =
+    record {
+      inputs-are = refl;
+      at-start = refl;
+      all-left = q;
+      all-firings = refl;
+      length-is = refl;
+      prints = ap (take 19) e ∙ written-front l 0 19 (headLine inputs results n) (head-length inputs results n) h ∙ ap (headLine inputs results) q;
+    }
+
+-- ---- the set file's test
+
+bad-is : (f : File) (i : ℕ) → bad i ≡ countOf f → f ≡ badLine i
+bad-is (setsIn ss) i e = let z : _≡_ {A = ℕ} 0 1 = cc in absurd (omega arith)
+bad-is (badLine j) i e = let z : i ≡ j = cc in ap badLine (sym z)
+
+count-is : (f : File) (n : ℕ) → counted n ≡ countOf f → (ss : List (List ℕ)) × (f ≡ setsIn ss) × (n ≡ length ss)
+count-is (setsIn ss) n e = (ss, refl, cc)
+count-is (badLine j) n e = let z : _≡_ {A = ℕ} 0 1 = cc in absurd (omega arith)
+
+module _ (inputs results : ℕ) (file : List ℕ) where
+  pub bad-few : (i : ℕ) → bad i ≡ countOf (setsOf inputs file) → i ≤ length file
+  bad-few i e = subst (λ (f : File). Few f (length file)) (bad-is (setsOf inputs file) i e) (file-few inputs file)
+
+  pub count-few : (n : ℕ) → counted n ≡ countOf (setsOf inputs file) → n ≤ length file
+  count-few n e =
+      let c = count-is (setsOf inputs file) n e in
+      let h : length (c .0) ≤ length file = subst (λ (f : File). Few f (length file)) (c .1) (file-few inputs file) in
+      omega (arith, c .2, h)
+
+  pub judged-bad : (i : ℕ) (r : Opened) (l out : List ℕ) → bad i ≡ countOf (setsOf inputs file) → Refuses (numberOf Set) i (length file) r l out → Judges inputs results file r l out
+  judged-bad i r l out e h = subst (λ (f : File). JudgesBy f inputs results (length file) r l out) (sym (bad-is (setsOf inputs file) i e)) h
+
+  pub judged-sets : (n : ℕ) (l out : List ℕ) → counted n ≡ countOf (setsOf inputs file) → 19 ≤ length l → out ≡ sets l 0 (headLine inputs results n)
+      → Judges inputs results file (record { inputs = inputs; stage = record { at = 0; remaining = n; firings = 1000000; printed = 19 } }) l out
+  judged-sets n l out e h p =
+      let c = count-is (setsOf inputs file) n e in
+      subst (λ (f : File). JudgesBy f inputs results (length file) (record { inputs = inputs; stage = record { at = 0; remaining = n; firings = 1000000; printed = 19 } }) l out)
+      (sym (c .1)) (head-printed inputs results (c .0) n l out h (c .2) p)
+
+-- ---- a refusal is the whole output
+
+pub begins-refused : (formula file at-hand m : List ℕ) (r : Opened) (m′ l out : List ℕ) (number row : ℕ) → Refuses number row (length at-hand) r l out
+    → benchOutput formula file m ≡ refusalLine number row → Begins formula file at-hand m r m′ out
+unfolding passes
+begins-refused formula file at-hand m r m′ l out number row p e =
+    record {
+      rest = [];
+      waits = record {
+        line = 0;
+        lines-are = ap (λ (n : ℕ). setsFrom (r .inputs) 0 (fileLines (drop n at-hand))) (p .at-end) ∙ rw (drop-length at-hand) (no-line (r .inputs) 0 [] (omega arith));
+      };
+      output-is = e ∙ sym (rw (p .none-left, p .none-fired, p .length-is, append-nil (take 13 out)) (p .prints));
+    }
+
+-- ---- the sheet's tests
+
+layout-refused : (s : List ℕ) → laidOut s (linesOf s) ≡ false → verdictOf s ≡ Refused Layout 0
+unfolding verdictOf verdictBy afterCheck tests rowTests sheetOf
+layout-refused s e = rw e refl
+
+rows-refused : (s : List ℕ) → laidOut s (linesOf s) ≡ true → fewRows s ≡ false → verdictOf s ≡ Refused Rows 0
+unfolding verdictOf verdictBy afterCheck tests rowTests sheetOf
+rows-refused s e f = rw (e, f) refl
+
+and-left : (a b : Bool) → a && b ≡ true → a ≡ true
+and-left true b e = refl
+and-left false b e = e
+
+and-right : (a b : Bool) → a && b ≡ true → b ≡ true
+and-right true b e = e
+and-right false b e = let z : _≡_ {A = ℕ} 0 1 = cc in absurd (omega arith)
+
+whole-rows : (s : List ℕ) → laidOut s (linesOf s) ≡ true → length s % 31 ≡ 0
+unfolding laidOut
+whole-rows s e =
+    eqb-true (length s % 31) 0
+    (and-right (not (eqb (length s) 0)) (eqb (length s % 31) 0)
+    (and-left (not (eqb (length s) 0) && eqb (length s % 31) 0) (is-passed (lowest (rowCount s) (endedAt (linesOf s)))) e))
+
+no-more : (first more : List ℕ) → length (first ++ more) ≤ 6200 → (more ≡ []) ⊎ (6200 ≤ length first) → more ≡ []
+no-more first more h (inl e) = e
+no-more first [] h (inr k) = refl
+no-more first (b ∷ more) h (inr k) = absurd (omega (arith, length-append first (b ∷ more), h, k))
+
+no-more-sets : (file more : List ℕ) → length file ≤ 65536 → (more ≡ []) ⊎ (65536 < length file) → more ≡ []
+no-more-sets file more h (inl e) = e
+no-more-sets file more h (inr k) = absurd (omega arith)
+
+-- ---- the ways in which the opening ends
+
+module _ (first : List ℕ) (x : Seen) (file m : List ℕ) (r : Opened) (m′ l out : List ℕ) where
+  pub opens-layout : seenLaidOut x ≡ false → Refuses (numberOf Layout) 0 (length file) r l out → OpensTo first x file m r m′ out
+  unfolding benchOutput outputBy
+  opens-layout e p more moreSets w u =
+      let s : List ℕ = first ++ more in
+      let v = layout-refused s (sym (seen-laid-out s) ∙ ap seenLaidOut (sym (w .seen-is)) ∙ e) in
+      begins-refused s (file ++ moreSets) file m r m′ l out (numberOf Layout) 0 p (ap (λ (z : Verdict). outputBy z s (file ++ moreSets) m) v)
+
+  module _ (e : seenLaidOut x ≡ true) where
+    pub opens-rows : 6200 < x .length → Refuses (numberOf Rows) 0 (length file) r l out → OpensTo first x file m r m′ out
+    unfolding benchOutput outputBy
+    opens-rows h p more moreSets w u =
+        let s : List ℕ = first ++ more in
+        let a : laidOut s (linesOf s) ≡ true = sym (seen-laid-out s) ∙ ap seenLaidOut (sym (w .seen-is)) ∙ e in
+        let n : 6200 < length s = seen-many s (subst (λ (y : Seen). 6200 < y .length) (w .seen-is) h) in
+        let v = rows-refused s a (lt-leb (rowCount s) 200 (omega (arith, n, whole-rows s a))) in
+        begins-refused s (file ++ moreSets) file m r m′ l out (numberOf Rows) 0 p (ap (λ (z : Verdict). outputBy z s (file ++ moreSets) m) v)
+
+  -- The whole sheet is at hand.
+  module _ (h : x .length ≤ 6200) (room : 55915 ≤ length m) (a : StartAnswer) (q : begun a m′ ≡ started first linkCapacity m) where
+    sheet-is : (more : List ℕ) → Whole first x more → first ++ more ≡ first
+    sheet-is more w =
+        let n : length (first ++ more) ≤ 6200 = seen-few (first ++ more) (subst (λ (y : Seen). y .length ≤ 6200) (w .seen-is) h) in
+        ap (λ (z : List ℕ). first ++ z) (no-more first more n (w .at-hand)) ∙ append-nil first
+
+    read-is : started first linkCapacity m ≡ byVerdict (verdictOf first) (formulaOf first) linkCapacity m
+    read-is = started-read first linkCapacity m (rw (capacity-in linkCapacity (omega arith) (omega arith)) room) (omega arith) (omega arith)
+
+    answer-is : begun a m′ ≡ byVerdict (verdictOf first) (formulaOf first) linkCapacity m
+    answer-is = q ∙ read-is
+
+    passed-answer : (v : Verdict) → verdictOf first ≡ v → v ≡ Passed → a .refusal ≡ 0
+    unfolding byVerdict
+    passed-answer v e p = ap (λ (b : Begun). b .answer .refusal) (answer-is ∙ ap (λ (z : Verdict). byVerdict z (formulaOf first) linkCapacity m) (e ∙ p))
+
+    refused-output : (y : Refusal) (row : ℕ) (whole : List ℕ) → verdictOf first ≡ Refused y row → benchOutput first whole m ≡ refusalLine (a .refusal) (a .row)
+    unfolding byVerdict benchOutput outputBy
+    refused-output y row whole e =
+        let b : begun a m′ ≡ begun (refusal y row) m = answer-is ∙ ap (λ (z : Verdict). byVerdict z (formulaOf first) linkCapacity m) e in
+        ap (λ (z : Verdict). outputBy z first whole m) e ∙ ap (λ (z : Begun). refusalLine (z .answer .refusal) (z .answer .row)) (sym b)
+
+    output-refused : (a .refusal ≡ 0 → ⊥) → (whole : List ℕ) → benchOutput first whole m ≡ refusalLine (a .refusal) (a .row)
+    output-refused n whole = go (verdictOf first) refl
+      where
+        go : (v : Verdict) → verdictOf first ≡ v → benchOutput first whole m ≡ refusalLine (a .refusal) (a .row)
+        go Passed e = absurd (n (passed-answer Passed e refl))
+        go (Refused y row) e = refused-output y row whole e
+
+    pub opens-refused : (a .refusal ≡ 0 → ⊥) → Refuses (a .refusal) (a .row) (length file) r l out → OpensTo first x file m r m′ out
+    opens-refused n p more moreSets w u =
+        begins-refused (first ++ more) (file ++ moreSets) file m r m′ l out (a .refusal) (a .row) p
+        (ap (λ (s : List ℕ). benchOutput s (file ++ moreSets) m) (sheet-is more w) ∙ output-refused n (file ++ moreSets))
+
+    module _ (z : a .refusal ≡ 0) where
+      accepts : AcceptedStart first linkCapacity m
+      accepts = accepted-start first linkCapacity m (sym (ap (λ (b : Begun). b .answer .refusal) q) ∙ z)
+
+      answers : begun a m′ ≡ begun (accepted (madeOf (formulaOf first))) (startedMemory (madeOf (formulaOf first)) linkCapacity m)
+      answers = q ∙ accepts .whole
+
+      inputs-are : a .inputs ≡ figuresOf first .inputs
+      inputs-are = ap (λ (b : Begun). b .answer .inputs) answers ∙ same-figures first (accepts .passed) .1
+
+      results-are : a .results ≡ figuresOf first .results
+      results-are = ap (λ (b : Begun). b .answer .results) answers ∙ same-figures first (accepts .passed) .2
+
+      pub inputs-few : a .inputs ≤ 32
+      inputs-few = subst (λ (n : ℕ). n ≤ 32) (sym (ap (λ (b : Begun). b .answer .inputs) answers)) (made-sound first (accepts .passed) .few-inputs)
+
+      pub opens-long : 65536 < length file → Refuses (numberOf SetFile) 0 (length file) r l out → OpensTo first x file m r m′ out
+      unfolding benchOutput outputBy
+      opens-long k p more moreSets w u =
+          let n : ltb 65536 (length (file ++ moreSets)) ≡ true = lt-ltb 65536 (length (file ++ moreSets)) (omega (arith, length-append file moreSets, k)) in
+          begins-refused (first ++ more) (file ++ moreSets) file m r m′ l out (numberOf SetFile) 0 p
+          (ap (λ (s : List ℕ). benchOutput s (file ++ moreSets) m) (sheet-is more w) ∙ rw (accepts .passed, n) refl)
+
+      judged-output : length file ≤ 65536 → benchOutput first file m ≡ judged first m (figuresOf first) (setsOf (a .inputs) file)
+      unfolding benchOutput outputBy
+      judged-output k = rw (accepts .passed, le-ltb 65536 (length file) k, inputs-are) refl
+
+      judged-begins : length file ≤ 65536 → (f : File) → setsOf (a .inputs) file ≡ f → JudgesBy f (a .inputs) (a .results) (length file) r l out → Begins first file file m r m′ out
+      unfolding judged setsOf
+      judged-begins k (badLine i) e p =
+          begins-refused first file file m r m′ l out (numberOf Set) i p (judged-output k ∙ ap (judged first m (figuresOf first)) e)
+      judged-begins k (setsIn ss) e p =
+          let b : started first linkCapacity m .mem ≡ m′ = ap (λ (y : Begun). y .mem) (sym q) in
+          record {
+            rest = ss;
+            waits = record { line = 1; lines-are = rw (p .inputs-are, p .at-start) e };
+            output-is =
+                judged-output k ∙ ap (judged first m (figuresOf first)) e
+                ∙ rw (p .all-left, p .all-firings, p .length-is, p .prints, inputs-are, results-are, b) refl;
+          }
+
+      pub opens-judged : length file ≤ 65536 → Judges (a .inputs) (a .results) file r l out → OpensTo first x file m r m′ out
+      opens-judged k p more moreSets w u =
+          let n : file ++ moreSets ≡ file = ap (λ (y : List ℕ). file ++ y) (no-more-sets file moreSets k u) ∙ append-nil file in
+          rw (sheet-is more w, n) (judged-begins k (setsOf (a .inputs) file) refl p)
+
+-- ---- bounds
+
+pub refusal-bounds : (number row end : ℕ) (r : Opened) (l out : List ℕ) → Refuses number row end r l out → (r .inputs ≤ 32) × (r .stage .at ≤ end) × (r .stage .printed ≤ 65536)
+refusal-bounds number row end r l out p = (omega (arith, p .inputs-are), omega (arith, p .at-end), omega (arith, p .length-is))
+
+pub judged-bounds : (inputs results : ℕ) (file : List ℕ) (r : Opened) (l out : List ℕ) → inputs ≤ 32 → Judges inputs results file r l out
+    → (r .inputs ≤ 32) × (r .stage .at ≤ length file) × (r .stage .printed ≤ 65536)
+judged-bounds inputs results file r l out h p = go (setsOf inputs file) p
+  where
+    go : (f : File) → JudgesBy f inputs results (length file) r l out → (r .inputs ≤ 32) × (r .stage .at ≤ length file) × (r .stage .printed ≤ 65536)
+    go (badLine i) q = refusal-bounds (numberOf Set) i (length file) r l out q
+    go (setsIn ss) q = (omega (arith, q .inputs-are, h), omega (arith, q .at-start), omega (arith, q .length-is))

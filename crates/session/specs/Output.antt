@@ -1,0 +1,42 @@
+-- What the bench program prints (document 01, "Program and readings"), from all bytes of formula.txt and sets.txt ("A missing file counts as empty") and
+-- the memory that it lends: "It makes the sheet's tests, then 13, then 12 (lowest line), then prints inputs, results and sets in three six-character
+-- fields, then a line for each set with an 11-character field a result. A refusal prints its number and row (12: line)". Assumes nothing.
+use Prim.Native.Nat.{ℕ, _+_}
+use mathlib.Core.List.{List, _++_}
+use lib.ListN.{length}
+use lib.Dec.{ltb}
+use Rattle.value.specs.Operators.{pick}
+use Rattle.formula.specs.declared.Refusal.the-variants.{Set, SetFile}
+use Rattle.formula.specs.declared.Verdict.{Verdict}
+use Rattle.formula.specs.declared.Verdict.the-variants.{Passed, Refused}
+use Rattle.formula.specs.declared.Figures.{Figures}
+use Rattle.formula.specs.Refusals.{numberOf}
+use Rattle.formula.specs.Tests.{verdictOf, figuresOf}
+use Rattle.start.specs.Start.{started}
+use Rattle.text.specs.Printed.{headLine, refusalLine}
+use Rattle.text.specs.SetLines.{SetFile as Sets, sets, badLine, setsOf}
+use Rattle.session.specs.Passes.{passes}
+
+-- "It uses capacity 2 and 1,000,000 firings in all"
+abbrev pub linkCapacity : ℕ
+linkCapacity = 2
+
+abbrev pub allFirings : ℕ
+allFirings = 1000000
+
+-- Every repetition fires or takes, so there are at most as many as sets and firings.
+unfoldable pub judged : List ℕ → List ℕ → Figures → Sets → List ℕ
+unfolding passes
+judged formula memory f (badLine i) = refusalLine (numberOf Set) i
+judged formula memory f (sets ss) =
+    headLine (f .inputs) (f .results) (length ss) ++ passes (length ss + allFirings) (length ss) ss (started formula linkCapacity memory .mem) allFirings
+
+unfoldable pub outputBy : Verdict → List ℕ → List ℕ → List ℕ → List ℕ
+unfolding judged
+outputBy (Refused r row) formula file memory = refusalLine (numberOf r) row
+outputBy Passed formula file memory =
+    pick (ltb 65536 (length file)) (refusalLine (numberOf SetFile) 0) (judged formula memory (figuresOf formula) (setsOf (figuresOf formula .inputs) file))
+
+unfoldable pub benchOutput : List ℕ → List ℕ → List ℕ → List ℕ
+unfolding outputBy
+benchOutput formula file memory = outputBy (verdictOf formula) formula file memory

@@ -1,0 +1,145 @@
+// The bench program on two files: reads them, opens the session, and writes what each repetition prints. What is read and
+// written no contract can say; that the parts belong together is said here.
+use crate::opening::Opened;
+use crate::opening::open;
+use crate::passes::pass;
+use libc::STDOUT_FILENO;
+use text::Seen;
+ghost use mathlib.Core.Path.{_≡_};
+ghost use Prim.Native.Nat.{_≤_};
+ghost use lib.ListN.{length};
+ghost use Rattle.io.specs.Counts.{Counts};
+ghost use Rattle.session.specs.Reading.{Continued, SheetRead};
+
+// How many of a sheet's bytes are at hand, and what was seen of all of them.
+pub struct Sheet {
+    pub length: usize,
+    pub seen: Seen,
+}
+
+// "over 200 rows" is refused, so 200 rows are all that is ever looked at.
+fn sheet_buffer() -> [u8; 6200]
+    ensures { λ r. ⌜ 6200 ≡ length r ⌝ }
+{
+    [0; 6200]
+}
+
+// One byte more than a set file may have.
+fn set_buffer() -> [u8; 65537]
+    ensures { λ r. ⌜ 65537 ≡ length r ⌝ }
+{
+    [0; 65537]
+}
+
+// One part more of a file, seen; `more` tells whether there was one.
+pub struct Part {
+    pub more: bool,
+    pub seen: Seen,
+}
+
+fn see_part(fd: i32, x: Seen) -> Part
+    ensures { λ r. ⌜ Continued x (r .seen) ⌝ }
+{
+    let mut chunk = io::large_buffer();
+    let n = io::read_full(fd, &mut chunk);
+    Part {
+        more: 0 < n,
+        seen: text::scan::scan(x, &chunk[..n]),
+    }
+}
+
+// The rest of a file, seen. A file has fewer parts than turns.
+fn see_rest(fd: i32, x: Seen) -> Seen
+    ensures { λ r. ⌜ Continued x r ⌝ }
+{
+    let mut turns = 18446744073709551615u64;
+    let mut y = x;
+    while 0 < turns {
+        let part = see_part(fd, y);
+        y = part.seen;
+        if !part.more {
+            return y;
+        }
+        turns -= 1;
+    }
+    y
+}
+
+// Reads a sheet's first bytes and sees the others. "A missing file counts as empty."
+fn read_sheet(path: &[u8], first: &mut [u8]) -> Sheet
+    requires { ⌜ 6200 ≤ length (now first) ⌝ }
+    ensures { λ r. ⌜ SheetRead (now (first .exit)) r ⌝ }
+{
+    let none = text::scan::none_seen();
+    let fd = os::open_read(path);
+    if fd < 0 {
+        return Sheet {
+            length: 0,
+            seen: none,
+        };
+    }
+    let length = io::read_full(fd, first);
+    let seen = text::scan::scan(none, &first[..length]);
+    if length < 6200 {
+        libc::close(fd);
+        return Sheet { length, seen };
+    }
+    let all = see_rest(fd, seen);
+    libc::close(fd);
+    Sheet { length, seen: all }
+}
+
+// Reads as much of a file as fits, nothing where it is missing.
+fn load(path: &[u8], buf: &mut [u8]) -> usize
+    ensures { λ r. ⌜ Counts r (now (buf .exit)) ⌝ }
+{
+    let fd = os::open_read(path);
+    if fd < 0 {
+        return io::count(0, buf);
+    }
+    let n = io::read_full(fd, buf);
+    libc::close(fd);
+    n
+}
+
+fn turns_of(sets: u64, firings: u64) -> u64 {
+    if sets < 4294967296 {
+        if firings < 4294967296 {
+            return sets + firings;
+        }
+    }
+    sets
+}
+
+// Writes the first part, and repeats until every set is taken. Each repetition fires or takes (specs/Passes), so the turns
+// do not run out first.
+fn repeat(mem: &mut [u8], sets: &[u8], opened: Opened, out: &mut [u8])
+    requires { ⌜ (opened .inputs ≤ 32) × (opened .stage .at ≤ length (now sets)) × (opened .stage .printed ≤ 65536) × (65536 ≤ length (now out)) ⌝ }
+{
+    let inputs = opened.inputs;
+    let mut stage = opened.stage;
+    let mut turns = turns_of(stage.remaining as u64, stage.firings as u64);
+    let mut printed = stage.printed;
+    io::write_all(STDOUT_FILENO, &out[..printed]);
+    while 0 < turns {
+        if stage.remaining == 0 {
+            return;
+        }
+        stage = pass(mem, sets, inputs, stage, out);
+        printed = stage.printed;
+        io::write_all(STDOUT_FILENO, &out[..printed]);
+        turns -= 1;
+    }
+}
+
+pub fn run(formula: &[u8], file: &[u8]) {
+    let mut first = sheet_buffer();
+    let mut sets = set_buffer();
+    let mut mem = io::large_buffer();
+    let mut out = io::large_buffer();
+    let sheet = read_sheet(formula, &mut first);
+    let n = load(file, &mut sets);
+    let length = sheet.length;
+    let opened = open(&first[..length], sheet.seen, &sets[..n], &mut mem, &mut out);
+    repeat(&mut mem, &sets[..n], opened, &mut out);
+}

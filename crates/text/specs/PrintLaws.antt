@@ -1,0 +1,322 @@
+-- Laws of the printed fields: their lengths, a field from its last digit on, and bytes written one part behind another. Assumes nothing.
+use Prim.Native.Nat.{ℕ, zero, suc, _+_, _*_, _-_, _/_, _%_, _≤_, _<_}
+use mathlib.Core.Path.{_≡_, refl, sym, ap, _∙_}
+use mathlib.Core.Bool.{Bool, true, false}
+use mathlib.Core.List.{List, [], _∷_, _++_, append-assoc, append-nil}
+use mathlib.Core.Option.{Option, some, none}
+use native.Mathlib.Omega.{arith}
+use native.Mathlib.Numerals.{add-one}
+use borrow.Author.Tests.{lt-ltb, le-ltb, eq-eqb, ne-eqb}
+use lib.IntN.{pos, negsuc}
+use lib.ListN.{length, take, drop, set, getD, replicate, length-append, length-replicate, length-set, length-take, length-drop, replicate-append-replicate}
+use lib.Seq.{sets, sets-eq, length-sets, take-at, drop-at, set-split, take-add, take-suc, take-append-le, drop-append-le, take-all, take-set-le, drop-set-lt, drop-cons, take-take, drop-drop, length-take-le, set-append-seam, take-length, set-at, take-suc-set, drop-length}
+use lib.Dec.{ltb, eqb}
+use mir.Syntax.{w32}
+use mir.Val.{toZ}
+use Rattle.value.specs.declared.Value.{Value}
+use Rattle.value.specs.declared.Value.the-variants.{Whole, Truth, Err}
+use Rattle.value.specs.Operators.{pick}
+use Rattle.value.specs.Bytes.{valueOf, wholeOf, truthOf, errOf, wordAt}
+use Rattle.value.proofs.Sign.{high, low-z}
+use Rattle.text.specs.Printed.{led, shown, numberField, letterField, valueField, optionField, wordField, resultFields, resultLine, headLine, refusalLine}
+
+-- ---- lengths
+
+pub led-length : (minus : Bool) (w : ℕ) → length (led minus w) ≡ w
+unfolding led
+led-length false w = length-replicate {A = ℕ} w 32
+led-length true zero = refl
+led-length true (suc w) = length-append (replicate w 32) (45 ∷ []) ∙ rw (length-replicate {A = ℕ} w 32) (omega arith)
+
+ahead-length : (b : Bool) (l r : List ℕ) (w : ℕ) → length l ≡ w → length r ≡ w → length (pick b l r) ≡ w
+ahead-length true l r w p q = p
+ahead-length false l r w p q = q
+
+pub shown-length : (minus : Bool) (w n : ℕ) → length (shown minus w n) ≡ w
+unfolding shown
+shown-length minus zero n = refl
+shown-length minus (suc w) n =
+    let e = length-append (pick (ltb n 10) (led minus w) (shown minus w (n / 10))) ((48 + n % 10) ∷ []) in
+    let a = ahead-length (ltb n 10) (led minus w) (shown minus w (n / 10)) w (led-length minus w) (shown-length minus w (n / 10)) in
+    e ∙ omega arith
+
+pub number-length : (n : ℕ) → length (numberField n) ≡ 6
+unfolding numberField
+number-length n = shown-length false 6 n
+
+pub letter-length : (c : ℕ) → length (letterField c) ≡ 11
+unfolding letterField
+letter-length c = refl
+
+value-length : (v : Value) → length (valueField v) ≡ 11
+unfolding valueField
+value-length (Whole (pos n)) = shown-length false 11 n
+value-length (Whole (negsuc n)) = shown-length true 11 (suc n)
+value-length (Truth true) = refl
+value-length (Truth false) = refl
+value-length Err = refl
+
+option-length : (o : Option Value) → length (optionField o) ≡ 11
+unfolding optionField
+option-length (some v) = value-length v
+option-length none = value-length Err
+
+pub word-length : (w : ℕ) → length (wordField w) ≡ 11
+unfolding wordField
+word-length w = option-length (valueOf w)
+
+pub fields-length : (k : ℕ) (r : List ℕ) → length (resultFields k r) ≡ 11 * k
+unfolding resultFields
+fields-length zero r = refl
+fields-length (suc k) r =
+    let e = length-append (resultFields k r) (wordField (wordAt r (5 * k))) in
+    let a = fields-length k r in
+    let b = word-length (wordAt r (5 * k)) in
+    e ∙ omega arith
+
+pub line-length : (k : ℕ) (r : List ℕ) → length (resultLine k r) ≡ 11 * k + 1
+unfolding resultLine
+line-length k r = length-append (resultFields k r) (10 ∷ []) ∙ rw (fields-length k r) refl
+
+pub refusal-length : (a b : ℕ) → length (refusalLine a b) ≡ 13
+unfolding refusalLine
+refusal-length a b =
+    let p = length-append (numberField a) (numberField b ++ (10 ∷ [])) in
+    let q = length-append (numberField b) (10 ∷ []) in
+    let u = number-length a in
+    let v = number-length b in
+    p ∙ omega arith
+
+pub head-length : (a b c : ℕ) → length (headLine a b c) ≡ 19
+unfolding headLine refusalLine
+head-length a b c =
+    let p = length-append (numberField a) (refusalLine b c) in
+    let q = refusal-length b c in
+    let u = number-length a in
+    p ∙ omega arith
+
+-- ---- a field from its last digit on
+
+pub shown-last : (minus : Bool) (w n : ℕ) → n < 10 → shown minus (suc w) n ≡ led minus w ++ ((48 + n % 10) ∷ [])
+unfolding shown
+shown-last minus w n h = rw (lt-ltb n 10 h) refl
+
+pub shown-more : (minus : Bool) (w n : ℕ) → 10 ≤ n → shown minus (suc w) n ≡ shown minus w (n / 10) ++ ((48 + n % 10) ∷ [])
+unfolding shown
+shown-more minus w n h = rw (le-ltb n 10 h) refl
+
+pub shown-none : (minus : Bool) (n : ℕ) → shown minus 0 n ≡ []
+unfolding shown
+shown-none minus n = refl
+
+-- ---- a field by its word
+
+module _ (n : ℕ) where
+  pub whole-positive : n < 2147483648 → optionField (wholeOf n) ≡ shown false 11 n
+  unfolding wholeOf optionField valueField
+  whole-positive h = rw (lt-ltb n 4294967296 (omega arith), low-z n h) refl
+
+  pub whole-negative : 2147483648 ≤ n → n < 4294967296 → optionField (wholeOf n) ≡ shown true 11 (4294967296 - n)
+  unfolding wholeOf optionField valueField
+  whole-negative h k =
+      let s : suc (4294967295 - n) ≡ 4294967296 - n = omega arith in
+      rw (lt-ltb n 4294967296 k, high n h k, s) refl
+
+  pub whole-outside : 4294967296 ≤ n → optionField (wholeOf n) ≡ letterField 69
+  unfolding wholeOf optionField valueField
+  whole-outside h = rw (le-ltb n 4294967296 h) refl
+
+  pub truth-false : n ≡ 0 → optionField (truthOf n) ≡ letterField 70
+  unfolding truthOf optionField valueField
+  truth-false e = rw e refl
+
+  pub truth-true : n ≡ 1 → optionField (truthOf n) ≡ letterField 84
+  unfolding truthOf optionField valueField
+  truth-true e = rw e refl
+
+  pub truth-neither : (n ≡ 0 → ⊥) → (n ≡ 1 → ⊥) → optionField (truthOf n) ≡ letterField 69
+  unfolding truthOf optionField valueField
+  truth-neither p q = rw (ne-eqb n 0 p, ne-eqb n 1 q) refl
+
+module _ (w : ℕ) where
+  pub word-whole : w % 256 ≡ 1 → wordField w ≡ optionField (wholeOf (w / 256))
+  unfolding wordField valueOf
+  word-whole e = rw e refl
+
+  pub word-truth : w % 256 ≡ 2 → wordField w ≡ optionField (truthOf (w / 256))
+  unfolding wordField valueOf
+  word-truth e = rw e refl
+
+  pub word-other : (w % 256 ≡ 1 → ⊥) → (w % 256 ≡ 2 → ⊥) → wordField w ≡ letterField 69
+  unfolding wordField optionField valueField valueOf errOf
+  word-other p q = rw (ne-eqb (w % 256) 1 p, ne-eqb (w % 256) 2 q) (go (eqb (w % 256) 3) (eqb (w / 256) 0))
+    where
+      go : (a b : Bool) → optionField (pick a (pick b (some Err) none) none) ≡ letterField 69
+      go true true = refl
+      go true false = refl
+      go false b = refl
+
+-- ---- parts written one behind another
+
+pub written-part : (l : List ℕ) (at n : ℕ) (v : List ℕ) → length v ≡ n → at + n ≤ length l → sets l at v ≡ take at l ++ v ++ drop (at + n) l
+written-part l at n v e h = rw (← e) (sets-eq v l at (omega arith))
+
+pub written-both : (l : List ℕ) (at : ℕ) (v w : List ℕ) → at + (length v + length w) ≤ length l → sets (sets l at v) (at + length v) w ≡ sets l at (v ++ w)
+written-both l at [] w h = let e : at + 0 ≡ at = omega arith in rw e refl
+written-both l at (x ∷ v) w h =
+    let e : at + suc (length v) ≡ suc at + length v = omega arith in
+    rw e (written-both (set l at x) (suc at) v w (rw (length-set l at x) (omega arith)))
+
+pub written-byte : (l : List ℕ) (at : ℕ) (v : List ℕ) (b : ℕ) → at + (length v + 1) ≤ length l → set (sets l at v) (at + length v) b ≡ sets l at (v ++ (b ∷ []))
+written-byte l at v b h = written-both l at v (b ∷ []) h
+
+-- What stands in front of the end of a written part.
+pub written-front : (l : List ℕ) (at n : ℕ) (v : List ℕ) → length v ≡ n → at + n ≤ length l → take (at + n) (sets l at v) ≡ take at l ++ v
+written-front l at n v e h =
+    let p : length (take at l ++ v) ≡ at + n = length-append (take at l) v ∙ rw (length-take-le at l (omega arith), e) refl in
+    ap (take (at + n)) (written-part l at n v e h)
+    ∙ take-at (take at l ++ v) (drop (at + n) l) (at + n) p
+
+-- A part that was lent and written whole.
+pub lent-part : (l : List ℕ) (at n : ℕ) (v : List ℕ) → length v ≡ n → at + n ≤ length l → take at l ++ (v ++ drop n (drop at l)) ≡ sets l at v
+lent-part l at n v e h =
+    rw (drop-drop n at l) (sym (append-assoc (take at l) v (drop (at + n) l)) ∙ sym (written-part l at n v e h))
+
+-- ---- spaces and the sign, byte by byte
+
+pub space-more : (l : List ℕ) (i : ℕ) → i < length l → take i l ≡ replicate i 32 → take (i + 1) (set l i 32) ≡ replicate (i + 1) 32
+space-more l i h e =
+    rw add-one
+    (take-suc-set l i 32 h ∙ rw e (replicate-append-replicate i 1 32 ∙ rw add-one refl))
+
+pub sign-last : (n : ℕ) → 0 < n → set (replicate {A = ℕ} n 32) (n - 1) 45 ≡ led true n
+unfolding led
+sign-last zero h = absurd (omega arith)
+sign-last (suc n) h =
+    let e : suc n - 1 ≡ n = omega arith in
+    let r : replicate {A = ℕ} (suc n) 32 ≡ replicate n 32 ++ (32 ∷ []) = sym (replicate-append-replicate n 1 32 ∙ rw add-one refl) in
+    ap (λ (x : List ℕ). set x (suc n - 1) 45) r
+    ∙ ap (λ (j : ℕ). set (replicate n 32 ++ (32 ∷ [])) j 45) e
+    ∙ set-at (replicate n 32) 32 [] 45 n (length-replicate {A = ℕ} n 32)
+
+pub sign-none : led true 0 ≡ []
+unfolding led
+sign-none = refl
+
+pub led-spaces : (n : ℕ) → led false n ≡ replicate n 32
+unfolding led
+led-spaces n = refl
+
+-- ---- a number from its last digit on
+
+-- The digits behind place i are written, and what is left of the number stands in front.
+module _ (minus : Bool) (l : List ℕ) (w n : ℕ) (i rest : ℕ) (h : 0 < i) (k : i ≤ length l) (e : shown minus i rest ++ drop i l ≡ shown minus w n) where
+  one : i ≡ suc (i - 1)
+  one = omega arith
+
+  digit : List ℕ
+  digit = (48 + rest % 10) ∷ []
+
+  behind : drop (i - 1) (set l (i - 1) (48 + rest % 10)) ≡ (48 + rest % 10) ∷ drop i l
+  behind =
+      ap (drop (i - 1)) (set-split l (i - 1) (48 + rest % 10) (omega arith))
+      ∙ drop-at (take (i - 1) l) ((48 + rest % 10) ∷ drop (suc (i - 1)) l) (i - 1) (length-take-le (i - 1) l (omega arith))
+      ∙ rw (← one) refl
+
+  front : (f : List ℕ) → shown minus (suc (i - 1)) rest ≡ f ++ digit → f ++ drop (i - 1) (set l (i - 1) (48 + rest % 10)) ≡ shown minus w n
+  unfolding digit
+  front f p =
+      ap (λ (x : List ℕ). f ++ x) behind
+      ∙ sym (append-assoc f digit (drop i l))
+      ∙ ap (λ (x : List ℕ). x ++ drop i l) (sym p ∙ ap (λ (j : ℕ). shown minus j rest) (sym one))
+      ∙ e
+
+  pub digit-last : rest < 10 → led minus (i - 1) ++ drop (i - 1) (set l (i - 1) (48 + rest % 10)) ≡ shown minus w n
+  unfolding digit
+  digit-last p = front (led minus (i - 1)) (shown-last minus (i - 1) rest p)
+
+  pub digit-more : 10 ≤ rest → shown minus (i - 1) (rest / 10) ++ drop (i - 1) (set l (i - 1) (48 + rest % 10)) ≡ shown minus w n
+  unfolding digit
+  digit-more p = front (shown minus (i - 1) (rest / 10)) (shown-more minus (i - 1) rest p)
+
+pub number-start : (minus : Bool) (l : List ℕ) (n : ℕ) → shown minus (length l) n ++ drop (length l) l ≡ shown minus (length l) n
+number-start minus l n = rw (drop-length l) (append-nil (shown minus (length l) n))
+
+-- ---- lines from their parts
+
+pub refusal-parts : (l : List ℕ) (at a b : ℕ) → at + 13 ≤ length l → set (sets (sets l at (numberField a)) (at + 6) (numberField b)) (at + 12) 10 ≡ sets l at (refusalLine a b)
+unfolding refusalLine
+refusal-parts l at a b h =
+    let u = number-length a in
+    let v = number-length b in
+    let w = length-append (numberField a) (numberField b) in
+    let p : at + 6 ≡ at + length (numberField a) = omega arith in
+    let q : at + 12 ≡ at + length (numberField a ++ numberField b) = omega arith in
+    rw (p, written-both l at (numberField a) (numberField b) (omega arith), q, written-byte l at (numberField a ++ numberField b) 10 (omega arith), append-assoc (numberField a) (numberField b) (10 ∷ [])) refl
+
+pub head-parts : (l : List ℕ) (a b c : ℕ) → 19 ≤ length l
+    → set (sets (sets (sets l 0 (numberField a)) 6 (numberField b)) 12 (numberField c)) 18 10 ≡ sets l 0 (headLine a b c)
+unfolding headLine refusalLine
+head-parts l a b c h =
+    let u = number-length a in
+    let v = refusal-length b c in
+    let p : 6 ≡ 0 + length (numberField a) = omega arith in
+    refusal-parts (sets l 0 (numberField a)) 6 b c (rw (length-sets l 0 (numberField a)) (omega arith))
+    ∙ ap (λ (j : ℕ). sets (sets l 0 (numberField a)) j (refusalLine b c)) p
+    ∙ written-both l 0 (numberField a) (refusalLine b c) (omega arith)
+
+pub letter-parts : (l : List ℕ) (at c : ℕ) → at + 11 ≤ length l → set (sets l at (replicate 10 32)) (at + 10) c ≡ sets l at (letterField c)
+unfolding letterField
+letter-parts l at c h = written-byte l at (replicate 10 32) c h
+
+pub results-none : (l : List ℕ) (at : ℕ) (r : List ℕ) → sets l at (resultFields 0 r) ≡ l
+unfolding resultFields
+results-none l at r = refl
+
+pub results-more : (l : List ℕ) (at j : ℕ) (r : List ℕ) → at + (11 * j + 11) ≤ length l
+    → sets (sets l at (resultFields j r)) (at + 11 * j) (wordField (wordAt r (5 * j))) ≡ sets l at (resultFields (j + 1) r)
+unfolding resultFields
+results-more l at j r h =
+    let u = fields-length j r in
+    let v = word-length (wordAt r (5 * j)) in
+    let p : 11 * j ≡ length (resultFields j r) = sym u in
+    let e : j + 1 ≡ suc j = omega arith in
+    ap (λ (x : ℕ). sets (sets l at (resultFields j r)) (at + x) (wordField (wordAt r (5 * j)))) p
+    ∙ written-both l at (resultFields j r) (wordField (wordAt r (5 * j))) (omega arith)
+    ∙ rw e refl
+
+pub results-end : (l : List ℕ) (at k : ℕ) (r : List ℕ) → at + 11 * k + 1 ≤ length l → set (sets l at (resultFields k r)) (at + 11 * k) 10 ≡ sets l at (resultLine k r)
+unfolding resultLine
+results-end l at k r h =
+    let u = fields-length k r in
+    ap (λ (x : ℕ). set (sets l at (resultFields k r)) (at + x) 10) (sym u)
+    ∙ written-byte l at (resultFields k r) 10 (omega arith)
+
+-- ---- what the code leaves in a lent part
+
+pub sign-put : (l : List ℕ) (n : ℕ) → l ≡ replicate n 32 → 0 < length l → set l (length l - 1) 45 ≡ led true n
+sign-put l n e h =
+    let q : length l ≡ n = ap length e ∙ length-replicate {A = ℕ} n 32 in
+    rw (q, e) (sign-last n (omega arith))
+
+pub sign-empty : (l : List ℕ) (n : ℕ) → l ≡ replicate n 32 → length l ≤ 0 → l ≡ led true n
+sign-empty l n e h =
+    let q : n ≡ 0 = omega (arith, ap length e ∙ length-replicate {A = ℕ} n 32, h) in
+    e ∙ rw q (sym sign-none)
+
+mid-length : (l : List ℕ) (at n : ℕ) → at + n ≤ length l → length (take n (drop at l)) ≡ n
+mid-length l at n h = length-take-le n (drop at l) (rw (length-drop at l) (omega arith))
+
+pub number-put : (l v : List ℕ) (at n k : ℕ) (minus : Bool) → at + n ≤ length l → v ≡ shown minus (length (take (at + n - at) (drop at l))) k
+    → take at l ++ (v ++ drop (at + n - at) (drop at l)) ≡ sets l at (shown minus n k)
+number-put l v at n k minus h e =
+    let q : at + n - at ≡ n = omega arith in
+    let w : v ≡ shown minus n k = e ∙ rw (q, mid-length l at n h) refl in
+    rw (q, w) (lent-part l at n (shown minus n k) (shown-length minus n k) h)
+
+pub spaces-put : (l v : List ℕ) (at n : ℕ) → at + n ≤ length l → v ≡ replicate (length (take (at + n - at) (drop at l))) 32
+    → take at l ++ (v ++ drop (at + n - at) (drop at l)) ≡ sets l at (replicate n 32)
+spaces-put l v at n h e =
+    let q : at + n - at ≡ n = omega arith in
+    let w : v ≡ replicate n 32 = e ∙ rw (q, mid-length l at n h) refl in
+    rw (q, w) (lent-part l at n (replicate n 32) (length-replicate {A = ℕ} n 32) h)

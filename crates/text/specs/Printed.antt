@@ -1,0 +1,72 @@
+-- What the bench program prints (document 01, "Program and readings"): numbers in six-character fields, "an 11-character field a result",
+-- "A refusal prints its number and row .. in two six-character fields". Fields are right-justified with spaces. Assumes nothing.
+use Prim.Native.Nat.{ℕ, zero, suc, _+_, _*_, _/_, _%_}
+use mathlib.Core.Bool.{Bool, true, false}
+use mathlib.Core.List.{List, [], _∷_, _++_}
+use mathlib.Core.Option.{Option, some, none}
+use lib.IntN.{pos, negsuc}
+use lib.ListN.{replicate}
+use lib.Dec.{ltb}
+use Rattle.value.specs.declared.Value.{Value}
+use Rattle.value.specs.declared.Value.the-variants.{Whole, Truth, Err}
+use Rattle.value.specs.Operators.{pick}
+use Rattle.value.specs.Bytes.{valueOf, wordAt}
+
+-- What stands in front of a number's first digit: spaces, "with "-" for negatives".
+unfoldable pub led : Bool → ℕ → List ℕ
+led false w = replicate w 32
+led true zero = []
+led true (suc w) = replicate w 32 ++ (45 ∷ [])
+
+-- A number right-justified in w characters: its last digit, and before it the rest, if there is any.
+unfoldable pub shown : Bool → ℕ → ℕ → List ℕ
+unfolding led
+shown minus zero n = []
+shown minus (suc w) n = pick (ltb n 10) (led minus w) (shown minus w (n / 10)) ++ ((48 + n % 10) ∷ [])
+
+-- "six-character fields"
+unfoldable pub numberField : ℕ → List ℕ
+unfolding shown
+numberField n = shown false 6 n
+
+unfoldable pub letterField : ℕ → List ℕ
+letterField c = replicate 10 32 ++ (c ∷ [])
+
+-- "one 11-character field a value, right-justified .. a decimal number as in the sheet, with "-" for negatives (no -0), or T, F, E"
+unfoldable pub valueField : Value → List ℕ
+unfolding shown letterField
+valueField (Whole (pos n)) = shown false 11 n
+valueField (Whole (negsuc n)) = shown true 11 (suc n)
+valueField (Truth true) = letterField 84
+valueField (Truth false) = letterField 70
+valueField Err = letterField 69
+
+-- A word of the byte form; one that is no value is never handed out, and shows as err.
+unfoldable pub optionField : Option Value → List ℕ
+unfolding valueField
+optionField (some v) = valueField v
+optionField none = valueField Err
+
+unfoldable pub wordField : ℕ → List ℕ
+unfolding optionField
+wordField w = optionField (valueOf w)
+
+-- "a line for each set with an 11-character field a result": the first k values of a result set, five bytes each, and a line feed.
+unfoldable pub resultFields : ℕ → List ℕ → List ℕ
+unfolding wordField
+resultFields zero r = []
+resultFields (suc k) r = resultFields k r ++ wordField (wordAt r (5 * k))
+
+unfoldable pub resultLine : ℕ → List ℕ → List ℕ
+unfolding resultFields
+resultLine k r = resultFields k r ++ (10 ∷ [])
+
+-- "prints inputs, results and sets in three six-character fields"
+unfoldable pub headLine : ℕ → ℕ → ℕ → List ℕ
+unfolding numberField
+headLine inputs results sets = numberField inputs ++ (numberField results ++ (numberField sets ++ (10 ∷ [])))
+
+-- "A refusal prints its number and row (12: line) in two six-character fields."
+unfoldable pub refusalLine : ℕ → ℕ → List ℕ
+unfolding numberField
+refusalLine number row = numberField number ++ (numberField row ++ (10 ∷ []))
