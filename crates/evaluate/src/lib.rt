@@ -5,10 +5,11 @@ use eval::Cell;
 use eval::Evaluation;
 use eval::evaluate::evaluate_row;
 use eval::evaluate::refuse;
+use fields::blank;
 use formula::Refusal;
 use formula::Verdict;
 use formula::refusal_number;
-use sheet::read::read_tables;
+use sheet::read::fill_tables;
 ghost use mathlib.Core.Path.{_≡_};
 ghost use Prim.Native.Nat.{ℕ, _+_, _*_, _-_, _≤_, _<_};
 ghost use lib.ListN.{length};
@@ -29,18 +30,34 @@ pub struct EvaluateAnswer {
 pub fn evaluate(sheet: &[u8], set: &[u8], rounds: u32) -> Evaluation
     ensures { λ e. ⌜ e ≡ evaluationOf (now (sheet .entry)) (now (set .entry)) rounds ⌝ }
 {
-    let x = read_tables(sheet);
-    let verdict = x.verdict;
+    let mut fields = blank::fields();
+    let mut places = blank::marks();
+    let mut returned = blank::bytes();
+    let mut iterated = blank::bytes();
+    let mut masks = blank::words();
+    let mut ends = blank::bytes();
+    let mut loops = blank::bytes();
+    let mut operators = blank::numbers();
+    let mut links = blank::numbers();
+    let verdict = fill_tables(
+        sheet,
+        &mut fields,
+        &mut places,
+        &mut returned,
+        &mut iterated,
+        &mut masks,
+        &mut ends,
+        &mut loops,
+        &mut operators,
+        &mut links,
+    );
     match verdict {
         Verdict::Refused(r, row) => refuse(r, row),
         Verdict::Passed => {
-            let n = x.rows;
-            let fields = x.fields;
-            let widths = x.returned;
-            let masks = x.masks;
+            let n = sheet.len() / 31;
             let end = 5 * n;
             let last = n - 1;
-            evaluate_row(&fields[..end], &widths[..n], n, masks[last], set, rounds)
+            evaluate_row(&fields[..end], &returned[..n], n, masks[last], set, rounds)
         }
     }
 }

@@ -22,11 +22,10 @@ use Rattle.formula.specs.Widths.{width}
 use Rattle.formula.specs.Free.{freeE, inputsOf}
 use Rattle.formula.specs.Tests.{operatorsOf, verdictOf, readingOf, figuresOf}
 use Rattle.formula.specs.Acceptance.{Modest, modest, low-row, passed-admissible, accepted-passed, accepted-figures, rejected-refused}
-use Rattle.sheet.specs.declared.read.Tables.{Tables}
 use Rattle.sheet.specs.Nodes.{nodeAt, returnedIn, freeIn}
 use Rattle.sheet.specs.Masks.{triggerMask}
 use Rattle.sheet.specs.Ready.{Ready}
-use Rattle.sheet.specs.Reading.{Accepts}
+use Rattle.sheet.specs.Reading.{Tables, Accepts}
 use Rattle.sheet.proofs.OperatorLaws.{last-count}
 use Rattle.sheet.proofs.ReadLaws.{some-rows}
 

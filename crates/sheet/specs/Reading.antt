@@ -4,7 +4,7 @@ use Prim.Native.Nat.{ℕ, zero, suc, _+_, _*_, _-_, _≤_}
 use mathlib.Core.Path.{_≡_}
 use mathlib.Core.Bool.{Bool, false}
 use mathlib.Core.List.{List}
-use lib.ListN.{take, length}
+use lib.ListN.{take, length, replicate}
 use lib.Dec.{leb}
 use Rattle.formula.specs.declared.Refusal.{Refusal}
 use Rattle.formula.specs.declared.Refusal.the-variants.{Layout, Rows, Malformed, Range, Naming, Named, StrayIter, Width, Unused, Operators}
@@ -17,7 +17,6 @@ use Rattle.formula.specs.Refusals.{numberOf}
 use Rattle.formula.specs.Sheet.{rowCount, linesOf, fieldsOf}
 use Rattle.formula.specs.Places.{placesOf}
 use Rattle.formula.specs.Tests.{afterCheck, whole, lowest, laidOut, fewRows, fieldsWell, rangesWell, namesWell, namedOnce, allNamed, placedWell, widthsWell, boundWell, operatorsOf, verdictOf}
-use Rattle.sheet.specs.declared.read.Tables.{Tables}
 use Rattle.sheet.specs.declared.read.ReadAnswer.{ReadAnswer}
 use Rattle.sheet.specs.Ready.{Ready, Noded, Graphed}
 
@@ -63,6 +62,38 @@ pub record Rowed (t : List ℕ) (n : ℕ) (p : List Bool) (ret it m f w k l : Li
   pub ready : Ready t n p
   pub nodes : Noded t n p ret it m
   pub graph : Graphed t n p f w k l
+
+-- The tables of a sheet by row, and what the tests say of it.
+pub record Tables : Type 0 where
+  pub verdict : Verdict
+  pub rows : ℕ
+  pub fields : List ℕ
+  pub places : List Bool
+  pub returned : List ℕ
+  pub iterated : List ℕ
+  pub masks : List ℕ
+  pub ends : List ℕ
+  pub loops : List ℕ
+  pub operators : List ℕ
+  pub links : List ℕ
+
+abbrev pub tablesOf : Verdict → ℕ → List ℕ → List Bool → List ℕ → List ℕ → List ℕ → List ℕ → List ℕ → List ℕ → List ℕ → Tables
+tablesOf v n t p ret it m f w k l =
+    record { verdict = v; rows = n; fields = t; places = p; returned = ret; iterated = it; masks = m; ends = f; loops = w; operators = k; links = l }
+
+-- Tables that reading the sheet s may be lent: blank, with room for its rows.
+pub record Blank (s t : List ℕ) (p : List Bool) (ret it m f w k l : List ℕ) : Type 0 where
+  pub capacity : ℕ
+  pub room : rowCount s ≤ 200 → rowCount s ≤ capacity
+  pub fields : length t ≡ 5 * capacity
+  pub places : p ≡ replicate capacity false
+  pub returned : length ret ≡ capacity
+  pub iterated : length it ≡ capacity
+  pub masks : length m ≡ capacity
+  pub ends : length f ≡ capacity
+  pub loops : w ≡ replicate capacity 0
+  pub operators : k ≡ replicate capacity 0
+  pub links : l ≡ replicate capacity 0
 
 -- The tables of an accepted sheet.
 pub record Accepts (s : List ℕ) (x : Tables) : Type 0 where

@@ -34,22 +34,7 @@ ghost use Rattle.formula.specs.declared.Verdict.the-variants.{Passed};
 ghost use Rattle.formula.specs.Sheet.{rowCount, fieldsOf};
 ghost use Rattle.formula.specs.Tests.{lowest, rangesWell, namesWell, readingOf};
 ghost use Rattle.sheet.specs.Ready.{Ready, Noded, Graphed};
-ghost use Rattle.sheet.specs.Reading.{rowVerdict, placeVerdict, nodeVerdict, graphVerdict, formulaVerdict, Rowed, Told, answerOf};
-
-// The tables of a sheet by row, and what the tests say of it. Only an accepted sheet's tables are filled to the end.
-pub struct Tables {
-    pub verdict: Verdict,
-    pub rows: usize,
-    pub fields: [u32; 1000],
-    pub places: [bool; 200],
-    pub returned: [u8; 200],
-    pub iterated: [u8; 200],
-    pub ends: [u8; 200],
-    pub loops: [u8; 200],
-    pub masks: [u64; 200],
-    pub operators: [u32; 200],
-    pub links: [u32; 200],
-}
+ghost use Rattle.sheet.specs.Reading.{rowVerdict, placeVerdict, nodeVerdict, graphVerdict, formulaVerdict, Rowed, Blank, Told, tablesOf, answerOf};
 
 // What reading tells the firmware: refusal 0 is an accepted sheet.
 #[repr(C)]
@@ -64,7 +49,7 @@ pub struct ReadAnswer {
 
 // Tests 1 to 5, which fill the table of fields.
 fn row_tests(s: &[u8], fields: &mut [u32]) -> Verdict
-    requires { ⌜ length (now fields) ≡ 1000 ⌝ }
+    requires { ⌜ (rowCount (now s) ≤ 200 → 5 * rowCount (now s) ≤ length (now fields)) ⌝ }
     ensures { λ v. ⌜ (v ≡ rowVerdict (now (s .entry)) Passed) × (v ≡ Passed → take (5 * rowCount (now (s .entry))) (now (fields .exit)) ≡ fieldsOf (now (s .entry))) ⌝ }
 {
     if !laid_out(s) {
@@ -194,37 +179,29 @@ fn formula_tests(
     graph_tests(t, n, &p[..n], &ret[..n], &it[..n], &m[..n], f, w, k, l)
 }
 
-// All tests in their order, and the tables of the sheet.
-pub fn read_tables(s: &[u8]) -> Tables
-    ensures { λ x. ⌜ Told (now (s .entry)) x ⌝ }
+// All tests in their order, which fill lent blank tables. Only an accepted sheet's tables are filled to the end.
+pub fn fill_tables(
+    s: &[u8],
+    fields: &mut [u32],
+    places: &mut [bool],
+    returned: &mut [u8],
+    iterated: &mut [u8],
+    masks: &mut [u64],
+    ends: &mut [u8],
+    loops: &mut [u8],
+    operators: &mut [u32],
+    links: &mut [u32],
+) -> Verdict
+    requires { ⌜ Blank (now s) (now fields) (now places) (now returned) (now iterated) (now masks) (now ends) (now loops) (now operators) (now links) ⌝ }
+    ensures { λ v. ⌜ Told (now (s .entry)) (tablesOf v (rowCount (now (s .entry))) (now (fields .exit)) (now (places .exit)) (now (returned .exit)) (now (iterated .exit)) (now (masks .exit))
+        (now (ends .exit)) (now (loops .exit)) (now (operators .exit)) (now (links .exit))) ⌝ }
 {
-    let mut fields = blank::fields();
-    let mut places = blank::marks();
-    let mut returned = blank::bytes();
-    let mut iterated = blank::bytes();
-    let mut masks = blank::words();
-    let mut ends = blank::bytes();
-    let mut loops = blank::bytes();
-    let mut operators = blank::numbers();
-    let mut links = blank::numbers();
     let n = s.len() / 31;
-    match row_tests(s, &mut fields) {
-        Verdict::Refused(r, row) => Tables {
-            verdict: Verdict::Refused(r, row),
-            rows: 0,
-            fields,
-            places,
-            returned,
-            iterated,
-            ends,
-            loops,
-            masks,
-            operators,
-            links,
-        },
+    match row_tests(s, fields) {
+        Verdict::Refused(r, row) => Verdict::Refused(r, row),
         Verdict::Passed => {
             let end = 5 * n;
-            let verdict = formula_tests(
+            formula_tests(
                 &fields[..end],
                 n,
                 &mut places[..n],
@@ -235,20 +212,7 @@ pub fn read_tables(s: &[u8]) -> Tables
                 &mut loops[..n],
                 &mut operators[..n],
                 &mut links[..n],
-            );
-            Tables {
-                verdict,
-                rows: n,
-                fields,
-                places,
-                returned,
-                iterated,
-                ends,
-                loops,
-                masks,
-                operators,
-                links,
-            }
+            )
         }
     }
 }
@@ -270,15 +234,31 @@ fn figures(rows: usize, operators: u32, mask: u64, results: u8) -> Figures
 pub fn read(s: &[u8]) -> Reading
     ensures { λ r. ⌜ r ≡ readingOf (now (s .entry)) ⌝ }
 {
-    let x = read_tables(s);
-    let verdict = x.verdict;
-    let rows = x.rows;
+    let mut fields = blank::fields();
+    let mut places = blank::marks();
+    let mut returned = blank::bytes();
+    let mut iterated = blank::bytes();
+    let mut masks = blank::words();
+    let mut ends = blank::bytes();
+    let mut loops = blank::bytes();
+    let mut operators = blank::numbers();
+    let mut links = blank::numbers();
+    let verdict = fill_tables(
+        s,
+        &mut fields,
+        &mut places,
+        &mut returned,
+        &mut iterated,
+        &mut masks,
+        &mut ends,
+        &mut loops,
+        &mut operators,
+        &mut links,
+    );
     match verdict {
         Verdict::Refused(r, row) => Reading::Rejected(r, row),
         Verdict::Passed => {
-            let operators = x.operators;
-            let masks = x.masks;
-            let returned = x.returned;
+            let rows = s.len() / 31;
             let last = rows - 1;
             Reading::Accepted(figures(rows, operators[last], masks[last], returned[last]))
         }
