@@ -121,7 +121,7 @@ turns-outer y a b vs outer env l =
 -- ---- a row as an expression
 
 module _ (t ws : List ℕ) (r : ℕ) (h : ExpRow t ws r) (env : Env) (left : ℕ) where
-  by-shape : (s : Shape) → shapeAt t r ≡ s
+  pub by-shape : (s : Shape) → shapeAt t r ≡ s
       → evalE (expOf t r) env left ≡ evalE (expNode (expOf t) (bodyOf t) s) env left
   by-shape s e =
       ap (λ (x : Exp). evalE x env left) (exp-as t (h .rows) (h .accepted .named) r (h .low) (h .high) s e)

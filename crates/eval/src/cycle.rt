@@ -3,17 +3,21 @@
 // and each row's width. An environment is 32 words; values are written to lent words, so that an operand, a let's row c or
 // a loop's identifiers are written where they are used.
 use crate::Choice;
+use crate::Part;
 use crate::Rest;
 use crate::Turn;
 use crate::Way;
+use crate::parts::part_at;
 use crate::words::choose;
 use crate::words::copied;
 use crate::words::copy;
+use crate::words::operated;
 use crate::words::put_errs;
 use crate::words::put_name;
 use crate::words::put_operator;
 use crate::words::put_truth;
 use crate::words::put_whole;
+use crate::words::put_word;
 use crate::words::wide;
 use crate::words::width_at;
 use formula::Shape;
@@ -30,6 +34,7 @@ ghost use Rattle.meaning.specs.WidthLaws.{Suits};
 ghost use Rattle.eval.specs.Words.{envOf};
 ghost use Rattle.meaning.specs.Rows.{ExpRow, BodyRow};
 ghost use Rattle.eval.specs.Needs.{W};
+ghost use Rattle.eval.specs.Single.{Single};
 ghost use Rattle.eval.specs.Told.{Told, ToldB};
 ghost use Rattle.eval.specs.ToldBody.{wayOf};
 
@@ -53,6 +58,66 @@ fn way_at(t: &[u32], r: usize) -> Way
 
 // Row r as an expression: its values go to the words of `out` from `at` on.
 pub fn expr(
+    t: &[u32],
+    widths: &[u8],
+    r: usize,
+    env: &[u64; 32],
+    out: &mut [u64],
+    at: usize,
+    left: u32,
+) -> Rest
+    requires { ⌜ ExpRow (now t) (now widths) r × (length (now env) ≡ 32) × (at + W (now widths) r ≤ length (now out)) ⌝ }
+    ensures { λ a. ⌜ Told (evalE (expOf (now (t .entry)) r) (envOf (now (env .entry))) left) a at (now (out .entry)) (now (out .exit)) × (length (now (out .exit)) ≡ length (now (out .entry))) ⌝ }
+{
+    if width_at(widths, r) != 1 {
+        return by_kind(t, widths, r, env, out, at, left);
+    }
+    let mut l = left as u64;
+    let w = single(t, widths, r, env, &mut l);
+    if 4294967295 < l {
+        return Rest::Short;
+    }
+    put_word(out, at, w);
+    Rest::Left(l as u32)
+}
+
+// A word of the value of row r, of width one; the rounds left are in `left`, 4,294,967,296 where more are needed.
+fn single(t: &[u32], widths: &[u8], r: usize, env: &[u64; 32], left: &mut u64) -> u64
+    requires { ⌜ ExpRow (now t) (now widths) r × (length (now env) ≡ 32) × (W (now widths) r ≡ 1) × (now left < 4294967296) ⌝ }
+    ensures { λ w. ⌜ Single (evalE (expOf (now (t .entry)) r) (envOf (now (env .entry))) (now (left .entry))) w (now (left .exit)) ⌝ }
+{
+    match part_at(t, widths, r, env) {
+        Part::Value(w) => w,
+        Part::One(code, b) => {
+            let u = single(t, widths, b, env, left);
+            operated(code, u, 0)
+        }
+        Part::Two(code, x, y) => {
+            let u = single(t, widths, x, env, left);
+            if 4294967295 < *left {
+                return 0;
+            }
+            let v = single(t, widths, y, env, left);
+            operated(code, u, v)
+        }
+        Part::Other => {
+            let mut one = [0; 1];
+            match by_kind(t, widths, r, env, &mut one, 0, *left as u32) {
+                Rest::Short => {
+                    *left = 4294967296;
+                    0
+                }
+                Rest::Left(l) => {
+                    *left = l as u64;
+                    one[0]
+                }
+            }
+        }
+    }
+}
+
+// Row r by its kind: as expr, for any row.
+fn by_kind(
     t: &[u32],
     widths: &[u8],
     r: usize,

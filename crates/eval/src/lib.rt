@@ -5,6 +5,7 @@ use value::Value;
 
 mod cycle; // cycle.rt: the expression and body evaluators
 pub mod evaluate; // evaluate.rt: the evaluation of an accepted sheet on a set
+mod parts; // parts.rt: what the value of a row of width one is made of
 mod words; // words.rt: values as words in lent arrays
 
 // Which arm of an if a test's value chooses: the first on true, the second on false, neither where it is no truth.
@@ -36,6 +37,17 @@ pub enum Way {
     // the test's row and the arms'
     If(usize, usize, usize),
     End,
+}
+
+// A row of width one: a value, an operator on one row or on two rows of width one, or another row.
+pub enum Part {
+    // the word of the value
+    Value(u64),
+    // the code, the operand's row
+    One(u32, usize),
+    // the code, the operands' rows
+    Two(u32, usize, usize),
+    Other,
 }
 
 // One place of a result set.

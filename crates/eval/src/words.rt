@@ -79,6 +79,27 @@ pub fn put_operator(out: &mut [u64], at: usize, code: u32, ops: &[u64])
     );
 }
 
+// A word of the operator of a code on the values of two words.
+pub fn operated(code: u32, a: u64, b: u64) -> u64
+    requires { ⌜ code < 256 ⌝ }
+    ensures { λ w. ⌜ heldOf w ≡ apply code (heldOf a) (heldOf b) ⌝ }
+{
+    word(value::apply_code(code as u8, held(a), held(b)))
+}
+
+pub fn whole_word(a: u32) -> u64
+    requires { ⌜ a < 2147483648 ⌝ }
+    ensures { λ w. ⌜ heldOf w ≡ Value.Whole (pos a) ⌝ }
+{
+    word(Value::Whole(a as i32))
+}
+
+pub fn truth_word(a: u32) -> u64
+    ensures { λ w. ⌜ heldOf w ≡ Value.Truth (eqb a 1) ⌝ }
+{
+    word(Value::Truth(a == 1))
+}
+
 // The arm that the first value of `test` chooses.
 pub fn choose(test: &[u64]) -> Choice
     requires { ⌜ 1 ≤ length (now test) ⌝ }

@@ -7,19 +7,19 @@ use Rattle.eval.proofs.words.copy.Reads as copy-reads
 use mathlib.Core.Path.{_≡_, refl, _∙_, ap}
 use Rattle.eval.specs.Words.{envOf, errs-binds}
 
--- src/words.rt:117:19  let errs = [3; 16]; ⏎ copy(out, at, &errs, n);
+-- src/words.rt:138:19  let errs = [3; 16]; ⏎ copy(out, at, &errs, n);
 slice-aggregate-copy : tie.Need-slice-aggregate-copy
 slice-aggregate-copy c = search needs
 
--- src/words.rt:117:5  let errs = [3; 16]; ⏎ copy(out, at, &errs, n);
+-- src/words.rt:138:5  let errs = [3; 16]; ⏎ copy(out, at, &errs, n);
 copy-requires : tie.Need-copy-requires
 copy-requires c κs = search needs
 
--- src/words.rt:112:1  // Err n times. ⏎ pub fn put_errs(out: &mut [u64], at: usize, n: usize)
+-- src/words.rt:133:1  // Err n times. ⏎ pub fn put_errs(out: &mut [u64], at: usize, n: usize)
 same-length : tie.Need-same-length
 same-length c = search needs
 
--- src/words.rt:112:1  // Err n times. ⏎ pub fn put_errs(out: &mut [u64], at: usize, n: usize)
+-- src/words.rt:133:1  // Err n times. ⏎ pub fn put_errs(out: &mut [u64], at: usize, n: usize)
 returns : tie.Need-returns
 returns c = (ap envOf (c .before .before .copy .ensures .0) ∙ errs-binds (c .before .before .before .before .before .before .args .out .now) (c .before .before .before .before .before .before .args .at) (c .before .before .before .before .before .before .args .n) (c .before .before .before .before .before .before .pre .0) (c .before .before .before .before .before .before .pre .1), c .before .before .copy .ensures .1)
 
