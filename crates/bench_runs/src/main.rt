@@ -36,4 +36,6 @@ fn main() {
         b"long_and_refused/formula.txt",
         b"long_and_refused/sets.txt",
     );
+    run(b"operators/formula.txt", b"operators/sets.txt");
+    run(b"endless/formula.txt", b"endless/sets.txt");
 }
