@@ -24,7 +24,7 @@ linkCapacity = 2
 abbrev pub allFirings : ℕ
 allFirings = 1000000
 
--- Every repetition fires or takes, so there are at most as many as sets and firings.
+-- At most as many repetitions as sets and firings: enough if each one fires or takes, which is not proved.
 unfoldable pub judged : List ℕ → List ℕ → Figures → Sets → List ℕ
 unfolding passes
 judged formula memory f (badLine i) = refusalLine (numberOf Set) i

@@ -111,8 +111,8 @@ fn turns_of(sets: u64, firings: u64) -> u64 {
     sets
 }
 
-// Writes the first part, and repeats until every set is taken. Each repetition fires or takes (specs/Passes), so the turns
-// do not run out first.
+// Writes the first part, and repeats until every set is taken. The turns are those of the
+// definition (specs/Output); that they are enough is not proved.
 fn repeat(mem: &mut [u8], sets: &[u8], opened: Opened, out: &mut [u8])
     requires { ⌜ (opened .inputs ≤ 32) × (opened .stage .at ≤ length (now sets)) × (opened .stage .printed ≤ 65536) × (65536 ≤ length (now out)) ⌝ }
 {
