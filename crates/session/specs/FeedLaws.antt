@@ -31,7 +31,7 @@ feed-none m = refl
 
 -- ---- the sets that wait, line by line
 
-one-more-sets : (b : List ℕ) (f : SetFile) (ss : List (List ℕ)) → oneMore b f ≡ sets ss → (ts : List (List ℕ)) × (f ≡ sets ts) × (ss ≡ b ∷ ts)
+pub one-more-sets : (b : List ℕ) (f : SetFile) (ss : List (List ℕ)) → oneMore b f ≡ sets ss → (ts : List (List ℕ)) × (f ≡ sets ts) × (ss ≡ b ∷ ts)
 unfolding oneMore
 one-more-sets b (sets ts) ss e = (ts, refl, let z : sets (b ∷ ts) ≡ sets ss = e in cc)
 one-more-sets b (badLine i) ss e = let z : _≡_ {A = ℕ} 0 1 = cc in absurd (omega arith)

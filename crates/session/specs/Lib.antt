@@ -7,3 +7,7 @@ pub mod Output
 pub mod Opening
 pub mod OpeningLaws
 pub mod Reading
+pub mod Reached
+pub mod WholeSets
+pub mod Onward
+pub mod Ending

@@ -15,6 +15,7 @@ use Rattle.session.specs.declared.passes.Stage.{Stage}
 use Rattle.session.specs.declared.opening.Opened.{Opened}
 use Rattle.session.specs.Passes.{passes}
 use Rattle.session.specs.Waiting.{Waiting}
+use Rattle.session.specs.Onward.{Going}
 use Rattle.session.specs.Output.{allFirings, benchOutput}
 
 -- A refusal is printed alone.
@@ -50,6 +51,7 @@ pub record Whole (first : List ℕ) (x : Seen) (more : List ℕ) : Type 0 where
 pub record Begins (formula file : List ℕ) (at-hand m : List ℕ) (r : Opened) (m′ out : List ℕ) : Type 0 where
   pub rest : List (List ℕ)
   pub waits : Waiting (r .inputs) at-hand (r .stage .at) rest
+  pub going : Going (r .stage .remaining) rest m′
   pub output-is : benchOutput formula file m
       ≡ take (r .stage .printed) out ++ passes (r .stage .remaining + r .stage .firings) (r .stage .remaining) rest m′ (r .stage .firings)
 

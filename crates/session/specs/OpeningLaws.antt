@@ -38,7 +38,11 @@ use Rattle.session.specs.declared.passes.Stage.{Stage}
 use Rattle.session.specs.declared.opening.Opened.{Opened}
 use Rattle.session.specs.Passes.{passes}
 use Rattle.session.specs.Waiting.{Waiting}
+use Rattle.session.specs.WholeSets.{EachWhole, sets-whole}
+use Rattle.session.specs.Reached.{Reached, at-start}
+use Rattle.session.specs.Onward.{Underway, Going, over, on}
 use Rattle.session.specs.Output.{allFirings, linkCapacity, judged, outputBy, benchOutput}
+use Rattle.session.specs.Ending.{Proceeds}
 use Rattle.session.specs.Opening.{Refuses, Heads, JudgesBy, Judges, Whole, Begins, OpensTo}
 
 -- ---- what is printed
@@ -109,6 +113,7 @@ begins-refused formula file at-hand m r m′ l out number row p e =
         line = 0;
         lines-are = ap (λ (n : ℕ). setsFrom (r .inputs) 0 (fileLines (drop n at-hand))) (p .at-end) ∙ rw (drop-length at-hand) (no-line (r .inputs) 0 [] (omega arith));
       };
+      going = over (p .none-left);
       output-is = e ∙ sym (rw (p .none-left, p .none-fired, p .length-is, append-nil (take 13 out)) (p .prints));
     }
 
@@ -202,8 +207,11 @@ module _ (first : List ℕ) (x : Seen) (file m : List ℕ) (r : Opened) (m′ l 
         (ap (λ (s : List ℕ). benchOutput s (file ++ moreSets) m) (sheet-is more w) ∙ output-refused n (file ++ moreSets))
 
     module _ (z : a .refusal ≡ 0) where
+      accepting : started first linkCapacity m .answer .refusal ≡ 0
+      accepting = sym (ap (λ (b : Begun). b .answer .refusal) q) ∙ z
+
       accepts : AcceptedStart first linkCapacity m
-      accepts = accepted-start first linkCapacity m (sym (ap (λ (b : Begun). b .answer .refusal) q) ∙ z)
+      accepts = accepted-start first linkCapacity m accepting
 
       answers : begun a m′ ≡ begun (accepted (madeOf (formulaOf first))) (startedMemory (madeOf (formulaOf first)) linkCapacity m)
       answers = q ∙ accepts .whole
@@ -228,6 +236,19 @@ module _ (first : List ℕ) (x : Seen) (file m : List ℕ) (r : Opened) (m′ l 
       unfolding benchOutput outputBy
       judged-output k = rw (accepts .passed, le-ltb 65536 (length file) k, inputs-are) refl
 
+      -- Before the first call of the loop: no set is pushed, and each of the file's passes 12.
+      underway : (ss : List (List ℕ)) → setsOf (a .inputs) file ≡ setsIn ss → Underway first linkCapacity m accepting (length ss) ss m′
+      unfolding setsOf
+      underway ss e =
+          let b : started first linkCapacity m .mem ≡ m′ = ap (λ (y : Begun). y .mem) (sym q) in
+          record {
+            sets = 0;
+            results = 0;
+            reached = subst (λ (y : List ℕ). Reached (started first linkCapacity m .mem) y 0 0) b (at-start (started first linkCapacity m .mem));
+            counts = refl;
+            whole = subst (λ (n : ℕ). EachWhole n ss) (ap (λ (y : Begun). y .answer .inputs) answers) (sets-whole (a .inputs) 1 (fileLines file) ss e);
+          }
+
       judged-begins : length file ≤ 65536 → (f : File) → setsOf (a .inputs) file ≡ f → JudgesBy f (a .inputs) (a .results) (length file) r l out → Begins first file file m r m′ out
       unfolding judged setsOf
       judged-begins k (badLine i) e p =
@@ -237,6 +258,7 @@ module _ (first : List ℕ) (x : Seen) (file m : List ℕ) (r : Opened) (m′ l 
           record {
             rest = ss;
             waits = record { line = 1; lines-are = rw (p .inputs-are, p .at-start) e };
+            going = subst (λ (n : ℕ). Going n ss m′) (sym (p .all-left)) (on first linkCapacity m accepting (underway ss e));
             output-is =
                 judged-output k ∙ ap (judged first m (figuresOf first)) e
                 ∙ rw (p .all-left, p .all-firings, p .length-is, p .prints, inputs-are, results-are, b) refl;
@@ -251,6 +273,9 @@ module _ (first : List ℕ) (x : Seen) (file m : List ℕ) (r : Opened) (m′ l 
 
 pub refusal-bounds : (number row end : ℕ) (r : Opened) (l out : List ℕ) → Refuses number row end r l out → (r .inputs ≤ 32) × (r .stage .at ≤ end) × (r .stage .printed ≤ 65536)
 refusal-bounds number row end r l out p = (omega (arith, p .inputs-are), omega (arith, p .at-end), omega (arith, p .length-is))
+
+pub begins-proceeds : (formula file at-hand m : List ℕ) (r : Opened) (m′ out : List ℕ) → Begins formula file at-hand m r m′ out → Proceeds (r .inputs) at-hand (r .stage) m′
+begins-proceeds formula file at-hand m r m′ out b = record { rest = b .rest; waits = b .waits; going = b .going }
 
 pub judged-bounds : (inputs results : ℕ) (file : List ℕ) (r : Opened) (l out : List ℕ) → inputs ≤ 32 → Judges inputs results file r l out
     → (r .inputs ≤ 32) × (r .stage .at ≤ length file) × (r .stage .printed ≤ 65536)

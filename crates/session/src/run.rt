@@ -10,6 +10,7 @@ ghost use Prim.Native.Nat.{_≤_};
 ghost use lib.ListN.{length};
 ghost use Rattle.io.specs.Counts.{Counts};
 ghost use Rattle.session.specs.Reading.{Continued, SheetRead};
+ghost use Rattle.session.specs.Ending.{Proceeds};
 
 // How many of a sheet's bytes are at hand, and what was seen of all of them.
 pub struct Sheet {
@@ -102,33 +103,20 @@ fn load(path: &[u8], buf: &mut [u8]) -> usize
     n
 }
 
-fn turns_of(sets: u64, firings: u64) -> u64 {
-    if sets < 4294967296 {
-        if firings < 4294967296 {
-            return sets + firings;
-        }
-    }
-    sets
-}
-
-// Writes the first part, and repeats until every set is taken. The turns are those of the
-// definition (specs/Output); that they are enough is not proved.
+// Writes the first part, and repeats until every set is taken. It ends since each repetition
+// leaves fewer sets to take and firings to make (specs/Onward).
 fn repeat(mem: &mut [u8], sets: &[u8], opened: Opened, out: &mut [u8])
     requires { ⌜ (opened .inputs ≤ 32) × (opened .stage .at ≤ length (now sets)) × (opened .stage .printed ≤ 65536) × (65536 ≤ length (now out)) ⌝ }
+    requires { ⌜ Proceeds (opened .inputs) (now sets) (opened .stage) (now mem) ⌝ }
 {
     let inputs = opened.inputs;
     let mut stage = opened.stage;
-    let mut turns = turns_of(stage.remaining as u64, stage.firings as u64);
     let mut printed = stage.printed;
     io::write_all(STDOUT_FILENO, &out[..printed]);
-    while 0 < turns {
-        if stage.remaining == 0 {
-            return;
-        }
+    while 0 < stage.remaining {
         stage = pass(mem, sets, inputs, stage, out);
         printed = stage.printed;
         io::write_all(STDOUT_FILENO, &out[..printed]);
-        turns -= 1;
     }
 }
 

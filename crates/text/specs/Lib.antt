@@ -6,3 +6,4 @@ pub mod PrintLaws
 pub mod FieldLaws
 pub mod SetLineLaws
 pub mod ScanLaws
+pub mod ValueBytes

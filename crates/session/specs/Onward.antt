@@ -1,0 +1,297 @@
+-- Each repetition of the program's loop (Passes) that no run's 36 ends leaves less to do: it fires, or it takes a set. For when nothing fires, demand 3 says
+-- that the oldest untaken set can be taken; and where every pushed set is taken, a push would be accepted, so none was refused. Assumes an accepted start
+-- and sets that pass 12.
+use Prim.Native.Nat.{ℕ, zero, suc, _+_, _-_, _≤_, _<_}
+use mathlib.Core.Path.{_≡_, refl, sym, ap, subst, _∙_}
+use mathlib.Core.Logic.{_⊎_, inl, inr, _≢_}
+use mathlib.Core.Bool.{Bool, true, false}
+use mathlib.Core.List.{List, [], _∷_}
+use native.Mathlib.Omega.{arith}
+use native.Mathlib.Decide.{ℕ-discrete}
+use borrow.Author.Tests.{lt-ltb, eq-eqb, ne-eqb}
+use lib.Dec.{eqb}
+use lib.ListN.{length, replicate, length-replicate}
+use lib.Seq.{take-length}
+use Rattle.value.specs.Operators.{pick}
+use Rattle.formula.specs.declared.Refusal.the-variants.{NotAble}
+use Rattle.formula.specs.Refusals.{numberOf}
+use Rattle.formula.specs.Tree.{Exp, formulaOf}
+use Rattle.network.specs.Net.{Links}
+use Rattle.graph.specs.Translation.{madeOf}
+use Rattle.layout.specs.Layout.{operatorsOf, inputsOf, untakenOf, sizeOf, need}
+use Rattle.machine.specs.Fire.{ableAt}
+use Rattle.runs.specs.Run.{stillAt}
+use Rattle.calls.specs.Calls.{Outcome, sizeIn, standing, setOk, pushed, fired, ran, taken}
+use Rattle.calls.specs.CallLaws.{fired-idle}
+use Rattle.verdicts.specs.Running.{startOf, afterSteps, stepsFrom}
+use Rattle.view.specs.Stands.{Stands}
+use Rattle.start.specs.Start.{started}
+use Rattle.begin.specs.MadeSound.{made-sound}
+use Rattle.begin.specs.StandsValid.{stands-well}
+use Rattle.begin.specs.StartedStands.{started-stands}
+use Rattle.refusals.specs.RunCount.{Firings, still-quiet, RunCounts, run-counts}
+use Rattle.refusals.specs.Kept.{push-keeps}
+use Rattle.demand.specs.MemoryCalls.{Call, push, fire, take, answerOf, memoryAfterAll, setsPushed, resultsTaken}
+use Rattle.demand.specs.Claim.{OwnVerdicts}
+use Rattle.demand.specs.Started.{start-accepted}
+use Rattle.demand.specs.Agreed.{calls-agree}
+use Rattle.demand.specs.FollowAll.{calls-follow}
+use Rattle.demand.specs.Demand3.{demand-3}
+use Rattle.text.specs.PrintLaws.{line-length}
+use Rattle.session.specs.Passes.{Fed, fed, feeding, takenFrom, lineBy, Drained, drained, withLine, draining, drainedOf, Pass, passOf, remainingAfter}
+use Rattle.session.specs.PassLaws.{line-handed, drain-more, remaining-plain, remaining-refused}
+use Rattle.session.specs.FeedLaws.{feed-none, feed-accepted, feed-refused}
+use Rattle.session.specs.WholeSets.{EachWhole}
+use Rattle.session.specs.Reached.{Reached, after-push, after-refused-push, after-run, after-take, after-refused-take}
+
+-- ---- a feed and a drain as calls
+
+module _ (start : List ℕ) (k : ℕ) where
+  -- What a feed leaves: so many sets more are pushed, and it stops at a refused one or at the end.
+  pub record FeedReached (ss : List (List ℕ)) (m : List ℕ) (s r : ℕ) (f : Fed) : Type 0 where
+    pub more : ℕ
+    pub reached : Reached start (f .mem) (s + more) r
+    pub all-sets : more + length (f .rest) ≡ length ss
+    pub whole : EachWhole k (f .rest)
+    pub stopped : (t : List ℕ) (ts : List (List ℕ)) → f .rest ≡ t ∷ ts → pushed (f .mem) t .answer .refusal ≢ 0
+
+  head-is : (t u : List ℕ) (ts us : List (List ℕ)) → _≡_ {A = List (List ℕ)} (t ∷ ts) (u ∷ us) → t ≡ u
+  head-is t u ts us e = cc
+
+  pub feed-reached : (ss : List (List ℕ)) (m : List ℕ) (s r : ℕ) → Reached start m s r → EachWhole k ss → FeedReached ss m s r (feeding ss m)
+  feed-reached [] m s r R w =
+      let z : s ≡ s + 0 = omega arith in
+      rw (feed-none m)
+      (record {
+        more = 0;
+        reached = subst (λ (n : ℕ). Reached start m n r) z R;
+        all-sets = refl;
+        whole = tt;
+        stopped = λ t ts e. let y : _≡_ {A = ℕ} 0 (suc (length ts)) = ap length e in absurd (omega arith);
+      })
+  feed-reached (t ∷ ss) m s r R w = go (ℕ-discrete (pushed m t .answer .refusal) 0) (λ e. feed-reached ss (pushed m t .mem) (s + 1) r (after-push start m s r R t e) (w .1))
+    where
+      go : Dec (pushed m t .answer .refusal ≡ 0) → (pushed m t .answer .refusal ≡ 0 → FeedReached ss (pushed m t .mem) (s + 1) r (feeding ss (pushed m t .mem)))
+          → FeedReached (t ∷ ss) m s r (feeding (t ∷ ss) m)
+      go (yes e) later =
+          let I = later e in
+          let z : s + 1 + I .more ≡ s + suc (I .more) = omega arith in
+          rw (feed-accepted t ss m e)
+          (record {
+            more = suc (I .more);
+            reached = subst (λ (n : ℕ). Reached start (feeding ss (pushed m t .mem) .mem) n r) z (I .reached);
+            all-sets = omega (arith, I .all-sets);
+            whole = I .whole;
+            stopped = I .stopped;
+          })
+      go (no n) later =
+          let z : s ≡ s + 0 = omega arith in
+          rw (feed-refused t ss m n)
+          (record {
+            more = 0;
+            reached = subst (λ (i : ℕ). Reached start (pushed m t .mem) i r) z (after-refused-push start m s r R t n);
+            all-sets = omega arith;
+            whole = w;
+            stopped = λ u us e q.
+                n (ap (λ (x : List ℕ). pushed x t .answer .refusal) (sym (push-keeps m t n .1))
+                ∙ ap (λ (x : List ℕ). pushed (pushed m t .mem) x .answer .refusal) (head-is t u ss us e) ∙ q);
+          })
+
+  drain-reached : (n : ℕ) (m : List ℕ) (s r : ℕ) → Reached start m s r → Reached start (draining n m .mem) s (r + draining n m .count)
+  unfolding draining
+  drain-reached zero m s r R = let z : r ≡ r + 0 = omega arith in subst (Reached start m s) z R
+  drain-reached (suc n) m s r R = go (ℕ-discrete (takenFrom m .answer .refusal) 0) (λ e. drain-reached n (takenFrom m .mem) s (r + 1) (after-take start m s r R e))
+    where
+      go : Dec (takenFrom m .answer .refusal ≡ 0)
+          → (takenFrom m .answer .refusal ≡ 0 → Reached start (draining n (takenFrom m .mem) .mem) s (r + 1 + draining n (takenFrom m .mem) .count))
+          → (let d : Drained = pick (eqb (takenFrom m .answer .refusal) 0) (withLine (lineBy (takenFrom m)) (draining n (takenFrom m .mem))) (drained (takenFrom m .mem) [] 0) in
+            Reached start (d .mem) s (r + d .count))
+      go (yes e) later =
+          let z : r + 1 + draining n (takenFrom m .mem) .count ≡ r + suc (draining n (takenFrom m .mem) .count) = omega arith in
+          rw (eq-eqb (takenFrom m .answer .refusal) 0 e) (subst (Reached start (draining n (takenFrom m .mem) .mem) s) z (later e))
+      go (no i) later =
+          let z : r ≡ r + 0 = omega arith in
+          rw (ne-eqb (takenFrom m .answer .refusal) 0 i) (subst (Reached start (takenFrom m .mem) s) z (after-refused-take start m s r R i))
+
+  pub drained-reached : (m : List ℕ) (s r : ℕ) → Reached start m s r → Reached start (drainedOf m .mem) s (r + drainedOf m .count)
+  unfolding drainedOf
+  drained-reached m s r R = drain-reached (untakenOf m) m s r R
+
+-- A take that is accepted is made.
+pub drains-one : (m : List ℕ) → takenFrom m .answer .refusal ≡ 0 → 1 ≤ drainedOf m .count
+drains-one m e =
+    let z : length (lineBy (takenFrom m)) ≡ 0 → ⊥ = λ q. omega (arith, q, ap length (line-handed m e), line-length (takenFrom m .answer .count) (takenFrom m .out)) in
+    let c : drainedOf m .count ≡ suc (drainedOf (takenFrom m .mem) .count) = ap (λ (d : Drained). d .count) (drain-more m z .on) in
+    omega arith
+
+-- ---- the loop underway
+
+module _ (sheet : List ℕ) (capacity : ℕ) (memory : List ℕ) (h : started sheet capacity memory .answer .refusal ≡ 0) where
+  abbrev start : List ℕ
+  start = started sheet capacity memory .mem
+
+  abbrev x : Exp
+  x = formulaOf sheet
+
+  -- n sets are not taken yet, `rest` of them not pushed.
+  pub record Underway (n : ℕ) (rest : List (List ℕ)) (m : List ℕ) : Type 0 where
+    pub sets : ℕ
+    pub results : ℕ
+    pub reached : Reached start m sets results
+    pub counts : results + n ≡ sets + length rest
+    pub whole : EachWhole (madeOf x .inputs) rest
+
+  -- The machine stands after every list of calls.
+  stands-now : (calls : List Call) → (q : Links) × Stands (madeOf x) capacity (memoryAfterAll calls start) q
+  stands-now calls =
+      let a = start-accepted sheet capacity memory h in
+      let H : Stands (madeOf x) capacity start (startOf x)
+      = subst (λ (m : List ℕ). Stands (madeOf x) capacity m (startOf x)) (sym (a .memory)) (started-stands sheet (a .passed) capacity (a .low) (a .high) memory (a .long)) in
+      let F = calls-follow x capacity (a .low) (a .high) (calls-agree sheet (a .passed) capacity (a .low) (a .high)) calls start (startOf x) H in
+      (afterSteps x (stepsFrom x capacity (F .calls) (startOf x)) (startOf x), F .stands)
+
+  good-now : (calls : List Call) → standing (memoryAfterAll calls start) ≡ 0
+  good-now calls =
+      let a = start-accepted sheet capacity memory h in
+      let S = stands-now calls in
+      stands-well (madeOf x) (made-sound sheet (a .passed)) capacity (a .low) (a .high) (memoryAfterAll calls start) (S .0) (S .1)
+
+  abbrev Still : List ℕ → Type 0
+  Still m = (i : ℕ) → i < operatorsOf m → answerOf (fire (length m) i) m .refusal ≡ numberOf NotAble
+
+  still-now : (m : List ℕ) → standing m ≡ 0 → stillAt m (sizeIn m) (operatorsOf m) ≡ true → Still m
+  unfolding answerOf
+  still-now m st e i l =
+      ap (λ (z : List ℕ). fired z i .answer .refusal) (take-length m)
+      ∙ ap (λ (o : Outcome). o .answer .refusal) (fired-idle m st i (lt-ltb i (operatorsOf m) l) (still-quiet m (sizeIn m) (operatorsOf m) e i l))
+
+  module _ (push-goes : (calls : List Call) → Still (memoryAfterAll calls start) → length (resultsTaken calls start) ≡ length (setsPushed calls start)
+      → (lent : ℕ) (set : List ℕ) → need (sizeOf capacity) ≤ lent → setOk (inputsOf (memoryAfterAll calls start)) set ≡ true
+      → answerOf (push lent set) (memoryAfterAll calls start) .refusal ≡ 0) where
+    -- Where nothing can fire, a set can be taken, or every set is taken and the next could be pushed.
+    module _ (m : List ℕ) (s r : ℕ) (R : Reached start m s r) (st : stillAt m (sizeIn m) (operatorsOf m) ≡ true) where
+      here : standing m ≡ 0
+      here = subst (λ (z : List ℕ). standing z ≡ 0) (R .memory) (good-now (R .calls))
+
+      long : need (sizeOf capacity) ≤ length m
+      long = subst (λ (z : List ℕ). need (sizeOf capacity) ≤ length z) (R .memory) (stands-now (R .calls) .1 .long)
+
+      still : Still (memoryAfterAll (R .calls) start)
+      still = subst Still (sym (R .memory)) (still-now m here st)
+
+      pushes : r ≡ s → (t : List ℕ) → setOk (madeOf x .inputs) t ≡ true → pushed m t .answer .refusal ≡ 0
+      unfolding answerOf
+      pushes e t w =
+          let k : inputsOf (memoryAfterAll (R .calls) start) ≡ madeOf x .inputs = stands-now (R .calls) .1 .inputs-are in
+          let p = push-goes (R .calls) still (R .results-are ∙ e ∙ sym (R .sets-are)) (length m) t long (rw k w) in
+          ap (λ (z : List ℕ). pushed z t .answer .refusal) (sym (ap {B = List ℕ} (λ z. z) (take-length m)))
+          ∙ rw (R .memory) at p
+
+      takes : (r ≡ s) ⊎ (takenFrom m .answer .refusal ≡ 0)
+      unfolding answerOf takenFrom
+      takes = go (demand-3 sheet capacity memory h (R .calls) .ready still)
+        where
+          go : (length (resultsTaken (R .calls) start) ≡ length (setsPushed (R .calls) start))
+              ⊎ ((lent : ℕ) (out : List ℕ) → need (sizeOf capacity) ≤ lent → 80 ≤ length out → answerOf (take lent out) (memoryAfterAll (R .calls) start) .refusal ≡ 0)
+              → (r ≡ s) ⊎ (takenFrom m .answer .refusal ≡ 0)
+          go (inl e) = inl (sym (R .results-are) ∙ e ∙ R .sets-are)
+          go (inr f) =
+              let p = f (length m) (replicate 80 0) long (omega (arith, length-replicate {A = ℕ} 80 0)) in
+              inr (ap (λ (z : List ℕ). taken z (replicate 80 0) .answer .refusal) (sym (take-length m)) ∙ (rw (R .memory) at p))
+
+    -- ---- one repetition
+
+    module _ (n : ℕ) (rest : List (List ℕ)) (m : List ℕ) (left : ℕ) (U : Underway n rest m) where
+      abbrev f : Fed
+      f = feeding rest m
+
+      abbrev a : Outcome
+      a = ran (f .mem) left
+
+      abbrev d : Drained
+      d = drainedOf (a .mem)
+
+      F : FeedReached start (madeOf x .inputs) rest m (U .sets) (U .results) f
+      F = feed-reached start (madeOf x .inputs) rest m (U .sets) (U .results) (U .reached) (U .whole)
+
+      A : Reached start (a .mem) (U .sets + F .more) (U .results)
+      A = after-run start (f .mem) (U .sets + F .more) (U .results) (F .reached) left
+
+      D : Reached start (d .mem) (U .sets + F .more) (U .results + d .count)
+      D = drained-reached start (madeOf x .inputs) (a .mem) (U .sets + F .more) (U .results) A
+
+      -- No more is taken than was pushed.
+      few-taken : U .results + d .count ≤ U .sets + F .more
+      few-taken = omega (arith, demand-3 sheet capacity memory h (D .calls) .none-invented, D .results-are, D .sets-are)
+
+      underway-on : Underway (n - d .count) (f .rest) (d .mem)
+      underway-on =
+          record {
+            sets = U .sets + F .more;
+            results = U .results + d .count;
+            reached = D;
+            counts = omega (arith, U .counts, F .all-sets, few-taken);
+            whole = F .whole;
+          }
+
+      C : RunCounts (f .mem) left
+      C = run-counts (f .mem) left (subst (λ (z : List ℕ). standing z ≡ 0) (F .reached .memory) (good-now (F .reached .calls)))
+
+      -- A run without a firing leaves the memory as it was.
+      unfired : a .answer .count ≡ 0 → a .mem ≡ f .mem
+      unfired e = subst (λ (c : ℕ). Firings (sizeIn (f .mem)) (operatorsOf (f .mem)) c (f .mem) (a .mem)) e (C .between)
+
+      takes-one : 0 < n → a .answer .refusal ≡ 0 → a .answer .count ≡ 0 → 1 ≤ d .count
+      takes-one p e z = go (takes (f .mem) (U .sets + F .more) (U .results) (F .reached) st)
+        where
+          st : stillAt (f .mem) (sizeIn (f .mem)) (operatorsOf (f .mem)) ≡ true
+          st = subst (λ (y : List ℕ). stillAt y (sizeIn (f .mem)) (operatorsOf (f .mem)) ≡ true) (unfired z) (C .accepted e)
+
+          none-pushed : (ts : List (List ℕ)) → f .rest ≡ ts → EachWhole (madeOf x .inputs) ts → U .results ≡ U .sets + F .more → 1 ≤ d .count
+          none-pushed [] q w i = absurd (omega (arith, i, U .counts, F .all-sets, ap length q))
+          none-pushed (t ∷ ts) q w i =
+              absurd (F .stopped t ts q (pushes (f .mem) (U .sets + F .more) (U .results) (F .reached) st i t (w .0)))
+
+          go : (U .results ≡ U .sets + F .more) ⊎ (takenFrom (f .mem) .answer .refusal ≡ 0) → 1 ≤ d .count
+          go (inl i) = none-pushed (f .rest) refl (F .whole) i
+          go (inr i) = drains-one (a .mem) (ap (λ (y : List ℕ). takenFrom y .answer .refusal) (unfired z) ∙ i)
+
+      -- Sets to take and firings left, together, are fewer.
+      less-to-do : 0 < n → a .answer .refusal ≡ 0 → n - d .count + (left - a .answer .count) < n + left
+      less-to-do p e = go (ℕ-discrete (a .answer .count) 0)
+        where
+          go : Dec (a .answer .count ≡ 0) → n - d .count + (left - a .answer .count) < n + left
+          go (yes z) = omega (arith, takes-one p e z, z)
+          go (no z) = omega (arith, z, C .lent)
+
+-- ---- the loop, over or underway
+
+pub data Going (n : ℕ) (rest : List (List ℕ)) (m : List ℕ) : Type 0 where
+  over : n ≡ 0 → Going n rest m
+  on : (sheet : List ℕ) (capacity : ℕ) (memory : List ℕ) (h : started sheet capacity memory .answer .refusal ≡ 0) → Underway sheet capacity memory h n rest m → Going n rest m
+
+module _ (n : ℕ) (rest : List (List ℕ)) (m : List ℕ) (left : ℕ) where
+  abbrev p : Pass
+  p = passOf rest m left
+
+  -- What a repetition leaves, and that it is less.
+  pub record GoesOn : Type 0 where
+    pub going : Going (remainingAfter n p) (p .rest) (p .mem)
+    pub less : remainingAfter n p + p .left < n + left
+
+  pub goes-on : Going n rest m → 0 < n → GoesOn
+  unfolding passOf
+  goes-on (over e) h = absurd (omega arith)
+  goes-on (on sheet capacity memory i U) h = go (ℕ-discrete (ran (feeding rest m .mem) left .answer .refusal) 0)
+    where
+      go : Dec (ran (feeding rest m .mem) left .answer .refusal ≡ 0) → GoesOn
+      go (yes e) =
+          let k = remaining-plain rest m left n e in
+          record {
+            going =
+                subst (λ (i : ℕ). Going i (p .rest) (p .mem)) (sym k) (on sheet capacity memory i (underway-on sheet capacity memory i ? n rest m left U));
+            less = omega (arith, k, less-to-do sheet capacity memory i ? n rest m left U h e);
+          }
+      go (no e) =
+          let k = remaining-refused rest m left n e in
+          record { going = over k; less = omega (arith, k) }

@@ -1,0 +1,147 @@
+-- The bytes that are read from a set line are values' bytes: each field's value is in the values' range, and its word stands in its place. So a set line is a
+-- set that passes 12 in push. Assumes nothing.
+use Prim.Native.Nat.{ℕ, zero, suc, _+_, _*_, _-_, _≤_, _<_}
+use mathlib.Core.Path.{_≡_, refl, sym, ap, subst, _∙_}
+use mathlib.Core.Bool.{Bool, true, false, cond, _&&_, false≢true}
+use mathlib.Core.List.{List, [], _∷_, _++_, append-nil}
+use mathlib.Core.Option.{Option, some, none, Option·some-injective, Option·none-ne-some}
+use native.Mathlib.Omega.{arith}
+use native.Mathlib.Decide.{ℕ-discrete}
+use borrow.Author.Tests.{leb-true}
+use lib.IntN.{pos, negsuc}
+use lib.Dec.{eqb, leb}
+use lib.ListN.{length, drop, replicate, length-append, length-drop, length-replicate, drop-of-length-le, List·getD-append}
+use Rattle.value.specs.declared.Value.{Value}
+use Rattle.value.specs.declared.Value.the-variants.{Whole, Truth, Err}
+use Rattle.value.specs.Operators.{pick}
+use Rattle.value.specs.Bytes.{InRange, isSome, valueOf, wordAt, stored}
+use Rattle.value.proofs.Words.{value-of-word, word-lt, word-stored, word-before}
+use Rattle.formula.specs.declared.Field.{Field}
+use Rattle.formula.specs.declared.Field.the-variants.{Number, Malformed}
+use Rattle.formula.specs.Sheet.{digitsOf, fieldOf}
+use Rattle.text.specs.Fields.{positive, negative, behindMinus, alone, fieldValue, wordBy}
+use Rattle.text.specs.SetLines.{fieldAt, fieldsWell, fieldBytes}
+use Rattle.text.specs.SetLineLaws.{bytes-length, bytes-more}
+
+-- ---- a field's value is in range
+
+positive-in-range : (f : Field) (v : Value) → positive f ≡ some v → InRange v
+unfolding positive
+positive-in-range (Number n) v e = go (leb n 2147483647) refl e
+  where
+    go : (b : Bool) → leb n 2147483647 ≡ b → pick b (some (Whole (pos n))) none ≡ some v → InRange v
+    go true p q = subst InRange (Option·some-injective (Whole (pos n)) v q) (omega (arith, leb-true n 2147483647 p))
+    go false p q = absurd (Option·none-ne-some v q)
+positive-in-range Malformed v e = absurd (Option·none-ne-some v e)
+
+negative-in-range : (f : Field) (v : Value) → negative f ≡ some v → InRange v
+unfolding negative
+negative-in-range (Number zero) v e = absurd (Option·none-ne-some v e)
+negative-in-range (Number (suc n)) v e = go (leb n 2147483647) refl e
+  where
+    go : (b : Bool) → leb n 2147483647 ≡ b → pick b (some (Whole (negsuc n))) none ≡ some v → InRange v
+    go true p q = subst InRange (Option·some-injective (Whole (negsuc n)) v q) (omega (arith, leb-true n 2147483647 p))
+    go false p q = absurd (Option·none-ne-some v q)
+negative-in-range Malformed v e = absurd (Option·none-ne-some v e)
+
+minus-in-range : (s : List ℕ) (v : Value) → behindMinus s ≡ some v → InRange v
+unfolding behindMinus
+minus-in-range [] v e = absurd (Option·none-ne-some v e)
+minus-in-range (b ∷ s) v e = go (leb 49 b && leb b 57) e
+  where
+    go : (x : Bool) → cond x (negative (digitsOf (b - 48) s)) none ≡ some v → InRange v
+    go true q = negative-in-range (digitsOf (b - 48) s) v q
+    go false q = absurd (Option·none-ne-some v q)
+
+alone-in-range : (s : List ℕ) (u v : Value) → InRange u → alone s u ≡ some v → InRange v
+unfolding alone
+alone-in-range [] u v i e = subst InRange (Option·some-injective u v e) i
+alone-in-range (b ∷ s) u v i e = absurd (Option·none-ne-some v e)
+
+field-in-range : (s : List ℕ) (v : Value) → fieldValue s ≡ some v → InRange v
+unfolding fieldValue
+field-in-range [] v e = absurd (Option·none-ne-some v e)
+field-in-range (b ∷ s) v e = go (λ q. field-in-range s v q) (eqb b 32) (eqb b 84) (eqb b 70) (eqb b 69) (eqb b 45) e
+  where
+    go : (fieldValue s ≡ some v → InRange v) → (x y z u w : Bool)
+        → cond x (fieldValue s) (cond y (alone s (Truth true)) (cond z (alone s (Truth false)) (cond u (alone s Err) (cond w (behindMinus s) (positive (fieldOf (b ∷ s))))))) ≡ some v
+        → InRange v
+    go later true y z u w q = later q
+    go later false true z u w q = alone-in-range s (Truth true) v tt q
+    go later false false true u w q = alone-in-range s (Truth false) v tt q
+    go later false false false true w q = alone-in-range s Err v tt q
+    go later false false false false true q = minus-in-range s v q
+    go later false false false false false q = positive-in-range (fieldOf (b ∷ s)) v q
+
+-- ---- the words of a line's fields
+
+and-left : (a b : Bool) → a && b ≡ true → a ≡ true
+and-left true b e = refl
+and-left false b e = e
+
+and-right : (a b : Bool) → a && b ≡ true → b ≡ true
+and-right true b e = e
+and-right false b e = absurd (false≢true e)
+
+well-word : (o : Option Value) → ((v : Value) → o ≡ some v → InRange v) → isSome o ≡ true → (wordBy o < 1099511627776) × (isSome (valueOf (wordBy o)) ≡ true)
+well-word (some v) r e = let i = r v refl in (word-lt v i, ap isSome (value-of-word v i))
+well-word none r e = absurd (false≢true e)
+
+word-front : (a b : List ℕ) (i : ℕ) → i + 5 ≤ length a → wordAt (a ++ b) i ≡ wordAt a i
+unfolding wordAt
+word-front a b i h =
+    rw (
+      List·getD-append a b 0 i (omega arith),
+      List·getD-append a b 0 (i + 1) (omega arith),
+      List·getD-append a b 0 (i + 2) (omega arith),
+      List·getD-append a b 0 (i + 3) (omega arith),
+      List·getD-append a b 0 (i + 4) (omega arith)
+    ) refl
+
+-- One field's bytes behind those of the fields before it.
+module _ (k : ℕ) (l : List ℕ) where
+  abbrev blank : List ℕ
+  blank = replicate (5 * k + 5) 0
+
+  abbrev before : List ℕ
+  before = fieldBytes k l ++ drop (5 * k) blank
+
+  abbrev word : ℕ
+  word = wordBy (fieldValue (fieldAt l k))
+
+  blanks : length blank ≡ 5 * k + 5
+  blanks = length-replicate (5 * k + 5) 0
+
+  appended : fieldBytes (suc k) l ≡ stored before (5 * k) word
+  appended =
+      let z : k + 1 ≡ suc k = omega arith in
+      sym (bytes-more l blank k before refl (omega (arith, blanks))
+      ∙ ap (λ (r : List ℕ). fieldBytes (k + 1) l ++ r) (drop-of-length-le blank {i = 5 * (k + 1)} (omega (arith, blanks)))
+      ∙ append-nil (fieldBytes (k + 1) l) ∙ ap (λ (i : ℕ). fieldBytes i l) z)
+
+  room : 5 * k + 5 ≤ length before
+  room = omega (arith, length-append (fieldBytes k l) (drop (5 * k) blank), bytes-length k l, length-drop (5 * k) blank, blanks)
+
+  last-word : word < 1099511627776 → wordAt (fieldBytes (suc k) l) (5 * k) ≡ word
+  last-word h = ap (λ (r : List ℕ). wordAt r (5 * k)) appended ∙ word-stored before (5 * k) word room h
+
+  earlier-word : (j : ℕ) → j < k → wordAt (fieldBytes (suc k) l) (5 * j) ≡ wordAt (fieldBytes k l) (5 * j)
+  earlier-word j h =
+      ap (λ (r : List ℕ). wordAt r (5 * j)) appended ∙ word-before before (5 * k) word (5 * j) (omega arith)
+      ∙ word-front (fieldBytes k l) (drop (5 * k) blank) (5 * j) (omega (arith, bytes-length k l))
+
+-- Each of a set line's values is read back from its bytes.
+pub bytes-valued : (k : ℕ) (l : List ℕ) → fieldsWell k l ≡ true → (j : ℕ) → j < k → isSome (valueOf (wordAt (fieldBytes k l) (5 * j))) ≡ true
+unfolding fieldsWell
+bytes-valued zero l e j h = absurd (omega arith)
+bytes-valued (suc k) l e j h = go (ℕ-discrete j k) (λ f. bytes-valued k l f j)
+  where
+    go : Dec (j ≡ k) → (fieldsWell k l ≡ true → j < k → isSome (valueOf (wordAt (fieldBytes k l) (5 * j))) ≡ true)
+        → isSome (valueOf (wordAt (fieldBytes (suc k) l) (5 * j))) ≡ true
+    go (yes q) earlier =
+        let w = well-word (fieldValue (fieldAt l k)) (field-in-range (fieldAt l k)) (and-right (fieldsWell k l) (isSome (fieldValue (fieldAt l k))) e) in
+        ap (λ (i : ℕ). isSome (valueOf (wordAt (fieldBytes (suc k) l) (5 * i)))) q
+        ∙ ap (λ (n : ℕ). isSome (valueOf n)) (last-word k l (w .0)) ∙ w .1
+    go (no n) earlier =
+        ap (λ (i : ℕ). isSome (valueOf i)) (earlier-word k l j (omega arith))
+        ∙ earlier (and-left (fieldsWell k l) (isSome (fieldValue (fieldAt l k))) e) (omega arith)
