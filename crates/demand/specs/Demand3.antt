@@ -32,17 +32,22 @@ own-verdicts-from : (sheet : List ℕ) → verdictOf sheet ≡ Passed → (capac
 own-verdicts-from sheet ok capacity low high start H calls =
     own-verdicts-of-bytes sheet ok capacity low high (calls-agree sheet ok capacity low high) start H calls
 
+-- An accepted start leaves the machine of its sheet as started.
+pub start-stands : (sheet : List ℕ) (capacity : ℕ) (memory : List ℕ) → started sheet capacity memory .answer .refusal ≡ 0
+    → Stands (madeOf (formulaOf sheet)) capacity (started sheet capacity memory .mem) (startOf (formulaOf sheet))
+start-stands sheet capacity memory h =
+    let a = start-accepted sheet capacity memory h in
+    subst (λ (m : List ℕ). Stands (madeOf (formulaOf sheet)) capacity m (startOf (formulaOf sheet))) (sym (a .memory))
+    (started-stands sheet (a .passed) capacity (a .low) (a .high) memory (a .long))
+
 -- What an accepted start leaves, with any bytes behind what it was lent: the calls may be lent more than start was.
 pub demand-3-behind : (sheet : List ℕ) (capacity : ℕ) (memory : List ℕ) → started sheet capacity memory .answer .refusal ≡ 0
     → (rest : List ℕ) (calls : List Call) → OwnVerdicts sheet capacity (started sheet capacity memory .mem ++ rest) calls
 demand-3-behind sheet capacity memory h rest calls =
     let a = start-accepted sheet capacity memory h in
-    let g = madeOf (formulaOf sheet) in
-    let H : Stands g capacity (started sheet capacity memory .mem) (startOf (formulaOf sheet))
-    = subst (λ (m : List ℕ). Stands g capacity m (startOf (formulaOf sheet))) (sym (a .memory))
-    (started-stands sheet (a .passed) capacity (a .low) (a .high) memory (a .long)) in
     own-verdicts-from sheet (a .passed) capacity (a .low) (a .high) (started sheet capacity memory .mem ++ rest)
-    (stands-behind g (made-sound sheet (a .passed)) capacity (started sheet capacity memory .mem) (startOf (formulaOf sheet)) H rest) calls
+    (stands-behind (madeOf (formulaOf sheet)) (made-sound sheet (a .passed)) capacity (started sheet capacity memory .mem) (startOf (formulaOf sheet))
+    (start-stands sheet capacity memory h) rest) calls
 
 -- "Start a machine empty for an accepted sheet, with links holding 1 to 16 tokens. Then the following holds after every list of pushes, single firings, runs and
 -- takes, in any order, with any sets and numbers, refused calls included, where each call gets the machine's memory as the one before left it and nothing else

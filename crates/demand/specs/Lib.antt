@@ -9,5 +9,6 @@ pub mod Agreed
 pub mod Started
 pub mod Demand3
 pub mod Oldest
+pub mod Onward
 pub mod Pushes
 pub mod LesserStarts

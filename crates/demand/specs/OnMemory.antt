@@ -76,7 +76,7 @@ module _ (sheet : List ℕ) (ok : verdictOf sheet ≡ Passed) (capacity : ℕ) (
   abbrev x : Exp
   x = formulaOf sheet
 
-  F : Follows x capacity low high A (startOf x) (memoryAfterAll calls start) (setsPushed calls start) (resultsTaken calls start)
+  pub F : Follows x capacity low high A (startOf x) (memoryAfterAll calls start) (setsPushed calls start) (resultsTaken calls start)
   F = calls-follow x capacity low high A calls start (startOf x) H
 
   abbrev sets : List (List Value)
@@ -94,10 +94,10 @@ module _ (sheet : List ℕ) (ok : verdictOf sheet ≡ Passed) (capacity : ℕ) (
   abstractly : Abstract.OwnVerdicts x capacity (F .calls)
   abstractly = Verdicts.demand-3 sheet ok capacity low high (F .calls)
 
-  as-many-results : length (resultsTaken calls start) ≡ length results
+  pub as-many-results : length (resultsTaken calls start) ≡ length results
   as-many-results = ap length (F .shows) ∙ length-map results (shownTokens x capacity low high A)
 
-  as-many-sets : length (setsPushed calls start) ≡ length sets
+  pub as-many-sets : length (setsPushed calls start) ≡ length sets
   as-many-sets = read-count x capacity low high A (setsPushed calls start) sets (F .reads)
 
   read : (j : ℕ) → j < length sets → setValues (length (inputsOf x)) (getD (setsPushed calls start) j []) ≡ some (getD sets j [])
@@ -148,7 +148,7 @@ module _ (sheet : List ℕ) (ok : verdictOf sheet ≡ Passed) (capacity : ℕ) (
             absurd (omega arith)
         go (no n) = subst (λ d. Able (places capacity) d links) (net-past (madeOf x .operators) i (omega arith)) a
 
-    no-step : (i : ℕ) → stepsOf x capacity (fires i) links ≡ []
+    pub no-step : (i : ℕ) → stepsOf x capacity (fires i) links ≡ []
     unfolding stepsOf
     no-step i = cannot-refused (firing i) (decAble (places capacity) (operatorAt x i) links) (cannot-fire i)
 

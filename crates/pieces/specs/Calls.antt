@@ -1,6 +1,7 @@
 -- Demand 3 over every list of accepted calls, for a graph that the maker made (`Made`) and any capacity of at least one place: the k-th result taken
 -- is what direct evaluation yields for the k-th set pushed, if the evaluation of each of the first k sets ends; and when nothing can fire, every
--- pushed set has been taken or a take is possible. A refused call is no step of the list and a run is its firings.
+-- pushed set has been taken or a take is possible, and with every pushed set taken any whole set can be pushed. A refused call is no step of the
+-- list and a run is its firings.
 -- Assumes besides `Made` that the source is used by push alone and the credit link by push and take alone.
 use Prim.Native.Nat.{ℕ, zero, suc, _<_, _≤_, _+_}
 use mathlib.Core.Path.{_≡_, refl, sym, _∙_, ap, subst}
@@ -15,13 +16,13 @@ use Rattle.value.specs.declared.Value.{Value}
 use Rattle.network.specs.Values.{true-value}
 use Rattle.network.specs.Net.{Token, val, Demand, ask, fire, halt, Links, head, tail, pop, pop-same, pop-other, append, append-same, append-other, Able, appends, act}
 use Rattle.network.specs.Commute.{Never-asks, Not-among, Never-emits}
-use Rattle.network.specs.Ends.{take-demand, collect, machine-take, machine-graph}
+use Rattle.network.specs.Ends.{push-demand, take-demand, collect, machine-push, machine-take, machine-graph}
 use Rattle.network.specs.Uses.{In}
 use Rattle.pieces.specs.Load.{set-link, set-other, set-ext, put, put-off}
-use Rattle.pieces.specs.Piece.{Piece, Means}
-use Rattle.pieces.specs.Sets.{tokens-of, onto}
+use Rattle.pieces.specs.Piece.{Piece, Means, Fits}
+use Rattle.pieces.specs.Sets.{tokens-of, onto, net, drawn-able}
 use Rattle.pieces.specs.Demand3.{tape-of, each-tokens}
-use Rattle.pieces.specs.Made.{Made, Ending, Fitting, E, X, O, demand-results, demand-ready}
+use Rattle.pieces.specs.Made.{Made, Ending, Fitting, E, X, O, demand-results, demand-ready, demand-push-or-take}
 use Rattle.pieces.specs.Tape.{able-set, Step, pushing, firing, taking, sets-of, takes-of, Accepted, after, results-of, Sized, events-of, Source-apart, Follows, asks-take, emits-take, simulated, counts}
 
 -- A firing leaves a link that it does not use as it was.
@@ -124,10 +125,14 @@ module _ (graph : ℕ → Demand) (p k source credit : ℕ) (P : Piece) (M : Mea
   length-take-at (suc n) [] h = absurd (omega arith)
   length-take-at (suc n) (x ∷ xs) h = ap suc (length-take-at n xs (omega arith))
 
+  -- From the start on: the credit link holds a token for each set pushed and not taken.
+  pub untaken-from-start : (w : List Step) → Accepted-calls w → takes-of w + length (standing w credit) ≡ length (sets-of w)
+  untaken-from-start w a =
+      omega (arith, untaken-counted graph credit (P .ins) (P .outs) cap C w started a, ap length credit-empty)
+
   -- No more results are taken than sets were pushed.
   pub taken-at-most-pushed : (w : List Step) → Accepted-calls w → takes-of w ≤ length (sets-of w)
-  taken-at-most-pushed w a =
-      omega (arith, untaken-counted graph credit (P .ins) (P .outs) cap C w started a, ap length credit-empty)
+  taken-at-most-pushed w a = omega (arith, untaken-from-start w a)
 
   -- First half: "For every k up to the number of results taken since that start: if direct evaluation of each of the first k sets pushed ends, the
   -- k-th result taken is exactly what it yields for the k-th set pushed."
@@ -148,10 +153,32 @@ module _ (graph : ℕ → Demand) (p k source credit : ℕ) (P : Piece) (M : Mea
       (agree-first (taken-results w) (each-tokens rss) ag (omega (arith, length-results graph credit (P .ins) (P .outs) cap w started)))
 
   -- a firing that does not use the source, with the tape and without it
-  without-tape : (d : Demand) (q : Links) → Never-asks d source → Never-emits d source → Able cap d (set-link source [] q) → Able cap d q
-  without-tape d q na ne o =
-      subst (Able cap d) (set-ext source (q source) (set-link source [] q) q refl (λ j n. set-other source j [] q n))
-      (able-set cap source (q source) d (set-link source [] q) na ne o)
+  without-tape : (tape : List Token) (d : Demand) (q : Links) → Never-asks d source → Never-emits d source → Able cap d (set-link source tape q) → Able cap d q
+  without-tape tape d q na ne o =
+      subst (Able cap d) (set-ext source (q source) (set-link source tape q) q refl (λ j n. set-other source j tape q n))
+      (able-set cap source (q source) d (set-link source tape q) na ne o)
+
+  -- The events of the calls, from the start with the sets to come on the source.
+  abbrev Can : ℕ → Links → Type 0
+  Can = E graph p k source credit P M eval F cap roomy
+
+  abbrev led : List Step → List Token → Links
+  led w tape = reached Can (X graph p k source credit P M eval F cap roomy) (O graph p k source credit P M eval F cap roomy) (events-of p k w) (set-link source tape started)
+
+  -- What can happen after them, and `rest` is left on the source.
+  module _ (w : List Step) (tape rest : List Token) (there : led w tape ≡ set-link source rest (standing w)) where
+    event-able : (b : ℕ) (d : Demand) → net graph p k source credit P M b ≡ d → Can b (led w tape) → Able cap d (set-link source rest (standing w))
+    event-able b d e en = subst (λ z. Able cap z (set-link source rest (standing w))) e (subst (Can b) there en)
+
+    none-fires : ((a : ℕ) → Able cap (graph a) (standing w) → ⊥) → (b : ℕ) → b ≢ p → b ≢ k → Can b (led w tape) → ⊥
+    none-fires quiet b np nk en =
+        quiet b (without-tape rest (graph b) (standing w) (A .graph-asks b) (A .graph-emits b)
+        (event-able b (graph b) (machine-graph graph p k source credit (P .ins) (P .outs) b np nk) en))
+
+    take-able : Can k (led w tape) → Able cap (take-demand credit (P .outs)) (standing w)
+    take-able en =
+        without-tape rest (take-demand credit (P .outs)) (standing w) (asks-take graph p k source credit (P .ins) (P .outs) cap A) (emits-take graph p k source credit (P .ins) (P .outs) cap A)
+        (event-able k (take-demand credit (P .outs)) (machine-take graph p k source credit (P .ins) (P .outs) (A .push-not-take)) en)
 
   -- Second half: "when nothing can fire, either every pushed set has been taken, or the oldest untaken one has its whole result ready to take."
   pub second-half : (w : List Step) → Sized (P .ins) (sets-of w) → Accepted-calls w → ((a : ℕ) → Able cap (graph a) (standing w) → ⊥) →
@@ -161,19 +188,55 @@ module _ (graph : ℕ → Demand) (p k source credit : ℕ) (P : Piece) (M : Mea
       sim : Follows graph p k source credit (P .ins) (P .outs) cap (events-of p k w) (set-link source (tape-of (sets-of w) []) started) (set-link source [] (standing w)) (taken-results w)
       sim = simulated graph p k source credit (P .ins) (P .outs) cap A w started [] s a
 
-      stuck : (b : ℕ) → b ≢ p → b ≢ k →
-          E graph p k source credit P M eval F cap roomy b
-          (reached (E graph p k source credit P M eval F cap roomy) (X graph p k source credit P M eval F cap roomy) (O graph p k source credit P M eval F cap roomy) (events-of p k w) (set-link source (tape-of (sets-of w) []) started)) → ⊥
-      stuck b np nk en =
-          quiet b (without-tape (graph b) (standing w) (A .graph-asks b) (A .graph-emits b)
-          (subst (λ d. Able cap d (set-link source [] (standing w))) (machine-graph graph p k source credit (P .ins) (P .outs) b np nk)
-          (subst (E graph p k source credit P M eval F cap roomy b) (sim .leads) en)))
-
       go : Dec (length (sets-of w) ≤ takes-of w) → (takes-of w ≡ length (sets-of w)) ⊎ Able cap (take-demand credit (P .outs)) (standing w)
       go (yes le) = inl (omega (arith, taken-at-most-pushed w a))
       go (no n) =
           let c = counts graph p k source credit (P .ins) (P .outs) cap A w started a in
-          inr (without-tape (take-demand credit (P .outs)) (standing w) (asks-take graph p k source credit (P .ins) (P .outs) cap A) (emits-take graph p k source credit (P .ins) (P .outs) cap A)
-          (subst (λ d. Able cap d (set-link source [] (standing w))) (machine-take graph p k source credit (P .ins) (P .outs) (A .push-not-take))
-          (subst (E graph p k source credit P M eval F cap roomy k) (sim .leads)
-          (demand-ready graph p k source credit P M eval F cap roomy (sets-of w) [] (events-of p k w) (fitting (sets-of w) s) (sim .possible) (omega (arith, c .0)) (omega (arith, c .0, c .1)) stuck))))
+          inr (take-able w (tape-of (sets-of w) []) [] (sim .leads)
+          (demand-ready graph p k source credit P M eval F cap roomy (sets-of w) [] (events-of p k w) (fitting (sets-of w) s) (sim .possible) (omega (arith, c .0)) (omega (arith, c .0, c .1))
+          (none-fires w (tape-of (sets-of w) []) [] (sim .leads) quiet)))
+
+  sized-more : (vss : List (List Value)) (v : List Value) → Sized (P .ins) vss → Fits (P .ins) v → Sized (P .ins) (vss ++ (v ∷ []))
+  sized-more [] v s f = (f, tt)
+  sized-more (u ∷ vss) v s f = (s .0, sized-more vss v (s .1) f)
+
+  -- Where nothing can fire and every pushed set has been taken, a push of any whole set is accepted: of the reference for the sets pushed and this one
+  -- something is left, and it is neither a firing nor a take.
+  pub push-when-quiet : (w : List Step) → Sized (P .ins) (sets-of w) → Accepted-calls w → ((a : ℕ) → Able cap (graph a) (standing w) → ⊥) →
+      takes-of w ≡ length (sets-of w) → (v : List Value) → Fits (P .ins) v → Able cap (fire ((credit, val true-value) ∷ onto (P .ins) v) []) (standing w)
+  push-when-quiet w s a quiet all v f =
+      go (demand-push-or-take graph p k source credit P M eval F cap roomy (sets-of w ++ (v ∷ [])) [] (events-of p k w)
+      (fitting (sets-of w ++ (v ∷ [])) (sized-more (sets-of w) v s f)) possible
+      (omega (arith, counts graph p k source credit (P .ins) (P .outs) cap A w started a .0, length-append (sets-of w) (v ∷ [])))
+      (none-fires w tape (tokens-of v ++ []) there quiet))
+    where
+      tape : List Token
+      tape = tape-of (sets-of w ++ (v ∷ [])) []
+
+      same : tape ≡ tape-of (sets-of w) (tokens-of v ++ [])
+      same = tape-append (sets-of w) (v ∷ []) []
+
+      sim : Follows graph p k source credit (P .ins) (P .outs) cap (events-of p k w) (set-link source (tape-of (sets-of w) (tokens-of v ++ [])) started)
+          (set-link source (tokens-of v ++ []) (standing w)) (taken-results w)
+      sim = simulated graph p k source credit (P .ins) (P .outs) cap A w started (tokens-of v ++ []) s a
+
+      possible : Possible Can (X graph p k source credit P M eval F cap roomy) (O graph p k source credit P M eval F cap roomy) (events-of p k w) (set-link source tape started)
+      possible =
+          subst (λ t. Possible Can (X graph p k source credit P M eval F cap roomy) (O graph p k source credit P M eval F cap roomy) (events-of p k w) (set-link source t started)) (sym same)
+          (sim .possible)
+
+      there : led w tape ≡ set-link source (tokens-of v ++ []) (standing w)
+      there = ap (led w) same ∙ sim .leads
+
+      go : Can p (led w tape) ⊎ Can k (led w tape) → Able cap (fire ((credit, val true-value) ∷ onto (P .ins) v) []) (standing w)
+      go (inl en) =
+          without-tape [] (fire ((credit, val true-value) ∷ onto (P .ins) v) []) (standing w) tt
+          (Ne·symm (A .source-no-credit), onto-apart source (P .ins) v (A .source-no-input))
+          (drawn-able cap source (P .ins) v [] (standing w) (λ es. fire ((credit, val true-value) ∷ es) []) f
+          (event-able w tape (tokens-of v ++ []) there p (push-demand source credit (P .ins)) (machine-push graph p k source credit (P .ins) (P .outs)) en))
+      go (inr en) =
+          absurd (omega (
+            arith,
+            untaken-from-start w a,
+            collect-credit cap credit (P .outs) (λ ts. ts) (standing w) (C .credit-no-result) (take-able w tape (tokens-of v ++ []) there en),
+          ))

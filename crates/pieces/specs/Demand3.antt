@@ -11,7 +11,7 @@ use native.Mathlib.Decide.{ℕ-discrete}
 use native.Mathlib.Omega.{arith}
 use Rattle.schedule.specs.Schedules.{Possible, reached, outputs, Diamond, Agree, outputs-agree, possible-append, reached-append, outputs-append}
 use Rattle.schedule.specs.Counts.{count, count-append}
-use Rattle.schedule.specs.Progress.{progress, endless}
+use Rattle.schedule.specs.Progress.{progress, endless, something-left}
 use Rattle.value.specs.declared.Value.{Value}
 use Rattle.network.specs.Values.{true-value}
 use Rattle.network.specs.Net.{Token, val, Demand, Links, tail, Able, act, label}
@@ -323,3 +323,26 @@ module _ (graph : ℕ → Demand) (p k source credit : ℕ) (P : Piece) (M : Mea
             by (inl z) = absurd (omega (arith, r .takes))
             by (inr z) = pick z
         go (inr r) = pick (endless Enabled Next Output Commutes p u (r .w) q ru (r .runs) (omega (arith, r .few)) (omega (arith, r .many)))
+
+    -- If the tape holds a set that was not pushed yet, and nothing can fire, then a push or a take is possible.
+    pub push-or-take : (vss : List (List Value)) (tail : List Token) (σ : Load) (b : Links) (u : List ℕ) → Tried (suc (length u)) vss → P .Idle σ → Clear (Region P) b → b credit ≡ [] →
+        Possible Enabled Next Output u (Between σ (tape-of vss tail) b) → count p u < length vss →
+        ((a : ℕ) → a ≢ p → a ≢ k → Enabled a (reached Enabled Next Output u (Between σ (tape-of vss tail) b)) → ⊥) →
+        Enabled p (reached Enabled Next Output u (Between σ (tape-of vss tail) b)) ⊎ Enabled k (reached Enabled Next Output u (Between σ (tape-of vss tail) b))
+    push-or-take vss tail σ b u t i cl ce ru lt stuck = go (tried (suc (length u)) vss tail σ b t i cl ce)
+      where
+        q : Links
+        q = Between σ (tape-of vss tail) b
+
+        pick : (e : ℕ) × Enabled e (reached Enabled Next Output u q) → Enabled p (reached Enabled Next Output u q) ⊎ Enabled k (reached Enabled Next Output u q)
+        pick (e, h) = by (ℕ-discrete e p) (ℕ-discrete e k)
+          where
+            by : Dec (e ≡ p) → Dec (e ≡ k) → Enabled p (reached Enabled Next Output u q) ⊎ Enabled k (reached Enabled Next Output u q)
+            by (yes z) d = inl (subst (λ a. Enabled a (reached Enabled Next Output u q)) z h)
+            by (no n) (yes z) = inr (subst (λ a. Enabled a (reached Enabled Next Output u q)) z h)
+            by (no n) (no m) = absurd (stuck e n m h)
+
+        go : ((rss : List (List Token)) × (q′ : Links) × (length rss ≡ length vss) × Reference q rss q′) ⊎ Long-reference q (length vss) (suc (length u)) →
+            Enabled p (reached Enabled Next Output u q) ⊎ Enabled k (reached Enabled Next Output u q)
+        go (inl (rss, q′, e, r)) = pick (something-left Enabled Next Output Commutes p u (r .w) q ru (r .runs) (inl (omega (arith, r .pushes))))
+        go (inr r) = pick (something-left Enabled Next Output Commutes p u (r .w) q ru (r .runs) (inr (omega (arith, r .many))))

@@ -13,7 +13,7 @@ use Rattle.network.specs.Commute.{Free}
 use Rattle.pieces.specs.Load.{Load}
 use Rattle.pieces.specs.Piece.{Piece, Means, some-of, Fits}
 use Rattle.pieces.specs.Sets.{net, Bench}
-use Rattle.pieces.specs.Demand3.{Enabled, Next, Output, Between, tape-of, each-tokens, Evaluated, Tried, results, ready}
+use Rattle.pieces.specs.Demand3.{Enabled, Next, Output, Between, tape-of, each-tokens, Evaluated, Tried, results, ready, push-or-take}
 
 -- For one accepted formula: the graph `graph` with the numbers of push and take, of the tape's link and of the credit's; its piece, with the schedule lemma
 -- (in `bench`); that operators commute (`free`, from one taker and one putter a link); and that the piece means what the evaluator gives.
@@ -79,3 +79,10 @@ module _ (graph : ℕ → Demand) (p k source credit : ℕ) (P : Piece) (M : Mea
         count k u < length vss → ((a : ℕ) → a ≢ p → a ≢ k → E a (reached E X O u (Start (tape-of vss tail))) → ⊥) → E k (reached E X O u (Start (tape-of vss tail)))
     demand-ready vss tail u f ru le lt stuck =
         ready graph p k source credit P M (F .bench) cap roomy (F .free) vss tail (F .fresh) (λ l. []) u (tries (suc (length u)) vss f) (F .fresh-idle) (λ l d. refl) refl ru le lt stuck
+
+    -- With a set of `vss` not pushed yet: where nothing can fire, a push or a take is possible.
+    pub demand-push-or-take : (vss : List (List Value)) (tail : List Token) (u : List ℕ) → Fitting vss → Possible E X O u (Start (tape-of vss tail)) → count p u < length vss →
+        ((a : ℕ) → a ≢ p → a ≢ k → E a (reached E X O u (Start (tape-of vss tail))) → ⊥) →
+        E p (reached E X O u (Start (tape-of vss tail))) ⊎ E k (reached E X O u (Start (tape-of vss tail)))
+    demand-push-or-take vss tail u f ru lt stuck =
+        push-or-take graph p k source credit P M (F .bench) cap roomy (F .free) vss tail (F .fresh) (λ l. []) u (tries (suc (length u)) vss f) (F .fresh-idle) (λ l d. refl) refl ru lt stuck

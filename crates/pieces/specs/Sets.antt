@@ -60,6 +60,19 @@ draw-does cap source (i ∷ is) (v ∷ vs) rs b k f =
           ∙ ap (act (draw source is (λ es. k ((i, val v) ∷ es)))) po ∙ h .1,
     )
 
+-- Where a push of the tape's next set can be made, so can the push of that set as given.
+pub drawn-able : (cap : ℕ → ℕ) (source : ℕ) (is : List ℕ) (vs : List Value) (rs : List Token) (b : Links) (k : List (ℕ × Token) → Demand) → Fits is vs →
+    Able cap (draw source is k) (set-link source (tokens-of vs ++ rs) b) → Able cap (k (onto is vs)) (set-link source rs b)
+drawn-able cap source [] [] rs b k f o = o
+drawn-able cap source [] (v ∷ vs) rs b k f o = absurd f
+drawn-able cap source (i ∷ is) [] rs b k f o = absurd f
+drawn-able cap source (i ∷ is) (v ∷ vs) rs b k f o =
+    let g : head (set-link source (val v ∷ (tokens-of vs ++ rs)) b source) ≡ val v = ap head (set-same source (val v ∷ (tokens-of vs ++ rs)) b) in
+    let po : pop source (set-link source (val v ∷ (tokens-of vs ++ rs)) b) ≡ set-link source (tokens-of vs ++ rs) b = pop-set-link source (val v) (tokens-of vs ++ rs) b in
+    drawn-able cap source is vs rs b (λ es. k ((i, val v) ∷ es)) f
+    (subst (λ q. Able cap (draw source is (λ es. k ((i, val v) ∷ es))) q) po
+    (subst (λ u. Able cap (draw source is (λ es. k ((i, u) ∷ es))) (pop source (set-link source (val v ∷ (tokens-of vs ++ rs)) b))) g (o .1)))
+
 set-clear : (l : ℕ) (q : Links) → q l ≡ [] → set-link l [] q ≡ q
 set-clear l q e = set-ext l [] q q e (λ j ne. refl)
 

@@ -32,6 +32,20 @@ module _ {S O : Type 0} (enabled : ℕ → S → Type 0) (next : ℕ → S → S
       go [] e r = absurd (omega (arith, length-remaining u w, ap length e))
       go (b ∷ v) e r = (b, remaining-head-differs push b u w v e le, r .0)
 
+  -- A reference that has more of some event than the run, or is longer: something can happen.
+  pub something-left : (a : ℕ) (u w : List ℕ) (s : S) → Possible enabled next output u s → Possible enabled next output w s →
+      (count a u < count a w) ⊎ (length u < length w) → (e : ℕ) × enabled e (reached enabled next output u s)
+  something-left a u w s ru rw′ more = go (remaining u w) refl (remaining-possible enabled next output D u w s ru rw′)
+    where
+      done : remaining u w ≡ [] → (count a u < count a w) ⊎ (length u < length w) → ⊥
+      done e (inl lt) = omega (arith, sym (count-remaining a u w) ∙ ap (count a) e)
+      done e (inr lt) = omega (arith, length-remaining u w, ap length e)
+
+      go : (v : List ℕ) → remaining u w ≡ v → Possible enabled next output v (reached enabled next output u s) →
+          (e : ℕ) × enabled e (reached enabled next output u s)
+      go [] e r = absurd (done e more)
+      go (b ∷ v) e r = (b, r .0)
+
   -- Nothing can happen.
   abbrev pub Still : S → Type 0
   Still s = (e : ℕ) → enabled e s → ⊥

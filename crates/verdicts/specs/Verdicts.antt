@@ -1,5 +1,5 @@
 -- Demand 3 on the abstract machine: "A beacon's verdict comes from its own readings and nobody else's." For every accepted sheet, every capacity
--- from 1 on and every list of calls (Running), both halves. Rests on the residual and the pieces (pieces/specs/Calls), on what the maker owes (Owed) and on
+-- from 1 on and every list of calls (Running), both halves; and that a push is accepted when nothing can fire and every set is taken. Rests on the residual and the pieces (pieces/specs/Calls), on what the maker owes (Owed) and on
 -- the laws of the calls. Assumes the verdict Passed and one place a link, nothing else.
 use Prim.Native.Nat.{ℕ, zero, suc, _+_, _≤_, _<_}
 use mathlib.Core.Path.{_≡_, refl, sym, ap, subst, _∙_}
@@ -17,14 +17,15 @@ use Rattle.formula.specs.Widths.{width}
 use Rattle.formula.specs.Count.{countE}
 use Rattle.formula.specs.Admitted.{AdmittedE}
 use Rattle.formula.specs.Tests.{verdictOf}
-use Rattle.network.specs.Net.{Token, Able}
+use Rattle.network.specs.Values.{true-value}
+use Rattle.network.specs.Net.{Token, val, Demand, fire, Links, Able}
 use Rattle.network.specs.Ends.{take-demand, capacities-one}
 use Rattle.pieces.specs.Load.{put}
-use Rattle.pieces.specs.Sets.{tokens-of}
+use Rattle.pieces.specs.Sets.{tokens-of, onto}
 use Rattle.pieces.specs.Demand3.{each-tokens}
 use Rattle.pieces.specs.Made.{Ending}
 use Rattle.pieces.specs.Tape.{Step, taking, sets-of, takes-of, Accepted, after, results-of, Sized}
-use Rattle.pieces.specs.Calls.{first-half, second-half, taken-at-most-pushed}
+use Rattle.pieces.specs.Calls.{first-half, second-half, untaken-from-start, push-when-quiet}
 use Rattle.graph.specs.Translation.{madeOf}
 use Rattle.wiring.specs.Machine.{netOf}
 use Rattle.wiring.specs.FormulaCounts.{made-operators, made-links-bound}
@@ -32,7 +33,7 @@ use Rattle.wiring.specs.MadeGraph.{pushLinks}
 use Rattle.verdicts.specs.Admitting.{accepted-admitted, accepted-operators}
 use Rattle.verdicts.specs.Results.{resultOf, EndsWith, EachEnds, one-result}
 use Rattle.verdicts.specs.Owed.{pushNumber, takeNumber, sourceLink, creditLink, pieceOf, meansOf, evaluation, result-width, results-are, inputs-are, input-count, owed, source-is-apart, credit-is-apart}
-use Rattle.verdicts.specs.Running.{places, operatorAt, withTrigger, takeOf, startOf, decAble, Call, fires, takes, afterSteps, handed, accept, stepsOf, history, standing, pushed, taken, OwnVerdicts}
+use Rattle.verdicts.specs.Running.{places, operatorAt, withTrigger, pushOf, takeOf, startOf, decAble, Call, fires, takes, afterSteps, handed, accept, stepsOf, history, standing, pushed, taken, OwnVerdicts}
 use Rattle.verdicts.specs.RunningLaws.{Made-in-turn, calls-made, Whole-sets, calls-whole, triggering, triggered-sets, steps-accepted, steps-after, steps-handed, steps-sets, steps-takes, handed-count, trigger-off, Each-whole, sets-whole, first-whole, first-triggered, sets-sized}
 
 refused-cannot : {A : Type 0} (s : Step) (d : Dec A) → accept d s ≡ [] → A → ⊥
@@ -123,14 +124,16 @@ module _ (x : Exp) (h : AdmittedE x) (few : countE x .operators ≤ 1024) (capac
   pushed-count : (w : List Step) → length (sets-of (map (triggering x capacity) w)) ≡ length (sets-of w)
   pushed-count w = ap length (steps-sets x capacity w) ∙ length-triggered (sets-of w)
 
-  no-more-taken : (w : List Step) → Made-in-turn x capacity w (startOf x) → length (handed x w (startOf x)) ≤ length (sets-of w)
-  no-more-taken w a =
+  -- The credit link holds a token for each set untaken.
+  untaken-here : (w : List Step) → Made-in-turn x capacity w (startOf x) → length (handed x w (startOf x)) + length (afterSteps x w (startOf x) creditLink) ≡ length (sets-of w)
+  untaken-here w a =
       omega (
         arith,
         handed-count x capacity w (startOf x),
         steps-takes x capacity w,
         pushed-count w,
-        taken-at-most-pushed (netOf (madeOf x .operators)) pushNumber takeNumber sourceLink creditLink (pieceOf x h) (meansOf x h) (evaluation x h) (owed x h few) (places capacity) roomy
+        ap (λ (q : Links). length (q creditLink)) (after-here w),
+        untaken-from-start (netOf (madeOf x .operators)) pushNumber takeNumber sourceLink creditLink (pieceOf x h) (meansOf x h) (evaluation x h) (owed x h few) (places capacity) roomy
             (source-is-apart x h few (places capacity)) (credit-is-apart x h few (places capacity)) (map (triggering x capacity) w) (accepted-here w a),
       )
 
@@ -150,6 +153,22 @@ module _ (x : Exp) (h : AdmittedE x) (few : countE x .operators ≤ 1024) (capac
       go (inr o) =
           inr (subst (λ (os : List ℕ). Able (places capacity) (take-demand creditLink os) (afterSteps x w (startOf x))) (results-are x h)
           (subst (Able (places capacity) (take-demand creditLink (pieceOf x h .outs))) (after-here w) o))
+
+  quiet-push : (w : List Step) → Made-in-turn x capacity w (startOf x) → Whole-sets x capacity w
+      → ((a : ℕ) → Able (places capacity) (operatorAt x a) (afterSteps x w (startOf x)) → ⊥)
+      → length (handed x w (startOf x)) ≡ length (sets-of w) → (v : List Value) → length v ≡ madeOf x .inputs
+      → Able (places capacity) (pushOf x v) (afterSteps x w (startOf x))
+  quiet-push w a f quiet all v e =
+      subst (λ (is : List ℕ). Able (places capacity) (onLinks is) (afterSteps x w (startOf x))) (inputs-are x h)
+      (subst (Able (places capacity) (onLinks (pieceOf x h .ins))) (after-here w)
+      (push-when-quiet (netOf (madeOf x .operators)) pushNumber takeNumber sourceLink creditLink (pieceOf x h) (meansOf x h) (evaluation x h) (owed x h few) (places capacity) roomy
+      (source-is-apart x h few (places capacity)) (credit-is-apart x h few (places capacity)) (map (triggering x capacity) w) (sized-here w f) (accepted-here w a)
+      (λ b o. quiet b (subst (Able (places capacity) (operatorAt x b)) (after-here w) o))
+      (omega (arith, handed-count x capacity w (startOf x), steps-takes x capacity w, pushed-count w))
+      (withTrigger (madeOf x .triggered) v) (sets-sized x capacity (pieceOf x h .ins) ports (v ∷ []) (e, tt) .0)))
+    where
+      onLinks : List ℕ → Demand
+      onLinks is = fire ((creditLink, val true-value) ∷ onto is (withTrigger (madeOf x .triggered) v)) []
 
 -- ---- results one by one
 
@@ -203,8 +222,12 @@ module _ (s : List ℕ) (accepted : verdictOf s ≡ passed) (capacity : ℕ) (ro
       → EachEnds (formulaOf s) (take k (pushed (formulaOf s) capacity calls)) rss → take k (taken (formulaOf s) capacity calls) ≡ each-tokens rss
   first-verdicts k l rss e = first-results x admitted few capacity room (history x capacity calls) made sets k l rss e
 
+  -- The credit link counts the sets pushed and not taken.
+  pub untaken-counted : length (taken (formulaOf s) capacity calls) + length (standing (formulaOf s) capacity calls creditLink) ≡ length (pushed (formulaOf s) capacity calls)
+  untaken-counted = untaken-here x admitted few capacity room (history x capacity calls) made
+
   were-pushed : length (taken x capacity calls) ≤ length (pushed x capacity calls)
-  were-pushed = no-more-taken x admitted few capacity room (history x capacity calls) made
+  were-pushed = omega (arith, untaken-counted)
 
   own-verdict : (k : ℕ) → k < length (taken x capacity calls) → ((j : ℕ) → j ≤ k → (r : List Value) × EndsWith x (getD (pushed x capacity calls) j []) r)
       → (r : List Value) → EndsWith x (getD (pushed x capacity calls) k []) r → getD (taken x capacity calls) k [] ≡ tokens-of r
@@ -214,17 +237,25 @@ module _ (s : List ℕ) (accepted : verdictOf s ≡ passed) (capacity : ℕ) (ro
       tokens-at k (taken x capacity calls) (g .0) l (first-verdicts (suc k) l (g .0) (g .1))
       ∙ ap tokens-of (one-result x (getD (pushed x capacity calls) k []) (getD (g .0) k []) r (ends-at x k (pushed x capacity calls) (g .0) many (g .1)) e)
 
+  none-able : ((a : ℕ) → stepsOf x capacity (fires a) (standing x capacity calls) ≡ []) → (a : ℕ) → Able (places capacity) (operatorAt x a) (standing x capacity calls) → ⊥
+  unfolding stepsOf
+  none-able quiet a = refused-cannot _ (decAble (places capacity) (operatorAt x a) (standing x capacity calls)) (quiet a)
+
   ready-when-quiet : ((a : ℕ) → stepsOf x capacity (fires a) (standing x capacity calls) ≡ [])
       → (length (taken x capacity calls) ≡ length (pushed x capacity calls)) ⊎ (stepsOf x capacity takes (standing x capacity calls) ≡ taking ∷ [])
   unfolding stepsOf
-  ready-when-quiet quiet =
-      go (quiet-ready x admitted few capacity room (history x capacity calls) made sets
-      (λ a. refused-cannot _ (decAble (places capacity) (operatorAt x a) (standing x capacity calls)) (quiet a)))
+  ready-when-quiet quiet = go (quiet-ready x admitted few capacity room (history x capacity calls) made sets (none-able quiet))
     where
       go : (length (taken x capacity calls) ≡ length (pushed x capacity calls)) ⊎ Able (places capacity) (takeOf x) (standing x capacity calls)
           → (length (taken x capacity calls) ≡ length (pushed x capacity calls)) ⊎ (accept (decAble (places capacity) (takeOf x) (standing x capacity calls)) taking ≡ taking ∷ [])
       go (inl e) = inl e
       go (inr o) = inr (can-accepted taking (decAble (places capacity) (takeOf x) (standing x capacity calls)) o)
+
+  -- When nothing can fire and every pushed set has been taken, a push of any set with a value for each input can be made.
+  pub pushable-when-quiet : ((a : ℕ) → stepsOf (formulaOf s) capacity (fires a) (standing (formulaOf s) capacity calls) ≡ [])
+      → length (taken (formulaOf s) capacity calls) ≡ length (pushed (formulaOf s) capacity calls) → (v : List Value) → length v ≡ madeOf (formulaOf s) .inputs
+      → Able (places capacity) (pushOf (formulaOf s) v) (standing (formulaOf s) capacity calls)
+  pushable-when-quiet quiet all v e = quiet-push x admitted few capacity room (history x capacity calls) made sets (none-able quiet) all v e
 
 -- "A beacon's verdict comes from its own readings and nobody else's. Start a machine empty for an accepted sheet, with links holding 1 to 16 tokens. Then
 -- the following holds after every list of pushes, single firings, runs and takes, in any order, with any sets and numbers, refused calls included".
