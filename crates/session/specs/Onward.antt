@@ -37,6 +37,7 @@ use Rattle.demand.specs.Started.{start-accepted}
 use Rattle.demand.specs.Agreed.{calls-agree}
 use Rattle.demand.specs.FollowAll.{calls-follow}
 use Rattle.demand.specs.Demand3.{demand-3}
+use Rattle.demand.specs.Onward.{push-accepted-when-still}
 use Rattle.text.specs.PrintLaws.{line-length}
 use Rattle.session.specs.Passes.{Fed, fed, feeding, takenFrom, lineBy, Drained, drained, withLine, draining, drainedOf, Pass, passOf, remainingAfter}
 use Rattle.session.specs.PassLaws.{line-handed, drain-more, remaining-plain, remaining-refused}
@@ -165,104 +166,101 @@ module _ (sheet : List ℕ) (capacity : ℕ) (memory : List ℕ) (h : started sh
       ap (λ (z : List ℕ). fired z i .answer .refusal) (take-length m)
       ∙ ap (λ (o : Outcome). o .answer .refusal) (fired-idle m st i (lt-ltb i (operatorsOf m) l) (still-quiet m (sizeIn m) (operatorsOf m) e i l))
 
-  module _ (push-goes : (calls : List Call) → Still (memoryAfterAll calls start) → length (resultsTaken calls start) ≡ length (setsPushed calls start)
-      → (lent : ℕ) (set : List ℕ) → need (sizeOf capacity) ≤ lent → setOk (inputsOf (memoryAfterAll calls start)) set ≡ true
-      → answerOf (push lent set) (memoryAfterAll calls start) .refusal ≡ 0) where
-    -- Where nothing can fire, a set can be taken, or every set is taken and the next could be pushed.
-    module _ (m : List ℕ) (s r : ℕ) (R : Reached start m s r) (st : stillAt m (sizeIn m) (operatorsOf m) ≡ true) where
-      here : standing m ≡ 0
-      here = subst (λ (z : List ℕ). standing z ≡ 0) (R .memory) (good-now (R .calls))
+  -- Where nothing can fire, a set can be taken, or every set is taken and the next could be pushed.
+  module _ (m : List ℕ) (s r : ℕ) (R : Reached start m s r) (st : stillAt m (sizeIn m) (operatorsOf m) ≡ true) where
+    here : standing m ≡ 0
+    here = subst (λ (z : List ℕ). standing z ≡ 0) (R .memory) (good-now (R .calls))
 
-      long : need (sizeOf capacity) ≤ length m
-      long = subst (λ (z : List ℕ). need (sizeOf capacity) ≤ length z) (R .memory) (stands-now (R .calls) .1 .long)
+    long : need (sizeOf capacity) ≤ length m
+    long = subst (λ (z : List ℕ). need (sizeOf capacity) ≤ length z) (R .memory) (stands-now (R .calls) .1 .long)
 
-      still : Still (memoryAfterAll (R .calls) start)
-      still = subst Still (sym (R .memory)) (still-now m here st)
+    still : Still (memoryAfterAll (R .calls) start)
+    still = subst Still (sym (R .memory)) (still-now m here st)
 
-      pushes : r ≡ s → (t : List ℕ) → setOk (madeOf x .inputs) t ≡ true → pushed m t .answer .refusal ≡ 0
-      unfolding answerOf
-      pushes e t w =
-          let k : inputsOf (memoryAfterAll (R .calls) start) ≡ madeOf x .inputs = stands-now (R .calls) .1 .inputs-are in
-          let p = push-goes (R .calls) still (R .results-are ∙ e ∙ sym (R .sets-are)) (length m) t long (rw k w) in
-          ap (λ (z : List ℕ). pushed z t .answer .refusal) (sym (ap {B = List ℕ} (λ z. z) (take-length m)))
-          ∙ rw (R .memory) at p
+    pushes : r ≡ s → (t : List ℕ) → setOk (madeOf x .inputs) t ≡ true → pushed m t .answer .refusal ≡ 0
+    unfolding answerOf
+    pushes e t w =
+        let k : inputsOf (memoryAfterAll (R .calls) start) ≡ madeOf x .inputs = stands-now (R .calls) .1 .inputs-are in
+        let p = push-accepted-when-still sheet capacity memory h (R .calls) still (R .results-are ∙ e ∙ sym (R .sets-are)) (length m) t long (rw k w) in
+        ap (λ (z : List ℕ). pushed z t .answer .refusal) (sym (ap {B = List ℕ} (λ z. z) (take-length m)))
+        ∙ rw (R .memory) at p
 
-      takes : (r ≡ s) ⊎ (takenFrom m .answer .refusal ≡ 0)
-      unfolding answerOf takenFrom
-      takes = go (demand-3 sheet capacity memory h (R .calls) .ready still)
-        where
-          go : (length (resultsTaken (R .calls) start) ≡ length (setsPushed (R .calls) start))
-              ⊎ ((lent : ℕ) (out : List ℕ) → need (sizeOf capacity) ≤ lent → 80 ≤ length out → answerOf (take lent out) (memoryAfterAll (R .calls) start) .refusal ≡ 0)
-              → (r ≡ s) ⊎ (takenFrom m .answer .refusal ≡ 0)
-          go (inl e) = inl (sym (R .results-are) ∙ e ∙ R .sets-are)
-          go (inr f) =
-              let p = f (length m) (replicate 80 0) long (omega (arith, length-replicate {A = ℕ} 80 0)) in
-              inr (ap (λ (z : List ℕ). taken z (replicate 80 0) .answer .refusal) (sym (take-length m)) ∙ (rw (R .memory) at p))
+    takes : (r ≡ s) ⊎ (takenFrom m .answer .refusal ≡ 0)
+    unfolding answerOf takenFrom
+    takes = go (demand-3 sheet capacity memory h (R .calls) .ready still)
+      where
+        go : (length (resultsTaken (R .calls) start) ≡ length (setsPushed (R .calls) start))
+            ⊎ ((lent : ℕ) (out : List ℕ) → need (sizeOf capacity) ≤ lent → 80 ≤ length out → answerOf (take lent out) (memoryAfterAll (R .calls) start) .refusal ≡ 0)
+            → (r ≡ s) ⊎ (takenFrom m .answer .refusal ≡ 0)
+        go (inl e) = inl (sym (R .results-are) ∙ e ∙ R .sets-are)
+        go (inr f) =
+            let p = f (length m) (replicate 80 0) long (omega (arith, length-replicate {A = ℕ} 80 0)) in
+            inr (ap (λ (z : List ℕ). taken z (replicate 80 0) .answer .refusal) (sym (take-length m)) ∙ (rw (R .memory) at p))
 
-    -- ---- one repetition
+  -- ---- one repetition
 
-    module _ (n : ℕ) (rest : List (List ℕ)) (m : List ℕ) (left : ℕ) (U : Underway n rest m) where
-      abbrev f : Fed
-      f = feeding rest m
+  module _ (n : ℕ) (rest : List (List ℕ)) (m : List ℕ) (left : ℕ) (U : Underway n rest m) where
+    abbrev f : Fed
+    f = feeding rest m
 
-      abbrev a : Outcome
-      a = ran (f .mem) left
+    abbrev a : Outcome
+    a = ran (f .mem) left
 
-      abbrev d : Drained
-      d = drainedOf (a .mem)
+    abbrev d : Drained
+    d = drainedOf (a .mem)
 
-      F : FeedReached start (madeOf x .inputs) rest m (U .sets) (U .results) f
-      F = feed-reached start (madeOf x .inputs) rest m (U .sets) (U .results) (U .reached) (U .whole)
+    F : FeedReached start (madeOf x .inputs) rest m (U .sets) (U .results) f
+    F = feed-reached start (madeOf x .inputs) rest m (U .sets) (U .results) (U .reached) (U .whole)
 
-      A : Reached start (a .mem) (U .sets + F .more) (U .results)
-      A = after-run start (f .mem) (U .sets + F .more) (U .results) (F .reached) left
+    A : Reached start (a .mem) (U .sets + F .more) (U .results)
+    A = after-run start (f .mem) (U .sets + F .more) (U .results) (F .reached) left
 
-      D : Reached start (d .mem) (U .sets + F .more) (U .results + d .count)
-      D = drained-reached start (madeOf x .inputs) (a .mem) (U .sets + F .more) (U .results) A
+    D : Reached start (d .mem) (U .sets + F .more) (U .results + d .count)
+    D = drained-reached start (madeOf x .inputs) (a .mem) (U .sets + F .more) (U .results) A
 
-      -- No more is taken than was pushed.
-      few-taken : U .results + d .count ≤ U .sets + F .more
-      few-taken = omega (arith, demand-3 sheet capacity memory h (D .calls) .none-invented, D .results-are, D .sets-are)
+    -- No more is taken than was pushed.
+    few-taken : U .results + d .count ≤ U .sets + F .more
+    few-taken = omega (arith, demand-3 sheet capacity memory h (D .calls) .none-invented, D .results-are, D .sets-are)
 
-      underway-on : Underway (n - d .count) (f .rest) (d .mem)
-      underway-on =
-          record {
-            sets = U .sets + F .more;
-            results = U .results + d .count;
-            reached = D;
-            counts = omega (arith, U .counts, F .all-sets, few-taken);
-            whole = F .whole;
-          }
+    underway-on : Underway (n - d .count) (f .rest) (d .mem)
+    underway-on =
+        record {
+          sets = U .sets + F .more;
+          results = U .results + d .count;
+          reached = D;
+          counts = omega (arith, U .counts, F .all-sets, few-taken);
+          whole = F .whole;
+        }
 
-      C : RunCounts (f .mem) left
-      C = run-counts (f .mem) left (subst (λ (z : List ℕ). standing z ≡ 0) (F .reached .memory) (good-now (F .reached .calls)))
+    C : RunCounts (f .mem) left
+    C = run-counts (f .mem) left (subst (λ (z : List ℕ). standing z ≡ 0) (F .reached .memory) (good-now (F .reached .calls)))
 
-      -- A run without a firing leaves the memory as it was.
-      unfired : a .answer .count ≡ 0 → a .mem ≡ f .mem
-      unfired e = subst (λ (c : ℕ). Firings (sizeIn (f .mem)) (operatorsOf (f .mem)) c (f .mem) (a .mem)) e (C .between)
+    -- A run without a firing leaves the memory as it was.
+    unfired : a .answer .count ≡ 0 → a .mem ≡ f .mem
+    unfired e = subst (λ (c : ℕ). Firings (sizeIn (f .mem)) (operatorsOf (f .mem)) c (f .mem) (a .mem)) e (C .between)
 
-      takes-one : 0 < n → a .answer .refusal ≡ 0 → a .answer .count ≡ 0 → 1 ≤ d .count
-      takes-one p e z = go (takes (f .mem) (U .sets + F .more) (U .results) (F .reached) st)
-        where
-          st : stillAt (f .mem) (sizeIn (f .mem)) (operatorsOf (f .mem)) ≡ true
-          st = subst (λ (y : List ℕ). stillAt y (sizeIn (f .mem)) (operatorsOf (f .mem)) ≡ true) (unfired z) (C .accepted e)
+    takes-one : 0 < n → a .answer .refusal ≡ 0 → a .answer .count ≡ 0 → 1 ≤ d .count
+    takes-one p e z = go (takes (f .mem) (U .sets + F .more) (U .results) (F .reached) st)
+      where
+        st : stillAt (f .mem) (sizeIn (f .mem)) (operatorsOf (f .mem)) ≡ true
+        st = subst (λ (y : List ℕ). stillAt y (sizeIn (f .mem)) (operatorsOf (f .mem)) ≡ true) (unfired z) (C .accepted e)
 
-          none-pushed : (ts : List (List ℕ)) → f .rest ≡ ts → EachWhole (madeOf x .inputs) ts → U .results ≡ U .sets + F .more → 1 ≤ d .count
-          none-pushed [] q w i = absurd (omega (arith, i, U .counts, F .all-sets, ap length q))
-          none-pushed (t ∷ ts) q w i =
-              absurd (F .stopped t ts q (pushes (f .mem) (U .sets + F .more) (U .results) (F .reached) st i t (w .0)))
+        none-pushed : (ts : List (List ℕ)) → f .rest ≡ ts → EachWhole (madeOf x .inputs) ts → U .results ≡ U .sets + F .more → 1 ≤ d .count
+        none-pushed [] q w i = absurd (omega (arith, i, U .counts, F .all-sets, ap length q))
+        none-pushed (t ∷ ts) q w i =
+            absurd (F .stopped t ts q (pushes (f .mem) (U .sets + F .more) (U .results) (F .reached) st i t (w .0)))
 
-          go : (U .results ≡ U .sets + F .more) ⊎ (takenFrom (f .mem) .answer .refusal ≡ 0) → 1 ≤ d .count
-          go (inl i) = none-pushed (f .rest) refl (F .whole) i
-          go (inr i) = drains-one (a .mem) (ap (λ (y : List ℕ). takenFrom y .answer .refusal) (unfired z) ∙ i)
+        go : (U .results ≡ U .sets + F .more) ⊎ (takenFrom (f .mem) .answer .refusal ≡ 0) → 1 ≤ d .count
+        go (inl i) = none-pushed (f .rest) refl (F .whole) i
+        go (inr i) = drains-one (a .mem) (ap (λ (y : List ℕ). takenFrom y .answer .refusal) (unfired z) ∙ i)
 
-      -- Sets to take and firings left, together, are fewer.
-      less-to-do : 0 < n → a .answer .refusal ≡ 0 → n - d .count + (left - a .answer .count) < n + left
-      less-to-do p e = go (ℕ-discrete (a .answer .count) 0)
-        where
-          go : Dec (a .answer .count ≡ 0) → n - d .count + (left - a .answer .count) < n + left
-          go (yes z) = omega (arith, takes-one p e z, z)
-          go (no z) = omega (arith, z, C .lent)
+    -- Sets to take and firings left, together, are fewer.
+    less-to-do : 0 < n → a .answer .refusal ≡ 0 → n - d .count + (left - a .answer .count) < n + left
+    less-to-do p e = go (ℕ-discrete (a .answer .count) 0)
+      where
+        go : Dec (a .answer .count ≡ 0) → n - d .count + (left - a .answer .count) < n + left
+        go (yes z) = omega (arith, takes-one p e z, z)
+        go (no z) = omega (arith, z, C .lent)
 
 -- ---- the loop, over or underway
 
@@ -289,8 +287,8 @@ module _ (n : ℕ) (rest : List (List ℕ)) (m : List ℕ) (left : ℕ) where
           let k = remaining-plain rest m left n e in
           record {
             going =
-                subst (λ (i : ℕ). Going i (p .rest) (p .mem)) (sym k) (on sheet capacity memory i (underway-on sheet capacity memory i ? n rest m left U));
-            less = omega (arith, k, less-to-do sheet capacity memory i ? n rest m left U h e);
+                subst (λ (i : ℕ). Going i (p .rest) (p .mem)) (sym k) (on sheet capacity memory i (underway-on sheet capacity memory i n rest m left U));
+            less = omega (arith, k, less-to-do sheet capacity memory i n rest m left U h e);
           }
       go (no e) =
           let k = remaining-refused rest m left n e in
