@@ -4,6 +4,7 @@ pub mod PassLaws
 pub mod FeedLaws
 pub mod StageLaws
 pub mod Output
+pub mod OutputLaws
 pub mod Opening
 pub mod OpeningLaws
 pub mod Reading
@@ -11,3 +12,4 @@ pub mod Reached
 pub mod WholeSets
 pub mod Onward
 pub mod Ending
+pub mod AnyMemory

@@ -26,9 +26,6 @@ use Rattle.calls.specs.CallLaws.{fired-idle}
 use Rattle.verdicts.specs.Running.{startOf, afterSteps, stepsFrom}
 use Rattle.view.specs.Stands.{Stands}
 use Rattle.start.specs.Start.{started}
-use Rattle.begin.specs.MadeSound.{made-sound}
-use Rattle.begin.specs.StandsValid.{stands-well}
-use Rattle.begin.specs.StartedStands.{started-stands}
 use Rattle.refusals.specs.RunCount.{Firings, still-quiet, RunCounts, run-counts}
 use Rattle.refusals.specs.Kept.{push-keeps}
 use Rattle.demand.specs.MemoryCalls.{Call, push, fire, take, answerOf, memoryAfterAll, setsPushed, resultsTaken}
@@ -36,8 +33,8 @@ use Rattle.demand.specs.Claim.{OwnVerdicts}
 use Rattle.demand.specs.Started.{start-accepted}
 use Rattle.demand.specs.Agreed.{calls-agree}
 use Rattle.demand.specs.FollowAll.{calls-follow}
-use Rattle.demand.specs.Demand3.{demand-3}
-use Rattle.demand.specs.Onward.{push-accepted-when-still}
+use Rattle.demand.specs.Demand3.{start-stands, demand-3}
+use Rattle.demand.specs.Onward.{never-short, push-accepted-when-still}
 use Rattle.text.specs.PrintLaws.{line-length}
 use Rattle.session.specs.Passes.{Fed, fed, feeding, takenFrom, lineBy, Drained, drained, withLine, draining, drainedOf, Pass, passOf, remainingAfter}
 use Rattle.session.specs.PassLaws.{line-handed, drain-more, remaining-plain, remaining-refused}
@@ -106,7 +103,7 @@ module _ (start : List ℕ) (k : ℕ) where
       go : Dec (takenFrom m .answer .refusal ≡ 0)
           → (takenFrom m .answer .refusal ≡ 0 → Reached start (draining n (takenFrom m .mem) .mem) s (r + 1 + draining n (takenFrom m .mem) .count))
           → (let d : Drained = pick (eqb (takenFrom m .answer .refusal) 0) (withLine (lineBy (takenFrom m)) (draining n (takenFrom m .mem))) (drained (takenFrom m .mem) [] 0) in
-            Reached start (d .mem) s (r + d .count))
+          Reached start (d .mem) s (r + d .count))
       go (yes e) later =
           let z : r + 1 + draining n (takenFrom m .mem) .count ≡ r + suc (draining n (takenFrom m .mem) .count) = omega arith in
           rw (eq-eqb (takenFrom m .answer .refusal) 0 e) (subst (Reached start (draining n (takenFrom m .mem) .mem) s) z (later e))
@@ -146,16 +143,8 @@ module _ (sheet : List ℕ) (capacity : ℕ) (memory : List ℕ) (h : started sh
   stands-now : (calls : List Call) → (q : Links) × Stands (madeOf x) capacity (memoryAfterAll calls start) q
   stands-now calls =
       let a = start-accepted sheet capacity memory h in
-      let H : Stands (madeOf x) capacity start (startOf x)
-      = subst (λ (m : List ℕ). Stands (madeOf x) capacity m (startOf x)) (sym (a .memory)) (started-stands sheet (a .passed) capacity (a .low) (a .high) memory (a .long)) in
-      let F = calls-follow x capacity (a .low) (a .high) (calls-agree sheet (a .passed) capacity (a .low) (a .high)) calls start (startOf x) H in
+      let F = calls-follow x capacity (a .low) (a .high) (calls-agree sheet (a .passed) capacity (a .low) (a .high)) calls start (startOf x) (start-stands sheet capacity memory h) in
       (afterSteps x (stepsFrom x capacity (F .calls) (startOf x)) (startOf x), F .stands)
-
-  good-now : (calls : List Call) → standing (memoryAfterAll calls start) ≡ 0
-  good-now calls =
-      let a = start-accepted sheet capacity memory h in
-      let S = stands-now calls in
-      stands-well (madeOf x) (made-sound sheet (a .passed)) capacity (a .low) (a .high) (memoryAfterAll calls start) (S .0) (S .1)
 
   abbrev Still : List ℕ → Type 0
   Still m = (i : ℕ) → i < operatorsOf m → answerOf (fire (length m) i) m .refusal ≡ numberOf NotAble
@@ -169,7 +158,7 @@ module _ (sheet : List ℕ) (capacity : ℕ) (memory : List ℕ) (h : started sh
   -- Where nothing can fire, a set can be taken, or every set is taken and the next could be pushed.
   module _ (m : List ℕ) (s r : ℕ) (R : Reached start m s r) (st : stillAt m (sizeIn m) (operatorsOf m) ≡ true) where
     here : standing m ≡ 0
-    here = subst (λ (z : List ℕ). standing z ≡ 0) (R .memory) (good-now (R .calls))
+    here = subst (λ (z : List ℕ). standing z ≡ 0) (R .memory) (never-short sheet capacity memory h (R .calls))
 
     long : need (sizeOf capacity) ≤ length m
     long = subst (λ (z : List ℕ). need (sizeOf capacity) ≤ length z) (R .memory) (stands-now (R .calls) .1 .long)
@@ -233,7 +222,7 @@ module _ (sheet : List ℕ) (capacity : ℕ) (memory : List ℕ) (h : started sh
         }
 
     C : RunCounts (f .mem) left
-    C = run-counts (f .mem) left (subst (λ (z : List ℕ). standing z ≡ 0) (F .reached .memory) (good-now (F .reached .calls)))
+    C = run-counts (f .mem) left (subst (λ (z : List ℕ). standing z ≡ 0) (F .reached .memory) (never-short sheet capacity memory h (F .reached .calls)))
 
     -- A run without a firing leaves the memory as it was.
     unfired : a .answer .count ≡ 0 → a .mem ≡ f .mem

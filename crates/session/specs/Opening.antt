@@ -48,13 +48,13 @@ pub record Whole (first : List ℕ) (x : Seen) (more : List ℕ) : Type 0 where
   pub seen-is : x ≡ seenOf (first ++ more)
   pub at-hand : (more ≡ []) ⊎ (6200 ≤ length first)
 
-pub record Begins (formula file : List ℕ) (at-hand m : List ℕ) (r : Opened) (m′ out : List ℕ) : Type 0 where
+pub record Begins (formula file : List ℕ) (at-hand : List ℕ) (r : Opened) (m′ out : List ℕ) : Type 0 where
   pub rest : List (List ℕ)
   pub waits : Waiting (r .inputs) at-hand (r .stage .at) rest
   pub going : Going (r .stage .remaining) rest m′
-  pub output-is : benchOutput formula file m
+  pub output-is : benchOutput formula file
       ≡ take (r .stage .printed) out ++ passes (r .stage .remaining + r .stage .firings) (r .stage .remaining) rest m′ (r .stage .firings)
 
-abbrev pub OpensTo : List ℕ → Seen → List ℕ → List ℕ → Opened → List ℕ → List ℕ → Type 0
-OpensTo first x file m r m′ out =
-    (more moreSets : List ℕ) → Whole first x more → (moreSets ≡ []) ⊎ (65536 < length file) → Begins (first ++ more) (file ++ moreSets) file m r m′ out
+abbrev pub OpensTo : List ℕ → Seen → List ℕ → Opened → List ℕ → List ℕ → Type 0
+OpensTo first x file r m′ out =
+    (more moreSets : List ℕ) → Whole first x more → (moreSets ≡ []) ⊎ (65536 < length file) → Begins (first ++ more) (file ++ moreSets) file r m′ out

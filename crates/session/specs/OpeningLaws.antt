@@ -41,7 +41,8 @@ use Rattle.session.specs.Waiting.{Waiting}
 use Rattle.session.specs.WholeSets.{EachWhole, sets-whole}
 use Rattle.session.specs.Reached.{Reached, at-start}
 use Rattle.session.specs.Onward.{Underway, Going, over, on}
-use Rattle.session.specs.Output.{allFirings, linkCapacity, judged, outputBy, benchOutput}
+use Rattle.session.specs.Output.{allFirings, linkCapacity, judged, outputBy, outputIn, blankMemory, benchOutput}
+use Rattle.session.specs.OutputLaws.{any-memory}
 use Rattle.session.specs.Ending.{Proceeds}
 use Rattle.session.specs.Opening.{Refuses, Heads, JudgesBy, Judges, Whole, Begins, OpensTo}
 
@@ -103,10 +104,10 @@ module _ (inputs results : ℕ) (file : List ℕ) where
 
 -- ---- a refusal is the whole output
 
-pub begins-refused : (formula file at-hand m : List ℕ) (r : Opened) (m′ l out : List ℕ) (number row : ℕ) → Refuses number row (length at-hand) r l out
-    → benchOutput formula file m ≡ refusalLine number row → Begins formula file at-hand m r m′ out
+pub begins-refused : (formula file at-hand : List ℕ) (r : Opened) (m′ l out : List ℕ) (number row : ℕ) → Refuses number row (length at-hand) r l out
+    → benchOutput formula file ≡ refusalLine number row → Begins formula file at-hand r m′ out
 unfolding passes
-begins-refused formula file at-hand m r m′ l out number row p e =
+begins-refused formula file at-hand r m′ l out number row p e =
     record {
       rest = [];
       waits = record {
@@ -154,22 +155,22 @@ no-more-sets file more h (inr k) = absurd (omega arith)
 -- ---- the ways in which the opening ends
 
 module _ (first : List ℕ) (x : Seen) (file m : List ℕ) (r : Opened) (m′ l out : List ℕ) where
-  pub opens-layout : seenLaidOut x ≡ false → Refuses (numberOf Layout) 0 (length file) r l out → OpensTo first x file m r m′ out
-  unfolding benchOutput outputBy
+  pub opens-layout : seenLaidOut x ≡ false → Refuses (numberOf Layout) 0 (length file) r l out → OpensTo first x file r m′ out
+  unfolding benchOutput outputIn outputBy
   opens-layout e p more moreSets w u =
       let s : List ℕ = first ++ more in
       let v = layout-refused s (sym (seen-laid-out s) ∙ ap seenLaidOut (sym (w .seen-is)) ∙ e) in
-      begins-refused s (file ++ moreSets) file m r m′ l out (numberOf Layout) 0 p (ap (λ (z : Verdict). outputBy z s (file ++ moreSets) m) v)
+      begins-refused s (file ++ moreSets) file r m′ l out (numberOf Layout) 0 p (ap (λ (z : Verdict). outputBy z s (file ++ moreSets) blankMemory) v)
 
   module _ (e : seenLaidOut x ≡ true) where
-    pub opens-rows : 6200 < x .length → Refuses (numberOf Rows) 0 (length file) r l out → OpensTo first x file m r m′ out
-    unfolding benchOutput outputBy
+    pub opens-rows : 6200 < x .length → Refuses (numberOf Rows) 0 (length file) r l out → OpensTo first x file r m′ out
+    unfolding benchOutput outputIn outputBy
     opens-rows h p more moreSets w u =
         let s : List ℕ = first ++ more in
         let a : laidOut s (linesOf s) ≡ true = sym (seen-laid-out s) ∙ ap seenLaidOut (sym (w .seen-is)) ∙ e in
         let n : 6200 < length s = seen-many s (subst (λ (y : Seen). 6200 < y .length) (w .seen-is) h) in
         let v = rows-refused s a (lt-leb (rowCount s) 200 (omega (arith, n, whole-rows s a))) in
-        begins-refused s (file ++ moreSets) file m r m′ l out (numberOf Rows) 0 p (ap (λ (z : Verdict). outputBy z s (file ++ moreSets) m) v)
+        begins-refused s (file ++ moreSets) file r m′ l out (numberOf Rows) 0 p (ap (λ (z : Verdict). outputBy z s (file ++ moreSets) blankMemory) v)
 
   -- The whole sheet is at hand.
   module _ (h : x .length ≤ 6200) (room : 55915 ≤ length m) (a : StartAnswer) (q : begun a m′ ≡ started first linkCapacity m) where
@@ -188,23 +189,23 @@ module _ (first : List ℕ) (x : Seen) (file m : List ℕ) (r : Opened) (m′ l 
     unfolding byVerdict
     passed-answer v e p = ap (λ (b : Begun). b .answer .refusal) (answer-is ∙ ap (λ (z : Verdict). byVerdict z (formulaOf first) linkCapacity m) (e ∙ p))
 
-    refused-output : (y : Refusal) (row : ℕ) (whole : List ℕ) → verdictOf first ≡ Refused y row → benchOutput first whole m ≡ refusalLine (a .refusal) (a .row)
-    unfolding byVerdict benchOutput outputBy
+    refused-output : (y : Refusal) (row : ℕ) (whole : List ℕ) → verdictOf first ≡ Refused y row → benchOutput first whole ≡ refusalLine (a .refusal) (a .row)
+    unfolding byVerdict benchOutput outputIn outputBy
     refused-output y row whole e =
         let b : begun a m′ ≡ begun (refusal y row) m = answer-is ∙ ap (λ (z : Verdict). byVerdict z (formulaOf first) linkCapacity m) e in
-        ap (λ (z : Verdict). outputBy z first whole m) e ∙ ap (λ (z : Begun). refusalLine (z .answer .refusal) (z .answer .row)) (sym b)
+        ap (λ (z : Verdict). outputBy z first whole blankMemory) e ∙ ap (λ (z : Begun). refusalLine (z .answer .refusal) (z .answer .row)) (sym b)
 
-    output-refused : (a .refusal ≡ 0 → ⊥) → (whole : List ℕ) → benchOutput first whole m ≡ refusalLine (a .refusal) (a .row)
+    output-refused : (a .refusal ≡ 0 → ⊥) → (whole : List ℕ) → benchOutput first whole ≡ refusalLine (a .refusal) (a .row)
     output-refused n whole = go (verdictOf first) refl
       where
-        go : (v : Verdict) → verdictOf first ≡ v → benchOutput first whole m ≡ refusalLine (a .refusal) (a .row)
+        go : (v : Verdict) → verdictOf first ≡ v → benchOutput first whole ≡ refusalLine (a .refusal) (a .row)
         go Passed e = absurd (n (passed-answer Passed e refl))
         go (Refused y row) e = refused-output y row whole e
 
-    pub opens-refused : (a .refusal ≡ 0 → ⊥) → Refuses (a .refusal) (a .row) (length file) r l out → OpensTo first x file m r m′ out
+    pub opens-refused : (a .refusal ≡ 0 → ⊥) → Refuses (a .refusal) (a .row) (length file) r l out → OpensTo first x file r m′ out
     opens-refused n p more moreSets w u =
-        begins-refused (first ++ more) (file ++ moreSets) file m r m′ l out (a .refusal) (a .row) p
-        (ap (λ (s : List ℕ). benchOutput s (file ++ moreSets) m) (sheet-is more w) ∙ output-refused n (file ++ moreSets))
+        begins-refused (first ++ more) (file ++ moreSets) file r m′ l out (a .refusal) (a .row) p
+        (ap (λ (s : List ℕ). benchOutput s (file ++ moreSets)) (sheet-is more w) ∙ output-refused n (file ++ moreSets))
 
     module _ (z : a .refusal ≡ 0) where
       accepting : started first linkCapacity m .answer .refusal ≡ 0
@@ -225,16 +226,16 @@ module _ (first : List ℕ) (x : Seen) (file m : List ℕ) (r : Opened) (m′ l 
       pub inputs-few : a .inputs ≤ 32
       inputs-few = subst (λ (n : ℕ). n ≤ 32) (sym (ap (λ (b : Begun). b .answer .inputs) answers)) (made-sound first (accepts .passed) .few-inputs)
 
-      pub opens-long : 65536 < length file → Refuses (numberOf SetFile) 0 (length file) r l out → OpensTo first x file m r m′ out
-      unfolding benchOutput outputBy
+      pub opens-long : 65536 < length file → Refuses (numberOf SetFile) 0 (length file) r l out → OpensTo first x file r m′ out
+      unfolding benchOutput outputIn outputBy
       opens-long k p more moreSets w u =
           let n : ltb 65536 (length (file ++ moreSets)) ≡ true = lt-ltb 65536 (length (file ++ moreSets)) (omega (arith, length-append file moreSets, k)) in
-          begins-refused (first ++ more) (file ++ moreSets) file m r m′ l out (numberOf SetFile) 0 p
-          (ap (λ (s : List ℕ). benchOutput s (file ++ moreSets) m) (sheet-is more w) ∙ rw (accepts .passed, n) refl)
+          begins-refused (first ++ more) (file ++ moreSets) file r m′ l out (numberOf SetFile) 0 p
+          (ap (λ (s : List ℕ). benchOutput s (file ++ moreSets)) (sheet-is more w) ∙ rw (accepts .passed, n) refl)
 
-      judged-output : length file ≤ 65536 → benchOutput first file m ≡ judged first m (figuresOf first) (setsOf (a .inputs) file)
-      unfolding benchOutput outputBy
-      judged-output k = rw (accepts .passed, le-ltb 65536 (length file) k, inputs-are) refl
+      judged-output : length file ≤ 65536 → benchOutput first file ≡ judged first m (figuresOf first) (setsOf (a .inputs) file)
+      unfolding outputIn outputBy
+      judged-output k = any-memory first file m room ∙ rw (accepts .passed, le-ltb 65536 (length file) k, inputs-are) refl
 
       -- Before the first call of the loop: no set is pushed, and each of the file's passes 12.
       underway : (ss : List (List ℕ)) → setsOf (a .inputs) file ≡ setsIn ss → Underway first linkCapacity m accepting (length ss) ss m′
@@ -249,10 +250,10 @@ module _ (first : List ℕ) (x : Seen) (file m : List ℕ) (r : Opened) (m′ l 
             whole = subst (λ (n : ℕ). EachWhole n ss) (ap (λ (y : Begun). y .answer .inputs) answers) (sets-whole (a .inputs) 1 (fileLines file) ss e);
           }
 
-      judged-begins : length file ≤ 65536 → (f : File) → setsOf (a .inputs) file ≡ f → JudgesBy f (a .inputs) (a .results) (length file) r l out → Begins first file file m r m′ out
+      judged-begins : length file ≤ 65536 → (f : File) → setsOf (a .inputs) file ≡ f → JudgesBy f (a .inputs) (a .results) (length file) r l out → Begins first file file r m′ out
       unfolding judged setsOf
       judged-begins k (badLine i) e p =
-          begins-refused first file file m r m′ l out (numberOf Set) i p (judged-output k ∙ ap (judged first m (figuresOf first)) e)
+          begins-refused first file file r m′ l out (numberOf Set) i p (judged-output k ∙ ap (judged first m (figuresOf first)) e)
       judged-begins k (setsIn ss) e p =
           let b : started first linkCapacity m .mem ≡ m′ = ap (λ (y : Begun). y .mem) (sym q) in
           record {
@@ -264,7 +265,7 @@ module _ (first : List ℕ) (x : Seen) (file m : List ℕ) (r : Opened) (m′ l 
                 ∙ rw (p .all-left, p .all-firings, p .length-is, p .prints, inputs-are, results-are, b) refl;
           }
 
-      pub opens-judged : length file ≤ 65536 → Judges (a .inputs) (a .results) file r l out → OpensTo first x file m r m′ out
+      pub opens-judged : length file ≤ 65536 → Judges (a .inputs) (a .results) file r l out → OpensTo first x file r m′ out
       opens-judged k p more moreSets w u =
           let n : file ++ moreSets ≡ file = ap (λ (y : List ℕ). file ++ y) (no-more-sets file moreSets k u) ∙ append-nil file in
           rw (sheet-is more w, n) (judged-begins k (setsOf (a .inputs) file) refl p)
@@ -274,8 +275,8 @@ module _ (first : List ℕ) (x : Seen) (file m : List ℕ) (r : Opened) (m′ l 
 pub refusal-bounds : (number row end : ℕ) (r : Opened) (l out : List ℕ) → Refuses number row end r l out → (r .inputs ≤ 32) × (r .stage .at ≤ end) × (r .stage .printed ≤ 65536)
 refusal-bounds number row end r l out p = (omega (arith, p .inputs-are), omega (arith, p .at-end), omega (arith, p .length-is))
 
-pub begins-proceeds : (formula file at-hand m : List ℕ) (r : Opened) (m′ out : List ℕ) → Begins formula file at-hand m r m′ out → Proceeds (r .inputs) at-hand (r .stage) m′
-begins-proceeds formula file at-hand m r m′ out b = record { rest = b .rest; waits = b .waits; going = b .going }
+pub begins-proceeds : (formula file at-hand : List ℕ) (r : Opened) (m′ out : List ℕ) → Begins formula file at-hand r m′ out → Proceeds (r .inputs) at-hand (r .stage) m′
+begins-proceeds formula file at-hand r m′ out b = record { rest = b .rest; waits = b .waits; going = b .going }
 
 pub judged-bounds : (inputs results : ℕ) (file : List ℕ) (r : Opened) (l out : List ℕ) → inputs ≤ 32 → Judges inputs results file r l out
     → (r .inputs ≤ 32) × (r .stage .at ≤ length file) × (r .stage .printed ≤ 65536)

@@ -1,9 +1,9 @@
--- What the bench program prints (document 01, "Program and readings"), from all bytes of formula.txt and sets.txt ("A missing file counts as empty") and
--- the memory that it lends: "It makes the sheet's tests, then 13, then 12 (lowest line), then prints inputs, results and sets in three six-character
+-- What the bench program prints (document 01, "Program and readings"), from all bytes of formula.txt and sets.txt ("A missing file counts as empty"): "It
+-- makes the sheet's tests, then 13, then 12 (lowest line), then prints inputs, results and sets in three six-character
 -- fields, then a line for each set with an 11-character field a result. A refusal prints its number and row (12: line)". Assumes nothing.
 use Prim.Native.Nat.{ℕ, _+_}
 use mathlib.Core.List.{List, _++_}
-use lib.ListN.{length}
+use lib.ListN.{length, replicate}
 use lib.Dec.{ltb}
 use Rattle.value.specs.Operators.{pick}
 use Rattle.formula.specs.declared.Refusal.the-variants.{Set, SetFile}
@@ -12,6 +12,7 @@ use Rattle.formula.specs.declared.Verdict.the-variants.{Passed, Refused}
 use Rattle.formula.specs.declared.Figures.{Figures}
 use Rattle.formula.specs.Refusals.{numberOf}
 use Rattle.formula.specs.Tests.{verdictOf, figuresOf}
+use Rattle.layout.specs.Layout.{need, sizeOf}
 use Rattle.start.specs.Start.{started}
 use Rattle.text.specs.Printed.{headLine, refusalLine}
 use Rattle.text.specs.SetLines.{SetFile as Sets, sets, badLine, setsOf}
@@ -24,7 +25,7 @@ linkCapacity = 2
 abbrev pub allFirings : ℕ
 allFirings = 1000000
 
--- At most as many repetitions as sets and firings: enough if each one fires or takes, which is not proved.
+-- As many repetitions as there are sets and firings are enough (specs/OutputLaws).
 unfoldable pub judged : List ℕ → List ℕ → Figures → Sets → List ℕ
 unfolding passes
 judged formula memory f (badLine i) = refusalLine (numberOf Set) i
@@ -37,6 +38,15 @@ outputBy (Refused r row) formula file memory = refusalLine (numberOf r) row
 outputBy Passed formula file memory =
     pick (ltb 65536 (length file)) (refusalLine (numberOf SetFile) 0) (judged formula memory (figuresOf formula) (setsOf (figuresOf formula .inputs) file))
 
-unfoldable pub benchOutput : List ℕ → List ℕ → List ℕ → List ℕ
+-- With a memory that is lent to the machine.
+unfoldable pub outputIn : List ℕ → List ℕ → List ℕ → List ℕ
 unfolding outputBy
-benchOutput formula file memory = outputBy (verdictOf formula) formula file memory
+outputIn memory formula file = outputBy (verdictOf formula) formula file memory
+
+-- What was in that memory makes no difference (specs/OutputLaws); here it is all 0.
+unfoldable pub blankMemory : List ℕ
+blankMemory = replicate (need (sizeOf linkCapacity)) 0
+
+unfoldable pub benchOutput : List ℕ → List ℕ → List ℕ
+unfolding outputIn blankMemory
+benchOutput formula file = outputIn blankMemory formula file

@@ -33,7 +33,7 @@ fn refused(number: u32, row: u32, end: usize, out: &mut [u8]) -> Opened
 // bytes, up to 65,537.
 pub fn open(first: &[u8], seen: Seen, sets: &[u8], mem: &mut [u8], out: &mut [u8]) -> Opened
     requires { ⌜ (55915 ≤ length (now mem)) × (65536 ≤ length (now out)) × (length (now sets) ≤ 65537) ⌝ }
-    ensures { λ r. ⌜ OpensTo (now (first .entry)) seen (now (sets .entry)) (now (mem .entry)) r (now (mem .exit)) (now (out .exit)) ⌝ }
+    ensures { λ r. ⌜ OpensTo (now (first .entry)) seen (now (sets .entry)) r (now (mem .exit)) (now (out .exit)) ⌝ }
     ensures { λ r. ⌜ (r .inputs ≤ 32) × (r .stage .at ≤ length (now (sets .entry))) × (r .stage .printed ≤ 65536) ⌝ }
 {
     let end = sets.len();

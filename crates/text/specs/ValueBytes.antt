@@ -95,7 +95,7 @@ word-front a b i h =
       List·getD-append a b 0 (i + 1) (omega arith),
       List·getD-append a b 0 (i + 2) (omega arith),
       List·getD-append a b 0 (i + 3) (omega arith),
-      List·getD-append a b 0 (i + 4) (omega arith)
+      List·getD-append a b 0 (i + 4) (omega arith),
     ) refl
 
 -- One field's bytes behind those of the fields before it.

@@ -98,7 +98,7 @@ slice-aggregate-repeat-3 c = search needs
 
 -- src/run.rt:132:5  let opened = open(&first[..length], sheet.seen, &sets[..n], &mut mem, &mut out); ⏎ repeat(&mut mem, &sets[..n], opened, &mut out);
 repeat-requires : tie.Need-repeat-requires
-repeat-requires c κs = let p = begins-proceeds (take (c .before .before .before .before .before .before .before .before .before .before .before .before .before .before .read-sheet .result .length) (c .before .before .before .before .before .before .before .before .before .before .before .before .before .before .read-sheet .last .1 .0) ++ c .before .before .before .before .before .before .before .before .before .before .before .before .before .before .read-sheet .ensures .more) (take (c .before .before .before .before .before .before .before .before .before .before .before .load .result) (c .before .before .before .before .before .before .before .before .before .before .before .load .last .1 .0) ++ []) (take (c .before .before .before .before .before .before .before .before .before .before .before .load .result) (c .before .before .before .before .before .before .before .before .before .before .before .load .last .1 .0)) (c .before .before .before .before .before .before .before .before .before .before .before .before .before .before .before .before .before .large-buffer .result) (c .before .before .before .before .before .«open» .result) (c .before .before .before .before .before .«open» .last .1 .1 .1 .0) (c .before .before .before .before .before .«open» .last .1 .1 .1 .1 .0) (c .before .before .before .before .before .«open» .ensures .0 (c .before .before .before .before .before .before .before .before .before .before .before .before .before .before .read-sheet .ensures .more) [] (c .before .before .before .before .before .before .before .before .before .before .before .before .before .before .read-sheet .ensures .whole) (inl refl)) in search needs
+repeat-requires c κs = let p = begins-proceeds (take (c .before .before .before .before .before .before .before .before .before .before .before .before .before .before .read-sheet .result .length) (c .before .before .before .before .before .before .before .before .before .before .before .before .before .before .read-sheet .last .1 .0) ++ c .before .before .before .before .before .before .before .before .before .before .before .before .before .before .read-sheet .ensures .more) (take (c .before .before .before .before .before .before .before .before .before .before .before .load .result) (c .before .before .before .before .before .before .before .before .before .before .before .load .last .1 .0) ++ []) (take (c .before .before .before .before .before .before .before .before .before .before .before .load .result) (c .before .before .before .before .before .before .before .before .before .before .before .load .last .1 .0)) (c .before .before .before .before .before .«open» .result) (c .before .before .before .before .before .«open» .last .1 .1 .1 .0) (c .before .before .before .before .before .«open» .last .1 .1 .1 .1 .0) (c .before .before .before .before .before .«open» .ensures .0 (c .before .before .before .before .before .before .before .before .before .before .before .before .before .before .read-sheet .ensures .more) [] (c .before .before .before .before .before .before .before .before .before .before .before .before .before .before .read-sheet .ensures .whole) (inl refl)) in search needs
 
 -- src/run.rt:123:1  } ⏎ pub fn run(formula: &[u8], file: &[u8]) {
 returns : tie.Need-returns

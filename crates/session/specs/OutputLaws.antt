@@ -1,0 +1,104 @@
+-- What the program prints (Output) is a matter of its two files alone: the lent memory makes no difference, and the repetitions are those that document 01
+-- asks for, until every set is taken. Assumes a memory as long as the machine needs.
+use Prim.Native.Nat.{ℕ, _+_, _≤_}
+use mathlib.Core.Path.{_≡_, refl, sym, ap, subst, _∙_}
+use mathlib.Core.Bool.{Bool, true, false}
+use mathlib.Core.List.{List, [], _++_}
+use native.Mathlib.Omega.{arith}
+use borrow.Author.Tests.{le-ltb}
+use lib.Dec.{ltb}
+use lib.ListN.{length, length-replicate}
+use Rattle.value.specs.Operators.{pick}
+use Rattle.formula.specs.declared.Refusal.the-variants.{SetFile}
+use Rattle.formula.specs.declared.Verdict.{Verdict}
+use Rattle.formula.specs.declared.Verdict.the-variants.{Passed, Refused}
+use Rattle.formula.specs.Refusals.{numberOf}
+use Rattle.formula.specs.Tree.{formulaOf}
+use Rattle.formula.specs.Tests.{verdictOf, figuresOf}
+use Rattle.graph.specs.Translation.{madeOf}
+use Rattle.layout.specs.Layout.{need, sizeOf}
+use Rattle.start.specs.Start.{started}
+use Rattle.begin.specs.MadeSound.{made-sound, same-figures}
+use Rattle.demand.specs.Started.{start-accepts}
+use Rattle.demand.specs.Demand3.{start-stands}
+use Rattle.verdicts.specs.Running.{startOf}
+use Rattle.text.specs.Printed.{headLine, refusalLine}
+use Rattle.text.specs.SetLines.{SetFile as Sets, sets, badLine, setsOf, linesOf}
+use Rattle.session.specs.Passes.{Repeats, passes}
+use Rattle.session.specs.WholeSets.{EachWhole, sets-whole}
+use Rattle.session.specs.Reached.{at-start}
+use Rattle.session.specs.Onward.{Underway, Going, on}
+use Rattle.session.specs.Ending.{passes-end}
+use Rattle.session.specs.AnyMemory.{Alike, same-passes}
+use Rattle.session.specs.Output.{linkCapacity, allFirings, judged, outputBy, outputIn, blankMemory, benchOutput}
+
+low : 1 ≤ linkCapacity
+low = omega arith
+
+high : linkCapacity ≤ 16
+high = omega arith
+
+pub blank-long : need (sizeOf linkCapacity) ≤ length blankMemory
+unfolding blankMemory
+blank-long = omega (arith, length-replicate {A = ℕ} (need (sizeOf linkCapacity)) 0)
+
+module _ (formula : List ℕ) (ok : verdictOf formula ≡ Passed) where
+  -- The file's sets are sets of the graph's inputs.
+  whole-here : (file : List ℕ) (ss : List (List ℕ)) → setsOf (figuresOf formula .inputs) file ≡ sets ss → EachWhole (madeOf (formulaOf formula) .inputs) ss
+  unfolding setsOf
+  whole-here file ss e =
+      subst (λ (n : ℕ). EachWhole n ss) (sym (same-figures formula ok .1)) (sets-whole (figuresOf formula .inputs) 1 (linesOf file) ss e)
+
+  starts : (m : List ℕ) → need (sizeOf linkCapacity) ≤ length m → started formula linkCapacity m .answer .refusal ≡ 0
+  starts m h = start-accepts formula linkCapacity m ok low high h
+
+  -- A machine started in any memory is the same machine.
+  started-alike : (m m′ : List ℕ) → need (sizeOf linkCapacity) ≤ length m → need (sizeOf linkCapacity) ≤ length m′
+      → Alike (formulaOf formula) (made-sound formula ok) linkCapacity low high (started formula linkCapacity m .mem) (started formula linkCapacity m′ .mem)
+  started-alike m m′ h h′ =
+      record {
+        links = startOf (formulaOf formula);
+        first = start-stands formula linkCapacity m (starts m h);
+        second = start-stands formula linkCapacity m′ (starts m′ h′);
+      }
+
+  same-judged : (m m′ file : List ℕ) → need (sizeOf linkCapacity) ≤ length m → need (sizeOf linkCapacity) ≤ length m′
+      → (f : Sets) → setsOf (figuresOf formula .inputs) file ≡ f → judged formula m (figuresOf formula) f ≡ judged formula m′ (figuresOf formula) f
+  unfolding judged
+  same-judged m m′ file h h′ (badLine i) e = refl
+  same-judged m m′ file h h′ (sets ss) e =
+      ap (λ (z : List ℕ). headLine (figuresOf formula .inputs) (figuresOf formula .results) (length ss) ++ z)
+      (same-passes (formulaOf formula) (made-sound formula ok) linkCapacity low high (length ss + allFirings) (length ss) ss (whole-here file ss e)
+      (started formula linkCapacity m .mem) (started formula linkCapacity m′ .mem) allFirings (started-alike m m′ h h′))
+
+  -- The repetitions of an accepted sheet and its sets end, and this is what they print.
+  pub judged-repeats : (m file : List ℕ) → need (sizeOf linkCapacity) ≤ length m → (ss : List (List ℕ)) → setsOf (figuresOf formula .inputs) file ≡ sets ss
+      → Repeats (length ss) ss (started formula linkCapacity m .mem) allFirings
+      (passes (length ss + allFirings) (length ss) ss (started formula linkCapacity m .mem) allFirings)
+  judged-repeats m file h ss e =
+      passes-end (length ss + allFirings) (length ss) ss (started formula linkCapacity m .mem) allFirings
+      (on formula linkCapacity m (starts m h)
+      (record { sets = 0; results = 0; reached = at-start (started formula linkCapacity m .mem); counts = refl; whole = whole-here file ss e }))
+      (omega arith)
+
+-- The lent memory makes no difference.
+pub any-memory : (formula file m : List ℕ) → need (sizeOf linkCapacity) ≤ length m → benchOutput formula file ≡ outputIn m formula file
+unfolding benchOutput outputIn outputBy
+any-memory formula file m h = go (verdictOf formula) refl
+  where
+    go : (v : Verdict) → verdictOf formula ≡ v → outputBy v formula file blankMemory ≡ outputBy v formula file m
+    go (Refused r row) e = refl
+    go Passed e =
+        ap (λ (z : List ℕ). pick (ltb 65536 (length file)) (refusalLine (numberOf SetFile) 0) z)
+        (same-judged formula e blankMemory m file blank-long h (setsOf (figuresOf formula .inputs) file) refl)
+
+-- For an accepted sheet and good sets: the first line, and what the repetitions print until every set is taken.
+pub output-repeats : (formula file : List ℕ) → verdictOf formula ≡ Passed → length file ≤ 65536 → (ss : List (List ℕ)) → setsOf (figuresOf formula .inputs) file ≡ sets ss
+    → (out : List ℕ) × Repeats (length ss) ss (started formula linkCapacity blankMemory .mem) allFirings out
+    × (benchOutput formula file ≡ headLine (figuresOf formula .inputs) (figuresOf formula .results) (length ss) ++ out)
+unfolding benchOutput outputIn outputBy judged
+output-repeats formula file ok h ss e = (
+  passes (length ss + allFirings) (length ss) ss (started formula linkCapacity blankMemory .mem) allFirings,
+  judged-repeats formula ok blankMemory file blank-long ss e,
+  rw (ok, le-ltb 65536 (length file) h, e) refl,
+)
