@@ -4,6 +4,7 @@
 pub mod arguments;
 pub mod bench;
 pub mod bytes;
+pub mod calls;
 pub mod cases;
 pub mod count;
 pub mod eval;

@@ -2,8 +2,9 @@
 // column is the product's speed over ours: 1.00 is as fast, 0.50 takes twice as long.
 
 use compare::bytes::{self, OUT_BYTES};
+use compare::calls::{self, Calls, PLAIN};
 use compare::examples::{factorial, lesser, many_operators, negations};
-use compare::memory::{self, Answer, StartAnswer};
+use compare::memory;
 use compare::random::{random_set, Rng};
 use compare::sheet;
 use compare::timing::{side_by_side, Call};
@@ -38,7 +39,7 @@ fn report(name: &str, steps: u32, ours: &mut dyn FnMut() -> u32, product: &mut O
 
 /// The calls on a machine at capacity 2: a start; a run of as many sets as fit, by the firing; a take with the push of another set.
 fn machine(name: &str, sheet: &[u8], set: &[u8]) {
-    let start = product_calls().map_or(memory::start as fn(&[u8], u32, &mut [u8]) -> StartAnswer, |calls| calls.start);
+    let start = calls::product().unwrap_or(PLAIN).start;
     let mut fresh = vec![0; memory::need(2)];
     if start(sheet, 2, &mut fresh).refusal != 0 {
         return;
@@ -47,19 +48,19 @@ fn machine(name: &str, sheet: &[u8], set: &[u8]) {
         &format!("start: {name}"),
         1,
         &mut starting(PLAIN, sheet),
-        &mut product_calls().map(|calls| starting(calls, sheet)),
+        &mut calls::product().map(|calls| starting(calls, sheet)),
     );
 
     let mut loaded = fresh.clone();
     while memory::push(&mut loaded, set).refusal == 0 {}
     let firings = memory::run(&mut loaded.clone(), FIRINGS).count;
-    let mut product = product_calls().map(|calls| running(calls, &loaded));
+    let mut product = calls::product().map(|calls| running(calls, &loaded));
     report(&format!("run: a firing of {firings}, {name}"), firings, &mut running(PLAIN, &loaded), &mut product);
 
     let mut done = fresh.clone();
     memory::push(&mut done, set);
     memory::run(&mut done, FIRINGS);
-    let mut product = product_calls().map(|calls| taking(calls, &done, set));
+    let mut product = calls::product().map(|calls| taking(calls, &done, set));
     report(&format!("take and push: {name}"), 1, &mut taking(PLAIN, &done, set), &mut product);
 }
 
@@ -95,29 +96,6 @@ fn restore(mem: &mut [u8], from: &[u8]) {
     mem[registers.clone()].copy_from_slice(&from[registers]);
     let links = 21_760..21_760 + 11 * figure(3);
     mem[links.clone()].copy_from_slice(&from[links]);
-}
-
-/// The calls on a machine.
-#[derive(Clone, Copy)]
-struct Calls {
-    start: fn(&[u8], u32, &mut [u8]) -> StartAnswer,
-    push: fn(&mut [u8], &[u8]) -> Answer,
-    run: fn(&mut [u8], u32) -> Answer,
-    take: fn(&mut [u8], &mut [u8]) -> Answer,
-}
-
-const PLAIN: Calls = Calls { start: memory::start, push: memory::push, run: memory::run, take: memory::take };
-
-/// The product's, where it is linked.
-#[cfg(feature = "product")]
-fn product_calls() -> Option<Calls> {
-    use compare::product::{push, run, start, take};
-    Some(Calls { start, push, run, take })
-}
-
-#[cfg(not(feature = "product"))]
-fn product_calls() -> Option<Calls> {
-    None
 }
 
 #[cfg(feature = "product")]
