@@ -16,5 +16,6 @@ pub mod memory;
 pub mod product;
 pub mod random;
 pub mod sheet;
+pub mod table;
 pub mod timing;
 pub mod value;

@@ -12,20 +12,23 @@ pub type Call<'a> = Box<dyn FnMut() -> u32 + 'a>;
 /// Nanoseconds of each of the two, where the second is there.
 pub fn side_by_side(ours: &mut dyn FnMut() -> u32, product: &mut Option<Call<'_>>) -> (f64, Option<f64>) {
     let times = match product {
-        Some(call) => in_turns(&mut [ours, &mut **call], BATCHES),
-        None => in_turns(&mut [ours], BATCHES),
+        Some(call) => in_turns(&mut [ours, &mut **call], BATCHES, Duration::ZERO),
+        None => in_turns(&mut [ours], BATCHES, Duration::ZERO),
     };
     (times[0], times.get(1).copied())
 }
 
-/// Nanoseconds of a call of each, the least of so many batches.
-pub fn in_turns(calls: &mut [&mut dyn FnMut() -> u32], batches: usize) -> Vec<f64> {
+/// Nanoseconds of a call of each, the least of so many batches, or of more until so much time has passed.
+pub fn in_turns(calls: &mut [&mut dyn FnMut() -> u32], batches: usize, duration: Duration) -> Vec<f64> {
     let repeats: Vec<u32> = calls.iter_mut().map(|call| repeats_for(*call)).collect();
     let mut least = vec![f64::MAX; calls.len()];
-    for _ in 0..batches {
+    let start = Instant::now();
+    let mut made = 0;
+    while made < batches || start.elapsed() < duration {
         for (place, call) in calls.iter_mut().enumerate() {
             least[place] = least[place].min(time(*call, repeats[place]));
         }
+        made += 1;
     }
     least
 }

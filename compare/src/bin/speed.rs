@@ -1,5 +1,5 @@
-// Times the reader, the evaluator and the machine's calls here and, with the feature `product`, the product's beside them in the same run. The last
-// column is the product's speed over ours: 1.00 is as fast, 0.50 takes twice as long.
+// Times the reader, the evaluator and the machine's calls here and, with the feature `product`, the product's beside them in the same run. Prints
+// the first table of docs/BENCHMARKS.md. The last column is the product's speed over ours: 1.00 is as fast, 0.50 takes twice as long.
 
 use compare::bytes::{self, OUT_BYTES};
 use compare::calls::{self, Calls, PLAIN};
@@ -7,14 +7,15 @@ use compare::examples::{factorial, lesser, many_operators, negations};
 use compare::memory;
 use compare::random::{random_set, Rng};
 use compare::sheet;
+use compare::table::{grouped, head, row, speed};
 use compare::timing::{side_by_side, Call};
 use compare::value::Value;
 use std::hint::black_box;
 
 fn main() {
-    println!("{:44}{:>12}{:>12}{:>8}", "", "ours, ns", "product, ns", "speed");
+    head(&["call", "plain, ns", "product, ns", "speed"]);
     for (name, bytes) in sheets() {
-        let text = format!("read: {name}, {} bytes", bytes.len());
+        let text = format!("read: {name}, {} bytes", grouped(bytes.len() as f64));
         report(&text, 1, &mut || bytes::read(black_box(&bytes)).refusal, &mut product_read(&bytes));
     }
     for (name, bytes, set, rounds) in evaluations() {
@@ -27,14 +28,17 @@ fn main() {
     }
 }
 
-/// Prints one line, the times divided by a number of like steps.
+/// Prints one row, the times divided by a number of like steps.
 fn report(name: &str, steps: u32, ours: &mut dyn FnMut() -> u32, product: &mut Option<Call<'_>>) {
     let (least, other) = side_by_side(ours, product);
     let (least, other) = (least / f64::from(steps), other.map(|time| time / f64::from(steps)));
-    match other {
-        Some(other) => println!("{name:44}{least:12.1}{other:12.1}{:8.2}", least / other),
-        None => println!("{name:44}{least:12.1}{:>12}{:>8}", "-", "-"),
-    }
+    let none = || String::from("-");
+    row(&[
+        name.into(),
+        grouped(least),
+        other.map_or_else(none, grouped),
+        other.map_or_else(none, |time| speed(least, time)),
+    ]);
 }
 
 /// The calls on a machine at capacity 2: a start; a run of as many sets as fit, by the firing; a take with the push of another set.
@@ -55,7 +59,12 @@ fn machine(name: &str, sheet: &[u8], set: &[u8]) {
     while memory::push(&mut loaded, set).refusal == 0 {}
     let firings = memory::run(&mut loaded.clone(), FIRINGS).count;
     let mut product = calls::product().map(|calls| running(calls, &loaded));
-    report(&format!("run: a firing of {firings}, {name}"), firings, &mut running(PLAIN, &loaded), &mut product);
+    report(
+        &format!("run, a firing: {name} ({} firings)", grouped(firings.into())),
+        firings,
+        &mut running(PLAIN, &loaded),
+        &mut product,
+    );
 
     let mut done = fresh.clone();
     memory::push(&mut done, set);
@@ -130,7 +139,7 @@ fn sheets() -> Vec<(String, Vec<u8>)> {
         ("50 rows of negations".into(), negations(50)),
         ("100 rows of negations".into(), negations(100)),
         ("200 rows of negations".into(), negations(200)),
-        (format!("{operators} operators"), many),
+        (format!("{} operators", grouped(operators.into())), many),
         ("malformed near its end".into(), malformed),
         ("no rows".into(), vec![b' '; 6199]),
     ]
@@ -149,6 +158,6 @@ fn evaluations() -> Vec<(String, Vec<u8>, Vec<u8>, u32)> {
         ("factorial of 12".into(), factorial(), number(12), 100),
         ("10,000 rounds of factorial".into(), factorial(), number(10_000), 10_000),
         ("200 rows of negations".into(), negations(200), number(7), 0),
-        (format!("{} operators", sheet.figures.operators), many.bytes, set, 1000),
+        (format!("{} operators", grouped(sheet.figures.operators.into())), many.bytes, set, 1000),
     ]
 }

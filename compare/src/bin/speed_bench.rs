@@ -7,6 +7,7 @@ use compare::bytes::{self, encode_set, OUT_BYTES};
 use compare::calls::{self, Calls, PLAIN};
 use compare::graph::{self, Graph};
 use compare::machine::Machine;
+use compare::table::{grouped, head, row, speed};
 use compare::timing::{in_turns, Call};
 use compare::value::Value;
 use compare::{memory, product, sheet};
@@ -14,10 +15,10 @@ use std::fs::File;
 use std::hint::black_box;
 use std::path::Path;
 use std::process::{self, Command, Stdio};
+use std::time::Duration;
 use std::{env, fs};
 
 const EXAMPLES: [&str; 3] = ["lesser-of-two", "factorial", "verdict"];
-const BATCHES: usize = 40;
 const SETS: usize = 4_000;
 const ROUNDS: u32 = 1_000;
 
@@ -60,6 +61,11 @@ impl Example {
     fn encoded(&self, count: usize) -> Vec<Vec<u8>> {
         self.sets(count).iter().map(|set| encode_set(set)).collect()
     }
+}
+
+/// Nanoseconds of a call of each, the least over two seconds.
+fn least_times(calls: &mut [&mut dyn FnMut() -> u32]) -> Vec<f64> {
+    in_turns(calls, 20, Duration::from_secs(2))
 }
 
 fn product_calls() -> Calls {
@@ -108,7 +114,7 @@ fn machine_session<'a>(example: &'a Example, sets: &'a [Vec<Value>]) -> Call<'a>
 
 fn whole_way(examples: &[Example]) {
     head(&[
-        "4,000 sets, sets a second",
+        "4,000 sets at capacity 2, sets a second",
         "plain machine",
         "plain, on bytes",
         "product",
@@ -119,15 +125,16 @@ fn whole_way(examples: &[Example]) {
         let (values, sets) = (example.sets(SETS), example.encoded(SETS));
         let mut machine = machine_session(example, &values);
         let (mut plain, mut product) = (session(PLAIN, example, 2, &sets), session(product_calls(), example, 2, &sets));
-        let times = in_turns(&mut [&mut *machine, &mut *plain, &mut *product], BATCHES);
+        assert_eq!(plain(), product(), "the firings of {}", example.name);
+        let times = least_times(&mut [&mut *machine, &mut *plain, &mut *product]);
         let [machine, plain, product] = [0, 1, 2].map(|place| times[place] / SETS as f64);
         row(&[
             example.name.into(),
             rate(machine),
             rate(plain),
             rate(product),
-            ratio(machine, product),
-            ratio(plain, product),
+            speed(machine, product),
+            speed(plain, product),
         ]);
     }
 }
@@ -142,9 +149,9 @@ fn evaluation(examples: &[Example]) {
             || sets.iter().map(|set| bytes::evaluate(&example.formula, set, ROUNDS, &mut plain_out).rounds).sum();
         let mut product =
             || sets.iter().map(|set| product::evaluate(&example.formula, set, ROUNDS, &mut product_out).rounds).sum();
-        let times = in_turns(&mut [&mut plain, &mut product], 4 * BATCHES);
+        let times = least_times(&mut [&mut plain, &mut product]);
         let [plain, product] = [0, 1].map(|place| times[place] / sets.len() as f64);
-        row(&[example.name.into(), rate(plain), rate(product), ratio(plain, product)]);
+        row(&[example.name.into(), rate(plain), rate(product), speed(plain, product)]);
     }
 }
 
@@ -155,9 +162,9 @@ fn capacities(examples: &[Example]) {
         for capacity in [1, 2, 4, 8, 16] {
             let mut plain = session(PLAIN, example, capacity, &sets);
             let mut product = session(product_calls(), example, capacity, &sets);
-            let times = in_turns(&mut [&mut *plain, &mut *product], BATCHES);
+            let times = least_times(&mut [&mut *plain, &mut *product]);
             let [plain, product] = [0, 1].map(|place| times[place] / sets.len() as f64);
-            row(&[example.name.into(), capacity.to_string(), rate(plain), rate(product), ratio(plain, product)]);
+            row(&[example.name.into(), capacity.to_string(), rate(plain), rate(product), speed(plain, product)]);
         }
     }
 }
@@ -169,10 +176,10 @@ fn growth(examples: &[Example]) {
             let sets = example.encoded(count);
             let mut plain = started_session(PLAIN, example, &sets);
             let mut product = started_session(product_calls(), example, &sets);
-            let times = in_turns(&mut [&mut *plain, &mut *product], BATCHES);
+            let times = least_times(&mut [&mut *plain, &mut *product]);
             let [plain, product] = [0, 1].map(|place| times[place] / count as f64);
             let count = grouped(count as f64);
-            row(&[example.name.into(), count, grouped(plain), grouped(product), ratio(plain, product)]);
+            row(&[example.name.into(), count, grouped(plain), grouped(product), speed(plain, product)]);
         }
     }
 }
@@ -188,10 +195,10 @@ fn programs(examples: &[Example], product: &Path) {
             let text: String = example.sets(count).iter().map(|set| write_set(set)).collect();
             fs::write(folder.join("formula.txt"), &example.formula).expect("a file is written");
             fs::write(folder.join("sets.txt"), text).expect("a file is written");
-            let times = in_turns(&mut [&mut || run(&plain, &folder), &mut || run(product, &folder)], BATCHES);
+            let times = least_times(&mut [&mut || run(&plain, &folder), &mut || run(product, &folder)]);
             let count = grouped(count as f64);
             let [plain, product] = [times[0], times[1]];
-            row(&[example.name.into(), count, grouped(plain / 1e3), grouped(product / 1e3), ratio(plain, product)]);
+            row(&[example.name.into(), count, grouped(plain / 1e3), grouped(product / 1e3), speed(plain, product)]);
         }
     }
     fs::remove_dir_all(&folder).expect("the folder is there");
@@ -203,32 +210,7 @@ fn run(program: &Path, folder: &Path) -> u32 {
     ended.expect("a program that runs").code().unwrap_or(1) as u32
 }
 
-fn head(cells: &[&str]) {
-    println!("\n| {} |\n|{}", cells.join(" | "), "---|".repeat(cells.len()));
-}
-
-fn row(cells: &[String]) {
-    println!("| {} |", cells.join(" | "));
-}
-
 /// Sets a second, from nanoseconds a set.
 fn rate(time: f64) -> String {
     grouped(1e9 / time)
-}
-
-fn ratio(plain: f64, product: f64) -> String {
-    format!("{:.2}", plain / product)
-}
-
-/// A whole number with a comma before every three digits.
-fn grouped(number: f64) -> String {
-    let digits = format!("{number:.0}");
-    let mut text = String::new();
-    for (place, digit) in digits.chars().enumerate() {
-        if place > 0 && (digits.len() - place).is_multiple_of(3) {
-            text.push(',');
-        }
-        text.push(digit);
-    }
-    text
 }
