@@ -32,7 +32,7 @@ fn read_files(formula: &[u8], sets: &[u8]) -> Result<(Sheet, Vec<Vec<Value>>), R
     Ok((sheet, sets))
 }
 
-fn read_sets(bytes: &[u8], inputs: usize) -> Result<Vec<Vec<Value>>, Refusal> {
+pub fn read_sets(bytes: &[u8], inputs: usize) -> Result<Vec<Vec<Value>>, Refusal> {
     let mut sets = Vec::new();
     for line in bytes.split_inclusive(|&byte| byte == b'\n') {
         match read_line(line, inputs) {

@@ -4,6 +4,7 @@
 pub mod arguments;
 pub mod bench;
 pub mod bytes;
+pub mod calls;
 pub mod cases;
 pub mod count;
 pub mod eval;
@@ -15,5 +16,6 @@ pub mod memory;
 pub mod product;
 pub mod random;
 pub mod sheet;
+pub mod table;
 pub mod timing;
 pub mod value;

@@ -2,6 +2,7 @@
 // The generator of numbers is Marsaglia's xorshift with a multiplied output.
 
 pub mod faults;
+pub mod folders;
 pub mod formulas;
 pub mod sheets;
 pub mod tree;

@@ -1,4 +1,4 @@
-// Timing of two calls side by side: the least time of a call over many batches, where the batches of the two take turns, so that both see the same machine.
+// Timing of calls side by side: the least time of each over many batches, where the batches of all take turns, so that all see the same machine.
 
 use std::hint::black_box;
 use std::time::{Duration, Instant};
@@ -11,16 +11,26 @@ pub type Call<'a> = Box<dyn FnMut() -> u32 + 'a>;
 
 /// Nanoseconds of each of the two, where the second is there.
 pub fn side_by_side(ours: &mut dyn FnMut() -> u32, product: &mut Option<Call<'_>>) -> (f64, Option<f64>) {
-    let repeats = repeats_for(ours);
-    let other_repeats = product.as_mut().map_or(1, |call| repeats_for(call));
-    let (mut least, mut other_least) = (f64::MAX, f64::MAX);
-    for _ in 0..BATCHES {
-        least = least.min(time(ours, repeats));
-        if let Some(call) = product {
-            other_least = other_least.min(time(call, other_repeats));
+    let times = match product {
+        Some(call) => in_turns(&mut [ours, &mut **call], BATCHES, Duration::ZERO),
+        None => in_turns(&mut [ours], BATCHES, Duration::ZERO),
+    };
+    (times[0], times.get(1).copied())
+}
+
+/// Nanoseconds of a call of each, the least of so many batches, or of more until so much time has passed.
+pub fn in_turns(calls: &mut [&mut dyn FnMut() -> u32], batches: usize, duration: Duration) -> Vec<f64> {
+    let repeats: Vec<u32> = calls.iter_mut().map(|call| repeats_for(*call)).collect();
+    let mut least = vec![f64::MAX; calls.len()];
+    let start = Instant::now();
+    let mut made = 0;
+    while made < batches || start.elapsed() < duration {
+        for (place, call) in calls.iter_mut().enumerate() {
+            least[place] = least[place].min(time(*call, repeats[place]));
         }
+        made += 1;
     }
-    (least, product.is_some().then_some(other_least))
+    least
 }
 
 /// Nanoseconds a call.

@@ -1,20 +1,20 @@
 // Runs the product's program bench on random folders and holds what it prints to what the program here prints, and stops at the first difference.
 // Usage: compare_bench PROGRAM CASES SEED [FIRST]. `compare_bench PROGRAM 1 SEED NUMBER` makes a case again.
-// Results before a 36 may depend on the numbering of operators: there each printed line must be a set's own result.
+// Results before a 36 depend on the numbering of operators: there the loop here is run on the graph that the product made, and each line printed must
+// besides be its set's own result.
 
 use compare::arguments::Cases;
-use compare::bench::{bench, write_set, MOST_SET_BYTES};
-use compare::random::faults::plant;
-use compare::random::{accepted_sheet, heavy_sheet, mutate, random_set, Made, Rng, Sort};
+use compare::bench::{bench, read_sets, write_set, CAPACITY, FIRINGS};
+use compare::bytes::{decode_set, encode_set};
+use compare::calls::{self, PLAIN};
+use compare::random::folders::{random_folder, Folder};
 use compare::value::Value;
-use compare::{eval, sheet};
+use compare::{eval, memory, sheet};
 use std::collections::BTreeMap;
 use std::path::{Path, PathBuf};
 use std::process::{Command, Stdio};
-use std::{env, fs, process};
-
-/// The rounds within which an evaluation is looked for.
-const ROUNDS: u32 = 2_000;
+use std::sync::atomic::{AtomicU64, Ordering};
+use std::{env, fs, process, thread};
 
 type Counts = BTreeMap<String, u64>;
 
@@ -22,49 +22,51 @@ fn main() {
     let words: Vec<String> = env::args().skip(1).collect();
     let cases = Cases::from(words.get(1..).unwrap_or_default(), "compare_bench PROGRAM");
     let program = fs::canonicalize(&words[0]).expect("the product's program");
-    let folder = env::temp_dir().join(format!("compare_bench.{}", process::id()));
+    let next = AtomicU64::new(cases.first);
+    let workers = thread::available_parallelism().map_or(1, usize::from);
+    let mut counts = Counts::new();
+    thread::scope(|scope| {
+        let work = |worker| {
+            let (program, cases, next) = (&program, &cases, &next);
+            scope.spawn(move || compare_some(program, worker, cases, next))
+        };
+        let working: Vec<_> = (0..workers).map(work).collect();
+        for worker in working {
+            let part = worker.join().expect("no panic");
+            part.into_iter().for_each(|(kind, count)| *counts.entry(kind).or_default() += count);
+        }
+    });
+    println!("no difference in {} cases", cases.count);
+    for group in ["formula", "sets", "ended with"] {
+        let names = counts.iter().filter_map(|(kind, count)| Some((kind.strip_prefix(group)?, count)));
+        println!("{group}:{}", names.map(|(kind, count)| format!("{kind} {count}")).collect::<Vec<_>>().join(","));
+    }
+}
+
+/// One worker's share, in a folder of its own, which stays where a difference was found.
+fn compare_some(program: &Path, worker: usize, cases: &Cases, next: &AtomicU64) -> Counts {
+    let folder = env::temp_dir().join(format!("compare_bench.{}.{worker}", process::id()));
     fs::create_dir_all(&folder).expect("a folder of one's own");
     let mut counts = Counts::new();
-    for number in cases.numbers() {
-        let mut rng = cases.rng(number);
-        let (formula, sets) = random_files(number, &mut rng);
-        if let Err(difference) = compare_run(&program, &folder, &formula, &sets, &mut counts) {
-            println!("case {number} of seed {}, in {}\n{difference}", cases.seed, folder.display());
-            process::exit(1);
+    loop {
+        let number = next.fetch_add(1, Ordering::Relaxed);
+        if !cases.numbers().contains(&number) {
+            break;
+        }
+        let made = random_folder(&mut cases.rng(number));
+        match compare_run(program, &folder, &made) {
+            Ok(ending) => {
+                let kinds = [format!("formula {}", made.kinds[0]), format!("sets {}", made.kinds[1]), ending];
+                kinds.into_iter().for_each(|kind| *counts.entry(kind).or_default() += 1);
+            }
+            Err(difference) => {
+                println!("case {number} of seed {}, in {}\n{difference}", cases.seed, folder.display());
+                process::exit(1);
+            }
         }
     }
     fs::remove_dir_all(&folder).expect("the folder is there");
-    let list: Vec<String> = counts.iter().map(|(kind, count)| format!("{kind} {count}")).collect();
-    println!("no difference in {} cases; compared: {}", cases.count, list.join(", "));
-}
-
-fn random_files(number: u64, rng: &mut Rng) -> (Option<Vec<u8>>, Option<Vec<u8>>) {
-    let made = match number % 20 {
-        0 => heavy_sheet(rng),
-        1 => Made { bytes: plant(rng.between(1, 10) as u32, rng).bytes, sorts: [Sort::Whole; 32] },
-        2 => Made { bytes: mutate(&accepted_sheet(rng).bytes, rng), sorts: [Sort::Whole; 32] },
-        _ => accepted_sheet(rng),
-    };
-    let sets = random_sets(&made, rng);
-    (if rng.chance(1) { None } else { Some(made.bytes) }, if rng.chance(2) { None } else { Some(sets) })
-}
-
-fn random_sets(made: &Made, rng: &mut Rng) -> Vec<u8> {
-    let Ok(sheet) = sheet::read(&made.bytes) else { return b"          1\n".to_vec() };
-    let lines = if rng.chance(3) { 6000 } else { rng.between(0, 40) };
-    let mut text: Vec<u8> = (0..lines).flat_map(|_| write_set(&random_set(made, &sheet, rng)).into_bytes()).collect();
-    match rng.below(30) {
-        0 => drop(text.pop()),
-        1 if !text.is_empty() => {
-            let place = rng.below(text.len().min(500));
-            text[place] = rng.pick(b" 0123456789-TFE\n\r\0x");
-        }
-        2 if !text.is_empty() => drop(text.remove(rng.below(text.len().min(500)))),
-        3 => text.insert(rng.below(text.len() + 1), rng.pick(b" 019-TFE\n")),
-        4 => text.resize(rng.pick(&[MOST_SET_BYTES, MOST_SET_BYTES + 1]), b'\n'),
-        _ => {}
-    }
-    text
+    counts
 }
 
 fn put(path: PathBuf, bytes: &Option<Vec<u8>>) {
@@ -74,55 +76,56 @@ fn put(path: PathBuf, bytes: &Option<Vec<u8>>) {
     }
 }
 
-fn compare_run(
-    program: &Path,
-    folder: &Path,
-    formula: &Option<Vec<u8>>,
-    sets: &Option<Vec<u8>>,
-    counts: &mut Counts,
-) -> Result<(), String> {
-    put(folder.join("formula.txt"), formula);
-    put(folder.join("sets.txt"), sets);
+/// How both end, if the program prints what it must.
+fn compare_run(program: &Path, folder: &Path, made: &Folder) -> Result<String, String> {
+    put(folder.join("formula.txt"), &made.formula);
+    put(folder.join("sets.txt"), &made.sets);
     let run =
         Command::new(program).current_dir(folder).stdin(Stdio::null()).output().map_err(|error| error.to_string())?;
-    let (formula, sets) = (formula.as_deref().unwrap_or_default(), sets.as_deref().unwrap_or_default());
+    let (formula, sets) = (made.formula.as_deref().unwrap_or_default(), made.sets.as_deref().unwrap_or_default());
     let ours = bench(formula, sets);
+    if !run.stderr.is_empty() || !run.status.success() {
+        return Err(format!("the product ends with {}: {}", run.status, String::from_utf8_lossy(&run.stderr)));
+    }
     let last = ours.strip_suffix(b"\n").and_then(|text| text.rsplit(|&byte| byte == b'\n').next()).unwrap_or_default();
     let refusal = if last.len() == 12 { String::from_utf8_lossy(&last[..6]).trim().to_string() } else { "0".into() };
-    *counts.entry(format!("ended with {refusal:>2}")).or_default() += 1;
-    if !run.stderr.is_empty() {
-        return Err(format!("the product says {}", String::from_utf8_lossy(&run.stderr)));
+    if refusal != "36" {
+        return if run.stdout == ours { Ok(format!("ended with {refusal:>2}")) } else { Err(show(&ours, &run.stdout)) };
     }
-    let same = if refusal == "36" { own_results(formula, sets, &run.stdout) } else { run.stdout == ours };
-    if same {
-        return Ok(());
+    let first = ours.iter().position(|&byte| byte == b'\n').map_or(0, |end| end + 1);
+    let numbered = [&ours[..first], &before_36(formula, sets)?, b"    36     0\n"].concat();
+    match (run.stdout == numbered, first + 13 < numbered.len()) {
+        (false, _) => Err(show(&numbered, &run.stdout)),
+        (true, true) => Ok("ended with 36 behind results".into()),
+        (true, false) => Ok("ended with 36 alone".into()),
     }
-    let show = |text: &[u8]| String::from_utf8_lossy(&text[..text.len().min(2000)]).into_owned();
-    Err(format!("here\n{}\nthe product\n{}", show(&ours), show(&run.stdout)))
 }
 
-/// Of a run that ends with 36: the first line, results that evaluation gives for the sets in order, and 36 with row 0.
-fn own_results(formula: &[u8], sets: &[u8], printed: &[u8]) -> bool {
-    let ours = bench(formula, sets);
-    let mut lines: Vec<&[u8]> = printed.split_inclusive(|&byte| byte == b'\n').collect();
-    let Ok(sheet) = sheet::read(formula) else { return false };
-    if lines.pop() != Some(b"    36     0\n") || lines.is_empty() || !ours.starts_with(lines.remove(0)) {
-        return false;
-    }
-    let inputs = sheet.figures.inputs as usize;
-    let sets = sets.split_inclusive(|&byte| byte == b'\n').map(|line| read_line(line, inputs));
-    lines.iter().zip(sets).all(|(printed, set)| match eval::evaluate(&sheet, &set, ROUNDS) {
-        Ok(done) => *printed == write_set(done.set.used()).as_bytes(),
-        Err(_) => true,
-    })
+fn show(ours: &[u8], product: &[u8]) -> String {
+    let text = |bytes: &[u8]| String::from_utf8_lossy(&bytes[..bytes.len().min(2000)]).into_owned();
+    format!("here\n{}\nthe product\n{}", text(ours), text(product))
 }
 
-/// The values of a line that was read before.
-fn read_line(line: &[u8], inputs: usize) -> Vec<Value> {
-    let value = |field: &[u8]| match String::from_utf8_lossy(field).trim() {
-        "T" => Value::Truth(true),
-        "F" => Value::Truth(false),
-        number => number.parse().map_or(Value::Err, Value::Whole),
-    };
-    line[..11 * inputs].chunks_exact(11).map(value).collect()
+/// The lines before a 36, by the calls here on the machine that the product starts; each is what evaluation gives for its set.
+fn before_36(formula: &[u8], sets: &[u8]) -> Result<Vec<u8>, String> {
+    let sheet = sheet::read(formula).map_err(|_| "a refused sheet")?;
+    let sets = read_sets(sets, sheet.figures.inputs as usize).map_err(|_| "a refused set")?;
+    let mut mem = vec![0; memory::need(CAPACITY)];
+    let product = calls::product().expect("the product is linked");
+    (product.start)(formula, CAPACITY as u32, &mut mem);
+    let encoded: Vec<Vec<u8>> = sets.iter().map(|set| encode_set(set)).collect();
+    let mut results: Vec<Vec<Value>> = Vec::new();
+    let ran = PLAIN
+        .session(&mut mem, &encoded, FIRINGS, &mut |result| results.push(decode_set(result).expect("good values")));
+    if ran.refusal != 36 {
+        return Err(format!("{} firings of the product's graph are enough", ran.count));
+    }
+    for (set, result) in sets.iter().zip(&results) {
+        // A round takes a firing at least, so that a result there is needs no more.
+        match eval::evaluate(&sheet, set, FIRINGS) {
+            Ok(done) if done.set.used() == *result => {}
+            other => return Err(format!("evaluation gives {other:?} for {set:?}, the machine {result:?}")),
+        }
+    }
+    Ok(results.iter().flat_map(|result| write_set(result).into_bytes()).collect())
 }

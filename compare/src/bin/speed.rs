@@ -1,19 +1,21 @@
-// Times the reader, the evaluator and the machine's calls here and, with the feature `product`, the product's beside them in the same run. The last
-// column is the product's speed over ours: 1.00 is as fast, 0.50 takes twice as long.
+// Times the reader, the evaluator and the machine's calls here and, with the feature `product`, the product's beside them in the same run. Prints
+// the first table of docs/BENCHMARKS.md. The last column is the product's speed over ours: 1.00 is as fast, 0.50 takes twice as long.
 
 use compare::bytes::{self, OUT_BYTES};
+use compare::calls::{self, Calls, PLAIN};
 use compare::examples::{factorial, lesser, many_operators, negations};
-use compare::memory::{self, Answer, StartAnswer};
+use compare::memory;
 use compare::random::{random_set, Rng};
 use compare::sheet;
+use compare::table::{grouped, head, row, speed};
 use compare::timing::{side_by_side, Call};
 use compare::value::Value;
 use std::hint::black_box;
 
 fn main() {
-    println!("{:44}{:>12}{:>12}{:>8}", "", "ours, ns", "product, ns", "speed");
+    head(&["call", "plain, ns", "product, ns", "speed"]);
     for (name, bytes) in sheets() {
-        let text = format!("read: {name}, {} bytes", bytes.len());
+        let text = format!("read: {name}, {} bytes", grouped(bytes.len() as f64));
         report(&text, 1, &mut || bytes::read(black_box(&bytes)).refusal, &mut product_read(&bytes));
     }
     for (name, bytes, set, rounds) in evaluations() {
@@ -26,19 +28,22 @@ fn main() {
     }
 }
 
-/// Prints one line, the times divided by a number of like steps.
+/// Prints one row, the times divided by a number of like steps.
 fn report(name: &str, steps: u32, ours: &mut dyn FnMut() -> u32, product: &mut Option<Call<'_>>) {
     let (least, other) = side_by_side(ours, product);
     let (least, other) = (least / f64::from(steps), other.map(|time| time / f64::from(steps)));
-    match other {
-        Some(other) => println!("{name:44}{least:12.1}{other:12.1}{:8.2}", least / other),
-        None => println!("{name:44}{least:12.1}{:>12}{:>8}", "-", "-"),
-    }
+    let none = || String::from("-");
+    row(&[
+        name.into(),
+        grouped(least),
+        other.map_or_else(none, grouped),
+        other.map_or_else(none, |time| speed(least, time)),
+    ]);
 }
 
 /// The calls on a machine at capacity 2: a start; a run of as many sets as fit, by the firing; a take with the push of another set.
 fn machine(name: &str, sheet: &[u8], set: &[u8]) {
-    let start = product_calls().map_or(memory::start as fn(&[u8], u32, &mut [u8]) -> StartAnswer, |calls| calls.start);
+    let start = calls::product().unwrap_or(PLAIN).start;
     let mut fresh = vec![0; memory::need(2)];
     if start(sheet, 2, &mut fresh).refusal != 0 {
         return;
@@ -47,19 +52,24 @@ fn machine(name: &str, sheet: &[u8], set: &[u8]) {
         &format!("start: {name}"),
         1,
         &mut starting(PLAIN, sheet),
-        &mut product_calls().map(|calls| starting(calls, sheet)),
+        &mut calls::product().map(|calls| starting(calls, sheet)),
     );
 
     let mut loaded = fresh.clone();
     while memory::push(&mut loaded, set).refusal == 0 {}
     let firings = memory::run(&mut loaded.clone(), FIRINGS).count;
-    let mut product = product_calls().map(|calls| running(calls, &loaded));
-    report(&format!("run: a firing of {firings}, {name}"), firings, &mut running(PLAIN, &loaded), &mut product);
+    let mut product = calls::product().map(|calls| running(calls, &loaded));
+    report(
+        &format!("run, a firing: {name} ({} firings)", grouped(firings.into())),
+        firings,
+        &mut running(PLAIN, &loaded),
+        &mut product,
+    );
 
     let mut done = fresh.clone();
     memory::push(&mut done, set);
     memory::run(&mut done, FIRINGS);
-    let mut product = product_calls().map(|calls| taking(calls, &done, set));
+    let mut product = calls::product().map(|calls| taking(calls, &done, set));
     report(&format!("take and push: {name}"), 1, &mut taking(PLAIN, &done, set), &mut product);
 }
 
@@ -97,29 +107,6 @@ fn restore(mem: &mut [u8], from: &[u8]) {
     mem[links.clone()].copy_from_slice(&from[links]);
 }
 
-/// The calls on a machine.
-#[derive(Clone, Copy)]
-struct Calls {
-    start: fn(&[u8], u32, &mut [u8]) -> StartAnswer,
-    push: fn(&mut [u8], &[u8]) -> Answer,
-    run: fn(&mut [u8], u32) -> Answer,
-    take: fn(&mut [u8], &mut [u8]) -> Answer,
-}
-
-const PLAIN: Calls = Calls { start: memory::start, push: memory::push, run: memory::run, take: memory::take };
-
-/// The product's, where it is linked.
-#[cfg(feature = "product")]
-fn product_calls() -> Option<Calls> {
-    use compare::product::{push, run, start, take};
-    Some(Calls { start, push, run, take })
-}
-
-#[cfg(not(feature = "product"))]
-fn product_calls() -> Option<Calls> {
-    None
-}
-
 #[cfg(feature = "product")]
 fn product_read(bytes: &[u8]) -> Option<Call<'_>> {
     Some(Box::new(move || compare::product::read(black_box(bytes)).refusal))
@@ -152,7 +139,7 @@ fn sheets() -> Vec<(String, Vec<u8>)> {
         ("50 rows of negations".into(), negations(50)),
         ("100 rows of negations".into(), negations(100)),
         ("200 rows of negations".into(), negations(200)),
-        (format!("{operators} operators"), many),
+        (format!("{} operators", grouped(operators.into())), many),
         ("malformed near its end".into(), malformed),
         ("no rows".into(), vec![b' '; 6199]),
     ]
@@ -171,6 +158,6 @@ fn evaluations() -> Vec<(String, Vec<u8>, Vec<u8>, u32)> {
         ("factorial of 12".into(), factorial(), number(12), 100),
         ("10,000 rounds of factorial".into(), factorial(), number(10_000), 10_000),
         ("200 rows of negations".into(), negations(200), number(7), 0),
-        (format!("{} operators", sheet.figures.operators), many.bytes, set, 1000),
+        (format!("{} operators", grouped(sheet.figures.operators.into())), many.bytes, set, 1000),
     ]
 }

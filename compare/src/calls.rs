@@ -1,0 +1,55 @@
+// The calls on a machine's memory as a table, those here and the product's where it is linked, and the program's loop over them (document 01,
+// "Program and readings").
+
+use crate::bytes::{OUT_BYTES, VALUE_BYTES};
+use crate::memory::{self, Answer, StartAnswer};
+
+#[derive(Clone, Copy)]
+pub struct Calls {
+    pub start: fn(&[u8], u32, &mut [u8]) -> StartAnswer,
+    pub push: fn(&mut [u8], &[u8]) -> Answer,
+    pub run: fn(&mut [u8], u32) -> Answer,
+    pub take: fn(&mut [u8], &mut [u8]) -> Answer,
+}
+
+pub const PLAIN: Calls = Calls { start: memory::start, push: memory::push, run: memory::run, take: memory::take };
+
+/// The product's, where it is linked.
+#[cfg(feature = "product")]
+pub fn product() -> Option<Calls> {
+    use crate::product::{push, run, start, take};
+    Some(Calls { start, push, run, take })
+}
+
+#[cfg(not(feature = "product"))]
+pub fn product() -> Option<Calls> {
+    None
+}
+
+impl Calls {
+    /// "it pushes until refused or out of sets, runs with the firings left, takes until refused, and repeats until every set is taken", on a started
+    /// machine. Hands each result's values on; gives the firings made, and the run's 36.
+    pub fn session(&self, mem: &mut [u8], sets: &[Vec<u8>], firings: u32, each: &mut dyn FnMut(&[u8])) -> Answer {
+        let (mut pushed, mut taken, mut count) = (0, 0, 0);
+        let mut out = [0; OUT_BYTES];
+        while taken < sets.len() {
+            while pushed < sets.len() && (self.push)(mem, &sets[pushed]).refusal == 0 {
+                pushed += 1;
+            }
+            let ran = (self.run)(mem, firings - count);
+            count += ran.count;
+            loop {
+                let result = (self.take)(mem, &mut out);
+                if result.refusal != 0 {
+                    break;
+                }
+                each(&out[..VALUE_BYTES * result.count as usize]);
+                taken += 1;
+            }
+            if ran.refusal != 0 {
+                return Answer { refusal: ran.refusal, count };
+            }
+        }
+        Answer { refusal: 0, count }
+    }
+}

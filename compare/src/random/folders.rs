@@ -1,0 +1,194 @@
+// Random folders for the program bench: a formula file and a set file, each missing, sound, or at fault in one of the ways that the program tells
+// apart. Sets that keep a loop going for long are dropped from most folders: a million firings cost more than everything else.
+
+use super::faults::plant;
+use super::{accepted_sheet, heavy_sheet, loose_sheet, mutate, random_set, renamed_sheet, Made, Rng, Sort};
+use crate::bench::{write_set, FIELD, MOST_SET_BYTES};
+use crate::eval;
+use crate::sheet::{self, Sheet, ROW_BYTES};
+use crate::value::Value;
+
+/// A set that needs more rounds keeps a loop going for long.
+const ROUNDS: u32 = 300;
+
+/// How many folders in a hundred keep such sets.
+const KEPT: usize = 30;
+
+/// The bytes of the two files, none where a file is missing, and how each was made.
+pub struct Folder {
+    pub formula: Option<Vec<u8>>,
+    pub sets: Option<Vec<u8>>,
+    pub kinds: [&'static str; 2],
+}
+
+pub fn random_folder(rng: &mut Rng) -> Folder {
+    let (mut formula_kind, made) = random_formula(rng);
+    let (sets_kind, sets) = match sheet::read(&made.bytes) {
+        Ok(sheet) => {
+            formula_kind = if sheet.figures.inputs == 0 { "without inputs" } else { formula_kind };
+            random_sets(&made, &sheet, rng)
+        }
+        Err(_) => ("of a refused sheet", loose_sets(rng)),
+    };
+    let (no_formula, no_sets) = (rng.chance(1), rng.chance(2));
+    Folder {
+        kinds: [if no_formula { "missing" } else { formula_kind }, if no_sets { "missing" } else { sets_kind }],
+        formula: (!no_formula).then_some(made.bytes),
+        sets: (!no_sets).then_some(sets),
+    }
+}
+
+fn random_formula(rng: &mut Rng) -> (&'static str, Made) {
+    let unsorted = |bytes| Made { bytes, sorts: [Sort::Whole; 32] };
+    match rng.below(100) {
+        0..=2 => ("many operators", heavy_sheet(rng)),
+        3..=12 => ("planted fault", unsorted(plant(rng.between(1, 10) as u32, rng).bytes)),
+        13..=16 => ("altered bytes", unsorted(mutate(&accepted_sheet(rng).bytes, rng))),
+        17..=20 => ("over 6,200 bytes", unsorted(long_sheet(rng))),
+        21..=23 => ("other names", unsorted(renamed_sheet(rng))),
+        24..=26 => ("loose rows", unsorted(loose_sheet(rng))),
+        _ => ("accepted", accepted_sheet(rng)),
+    }
+}
+
+/// Over 200 rows, so over 6,200 bytes; often with a line feed missing or a byte too many, anywhere.
+fn long_sheet(rng: &mut Rng) -> Vec<u8> {
+    let rows = rng.pick(&[201, 202, 300, 2_315, 2_400, 4_500]);
+    let mut bytes: Vec<u8> = accepted_sheet(rng).bytes.into_iter().cycle().take(rows * ROW_BYTES).collect();
+    let place = rng.below(bytes.len());
+    match rng.below(5) {
+        0 => bytes[place / ROW_BYTES * ROW_BYTES + ROW_BYTES - 1] = rng.pick(b" 0\r"),
+        1 => bytes.insert(place, rng.pick(b" 0\n")),
+        2 => drop(bytes.pop()),
+        3 => bytes[place] = rng.pick(b" 0\n\0"),
+        _ => {}
+    }
+    bytes
+}
+
+fn random_sets(made: &Made, sheet: &Sheet, rng: &mut Rng) -> (&'static str, Vec<u8>) {
+    let line = FIELD * sheet.figures.inputs as usize + 1;
+    let (kind, lines) = match rng.below(100) {
+        0 | 1 => ("none", 0),
+        2..=82 => ("1 to 40", rng.between(1, 40)),
+        83..=94 => ("100 to 900", rng.between(100, 900)),
+        95 | 96 => ("as many as fit", MOST_SET_BYTES / line),
+        _ => ("more than fit", MOST_SET_BYTES / line + rng.pick(&[1, 1, 2, 500])),
+    };
+    let mut sets: Vec<Vec<Value>> = (0..lines).map(|_| random_set(made, sheet, rng)).collect();
+    if kind != "more than fit" {
+        part_long(&mut sets, sheet, rng);
+    }
+    let mut text: Vec<u8> = sets.iter().flat_map(|set| write_set(set).into_bytes()).collect();
+    (if rng.chance(25) { spoil(&mut text, line, rng) } else { kind }, text)
+}
+
+/// Drops the sets that keep a loop going for long, or leaves them, or puts them last, so that results come before a 36.
+fn part_long(sets: &mut Vec<Vec<Value>>, sheet: &Sheet, rng: &mut Rng) {
+    if sheet.lines.iter().all(|line| line.row.kind != 8) {
+        return;
+    }
+    let is_long = |set: &Vec<Value>| eval::evaluate(sheet, set, ROUNDS).is_err();
+    if !rng.chance(KEPT) {
+        sets.retain(|set| !is_long(set));
+    } else if rng.chance(50) {
+        sets.sort_by_cached_key(is_long);
+    }
+}
+
+const BAD_FIELDS: [&[u8; FIELD]; 20] = [
+    b"         -0",
+    b"         +1",
+    b"         01",
+    b"        -01",
+    b"          -",
+    b"          t",
+    b"         TT",
+    b"         -T",
+    b"1          ",
+    b"\t         1",
+    b"         1\t",
+    b"           ",
+    b"        1 2",
+    b" 2147483648",
+    b"-2147483649",
+    b"99999999999",
+    b"\0         1",
+    b"        1.0",
+    b"00000000000",
+    b"         e1",
+];
+
+const FAULTS: [&str; 9] = [
+    "unended",
+    "a byte changed",
+    "a byte left out",
+    "a byte too many",
+    "filled up",
+    "CR LF",
+    "two lines in one",
+    "something behind",
+    "a bad field",
+];
+
+/// Makes one fault in the text of sets, where it has room for it, and says which; another byte may be as good as the one it replaces.
+fn spoil(text: &mut Vec<u8>, line: usize, rng: &mut Rng) -> &'static str {
+    let lines = text.len() / line;
+    if lines == 0 {
+        *text = rng.pick(&[&b" "[..], b"x\n", b"\r\n", b"          1"]).to_vec();
+        return "a stray line";
+    }
+    let place = rng.below(text.len());
+    // Without inputs there is no field.
+    let fault = rng.pick(&FAULTS[..if line > 1 { 9 } else { 8 }]);
+    match fault {
+        "unended" => drop(text.pop()),
+        "a byte changed" => text[place] = rng.pick(b" 0123456789-TFE\n\r\0x"),
+        "a byte left out" => drop(text.remove(place)),
+        "a byte too many" => text.insert(place, rng.pick(b" 019-TFE\n")),
+        "filled up" => text.resize(rng.pick(&[MOST_SET_BYTES, MOST_SET_BYTES + 1, 200_000]), b'\n'),
+        "CR LF" => *text = String::from_utf8_lossy(text).replace('\n', "\r\n").into_bytes(),
+        "two lines in one" => drop(text.remove(rng.below(lines) * line + line - 1)),
+        "a bad field" => {
+            let field = rng.below(lines) * line + rng.below(line / FIELD) * FIELD;
+            text[field..field + FIELD].copy_from_slice(rng.pick::<&[u8; FIELD]>(&BAD_FIELDS));
+        }
+        _ => text.extend(rng.pick(&[&b"\n"[..], b" ", b"          1", b"\n\n"])),
+    }
+    fault
+}
+
+fn loose_sets(rng: &mut Rng) -> Vec<u8> {
+    match rng.below(4) {
+        0 => b"          1\n".to_vec(),
+        1 => vec![b'x'; rng.pick(&[1, MOST_SET_BYTES, MOST_SET_BYTES + 1])],
+        2 => Vec::new(),
+        _ => vec![b'\n'; rng.pick(&[1, 40, MOST_SET_BYTES + 1])],
+    }
+}
+
+#[cfg(test)]
+mod tests {
+    use super::*;
+    use crate::bench::read_sets;
+    use std::collections::BTreeMap;
+
+    #[test]
+    fn each_refusal_of_the_files_occurs_and_half_are_accepted() {
+        let mut seen: BTreeMap<u32, u32> = BTreeMap::new();
+        for case in 0..2_000 {
+            let folder = random_folder(&mut Rng::new(case));
+            let (formula, sets) = (folder.formula.unwrap_or_default(), folder.sets.unwrap_or_default());
+            let refusal = match sheet::read(&formula) {
+                Err(refusal) => refusal.number,
+                Ok(_) if sets.len() > MOST_SET_BYTES => 13,
+                Ok(sheet) => read_sets(&sets, sheet.figures.inputs as usize).err().map_or(0, |refusal| refusal.number),
+            };
+            *seen.entry(refusal).or_default() += 1;
+        }
+        for refusal in [0, 1, 2, 3, 4, 5, 6, 7, 8, 9, 10, 12, 13] {
+            assert!(seen.get(&refusal).is_some_and(|&count| count >= 10), "{refusal}: {seen:?}");
+        }
+        assert!(seen[&0] > 1_000, "{seen:?}");
+    }
+}
