@@ -28,22 +28,9 @@ use Rattle.begin.specs.StandsValid.{stands-size, stands-well}
 use Rattle.refusals.specs.RunCount.{run-is}
 use Rattle.demand.specs.Pushes.{pushRefusal, afterPush, push-answered}
 use Rattle.session.specs.Passes.{Fed, fed, feeding, takenFrom, lineBy, Drained, drained, withLine, draining, drainedOf, Pass, passBy, passOf, partOf, remainingAfter, passes}
+use Rattle.session.specs.PassLaws.{drain-zero, drain-handed, drain-refused}
 use Rattle.session.specs.FeedLaws.{feed-none, feed-accepted, feed-refused}
 use Rattle.session.specs.WholeSets.{EachWhole}
-
--- ---- a drain, take by take
-
-drain-zero : (m : List ℕ) → draining 0 m ≡ drained m [] 0
-unfolding draining
-drain-zero m = refl
-
-drain-handed : (n : ℕ) (m : List ℕ) → takenFrom m .answer .refusal ≡ 0 → draining (suc n) m ≡ withLine (lineBy (takenFrom m)) (draining n (takenFrom m .mem))
-unfolding draining
-drain-handed n m e = rw (eq-eqb (takenFrom m .answer .refusal) 0 e) refl
-
-drain-refused : (n : ℕ) (m : List ℕ) → (takenFrom m .answer .refusal ≡ 0 → ⊥) → draining (suc n) m ≡ drained (takenFrom m .mem) [] 0
-unfolding draining
-drain-refused n m i = rw (ne-eqb (takenFrom m .answer .refusal) 0 i) refl
 
 module _ (x : Exp) (S : Sound (madeOf x)) (capacity : ℕ) (low : 1 ≤ capacity) (high : capacity ≤ 16) where
   abbrev Standing : List ℕ → Links → Type 0

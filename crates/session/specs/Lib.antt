@@ -13,3 +13,4 @@ pub mod WholeSets
 pub mod Onward
 pub mod Ending
 pub mod AnyMemory
+pub mod OwnLines

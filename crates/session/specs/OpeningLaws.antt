@@ -38,11 +38,9 @@ use Rattle.session.specs.declared.passes.Stage.{Stage}
 use Rattle.session.specs.declared.opening.Opened.{Opened}
 use Rattle.session.specs.Passes.{passes}
 use Rattle.session.specs.Waiting.{Waiting}
-use Rattle.session.specs.WholeSets.{EachWhole, sets-whole}
-use Rattle.session.specs.Reached.{Reached, at-start}
-use Rattle.session.specs.Onward.{Underway, Going, over, on}
+use Rattle.session.specs.Onward.{Going, over, on}
 use Rattle.session.specs.Output.{allFirings, linkCapacity, judged, outputBy, outputIn, blankMemory, benchOutput}
-use Rattle.session.specs.OutputLaws.{any-memory}
+use Rattle.session.specs.OutputLaws.{starts, underway, any-memory}
 use Rattle.session.specs.Ending.{Proceeds}
 use Rattle.session.specs.Opening.{Refuses, Heads, JudgesBy, Judges, Whole, Begins, OpensTo}
 
@@ -208,11 +206,8 @@ module _ (first : List ℕ) (x : Seen) (file m : List ℕ) (r : Opened) (m′ l 
         (ap (λ (s : List ℕ). benchOutput s (file ++ moreSets)) (sheet-is more w) ∙ output-refused n (file ++ moreSets))
 
     module _ (z : a .refusal ≡ 0) where
-      accepting : started first linkCapacity m .answer .refusal ≡ 0
-      accepting = sym (ap (λ (b : Begun). b .answer .refusal) q) ∙ z
-
       accepts : AcceptedStart first linkCapacity m
-      accepts = accepted-start first linkCapacity m accepting
+      accepts = accepted-start first linkCapacity m (sym (ap (λ (b : Begun). b .answer .refusal) q) ∙ z)
 
       answers : begun a m′ ≡ begun (accepted (madeOf (formulaOf first))) (startedMemory (madeOf (formulaOf first)) linkCapacity m)
       answers = q ∙ accepts .whole
@@ -237,19 +232,6 @@ module _ (first : List ℕ) (x : Seen) (file m : List ℕ) (r : Opened) (m′ l 
       unfolding outputIn outputBy
       judged-output k = any-memory first file m room ∙ rw (accepts .passed, le-ltb 65536 (length file) k, inputs-are) refl
 
-      -- Before the first call of the loop: no set is pushed, and each of the file's passes 12.
-      underway : (ss : List (List ℕ)) → setsOf (a .inputs) file ≡ setsIn ss → Underway first linkCapacity m accepting (length ss) ss m′
-      unfolding setsOf
-      underway ss e =
-          let b : started first linkCapacity m .mem ≡ m′ = ap (λ (y : Begun). y .mem) (sym q) in
-          record {
-            sets = 0;
-            results = 0;
-            reached = subst (λ (y : List ℕ). Reached (started first linkCapacity m .mem) y 0 0) b (at-start (started first linkCapacity m .mem));
-            counts = refl;
-            whole = subst (λ (n : ℕ). EachWhole n ss) (ap (λ (y : Begun). y .answer .inputs) answers) (sets-whole (a .inputs) 1 (fileLines file) ss e);
-          }
-
       judged-begins : length file ≤ 65536 → (f : File) → setsOf (a .inputs) file ≡ f → JudgesBy f (a .inputs) (a .results) (length file) r l out → Begins first file file r m′ out
       unfolding judged setsOf
       judged-begins k (badLine i) e p =
@@ -259,7 +241,11 @@ module _ (first : List ℕ) (x : Seen) (file m : List ℕ) (r : Opened) (m′ l 
           record {
             rest = ss;
             waits = record { line = 1; lines-are = rw (p .inputs-are, p .at-start) e };
-            going = subst (λ (n : ℕ). Going n ss m′) (sym (p .all-left)) (on first linkCapacity m accepting (underway ss e));
+            going =
+                subst (λ (n : ℕ). Going n ss m′) (sym (p .all-left))
+                (subst (Going (length ss) ss) b
+                (on first linkCapacity m (starts first (accepts .passed) m room) ss
+                (underway first (accepts .passed) m file room ss (ap (λ (n : ℕ). setsOf n file) (sym inputs-are) ∙ e))));
             output-is =
                 judged-output k ∙ ap (judged first m (figuresOf first)) e
                 ∙ rw (p .all-left, p .all-firings, p .length-is, p .prints, inputs-are, results-are, b) refl;

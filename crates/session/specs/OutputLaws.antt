@@ -44,12 +44,12 @@ blank-long = omega (arith, length-replicate {A = ℕ} (need (sizeOf linkCapacity
 
 module _ (formula : List ℕ) (ok : verdictOf formula ≡ Passed) where
   -- The file's sets are sets of the graph's inputs.
-  whole-here : (file : List ℕ) (ss : List (List ℕ)) → setsOf (figuresOf formula .inputs) file ≡ sets ss → EachWhole (madeOf (formulaOf formula) .inputs) ss
+  pub whole-here : (file : List ℕ) (ss : List (List ℕ)) → setsOf (figuresOf formula .inputs) file ≡ sets ss → EachWhole (madeOf (formulaOf formula) .inputs) ss
   unfolding setsOf
   whole-here file ss e =
       subst (λ (n : ℕ). EachWhole n ss) (sym (same-figures formula ok .1)) (sets-whole (figuresOf formula .inputs) 1 (linesOf file) ss e)
 
-  starts : (m : List ℕ) → need (sizeOf linkCapacity) ≤ length m → started formula linkCapacity m .answer .refusal ≡ 0
+  pub starts : (m : List ℕ) → need (sizeOf linkCapacity) ≤ length m → started formula linkCapacity m .answer .refusal ≡ 0
   starts m h = start-accepts formula linkCapacity m ok low high h
 
   -- A machine started in any memory is the same machine.
@@ -71,15 +71,26 @@ module _ (formula : List ℕ) (ok : verdictOf formula ≡ Passed) where
       (same-passes (formulaOf formula) (made-sound formula ok) linkCapacity low high (length ss + allFirings) (length ss) ss (whole-here file ss e)
       (started formula linkCapacity m .mem) (started formula linkCapacity m′ .mem) allFirings (started-alike m m′ h h′))
 
+  -- Before the first call of the loop.
+  unfoldable pub underway : (m file : List ℕ) (h : need (sizeOf linkCapacity) ≤ length m) (ss : List (List ℕ)) → setsOf (figuresOf formula .inputs) file ≡ sets ss
+      → Underway formula linkCapacity m (starts m h) ss (length ss) ss (started formula linkCapacity m .mem)
+  underway m file h ss e =
+      record {
+        sets = [];
+        results = [];
+        reached = at-start (started formula linkCapacity m .mem);
+        in-order = refl;
+        counts = omega arith;
+        whole = whole-here file ss e;
+      }
+
   -- The repetitions of an accepted sheet and its sets end, and this is what they print.
   pub judged-repeats : (m file : List ℕ) → need (sizeOf linkCapacity) ≤ length m → (ss : List (List ℕ)) → setsOf (figuresOf formula .inputs) file ≡ sets ss
       → Repeats (length ss) ss (started formula linkCapacity m .mem) allFirings
       (passes (length ss + allFirings) (length ss) ss (started formula linkCapacity m .mem) allFirings)
   judged-repeats m file h ss e =
       passes-end (length ss + allFirings) (length ss) ss (started formula linkCapacity m .mem) allFirings
-      (on formula linkCapacity m (starts m h)
-      (record { sets = 0; results = 0; reached = at-start (started formula linkCapacity m .mem); counts = refl; whole = whole-here file ss e }))
-      (omega arith)
+      (on formula linkCapacity m (starts m h) ss (underway m file h ss e)) (omega arith)
 
 -- The lent memory makes no difference.
 pub any-memory : (formula file m : List ℕ) → need (sizeOf linkCapacity) ≤ length m → benchOutput formula file ≡ outputIn m formula file
@@ -92,13 +103,20 @@ any-memory formula file m h = go (verdictOf formula) refl
         ap (λ (z : List ℕ). pick (ltb 65536 (length file)) (refusalLine (numberOf SetFile) 0) z)
         (same-judged formula e blankMemory m file blank-long h (setsOf (figuresOf formula .inputs) file) refl)
 
+-- With good sets it is the first line and the repetitions.
+pub output-is : (formula file : List ℕ) → verdictOf formula ≡ Passed → length file ≤ 65536 → (ss : List (List ℕ)) → setsOf (figuresOf formula .inputs) file ≡ sets ss
+    → benchOutput formula file
+    ≡ headLine (figuresOf formula .inputs) (figuresOf formula .results) (length ss)
+    ++ passes (length ss + allFirings) (length ss) ss (started formula linkCapacity blankMemory .mem) allFirings
+unfolding benchOutput outputIn outputBy judged
+output-is formula file ok h ss e = rw (ok, le-ltb 65536 (length file) h, e) refl
+
 -- For an accepted sheet and good sets: the first line, and what the repetitions print until every set is taken.
 pub output-repeats : (formula file : List ℕ) → verdictOf formula ≡ Passed → length file ≤ 65536 → (ss : List (List ℕ)) → setsOf (figuresOf formula .inputs) file ≡ sets ss
     → (out : List ℕ) × Repeats (length ss) ss (started formula linkCapacity blankMemory .mem) allFirings out
     × (benchOutput formula file ≡ headLine (figuresOf formula .inputs) (figuresOf formula .results) (length ss) ++ out)
-unfolding benchOutput outputIn outputBy judged
 output-repeats formula file ok h ss e = (
   passes (length ss + allFirings) (length ss) ss (started formula linkCapacity blankMemory .mem) allFirings,
   judged-repeats formula ok blankMemory file blank-long ss e,
-  rw (ok, le-ltb 65536 (length file) h, e) refl,
+  output-is formula file ok h ss e,
 )

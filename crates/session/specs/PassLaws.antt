@@ -47,6 +47,20 @@ taken-untaken m h =
     let k = emptied-keeps m (sizeIn m) h (resultsOf m) in
     getD-set-same (emptied (resultsOf m) m (sizeIn m)) 7 (untakenOf m - 1) 0 (omega (arith, k .size, h))
 
+-- ---- a drain of a given length, take by take
+
+pub drain-zero : (m : List ℕ) → draining 0 m ≡ drained m [] 0
+unfolding draining
+drain-zero m = refl
+
+pub drain-handed : (n : ℕ) (m : List ℕ) → takenFrom m .answer .refusal ≡ 0 → draining (suc n) m ≡ withLine (lineBy (takenFrom m)) (draining n (takenFrom m .mem))
+unfolding draining
+drain-handed n m e = rw (eq-eqb (takenFrom m .answer .refusal) 0 e) refl
+
+pub drain-refused : (n : ℕ) (m : List ℕ) → (takenFrom m .answer .refusal ≡ 0 → ⊥) → draining (suc n) m ≡ drained (takenFrom m .mem) [] 0
+unfolding draining
+drain-refused n m i = rw (ne-eqb (takenFrom m .answer .refusal) 0 i) refl
+
 -- ---- the line of a take
 
 module _ (m : List ℕ) where

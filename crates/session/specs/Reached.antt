@@ -1,26 +1,31 @@
 -- The calls that the program makes, as one list from the memory that start left (demand/specs/MemoryCalls): each is lent the whole memory. So demand 3, which
 -- speaks of every such list, speaks of the program's loop. Assumes nothing.
-use Prim.Native.Nat.{ℕ, suc, _+_}
-use mathlib.Core.Path.{_≡_, refl, sym, ap, _∙_}
+use Prim.Native.Nat.{ℕ, zero, suc, _+_, _*_, _≤_}
+use mathlib.Core.Path.{_≡_, refl, sym, ap, ap₂, _∙_}
 use mathlib.Core.Bool.{Bool, cond}
 use mathlib.Core.List.{List, [], _∷_, _++_, append-nil}
 use native.Mathlib.Omega.{arith}
 use borrow.Author.Tests.{eq-eqb, ne-eqb}
-use lib.ListN.{length, drop, replicate, length-append, take as firstOf}
-use lib.Seq.{take-length, drop-length}
-use Rattle.calls.specs.Calls.{pushed, ran, taken}
-use Rattle.demand.specs.MemoryCalls.{Call, push, run, take, Result, accepted, memoryAfter, setOf, resultOf, memoryAfterAll, setsPushed, resultsTaken}
+use lib.ListN.{length, drop, replicate, length-replicate, take as firstOf}
+use lib.Seq.{take-length, take-all, drop-length}
+use Rattle.value.specs.Bytes.{stored}
+use Rattle.value.proofs.Words.{length-stored}
+use Rattle.layout.specs.Layout.{resultsOf}
+use Rattle.calls.specs.Calls.{Handed, sizeIn, resultWord, written, pushed, ran, taken}
+use Rattle.text.specs.Printed.{resultLine}
+use Rattle.demand.specs.MemoryCalls.{Call, push, run, take, Result, result, accepted, memoryAfter, setOf, resultOf, memoryAfterAll, setsPushed, resultsTaken}
 use Rattle.demand.specs.Oldest.{results-with, sets-with}
-use Rattle.session.specs.Passes.{takenFrom}
+use Rattle.session.specs.Passes.{takenFrom, lineBy}
+use Rattle.session.specs.PassLaws.{TakeSays, refuses, hands, take-says, line-handed}
 
--- A memory to which calls have led from a start, with the numbers of sets that they pushed and of results that they took.
-pub record Reached (start m : List ℕ) (sets results : ℕ) : Type 0 where
+-- A memory to which calls have led from a start, with the sets that they pushed and the results that they took.
+pub record Reached (start m : List ℕ) (sets : List (List ℕ)) (results : List Result) : Type 0 where
   pub calls : List Call
   pub memory : memoryAfterAll calls start ≡ m
-  pub sets-are : length (setsPushed calls start) ≡ sets
-  pub results-are : length (resultsTaken calls start) ≡ results
+  pub sets-are : setsPushed calls start ≡ sets
+  pub results-are : resultsTaken calls start ≡ results
 
-pub at-start : (start : List ℕ) → Reached start start 0 0
+pub at-start : (start : List ℕ) → Reached start start [] []
 unfolding memoryAfterAll setsPushed resultsTaken
 at-start start = record { calls = []; memory = refl; sets-are = refl; results-are = refl }
 
@@ -29,21 +34,37 @@ unfolding memoryAfterAll
 memory-with [] c m = refl
 memory-with (d ∷ calls) c m = memory-with calls c (memoryAfter d m)
 
-module _ (start m : List ℕ) (s r : ℕ) (R : Reached start m s r) where
-  one-more : (c : Call) (m′ : List ℕ) (s′ r′ : ℕ) → memoryAfter c m ≡ m′ → s + length (setOf c m) ≡ s′ → r + length (resultOf c m) ≡ r′ → Reached start m′ s′ r′
+-- ---- what a take hands out
+
+-- "a line for each set with an 11-character field a result"
+abbrev pub lineOf : Result → List ℕ
+lineOf r = resultLine (r .width) (r .bytes)
+
+abbrev pub handedFrom : List ℕ → Result
+handedFrom m = result (takenFrom m .answer .count) (takenFrom m .out)
+
+length-written : (j : ℕ) (m : List ℕ) (size k : ℕ) (o : List ℕ) → length (written j m size k o) ≡ length o
+unfolding written
+length-written zero m size k o = refl
+length-written (suc j) m size k o = length-stored (written j m size k o) (5 * j) (resultWord m size k j) ∙ length-written j m size k o
+
+eighty : (m : List ℕ) → length (takenFrom m .out) ≡ 80
+eighty m = go (take-says m)
+  where
+    go : TakeSays m → length (takenFrom m .out) ≡ 80
+    go (refuses r n p) = ap (λ (h : Handed). length (h .out)) p ∙ length-replicate {A = ℕ} 80 0
+    go (hands s u p) = ap (λ (h : Handed). length (h .out)) p ∙ length-written 16 m (sizeIn m) (resultsOf m) (replicate 80 0) ∙ length-replicate {A = ℕ} 80 0
+
+module _ (start m : List ℕ) (s : List (List ℕ)) (r : List Result) (R : Reached start m s r) where
+  one-more : (c : Call) (m′ : List ℕ) (s′ : List (List ℕ)) (r′ : List Result) → memoryAfter c m ≡ m′ → s ++ setOf c m ≡ s′ → r ++ resultOf c m ≡ r′
+      → Reached start m′ s′ r′
   one-more c m′ s′ r′ e f g =
       let p = R .memory in
       record {
         calls = R .calls ++ (c ∷ []);
         memory = memory-with (R .calls) c start ∙ ap (memoryAfter c) p ∙ e;
-        sets-are =
-            ap length (sets-with (R .calls) c start) ∙ length-append (setsPushed (R .calls) start) (setOf c (memoryAfterAll (R .calls) start))
-            ∙ ap (λ (z : List ℕ). length (setsPushed (R .calls) start) + length (setOf c z)) p
-            ∙ ap (λ (n : ℕ). n + length (setOf c m)) (R .sets-are) ∙ f;
-        results-are =
-            ap length (results-with (R .calls) c start) ∙ length-append (resultsTaken (R .calls) start) (resultOf c (memoryAfterAll (R .calls) start))
-            ∙ ap (λ (z : List ℕ). length (resultsTaken (R .calls) start) + length (resultOf c z)) p
-            ∙ ap (λ (n : ℕ). n + length (resultOf c m)) (R .results-are) ∙ g;
+        sets-are = sets-with (R .calls) c start ∙ ap₂ (λ (a : List (List ℕ)) (b : List ℕ). a ++ setOf c b) (R .sets-are) p ∙ f;
+        results-are = results-with (R .calls) c start ∙ ap₂ (λ (a : List Result) (b : List ℕ). a ++ resultOf c b) (R .results-are) p ∙ g;
       }
 
   -- ---- push
@@ -56,24 +77,24 @@ module _ (start m : List ℕ) (s r : ℕ) (R : Reached start m s r) where
   unfolding setOf
   pushes-set set b e = rw (take-length m, e) refl
 
-  pub after-push : (set : List ℕ) → pushed m set .answer .refusal ≡ 0 → Reached start (pushed m set .mem) (s + 1) r
+  pub after-push : (set : List ℕ) → pushed m set .answer .refusal ≡ 0 → Reached start (pushed m set .mem) (s ++ (set ∷ [])) r
   unfolding accepted resultOf
   after-push set e =
-      one-more (push (length m) set) (pushed m set .mem) (s + 1) r (push-leaves set)
-      (ap (λ (z : List (List ℕ)). s + length z) (pushes-set set _ (eq-eqb (pushed m set .answer .refusal) 0 e))) (omega arith)
+      one-more (push (length m) set) (pushed m set .mem) (s ++ (set ∷ [])) r (push-leaves set)
+      (ap (λ (z : List (List ℕ)). s ++ z) (pushes-set set _ (eq-eqb (pushed m set .answer .refusal) 0 e))) (append-nil r)
 
   pub after-refused-push : (set : List ℕ) → (pushed m set .answer .refusal ≡ 0 → ⊥) → Reached start (pushed m set .mem) s r
   unfolding accepted resultOf
   after-refused-push set n =
       one-more (push (length m) set) (pushed m set .mem) s r (push-leaves set)
-      (ap (λ (z : List (List ℕ)). s + length z) (pushes-set set _ (ne-eqb (pushed m set .answer .refusal) 0 n)) ∙ omega arith) (omega arith)
+      (ap (λ (z : List (List ℕ)). s ++ z) (pushes-set set _ (ne-eqb (pushed m set .answer .refusal) 0 n)) ∙ append-nil s) (append-nil r)
 
   -- ---- run
 
   pub after-run : (firings : ℕ) → Reached start (ran m firings .mem) s r
   unfolding memoryAfter setOf resultOf
   after-run firings =
-      one-more (run (length m) firings) (ran m firings .mem) s r (rw (take-length m, drop-length m) (append-nil (ran m firings .mem))) (omega arith) (omega arith)
+      one-more (run (length m) firings) (ran m firings .mem) s r (rw (take-length m, drop-length m) (append-nil (ran m firings .mem))) (append-nil s) (append-nil r)
 
   -- ---- take
 
@@ -81,19 +102,26 @@ module _ (start m : List ℕ) (s r : ℕ) (R : Reached start m s r) where
   unfolding memoryAfter takenFrom
   take-leaves = rw (take-length m, drop-length m) (append-nil (taken m (replicate 80 0) .mem))
 
-  takes-results : (b : Bool) → accepted (takenFrom m .answer) ≡ b → (n : ℕ) → cond b 1 0 ≡ n → length (resultOf (take (length m) (replicate 80 0)) m) ≡ n
+  takes-result : (b : Bool) → accepted (takenFrom m .answer) ≡ b
+      → resultOf (take (length m) (replicate 80 0)) m ≡ cond b (result (takenFrom m .answer .count) (firstOf 80 (takenFrom m .out)) ∷ []) []
   unfolding resultOf takenFrom
-  takes-results Bool.true e n z = rw (take-length m, e) z
-  takes-results Bool.false e n z = rw (take-length m, e) z
+  takes-result b e = rw (take-length m, e) refl
 
-  pub after-take : takenFrom m .answer .refusal ≡ 0 → Reached start (takenFrom m .mem) s (r + 1)
+  whole-result : result (takenFrom m .answer .count) (firstOf 80 (takenFrom m .out)) ≡ handedFrom m
+  whole-result = ap (result (takenFrom m .answer .count)) (take-all 80 (takenFrom m .out) (omega (arith, eighty m)))
+
+  pub after-take : takenFrom m .answer .refusal ≡ 0 → Reached start (takenFrom m .mem) s (r ++ (handedFrom m ∷ []))
   unfolding accepted setOf
   after-take e =
-      one-more (take (length m) (replicate 80 0)) (takenFrom m .mem) s (r + 1) take-leaves (omega arith)
-      (ap (λ (n : ℕ). r + n) (takes-results _ (eq-eqb (takenFrom m .answer .refusal) 0 e) 1 refl))
+      one-more (take (length m) (replicate 80 0)) (takenFrom m .mem) s (r ++ (handedFrom m ∷ [])) take-leaves (append-nil s)
+      (ap (λ (z : List Result). r ++ z) (takes-result _ (eq-eqb (takenFrom m .answer .refusal) 0 e) ∙ ap (λ (z : Result). z ∷ []) whole-result))
 
   pub after-refused-take : (takenFrom m .answer .refusal ≡ 0 → ⊥) → Reached start (takenFrom m .mem) s r
   unfolding accepted setOf
   after-refused-take n =
-      one-more (take (length m) (replicate 80 0)) (takenFrom m .mem) s r take-leaves (omega arith)
-      (ap (λ (n : ℕ). r + n) (takes-results _ (ne-eqb (takenFrom m .answer .refusal) 0 n) 0 refl) ∙ omega arith)
+      one-more (take (length m) (replicate 80 0)) (takenFrom m .mem) s r take-leaves (append-nil s)
+      (ap (λ (z : List Result). r ++ z) (takes-result _ (ne-eqb (takenFrom m .answer .refusal) 0 n)) ∙ append-nil r)
+
+-- An accepted take's line is its result's.
+pub line-of-take : (m : List ℕ) → takenFrom m .answer .refusal ≡ 0 → lineBy (takenFrom m) ≡ lineOf (handedFrom m)
+line-of-take m e = line-handed m e

@@ -1,0 +1,254 @@
+-- "A beacon's verdict comes from its own readings and nobody else's", of the program: behind its first line it prints the sets' own verdicts in the file's order,
+-- all of them, or the first ones and then 36. It is demand 3 (demand/specs/Demand3) of the calls that the program makes (Reached, Onward). Assumes an accepted
+-- sheet, good sets, and that direct evaluation of each of them ends.
+use Prim.Native.Nat.{ℕ, zero, suc, _+_, _-_, _≤_, _<_}
+use mathlib.Core.Path.{_≡_, refl, sym, ap, ap₂, subst, _∙_}
+use mathlib.Core.Logic.{_⊎_, inl, inr}
+use mathlib.Core.Bool.{Bool, true, false}
+use mathlib.Core.List.{List, [], _∷_, _++_, append-assoc, append-nil}
+use native.Mathlib.Omega.{arith}
+use native.Mathlib.Decide.{ℕ-discrete}
+use lib.ListN.{length, getD, take, length-append, List·getD-append}
+use Rattle.value.specs.Operators.{pick}
+use Rattle.formula.specs.declared.Refusal.the-variants.{Unfinished}
+use Rattle.formula.specs.declared.Verdict.the-variants.{Passed}
+use Rattle.formula.specs.Refusals.{numberOf}
+use Rattle.formula.specs.Tests.{verdictOf, figuresOf}
+use Rattle.layout.specs.Layout.{operatorsOf, sizeOf, need}
+use Rattle.runs.specs.Run.{runs, stillAt}
+use Rattle.calls.specs.Calls.{sizeIn, standing, ran}
+use Rattle.eval.specs.Evaluate.{evaluationOf}
+use Rattle.start.specs.Start.{started}
+use Rattle.refusals.specs.RunCount.{run-is}
+use Rattle.demand.specs.MemoryCalls.{Result, result, setsPushed, resultsTaken}
+use Rattle.demand.specs.Claim.{Enough, yielded}
+use Rattle.demand.specs.Demand3.{demand-3}
+use Rattle.demand.specs.Onward.{never-short}
+use Rattle.text.specs.Printed.{headLine, refusalLine}
+use Rattle.text.specs.SetLines.{sets, setsOf}
+use Rattle.session.specs.Passes.{feeding, drainedOf, Pass, passOf, partOf, remainingAfter, passes}
+use Rattle.session.specs.PassLaws.{part-plain, part-refused, remaining-plain, remaining-refused}
+use Rattle.session.specs.Reached.{Reached, lineOf}
+use Rattle.session.specs.Onward.{linesOf, Underway, F, D, underway-on, less-to-do}
+use Rattle.session.specs.Ending.{passes-over, passes-again}
+use Rattle.session.specs.Output.{linkCapacity, allFirings, judged, outputBy, outputIn, blankMemory, benchOutput}
+use Rattle.session.specs.OutputLaws.{blank-long, starts, underway, output-is}
+
+-- ---- the claim
+
+-- What direct evaluation of a set yields, as a line, with enough rounds for each set.
+unfoldable pub verdictLine : List ℕ → (List ℕ → ℕ) → List ℕ → List ℕ
+verdictLine formula rounds set = lineOf (yielded (evaluationOf formula set (rounds set)))
+
+unfoldable pub verdictLines : List ℕ → (List ℕ → ℕ) → List (List ℕ) → List ℕ
+unfolding verdictLine
+verdictLines formula rounds [] = []
+verdictLines formula rounds (s ∷ ss) = verdictLine formula rounds s ++ verdictLines formula rounds ss
+
+pub record OwnLines (formula : List ℕ) (rounds : List ℕ → ℕ) (ss : List (List ℕ)) (out : List ℕ) : Type 0 where
+  pub count : ℕ
+  pub few : count ≤ length ss
+  pub ending : List ℕ
+  -- the verdicts of the first sets, each of its own set
+  pub out-is : out ≡ verdictLines formula rounds (take count ss) ++ ending
+  -- of all sets and nothing more, or "36 prints last with row 0"
+  pub ends : ((count ≡ length ss) × (ending ≡ [])) ⊎ (ending ≡ refusalLine (numberOf Unfinished) 0)
+
+-- ---- lines of results
+
+lines-append : (a b : List Result) → linesOf (a ++ b) ≡ linesOf a ++ linesOf b
+unfolding linesOf
+lines-append [] b = refl
+lines-append (r ∷ a) b = ap (λ (z : List ℕ). lineOf r ++ z) (lines-append a b) ∙ sym (append-assoc (lineOf r) (linesOf a) (linesOf b))
+
+-- Results that are the sets' own have the sets' lines.
+lines-own : (formula : List ℕ) (rounds : List ℕ → ℕ) (rs : List Result) (ss : List (List ℕ)) → length rs ≤ length ss
+    → ((k : ℕ) → k < length rs → getD rs k (result 0 []) ≡ yielded (evaluationOf formula (getD ss k []) (rounds (getD ss k []))))
+    → linesOf rs ≡ verdictLines formula rounds (take (length rs) ss)
+unfolding linesOf verdictLines
+lines-own formula rounds [] ss h own = refl
+lines-own formula rounds (r ∷ rs) [] h own = absurd (omega arith)
+lines-own formula rounds (r ∷ rs) (s ∷ ss) h own =
+    ap₂ (λ (a b : List ℕ). a ++ b) (ap lineOf (own 0 (omega arith))) (lines-own formula rounds rs ss (omega arith) (λ k l. own (suc k) (omega arith)))
+
+-- ---- what is printed from a stage on
+
+module _ (sheet : List ℕ) (capacity : ℕ) (memory : List ℕ) (h : started sheet capacity memory .answer .refusal ≡ 0) (all : List (List ℕ)) where
+  abbrev start : List ℕ
+  start = started sheet capacity memory .mem
+
+  -- These results more are taken, and their lines printed, to the end.
+  record Prints (results : List Result) (out : List ℕ) : Type 0 where
+    more : List Result
+    memory-then : List ℕ
+    sets-then : List (List ℕ)
+    rest-then : List (List ℕ)
+    reached : Reached start memory-then sets-then (results ++ more)
+    in-order : sets-then ++ rest-then ≡ all
+    ending : List ℕ
+    out-is : out ≡ linesOf more ++ ending
+    ends : ((length (results ++ more) ≡ length all) × (ending ≡ [])) ⊎ (ending ≡ refusalLine (numberOf Unfinished) 0)
+
+  passes-over-any : (f : ℕ) (rest : List (List ℕ)) (m : List ℕ) (left : ℕ) → passes f 0 rest m left ≡ []
+  unfolding passes
+  passes-over-any zero rest m left = refl
+  passes-over-any (suc f) rest m left = passes-over f rest m left
+
+  -- A run of a machine that stands is refused with 36 alone.
+  run-unfinished : (m : List ℕ) (left : ℕ) → standing m ≡ 0 → (ran m left .answer .refusal ≡ 0 → ⊥) → ran m left .answer .refusal ≡ numberOf Unfinished
+  run-unfinished m left st n = go (stillAt (runs (sizeIn m) (operatorsOf m) left m 0 .mem) (sizeIn m) (operatorsOf m)) refl
+    where
+      go : (b : Bool) → stillAt (runs (sizeIn m) (operatorsOf m) left m 0 .mem) (sizeIn m) (operatorsOf m) ≡ b → ran m left .answer .refusal ≡ numberOf Unfinished
+      go true e = absurd (n (run-is m left st true e .2))
+      go false e = run-is m left st false e .2
+
+  module _ (n : ℕ) (rest : List (List ℕ)) (m : List ℕ) (left : ℕ) (U : Underway sheet capacity memory h all n rest m) where
+    none-left : n ≡ 0 → Prints (U .results) []
+    unfolding linesOf
+    none-left e =
+        record {
+          more = [];
+          memory-then = m;
+          sets-then = U .sets;
+          rest-then = rest;
+          reached = subst (Reached start m (U .sets)) (sym (append-nil (U .results))) (U .reached);
+          in-order = U .in-order;
+          ending = [];
+          out-is = refl;
+          ends = inl (ap length (append-nil (U .results)) ∙ omega (arith, U .counts, e), refl);
+        }
+
+    fed-stands : standing (feeding rest m .mem) ≡ 0
+    fed-stands =
+        let R = F sheet capacity memory h all n rest m left U .reached in
+        subst (λ (z : List ℕ). standing z ≡ 0) (R .memory) (never-short sheet capacity memory h (R .calls))
+
+    -- After a run's 36.
+    last-part : (ran (feeding rest m .mem) left .answer .refusal ≡ 0 → ⊥) → Prints (U .results) (partOf (passOf rest m left) ++ [])
+    unfolding underway-on
+    last-part i =
+        let d = D sheet capacity memory h all n rest m left U in
+        let on = underway-on sheet capacity memory h all n rest m left U in
+        record {
+          more = d .more;
+          memory-then = drainedOf (ran (feeding rest m .mem) left .mem) .mem;
+          sets-then = on .sets;
+          rest-then = feeding rest m .rest;
+          reached = d .reached;
+          in-order = on .in-order;
+          ending = refusalLine (numberOf Unfinished) 0;
+          out-is =
+              append-nil (partOf (passOf rest m left)) ∙ part-refused rest m left i
+              ∙ ap₂ (λ (a : List ℕ) (b : ℕ). a ++ refusalLine b 0) (d .lines-are) (run-unfinished (feeding rest m .mem) left fed-stands i);
+          ends = inr refl;
+        }
+
+    -- A part and what follows it.
+    then-more : ran (feeding rest m .mem) left .answer .refusal ≡ 0 → (out : List ℕ) → Prints (underway-on sheet capacity memory h all n rest m left U .results) out
+        → Prints (U .results) (partOf (passOf rest m left) ++ out)
+    unfolding underway-on
+    then-more e out P =
+        let d = D sheet capacity memory h all n rest m left U in
+        let z = append-assoc (U .results) (d .more) (P .more) in
+        record {
+          more = d .more ++ P .more;
+          memory-then = P .memory-then;
+          sets-then = P .sets-then;
+          rest-then = P .rest-then;
+          reached = subst (Reached start (P .memory-then) (P .sets-then)) z (P .reached);
+          in-order = P .in-order;
+          ending = P .ending;
+          out-is =
+              ap₂ (λ (a b : List ℕ). a ++ b) (part-plain rest m left e ∙ d .lines-are) (P .out-is)
+              ∙ sym (append-assoc (linesOf (d .more)) (linesOf (P .more)) (P .ending))
+              ∙ ap (λ (a : List ℕ). a ++ P .ending) (sym (lines-append (d .more) (P .more)));
+          ends = subst (λ (r : List Result). ((length r ≡ length all) × (P .ending ≡ [])) ⊎ (P .ending ≡ refusalLine (numberOf Unfinished) 0)) z (P .ends);
+        }
+
+    abbrev p : Pass
+    p = passOf rest m left
+
+    -- A repetition, and what is printed behind it.
+    one-part : (f : ℕ) → 0 < n → n + left ≤ suc f
+        → ((k : ℕ) (on : Underway sheet capacity memory h all k (p .rest) (p .mem)) → k + p .left ≤ f → Prints (on .results) (passes f k (p .rest) (p .mem) (p .left)))
+        → Prints (U .results) (partOf p ++ passes f (remainingAfter n p) (p .rest) (p .mem) (p .left))
+    unfolding passOf
+    one-part f some l later = go (ℕ-discrete (ran (feeding rest m .mem) left .answer .refusal) 0)
+      where
+        go : Dec (ran (feeding rest m .mem) left .answer .refusal ≡ 0) → Prints (U .results) (partOf p ++ passes f (remainingAfter n p) (p .rest) (p .mem) (p .left))
+        go (yes e) =
+            let taken = drainedOf (ran (feeding rest m .mem) left .mem) .count in
+            let less = less-to-do sheet capacity memory h all n rest m left U some e in
+            subst (λ (i : ℕ). Prints (U .results) (partOf p ++ passes f i (p .rest) (p .mem) (p .left))) (sym (remaining-plain rest m left n e))
+            (then-more e (passes f (n - taken) (p .rest) (p .mem) (p .left))
+            (later (n - taken) (underway-on sheet capacity memory h all n rest m left U) (omega (arith, less, l))))
+        go (no i) =
+            subst (λ (z : List ℕ). Prints (U .results) (partOf p ++ z))
+            (sym (ap (λ (k : ℕ). passes f k (p .rest) (p .mem) (p .left)) (remaining-refused rest m left n i) ∙ passes-over-any f (p .rest) (p .mem) (p .left)))
+            (last-part i)
+
+  prints : (f n : ℕ) (rest : List (List ℕ)) (m : List ℕ) (left : ℕ) (U : Underway sheet capacity memory h all n rest m) → n + left ≤ f
+      → Prints (U .results) (passes f n rest m left)
+  prints zero zero rest m left U l = subst (Prints (U .results)) (sym (passes-over-any 0 rest m left)) (none-left 0 rest m left U refl)
+  prints zero (suc n) rest m left U l = absurd (omega arith)
+  prints (suc f) zero rest m left U l = subst (Prints (U .results)) (sym (passes-over f rest m left)) (none-left 0 rest m left U refl)
+  prints (suc f) (suc n) rest m left U l =
+      subst (Prints (U .results)) (sym (passes-again f rest m left n))
+      (one-part (suc n) rest m left U f (omega arith) l
+      (λ k on b. prints f k (passOf rest m left .rest) (passOf rest m left .mem) (passOf rest m left .left) on b))
+
+-- ---- the program
+
+module _ (formula file : List ℕ) (ok : verdictOf formula ≡ Passed) (small : length file ≤ 65536) (ss : List (List ℕ)) (good : setsOf (figuresOf formula .inputs) file ≡ sets ss)
+    (rounds : List ℕ → ℕ) (enough : (j : ℕ) → j < length ss → Enough formula (getD ss j []) (rounds (getD ss j []))) where
+  abbrev begins : started formula linkCapacity blankMemory .answer .refusal ≡ 0
+  begins = starts formula ok blankMemory blank-long
+
+  P : Prints formula linkCapacity blankMemory begins ss [] (passes (length ss + allFirings) (length ss) ss (started formula linkCapacity blankMemory .mem) allFirings)
+  unfolding underway
+  P =
+      prints formula linkCapacity blankMemory begins ss (length ss + allFirings) (length ss) ss (started formula linkCapacity blankMemory .mem) allFirings
+      (underway formula ok blankMemory file blank-long ss good) (omega arith)
+
+  no-more : length (P .more) ≤ length (P .sets-then)
+  no-more =
+      omega (
+        arith,
+        demand-3 formula linkCapacity blankMemory begins (P .reached .calls) .none-invented,
+        ap length (P .reached .results-are),
+        ap length (P .reached .sets-are),
+      )
+
+  fits : length (P .more) ≤ length ss
+  fits = omega (arith, no-more, sym (length-append (P .sets-then) (P .rest-then)) ∙ ap length (P .in-order))
+
+  set-at : (k : ℕ) → k < length (P .sets-then) → getD (setsPushed (P .reached .calls) (started formula linkCapacity blankMemory .mem)) k [] ≡ getD ss k []
+  set-at k l =
+      ap (λ (z : List (List ℕ)). getD z k []) (P .reached .sets-are)
+      ∙ sym (List·getD-append (P .sets-then) (P .rest-then) [] k l) ∙ ap (λ (z : List (List ℕ)). getD z k []) (P .in-order)
+
+  own : (k : ℕ) → k < length (P .more) → getD (P .more) k (result 0 []) ≡ yielded (evaluationOf formula (getD ss k []) (rounds (getD ss k [])))
+  own k l =
+      let calls = P .reached .calls in
+      let begin = started formula linkCapacity blankMemory .mem in
+      let e : (j : ℕ) → j ≤ k → Enough formula (getD (setsPushed calls begin) j []) (rounds (getD ss j []))
+      = λ j b. subst (λ (z : List ℕ). Enough formula z (rounds (getD ss j []))) (sym (set-at j (omega (arith, no-more)))) (enough j (omega (arith, fits))) in
+      ap (λ (z : List Result). getD z k (result 0 [])) (sym (P .reached .results-are))
+      ∙ demand-3 formula linkCapacity blankMemory begins calls .own k (omega (arith, ap length (P .reached .results-are)))
+      (λ j b. (rounds (getD ss j []), e j b)) (rounds (getD ss k [])) (e k (omega arith))
+      ∙ ap (λ (z : List ℕ). yielded (evaluationOf formula z (rounds (getD ss k [])))) (set-at k (omega (arith, no-more)))
+
+  -- THE PROGRAM PRINTS EACH SET'S OWN VERDICT.
+  pub program-own-lines : (out : List ℕ) × OwnLines formula rounds ss out
+      × (benchOutput formula file ≡ headLine (figuresOf formula .inputs) (figuresOf formula .results) (length ss) ++ out)
+  program-own-lines = (
+    passes (length ss + allFirings) (length ss) ss (started formula linkCapacity blankMemory .mem) allFirings,
+    record {
+      count = length (P .more);
+      few = fits;
+      ending = P .ending;
+      out-is = P .out-is ∙ ap (λ (z : List ℕ). z ++ P .ending) (lines-own formula rounds (P .more) ss fits own);
+      ends = P .ends;
+    },
+    output-is formula file ok small ss good,
+  )
