@@ -39,6 +39,7 @@ use Rattle.reference.specs.Plugged.{link-of, portsOf}
 use Rattle.wiring.specs.Links.{optional, inputLinks, outputLinks}
 use Rattle.view.specs.Sound.{Ith, PortOf, PortIs, HeldOf, Formed, Sound}
 use Rattle.begin.specs.Positions.{ith-there, ith-inputs, ith-outputs, in-first, in-rest, in-optional, in-getD, different-parts, different-rest, different-getD}
+use Rattle.view.specs.FireCall.{stands-size}
 use Rattle.view.specs.Stands.{Waits, Recorded, wordIn, Fine, Registered, Stands}
 
 -- ---- truths
@@ -336,17 +337,10 @@ module _ (g : Made) (S : Sound g) (capacity : ℕ) (low : 1 ≤ capacity) (high 
       (and-both links-valid
       (and-both (below-all (inputsOf m + 1) (inputOk m) input-valid) (below-all (resultsOf m) (resultOk m 74) result-valid))))
 
-  pub stands-capacity : capacityOf m ≡ capacity
-  unfolding capacityIn
-  stands-capacity = ap capacityIn (H .capacity-is) ∙ ap (λ (b : Bool). pick b capacity 1) (and-both (le-leb 1 capacity low) (le-leb capacity 16 high))
-
-  pub stands-size : sizeIn m ≡ sizeOf capacity
-  stands-size = ap sizeOf stands-capacity
-
   -- neither 11 nor 31
   pub stands-well : standing m ≡ 0
   unfolding standing
   stands-well =
       ap (λ (b : Bool). pick b (numberOf Memory) (pick (valid m) 0 (numberOf Altered)))
-      (ap (λ (s : ℕ). ltb (length m) (need s)) stands-size ∙ le-ltb (length m) (need (sizeOf capacity)) (H .long))
+      (ap (λ (s : ℕ). ltb (length m) (need s)) (stands-size g S capacity low high m q H) ∙ le-ltb (length m) (need (sizeOf capacity)) (H .long))
       ∙ ap (λ (b : Bool). pick b 0 (numberOf Altered)) stands-valid

@@ -39,7 +39,7 @@ use Rattle.ends.specs.ResultBytes.{cellBytes, cells-result, length-result}
 use Rattle.ends.specs.Sets.{values-set}
 use Rattle.demand.specs.Evaluations.{shown}
 use Rattle.begin.specs.Lent.{stands-lent, stands-behind, short-refused}
-use Rattle.begin.specs.StandsValid.{stands-size}
+use Rattle.view.specs.FireCall.{stands-size}
 use Rattle.demand.specs.Agree.{CallsAgree}
 
 -- A take hands out one value for each result port.

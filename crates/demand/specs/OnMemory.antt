@@ -41,7 +41,7 @@ use Rattle.demand.specs.MemoryCalls.{Call, fire, take, Result, result, a
 use Rattle.demand.specs.Claim.{Enough, Ends, yielded, OwnVerdicts}
 use Rattle.demand.specs.Evaluations.{shown, enough-yields}
 use Rattle.begin.specs.Lent.{stands-lent}
-use Rattle.begin.specs.StandsValid.{stands-size}
+use Rattle.view.specs.FireCall.{stands-size}
 use Rattle.demand.specs.Agree.{CallsAgree}
 use Rattle.demand.specs.Follow.{shownTokens, Follows}
 use Rattle.demand.specs.FollowAll.{calls-follow, calls-unaltered, read-count, read-at}

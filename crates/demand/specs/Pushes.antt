@@ -31,7 +31,8 @@ use Rattle.ends.specs.Sets.{IsSet, values-pass, values-set}
 use Rattle.ends.specs.PushLinks.{push-room, room-push}
 use Rattle.ends.specs.Push.{tests-push, push-accepted, stands-pushed}
 use Rattle.begin.specs.Lent.{stands-lent, stands-behind}
-use Rattle.begin.specs.StandsValid.{stands-size, stands-well}
+use Rattle.view.specs.FireCall.{stands-size}
+use Rattle.begin.specs.StandsValid.{stands-well}
 use Rattle.start.specs.Start.{started, startedMemory}
 use Rattle.begin.specs.MadeSound.{made-sound}
 use Rattle.begin.specs.StartedStands.{started-stands}

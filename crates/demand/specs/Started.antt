@@ -9,40 +9,16 @@ use borrow.Author.Tests.{ltb-false, leb-true, le-leb, le-ltb}
 use lib.Dec.{ltb, leb}
 use lib.ListN.{length}
 use Rattle.value.specs.Operators.{pick}
-use Rattle.formula.specs.declared.Refusal.{Refusal}
-use Rattle.formula.specs.declared.Refusal.the-variants.{Layout, Rows, Malformed, Range, Naming, Named, StrayIter, Width, Unused, Operators, Memory, Set, SetFile, Capacity, Altered, Untaken, Full, NotAble, NoResult, Unfinished}
+use Rattle.formula.specs.declared.Refusal.the-variants.{Memory, Capacity}
 use Rattle.formula.specs.declared.Verdict.{Verdict}
 use Rattle.formula.specs.declared.Verdict.the-variants.{Passed, Refused}
-use Rattle.formula.specs.Refusals.{numberOf}
+use Rattle.formula.specs.Refusals.{numberOf, number-positive}
 use Rattle.formula.specs.Tree.{formulaOf}
 use Rattle.formula.specs.Tests.{verdictOf}
 use Rattle.graph.specs.Translation.{madeOf}
 use Rattle.layout.specs.Layout.{sizeOf, need, capacityIn}
 use Rattle.valid.specs.Below.{and-left, and-right, and-both}
 use Rattle.start.specs.Start.{begun, refusal, startedMemory, byVerdict, started}
-
--- Every refusal has a number, and 0 is none.
-refusal-number : (r : Refusal) → 1 ≤ numberOf r
-refusal-number Layout = omega arith
-refusal-number Rows = omega arith
-refusal-number Malformed = omega arith
-refusal-number Range = omega arith
-refusal-number Naming = omega arith
-refusal-number Named = omega arith
-refusal-number StrayIter = omega arith
-refusal-number Width = omega arith
-refusal-number Unused = omega arith
-refusal-number Operators = omega arith
-refusal-number Memory = omega arith
-refusal-number Set = omega arith
-refusal-number SetFile = omega arith
-refusal-number Capacity = omega arith
-refusal-number Altered = omega arith
-refusal-number Untaken = omega arith
-refusal-number Full = omega arith
-refusal-number NotAble = omega arith
-refusal-number NoResult = omega arith
-refusal-number Unfinished = omega arith
 
 pub record StartAccepted (sheet : List ℕ) (capacity : ℕ) (m : List ℕ) : Type 0 where
   pub passed : verdictOf sheet ≡ Passed
@@ -62,7 +38,7 @@ module _ (sheet : List ℕ) (capacity : ℕ) (m : List ℕ) where
           → StartAccepted sheet capacity m
       go true p b e v z i = absurd (omega arith)
       go false p false e v z i = absurd (omega arith)
-      go false p true e (Refused r row) z i = absurd (omega (arith, refusal-number r))
+      go false p true e (Refused r row) z i = absurd (omega (arith, number-positive r))
       go false p true e Passed z i =
           record {
             passed = z;

@@ -8,7 +8,6 @@ use mathlib.Core.Bool.{Bool, true, false}
 use mathlib.Core.List.{List, [], _∷_, _++_}
 use mathlib.Core.Option.{Option, none, some}
 use native.Mathlib.Omega.{arith}
-use borrow.Author.Tests.{le-leb}
 use lib.ListN.{length, take, set, length-set, length-append}
 use lib.Seq.{getD-set-same, getD-set-other, drop-set-lt}
 use Rattle.network.specs.Rules.{Register}
@@ -16,7 +15,7 @@ use Rattle.network.specs.Net.{Token, Links, tail, pop, pop-same, pop-other, app
 use Rattle.network.specs.Uses.{In}
 use Rattle.network.specs.Fill.{remembering}
 use Rattle.network.specs.Firing.{Holds}
-use Rattle.layout.specs.Layout.{untakenOf, registerAt, linkAt, sizeOf, capacityIn}
+use Rattle.layout.specs.Layout.{untakenOf, registerAt, linkAt, sizeOf}
 use Rattle.machine.specs.LinkLaws.{linkPart}
 use Rattle.graph.specs.Assembly.{Operator}
 use Rattle.graph.specs.Translation.{Made}
@@ -24,7 +23,6 @@ use Rattle.reference.specs.Plugged.{nowhere, registers, link-of, portsOf}
 use Rattle.wiring.specs.Links.{optional}
 use Rattle.wiring.specs.Wiring.{outputsAt}
 use Rattle.verdicts.specs.Owed.{creditLink}
-use Rattle.calls.specs.Calls.{sizeIn}
 use Rattle.view.specs.Sound.{Ith, Sound}
 use Rattle.view.specs.Stands.{Waits, Registered, Stands}
 use Rattle.view.specs.Waits.{word-agrees}
@@ -90,8 +88,3 @@ module _ (g : Made) (S : Sound g) where
         shorter : (ts : List Token) → length (tail ts) ≡ length ts - 1
         shorter [] = refl
         shorter (t ∷ ts) = omega arith
-
-    -- The stored capacity is the machine's.
-    pub stands-size : 1 ≤ capacity → capacity ≤ 16 → sizeIn m ≡ sizeOf capacity
-    unfolding capacityIn
-    stands-size low high = rw (H .capacity-is, le-leb 1 capacity low, le-leb capacity 16 high) refl

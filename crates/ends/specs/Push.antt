@@ -29,11 +29,12 @@ use Rattle.verdicts.specs.Running.{places, pushOf}
 use Rattle.calls.specs.Calls.{outcome, answers, refusal, sizeIn, standing, setOk, inputRoom, roomsOk, entered, triggered, pushedMemory, pushed}
 use Rattle.calls.specs.CallLaws.{pushed-untaken, pushed-full, pushed-accepted}
 use Rattle.view.specs.Sound.{Sound}
+use Rattle.view.specs.FireCall.{stands-size}
 use Rattle.view.specs.Stands.{Stands}
 use Rattle.view.specs.Moves.{stands-room, stands-append}
 use Rattle.ends.specs.Sets.{IsSet, values-pass}
 use Rattle.ends.specs.PushLinks.{pushInto, given, given-other, cued, cued-other, push-acts, push-room, room-push}
-use Rattle.ends.specs.Credit.{stands-untaken, stands-size}
+use Rattle.ends.specs.Credit.{stands-untaken}
 
 pub push-is : (x : Exp) (v : List Value) → pushInto (madeOf x) v ≡ pushOf x v
 push-is x v = refl
@@ -153,7 +154,7 @@ module _ (g : Made) (S : Sound g) (capacity : ℕ) (low : 1 ≤ capacity) (high 
       stands-triggered : Stands g capacity (triggered m s) cued-links
       unfolding triggered
       stands-triggered =
-          rw (stands-size g S capacity m q H low high, H .inputs-are) (stands-cued (g .triggered) refl)
+          rw (stands-size g S capacity low high m q H, H .inputs-are) (stands-cued (g .triggered) refl)
 
       credit-kept : cued-links creditLink ≡ q creditLink
       credit-kept =
@@ -177,7 +178,7 @@ module _ (g : Made) (S : Sound g) (capacity : ℕ) (low : 1 ≤ capacity) (high 
       set-good = rw (H .inputs-are) (values-pass (g .inputs) s v (I .values))
 
       rooms-in : (b : Bool) → roomsOk m size (g .inputs) ≡ b → roomsOk m (sizeIn m) (inputsOf m) ≡ b
-      rooms-in b e = rw (stands-size g S capacity m q H low high, H .inputs-are) e
+      rooms-in b e = rw (stands-size g S capacity low high m q H, H .inputs-are) e
 
       pub push-accepted : Able (places capacity) (pushInto g v) q → pushed m s ≡ outcome (answers 0 0) (pushedMemory m s)
       push-accepted a =

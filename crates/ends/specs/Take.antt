@@ -31,11 +31,12 @@ use Rattle.verdicts.specs.ResultSets.{valueIn, valuesIn}
 use Rattle.calls.specs.Calls.{handed, answers, refusal, sizeIn, standing, resultReady, written, emptied, takenMemory, taken}
 use Rattle.calls.specs.CallLaws.{taken-none, taken-empty, taken-accepted}
 use Rattle.view.specs.Sound.{Sound}
+use Rattle.view.specs.FireCall.{stands-size}
 use Rattle.view.specs.Stands.{Stands}
 use Rattle.view.specs.Moves.{stands-head, stands-none, stands-value, stands-remove}
 use Rattle.ends.specs.ResultBytes.{resultBytes, written-result}
 use Rattle.ends.specs.TakeLinks.{headsOf, popped, in-at, different-at, popped-other, take-acts, take-label, take-waits, waits-take}
-use Rattle.ends.specs.Credit.{stands-untaken, stands-size}
+use Rattle.ends.specs.Credit.{stands-untaken}
 
 -- Take from a graph: for a formula x, `takeOf x` is `takeFrom (madeOf x)`.
 abbrev pub takeFrom : Made → Demand
@@ -170,7 +171,7 @@ module _ (g : Made) (S : Sound g) (capacity : ℕ) (low : 1 ≤ capacity) (high 
     pub stands-taken : Stands g capacity (takenMemory m) (act (takeFrom g) q)
     unfolding takenMemory
     stands-taken =
-        rw (stands-size g S capacity m q H low high, H .results-are)
+        rw (stands-size g S capacity low high m q H, H .results-are)
         (subst (Stands g capacity (set (emptied (length results) m size) 7 (untakenOf m - 1))) (sym (take-acts results (S .wired .results-differ) q))
         (stands-untaken g S capacity (emptied (length results) m size) popped-links (stands-emptied (length results) (omega arith)) (untakenOf m - 1) (pop creditLink popped-links)
         (λ l ne. pop-other creditLink l popped-links ne)
@@ -215,13 +216,13 @@ module _ (g : Made) (S : Sound g) (capacity : ℕ) (low : 1 ≤ capacity) (high 
 
   module _ (st : standing m ≡ 0) (o : List ℕ) (long : 80 ≤ length o) where
     ready-in : (b : Bool) → allBelow (resultsOf m) (resultReady m size) ≡ b → allBelow (resultsOf m) (resultReady m (sizeIn m)) ≡ b
-    ready-in b e = rw (stands-size g S capacity m q H low high) e
+    ready-in b e = rw (stands-size g S capacity low high m q H) e
 
     pub take-accepted : Able (places capacity) (takeFrom g) q
         → taken m o ≡ handed (answers 0 (length (resultIn g q))) (takenMemory m) (resultBytes (resultIn g q) ++ drop 80 o)
     take-accepted a =
         let t = take-tests a in
-        let e : written 16 m (sizeIn m) (resultsOf m) o ≡ resultBytes (resultIn g q) ++ drop 80 o = rw (stands-size g S capacity m q H low high) (take-writes a o long) in
+        let e : written 16 m (sizeIn m) (resultsOf m) o ≡ resultBytes (resultIn g q) ++ drop 80 o = rw (stands-size g S capacity low high m q H) (take-writes a o long) in
         taken-accepted m st o long (and-left (ltb 0 (untakenOf m)) (allBelow (resultsOf m) (resultReady m size)) t)
         (ready-in true (and-right (ltb 0 (untakenOf m)) (allBelow (resultsOf m) (resultReady m size)) t))
         ∙ ap₂ (λ (n : ℕ) (bytes : List ℕ). handed (answers 0 n) (takenMemory m) bytes) (H .results-are ∙ sym (result-width a)) e

@@ -1,5 +1,6 @@
 -- Document 01, "Said by what was handed in" and "Said by how the machine stands": the number of each refusal.
-use Prim.Native.Nat.{ℕ}
+use Prim.Native.Nat.{ℕ, _≤_}
+use native.Mathlib.Omega.{arith}
 use Rattle.formula.specs.declared.Refusal.{Refusal}
 use Rattle.formula.specs.declared.Refusal.the-variants.{Layout, Rows, Malformed, Range, Naming, Named, StrayIter, Width, Unused, Operators, Memory, Set, SetFile, Capacity, Altered, Untaken, Full, NotAble, NoResult, Unfinished}
 
@@ -24,3 +25,26 @@ numberOf Full = 33
 numberOf NotAble = 34
 numberOf NoResult = 35
 numberOf Unfinished = 36
+
+-- 0 is no refusal's number: an answer of 0 is an acceptance.
+pub number-positive : (r : Refusal) → 1 ≤ numberOf r
+number-positive Layout = omega arith
+number-positive Rows = omega arith
+number-positive Malformed = omega arith
+number-positive Range = omega arith
+number-positive Naming = omega arith
+number-positive Named = omega arith
+number-positive StrayIter = omega arith
+number-positive Width = omega arith
+number-positive Unused = omega arith
+number-positive Operators = omega arith
+number-positive Memory = omega arith
+number-positive Set = omega arith
+number-positive SetFile = omega arith
+number-positive Capacity = omega arith
+number-positive Altered = omega arith
+number-positive Untaken = omega arith
+number-positive Full = omega arith
+number-positive NotAble = omega arith
+number-positive NoResult = omega arith
+number-positive Unfinished = omega arith

@@ -19,7 +19,7 @@ use Rattle.formula.specs.declared.Check.the-variants.{Passed, Fault}
 use Rattle.formula.specs.declared.Verdict.{Verdict}
 use Rattle.formula.specs.declared.Verdict.the-variants.{Passed as passed, Refused}
 use Rattle.formula.specs.declared.Figures.{Figures}
-use Rattle.formula.specs.Refusals.{numberOf}
+use Rattle.formula.specs.Refusals.{numberOf, number-positive}
 use Rattle.formula.specs.Sheet.{rowCount, linesOf, fieldsOf}
 use Rattle.formula.specs.Places.{placesOf}
 use Rattle.formula.specs.Tree.{Exp, formulaOf}
@@ -37,7 +37,7 @@ use Rattle.valid.specs.Valid.{valid}
 use Rattle.runs.specs.Run.{Ran, runs, stillAt}
 use Rattle.calls.specs.Calls.{outcome, handed, answers, refusal, sizeIn, standing, setOk, roomsOk, pushedMemory, pushed, fired, ended, ran, resultReady, written, takenMemory, taken}
 use Rattle.start.specs.Start.{begun, byVerdict, started, refusal as startRefusal}
-use Rattle.refusals.specs.FirstRefusal.{Row, first-refusal, number-positive}
+use Rattle.refusals.specs.FirstRefusal.{Row, first-refusal}
 use Rattle.refusals.specs.Conditions.{short, no-room, altered, no-set, link-full, pushTable, fireTable, runTable, takeTable, failed, sheetTable, short-asked, startTable, no-values, lacking, rounds-lacking, is-none, is-unfinished, evaluateTable}
 
 -- ---- push, fire, run, take

@@ -8,7 +8,7 @@ use mathlib.Core.List.{List, [], _∷_}
 use native.Mathlib.Omega.{arith}
 use Rattle.formula.specs.declared.Refusal.{Refusal}
 use Rattle.formula.specs.declared.Refusal.the-variants.{Layout, Rows, Malformed, Range, Naming, Named as named, StrayIter, Width, Unused, Operators, Memory, Set, SetFile, Capacity, Altered, Untaken, Full, NotAble, NoResult, Unfinished}
-use Rattle.formula.specs.Refusals.{numberOf}
+use Rattle.formula.specs.Refusals.{numberOf, number-positive}
 
 -- A condition with the refusal that it brings.
 abbrev pub Row : Type 0
@@ -42,29 +42,6 @@ NoneHolds (c ∷ cs) = (c .0 ≡ false) × NoneHolds cs
 abbrev pub FirstHolds : ℕ → List Row → Type 0
 FirstHolds n [] = ⊥
 FirstHolds n (c ∷ cs) = ((c .0 ≡ true) × (numberOf (c .1) ≡ n)) ⊎ ((c .0 ≡ false) × FirstHolds n cs)
-
--- Every refusal has a number, and 0 is none.
-pub number-positive : (r : Refusal) → 1 ≤ numberOf r
-number-positive Layout = omega arith
-number-positive Rows = omega arith
-number-positive Malformed = omega arith
-number-positive Range = omega arith
-number-positive Naming = omega arith
-number-positive named = omega arith
-number-positive StrayIter = omega arith
-number-positive Width = omega arith
-number-positive Unused = omega arith
-number-positive Operators = omega arith
-number-positive Memory = omega arith
-number-positive Set = omega arith
-number-positive SetFile = omega arith
-number-positive Capacity = omega arith
-number-positive Altered = omega arith
-number-positive Untaken = omega arith
-number-positive Full = omega arith
-number-positive NotAble = omega arith
-number-positive NoResult = omega arith
-number-positive Unfinished = omega arith
 
 none-first : (cs : List Row) → first-refusal cs ≡ 0 → NoneHolds cs
 unfolding first-refusal

@@ -24,7 +24,8 @@ use Rattle.view.specs.Run.{run-same, still-cannot, cannot-still}
 use Rattle.ends.specs.ResultBytes.{resultBytes}
 use Rattle.ends.specs.Sets.{set-values}
 use Rattle.ends.specs.Take.{takeFrom, resultIn, stands-taken, take-accepted, take-refused}
-use Rattle.begin.specs.StandsValid.{stands-size, stands-well}
+use Rattle.view.specs.FireCall.{stands-size}
+use Rattle.begin.specs.StandsValid.{stands-well}
 use Rattle.refusals.specs.RunCount.{run-is}
 use Rattle.demand.specs.Pushes.{pushRefusal, afterPush, push-answered}
 use Rattle.session.specs.Passes.{Fed, fed, feeding, takenFrom, lineBy, Drained, drained, withLine, draining, drainedOf, Pass, passBy, passOf, partOf, remainingAfter, passes}
