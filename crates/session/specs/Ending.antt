@@ -6,7 +6,7 @@ use mathlib.Core.List.{List, [], _++_}
 use native.Mathlib.Omega.{arith}
 use borrow.Author.Tests.{ne-eqb}
 use Rattle.session.specs.declared.passes.Stage.{Stage}
-use Rattle.session.specs.Passes.{Pass, passOf, partOf, remainingAfter, Repeats, every-set-taken, again, passes}
+use Rattle.session.specs.Passes.{Pass, passOf, partOf, remainingAfter, Repeats, none-left, again, passes}
 use Rattle.session.specs.Waiting.{Waiting, PassesTo}
 use Rattle.session.specs.Onward.{Going, goes-on}
 
@@ -27,24 +27,34 @@ module _ (f : ℕ) (rest : List (List ℕ)) (m : List ℕ) (left : ℕ) where
 
 -- ---- the loop ends
 
-pub passes-end : (f n : ℕ) (rest : List (List ℕ)) (m : List ℕ) (left : ℕ) → Going n rest m → n + left ≤ f → Repeats n rest m left (passes f n rest m left)
+-- What is printed with enough repetitions, and the memory at their end.
+pub record Finished (n : ℕ) (rest : List (List ℕ)) (m : List ℕ) (left : ℕ) (out : List ℕ) : Type 0 where
+  pub last : List ℕ
+  pub repeats : Repeats n rest m left out last
+
+pub passes-end : (f n : ℕ) (rest : List (List ℕ)) (m : List ℕ) (left : ℕ) → Going n rest m → n + left ≤ f → Finished n rest m left (passes f n rest m left)
 unfolding passes
-passes-end zero zero rest m left g h = every-set-taken rest m left
+passes-end zero zero rest m left g h = record { last = m; repeats = none-left rest m left }
 passes-end zero (suc n) rest m left g h = absurd (omega arith)
-passes-end (suc f) zero rest m left g h = subst (Repeats 0 rest m left) (sym (passes-over f rest m left)) (every-set-taken rest m left)
+passes-end (suc f) zero rest m left g h = subst (Finished 0 rest m left) (sym (passes-over f rest m left)) (record { last = m; repeats = none-left rest m left })
 passes-end (suc f) (suc n) rest m left g h =
     let o = goes-on (suc n) rest m left g (omega arith) in
     let q = passOf rest m left in
-    subst (Repeats (suc n) rest m left) (sym (passes-again f rest m left n))
-    (again n rest m left (passes f (remainingAfter (suc n) q) (q .rest) (q .mem) (q .left))
-    (passes-end f (remainingAfter (suc n) q) (q .rest) (q .mem) (q .left) (o .going) (omega (arith, o .less))))
+    let e = passes-end f (remainingAfter (suc n) q) (q .rest) (q .mem) (q .left) (o .going) (omega (arith, o .less)) in
+    subst (Finished (suc n) rest m left) (sym (passes-again f rest m left n))
+    (record {
+      last = e .last;
+      repeats = again n rest m left (passes f (remainingAfter (suc n) q) (q .rest) (q .mem) (q .left)) (e .last) (e .repeats);
+    })
 
--- Repetitions that end print one thing.
-pub repeats-once : (n : ℕ) (rest : List (List ℕ)) (m : List ℕ) (left : ℕ) (out out′ : List ℕ) → Repeats n rest m left out → Repeats n rest m left out′ → out ≡ out′
-repeats-once zero rest m left out out′ (every-set-taken a b c) (every-set-taken d e g) = refl
-repeats-once (suc n) rest m left out out′ (again i a b c later r) (again j d e g later′ r′) =
+-- Repetitions that end print one thing and leave one memory.
+pub repeats-once : (n : ℕ) (rest : List (List ℕ)) (m : List ℕ) (left : ℕ) (out out′ last last′ : List ℕ) → Repeats n rest m left out last → Repeats n rest m left out′ last′
+    → (out ≡ out′) × (last ≡ last′)
+repeats-once zero rest m left out out′ last last′ (none-left a b c) (none-left d e g) = (refl, refl)
+repeats-once (suc n) rest m left out out′ last last′ (again i a b c later end r) (again j d e g later′ end′ r′) =
     let p = passOf rest m left in
-    ap (λ (z : List ℕ). partOf p ++ z) (repeats-once (remainingAfter (suc n) p) (p .rest) (p .mem) (p .left) later later′ r r′)
+    let o = repeats-once (remainingAfter (suc n) p) (p .rest) (p .mem) (p .left) later later′ end end′ r r′ in
+    (ap (λ (z : List ℕ). partOf p ++ z) (o .0), o .1)
 
 -- ---- as the code has it
 
@@ -53,6 +63,15 @@ pub record Proceeds (inputs : ℕ) (file : List ℕ) (stage : Stage) (m : List �
   pub rest : List (List ℕ)
   pub waits : Waiting inputs file (stage .at) rest
   pub going : Going (stage .remaining) rest m
+
+-- The loop has made every repetition: whatever sets wait, the memory is the one that they leave.
+abbrev pub RepeatsTo : ℕ → List ℕ → Stage → List ℕ → List ℕ → Type 0
+RepeatsTo inputs file stage m last =
+    (rest : List (List ℕ)) → Waiting inputs file (stage .at) rest → (out : List ℕ) × Repeats (stage .remaining) rest m (stage .firings) out last
+
+-- A loop that has come from one stage to another: what the repetitions from there on leave, those from the first leave.
+abbrev pub ComesTo : ℕ → List ℕ → Stage → List ℕ → Stage → List ℕ → Type 0
+ComesTo inputs file stage₀ m₀ stage m = (last : List ℕ) → RepeatsTo inputs file stage m last → RepeatsTo inputs file stage₀ m₀ last
 
 pub record ProceedsOn (inputs : ℕ) (file : List ℕ) (stage r : Stage) (m′ : List ℕ) : Type 0 where
   pub on : Proceeds inputs file r m′
@@ -74,3 +93,27 @@ proceeds-on inputs file stage m r m′ out p h f =
       };
       less = omega (arith, o .less, t .remaining-is, t .firings-are);
     }
+
+-- A stage with a set left, one repetition on.
+repeats-on : (n : ℕ) (rest : List (List ℕ)) (m : List ℕ) (left : ℕ) (out last : List ℕ) → 0 < n
+    → Repeats (remainingAfter n (passOf rest m left)) (passOf rest m left .rest) (passOf rest m left .mem) (passOf rest m left .left) out last
+    → Repeats n rest m left (partOf (passOf rest m left) ++ out) last
+repeats-on zero rest m left out last h r = absurd (omega arith)
+repeats-on (suc n) rest m left out last h r = again n rest m left out last r
+
+pub comes-on : (inputs : ℕ) (file : List ℕ) (stage₀ : Stage) (m₀ : List ℕ) (stage : Stage) (m : List ℕ) (r : Stage) (m′ out : List ℕ) → 0 < stage .remaining
+    → PassesTo inputs file stage m r m′ out → ComesTo inputs file stage₀ m₀ stage m → ComesTo inputs file stage₀ m₀ r m′
+comes-on inputs file stage₀ m₀ stage m r m′ out h f c last t =
+    c last
+    (λ rest w.
+    let p = f rest w in
+    let a = passOf rest m (stage .firings) in
+    let e = t (a .rest) (p .waits) in
+    let g : Repeats (remainingAfter (stage .remaining) a) (a .rest) (a .mem) (a .left) (e .0) last
+    = rw (sym (p .remaining-is), sym (p .memory), sym (p .firings-are)) (e .1) in
+    (partOf a ++ e .0, repeats-on (stage .remaining) rest m (stage .firings) (e .0) last h g))
+
+pub comes-to-end : (inputs : ℕ) (file : List ℕ) (stage₀ : Stage) (m₀ : List ℕ) (stage : Stage) (m : List ℕ) → stage .remaining ≡ 0
+    → ComesTo inputs file stage₀ m₀ stage m → RepeatsTo inputs file stage₀ m₀ m
+comes-to-end inputs file stage₀ m₀ stage m e c =
+    c m (λ rest w. ([], subst (λ (n : ℕ). Repeats n rest m (stage .firings) [] m) (sym e) (none-left rest m (stage .firings))))

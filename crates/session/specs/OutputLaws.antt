@@ -24,11 +24,11 @@ use Rattle.demand.specs.Demand3.{start-stands}
 use Rattle.verdicts.specs.Running.{startOf}
 use Rattle.text.specs.Printed.{headLine, refusalLine}
 use Rattle.text.specs.SetLines.{SetFile as Sets, sets, badLine, setsOf, linesOf}
-use Rattle.session.specs.Passes.{Repeats, passes}
+use Rattle.session.specs.Passes.{passes}
 use Rattle.session.specs.WholeSets.{EachWhole, sets-whole}
 use Rattle.session.specs.Reached.{at-start}
 use Rattle.session.specs.Onward.{Underway, Going, on}
-use Rattle.session.specs.Ending.{passes-end}
+use Rattle.session.specs.Ending.{Finished, passes-end}
 use Rattle.session.specs.AnyMemory.{Alike, same-passes}
 use Rattle.session.specs.Output.{linkCapacity, allFirings, judged, outputBy, outputIn, blankMemory, benchOutput}
 
@@ -86,7 +86,7 @@ module _ (formula : List ℕ) (ok : verdictOf formula ≡ Passed) where
 
   -- The repetitions of an accepted sheet and its sets end, and this is what they print.
   pub judged-repeats : (m file : List ℕ) → need (sizeOf linkCapacity) ≤ length m → (ss : List (List ℕ)) → setsOf (figuresOf formula .inputs) file ≡ sets ss
-      → Repeats (length ss) ss (started formula linkCapacity m .mem) allFirings
+      → Finished (length ss) ss (started formula linkCapacity m .mem) allFirings
       (passes (length ss + allFirings) (length ss) ss (started formula linkCapacity m .mem) allFirings)
   judged-repeats m file h ss e =
       passes-end (length ss + allFirings) (length ss) ss (started formula linkCapacity m .mem) allFirings
@@ -113,7 +113,7 @@ output-is formula file ok h ss e = rw (ok, le-ltb 65536 (length file) h, e) refl
 
 -- For an accepted sheet and good sets: the first line, and what the repetitions print until every set is taken.
 pub output-repeats : (formula file : List ℕ) → verdictOf formula ≡ Passed → length file ≤ 65536 → (ss : List (List ℕ)) → setsOf (figuresOf formula .inputs) file ≡ sets ss
-    → (out : List ℕ) × Repeats (length ss) ss (started formula linkCapacity blankMemory .mem) allFirings out
+    → (out : List ℕ) × Finished (length ss) ss (started formula linkCapacity blankMemory .mem) allFirings out
     × (benchOutput formula file ≡ headLine (figuresOf formula .inputs) (figuresOf formula .results) (length ss) ++ out)
 output-repeats formula file ok h ss e = (
   passes (length ss + allFirings) (length ss) ss (started formula linkCapacity blankMemory .mem) allFirings,

@@ -1,6 +1,6 @@
 -- "A beacon's verdict comes from its own readings and nobody else's", of the program: behind its first line it prints the sets' own verdicts in the file's order,
 -- all of them, or the first ones and then 36. It is demand 3 (demand/specs/Demand3) of the calls that the program makes (Reached, Onward). Assumes an accepted
--- sheet, good sets, and that direct evaluation of each of them ends.
+-- sheet and good sets.
 use Prim.Native.Nat.{ℕ, zero, suc, _+_, _-_, _≤_, _<_}
 use mathlib.Core.Path.{_≡_, refl, sym, ap, ap₂, subst, _∙_}
 use mathlib.Core.Logic.{_⊎_, inl, inr}
@@ -21,7 +21,7 @@ use Rattle.eval.specs.Evaluate.{evaluationOf}
 use Rattle.start.specs.Start.{started}
 use Rattle.refusals.specs.RunCount.{run-is}
 use Rattle.demand.specs.MemoryCalls.{Result, result, setsPushed, resultsTaken}
-use Rattle.demand.specs.Claim.{Enough, yielded}
+use Rattle.demand.specs.Claim.{Enough, Ends, yielded}
 use Rattle.demand.specs.Demand3.{demand-3}
 use Rattle.demand.specs.Onward.{never-short}
 use Rattle.text.specs.Printed.{headLine, refusalLine}
@@ -36,23 +36,22 @@ use Rattle.session.specs.OutputLaws.{blank-long, starts, underway, outpu
 
 -- ---- the claim
 
--- What direct evaluation of a set yields, as a line, with enough rounds for each set.
-unfoldable pub verdictLine : List ℕ → (List ℕ → ℕ) → List ℕ → List ℕ
-verdictLine formula rounds set = lineOf (yielded (evaluationOf formula set (rounds set)))
-
-unfoldable pub verdictLines : List ℕ → (List ℕ → ℕ) → List (List ℕ) → List ℕ
-unfolding verdictLine
-verdictLines formula rounds [] = []
-verdictLines formula rounds (s ∷ ss) = verdictLine formula rounds s ++ verdictLines formula rounds ss
-
-pub record OwnLines (formula : List ℕ) (rounds : List ℕ → ℕ) (ss : List (List ℕ)) (out : List ℕ) : Type 0 where
-  pub count : ℕ
-  pub few : count ≤ length ss
+-- What is printed behind the first line: the results taken, each in its line, and what ends them.
+pub record OwnLines (formula : List ℕ) (ss : List (List ℕ)) (out : List ℕ) : Type 0 where
+  pub results : List Result
   pub ending : List ℕ
-  -- the verdicts of the first sets, each of its own set
-  pub out-is : out ≡ verdictLines formula rounds (take count ss) ++ ending
-  -- of all sets and nothing more, or "36 prints last with row 0"
-  pub ends : ((count ≡ length ss) × (ending ≡ [])) ⊎ (ending ≡ refusalLine (numberOf Unfinished) 0)
+  pub out-is : out ≡ linesOf results ++ ending
+  pub few : length results ≤ length ss
+  -- "if direct evaluation of each of the first k sets pushed ends, the k-th result taken is exactly what it yields for the k-th set pushed" (k from 0)
+  pub own : (k : ℕ) → k < length results → ((j : ℕ) → j ≤ k → Ends formula (getD ss j [])) → (rounds : ℕ) → Enough formula (getD ss k []) rounds
+      → getD results k (result 0 []) ≡ yielded (evaluationOf formula (getD ss k []) rounds)
+  -- every set has its line and nothing follows, or "36 prints last with row 0"
+  pub ends : ((length results ≡ length ss) × (ending ≡ [])) ⊎ (ending ≡ refusalLine (numberOf Unfinished) 0)
+
+-- The lines that direct evaluation of some sets gives, with a number of rounds for each.
+unfoldable pub verdictLines : List ℕ → (List ℕ → ℕ) → List (List ℕ) → List ℕ
+verdictLines formula rounds [] = []
+verdictLines formula rounds (s ∷ ss) = lineOf (yielded (evaluationOf formula s (rounds s))) ++ verdictLines formula rounds ss
 
 -- ---- lines of results
 
@@ -103,9 +102,9 @@ module _ (sheet : List ℕ) (capacity : ℕ) (memory : List ℕ) (h : started sh
       go false e = run-is m left st false e .2
 
   module _ (n : ℕ) (rest : List (List ℕ)) (m : List ℕ) (left : ℕ) (U : Underway sheet capacity memory h all n rest m) where
-    none-left : n ≡ 0 → Prints (U .results) []
+    at-end : n ≡ 0 → Prints (U .results) []
     unfolding linesOf
-    none-left e =
+    at-end e =
         record {
           more = [];
           memory-then = m;
@@ -189,9 +188,9 @@ module _ (sheet : List ℕ) (capacity : ℕ) (memory : List ℕ) (h : started sh
 
   prints : (f n : ℕ) (rest : List (List ℕ)) (m : List ℕ) (left : ℕ) (U : Underway sheet capacity memory h all n rest m) → n + left ≤ f
       → Prints (U .results) (passes f n rest m left)
-  prints zero zero rest m left U l = subst (Prints (U .results)) (sym (passes-over-any 0 rest m left)) (none-left 0 rest m left U refl)
+  prints zero zero rest m left U l = subst (Prints (U .results)) (sym (passes-over-any 0 rest m left)) (at-end 0 rest m left U refl)
   prints zero (suc n) rest m left U l = absurd (omega arith)
-  prints (suc f) zero rest m left U l = subst (Prints (U .results)) (sym (passes-over f rest m left)) (none-left 0 rest m left U refl)
+  prints (suc f) zero rest m left U l = subst (Prints (U .results)) (sym (passes-over f rest m left)) (at-end 0 rest m left U refl)
   prints (suc f) (suc n) rest m left U l =
       subst (Prints (U .results)) (sym (passes-again f rest m left n))
       (one-part (suc n) rest m left U f (omega arith) l
@@ -199,8 +198,7 @@ module _ (sheet : List ℕ) (capacity : ℕ) (memory : List ℕ) (h : started sh
 
 -- ---- the program
 
-module _ (formula file : List ℕ) (ok : verdictOf formula ≡ Passed) (small : length file ≤ 65536) (ss : List (List ℕ)) (good : setsOf (figuresOf formula .inputs) file ≡ sets ss)
-    (rounds : List ℕ → ℕ) (enough : (j : ℕ) → j < length ss → Enough formula (getD ss j []) (rounds (getD ss j []))) where
+module _ (formula file : List ℕ) (ok : verdictOf formula ≡ Passed) (small : length file ≤ 65536) (ss : List (List ℕ)) (good : setsOf (figuresOf formula .inputs) file ≡ sets ss) where
   abbrev begins : started formula linkCapacity blankMemory .answer .refusal ≡ 0
   begins = starts formula ok blankMemory blank-long
 
@@ -227,28 +225,34 @@ module _ (formula file : List ℕ) (ok : verdictOf formula ≡ Passed) (small : 
       ap (λ (z : List (List ℕ)). getD z k []) (P .reached .sets-are)
       ∙ sym (List·getD-append (P .sets-then) (P .rest-then) [] k l) ∙ ap (λ (z : List (List ℕ)). getD z k []) (P .in-order)
 
-  own : (k : ℕ) → k < length (P .more) → getD (P .more) k (result 0 []) ≡ yielded (evaluationOf formula (getD ss k []) (rounds (getD ss k [])))
-  own k l =
-      let calls = P .reached .calls in
-      let begin = started formula linkCapacity blankMemory .mem in
-      let e : (j : ℕ) → j ≤ k → Enough formula (getD (setsPushed calls begin) j []) (rounds (getD ss j []))
-      = λ j b. subst (λ (z : List ℕ). Enough formula z (rounds (getD ss j []))) (sym (set-at j (omega (arith, no-more)))) (enough j (omega (arith, fits))) in
+  own-result : (k : ℕ) → k < length (P .more) → ((j : ℕ) → j ≤ k → Ends formula (getD ss j [])) → (rounds : ℕ) → Enough formula (getD ss k []) rounds
+      → getD (P .more) k (result 0 []) ≡ yielded (evaluationOf formula (getD ss k []) rounds)
+  own-result k l end rounds enough =
+      let here = set-at k (omega (arith, no-more)) in
       ap (λ (z : List Result). getD z k (result 0 [])) (sym (P .reached .results-are))
-      ∙ demand-3 formula linkCapacity blankMemory begins calls .own k (omega (arith, ap length (P .reached .results-are)))
-      (λ j b. (rounds (getD ss j []), e j b)) (rounds (getD ss k [])) (e k (omega arith))
-      ∙ ap (λ (z : List ℕ). yielded (evaluationOf formula z (rounds (getD ss k [])))) (set-at k (omega (arith, no-more)))
+      ∙ demand-3 formula linkCapacity blankMemory begins (P .reached .calls) .own k (omega (arith, ap length (P .reached .results-are)))
+      (λ j b. subst (Ends formula) (sym (set-at j (omega (arith, no-more)))) (end j b)) rounds (subst (λ (z : List ℕ). Enough formula z rounds) (sym here) enough)
+      ∙ ap (λ (z : List ℕ). yielded (evaluationOf formula z rounds)) here
+
+  own-lines : OwnLines formula ss (passes (length ss + allFirings) (length ss) ss (started formula linkCapacity blankMemory .mem) allFirings)
+  own-lines = record { results = P .more; ending = P .ending; out-is = P .out-is; few = fits; own = own-result; ends = P .ends }
 
   -- THE PROGRAM PRINTS EACH SET'S OWN VERDICT.
-  pub program-own-lines : (out : List ℕ) × OwnLines formula rounds ss out
+  pub program-own-lines : (out : List ℕ) × OwnLines formula ss out
       × (benchOutput formula file ≡ headLine (figuresOf formula .inputs) (figuresOf formula .results) (length ss) ++ out)
-  program-own-lines = (
-    passes (length ss + allFirings) (length ss) ss (started formula linkCapacity blankMemory .mem) allFirings,
-    record {
-      count = length (P .more);
-      few = fits;
-      ending = P .ending;
-      out-is = P .out-is ∙ ap (λ (z : List ℕ). z ++ P .ending) (lines-own formula rounds (P .more) ss fits own);
-      ends = P .ends;
-    },
-    output-is formula file ok small ss good,
-  )
+  program-own-lines =
+      (passes (length ss + allFirings) (length ss) ss (started formula linkCapacity blankMemory .mem) allFirings, own-lines, output-is formula file ok small ss good)
+
+  -- Where direct evaluation of every set ends, the lines are the sets' verdicts in the file's order, of all of them or of the first ones.
+  pub program-verdicts : (rounds : List ℕ → ℕ) → ((j : ℕ) → j < length ss → Enough formula (getD ss j []) (rounds (getD ss j [])))
+      → benchOutput formula file
+      ≡ headLine (figuresOf formula .inputs) (figuresOf formula .results) (length ss)
+      ++ (verdictLines formula rounds (take (length (program-own-lines .1 .results)) ss) ++ program-own-lines .1 .ending)
+  program-verdicts rounds enough =
+      let o = program-own-lines .1 in
+      program-own-lines .2
+      ∙ ap (λ (z : List ℕ). headLine (figuresOf formula .inputs) (figuresOf formula .results) (length ss) ++ z)
+      (o .out-is
+      ∙ ap (λ (z : List ℕ). z ++ o .ending)
+      (lines-own formula rounds (o .results) ss (o .few)
+      (λ k l. o .own k l (λ j b. (rounds (getD ss j []), enough j (omega (arith, o .few)))) (rounds (getD ss k [])) (enough k (omega (arith, o .few))))))

@@ -82,15 +82,15 @@ remainingAfter n p = pick (eqb (p .refusal) 0) (n - p .count) 0
 
 -- ---- "and repeats until every set is taken"
 
--- What is printed from here on by the repetitions until none is left to make: n sets are not taken yet, `rest` of them not pushed, `left` firings are left. A
--- loop without end prints nothing in this sense.
-pub data Repeats : ℕ → List (List ℕ) → List ℕ → ℕ → List ℕ → Type 0 where
-  every-set-taken : (rest : List (List ℕ)) (m : List ℕ) (left : ℕ) → Repeats 0 rest m left []
-  again : (n : ℕ) (rest : List (List ℕ)) (m : List ℕ) (left : ℕ) (out : List ℕ)
-      → Repeats (remainingAfter (suc n) (passOf rest m left)) (passOf rest m left .rest) (passOf rest m left .mem) (passOf rest m left .left) out
-      → Repeats (suc n) rest m left (partOf (passOf rest m left) ++ out)
+-- What the repetitions print from here on and the memory that they leave, when none is left to make: n sets are not taken yet, `rest` of them not pushed, `left`
+-- firings are left. A loop without end does neither.
+pub data Repeats : ℕ → List (List ℕ) → List ℕ → ℕ → List ℕ → List ℕ → Type 0 where
+  none-left : (rest : List (List ℕ)) (m : List ℕ) (left : ℕ) → Repeats 0 rest m left [] m
+  again : (n : ℕ) (rest : List (List ℕ)) (m : List ℕ) (left : ℕ) (out last : List ℕ)
+      → Repeats (remainingAfter (suc n) (passOf rest m left)) (passOf rest m left .rest) (passOf rest m left .mem) (passOf rest m left .left) out last
+      → Repeats (suc n) rest m left (partOf (passOf rest m left) ++ out) last
 
--- The same by at most f repetitions. As many as there are sets and firings are enough (specs/Ending).
+-- What is printed by at most f repetitions. As many as there are sets and firings are enough (specs/Ending).
 unfoldable pub passes : ℕ → ℕ → List (List ℕ) → List ℕ → ℕ → List ℕ
 unfolding passOf partOf remainingAfter
 passes zero n rest m left = []

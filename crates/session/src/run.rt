@@ -10,7 +10,7 @@ ghost use Prim.Native.Nat.{_≤_};
 ghost use lib.ListN.{length};
 ghost use Rattle.io.specs.Counts.{Counts};
 ghost use Rattle.session.specs.Reading.{Continued, SheetRead};
-ghost use Rattle.session.specs.Ending.{Proceeds};
+ghost use Rattle.session.specs.Ending.{Proceeds, RepeatsTo};
 
 // How many of a sheet's bytes are at hand, and what was seen of all of them.
 pub struct Sheet {
@@ -108,6 +108,7 @@ fn load(path: &[u8], buf: &mut [u8]) -> usize
 fn repeat(mem: &mut [u8], sets: &[u8], opened: Opened, out: &mut [u8])
     requires { ⌜ (opened .inputs ≤ 32) × (opened .stage .at ≤ length (now sets)) × (opened .stage .printed ≤ 65536) × (65536 ≤ length (now out)) ⌝ }
     requires { ⌜ Proceeds (opened .inputs) (now sets) (opened .stage) (now mem) ⌝ }
+    ensures { λ r. ⌜ RepeatsTo (opened .inputs) (now (sets .entry)) (opened .stage) (now (mem .entry)) (now (mem .exit)) ⌝ }
 {
     let inputs = opened.inputs;
     let mut stage = opened.stage;
