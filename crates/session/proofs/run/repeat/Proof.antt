@@ -53,11 +53,11 @@ write-all-requires-2 c κs = search needs
 
 -- src/run.rt:117:5  io::write_all(STDOUT_FILENO, &out[..printed]); ⏎ while 0 < stage.remaining {
 loop-less : tie.Need-loop-less Inv-loop μ-loop
-loop-less c = proceeds-on (c .before .before .before .before .before .before .before .before .before .before .before .before .before .before .before .before .before .before .args .opened .inputs) (c .before .before .before .before .before .before .before .before .before .before .before .before .before .before .before .before .before .before .args .sets .now) (c .before .before .before .before .before .before .before .before .before .before .before .loop .stage) (c .before .before .before .before .before .before .before .before .before .before .before .loop .mem) (c .before .before .before .before .before .before .pass .result) (c .before .before .before .before .before .before .pass .last .0) (c .before .before .before .before .before .before .pass .last .1 .1 .1 .1 .0) (c .before .before .before .before .before .before .before .before .before .before .before .loop .inv .3) (c .before .before .before .before .before .before .before .before .before .if1 .taken) (c .before .before .before .before .before .before .pass .ensures .0) .less
+loop-less c = proceeds-on (c .before .before .before .before .before .before .before .before .before .before .before .before .before .before .before .before .before .before .args .opened .inputs) (c .before .before .before .before .before .before .before .before .before .before .before .before .before .before .before .before .before .before .args .sets .now) (c .before .before .before .before .before .before .before .before .before .before .before .loop .stage) (c .before .before .before .before .before .before .before .before .before .before .before .loop .mem) (c .before .before .before .before .before .before .pass .result) (c .before .before .before .before .before .before .pass .last .0) (c .before .before .before .before .before .before .pass .last .1 .1 .1 .1 .0) (c .before .before .before .before .before .before .before .before .before .before .before .loop .inv .3) (omega (arith, c .before .before .before .before .before .before .before .before .before .if1 .taken)) (c .before .before .before .before .before .before .pass .ensures .0) .less
 
 -- src/run.rt:117:5  io::write_all(STDOUT_FILENO, &out[..printed]); ⏎ while 0 < stage.remaining {
 loop-again : tie.Need-loop-again Inv-loop μ-loop
-loop-again c = (c .before .before .before .before .before .before .pass .kept .0 ∙ c .before .before .before .before .before .before .before .before .before .before .before .loop .inv .0, c .before .before .before .before .before .before .pass .kept .1 .1 .1 .1 .0 ∙ c .before .before .before .before .before .before .before .before .before .before .before .loop .inv .1, c .before .before .before .before .before .before .pass .ensures .1 .0, proceeds-on (c .before .before .before .before .before .before .before .before .before .before .before .before .before .before .before .before .before .before .args .opened .inputs) (c .before .before .before .before .before .before .before .before .before .before .before .before .before .before .before .before .before .before .args .sets .now) (c .before .before .before .before .before .before .before .before .before .before .before .loop .stage) (c .before .before .before .before .before .before .before .before .before .before .before .loop .mem) (c .before .before .before .before .before .before .pass .result) (c .before .before .before .before .before .before .pass .last .0) (c .before .before .before .before .before .before .pass .last .1 .1 .1 .1 .0) (c .before .before .before .before .before .before .before .before .before .before .before .loop .inv .3) (c .before .before .before .before .before .before .before .before .before .if1 .taken) (c .before .before .before .before .before .before .pass .ensures .0) .on, comes-on (c .before .before .before .before .before .before .before .before .before .before .before .before .before .before .before .before .before .before .args .opened .inputs) (c .before .before .before .before .before .before .before .before .before .before .before .before .before .before .before .before .before .before .args .sets .now) (c .before .before .before .before .before .before .before .before .before .before .before .before .before .before .before .before .before .before .args .opened .stage) (c .before .before .before .before .before .before .before .before .before .before .before .before .before .before .before .before .before .before .args .mem .now) (c .before .before .before .before .before .before .before .before .before .before .before .loop .stage) (c .before .before .before .before .before .before .before .before .before .before .before .loop .mem) (c .before .before .before .before .before .before .pass .result) (c .before .before .before .before .before .before .pass .last .0) (c .before .before .before .before .before .before .pass .last .1 .1 .1 .1 .0) (c .before .before .before .before .before .before .before .before .before .if1 .taken) (c .before .before .before .before .before .before .pass .ensures .0) (c .before .before .before .before .before .before .before .before .before .before .before .loop .inv .4))
+loop-again c = (c .before .before .before .before .before .before .pass .kept .0 ∙ c .before .before .before .before .before .before .before .before .before .before .before .loop .inv .0, c .before .before .before .before .before .before .pass .kept .1 .1 .1 .1 .0 ∙ c .before .before .before .before .before .before .before .before .before .before .before .loop .inv .1, c .before .before .before .before .before .before .pass .ensures .1 .0, proceeds-on (c .before .before .before .before .before .before .before .before .before .before .before .before .before .before .before .before .before .before .args .opened .inputs) (c .before .before .before .before .before .before .before .before .before .before .before .before .before .before .before .before .before .before .args .sets .now) (c .before .before .before .before .before .before .before .before .before .before .before .loop .stage) (c .before .before .before .before .before .before .before .before .before .before .before .loop .mem) (c .before .before .before .before .before .before .pass .result) (c .before .before .before .before .before .before .pass .last .0) (c .before .before .before .before .before .before .pass .last .1 .1 .1 .1 .0) (c .before .before .before .before .before .before .before .before .before .before .before .loop .inv .3) (omega (arith, c .before .before .before .before .before .before .before .before .before .if1 .taken)) (c .before .before .before .before .before .before .pass .ensures .0) .on, comes-on (c .before .before .before .before .before .before .before .before .before .before .before .before .before .before .before .before .before .before .args .opened .inputs) (c .before .before .before .before .before .before .before .before .before .before .before .before .before .before .before .before .before .before .args .sets .now) (c .before .before .before .before .before .before .before .before .before .before .before .before .before .before .before .before .before .before .args .opened .stage) (c .before .before .before .before .before .before .before .before .before .before .before .before .before .before .before .before .before .before .args .mem .now) (c .before .before .before .before .before .before .before .before .before .before .before .loop .stage) (c .before .before .before .before .before .before .before .before .before .before .before .loop .mem) (c .before .before .before .before .before .before .pass .result) (c .before .before .before .before .before .before .pass .last .0) (c .before .before .before .before .before .before .pass .last .1 .1 .1 .1 .0) (omega (arith, c .before .before .before .before .before .before .before .before .before .if1 .taken)) (c .before .before .before .before .before .before .pass .ensures .0) (c .before .before .before .before .before .before .before .before .before .before .before .loop .inv .4))
 
 -- src/run.rt:108:1  // leaves fewer sets to take and firings to make (specs/Onward). ⏎ fn repeat(mem: &mut [u8], sets: &[u8], opened: Opened, out: &mut [u8])
 same-length : tie.Need-same-length Inv-loop μ-loop
