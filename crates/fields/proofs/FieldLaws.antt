@@ -97,3 +97,48 @@ field-last s i end d k p q = go (ℕ-discrete (getD s i 0) 48)
         ap Number z ∙ sym (zero-end s end) ∙ ap (λ (j : ℕ). zeroOf (slice j end s)) (sym d) ∙ sym (field-zero s i end (omega arith) k e)
     go (no n) =
         digits-end s end (getD s i 0 - 48) ∙ ap (λ (j : ℕ). digitsOf (getD s i 0 - 48) (slice j end s)) (sym d) ∙ sym (field-digit s i end (omega arith) k n p q)
+
+pub digits-last : (s : List ℕ) (i end v : ℕ) → i + 1 ≡ end → end ≤ length s → 48 ≤ getD s i 0 → getD s i 0 ≤ 57 → digitsOf v (slice i end s) ≡ Number (v * 10 + (getD s i 0 - 48))
+digits-last s i end v d k p q =
+    digits-more s i end (omega arith) k v p q ∙ ap (λ (j : ℕ). digitsOf (v * 10 + (getD s i 0 - 48)) (slice j end s)) d ∙ sym (digits-end s end (v * 10 + (getD s i 0 - 48)))
+
+-- Fields of few characters, and the spaces before them.
+module _ (s : List ℕ) (at : ℕ) where
+  pub one-digit : at + 2 ≤ length s → getD s at 0 ≡ 32 → 48 ≤ getD s (at + 1) 0 → getD s (at + 1) 0 ≤ 57 → fieldOf (slice at (at + 2) s) ≡ Number (getD s (at + 1) 0 - 48)
+  one-digit k e p q = field-space s at (at + 2) (omega arith) k e ∙ sym (field-last s (at + 1) (at + 2) (omega arith) k p q)
+
+  pub two-digits : at + 2 ≤ length s → 49 ≤ getD s at 0 → getD s at 0 ≤ 57 → 48 ≤ getD s (at + 1) 0 → getD s (at + 1) 0 ≤ 57 → fieldOf (slice at (at + 2) s) ≡ Number ((getD s at 0 - 48) * 10 + (getD s (at + 1) 0 - 48))
+  two-digits k l h p q =
+      field-digit s at (at + 2) (omega arith) k (λ (e : getD s at 0 ≡ 48). omega arith) (omega arith) h ∙ digits-last s (at + 1) (at + 2) (getD s at 0 - 48) (omega arith) k p q
+
+  pub three-digits : at + 3 ≤ length s → 49 ≤ getD s at 0 → getD s at 0 ≤ 57 → 48 ≤ getD s (at + 1) 0 → getD s (at + 1) 0 ≤ 57 → 48 ≤ getD s (at + 2) 0 → getD s (at + 2) 0 ≤ 57
+      → fieldOf (slice at (at + 3) s) ≡ Number (((getD s at 0 - 48) * 10 + (getD s (at + 1) 0 - 48)) * 10 + (getD s (at + 2) 0 - 48))
+  three-digits k l h p q m n =
+      let v = (getD s at 0 - 48) * 10 + (getD s (at + 1) 0 - 48) in
+      let e : at + 1 + 1 ≡ at + 2 = omega arith in
+      field-digit s at (at + 3) (omega arith) k (λ (e : getD s at 0 ≡ 48). omega arith) (omega arith) h
+      ∙ digits-more s (at + 1) (at + 3) (omega arith) k (getD s at 0 - 48) p q
+      ∙ ap (λ (j : ℕ). digitsOf v (slice j (at + 3) s)) e
+      ∙ digits-last s (at + 2) (at + 3) v (omega arith) k m n
+
+  pub three-spaces : at + 6 ≤ length s → getD s at 0 ≡ 32 → getD s (at + 1) 0 ≡ 32 → getD s (at + 2) 0 ≡ 32 → fieldOf (slice at (at + 6) s) ≡ fieldOf (slice (at + 3) (at + 6) s)
+  three-spaces k x y z =
+      let e : at + 1 + 1 ≡ at + 2 = omega arith in
+      let f : at + 2 + 1 ≡ at + 3 = omega arith in
+      field-space s at (at + 6) (omega arith) k x
+      ∙ field-space s (at + 1) (at + 6) (omega arith) k y
+      ∙ ap (λ (j : ℕ). fieldOf (slice j (at + 6) s)) e
+      ∙ field-space s (at + 2) (at + 6) (omega arith) k z
+      ∙ ap (λ (j : ℕ). fieldOf (slice j (at + 6) s)) f
+
+  pub four-spaces : at + 6 ≤ length s → getD s at 0 ≡ 32 → getD s (at + 1) 0 ≡ 32 → getD s (at + 2) 0 ≡ 32 → getD s (at + 3) 0 ≡ 32 → fieldOf (slice at (at + 6) s) ≡ fieldOf (slice (at + 4) (at + 6) s)
+  four-spaces k x y z u =
+      let e : at + 3 + 1 ≡ at + 4 = omega arith in
+      three-spaces k x y z ∙ field-space s (at + 3) (at + 6) (omega arith) k u ∙ ap (λ (j : ℕ). fieldOf (slice j (at + 6) s)) e
+
+-- Four bytes as one number say which bytes they are.
+pub word-of-spaces : (a b c d : ℕ) → a < 256 → b < 256 → c < 256 → d < 256 → a + 256 * b + 65536 * c + 16777216 * d ≡ 538976288 → (a ≡ 32) × (b ≡ 32) × (c ≡ 32) × (d ≡ 32)
+word-of-spaces a b c d p q r h e = (omega arith, omega arith, omega arith, omega arith)
+
+pub word-after-spaces : (a b c d : ℕ) → a < 256 → b < 256 → c < 256 → a + 256 * b + 65536 * c + 16777216 * d ≡ 2105376 + 16777216 * d → (a ≡ 32) × (b ≡ 32) × (c ≡ 32)
+word-after-spaces a b c d p q r e = (omega arith, omega arith, omega arith)

@@ -3,11 +3,12 @@
 use formula::Field;
 ghost use mathlib.Core.Path.{_≡_};
 ghost use mathlib.Core.Bool.{Bool};
-ghost use Prim.Native.Nat.{_+_, _-_, _≤_, _<_};
+ghost use Prim.Native.Nat.{_+_, _*_, _-_, _≤_, _<_};
 ghost use lib.ListN.{length, getD};
 ghost use lib.Seq.{slice};
 ghost use Rattle.formula.specs.Sheet.{fieldOf, digitsOf, numberIn};
 ghost use Rattle.formula.specs.Tests.{wellFormed};
+ghost use Rattle.formula.specs.declared.Field.the-variants.{Number};
 
 fn digit(b: u8) -> u32
     requires { ⌜ 48 ≤ b ⌝ }
@@ -73,6 +74,90 @@ pub fn field_in(s: &[u8], at: usize) -> Field
         return Field::Malformed;
     }
     digits(s, i + 1, at + 6, digit(b))
+}
+
+// A character as a number of a word.
+fn low(b: u8) -> u32
+    ensures { λ r. ⌜ (r ≡ b) × (r < 256) ⌝ }
+{
+    b as u32
+}
+
+// Four characters as one number, which is one load of the machine.
+fn four(s: &[u8], at: usize) -> u32
+    requires { ⌜ at + 4 ≤ length (now s) ⌝ }
+    ensures { λ w. ⌜ w ≡ getD (now (s .entry)) at 0 + 256 * getD (now (s .entry)) (at + 1) 0 + 65536 * getD (now (s .entry)) (at + 2) 0 + 16777216 * getD (now (s .entry)) (at + 3) 0 ⌝ }
+{
+    low(s[at]) + 256 * low(s[at + 1]) + 65536 * low(s[at + 2]) + 16777216 * low(s[at + 3])
+}
+
+// The number of a field of one or two digits in two characters, 1000 where it is none.
+fn two(s: &[u8], at: usize) -> u32
+    requires { ⌜ at + 2 ≤ length (now s) ⌝ }
+    ensures { λ v. ⌜ (v < 1000 → fieldOf (slice at (at + 2) (now (s .entry))) ≡ Number v) ⌝ }
+{
+    let c = s[at];
+    let d = s[at + 1];
+    if d < 48 {
+        return 1000;
+    }
+    if 57 < d {
+        return 1000;
+    }
+    if c == 32 {
+        return digit(d);
+    }
+    if c < 49 {
+        return 1000;
+    }
+    if 57 < c {
+        return 1000;
+    }
+    digit(c) * 10 + digit(d)
+}
+
+// The number of three digits, 1000 where they are none or begin with 0.
+fn three(s: &[u8], at: usize) -> u32
+    requires { ⌜ at + 3 ≤ length (now s) ⌝ }
+    ensures { λ v. ⌜ (v < 1000 → fieldOf (slice at (at + 3) (now (s .entry))) ≡ Number v) ⌝ }
+{
+    let b = s[at];
+    let c = s[at + 1];
+    let d = s[at + 2];
+    if b < 49 {
+        return 1000;
+    }
+    if 57 < b {
+        return 1000;
+    }
+    if c < 48 {
+        return 1000;
+    }
+    if 57 < c {
+        return 1000;
+    }
+    if d < 48 {
+        return 1000;
+    }
+    if 57 < d {
+        return 1000;
+    }
+    (digit(b) * 10 + digit(c)) * 10 + digit(d)
+}
+
+// The number of the field at `at` if it has three digits or fewer, as most have; else 1000.
+pub fn short(s: &[u8], at: usize) -> u32
+    requires { ⌜ at + 6 ≤ length (now s) ⌝ }
+    ensures { λ v. ⌜ (v < 1000 → fieldOf (slice at (at + 6) (now (s .entry))) ≡ Number v) ⌝ }
+{
+    let w = four(s, at);
+    if w == 538976288 {
+        return two(s, at + 4);
+    }
+    if w != 2105376 + 16777216 * low(s[at + 3]) {
+        return 1000;
+    }
+    three(s, at + 3)
 }
 
 // Whether a field is a number.

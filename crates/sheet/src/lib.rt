@@ -6,4 +6,5 @@ pub mod loops;
 pub mod masks;
 pub mod read;
 pub mod shape;
+pub mod small;
 pub mod widths;

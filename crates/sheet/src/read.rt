@@ -4,6 +4,7 @@ use crate::count::test_operators;
 use crate::ends::find_ends;
 use crate::loops::find_loops;
 use crate::masks::test_bound;
+use crate::small;
 use crate::widths::test_widths;
 use fields::blank;
 use fields::decode::decode;
@@ -230,8 +231,74 @@ fn figures(rows: usize, operators: u32, mask: u64, results: u8) -> Figures
     }
 }
 
-// What reading says of a sheet.
-pub fn read(s: &[u8]) -> Reading
+// What reading says of a sheet, in lent blank tables.
+fn read_in(
+    s: &[u8],
+    fields: &mut [u32],
+    places: &mut [bool],
+    returned: &mut [u8],
+    iterated: &mut [u8],
+    masks: &mut [u64],
+    ends: &mut [u8],
+    loops: &mut [u8],
+    operators: &mut [u32],
+    links: &mut [u32],
+) -> Reading
+    requires { ⌜ Blank (now s) (now fields) (now places) (now returned) (now iterated) (now masks) (now ends) (now loops) (now operators) (now links) ⌝ }
+    ensures { λ r. ⌜ r ≡ readingOf (now (s .entry)) ⌝ }
+{
+    let verdict = fill_tables(
+        s,
+        fields,
+        places,
+        returned,
+        iterated,
+        masks,
+        ends,
+        loops,
+        operators,
+        links,
+    );
+    match verdict {
+        Verdict::Refused(r, row) => Reading::Rejected(r, row),
+        Verdict::Passed => {
+            let rows = s.len() / 31;
+            let last = rows - 1;
+            Reading::Accepted(figures(rows, operators[last], masks[last], returned[last]))
+        }
+    }
+}
+
+// Reading of a short sheet, which needs small tables only.
+fn read_few(s: &[u8]) -> Reading
+    requires { ⌜ rowCount (now s) ≤ 64 ⌝ }
+    ensures { λ r. ⌜ r ≡ readingOf (now (s .entry)) ⌝ }
+{
+    let mut fields = small::fields();
+    let mut places = small::marks();
+    let mut returned = small::bytes();
+    let mut iterated = small::bytes();
+    let mut masks = small::words();
+    let mut ends = small::bytes();
+    let mut loops = small::bytes();
+    let mut operators = small::numbers();
+    let mut links = small::numbers();
+    read_in(
+        s,
+        &mut fields,
+        &mut places,
+        &mut returned,
+        &mut iterated,
+        &mut masks,
+        &mut ends,
+        &mut loops,
+        &mut operators,
+        &mut links,
+    )
+}
+
+// Reading of any sheet.
+fn read_many(s: &[u8]) -> Reading
     ensures { λ r. ⌜ r ≡ readingOf (now (s .entry)) ⌝ }
 {
     let mut fields = blank::fields();
@@ -243,7 +310,7 @@ pub fn read(s: &[u8]) -> Reading
     let mut loops = blank::bytes();
     let mut operators = blank::numbers();
     let mut links = blank::numbers();
-    let verdict = fill_tables(
+    read_in(
         s,
         &mut fields,
         &mut places,
@@ -254,15 +321,17 @@ pub fn read(s: &[u8]) -> Reading
         &mut loops,
         &mut operators,
         &mut links,
-    );
-    match verdict {
-        Verdict::Refused(r, row) => Reading::Rejected(r, row),
-        Verdict::Passed => {
-            let rows = s.len() / 31;
-            let last = rows - 1;
-            Reading::Accepted(figures(rows, operators[last], masks[last], returned[last]))
-        }
+    )
+}
+
+// What reading says of a sheet.
+pub fn read(s: &[u8]) -> Reading
+    ensures { λ r. ⌜ r ≡ readingOf (now (s .entry)) ⌝ }
+{
+    if s.len() / 31 <= 64 {
+        return read_few(s);
     }
+    read_many(s)
 }
 
 // Reading for the firmware.
