@@ -103,7 +103,7 @@ int main(void) {
                 fail("push", answer.refusal);
             }
         }
-        /* A few firings between two looks at the plug. */
+        /* A few firings between two looks at what is connected. */
         bench_answer ran = bench_run(memory, sizeof memory, 5);
         if (ran.refusal != BENCH_ACCEPTED && ran.refusal != BENCH_UNFINISHED) {
             fail("run", ran.refusal);

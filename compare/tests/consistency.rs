@@ -124,7 +124,7 @@ fn heavy_sheets_too() {
     assert!(held > 100, "too few results were compared: {held}");
 }
 
-/// Document 02, Job 10: at rest with all taken, the firings depend on the sheet and the sets alone.
+/// At rest with all taken, the firings depend on the sheet and the sets alone.
 #[test]
 fn the_firings_in_all_depend_on_the_sheet_and_the_sets_alone() {
     let mut rng = Rng::new(10);

@@ -145,7 +145,8 @@ fn three(s: &[u8], at: usize) -> u32
     (digit(b) * 10 + digit(c)) * 10 + digit(d)
 }
 
-// The number of the field at `at` if it has three digits or fewer, as most have; else 1000.
+// The number of the field at `at` if it has three digits or fewer, as most have; else 1000. Four
+// spaces are 538,976,288, three in front of a character 2,105,376 and that character's share.
 pub fn short(s: &[u8], at: usize) -> u32
     requires { ⌜ at + 6 ≤ length (now s) ⌝ }
     ensures { λ v. ⌜ (v < 1000 → fieldOf (slice at (at + 6) (now (s .entry))) ≡ Number v) ⌝ }

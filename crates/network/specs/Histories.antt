@@ -100,7 +100,7 @@ FS-history xs [] = []
 FS-history xs (y ∷ ys) = y ∷ S-history y xs ys
 
 -- O[IC gate]. The last two lines are in neither paper: a chosen iter? that is no truth, met in altered memory only, is read as false here,
--- as document 02, Job 4 later asks.
+-- as document 02 later asks.
 abbrev pub IC-history : List Sense → List Sense → List Sense → Outputs
 IC-history [] ys zs = silence
 IC-history (is-true ∷ xs) [] zs = silence

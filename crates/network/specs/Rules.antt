@@ -67,7 +67,7 @@ chosen is-neither k = k is-neither
 
 -- Brock's table of the IC gate (section 2.4), row by row: the control and the chosen iter?; the graph's iter?, the I and the R control.
 -- The last two rows are in neither his table nor document 01: a chosen input that is no truth, met in altered memory only, is read as false,
--- as document 02, Job 4 later asks.
+-- as document 02 later asks.
 abbrev pub IC-table : Register → Sense → Sense → Firing
 IC-table g is-true is-true = gives (some true-value) (some true-value) none g
 IC-table g is-true is-false = gives (some false-value) none (some true-value) g

@@ -19,7 +19,7 @@ use Rattle.session.specs.Onward.{Going}
 use Rattle.session.specs.Output.{allFirings, benchOutput}
 
 -- A refusal is printed alone.
-pub record Refuses (number row end : ℕ) (r : Opened) (before out : List ℕ) : Type 0 where
+pub record Refuses (number row end : ℕ) (r : Opened) (out : List ℕ) : Type 0 where
   pub inputs-are : r .inputs ≡ 0
   pub at-end : r .stage .at ≡ end
   pub none-left : r .stage .remaining ≡ 0
@@ -36,12 +36,12 @@ pub record Heads (inputs results : ℕ) (ss : List (List ℕ)) (r : Opened) (out
   pub length-is : r .stage .printed ≡ 19
   pub prints : take 19 out ≡ headLine inputs results (length ss)
 
-abbrev pub JudgesBy : Sets → ℕ → ℕ → ℕ → Opened → List ℕ → List ℕ → Type 0
-JudgesBy (badLine i) inputs results end r before out = Refuses (numberOf Set) i end r before out
-JudgesBy (sets ss) inputs results end r before out = Heads inputs results ss r out
+abbrev pub JudgesBy : Sets → ℕ → ℕ → ℕ → Opened → List ℕ → Type 0
+JudgesBy (badLine i) inputs results end r out = Refuses (numberOf Set) i end r out
+JudgesBy (sets ss) inputs results end r out = Heads inputs results ss r out
 
-abbrev pub Judges : ℕ → ℕ → List ℕ → Opened → List ℕ → List ℕ → Type 0
-Judges inputs results file r before out = JudgesBy (setsOf inputs file) inputs results (length file) r before out
+abbrev pub Judges : ℕ → ℕ → List ℕ → Opened → List ℕ → Type 0
+Judges inputs results file r out = JudgesBy (setsOf inputs file) inputs results (length file) r out
 
 -- The sheet's first bytes, and what was seen of it in all: behind 200 rows the bytes themselves matter no more.
 pub record Whole (first : List ℕ) (x : Seen) (more : List ℕ) : Type 0 where

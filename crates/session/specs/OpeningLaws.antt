@@ -47,7 +47,7 @@ use Rattle.session.specs.Opening.{Refuses, Heads, JudgesBy, Judges, Whol
 -- ---- what is printed
 
 pub refusal-printed : (number row end : ℕ) (l out : List ℕ) → 13 ≤ length l → out ≡ sets l 0 (refusalLine number row)
-    → Refuses number row end (record { inputs = 0; stage = record { at = end; remaining = 0; firings = 0; printed = 13 } }) l out
+    → Refuses number row end (record { inputs = 0; stage = record { at = end; remaining = 0; firings = 0; printed = 13 } }) out
 refusal-printed number row end l out h e =
     record {
       inputs-are = refl;
@@ -90,22 +90,22 @@ module _ (inputs results : ℕ) (file : List ℕ) where
       let h : length (c .0) ≤ length file = subst (λ (f : File). Few f (length file)) (c .1) (file-few inputs file) in
       omega (arith, c .2, h)
 
-  pub judged-bad : (i : ℕ) (r : Opened) (l out : List ℕ) → bad i ≡ countOf (setsOf inputs file) → Refuses (numberOf Set) i (length file) r l out → Judges inputs results file r l out
-  judged-bad i r l out e h = subst (λ (f : File). JudgesBy f inputs results (length file) r l out) (sym (bad-is (setsOf inputs file) i e)) h
+  pub judged-bad : (i : ℕ) (r : Opened) (out : List ℕ) → bad i ≡ countOf (setsOf inputs file) → Refuses (numberOf Set) i (length file) r out → Judges inputs results file r out
+  judged-bad i r out e h = subst (λ (f : File). JudgesBy f inputs results (length file) r out) (sym (bad-is (setsOf inputs file) i e)) h
 
   pub judged-sets : (n : ℕ) (l out : List ℕ) → counted n ≡ countOf (setsOf inputs file) → 19 ≤ length l → out ≡ sets l 0 (headLine inputs results n)
-      → Judges inputs results file (record { inputs = inputs; stage = record { at = 0; remaining = n; firings = 1000000; printed = 19 } }) l out
+      → Judges inputs results file (record { inputs = inputs; stage = record { at = 0; remaining = n; firings = 1000000; printed = 19 } }) out
   judged-sets n l out e h p =
       let c = count-is (setsOf inputs file) n e in
-      subst (λ (f : File). JudgesBy f inputs results (length file) (record { inputs = inputs; stage = record { at = 0; remaining = n; firings = 1000000; printed = 19 } }) l out)
+      subst (λ (f : File). JudgesBy f inputs results (length file) (record { inputs = inputs; stage = record { at = 0; remaining = n; firings = 1000000; printed = 19 } }) out)
       (sym (c .1)) (head-printed inputs results (c .0) n l out h (c .2) p)
 
 -- ---- a refusal is the whole output
 
-pub begins-refused : (formula file at-hand : List ℕ) (r : Opened) (m′ l out : List ℕ) (number row : ℕ) → Refuses number row (length at-hand) r l out
+pub begins-refused : (formula file at-hand : List ℕ) (r : Opened) (m′ out : List ℕ) (number row : ℕ) → Refuses number row (length at-hand) r out
     → benchOutput formula file ≡ refusalLine number row → Begins formula file at-hand r m′ out
 unfolding passes
-begins-refused formula file at-hand r m′ l out number row p e =
+begins-refused formula file at-hand r m′ out number row p e =
     record {
       rest = [];
       waits = record {
@@ -152,23 +152,23 @@ no-more-sets file more h (inr k) = absurd (omega arith)
 
 -- ---- the ways in which the opening ends
 
-module _ (first : List ℕ) (x : Seen) (file m : List ℕ) (r : Opened) (m′ l out : List ℕ) where
-  pub opens-layout : seenLaidOut x ≡ false → Refuses (numberOf Layout) 0 (length file) r l out → OpensTo first x file r m′ out
+module _ (first : List ℕ) (x : Seen) (file m : List ℕ) (r : Opened) (m′ out : List ℕ) where
+  pub opens-layout : seenLaidOut x ≡ false → Refuses (numberOf Layout) 0 (length file) r out → OpensTo first x file r m′ out
   unfolding benchOutput outputIn outputBy
   opens-layout e p more moreSets w u =
       let s : List ℕ = first ++ more in
       let v = layout-refused s (sym (seen-laid-out s) ∙ ap seenLaidOut (sym (w .seen-is)) ∙ e) in
-      begins-refused s (file ++ moreSets) file r m′ l out (numberOf Layout) 0 p (ap (λ (z : Verdict). outputBy z s (file ++ moreSets) blankMemory) v)
+      begins-refused s (file ++ moreSets) file r m′ out (numberOf Layout) 0 p (ap (λ (z : Verdict). outputBy z s (file ++ moreSets) blankMemory) v)
 
   module _ (e : seenLaidOut x ≡ true) where
-    pub opens-rows : 6200 < x .length → Refuses (numberOf Rows) 0 (length file) r l out → OpensTo first x file r m′ out
+    pub opens-rows : 6200 < x .length → Refuses (numberOf Rows) 0 (length file) r out → OpensTo first x file r m′ out
     unfolding benchOutput outputIn outputBy
     opens-rows h p more moreSets w u =
         let s : List ℕ = first ++ more in
         let a : laidOut s (linesOf s) ≡ true = sym (seen-laid-out s) ∙ ap seenLaidOut (sym (w .seen-is)) ∙ e in
         let n : 6200 < length s = seen-many s (subst (λ (y : Seen). 6200 < y .length) (w .seen-is) h) in
         let v = rows-refused s a (lt-leb (rowCount s) 200 (omega (arith, n, whole-rows s a))) in
-        begins-refused s (file ++ moreSets) file r m′ l out (numberOf Rows) 0 p (ap (λ (z : Verdict). outputBy z s (file ++ moreSets) blankMemory) v)
+        begins-refused s (file ++ moreSets) file r m′ out (numberOf Rows) 0 p (ap (λ (z : Verdict). outputBy z s (file ++ moreSets) blankMemory) v)
 
   -- The whole sheet is at hand.
   module _ (h : x .length ≤ 6200) (room : 55915 ≤ length m) (a : StartAnswer) (q : begun a m′ ≡ started first linkCapacity m) where
@@ -200,9 +200,9 @@ module _ (first : List ℕ) (x : Seen) (file m : List ℕ) (r : Opened) (m′ l 
         go Passed e = absurd (n (passed-answer Passed e refl))
         go (Refused y row) e = refused-output y row whole e
 
-    pub opens-refused : (a .refusal ≡ 0 → ⊥) → Refuses (a .refusal) (a .row) (length file) r l out → OpensTo first x file r m′ out
+    pub opens-refused : (a .refusal ≡ 0 → ⊥) → Refuses (a .refusal) (a .row) (length file) r out → OpensTo first x file r m′ out
     opens-refused n p more moreSets w u =
-        begins-refused (first ++ more) (file ++ moreSets) file r m′ l out (a .refusal) (a .row) p
+        begins-refused (first ++ more) (file ++ moreSets) file r m′ out (a .refusal) (a .row) p
         (ap (λ (s : List ℕ). benchOutput s (file ++ moreSets)) (sheet-is more w) ∙ output-refused n (file ++ moreSets))
 
     module _ (z : a .refusal ≡ 0) where
@@ -221,21 +221,21 @@ module _ (first : List ℕ) (x : Seen) (file m : List ℕ) (r : Opened) (m′ l 
       pub inputs-few : a .inputs ≤ 32
       inputs-few = subst (λ (n : ℕ). n ≤ 32) (sym (ap (λ (b : Begun). b .answer .inputs) answers)) (made-sound first (accepts .passed) .few-inputs)
 
-      pub opens-long : 65536 < length file → Refuses (numberOf SetFile) 0 (length file) r l out → OpensTo first x file r m′ out
+      pub opens-long : 65536 < length file → Refuses (numberOf SetFile) 0 (length file) r out → OpensTo first x file r m′ out
       unfolding benchOutput outputIn outputBy
       opens-long k p more moreSets w u =
           let n : ltb 65536 (length (file ++ moreSets)) ≡ true = lt-ltb 65536 (length (file ++ moreSets)) (omega (arith, length-append file moreSets, k)) in
-          begins-refused (first ++ more) (file ++ moreSets) file r m′ l out (numberOf SetFile) 0 p
+          begins-refused (first ++ more) (file ++ moreSets) file r m′ out (numberOf SetFile) 0 p
           (ap (λ (s : List ℕ). benchOutput s (file ++ moreSets)) (sheet-is more w) ∙ rw (accepts .passed, n) refl)
 
       judged-output : length file ≤ 65536 → benchOutput first file ≡ judged first m (figuresOf first) (setsOf (a .inputs) file)
       unfolding outputIn outputBy
       judged-output k = any-memory first file m room ∙ rw (accepts .passed, le-ltb 65536 (length file) k, inputs-are) refl
 
-      judged-begins : length file ≤ 65536 → (f : File) → setsOf (a .inputs) file ≡ f → JudgesBy f (a .inputs) (a .results) (length file) r l out → Begins first file file r m′ out
+      judged-begins : length file ≤ 65536 → (f : File) → setsOf (a .inputs) file ≡ f → JudgesBy f (a .inputs) (a .results) (length file) r out → Begins first file file r m′ out
       unfolding judged setsOf
       judged-begins k (badLine i) e p =
-          begins-refused first file file r m′ l out (numberOf Set) i p (judged-output k ∙ ap (judged first m (figuresOf first)) e)
+          begins-refused first file file r m′ out (numberOf Set) i p (judged-output k ∙ ap (judged first m (figuresOf first)) e)
       judged-begins k (setsIn ss) e p =
           let b : started first linkCapacity m .mem ≡ m′ = ap (λ (y : Begun). y .mem) (sym q) in
           record {
@@ -251,23 +251,23 @@ module _ (first : List ℕ) (x : Seen) (file m : List ℕ) (r : Opened) (m′ l 
                 ∙ rw (p .all-left, p .all-firings, p .length-is, p .prints, inputs-are, results-are, b) refl;
           }
 
-      pub opens-judged : length file ≤ 65536 → Judges (a .inputs) (a .results) file r l out → OpensTo first x file r m′ out
+      pub opens-judged : length file ≤ 65536 → Judges (a .inputs) (a .results) file r out → OpensTo first x file r m′ out
       opens-judged k p more moreSets w u =
           let n : file ++ moreSets ≡ file = ap (λ (y : List ℕ). file ++ y) (no-more-sets file moreSets k u) ∙ append-nil file in
           rw (sheet-is more w, n) (judged-begins k (setsOf (a .inputs) file) refl p)
 
 -- ---- bounds
 
-pub refusal-bounds : (number row end : ℕ) (r : Opened) (l out : List ℕ) → Refuses number row end r l out → (r .inputs ≤ 32) × (r .stage .at ≤ end) × (r .stage .printed ≤ 65536)
-refusal-bounds number row end r l out p = (omega (arith, p .inputs-are), omega (arith, p .at-end), omega (arith, p .length-is))
+pub refusal-bounds : (number row end : ℕ) (r : Opened) (out : List ℕ) → Refuses number row end r out → (r .inputs ≤ 32) × (r .stage .at ≤ end) × (r .stage .printed ≤ 65536)
+refusal-bounds number row end r out p = (omega (arith, p .inputs-are), omega (arith, p .at-end), omega (arith, p .length-is))
 
 pub begins-proceeds : (formula file at-hand : List ℕ) (r : Opened) (m′ out : List ℕ) → Begins formula file at-hand r m′ out → Proceeds (r .inputs) at-hand (r .stage) m′
 begins-proceeds formula file at-hand r m′ out b = record { rest = b .rest; waits = b .waits; going = b .going }
 
-pub judged-bounds : (inputs results : ℕ) (file : List ℕ) (r : Opened) (l out : List ℕ) → inputs ≤ 32 → Judges inputs results file r l out
+pub judged-bounds : (inputs results : ℕ) (file : List ℕ) (r : Opened) (out : List ℕ) → inputs ≤ 32 → Judges inputs results file r out
     → (r .inputs ≤ 32) × (r .stage .at ≤ length file) × (r .stage .printed ≤ 65536)
-judged-bounds inputs results file r l out h p = go (setsOf inputs file) p
+judged-bounds inputs results file r out h p = go (setsOf inputs file) p
   where
-    go : (f : File) → JudgesBy f inputs results (length file) r l out → (r .inputs ≤ 32) × (r .stage .at ≤ length file) × (r .stage .printed ≤ 65536)
-    go (badLine i) q = refusal-bounds (numberOf Set) i (length file) r l out q
+    go : (f : File) → JudgesBy f inputs results (length file) r out → (r .inputs ≤ 32) × (r .stage .at ≤ length file) × (r .stage .printed ≤ 65536)
+    go (badLine i) q = refusal-bounds (numberOf Set) i (length file) r out q
     go (setsIn ss) q = (omega (arith, q .inputs-are, h), omega (arith, q .at-start), omega (arith, q .length-is))

@@ -17,7 +17,7 @@ pub struct Opened {
 // A refusal is the whole output.
 fn refused(number: u32, row: u32, end: usize, out: &mut [u8]) -> Opened
     requires { ⌜ 13 ≤ length (now out) ⌝ }
-    ensures { λ r. ⌜ Refuses number row end r (now (out .entry)) (now (out .exit)) ⌝ }
+    ensures { λ r. ⌜ Refuses number row end r (now (out .exit)) ⌝ }
 {
     text::printed::put_refusal(out, 0, number, row);
     let stage = Stage {
@@ -56,7 +56,7 @@ pub fn open(first: &[u8], seen: Seen, sets: &[u8], mem: &mut [u8], out: &mut [u8
 // 12, or the first line and the loop to come.
 fn judge(inputs: usize, results: u32, sets: &[u8], out: &mut [u8]) -> Opened
     requires { ⌜ (inputs ≤ 32) × (19 ≤ length (now out)) × (length (now sets) ≤ 65536) ⌝ }
-    ensures { λ r. ⌜ Judges inputs results (now (sets .entry)) r (now (out .entry)) (now (out .exit)) ⌝ }
+    ensures { λ r. ⌜ Judges inputs results (now (sets .entry)) r (now (out .exit)) ⌝ }
 {
     match text::sets::count_sets(sets, inputs) {
         Lines::Bad(line) => refused(
