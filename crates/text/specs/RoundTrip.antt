@@ -1,27 +1,31 @@
--- What is printed is read back as itself (document 01, "Program and readings"): a value of an 11-character field by the reading of set lines, a number
--- of a six-character field by the reading of the sheet, whose fields are written alike. Assumes nothing.
+-- What is printed is read back as itself (document 01, "Program and readings"): a number of a six-character field by the reading of the sheet, whose fields
+-- are written alike, a value of an 11-character field by the reading of set lines, and lines of results as a set file. Assumes nothing.
 use Prim.Native.Nat.{ℕ, zero, suc, _+_, _*_, _-_, _/_, _%_, _^_, _≤_, _<_}
-use mathlib.Core.Path.{_≡_, refl, ap, _∙_}
+use mathlib.Core.Path.{_≡_, refl, sym, ap, _∙_}
 use mathlib.Core.Bool.{Bool, true, false, cond}
-use mathlib.Core.List.{List, [], _∷_, _++_, append-assoc}
+use mathlib.Core.List.{List, [], _∷_, _++_, map, append-assoc, append-nil}
 use mathlib.Core.Option.{Option, some, none}
 use native.Mathlib.Omega.{arith}
 use native.Mathlib.Decide.{decLt}
 use native.Mathlib.Nat.{pow-suc}
-use borrow.Author.Tests.{le-leb, ne-eqb}
+use borrow.Author.Tests.{le-leb, eq-eqb, ne-eqb}
 use lib.IntN.{pos, negsuc}
-use lib.ListN.{replicate}
+use lib.ListN.{length, getD, take, drop, replicate, length-append}
+use lib.Seq.{take-at, drop-at, getD-at, take-suc, take-length, drop-append-add}
 use lib.Dec.{leb}
 use Rattle.value.specs.declared.Value.{Value}
 use Rattle.value.specs.declared.Value.the-variants.{Whole, Truth, Err}
 use Rattle.value.specs.Operators.{pick}
-use Rattle.value.specs.Bytes.{InRange}
+use Rattle.value.specs.Bytes.{InRange, isSome, valueOf, wordOf, wordBytes, bytesOf, wordAt}
+use Rattle.value.proofs.Words.{value-of-word, word-lt, stored-parts, word-stored}
 use Rattle.formula.specs.declared.Field.{Field}
 use Rattle.formula.specs.declared.Field.the-variants.{Number, Malformed}
 use Rattle.formula.specs.Sheet.{isDigit, digitsOf, zeroOf, fieldOf}
-use Rattle.text.specs.Fields.{positive, negative, behindMinus, alone, fieldValue}
-use Rattle.text.specs.Printed.{led, shown, numberField, letterField, valueField}
-use Rattle.text.specs.PrintLaws.{shown-last, shown-more}
+use Rattle.text.specs.Fields.{positive, negative, behindMinus, alone, fieldValue, wordBy}
+use Rattle.text.specs.Printed.{led, shown, numberField, letterField, valueField, optionField, wordField, resultFields, resultLine}
+use Rattle.text.specs.PrintLaws.{shown-last, shown-more, value-length}
+use Rattle.text.specs.SetLines.{linesOf, fieldAt, fieldsWell, fieldBytes, isSetLine, SetFile, sets, oneMore, setsFrom, setsOf}
+use Rattle.text.specs.SetLineLaws.{drop-take, good-line, no-line}
 
 -- ---- one more digit behind a number
 
@@ -189,3 +193,99 @@ value-reads-back (Whole (negsuc n)) h = negative-reads-back 10 (suc n) (omega ar
 value-reads-back (Truth true) h = refl
 value-reads-back (Truth false) h = refl
 value-reads-back Err h = refl
+
+-- ---- a line of values
+
+-- The values' fields, and their bytes as push takes them.
+unfoldable pub printed : List Value → List ℕ
+printed [] = []
+printed (v ∷ vs) = valueField v ++ printed vs
+
+unfoldable pub spelled : List Value → List ℕ
+spelled [] = []
+spelled (v ∷ vs) = bytesOf v ++ spelled vs
+
+unfoldable pub printedLine : List Value → List ℕ
+unfolding printed
+printedLine vs = printed vs ++ (10 ∷ [])
+
+abbrev pub AllInRange : List Value → Type 0
+AllInRange [] = Unit
+AllInRange (v ∷ vs) = InRange v × AllInRange vs
+
+range-at : (vs : List Value) (j : ℕ) → AllInRange vs → InRange (getD vs j Err)
+range-at [] j r = tt
+range-at (v ∷ vs) zero r = r .0
+range-at (v ∷ vs) (suc j) r = range-at vs j (r .1)
+
+printed-length : (vs : List Value) → length (printed vs) ≡ 11 * length vs
+unfolding printed
+printed-length [] = refl
+printed-length (v ∷ vs) = length-append (valueField v) (printed vs) ∙ omega (arith, value-length v, printed-length vs)
+
+line-length : (vs : List Value) → length (printedLine vs) ≡ 11 * length vs + 1
+unfolding printedLine
+line-length vs = length-append (printed vs) (10 ∷ []) ∙ rw (printed-length vs) refl
+
+printed-append : (vs us : List Value) → printed (vs ++ us) ≡ printed vs ++ printed us
+unfolding printed
+printed-append [] us = refl
+printed-append (v ∷ vs) us = ap (λ (x : List ℕ). valueField v ++ x) (printed-append vs us) ∙ sym (append-assoc (valueField v) (printed vs) (printed us))
+
+spelled-append : (vs us : List Value) → spelled (vs ++ us) ≡ spelled vs ++ spelled us
+unfolding spelled
+spelled-append [] us = refl
+spelled-append (v ∷ vs) us = ap (λ (x : List ℕ). bytesOf v ++ x) (spelled-append vs us) ∙ sym (append-assoc (bytesOf v) (spelled vs) (spelled us))
+
+printed-more : (vs : List Value) (k : ℕ) → k < length vs → printed (take (suc k) vs) ≡ printed (take k vs) ++ valueField (getD vs k Err)
+unfolding printed
+printed-more vs k h =
+    ap printed (take-suc vs k Err h) ∙ printed-append (take k vs) (getD vs k Err ∷ [])
+    ∙ ap (λ (x : List ℕ). printed (take k vs) ++ x) (append-nil (valueField (getD vs k Err)))
+
+spelled-more : (vs : List Value) (k : ℕ) → k < length vs → spelled (take (suc k) vs) ≡ spelled (take k vs) ++ bytesOf (getD vs k Err)
+unfolding spelled
+spelled-more vs k h =
+    ap spelled (take-suc vs k Err h) ∙ spelled-append (take k vs) (getD vs k Err ∷ [])
+    ∙ ap (λ (x : List ℕ). spelled (take k vs) ++ x) (append-nil (bytesOf (getD vs k Err)))
+
+field-part : (vs : List Value) (t : List ℕ) (j : ℕ) → j < length vs → take 11 (drop (11 * j) (printed vs ++ t)) ≡ valueField (getD vs j Err)
+unfolding printed
+field-part [] t j h = absurd (omega arith)
+field-part (v ∷ vs) t zero h =
+    ap (take 11) (append-assoc (valueField v) (printed vs) t) ∙ take-at (valueField v) (printed vs ++ t) 11 (value-length v)
+field-part (v ∷ vs) t (suc j) h =
+    let e : 11 * suc j ≡ length (valueField v) + 11 * j = omega (arith, value-length v) in
+    ap (λ (x : List ℕ). take 11 (drop (11 * suc j) x)) (append-assoc (valueField v) (printed vs) t)
+    ∙ ap (λ (n : ℕ). take 11 (drop n (valueField v ++ (printed vs ++ t)))) e
+    ∙ ap (take 11) (drop-append-add (valueField v) (printed vs ++ t) (11 * j))
+    ∙ field-part vs t j (omega arith)
+
+module _ (vs : List Value) (r : AllInRange vs) where
+  value-at : (j : ℕ) → j < length vs → fieldValue (fieldAt (printedLine vs) j) ≡ some (getD vs j Err)
+  unfolding printedLine
+  value-at j h =
+      ap fieldValue (drop-take (11 * j) 11 (printed vs ++ (10 ∷ [])) ∙ field-part vs (10 ∷ []) j h)
+      ∙ value-reads-back (getD vs j Err) (range-at vs j r)
+
+  wells-printed : (k : ℕ) → k ≤ length vs → fieldsWell k (printedLine vs) ≡ true
+  unfolding fieldsWell
+  wells-printed zero h = refl
+  wells-printed (suc k) h = rw (wells-printed k (omega arith), value-at k (omega arith)) refl
+
+  bytes-printed : (k : ℕ) → k ≤ length vs → fieldBytes k (printedLine vs) ≡ spelled (take k vs)
+  unfolding fieldBytes spelled bytesOf
+  bytes-printed zero h = refl
+  bytes-printed (suc k) h =
+      rw (bytes-printed k (omega arith), value-at k (omega arith)) (sym (spelled-more vs k (omega arith)))
+
+  feed : getD (printedLine vs) (11 * length vs) 0 ≡ 10
+  unfolding printedLine
+  feed = getD-at (printed vs) 10 [] 0 (11 * length vs) (printed-length vs)
+
+  pub line-is-set : isSetLine (length vs) (printedLine vs) ≡ true
+  unfolding isSetLine
+  line-is-set = rw (eq-eqb (length (printedLine vs)) (11 * length vs + 1) (line-length vs), feed, wells-printed (length vs) (omega arith)) refl
+
+  pub line-reads-back : fieldBytes (length vs) (printedLine vs) ≡ spelled vs
+  line-reads-back = bytes-printed (length vs) (omega arith) ∙ ap spelled (take-length vs)
