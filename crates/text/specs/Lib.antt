@@ -8,3 +8,4 @@ pub mod SetLineLaws
 pub mod ScanLaws
 pub mod ValueBytes
 pub mod RoundTrip
+pub mod Examples

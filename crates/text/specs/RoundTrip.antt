@@ -4,7 +4,7 @@ use Prim.Native.Nat.{ℕ, zero, suc, _+_, _*_, _-_, _/_, _%_, _^_, _≤_, _<_}
 use mathlib.Core.Path.{_≡_, refl, sym, ap, _∙_}
 use mathlib.Core.Bool.{Bool, true, false, cond}
 use mathlib.Core.List.{List, [], _∷_, _++_, map, append-assoc, append-nil}
-use mathlib.Core.Option.{Option, some, none}
+use mathlib.Core.Option.{some}
 use native.Mathlib.Omega.{arith}
 use native.Mathlib.Decide.{decLt}
 use native.Mathlib.Nat.{pow-suc}
@@ -12,19 +12,17 @@ use borrow.Author.Tests.{le-leb, eq-eqb, ne-eqb}
 use lib.IntN.{pos, negsuc}
 use lib.ListN.{length, getD, take, drop, replicate, length-append}
 use lib.Seq.{take-at, drop-at, getD-at, take-suc, take-length, drop-append-add}
-use lib.Dec.{leb}
 use Rattle.value.specs.declared.Value.{Value}
 use Rattle.value.specs.declared.Value.the-variants.{Whole, Truth, Err}
-use Rattle.value.specs.Operators.{pick}
-use Rattle.value.specs.Bytes.{InRange, isSome, valueOf, wordOf, wordBytes, bytesOf, wordAt}
+use Rattle.value.specs.Bytes.{InRange, wordOf, wordBytes, bytesOf, wordAt}
 use Rattle.value.proofs.Words.{value-of-word, word-lt, stored-parts, word-stored}
 use Rattle.formula.specs.declared.Field.{Field}
 use Rattle.formula.specs.declared.Field.the-variants.{Number, Malformed}
 use Rattle.formula.specs.Sheet.{isDigit, digitsOf, zeroOf, fieldOf}
-use Rattle.text.specs.Fields.{positive, negative, behindMinus, alone, fieldValue, wordBy}
+use Rattle.text.specs.Fields.{positive, negative, behindMinus, alone, fieldValue}
 use Rattle.text.specs.Printed.{led, shown, numberField, letterField, valueField, optionField, wordField, resultFields, resultLine}
 use Rattle.text.specs.PrintLaws.{shown-last, shown-more, value-length}
-use Rattle.text.specs.SetLines.{linesOf, fieldAt, fieldsWell, fieldBytes, isSetLine, SetFile, sets, oneMore, setsFrom, setsOf}
+use Rattle.text.specs.SetLines.{linesOf, fieldAt, fieldsWell, fieldBytes, isSetLine, sets, oneMore, setsFrom, setsOf}
 use Rattle.text.specs.SetLineLaws.{drop-take, good-line, no-line}
 
 -- ---- one more digit behind a number
@@ -289,3 +287,80 @@ module _ (vs : List Value) (r : AllInRange vs) where
 
   pub line-reads-back : fieldBytes (length vs) (printedLine vs) ≡ spelled vs
   line-reads-back = bytes-printed (length vs) (omega arith) ∙ ap spelled (take-length vs)
+
+-- ---- a line of results
+
+word-first : (w : ℕ) (t : List ℕ) → w < 1099511627776 → wordAt (wordBytes w ++ t) 0 ≡ w
+unfolding wordBytes
+word-first w t h =
+    ap (λ (l : List ℕ). wordAt l 0) (sym (stored-parts (wordBytes w ++ t) 0 w (omega arith)))
+    ∙ word-stored (wordBytes w ++ t) 0 w (omega arith) h
+
+word-later : (w : ℕ) (t : List ℕ) (i : ℕ) → wordAt (wordBytes w ++ t) (i + 5) ≡ wordAt t i
+unfolding wordBytes wordAt
+word-later w t i =
+    rw (byte (i + 5) i refl, byte (i + 5 + 1) (i + 1) (omega arith), byte (i + 5 + 2) (i + 2) (omega arith), byte (i + 5 + 3) (i + 3) (omega arith), byte (i + 5 + 4) (i + 4) (omega arith)) refl
+  where
+    byte : (at j : ℕ) → at ≡ j + 5 → getD (wordBytes w ++ t) at 0 ≡ getD t j 0
+    byte at j e =
+        let f : at ≡ suc (suc (suc (suc (suc j)))) = omega arith in
+        ap (λ (n : ℕ). getD (wordBytes w ++ t) n 0) f
+
+word-spelled : (vs : List Value) (t : List ℕ) (j : ℕ) → j < length vs → AllInRange vs → wordAt (spelled vs ++ t) (5 * j) ≡ wordOf (getD vs j Err)
+unfolding spelled bytesOf
+word-spelled [] t j h r = absurd (omega arith)
+word-spelled (v ∷ vs) t zero h r =
+    ap (λ (l : List ℕ). wordAt l 0) (append-assoc (bytesOf v) (spelled vs) t) ∙ word-first (wordOf v) (spelled vs ++ t) (word-lt v (r .0))
+word-spelled (v ∷ vs) t (suc j) h r =
+    let e : 5 * suc j ≡ 5 * j + 5 = omega arith in
+    ap (λ (l : List ℕ). wordAt l (5 * suc j)) (append-assoc (bytesOf v) (spelled vs) t)
+    ∙ ap (wordAt (bytesOf v ++ (spelled vs ++ t))) e
+    ∙ word-later (wordOf v) (spelled vs ++ t) (5 * j)
+    ∙ word-spelled vs t j (omega arith) (r .1)
+
+field-of-word : (v : Value) → InRange v → wordField (wordOf v) ≡ valueField v
+unfolding wordField optionField
+field-of-word v r = ap optionField (value-of-word v r)
+
+-- A result set holds more bytes than its width's values; what follows them is not printed.
+module _ (vs : List Value) (t : List ℕ) (r : AllInRange vs) where
+  fields-printed : (k : ℕ) → k ≤ length vs → resultFields k (spelled vs ++ t) ≡ printed (take k vs)
+  unfolding resultFields printed
+  fields-printed zero h = refl
+  fields-printed (suc k) h =
+      rw (fields-printed k (omega arith), word-spelled vs t k (omega arith) r, field-of-word (getD vs k Err) (range-at vs k r))
+      (sym (printed-more vs k (omega arith)))
+
+  pub results-printed : resultLine (length vs) (spelled vs ++ t) ≡ printedLine vs
+  unfolding resultLine printedLine
+  results-printed = ap (λ (x : List ℕ). x ++ (10 ∷ [])) (fields-printed (length vs) (omega arith) ∙ ap printed (take-length vs))
+
+-- ---- a file of such lines
+
+unfoldable pub printedFile : List (List Value) → List ℕ
+unfolding printedLine
+printedFile [] = []
+printedFile (vs ∷ vss) = printedLine vs ++ printedFile vss
+
+-- Sets of k values.
+abbrev pub Sets : ℕ → List (List Value) → Type 0
+Sets k [] = Unit
+Sets k (vs ∷ vss) = (length vs ≡ k) × (AllInRange vs × Sets k vss)
+
+lines-read-back : (k i : ℕ) (vss : List (List Value)) → Sets k vss → setsFrom k i (linesOf (printedFile vss)) ≡ sets (map spelled vss)
+unfolding printedFile oneMore
+lines-read-back k i [] s = no-line k i [] (omega arith)
+lines-read-back k i (vs ∷ vss) s =
+    let n : length vs ≡ k = s .0 in
+    let e : length (printedLine vs) ≡ 11 * k + 1 = line-length vs ∙ rw n refl in
+    let t : take (11 * k + 1) (printedLine vs ++ printedFile vss) ≡ printedLine vs = take-at (printedLine vs) (printedFile vss) (11 * k + 1) e in
+    let d : drop (11 * k + 1) (printedLine vs ++ printedFile vss) ≡ printedFile vss = drop-at (printedLine vs) (printedFile vss) (11 * k + 1) e in
+    let w : isSetLine k (printedLine vs) ≡ true = ap (λ (j : ℕ). isSetLine j (printedLine vs)) (sym n) ∙ line-is-set vs (s .1 .0) in
+    let b : fieldBytes k (printedLine vs) ≡ spelled vs = ap (λ (j : ℕ). fieldBytes j (printedLine vs)) (sym n) ∙ line-reads-back vs (s .1 .0) in
+    good-line k i (printedLine vs ++ printedFile vss) (ap (isSetLine k) t ∙ w)
+    ∙ rw (t, d, b, lines-read-back k (suc i) vss (s .1 .1)) refl
+
+-- Printed lines are a set file, and its sets are the values that were printed.
+pub file-reads-back : (k : ℕ) (vss : List (List Value)) → Sets k vss → setsOf k (printedFile vss) ≡ sets (map spelled vss)
+unfolding setsOf
+file-reads-back k vss s = lines-read-back k 1 vss s
