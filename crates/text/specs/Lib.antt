@@ -7,3 +7,5 @@ pub mod FieldLaws
 pub mod SetLineLaws
 pub mod ScanLaws
 pub mod ValueBytes
+pub mod RoundTrip
+pub mod Examples

@@ -48,7 +48,7 @@ pub letter-length : (c : ℕ) → length (letterField c) ≡ 11
 unfolding letterField
 letter-length c = refl
 
-value-length : (v : Value) → length (valueField v) ≡ 11
+pub value-length : (v : Value) → length (valueField v) ≡ 11
 unfolding valueField
 value-length (Whole (pos n)) = shown-length false 11 n
 value-length (Whole (negsuc n)) = shown-length true 11 (suc n)
