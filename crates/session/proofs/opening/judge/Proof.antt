@@ -62,7 +62,7 @@ same-length c = search needs
 
 -- src/opening.rt:57:1  // 12, or the first line and the loop to come. ⏎ fn judge(inputs: usize, results: u32, sets: &[u8], out: &mut [u8]) -> Opened
 returns : tie.Need-returns
-returns c = judged-bad (c .before .before .before .before .before .before .before .before .before .before .before .args .inputs) (c .before .before .before .before .before .before .before .before .before .before .before .args .results) (c .before .before .before .before .before .before .before .before .before .before .before .args .sets .now) (c .before .before .before .before .before .before .line .given .0 .0) (c .before .before .refused .result) (c .before .before .before .before .before .before .before .before .before .before .before .args .out .now) (c .before .before .refused .last .1 .1 .1 .0) (sym (c .before .before .before .before .before .before .line .given .1) ∙ c .before .before .before .before .before .before .before .before .count-sets .ensures) (rw (c .before .before .before .before .refusal-number .ensures) at (c .before .before .refused .ensures))
+returns c = judged-bad (c .before .before .before .before .before .before .before .before .before .before .before .args .inputs) (c .before .before .before .before .before .before .before .before .before .before .before .args .results) (c .before .before .before .before .before .before .before .before .before .before .before .args .sets .now) (c .before .before .before .before .before .before .line .given .0 .0) (c .before .before .refused .result) (c .before .before .refused .last .1 .1 .1 .0) (sym (c .before .before .before .before .before .before .line .given .1) ∙ c .before .before .before .before .before .before .before .before .count-sets .ensures) (rw (c .before .before .before .before .refusal-number .ensures) at (c .before .before .refused .ensures))
 
 -- src/opening.rt:57:1  // 12, or the first line and the loop to come. ⏎ fn judge(inputs: usize, results: u32, sets: &[u8], out: &mut [u8]) -> Opened
 same-length-2 : tie.Need-same-length-2

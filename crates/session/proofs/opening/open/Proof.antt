@@ -44,7 +44,7 @@ same-length c = search needs
 
 -- src/opening.rt:41:9  if !text::scan::seen_laid_out(seen) { ⏎ return refused(formula::refusal_number(Refusal::Layout), 0, end, out);
 returns : tie.Need-returns
-returns c = let p : Refuses (numberOf Layout) 0 (length (c .before .before .before .before .before .before .before .before .before .before .before .args .sets .now)) (c .before .before .refused .result) (c .before .before .before .before .before .before .before .before .before .before .before .args .out .now) (c .before .before .refused .last .1 .1 .1 .0) = (rw (c .before .before .before .before .refusal-number .ensures) at (c .before .before .refused .ensures)) in (opens-layout (c .before .before .before .before .before .before .before .before .before .before .before .args .first .now) (c .before .before .before .before .before .before .before .before .before .before .before .args .seen) (c .before .before .before .before .before .before .before .before .before .before .before .args .sets .now) (c .before .before .before .before .before .before .before .before .before .before .before .args .mem .now) (c .before .before .refused .result) (c .before .before .before .before .before .before .before .before .before .before .before .args .mem .now) (c .before .before .before .before .before .before .before .before .before .before .before .args .out .now) (c .before .before .refused .last .1 .1 .1 .0) (sym (c .before .before .before .before .before .before .seen-laid-out .ensures) ∙ not-true (c .before .before .before .before .before .before .seen-laid-out .result) (c .before .before .before .before .before .if1 .taken)) p, refusal-bounds (numberOf Layout) 0 (length (c .before .before .before .before .before .before .before .before .before .before .before .args .sets .now)) (c .before .before .refused .result) (c .before .before .before .before .before .before .before .before .before .before .before .args .out .now) (c .before .before .refused .last .1 .1 .1 .0) p)
+returns c = let p : Refuses (numberOf Layout) 0 (length (c .before .before .before .before .before .before .before .before .before .before .before .args .sets .now)) (c .before .before .refused .result) (c .before .before .refused .last .1 .1 .1 .0) = (rw (c .before .before .before .before .refusal-number .ensures) at (c .before .before .refused .ensures)) in (opens-layout (c .before .before .before .before .before .before .before .before .before .before .before .args .first .now) (c .before .before .before .before .before .before .before .before .before .before .before .args .seen) (c .before .before .before .before .before .before .before .before .before .before .before .args .sets .now) (c .before .before .before .before .before .before .before .before .before .before .before .args .mem .now) (c .before .before .refused .result) (c .before .before .before .before .before .before .before .before .before .before .before .args .mem .now) (c .before .before .refused .last .1 .1 .1 .0) (sym (c .before .before .before .before .before .before .seen-laid-out .ensures) ∙ not-true (c .before .before .before .before .before .before .seen-laid-out .result) (c .before .before .before .before .before .if1 .taken)) p, refusal-bounds (numberOf Layout) 0 (length (c .before .before .before .before .before .before .before .before .before .before .before .args .sets .now)) (c .before .before .refused .result) (c .before .before .refused .last .1 .1 .1 .0) p)
 
 -- src/opening.rt:44:24  if 6200 < seen.length { ⏎ return refused(formula::refusal_number(Refusal::Rows), 0, end, out);
 refusal-number-requires-2 : tie.Need-refusal-number-requires-2
@@ -60,7 +60,7 @@ same-length-2 c = search needs
 
 -- src/opening.rt:44:9  if 6200 < seen.length { ⏎ return refused(formula::refusal_number(Refusal::Rows), 0, end, out);
 returns-2 : tie.Need-returns-2
-returns-2 c = let p : Refuses (numberOf Rows) 0 (length (c .before .before .before .before .before .before .before .before .before .before .before .before .before .args .sets .now)) (c .before .before .refused2 .result) (c .before .before .before .before .before .before .before .before .before .before .before .before .before .args .out .now) (c .before .before .refused2 .last .1 .1 .1 .0) = (rw (c .before .before .before .before .refusal-number2 .ensures) at (c .before .before .refused2 .ensures)) in (opens-rows (c .before .before .before .before .before .before .before .before .before .before .before .before .before .args .first .now) (c .before .before .before .before .before .before .before .before .before .before .before .before .before .args .seen) (c .before .before .before .before .before .before .before .before .before .before .before .before .before .args .sets .now) (c .before .before .before .before .before .before .before .before .before .before .before .before .before .args .mem .now) (c .before .before .refused2 .result) (c .before .before .before .before .before .before .before .before .before .before .before .before .before .args .mem .now) (c .before .before .before .before .before .before .before .before .before .before .before .before .before .args .out .now) (c .before .before .refused2 .last .1 .1 .1 .0) (sym (c .before .before .before .before .before .before .before .before .seen-laid-out .ensures) ∙ not-false (c .before .before .before .before .before .before .before .before .seen-laid-out .result) (c .before .before .before .before .before .before .before .if1 .left)) (c .before .before .before .before .before .if2 .taken) p, refusal-bounds (numberOf Rows) 0 (length (c .before .before .before .before .before .before .before .before .before .before .before .before .before .args .sets .now)) (c .before .before .refused2 .result) (c .before .before .before .before .before .before .before .before .before .before .before .before .before .args .out .now) (c .before .before .refused2 .last .1 .1 .1 .0) p)
+returns-2 c = let p : Refuses (numberOf Rows) 0 (length (c .before .before .before .before .before .before .before .before .before .before .before .before .before .args .sets .now)) (c .before .before .refused2 .result) (c .before .before .refused2 .last .1 .1 .1 .0) = (rw (c .before .before .before .before .refusal-number2 .ensures) at (c .before .before .refused2 .ensures)) in (opens-rows (c .before .before .before .before .before .before .before .before .before .before .before .before .before .args .first .now) (c .before .before .before .before .before .before .before .before .before .before .before .before .before .args .seen) (c .before .before .before .before .before .before .before .before .before .before .before .before .before .args .sets .now) (c .before .before .before .before .before .before .before .before .before .before .before .before .before .args .mem .now) (c .before .before .refused2 .result) (c .before .before .before .before .before .before .before .before .before .before .before .before .before .args .mem .now) (c .before .before .refused2 .last .1 .1 .1 .0) (sym (c .before .before .before .before .before .before .before .before .seen-laid-out .ensures) ∙ not-false (c .before .before .before .before .before .before .before .before .seen-laid-out .result) (c .before .before .before .before .before .before .before .if1 .left)) (c .before .before .before .before .before .if2 .taken) p, refusal-bounds (numberOf Rows) 0 (length (c .before .before .before .before .before .before .before .before .before .before .before .before .before .args .sets .now)) (c .before .before .refused2 .result) (c .before .before .refused2 .last .1 .1 .1 .0) p)
 
 -- src/opening.rt:46:9  } ⏎ let a = start::start(first, 2, mem);
 start-requires : tie.Need-start-requires
@@ -80,7 +80,7 @@ same-length-4 c = search needs
 
 -- src/opening.rt:48:9  if a.refusal != 0 { ⏎ return refused(a.refusal, a.row, end, out);
 returns-3 : tie.Need-returns-3
-returns-3 c = let p : Refuses (c .before .before .before .before .before .before .before .before .start .result .refusal) (c .before .before .before .before .before .before .before .before .start .result .row) (length (c .before .before .before .before .before .before .before .before .before .before .before .before .before .before .before .before .before .before .args .sets .now)) (c .before .before .refused3 .result) (c .before .before .before .before .before .before .before .before .before .before .before .before .before .before .before .before .before .before .args .out .now) (c .before .before .refused3 .last .1 .1 .1 .0) = c .before .before .refused3 .ensures in (opens-refused (c .before .before .before .before .before .before .before .before .before .before .before .before .before .before .before .before .before .before .args .first .now) (c .before .before .before .before .before .before .before .before .before .before .before .before .before .before .before .before .before .before .args .seen) (c .before .before .before .before .before .before .before .before .before .before .before .before .before .before .before .before .before .before .args .sets .now) (c .before .before .before .before .before .before .before .before .before .before .before .before .before .before .before .before .before .before .args .mem .now) (c .before .before .refused3 .result) (c .before .before .before .before .before .before .before .before .start .last .1 .1 .0) (c .before .before .before .before .before .before .before .before .before .before .before .before .before .before .before .before .before .before .args .out .now) (c .before .before .refused3 .last .1 .1 .1 .0) (c .before .before .before .before .before .before .before .before .before .before .if2 .left) (c .before .before .before .before .before .before .before .before .before .before .before .before .before .before .before .before .before .before .pre .0) (c .before .before .before .before .before .before .before .before .start .result) (c .before .before .before .before .before .before .before .before .start .ensures) (c .before .before .before .before .if3 .taken) p, refusal-bounds (c .before .before .before .before .before .before .before .before .start .result .refusal) (c .before .before .before .before .before .before .before .before .start .result .row) (length (c .before .before .before .before .before .before .before .before .before .before .before .before .before .before .before .before .before .before .args .sets .now)) (c .before .before .refused3 .result) (c .before .before .before .before .before .before .before .before .before .before .before .before .before .before .before .before .before .before .args .out .now) (c .before .before .refused3 .last .1 .1 .1 .0) p)
+returns-3 c = let p : Refuses (c .before .before .before .before .before .before .before .before .start .result .refusal) (c .before .before .before .before .before .before .before .before .start .result .row) (length (c .before .before .before .before .before .before .before .before .before .before .before .before .before .before .before .before .before .before .args .sets .now)) (c .before .before .refused3 .result) (c .before .before .refused3 .last .1 .1 .1 .0) = c .before .before .refused3 .ensures in (opens-refused (c .before .before .before .before .before .before .before .before .before .before .before .before .before .before .before .before .before .before .args .first .now) (c .before .before .before .before .before .before .before .before .before .before .before .before .before .before .before .before .before .before .args .seen) (c .before .before .before .before .before .before .before .before .before .before .before .before .before .before .before .before .before .before .args .sets .now) (c .before .before .before .before .before .before .before .before .before .before .before .before .before .before .before .before .before .before .args .mem .now) (c .before .before .refused3 .result) (c .before .before .before .before .before .before .before .before .start .last .1 .1 .0) (c .before .before .refused3 .last .1 .1 .1 .0) (c .before .before .before .before .before .before .before .before .before .before .if2 .left) (c .before .before .before .before .before .before .before .before .before .before .before .before .before .before .before .before .before .before .pre .0) (c .before .before .before .before .before .before .before .before .start .result) (c .before .before .before .before .before .before .before .before .start .ensures) (c .before .before .before .before .if3 .taken) p, refusal-bounds (c .before .before .before .before .before .before .before .before .start .result .refusal) (c .before .before .before .before .before .before .before .before .start .result .row) (length (c .before .before .before .before .before .before .before .before .before .before .before .before .before .before .before .before .before .before .args .sets .now)) (c .before .before .refused3 .result) (c .before .before .refused3 .last .1 .1 .1 .0) p)
 
 -- src/opening.rt:51:24  if 65536 < end { ⏎ return refused(formula::refusal_number(Refusal::SetFile), 0, end, out);
 refusal-number-requires-3 : tie.Need-refusal-number-requires-3
@@ -100,7 +100,7 @@ same-length-6 c = search needs
 
 -- src/opening.rt:51:9  if 65536 < end { ⏎ return refused(formula::refusal_number(Refusal::SetFile), 0, end, out);
 returns-4 : tie.Need-returns-4
-returns-4 c = let p : Refuses (numberOf SetFile) 0 (length (c .before .before .before .before .before .before .before .before .before .before .before .before .before .before .before .before .before .before .before .before .args .sets .now)) (c .before .before .refused4 .result) (c .before .before .before .before .before .before .before .before .before .before .before .before .before .before .before .before .before .before .before .before .args .out .now) (c .before .before .refused4 .last .1 .1 .1 .0) = (rw (c .before .before .before .before .refusal-number3 .ensures) at (c .before .before .refused4 .ensures)) in (opens-long (c .before .before .before .before .before .before .before .before .before .before .before .before .before .before .before .before .before .before .before .before .args .first .now) (c .before .before .before .before .before .before .before .before .before .before .before .before .before .before .before .before .before .before .before .before .args .seen) (c .before .before .before .before .before .before .before .before .before .before .before .before .before .before .before .before .before .before .before .before .args .sets .now) (c .before .before .before .before .before .before .before .before .before .before .before .before .before .before .before .before .before .before .before .before .args .mem .now) (c .before .before .refused4 .result) (c .before .before .before .before .before .before .before .before .before .before .start .last .1 .1 .0) (c .before .before .before .before .before .before .before .before .before .before .before .before .before .before .before .before .before .before .before .before .args .out .now) (c .before .before .refused4 .last .1 .1 .1 .0) (c .before .before .before .before .before .before .before .before .before .before .before .before .if2 .left) (c .before .before .before .before .before .before .before .before .before .before .before .before .before .before .before .before .before .before .before .before .pre .0) (c .before .before .before .before .before .before .before .before .before .before .start .result) (c .before .before .before .before .before .before .before .before .before .before .start .ensures) (c .before .before .before .before .before .before .if3 .left) (c .before .before .before .before .before .if4 .taken) p, refusal-bounds (numberOf SetFile) 0 (length (c .before .before .before .before .before .before .before .before .before .before .before .before .before .before .before .before .before .before .before .before .args .sets .now)) (c .before .before .refused4 .result) (c .before .before .before .before .before .before .before .before .before .before .before .before .before .before .before .before .before .before .before .before .args .out .now) (c .before .before .refused4 .last .1 .1 .1 .0) p)
+returns-4 c = let p : Refuses (numberOf SetFile) 0 (length (c .before .before .before .before .before .before .before .before .before .before .before .before .before .before .before .before .before .before .before .before .args .sets .now)) (c .before .before .refused4 .result) (c .before .before .refused4 .last .1 .1 .1 .0) = (rw (c .before .before .before .before .refusal-number3 .ensures) at (c .before .before .refused4 .ensures)) in (opens-long (c .before .before .before .before .before .before .before .before .before .before .before .before .before .before .before .before .before .before .before .before .args .first .now) (c .before .before .before .before .before .before .before .before .before .before .before .before .before .before .before .before .before .before .before .before .args .seen) (c .before .before .before .before .before .before .before .before .before .before .before .before .before .before .before .before .before .before .before .before .args .sets .now) (c .before .before .before .before .before .before .before .before .before .before .before .before .before .before .before .before .before .before .before .before .args .mem .now) (c .before .before .refused4 .result) (c .before .before .before .before .before .before .before .before .before .before .start .last .1 .1 .0) (c .before .before .refused4 .last .1 .1 .1 .0) (c .before .before .before .before .before .before .before .before .before .before .before .before .if2 .left) (c .before .before .before .before .before .before .before .before .before .before .before .before .before .before .before .before .before .before .before .before .pre .0) (c .before .before .before .before .before .before .before .before .before .before .start .result) (c .before .before .before .before .before .before .before .before .before .before .start .ensures) (c .before .before .before .before .before .before .if3 .left) (c .before .before .before .before .before .if4 .taken) p, refusal-bounds (numberOf SetFile) 0 (length (c .before .before .before .before .before .before .before .before .before .before .before .before .before .before .before .before .before .before .before .before .args .sets .now)) (c .before .before .refused4 .result) (c .before .before .refused4 .last .1 .1 .1 .0) p)
 
 -- src/opening.rt:53:11  } ⏎ judge(a.inputs as usize, a.results, sets, out)
 cast-judge : tie.Need-cast-judge
@@ -108,7 +108,7 @@ cast-judge c = search needs
 
 -- src/opening.rt:53:5  } ⏎ judge(a.inputs as usize, a.results, sets, out)
 judge-requires : tie.Need-judge-requires
-judge-requires c κs = (inputs-few (c .before .before .before .before .before .before .before .before .before .before .before .before .before .before .before .before .before .args .first .now) (c .before .before .before .before .before .before .before .before .before .before .before .before .before .before .before .before .before .args .seen) (c .before .before .before .before .before .before .before .before .before .before .before .before .before .before .before .before .before .args .sets .now) (c .before .before .before .before .before .before .before .before .before .before .before .before .before .before .before .before .before .args .mem .now) (record { inputs = 0; stage = record { at = 0; remaining = 0; firings = 0; printed = 0 } }) (c .before .before .before .before .before .before .before .start .last .1 .1 .0) (c .before .before .before .before .before .before .before .before .before .before .before .before .before .before .before .before .before .args .out .now) (c .before .before .before .before .before .before .before .before .before .before .before .before .before .before .before .before .before .args .out .now) (c .before .before .before .before .before .before .before .before .before .if2 .left) (c .before .before .before .before .before .before .before .before .before .before .before .before .before .before .before .before .before .pre .0) (c .before .before .before .before .before .before .before .start .result) (c .before .before .before .before .before .before .before .start .ensures) (c .before .before .before .if3 .left), omega (arith, c .before .before .before .before .before .before .before .before .before .before .before .before .before .before .before .before .before .pre .1), c .before .before .if4 .left)
+judge-requires c κs = (inputs-few (c .before .before .before .before .before .before .before .before .before .before .before .before .before .before .before .before .before .args .first .now) (c .before .before .before .before .before .before .before .before .before .before .before .before .before .before .before .before .before .args .seen) (c .before .before .before .before .before .before .before .before .before .before .before .before .before .before .before .before .before .args .sets .now) (c .before .before .before .before .before .before .before .before .before .before .before .before .before .before .before .before .before .args .mem .now) (record { inputs = 0; stage = record { at = 0; remaining = 0; firings = 0; printed = 0 } }) (c .before .before .before .before .before .before .before .start .last .1 .1 .0) (c .before .before .before .before .before .before .before .before .before .before .before .before .before .before .before .before .before .args .out .now) (c .before .before .before .before .before .before .before .before .before .if2 .left) (c .before .before .before .before .before .before .before .before .before .before .before .before .before .before .before .before .before .pre .0) (c .before .before .before .before .before .before .before .start .result) (c .before .before .before .before .before .before .before .start .ensures) (c .before .before .before .if3 .left), omega (arith, c .before .before .before .before .before .before .before .before .before .before .before .before .before .before .before .before .before .pre .1), c .before .before .if4 .left)
 
 -- src/opening.rt:34:1  // bytes, up to 65,537. ⏎ pub fn open(first: &[u8], seen: Seen, sets: &[u8], mem: &mut [u8], out: &mut [u8]) -> Opened
 same-length-7 : tie.Need-same-length-7
@@ -120,7 +120,7 @@ same-length-8 c = search needs
 
 -- src/opening.rt:34:1  // bytes, up to 65,537. ⏎ pub fn open(first: &[u8], seen: Seen, sets: &[u8], mem: &mut [u8], out: &mut [u8]) -> Opened
 returns-5 : tie.Need-returns-5
-returns-5 c = (opens-judged (c .before .before .before .before .before .before .before .before .before .before .before .before .before .before .before .before .before .before .before .before .args .first .now) (c .before .before .before .before .before .before .before .before .before .before .before .before .before .before .before .before .before .before .before .before .args .seen) (c .before .before .before .before .before .before .before .before .before .before .before .before .before .before .before .before .before .before .before .before .args .sets .now) (c .before .before .before .before .before .before .before .before .before .before .before .before .before .before .before .before .before .before .before .before .args .mem .now) (c .before .before .judge .result) (c .before .before .before .before .before .before .before .before .before .before .start .last .1 .1 .0) (c .before .before .before .before .before .before .before .before .before .before .before .before .before .before .before .before .before .before .before .before .args .out .now) (c .before .before .judge .last .1 .1 .1 .0) (c .before .before .before .before .before .before .before .before .before .before .before .before .if2 .left) (c .before .before .before .before .before .before .before .before .before .before .before .before .before .before .before .before .before .before .before .before .pre .0) (c .before .before .before .before .before .before .before .before .before .before .start .result) (c .before .before .before .before .before .before .before .before .before .before .start .ensures) (c .before .before .before .before .before .before .if3 .left) (c .before .before .before .before .before .if4 .left) (c .before .before .judge .ensures), judged-bounds (c .before .before .before .before .before .before .before .before .before .before .start .result .inputs) (c .before .before .before .before .before .before .before .before .before .before .start .result .results) (c .before .before .before .before .before .before .before .before .before .before .before .before .before .before .before .before .before .before .before .before .args .sets .now) (c .before .before .judge .result) (c .before .before .before .before .before .before .before .before .before .before .before .before .before .before .before .before .before .before .before .before .args .out .now) (c .before .before .judge .last .1 .1 .1 .0) (inputs-few (c .before .before .before .before .before .before .before .before .before .before .before .before .before .before .before .before .before .before .before .before .args .first .now) (c .before .before .before .before .before .before .before .before .before .before .before .before .before .before .before .before .before .before .before .before .args .seen) (c .before .before .before .before .before .before .before .before .before .before .before .before .before .before .before .before .before .before .before .before .args .sets .now) (c .before .before .before .before .before .before .before .before .before .before .before .before .before .before .before .before .before .before .before .before .args .mem .now) (record { inputs = 0; stage = record { at = 0; remaining = 0; firings = 0; printed = 0 } }) (c .before .before .before .before .before .before .before .before .before .before .start .last .1 .1 .0) (c .before .before .before .before .before .before .before .before .before .before .before .before .before .before .before .before .before .before .before .before .args .out .now) (c .before .before .before .before .before .before .before .before .before .before .before .before .before .before .before .before .before .before .before .before .args .out .now) (c .before .before .before .before .before .before .before .before .before .before .before .before .if2 .left) (c .before .before .before .before .before .before .before .before .before .before .before .before .before .before .before .before .before .before .before .before .pre .0) (c .before .before .before .before .before .before .before .before .before .before .start .result) (c .before .before .before .before .before .before .before .before .before .before .start .ensures) (c .before .before .before .before .before .before .if3 .left)) (c .before .before .judge .ensures))
+returns-5 c = (opens-judged (c .before .before .before .before .before .before .before .before .before .before .before .before .before .before .before .before .before .before .before .before .args .first .now) (c .before .before .before .before .before .before .before .before .before .before .before .before .before .before .before .before .before .before .before .before .args .seen) (c .before .before .before .before .before .before .before .before .before .before .before .before .before .before .before .before .before .before .before .before .args .sets .now) (c .before .before .before .before .before .before .before .before .before .before .before .before .before .before .before .before .before .before .before .before .args .mem .now) (c .before .before .judge .result) (c .before .before .before .before .before .before .before .before .before .before .start .last .1 .1 .0) (c .before .before .judge .last .1 .1 .1 .0) (c .before .before .before .before .before .before .before .before .before .before .before .before .if2 .left) (c .before .before .before .before .before .before .before .before .before .before .before .before .before .before .before .before .before .before .before .before .pre .0) (c .before .before .before .before .before .before .before .before .before .before .start .result) (c .before .before .before .before .before .before .before .before .before .before .start .ensures) (c .before .before .before .before .before .before .if3 .left) (c .before .before .before .before .before .if4 .left) (c .before .before .judge .ensures), judged-bounds (c .before .before .before .before .before .before .before .before .before .before .start .result .inputs) (c .before .before .before .before .before .before .before .before .before .before .start .result .results) (c .before .before .before .before .before .before .before .before .before .before .before .before .before .before .before .before .before .before .before .before .args .sets .now) (c .before .before .judge .result) (c .before .before .judge .last .1 .1 .1 .0) (inputs-few (c .before .before .before .before .before .before .before .before .before .before .before .before .before .before .before .before .before .before .before .before .args .first .now) (c .before .before .before .before .before .before .before .before .before .before .before .before .before .before .before .before .before .before .before .before .args .seen) (c .before .before .before .before .before .before .before .before .before .before .before .before .before .before .before .before .before .before .before .before .args .sets .now) (c .before .before .before .before .before .before .before .before .before .before .before .before .before .before .before .before .before .before .before .before .args .mem .now) (record { inputs = 0; stage = record { at = 0; remaining = 0; firings = 0; printed = 0 } }) (c .before .before .before .before .before .before .before .before .before .before .start .last .1 .1 .0) (c .before .before .before .before .before .before .before .before .before .before .before .before .before .before .before .before .before .before .before .before .args .out .now) (c .before .before .before .before .before .before .before .before .before .before .before .before .if2 .left) (c .before .before .before .before .before .before .before .before .before .before .before .before .before .before .before .before .before .before .before .before .pre .0) (c .before .before .before .before .before .before .before .before .before .before .start .result) (c .before .before .before .before .before .before .before .before .before .before .start .ensures) (c .before .before .before .before .before .before .if3 .left)) (c .before .before .judge .ensures))
 
 pub open-spec : {M : Type 1} → statement M
 open-spec =

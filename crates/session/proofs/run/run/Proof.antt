@@ -20,87 +20,87 @@ use mathlib.Core.Logic.{inl}
 use mathlib.Core.List.{[], _++_}
 use Rattle.session.specs.OpeningLaws.{begins-proceeds}
 
--- src/run.rt:124:21  pub fn run(formula: &[u8], file: &[u8]) { ⏎ let mut first = sheet_buffer();
+-- src/run.rt:125:21  pub fn run(formula: &[u8], file: &[u8]) { ⏎ let mut first = sheet_buffer();
 sheet-buffer-requires : tie.Need-sheet-buffer-requires
 sheet-buffer-requires c κs = search needs
 
--- src/run.rt:125:20  let mut first = sheet_buffer(); ⏎ let mut sets = set_buffer();
+-- src/run.rt:126:20  let mut first = sheet_buffer(); ⏎ let mut sets = set_buffer();
 set-buffer-requires : tie.Need-set-buffer-requires
 set-buffer-requires c κs = search needs
 
--- src/run.rt:126:19  let mut sets = set_buffer(); ⏎ let mut mem = io::large_buffer();
+-- src/run.rt:127:19  let mut sets = set_buffer(); ⏎ let mut mem = io::large_buffer();
 large-buffer-requires : tie.Need-large-buffer-requires
 large-buffer-requires c κs = search needs
 
--- src/run.rt:127:19  let mut mem = io::large_buffer(); ⏎ let mut out = io::large_buffer();
+-- src/run.rt:128:19  let mut mem = io::large_buffer(); ⏎ let mut out = io::large_buffer();
 large-buffer-requires-2 : tie.Need-large-buffer-requires-2
 large-buffer-requires-2 c κs = search needs
 
--- src/run.rt:128:37  let mut out = io::large_buffer(); ⏎ let sheet = read_sheet(formula, &mut first);
+-- src/run.rt:129:37  let mut out = io::large_buffer(); ⏎ let sheet = read_sheet(formula, &mut first);
 slice-aggregate-read-sheet : tie.Need-slice-aggregate-read-sheet
 slice-aggregate-read-sheet c = search needs
 
--- src/run.rt:128:9  let mut out = io::large_buffer(); ⏎ let sheet = read_sheet(formula, &mut first);
+-- src/run.rt:129:9  let mut out = io::large_buffer(); ⏎ let sheet = read_sheet(formula, &mut first);
 read-sheet-requires : tie.Need-read-sheet-requires
 read-sheet-requires c κs = search needs
 
--- src/run.rt:129:24  let sheet = read_sheet(formula, &mut first); ⏎ let n = load(file, &mut sets);
+-- src/run.rt:130:24  let sheet = read_sheet(formula, &mut first); ⏎ let n = load(file, &mut sets);
 slice-aggregate-load : tie.Need-slice-aggregate-load
 slice-aggregate-load c = search needs
 
--- src/run.rt:129:9  let sheet = read_sheet(formula, &mut first); ⏎ let n = load(file, &mut sets);
+-- src/run.rt:130:9  let sheet = read_sheet(formula, &mut first); ⏎ let n = load(file, &mut sets);
 load-requires : tie.Need-load-requires
 load-requires c κs = search needs
 
--- src/run.rt:131:23  let length = sheet.length; ⏎ let opened = open(&first[..length], sheet.seen, &sets[..n], &mut mem, &mut out);
+-- src/run.rt:132:23  let length = sheet.length; ⏎ let opened = open(&first[..length], sheet.seen, &sets[..n], &mut mem, &mut out);
 array-share-prefix-first : tie.Need-array-share-prefix-first
 array-share-prefix-first c = search needs
 
--- src/run.rt:131:23  let length = sheet.length; ⏎ let opened = open(&first[..length], sheet.seen, &sets[..n], &mut mem, &mut out);
+-- src/run.rt:132:23  let length = sheet.length; ⏎ let opened = open(&first[..length], sheet.seen, &sets[..n], &mut mem, &mut out);
 slice-aggregate-open : tie.Need-slice-aggregate-open
 slice-aggregate-open c = sym (length-take-le (c .before .before .before .before .before .read-sheet .result .length) (c .before .before .before .before .before .read-sheet .last .1 .0) (c .before .before .before .before .before .read-sheet .ensures .within))
 
--- src/run.rt:131:53  let length = sheet.length; ⏎ let opened = open(&first[..length], sheet.seen, &sets[..n], &mut mem, &mut out);
+-- src/run.rt:132:53  let length = sheet.length; ⏎ let opened = open(&first[..length], sheet.seen, &sets[..n], &mut mem, &mut out);
 array-share-prefix-sets : tie.Need-array-share-prefix-sets
 array-share-prefix-sets c = search needs
 
--- src/run.rt:131:53  let length = sheet.length; ⏎ let opened = open(&first[..length], sheet.seen, &sets[..n], &mut mem, &mut out);
+-- src/run.rt:132:53  let length = sheet.length; ⏎ let opened = open(&first[..length], sheet.seen, &sets[..n], &mut mem, &mut out);
 slice-aggregate-open-2 : tie.Need-slice-aggregate-open-2
 slice-aggregate-open-2 c = search needs
 
--- src/run.rt:131:65  let length = sheet.length; ⏎ let opened = open(&first[..length], sheet.seen, &sets[..n], &mut mem, &mut out);
+-- src/run.rt:132:65  let length = sheet.length; ⏎ let opened = open(&first[..length], sheet.seen, &sets[..n], &mut mem, &mut out);
 slice-aggregate-open-3 : tie.Need-slice-aggregate-open-3
 slice-aggregate-open-3 c = search needs
 
--- src/run.rt:131:75  let length = sheet.length; ⏎ let opened = open(&first[..length], sheet.seen, &sets[..n], &mut mem, &mut out);
+-- src/run.rt:132:75  let length = sheet.length; ⏎ let opened = open(&first[..length], sheet.seen, &sets[..n], &mut mem, &mut out);
 slice-aggregate-open-4 : tie.Need-slice-aggregate-open-4
 slice-aggregate-open-4 c = search needs
 
--- src/run.rt:131:9  let length = sheet.length; ⏎ let opened = open(&first[..length], sheet.seen, &sets[..n], &mut mem, &mut out);
+-- src/run.rt:132:9  let length = sheet.length; ⏎ let opened = open(&first[..length], sheet.seen, &sets[..n], &mut mem, &mut out);
 open-requires : tie.Need-open-requires
 open-requires c κs = search needs
 
--- src/run.rt:132:12  let opened = open(&first[..length], sheet.seen, &sets[..n], &mut mem, &mut out); ⏎ repeat(&mut mem, &sets[..n], opened, &mut out);
+-- src/run.rt:133:12  let opened = open(&first[..length], sheet.seen, &sets[..n], &mut mem, &mut out); ⏎ repeat(&mut mem, &sets[..n], opened, &mut out);
 slice-aggregate-repeat : tie.Need-slice-aggregate-repeat
 slice-aggregate-repeat c = search needs
 
--- src/run.rt:132:22  let opened = open(&first[..length], sheet.seen, &sets[..n], &mut mem, &mut out); ⏎ repeat(&mut mem, &sets[..n], opened, &mut out);
+-- src/run.rt:133:22  let opened = open(&first[..length], sheet.seen, &sets[..n], &mut mem, &mut out); ⏎ repeat(&mut mem, &sets[..n], opened, &mut out);
 array-share-prefix-sets-2 : tie.Need-array-share-prefix-sets-2
 array-share-prefix-sets-2 c = search needs
 
--- src/run.rt:132:22  let opened = open(&first[..length], sheet.seen, &sets[..n], &mut mem, &mut out); ⏎ repeat(&mut mem, &sets[..n], opened, &mut out);
+-- src/run.rt:133:22  let opened = open(&first[..length], sheet.seen, &sets[..n], &mut mem, &mut out); ⏎ repeat(&mut mem, &sets[..n], opened, &mut out);
 slice-aggregate-repeat-2 : tie.Need-slice-aggregate-repeat-2
 slice-aggregate-repeat-2 c = search needs
 
--- src/run.rt:132:42  let opened = open(&first[..length], sheet.seen, &sets[..n], &mut mem, &mut out); ⏎ repeat(&mut mem, &sets[..n], opened, &mut out);
+-- src/run.rt:133:42  let opened = open(&first[..length], sheet.seen, &sets[..n], &mut mem, &mut out); ⏎ repeat(&mut mem, &sets[..n], opened, &mut out);
 slice-aggregate-repeat-3 : tie.Need-slice-aggregate-repeat-3
 slice-aggregate-repeat-3 c = search needs
 
--- src/run.rt:132:5  let opened = open(&first[..length], sheet.seen, &sets[..n], &mut mem, &mut out); ⏎ repeat(&mut mem, &sets[..n], opened, &mut out);
+-- src/run.rt:133:5  let opened = open(&first[..length], sheet.seen, &sets[..n], &mut mem, &mut out); ⏎ repeat(&mut mem, &sets[..n], opened, &mut out);
 repeat-requires : tie.Need-repeat-requires
 repeat-requires c κs = let p = begins-proceeds (take (c .before .before .before .before .before .before .before .before .before .before .before .before .before .before .read-sheet .result .length) (c .before .before .before .before .before .before .before .before .before .before .before .before .before .before .read-sheet .last .1 .0) ++ c .before .before .before .before .before .before .before .before .before .before .before .before .before .before .read-sheet .ensures .more) (take (c .before .before .before .before .before .before .before .before .before .before .before .load .result) (c .before .before .before .before .before .before .before .before .before .before .before .load .last .1 .0) ++ []) (take (c .before .before .before .before .before .before .before .before .before .before .before .load .result) (c .before .before .before .before .before .before .before .before .before .before .before .load .last .1 .0)) (c .before .before .before .before .before .«open» .result) (c .before .before .before .before .before .«open» .last .1 .1 .1 .0) (c .before .before .before .before .before .«open» .last .1 .1 .1 .1 .0) (c .before .before .before .before .before .«open» .ensures .0 (c .before .before .before .before .before .before .before .before .before .before .before .before .before .before .read-sheet .ensures .more) [] (c .before .before .before .before .before .before .before .before .before .before .before .before .before .before .read-sheet .ensures .whole) (inl refl)) in search needs
 
--- src/run.rt:123:1  } ⏎ pub fn run(formula: &[u8], file: &[u8]) {
+-- src/run.rt:124:1  } ⏎ pub fn run(formula: &[u8], file: &[u8]) {
 returns : tie.Need-returns
 returns c = search needs
 
