@@ -1,7 +1,7 @@
 -- What a graph yields for one set of values. A name's value may be absent: the arm of an if that was not chosen gets nothing and
 -- gives nothing. No link, no state and no order of firings appears here; that the network does just this is the schedule
 -- lemma. The number counts rounds (entries into a loop body); the answer is none where the rounds lent did not suffice.
-use Prim.Native.Nat.{ℕ, zero, suc, _+_, _-_}
+use Prim.Native.Nat.{ℕ, zero, suc, _+_, _-_, _≤_}
 use mathlib.Core.Path.{_≡_}
 use mathlib.Core.Logic.{_⊎_}
 use mathlib.Core.Bool.{Bool, true, false, cond}
@@ -10,7 +10,7 @@ use mathlib.Core.Option.{Option, none, some}
 use lib.ListN.{length, replicate}
 use lib.Dec.{eqb}
 use Rattle.value.specs.declared.Value.{Value}
-use Rattle.network.specs.Values.{true-value, false-value}
+use Rattle.network.specs.Values.{true-value, false-value, err-value}
 use Rattle.network.specs.Rules.{Kind, constant, operator, T-gate, F-gate, M-gate, E-gate, IC-gate, Input, first, second, third, Register}
 use Rattle.network.specs.Decide.{Decision, decide}
 use Rattle.graph.specs.Assembly.{Gate, const, oper, T, F, M, E, IC, Graph, wire, nothing, beside, bind, gate, loop, free, memberOf, gateOutputs}
@@ -128,6 +128,20 @@ pub data Looped (ns : List ℕ) (others : ℕ → Type 0) (r : ℕ) (ρ : Values
   spins : (c d : ℕ) (vs : List Value) (a : Answer) → length vs ≡ length ns → P c (some (present vs))
       → ((x : ℕ) → others x → (v : Value) × (ρ x ≡ some v)) → Spins (length ns) B vs d a → Looped ns others r ρ P B (c + d) a
 
+-- The rounds of a loop of which i are gone: as Spins, and from N rounds on a round may be made as C says, which ends the loop.
+pub data Cut-spins (k N : ℕ) (B C : List Value → ℕ → Answer → Type 0) : ℕ → List Value → List (Option Value) → Type 0 where
+  last : (i : ℕ) (vs : List Value) (c : ℕ) (us : List (Option Value)) → B vs c (some (some false-value ∷ (absent k ++ us))) → Cut-spins k N B C i vs us
+  onward : (i : ℕ) (vs ws : List Value) (c r : ℕ) (us : List (Option Value)) → length ws ≡ k → B vs c (some (some true-value ∷ (present ws ++ absent r)))
+      → Cut-spins k N B C (suc i) ws us → Cut-spins k N B C i vs us
+  cuts : (i : ℕ) (vs : List Value) (c : ℕ) (us : List (Option Value)) → N ≤ i → C vs c (some (some false-value ∷ (absent k ++ us))) → Cut-spins k N B C i vs us
+
+-- A loop that may be cut: as Looped, but it always ends, and its rounds are not counted.
+pub data Cut-looped (N : ℕ) (ns : List ℕ) (others : ℕ → Type 0) (r : ℕ) (ρ : Values) (P : ℕ → Answer → Type 0) (B C : List Value → ℕ → Answer → Type 0)
+    : ℕ → Answer → Type 0 where
+  rests : P 0 (some (absent (length ns))) → ((x : ℕ) → others x → ρ x ≡ none) → Cut-looped N ns others r ρ P B C 0 (some (absent r))
+  spins : (c : ℕ) (vs : List Value) (us : List (Option Value)) → length vs ≡ length ns → P c (some (present vs))
+      → ((x : ℕ) → others x → (v : Value) × (ρ x ≡ some v)) → Cut-spins (length ns) N B C 0 vs us → Cut-looped N ns others r ρ P B C c (some us)
+
 -- The number of a graph's outputs.
 unfoldable pub outputCount : Graph → ℕ
 unfolding gateOutputs
@@ -142,13 +156,50 @@ outputCount (loop ns a b) = returnedCount (outputCount b) (length ns)
     returnedCount zero k = 0
     returnedCount (suc n) k = n - k
 
--- What a graph yields with these values of its names, in so many rounds.
+-- What a loop yields, from its start and its body; the last part is the body with its first test overridden, for a loop that is cut.
+abbrev pub Loops : Type 1
+Loops = List ℕ → (ℕ → Type 0) → ℕ → Values → (ℕ → Answer → Type 0) → (List Value → ℕ → Answer → Type 0) → (List Value → ℕ → Answer → Type 0) → ℕ → Answer → Type 0
+
+-- What a graph yields with these values of its names, in so many rounds. With `true`: a body whose first test counts as err.
+abbrev pub YieldsBy : Loops → Graph → Bool → Values → ℕ → Answer → Type 0
+YieldsBy L (wire x) false ρ c a = (c ≡ 0) × (a ≡ some (ρ x ∷ []))
+YieldsBy L nothing false ρ c a = (c ≡ 0) × (a ≡ some [])
+YieldsBy L (beside x y) false ρ c a = Beside (YieldsBy L x false ρ) (YieldsBy L y false ρ) c a
+YieldsBy L (bind ns x y) false ρ c a = Sequel (YieldsBy L x false ρ) (λ vs. YieldsBy L y false (bound ns vs ρ)) c a
+YieldsBy L (gate g x) false ρ c a = Gated g (YieldsBy L x false ρ) c a
+YieldsBy L (loop ns x y) false ρ c a =
+    L ns (λ n. (free y n ≡ true) × (memberOf ns n ≡ false)) (outputCount (loop ns x y)) ρ (YieldsBy L x false ρ)
+    (λ vs. YieldsBy L y false (bound ns (present vs) ρ)) (λ vs. YieldsBy L y true (bound ns (present vs) ρ)) c a
+YieldsBy L (wire x) true ρ c a = ⊥
+YieldsBy L nothing true ρ c a = ⊥
+YieldsBy L (beside x y) true ρ c a = ⊥
+YieldsBy L (gate g x) true ρ c a = ⊥
+YieldsBy L (loop ns x y) true ρ c a = ⊥
+YieldsBy L (bind ns x y) true ρ c a =
+    ((ns ≡ 33 ∷ [] → ⊥) × Sequel (YieldsBy L x false ρ) (λ vs. YieldsBy L y true (bound ns vs ρ)) c a)
+    ⊎ ((ns ≡ 33 ∷ [])
+    × Sequel (YieldsBy L x false ρ) (λ vs d b. ((v : Value) × (vs ≡ some v ∷ [])) × YieldsBy L y false (bound ns (some err-value ∷ []) ρ) d b) c a)
+
+abbrev pub whole-loops : Loops
+whole-loops ns others r ρ P B O c a = Looped ns others r ρ P B c a
+
 abbrev pub Yields : Graph → Values → ℕ → Answer → Type 0
-Yields (wire x) ρ c a = (c ≡ 0) × (a ≡ some (ρ x ∷ []))
-Yields nothing ρ c a = (c ≡ 0) × (a ≡ some [])
-Yields (beside x y) ρ c a = Beside (Yields x ρ) (Yields y ρ) c a
-Yields (bind ns x y) ρ c a = Sequel (Yields x ρ) (λ vs. Yields y (bound ns vs ρ)) c a
-Yields (gate g x) ρ c a = Gated g (Yields x ρ) c a
-Yields (loop ns x y) ρ c a =
-    Looped ns (λ n. (free y n ≡ true) × (memberOf ns n ≡ false)) (outputCount (loop ns x y)) ρ (Yields x ρ)
-    (λ vs. Yields y (bound ns (present vs) ρ)) c a
+Yields g ρ c a = YieldsBy whole-loops g false ρ c a
+
+-- Loops that may be cut from N rounds on.
+abbrev pub cut-loops : ℕ → Loops
+cut-loops N ns others r ρ P B C c a = Cut-looped N ns others r ρ P B C c a
+
+-- Loops as the language has them, or cut.
+abbrev pub loops-of : Option ℕ → Loops
+loops-of none = whole-loops
+loops-of (some N) = cut-loops N
+
+abbrev pub YieldsIn : Option ℕ → Graph → Values → ℕ → Answer → Type 0
+YieldsIn cut g ρ c a = YieldsBy (loops-of cut) g false ρ c a
+
+-- A loop to which nothing comes rests, in each member of the family.
+pub loop-rests : (cut : Option ℕ) (ns : List ℕ) (others : ℕ → Type 0) (r : ℕ) (ρ : Values) (P : ℕ → Answer → Type 0) (B C : List Value → ℕ → Answer → Type 0)
+    → P 0 (some (absent (length ns))) → ((x : ℕ) → others x → ρ x ≡ none) → loops-of cut ns others r ρ P B C 0 (some (absent r))
+loop-rests none ns others r ρ P B C p q = Looped.rests p q
+loop-rests (some N) ns others r ρ P B C p q = Cut-looped.rests p q

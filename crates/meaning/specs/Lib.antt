@@ -4,3 +4,4 @@ pub mod Rounds
 pub mod WidthLaws
 pub mod Rows
 pub mod Accepted
+pub mod Loopless

@@ -14,3 +14,4 @@ pub mod FiringHistory
 pub mod FiringSample
 pub mod Ends
 pub mod Uses
+pub mod Poisoned

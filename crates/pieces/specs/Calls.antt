@@ -9,20 +9,24 @@ use mathlib.Core.Logic.{_≢_, Ne·symm, _⊎_, inl, inr}
 use mathlib.Core.List.{List, [], _∷_, _++_}
 use mathlib.Core.Option.{Option}
 use lib.ListN.{length, take, drop, take-append-drop, length-append}
-use native.Mathlib.Decide.{decLe}
+use native.Mathlib.Decide.{ℕ-discrete, decLe}
 use native.Mathlib.Omega.{arith}
-use Rattle.schedule.specs.Schedules.{Possible, reached, outputs, Agree}
+use Rattle.schedule.specs.Schedules.{Possible, reached, outputs, Agree, Diamond}
+use Rattle.schedule.specs.Counts.{count}
+use Rattle.schedule.specs.Progress.{endless, rest-covers}
+use Rattle.network.specs.Commute.{diamond}
 use Rattle.value.specs.declared.Value.{Value}
 use Rattle.network.specs.Values.{true-value}
 use Rattle.network.specs.Net.{Token, val, Demand, ask, fire, halt, Links, head, tail, pop, pop-same, pop-other, append, append-same, append-other, Able, appends, act}
 use Rattle.network.specs.Commute.{Never-asks, Not-among, Never-emits}
 use Rattle.network.specs.Ends.{push-demand, take-demand, collect, machine-push, machine-take, machine-graph}
 use Rattle.network.specs.Uses.{In}
-use Rattle.pieces.specs.Load.{set-link, set-other, set-ext, put, put-off}
+use Rattle.pieces.specs.Load.{Load, set-link, set-other, set-ext, put, put-off}
 use Rattle.pieces.specs.Piece.{Piece, Means, Fits}
-use Rattle.pieces.specs.Sets.{tokens-of, onto, net, drawn-able}
-use Rattle.pieces.specs.Demand3.{tape-of, each-tokens}
-use Rattle.pieces.specs.Made.{Made, Ending, Fitting, E, X, O, demand-results, demand-ready, demand-push-or-take}
+use Rattle.pieces.specs.Sets.{tokens-of, onto, net, drawn-able, able-with-more}
+use Rattle.pieces.specs.Goes.{one-place}
+use Rattle.pieces.specs.Demand3.{tape-of, each-tokens, All-worked, Long-reference, tried}
+use Rattle.pieces.specs.Made.{Made, Ending, Fitting, E, X, O, demand-results, demand-ready, demand-push-or-take, tries}
 use Rattle.pieces.specs.Tape.{able-set, Step, pushing, firing, taking, sets-of, takes-of, Accepted, after, results-of, Sized, events-of, Source-apart, Follows, asks-take, emits-take, simulated, counts}
 
 -- A firing leaves a link that it does not use as it was.
@@ -81,7 +85,7 @@ length-results graph credit ins outs cap (pushing vs ∷ w) q = length-results g
 length-results graph credit ins outs cap (firing b ∷ w) q = length-results graph credit ins outs cap w (act (graph b) q)
 length-results graph credit ins outs cap (taking ∷ w) q = ap suc (length-results graph credit ins outs cap w (act (take-demand credit outs) q))
 
-tape-append : (vss wss : List (List Value)) (t : List Token) → tape-of (vss ++ wss) t ≡ tape-of vss (tape-of wss t)
+pub tape-append : (vss wss : List (List Value)) (t : List Token) → tape-of (vss ++ wss) t ≡ tape-of vss (tape-of wss t)
 tape-append [] wss t = refl
 tape-append (v ∷ vss) wss t = ap (λ z. tokens-of v ++ z) (tape-append vss wss t)
 
@@ -91,6 +95,9 @@ agree-first [] [] a h = refl
 agree-first [] (y ∷ ys) a h = absurd (omega arith)
 agree-first (x ∷ xs) [] a h = refl
 agree-first (x ∷ xs) (y ∷ ys) a h = ap (λ z. z ∷ take (length ys) xs) (a .0) ∙ ap (λ z. y ∷ z) (agree-first xs ys (a .1) (omega arith))
+
+pub one-each : (l : ℕ) → 1 ≤ one-place l
+one-each l = omega arith
 
 module _ (graph : ℕ → Demand) (p k source credit : ℕ) (P : Piece) (M : Means) (eval : ℕ → List Value → Option (List Value)) (F : Made graph p k source credit P M eval) (cap : ℕ → ℕ)
     (roomy : (l : ℕ) → 1 ≤ cap l) (A : Source-apart graph p k source credit (P .ins) (P .outs) cap) (C : Credit-apart graph credit (P .ins) (P .outs) cap) where
@@ -240,3 +247,120 @@ module _ (graph : ℕ → Demand) (p k source credit : ℕ) (P : Piece) (M : Mea
             untaken-from-start w a,
             collect-credit cap credit (P .outs) (λ ts. ts) (standing w) (C .credit-no-result) (take-able w tape (tokens-of v ++ []) there en),
           ))
+
+  -- ---- counts of firings (document 02, the tally)
+
+  -- The references with one place a link, which are references at every capacity.
+  abbrev pub Worked : List (List Value) → Type 0
+  Worked vss = All-worked graph p k source credit P M (F .bench) one-place one-each vss [] (F .fresh) (λ l. [])
+
+  abbrev pub Endless : List (List Value) → ℕ → Type 0
+  Endless vss c = Long-reference graph p k source credit P M (F .bench) one-place one-each (set-link source (tape-of vss []) started) (length vss) c
+
+  abbrev Nx : ℕ → Links → Links
+  Nx = X graph p k source credit P M eval F cap roomy
+
+  abbrev Ou : ℕ → Links → List Token
+  Ou = O graph p k source credit P M eval F cap roomy
+
+  with-more-places : (w : List ℕ) (q : Links)
+      → Possible (E graph p k source credit P M eval F one-place one-each) (X graph p k source credit P M eval F one-place one-each) (O graph p k source credit P M eval F one-place one-each) w q
+      → Possible Can Nx Ou w q
+  with-more-places [] q r = tt
+  with-more-places (a ∷ w) q r = (able-with-more cap roomy (net graph p k source credit P M a) q (r .0), with-more-places w (act (net graph p k source credit P M a) q) (r .1))
+
+  module _ (w : List Step) (s : Sized (P .ins) (sets-of w)) (a : Accepted-calls w) (quiet : (a : ℕ) → Able cap (graph a) (standing w) → ⊥) (all : takes-of w ≡ length (sets-of w)) where
+    sim-all : Follows graph p k source credit (P .ins) (P .outs) cap (events-of p k w) (set-link source (tape-of (sets-of w) []) started) (set-link source [] (standing w)) (taken-results w)
+    sim-all = simulated graph p k source credit (P .ins) (P .outs) cap A w started [] s a
+
+    -- Nothing but a push can happen.
+    at-rest : (e : ℕ) → e ≢ p → Can e (led w (tape-of (sets-of w) [])) → ⊥
+    at-rest e np en = go (ℕ-discrete e k)
+      where
+        go : Dec (e ≡ k) → ⊥
+        go (yes z) =
+            omega (
+              arith,
+              untaken-from-start w a,
+              all,
+              collect-credit cap credit (P .outs) (λ ts. ts) (standing w) (C .credit-no-result)
+                  (take-able w (tape-of (sets-of w) []) [] (sim-all .leads) (subst (λ (x : ℕ). Can x (led w (tape-of (sets-of w) []))) z en)),
+            )
+        go (no nk) = none-fires w (tape-of (sets-of w) []) [] (sim-all .leads) quiet e np nk en
+
+    pub all-end : Endless (sets-of w) (suc (length (events-of p k w))) → ⊥
+    all-end L =
+        let h = endless Can Nx Ou (diamond (net graph p k source credit P M) cap (F .free)) p (events-of p k w) (L .w) (set-link source (tape-of (sets-of w) []) started) (sim-all .possible) (with-more-places (L .w) (set-link source (tape-of (sets-of w) []) started) (L .runs))
+        (omega (arith, L .few, counts graph p k source credit (P .ins) (P .outs) cap A w started a .0)) (omega (arith, L .many)) in
+        at-rest (h .0) (h .1) (h .2)
+
+    -- Each operator has fired as often as in the reference.
+    pub fired-as-worked : ((σ : Load) → P .Idle σ → (i : ℕ) → Able cap (graph i) (put σ (λ l. [])) → ⊥) → (R : Worked (sets-of w))
+        → (e : ℕ) → count e (events-of p k w) ≡ count e (R .reference .w)
+    fired-as-worked still R e =
+        let u = events-of p k w in
+        let v = R .reference .w in
+        let D : Diamond Can Nx Ou = diamond (net graph p k source credit P M) cap (F .free) in
+        let many = counts graph p k source credit (P .ins) (P .outs) cap A w started a .0 in
+        let rv : Possible Can Nx Ou v s₀ = with-more-places v s₀ (R .reference .runs) in
+        omega (
+          arith,
+          rest-covers Can Nx Ou D p u v s₀ (sim-all .possible) rv (omega (arith, many, R .reference .pushes, R .as-many)) at-rest e,
+          rest-covers Can Nx Ou D p v u s₀ rv (sim-all .possible) (omega (arith, many, R .reference .pushes, R .as-many)) ends e,
+        )
+      where
+        s₀ : Links
+        s₀ = set-link source (tape-of (sets-of w) []) started
+
+        final : Links
+        final = put (R .idle-load) (λ l. [])
+
+        here : (b : ℕ) (d : Demand) → net graph p k source credit P M b ≡ d → Can b (reached Can Nx Ou (R .reference .w) s₀) → Able cap d (set-link source [] final)
+        here b d z en = subst (λ x. Able cap x (set-link source [] final)) z (subst (Can b) (R .reference .leads) en)
+
+        no-credit : final credit ≡ []
+        no-credit = put-off credit (R .idle-load) (λ l. []) (λ o. F .bench .credit-off (inl (F .bench .neat .idle-own (R .idle-load) (R .is-idle) credit o)))
+
+        ends : (b : ℕ) → b ≢ p → Can b (reached Can Nx Ou (R .reference .w) s₀) → ⊥
+        ends b np en = by (ℕ-discrete b k)
+          where
+            by : Dec (b ≡ k) → ⊥
+            by (yes z) =
+                let o = without-tape [] (take-demand credit (P .outs)) final (asks-take graph p k source credit (P .ins) (P .outs) cap A) (emits-take graph p k source credit (P .ins) (P .outs) cap A)
+                (here k (take-demand credit (P .outs)) (machine-take graph p k source credit (P .ins) (P .outs) (A .push-not-take)) (subst (λ (x : ℕ). Can x (reached Can Nx Ou (R .reference .w) s₀)) z en)) in
+                omega (arith, ap length no-credit, collect-credit cap credit (P .outs) (λ ts. ts) final (C .credit-no-result) o)
+            by (no nk) =
+                still (R .idle-load) (R .is-idle) b
+                (without-tape [] (graph b) final (A .graph-asks b) (A .graph-emits b) (here b (graph b) (machine-graph graph p k source credit (P .ins) (P .outs) b np nk) en))
+
+-- Two runs of one graph, at any two capacities, over the same sets: where both are at rest with every set taken, each operator has fired equally often.
+module _ (graph : ℕ → Demand) (p k source credit : ℕ) (P : Piece) (M : Means) (eval : ℕ → List Value → Option (List Value)) (F : Made graph p k source credit P M eval) where
+  pub record At-rest (cap : ℕ → ℕ) (roomy : (l : ℕ) → 1 ≤ cap l) (A : Source-apart graph p k source credit (P .ins) (P .outs) cap) (C : Credit-apart graph credit (P .ins) (P .outs) cap) (w : List Step) : Type 0 where
+    pub sized : Sized (P .ins) (sets-of w)
+    pub accepted : Accepted-calls graph p k source credit P M eval F cap roomy A C w
+    pub quiet : (a : ℕ) → Able cap (graph a) (standing graph p k source credit P M eval F cap roomy A C w) → ⊥
+    pub all-taken : takes-of w ≡ length (sets-of w)
+    pub idle-still : (σ : Load) → P .Idle σ → (i : ℕ) → Able cap (graph i) (put σ (λ l. [])) → ⊥
+
+  pub fired-alike : (cap cap′ : ℕ → ℕ) (roomy : (l : ℕ) → 1 ≤ cap l) (roomy′ : (l : ℕ) → 1 ≤ cap′ l)
+      (A : Source-apart graph p k source credit (P .ins) (P .outs) cap) (A′ : Source-apart graph p k source credit (P .ins) (P .outs) cap′)
+      (C : Credit-apart graph credit (P .ins) (P .outs) cap) (C′ : Credit-apart graph credit (P .ins) (P .outs) cap′) (w w′ : List Step)
+      → At-rest cap roomy A C w → At-rest cap′ roomy′ A′ C′ w′ → sets-of w ≡ sets-of w′ → (e : ℕ) → count e (events-of p k w) ≡ count e (events-of p k w′)
+  fired-alike cap cap′ roomy roomy′ A A′ C C′ w w′ r r′ same e =
+      go (tried graph p k source credit P M (F .bench) one-place one-each (suc (length (events-of p k w))) (sets-of w) [] (F .fresh) (λ l. [])
+      (tries graph p k source credit P M eval F one-place one-each (suc (length (events-of p k w))) (sets-of w) (fitted (sets-of w) (r .sized))) (F .fresh-idle) (λ l d. refl) refl)
+    where
+      fitted : (vss : List (List Value)) → Sized (P .ins) vss → Fitting graph p k source credit P M eval vss
+      fitted [] s = tt
+      fitted (v ∷ vss) s = (s .0, fitted vss (s .1))
+
+      go : Worked graph p k source credit P M eval F cap roomy A C (sets-of w) ⊎ Endless graph p k source credit P M eval F cap roomy A C (sets-of w) (suc (length (events-of p k w)))
+          → count e (events-of p k w) ≡ count e (events-of p k w′)
+      go (inl R) =
+          fired-as-worked graph p k source credit P M eval F cap roomy A C w (r .sized) (r .accepted) (r .quiet) (r .all-taken) (r .idle-still) R e
+          ∙ sym (moved R)
+        where
+          moved : (R : Worked graph p k source credit P M eval F cap roomy A C (sets-of w)) → count e (events-of p k w′) ≡ count e (R .reference .w)
+          moved = subst (λ (vss : List (List Value)). (R : Worked graph p k source credit P M eval F cap roomy A C vss) → count e (events-of p k w′) ≡ count e (R .reference .w)) (sym same)
+              (λ R. fired-as-worked graph p k source credit P M eval F cap′ roomy′ A′ C′ w′ (r′ .sized) (r′ .accepted) (r′ .quiet) (r′ .all-taken) (r′ .idle-still) R e)
+      go (inr L) = absurd (all-end graph p k source credit P M eval F cap roomy A C w (r .sized) (r .accepted) (r .quiet) (r .all-taken) L)

@@ -259,26 +259,37 @@ module _ (graph : ℕ → Demand) (p k source credit : ℕ) (P : Piece) (M : Mea
   Tried c (v ∷ vss) =
       Fits (P .ins) v × (((r : List Value) × (d : ℕ) × Fits (P .outs) r × M (some-of v) d (some (some-of r))) ⊎ M (some-of v) c none) × Tried c vss
 
-  tried : (c : ℕ) (vss : List (List Value)) (tail : List Token) (σ : Load) (b : Links) → Tried c vss → P .Idle σ → Clear (Region P) b → b credit ≡ [] →
-      ((rss : List (List Token)) × (q′ : Links) × (length rss ≡ length vss) × Reference (Between σ (tape-of vss tail) b) rss q′) ⊎ Long-reference (Between σ (tape-of vss tail) b) (length vss) c
-  tried c [] tail σ b t i cl ce = inl ([], Between σ tail b, refl, ref-nil (Between σ tail b))
+  -- All of these sets worked one after another, from one idle load to another.
+  pub record All-worked (vss : List (List Value)) (tail : List Token) (σ : Load) (b : Links) : Type 0 where
+    pub results-are : List (List Token)
+    pub idle-load : Load
+    pub is-idle : P .Idle idle-load
+    pub as-many : length results-are ≡ length vss
+    pub reference : Reference (Between σ (tape-of vss tail) b) results-are (Between idle-load tail b)
+
+  pub tried : (c : ℕ) (vss : List (List Value)) (tail : List Token) (σ : Load) (b : Links) → Tried c vss → P .Idle σ → Clear (Region P) b → b credit ≡ [] →
+      All-worked vss tail σ b ⊎ Long-reference (Between σ (tape-of vss tail) b) (length vss) c
+  tried c [] tail σ b t i cl ce = inl (record { results-are = []; idle-load = σ; is-idle = i; as-many = refl; reference = ref-nil (Between σ tail b) })
   tried c (v ∷ vss) tail σ b t i cl ce = go (λ σ′ j. tried c vss tail σ′ b (t .2) j cl ce) (t .1)
     where
       next′ : (r : List Value) (σ′ : Load) → Reference (Between σ (tokens-of v ++ tape-of vss tail) b) (tokens-of r ∷ []) (Between σ′ (tape-of vss tail) b) →
-          ((rss : List (List Token)) × (q′ : Links) × (length rss ≡ length vss) × Reference (Between σ′ (tape-of vss tail) b) rss q′) ⊎ Long-reference (Between σ′ (tape-of vss tail) b) (length vss) c →
-          ((rss : List (List Token)) × (q′ : Links) × (length rss ≡ suc (length vss)) × Reference (Between σ (tokens-of v ++ tape-of vss tail) b) rss q′)
-          ⊎ Long-reference (Between σ (tokens-of v ++ tape-of vss tail) b) (suc (length vss)) c
-      next′ r σ′ f (inl (rss, q′, e, g)) =
-          inl (tokens-of r ∷ rss, q′, ap suc e, ref-then (Between σ (tokens-of v ++ tape-of vss tail) b) (Between σ′ (tape-of vss tail) b) q′ (tokens-of r ∷ []) rss f g)
+          All-worked vss tail σ′ b ⊎ Long-reference (Between σ′ (tape-of vss tail) b) (length vss) c →
+          All-worked (v ∷ vss) tail σ b ⊎ Long-reference (Between σ (tokens-of v ++ tape-of vss tail) b) (suc (length vss)) c
+      next′ r σ′ f (inl g) =
+          inl (record {
+            results-are = tokens-of r ∷ g .results-are;
+            idle-load = g .idle-load;
+            is-idle = g .is-idle;
+            as-many = ap suc (g .as-many);
+            reference = ref-then (Between σ (tokens-of v ++ tape-of vss tail) b) (Between σ′ (tape-of vss tail) b) (Between (g .idle-load) tail b) (tokens-of r ∷ []) (g .results-are) f (g .reference);
+          })
       next′ r σ′ f (inr g) =
           let h = ref-long (Between σ (tokens-of v ++ tape-of vss tail) b) (Between σ′ (tape-of vss tail) b) (tokens-of r ∷ []) (length vss) c f g in
           inr (record { w = h .w; runs = h .runs; many = h .many; few = omega (arith, h .few) })
 
-      go : ((σ′ : Load) → P .Idle σ′ →
-          ((rss : List (List Token)) × (q′ : Links) × (length rss ≡ length vss) × Reference (Between σ′ (tape-of vss tail) b) rss q′) ⊎ Long-reference (Between σ′ (tape-of vss tail) b) (length vss) c) →
+      go : ((σ′ : Load) → P .Idle σ′ → All-worked vss tail σ′ b ⊎ Long-reference (Between σ′ (tape-of vss tail) b) (length vss) c) →
           ((r : List Value) × (d : ℕ) × Fits (P .outs) r × M (some-of v) d (some (some-of r))) ⊎ M (some-of v) c none →
-          ((rss : List (List Token)) × (q′ : Links) × (length rss ≡ suc (length vss)) × Reference (Between σ (tokens-of v ++ tape-of vss tail) b) rss q′)
-          ⊎ Long-reference (Between σ (tokens-of v ++ tape-of vss tail) b) (suc (length vss)) c
+          All-worked (v ∷ vss) tail σ b ⊎ Long-reference (Between σ (tokens-of v ++ tape-of vss tail) b) (suc (length vss)) c
       go ih (inl (r, d, fr, m)) =
           let f = one v r d (tape-of vss tail) σ b (t .0) fr m i cl ce in
           next′ r (f .0) (f .2) (ih (f .0) (f .1))
@@ -316,11 +327,11 @@ module _ (graph : ℕ → Demand) (p k source credit : ℕ) (P : Piece) (M : Mea
             by (yes z) = subst (λ a. Enabled a (reached Enabled Next Output u q)) z h
             by (no z) = absurd (stuck e ne z h)
 
-        go : ((rss : List (List Token)) × (q′ : Links) × (length rss ≡ length vss) × Reference q rss q′) ⊎ Long-reference q (length vss) (suc (length u)) → Enabled k (reached Enabled Next Output u q)
-        go (inl (rss, q′, e, r)) = by (progress Enabled Next Output Commutes p k u (r .w) q ru (r .runs) (omega (arith, r .pushes)))
+        go : All-worked vss tail σ b ⊎ Long-reference q (length vss) (suc (length u)) → Enabled k (reached Enabled Next Output u q)
+        go (inl g) = by (progress Enabled Next Output Commutes p k u (g .reference .w) q ru (g .reference .runs) (omega (arith, g .reference .pushes, g .as-many)))
           where
-            by : (count k (r .w) ≤ count k u) ⊎ ((e : ℕ) × (e ≢ p) × Enabled e (reached Enabled Next Output u q)) → Enabled k (reached Enabled Next Output u q)
-            by (inl z) = absurd (omega (arith, r .takes))
+            by : (count k (g .reference .w) ≤ count k u) ⊎ ((e : ℕ) × (e ≢ p) × Enabled e (reached Enabled Next Output u q)) → Enabled k (reached Enabled Next Output u q)
+            by (inl z) = absurd (omega (arith, g .reference .takes, g .as-many))
             by (inr z) = pick z
         go (inr r) = pick (endless Enabled Next Output Commutes p u (r .w) q ru (r .runs) (omega (arith, r .few)) (omega (arith, r .many)))
 
@@ -342,7 +353,7 @@ module _ (graph : ℕ → Demand) (p k source credit : ℕ) (P : Piece) (M : Mea
             by (no n) (yes z) = inr (subst (λ a. Enabled a (reached Enabled Next Output u q)) z h)
             by (no n) (no m) = absurd (stuck e n m h)
 
-        go : ((rss : List (List Token)) × (q′ : Links) × (length rss ≡ length vss) × Reference q rss q′) ⊎ Long-reference q (length vss) (suc (length u)) →
+        go : All-worked vss tail σ b ⊎ Long-reference q (length vss) (suc (length u)) →
             Enabled p (reached Enabled Next Output u q) ⊎ Enabled k (reached Enabled Next Output u q)
-        go (inl (rss, q′, e, r)) = pick (something-left Enabled Next Output Commutes p u (r .w) q ru (r .runs) (inl (omega (arith, r .pushes))))
+        go (inl g) = pick (something-left Enabled Next Output Commutes p u (g .reference .w) q ru (g .reference .runs) (inl (omega (arith, g .reference .pushes, g .as-many))))
         go (inr r) = pick (something-left Enabled Next Output Commutes p u (r .w) q ru (r .runs) (inr (omega (arith, r .many))))

@@ -8,7 +8,7 @@ use mathlib.Core.Option.{Option, none, some}
 use native.Mathlib.Omega.{arith}
 use Rattle.network.specs.Net.{Token, Demand, ask, fire, halt, Links, head, tail, pop, append, pop-same, pop-other, append-same, append-other, Room, Able, appends, act}
 use Rattle.pieces.specs.Load.{Load, opt, set-link, set-same, set-other, set-ext, put, put-set, On, Within, Nones, put-nones}
-use Rattle.pieces.specs.Goes.{one-place, Goes}
+use Rattle.pieces.specs.Goes.{one-place, Net, Goes}
 
 -- the token at place p of a load, and the load without it
 abbrev pub Holds-at : ℕ → Load → ℕ → Token → Type 0
@@ -119,13 +119,14 @@ consumes-does (ask l k) xs es b (p, t, a, e) dx de cx ce =
     )
 
 -- The rule.
-pub fires : (net : ℕ → Demand) (D : ℕ → Type 0) (a : ℕ) (d : Demand) (xs : Load) (es : List (ℕ × Token)) → net a ≡ d → Consumes d xs es → Distinct xs → Distinct (emitted es) →
+pub fires : (net : Net) (D : ℕ → Type 0) (a : ℕ) (d : Demand) (xs : Load) (es : List (ℕ × Token)) → net .at a ≡ d → net .Fine (a ∷ []) → Consumes d xs es → Distinct xs → Distinct (emitted es) →
     Within xs D → Within (emitted es) D → Goes net D xs 1 (emitted es)
-fires net D a d xs es p e dx de wx we b cl =
+fires net D a d xs es p fi e dx de wx we b cl =
     let h = consumes-does d xs es b e dx de (λ l o. cl l (wx l o)) (λ l o. cl l (we l o)) in
     record {
       w = a ∷ [];
       runs = (subst (λ z. Able one-place z (put xs b)) (sym p) (h .0), tt);
       ends = ap (λ z. act z (put xs b)) p ∙ h .1;
       many = omega arith;
+      fine = fi;
     }

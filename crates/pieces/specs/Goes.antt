@@ -15,6 +15,17 @@ use Rattle.pieces.specs.Load.{Load, put, put-app, Clear, Off, Apart, Wit
 abbrev pub one-place : ℕ → ℕ
 one-place l = 1
 
+-- A network with what is asked of the lists of firings made in it (`Fine`), which holds of none and of one list after another. The schedules of
+-- demand 3 ask for nothing (`any-list`); a reference with twins asks that each comes late.
+pub record Net : Type 1 where
+  pub at : ℕ → Demand
+  pub Fine : List ℕ → Type 0
+  pub fine-none : Fine []
+  pub fine-both : (u w : List ℕ) → Fine u → Fine w → Fine (u ++ w)
+
+abbrev pub any-list : (ℕ → Demand) → Net
+any-list graph = record { at = graph; Fine = λ w. Unit {0}; fine-none = tt; fine-both = λ u w a b. tt }
+
 module _ (net : ℕ → Demand) where
   -- A schedule that is possible with one place a link, and where it leads.
   abbrev pub Feasible : List ℕ → Links → Type 0
@@ -29,37 +40,42 @@ module _ (net : ℕ → Demand) where
   led-to-append : (u w : List ℕ) (q : Links) → led-to (u ++ w) q ≡ led-to w (led-to u q)
   led-to-append = reached-append (enabled net one-place) (next net one-place) (output net one-place)
 
+module _ (net : Net) where
   -- A schedule of at least `c` firings, from one state to exactly another.
   pub record Steps (q : Links) (c : ℕ) (q′ : Links) : Type 0 where
     pub w : List ℕ
-    pub runs : Feasible w q
-    pub ends : led-to w q ≡ q′
+    pub runs : Feasible (net .at) w q
+    pub ends : led-to (net .at) w q ≡ q′
     pub many : c ≤ length w
+    pub fine : net .Fine w
 
   -- A schedule of at least `c` firings, wherever it leads.
   pub record Long (q : Links) (c : ℕ) : Type 0 where
     pub w : List ℕ
-    pub runs : Feasible w q
+    pub runs : Feasible (net .at) w q
     pub many : c ≤ length w
+    pub fine : net .Fine w
 
   pub stay : (q : Links) → Steps q 0 q
-  stay q = record { w = []; runs = tt; ends = refl; many = omega arith }
+  stay q = record { w = []; runs = tt; ends = refl; many = omega arith; fine = net .fine-none }
 
   pub steps-then : (q q₁ q₂ : Links) (c d : ℕ) → Steps q c q₁ → Steps q₁ d q₂ → Steps q (c + d) q₂
   steps-then q q₁ q₂ c d s t =
       record {
         w = s .w ++ t .w;
-        runs = feasible-append (s .w) (t .w) q (s .runs) (subst (Feasible (t .w)) (sym (s .ends)) (t .runs));
-        ends = led-to-append (s .w) (t .w) q ∙ ap (led-to (t .w)) (s .ends) ∙ t .ends;
+        runs = feasible-append (net .at) (s .w) (t .w) q (s .runs) (subst (Feasible (net .at) (t .w)) (sym (s .ends)) (t .runs));
+        ends = led-to-append (net .at) (s .w) (t .w) q ∙ ap (led-to (net .at) (t .w)) (s .ends) ∙ t .ends;
         many = simp length-append (omega (arith, s .many, t .many));
+        fine = net .fine-both (s .w) (t .w) (s .fine) (t .fine);
       }
 
   pub steps-long : (q q₁ : Links) (c d : ℕ) → Steps q c q₁ → Long q₁ d → Long q (c + d)
   steps-long q q₁ c d s t =
       record {
         w = s .w ++ t .w;
-        runs = feasible-append (s .w) (t .w) q (s .runs) (subst (Feasible (t .w)) (sym (s .ends)) (t .runs));
+        runs = feasible-append (net .at) (s .w) (t .w) q (s .runs) (subst (Feasible (net .at) (t .w)) (sym (s .ends)) (t .runs));
         many = simp length-append (omega (arith, s .many, t .many));
+        fine = net .fine-both (s .w) (t .w) (s .fine) (t .fine);
       }
 
   -- The judgements. `Goes D xs c ys`: on every base that is empty in the region `D`, the load `xs` becomes the load `ys` by a schedule of at
@@ -87,10 +103,10 @@ module _ (net : ℕ → Demand) where
   go-wide-on D E xs c up f b cl = f b (λ l d. cl l (up l d))
 
   pub go-less : (D : ℕ → Type 0) (xs ys : Load) (c d : ℕ) → d ≤ c → Goes D xs c ys → Goes D xs d ys
-  go-less D xs ys c d le f b cl = let s = f b cl in record { w = s .w; runs = s .runs; ends = s .ends; many = omega (arith, s .many) }
+  go-less D xs ys c d le f b cl = let s = f b cl in record { w = s .w; runs = s .runs; ends = s .ends; many = omega (arith, s .many); fine = s .fine }
 
   pub go-less-on : (D : ℕ → Type 0) (xs : Load) (c d : ℕ) → d ≤ c → Goes-on D xs c → Goes-on D xs d
-  go-less-on D xs c d le f b cl = let s = f b cl in record { w = s .w; runs = s .runs; many = omega (arith, s .many) }
+  go-less-on D xs c d le f b cl = let s = f b cl in record { w = s .w; runs = s .runs; many = omega (arith, s .many); fine = s .fine }
 
   -- the frame: tokens away from the region pass by
   pub go-by : (D : ℕ → Type 0) (xs ys zs : Load) (c : ℕ) → Off zs D → Goes D xs c ys → Goes D (xs ++ zs) c (ys ++ zs)

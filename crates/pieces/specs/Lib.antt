@@ -10,4 +10,5 @@ pub mod Demand3
 pub mod Made
 pub mod Tape
 pub mod Calls
+pub mod RoundsReady
 pub mod Wiring

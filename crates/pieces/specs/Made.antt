@@ -60,7 +60,7 @@ module _ (graph : ℕ → Demand) (p k source credit : ℕ) (P : Piece) (M : Mea
     evals (v ∷ vss) [] e = e
     evals (v ∷ vss) (r ∷ rss) e = let h = F .ended (e .1 .0) v r (e .0) (e .1 .1) in (e .0, h .0, h .1, evals vss rss (e .2))
 
-    tries : (n : ℕ) (vss : List (List Value)) → Fitting vss → Tried graph p k source credit P M (F .bench) cap roomy n vss
+    pub tries : (n : ℕ) (vss : List (List Value)) → Fitting vss → Tried graph p k source credit P M (F .bench) cap roomy n vss
     tries n [] f = tt
     tries n (v ∷ vss) f = (f .0, go (eval n v) refl, tries n vss (f .1))
       where

@@ -11,7 +11,7 @@ use Rattle.value.specs.declared.Value.{Value}
 use Rattle.network.specs.Net.{Token, val, Demand}
 use Rattle.network.specs.Uses.{In}
 use Rattle.pieces.specs.Load.{cat, Load, On, on-app, Within, Nones}
-use Rattle.pieces.specs.Goes.{Goes, Goes-on, Alike, go-stay, go-then, go-then-on, go-less, go-less-on, go-from, go-to, alike-nones, alike-sym, go-from-on}
+use Rattle.pieces.specs.Goes.{Net, Goes, Goes-on, Alike, go-stay, go-then, go-then-on, go-less, go-less-on, go-from, go-to, alike-nones, alike-sym, go-from-on}
 
 -- As many of the one as of the other: values for links, for gates, for names.
 abbrev pub Fits : {X Y : Type 0} → List X → List Y → Type 0
@@ -63,7 +63,7 @@ Answer = Option Values
 abbrev pub Means : Type 1
 Means = Values → ℕ → Answer → Type 0
 
-module _ (net : ℕ → Demand) where
+module _ (net : Net) where
   -- Where a schedule from the load `xs` leads: to the values on the outputs, with the piece idle again (perhaps another idle load: a
   -- gate that has fired waits otherwise than one that has not); or as far as anyone asks.
   abbrev pub Leads : (ℕ → Type 0) → Load → List ℕ → (Load → Type 0) → ℕ → Answer → Type 0
@@ -111,7 +111,7 @@ load-in (k ∷ ls) [] l (inr o) = inr (load-in ls [] l o)
 load-in (k ∷ ls) (v ∷ vs) l (inl e) = inl e
 load-in (k ∷ ls) (v ∷ vs) l (inr o) = inr (load-in ls vs l o)
 
-pub absent : (net : ℕ → Demand) (P : Piece) → Neat P → (σ : Load) → P .Idle σ → Goes net (Region P) (load (P .ins) [] ++ σ) 0 (load (P .outs) [] ++ σ)
+pub absent : (net : Net) (P : Piece) → Neat P → (σ : Load) → P .Idle σ → Goes net (Region P) (load (P .ins) [] ++ σ) 0 (load (P .outs) [] ++ σ)
 absent net P N σ id =
     go-from net (Region P) σ (load (P .ins) [] ++ σ) (load (P .outs) [] ++ σ) 0
     (alike-sym net (Region P) (load (P .ins) [] ++ σ) σ (alike-nones net (Region P) (load (P .ins) []) σ (load-nones (P .ins)) (λ l o. inr (inl (load-in (P .ins) [] l o)))

@@ -9,7 +9,7 @@ use native.Mathlib.Omega.{arith}
 use Rattle.network.specs.Net.{Demand, Links}
 use Rattle.network.specs.Uses.{In}
 use Rattle.pieces.specs.Load.{Load, put, put-app, put-swap, put-clear, On, on-app, on-left, on-right, Off, Apart, Within, cat}
-use Rattle.pieces.specs.Goes.{Steps, Goes, Alike, go-stay, go-then, go-wide, go-by}
+use Rattle.pieces.specs.Goes.{Net, Steps, Goes, Alike, go-stay, go-then, go-wide, go-by}
 
 abbrev pub join : List (List ℕ) → List ℕ
 join [] = []
@@ -81,7 +81,7 @@ pub cat-single : (xs : Load) → cat (single-blocks xs) ≡ xs
 cat-single [] = refl
 cat-single (x ∷ xs) = ap (λ z. x ∷ z) (cat-single xs)
 
-module _ (net : ℕ → Demand) where
+module _ (net : Net) where
   pub alike-zip : (D : ℕ → Type 0) (xs ys : List Load) → Apart (cat xs) (cat ys) → Alike net D (cat xs ++ cat ys) (cat (zip-blocks xs ys))
   alike-zip D xs ys f b cl = put-zip xs ys b f
 

@@ -12,7 +12,7 @@ use Rattle.network.specs.Net.{Token, val, Demand, ask, fire, halt, Links, head,
 use Rattle.network.specs.Ends.{draw, collect, push-demand, take-demand, machine}
 use Rattle.network.specs.Uses.{In}
 use Rattle.pieces.specs.Load.{Load, set-link, set-same, set-other, set-ext, put, put-off, On}
-use Rattle.pieces.specs.Goes.{one-place}
+use Rattle.pieces.specs.Goes.{any-list, one-place}
 use Rattle.pieces.specs.Gate.{Distinct, emitted, emits, pop-set}
 use Rattle.pieces.specs.Piece.{Values, load, Piece, Region, Neat, Means, Serves, some-of, load-in, Fits}
 
@@ -123,7 +123,7 @@ module _ (graph : ℕ → Demand) (p k source credit : ℕ) (P : Piece) (M : Mea
   net = machine graph p k source credit (P .ins) (P .outs)
 
   pub record Bench : Type 0 where
-    pub serves : Serves graph P M
+    pub serves : Serves (any-list graph) P M
     pub neat : Neat P
     pub push-apart : graph p ≡ halt
     pub take-apart : graph k ≡ halt

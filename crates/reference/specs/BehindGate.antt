@@ -16,7 +16,7 @@ use Rattle.network.specs.Fill.{remembering}
 use Rattle.network.specs.Decide.{Decision, decide}
 use Rattle.network.specs.Uses.{In}
 use Rattle.pieces.specs.Load.{set-link, set-same, set-other}
-use Rattle.pieces.specs.Goes.{Steps, steps-then}
+use Rattle.pieces.specs.Goes.{Net, Steps, steps-then}
 use Rattle.pieces.specs.Sets.{Different}
 use Rattle.pieces.specs.Rows.{dec-in}
 use Rattle.graph.specs.Assembly.{Gate, const, oper, T, F, M, E, IC, Env, gateOutputs, gateOf, made, upFrom}
@@ -64,7 +64,7 @@ absent-empty (m ∷ ls) (suc k) s h l (inl e) = ap s e ∙ h .0
 absent-empty (m ∷ ls) (suc k) s h l (inr i) = absent-empty ls k s (h .1) l i
 
 -- What one firing does, for every gate.
-module _ (net : ℕ → Demand) (ins : List ℕ) (vs : List (Option Value)) (d : Decision) (s : Links) (o : ℕ) (few : length ins ≤ 3) (held : Hold ins vs s) (differ : Different ins)
+module _ (net : Net) (ins : List ℕ) (vs : List (Option Value)) (d : Decision) (s : Links) (o : ℕ) (few : length ins ≤ 3) (held : Hold ins vs s) (differ : Different ins)
     (void : s nowhere ≡ []) (low : (l : ℕ) → In l ins → l < o) (t : TakesAll vs d) where
   abbrev Does : ℕ → List (Option Value) → Type 0
   Does k ws = Works net (λ l. In l ins ⊎ Between o k l) 1 (λ s′. Hold (upFrom o k) ws s′ × ((l : ℕ) → In l ins → s′ l ≡ [])) s
@@ -212,7 +212,7 @@ module _ (g : Gate) (f : Names) (n ka : ℕ) (env : Env) (ins : List ℕ) (RA : 
     register-high l r (inl i) = let q = low l i in omega arith
     register-high l r (inr b) = omega arith
 
-    module _ (few : length ins ≤ 3) (net : ℕ → Demand) (at : Somewhere net (gateOf g ins (n + ka))) (M : Values → ℕ → Answer → Type 0) (SM : Serves net Fore M) where
+    module _ (few : length ins ≤ 3) (net : Net) (at : Somewhere net (gateOf g ins (n + ka))) (M : Values → ℕ → Answer → Type 0) (SM : Serves net Fore M) where
       module _ (ρ : Values) (s : Links) (bef : Before Behind ρ s) where
         control-low : (l : ℕ) → n + ka ≤ l → Control Behind l → ⊥
         control-low l le (r, x) = let o = SA .ring-own l r x in omega arith

@@ -9,7 +9,7 @@ use native.Mathlib.Omega.{arith}
 use Rattle.network.specs.Net.{Token, Demand, ask, fire, halt, Links, head, pop, pop-shortens, append, append-same, append-other, Room, Able, appends, act}
 use Rattle.network.specs.Commute.{Never-asks, Never-emits}
 use Rattle.pieces.specs.Load.{set-link}
-use Rattle.pieces.specs.Goes.{one-place, Feasible, led-to, Steps, Long}
+use Rattle.pieces.specs.Goes.{Net, one-place, Feasible, led-to, Steps, Long}
 use Rattle.pieces.specs.Tape.{able-set, act-set}
 
 -- No operator takes from the link or puts onto it.
@@ -25,13 +25,14 @@ module _ (net : ℕ → Demand) (l : ℕ) (U : Unused net l) (x : List Token) wh
       let h = feasible-beside w (act (net a) q) (f .1) in
       ((able-set one-place l x (net a) q (U .asks a) (U .emits a) (f .0), subst (Feasible net w) (sym e) (h .0)), ap (led-to net w) e ∙ h .1)
 
+module _ (net : Net) (l : ℕ) (U : Unused (net .at) l) (x : List Token) where
   pub steps-beside : (q q′ : Links) (c : ℕ) → Steps net q c q′ → Steps net (set-link l x q) c (set-link l x q′)
   steps-beside q q′ c s =
-      let h = feasible-beside (s .w) q (s .runs) in
-      record { w = s .w; runs = h .0; ends = h .1 ∙ ap (set-link l x) (s .ends); many = s .many }
+      let h = feasible-beside (net .at) l U x (s .w) q (s .runs) in
+      record { w = s .w; runs = h .0; ends = h .1 ∙ ap (set-link l x) (s .ends); many = s .many; fine = s .fine }
 
   pub long-beside : (q : Links) (c : ℕ) → Long net q c → Long net (set-link l x q) c
-  long-beside q c s = record { w = s .w; runs = feasible-beside (s .w) q (s .runs) .0; many = s .many }
+  long-beside q c s = record { w = s .w; runs = feasible-beside (net .at) l U x (s .w) q (s .runs) .0; many = s .many; fine = s .fine }
 
 -- At most one token on each link.
 abbrev pub Single : Links → Type 0
@@ -63,5 +64,5 @@ led-single : (net : ℕ → Demand) (w : List ℕ) (q : Links) → Feasible net 
 led-single net [] q f h = h
 led-single net (a ∷ w) q f h = led-single net w (act (net a) q) (f .1) (act-single (net a) q (f .0) h)
 
-pub steps-single : (net : ℕ → Demand) (q q′ : Links) (c : ℕ) → Steps net q c q′ → Single q → Single q′
-steps-single net q q′ c s h = subst Single (s .ends) (led-single net (s .w) q (s .runs) h)
+pub steps-single : (net : Net) (q q′ : Links) (c : ℕ) → Steps net q c q′ → Single q → Single q′
+steps-single net q q′ c s h = subst Single (s .ends) (led-single (net .at) (s .w) q (s .runs) h)

@@ -9,9 +9,11 @@ use lib.ListN.{length, getD}
 use native.Mathlib.Decide.{ℕ-discrete}
 use native.Mathlib.Omega.{arith}
 use Rattle.value.specs.declared.Value.{Value}
+use Rattle.network.specs.Values.{err-value}
+use Rattle.network.specs.Poisoned.{poisoned}
 use Rattle.network.specs.Net.{val, Demand, Links}
 use Rattle.network.specs.Uses.{In}
-use Rattle.pieces.specs.Goes.{Steps, stay, steps-then}
+use Rattle.pieces.specs.Goes.{Net, Steps, stay, steps-then}
 use Rattle.pieces.specs.Gate.{distinct-two}
 use Rattle.graph.specs.Assembly.{copyOf, chain, chainEnds, chainLinks, nth}
 use Rattle.reference.specs.Plugged.{demandOf, Somewhere, Has}
@@ -19,7 +21,7 @@ use Rattle.reference.specs.Firings.{Fired, fires-at}
 use Rattle.reference.specs.Plan.{Between, fewer}
 use Rattle.reference.specs.NameRows.{Works}
 
-module _ (net : ℕ → Demand) where
+module _ (net : Net) where
   pub copy-fires : (l a b : ℕ) (v : Value) (s : Links) → Somewhere net (copyOf l a b) → l ≢ a → l ≢ b → a ≢ b → s l ≡ val v ∷ [] → s a ≡ [] → s b ≡ [] →
       Works net (λ j. (j ≡ l) ⊎ ((j ≡ a) ⊎ (j ≡ b))) 1 (λ s′. (s′ l ≡ []) × (s′ a ≡ val v ∷ []) × (s′ b ≡ val v ∷ [])) s
   unfolding nth
@@ -49,6 +51,37 @@ module _ (net : ℕ → Demand) where
       h =
           fires-at net (demandOf (copyOf l a b)) ((l, some (val v)) ∷ []) ((a, val v) ∷ (b, val v) ∷ []) s at (0, val v, (refl, refl), ((refl, tt), refl)) (λ z. z, tt)
           (distinct-two (a, some (val v)) (b, some (val v)) ab) (sl, tt) (λ j o n. free j o)
+
+  -- The twin of a copy makes err of its value.
+  pub twin-fires : (l a b : ℕ) (v : Value) (s : Links) → (p : ℕ) × (net .at p ≡ poisoned (demandOf (copyOf l a b))) × net .Fine (p ∷ []) → l ≢ a → l ≢ b → a ≢ b → s l ≡ val v ∷ [] → s a ≡ [] → s b ≡ [] →
+      Works net (λ j. (j ≡ l) ⊎ ((j ≡ a) ⊎ (j ≡ b))) 1 (λ s′. (s′ l ≡ []) × (s′ a ≡ val err-value ∷ []) × (s′ b ≡ val err-value ∷ [])) s
+  unfolding nth
+  twin-fires l a b v s at la lb ab sl sa sb =
+      (h .after, h .steps, (h .takes l (inl refl) not-out, h .emits a (val err-value) (inl (refl, refl)), h .emits b (val err-value) (inr (inl (refl, refl)))), λ j n. h .keeps j (λ o. no-in j n o) (λ o. no-out j n o))
+    where
+      free : (j : ℕ) → (j ≡ a) ⊎ ((j ≡ b) ⊎ ⊥) → s j ≡ []
+      free j (inl e) = ap s e ∙ sa
+      free j (inr (inl e)) = ap s e ∙ sb
+      free j (inr (inr e)) = absurd e
+
+      not-out : (l ≡ a) ⊎ ((l ≡ b) ⊎ ⊥) → ⊥
+      not-out (inl e) = la e
+      not-out (inr (inl e)) = lb e
+      not-out (inr (inr e)) = e
+
+      no-in : (j : ℕ) → ((j ≡ l) ⊎ ((j ≡ a) ⊎ (j ≡ b)) → ⊥) → (j ≡ l) ⊎ ⊥ → ⊥
+      no-in j n (inl e) = n (inl e)
+      no-in j n (inr e) = e
+
+      no-out : (j : ℕ) → ((j ≡ l) ⊎ ((j ≡ a) ⊎ (j ≡ b)) → ⊥) → (j ≡ a) ⊎ ((j ≡ b) ⊎ ⊥) → ⊥
+      no-out j n (inl e) = n (inr (inl e))
+      no-out j n (inr (inl e)) = n (inr (inr e))
+      no-out j n (inr (inr e)) = e
+
+      h : Fired net s ((l, some (val v)) ∷ []) ((a, val err-value) ∷ (b, val err-value) ∷ [])
+      h =
+          fires-at net (poisoned (demandOf (copyOf l a b))) ((l, some (val v)) ∷ []) ((a, val err-value) ∷ (b, val err-value) ∷ []) s at (0, val v, (refl, refl), ((refl, tt), refl)) (λ z. z, tt)
+          (distinct-two (a, some (val err-value)) (b, some (val err-value)) ab) (sl, tt) (λ j o n. free j o)
 
   -- The chain: every end holds the value, everything else of it is empty.
   abbrev Span : ℕ → ℕ → ℕ → ℕ → Type 0

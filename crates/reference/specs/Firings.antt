@@ -10,7 +10,7 @@ use native.Mathlib.Omega.{arith}
 use Rattle.network.specs.Net.{Token, Demand, Links, Able, act}
 use Rattle.pieces.specs.Load.{Load, opt, set-link, set-same, set-other, put, put-off, On}
 use Rattle.pieces.specs.LoadSets.{Mem, on-mem, put-mem, dec-on}
-use Rattle.pieces.specs.Goes.{one-place, Steps}
+use Rattle.pieces.specs.Goes.{Net, one-place, Steps}
 use Rattle.pieces.specs.Gate.{Distinct, emitted, Consumes, consumes-does}
 
 -- The tokens of a load wait on their links.
@@ -44,16 +44,16 @@ wait-mem l t [] s w m = absurd m
 wait-mem l t (x ∷ xs) s w (inl (e, f)) = ap s (sym e) ∙ w .0 ∙ ap opt f
 wait-mem l t (x ∷ xs) s w (inr m) = wait-mem l t xs s (w .1) m
 
-pub record Fired (net : ℕ → Demand) (s : Links) (xs : Load) (es : List (ℕ × Token)) : Type 0 where
+pub record Fired (net : Net) (s : Links) (xs : Load) (es : List (ℕ × Token)) : Type 0 where
   pub after : Links
   pub steps : Steps net s 1 after
   pub emits : (l : ℕ) (t : Token) → Mem l (some t) (emitted es) → after l ≡ t ∷ []
   pub takes : (l : ℕ) → On l xs → (On l (emitted es) → ⊥) → after l ≡ []
   pub keeps : (l : ℕ) → (On l xs → ⊥) → (On l (emitted es) → ⊥) → after l ≡ s l
 
-pub fires-at : (net : ℕ → Demand) (d : Demand) (xs : Load) (es : List (ℕ × Token)) (s : Links) → (a : ℕ) × (net a ≡ d) → Consumes d xs es → Distinct xs → Distinct (emitted es) → Wait xs s →
+pub fires-at : (net : Net) (d : Demand) (xs : Load) (es : List (ℕ × Token)) (s : Links) → (a : ℕ) × (net .at a ≡ d) × net .Fine (a ∷ []) → Consumes d xs es → Distinct xs → Distinct (emitted es) → Wait xs s →
     ((l : ℕ) → On l (emitted es) → (On l xs → ⊥) → s l ≡ []) → Fired net s xs es
-fires-at net d xs es s (a, at) e dx de w free =
+fires-at net d xs es s (a, at, fi) e dx de w free =
     record {
       after = put (emitted es) b;
       steps = record {
@@ -61,6 +61,7 @@ fires-at net d xs es s (a, at) e dx de w free =
         runs = (subst (λ z. Able one-place z s) (sym at) (subst (Able one-place d) whole (h .0)), tt);
         ends = ap (λ z. act z s) at ∙ ap (act d) (sym whole) ∙ h .1;
         many = omega arith;
+        fine = fi;
       };
       emits = λ l t m. put-mem l (some t) (emitted es) b de m;
       takes = λ l o n. put-off l (emitted es) b n ∙ cleared-here l xs s o;

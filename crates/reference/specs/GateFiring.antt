@@ -17,7 +17,7 @@ use Rattle.network.specs.Decide.{Decision, decide}
 use Rattle.network.specs.Firing.{first-token, pop-if, gone, heads, Apart, performed, Roomy, Holds, Own-register, unregistered, fill-acts, able-fill}
 use Rattle.network.specs.Uses.{In}
 use Rattle.pieces.specs.Load.{set-link, set-same, set-other, set-ext}
-use Rattle.pieces.specs.Goes.{one-place, Steps}
+use Rattle.pieces.specs.Goes.{Net, one-place, Steps}
 use Rattle.pieces.specs.Gate.{pop-set}
 use Rattle.pieces.specs.Sets.{Different}
 use Rattle.graph.specs.Assembly.{made, nth}
@@ -157,17 +157,18 @@ room-app (x ∷ xs) ys q r t = (r .0, room-app xs ys (append (x .0) (x .1) q) (r
 both-do : (xs ys : List (ℕ × Token)) (q q₁ q₂ : Links) → Room one-place xs q × (appends xs q ≡ q₁) → Room one-place ys q₁ × (appends ys q₁ ≡ q₂) → Room one-place (xs ++ ys) q × (appends (xs ++ ys) q ≡ q₂)
 both-do xs ys q q₁ q₂ a b = (room-app xs ys q (a .0) (subst (Room one-place ys) (sym (a .1)) (b .0)), appends-app xs ys q ∙ ap (appends ys) (a .1) ∙ b .1)
 
-module _ (net : ℕ → Demand) where
+module _ (net : Net) where
   pub gate-fires : (k : Kind) (g : Register) (o₁ o₂ o₃ : Option ℕ) (ins : List ℕ) (vs : List (Option Value)) (d : Decision) (s : Links) → remembering k ≡ false →
       Somewhere net (made k g ins o₁ o₂ o₃) → length ins ≤ 3 → Hold ins vs s → Different ins → s nowhere ≡ [] → decide k g (waiting vs) ≡ some d → TakesAll vs d →
       Free-port o₁ (emptied ins s) → Free-port o₂ (laid-on o₁ (d .give1) (emptied ins s)) → Free-port o₃ (laid-on o₂ (d .give2) (laid-on o₁ (d .give1) (emptied ins s))) →
       Steps net s 1 (laid-on o₃ (d .give3) (laid-on o₂ (d .give2) (laid-on o₁ (d .give1) (emptied ins s))))
-  gate-fires k g o₁ o₂ o₃ ins vs d s plain (a, at) le h n v e t f₁ f₂ f₃ =
+  gate-fires k g o₁ o₂ o₃ ins vs d s plain (a, at, fi) le h n v e t f₁ f₂ f₃ =
       record {
         w = a ∷ [];
         runs = (subst (λ z. Able one-place z s) (sym at) able, tt);
         ends = ap (λ z. act z s) at ∙ acts;
         many = omega arith;
+        fine = fi;
       }
     where
       p : Ports

@@ -9,6 +9,7 @@ use native.Mathlib.Omega.{arith}
 use Rattle.names.specs.Names.{Names}
 use Rattle.network.specs.Net.{Demand, halt}
 use Rattle.pieces.specs.Load.{Load, On}
+use Rattle.pieces.specs.Goes.{any-list}
 use Rattle.pieces.specs.Sets.{Bench}
 use Rattle.graph.specs.Assembly.{Graph, Env, nameCount, rank, total, free, linksOf, operatorsOf}
 use Rattle.graph.specs.Fit.{Fit}
@@ -55,11 +56,11 @@ module _ (g : Graph) (ft : Fit g) (n : ℕ) (env : Env) (E : Envs (free g) env n
         fresh-idle g n env source credit ft E fits A fresh (marks-in (Between (registers + n) (linksOf g)) (operatorsOf g n env) (registers-own g ft n env))
         (λ c r k. marks-hold (operatorsOf g n env) bare-state r (rings-marked (λ l. On l fresh) g ft n env (each-marked (λ l. On l fresh) (operatorsOf g n env) (λ l o. o)) c r k))
 
-    pub graph-bench : (net : ℕ → Demand) (push take : ℕ) → Has net (operatorsOf g n env) → Unused net source → Unused net credit → net push ≡ halt → net take ≡ halt → push ≢ take →
+    pub graph-bench : (net : ℕ → Demand) (push take : ℕ) → Has (any-list net) (operatorsOf g n env) → Unused net source → Unused net credit → net push ≡ halt → net take ≡ halt → push ≢ take →
         Bench net push take source credit (whole g n env source credit) (yields g n env source credit)
     graph-bench net push take H us uc np nt ne =
         record {
-          serves = whole-serves g n env source credit ft E fits A net H us uc;
+          serves = whole-serves g n env source credit ft E fits A (any-list net) H us uc;
           neat = whole-neat g n env source credit;
           push-apart = np;
           take-apart = nt;

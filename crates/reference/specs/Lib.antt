@@ -25,3 +25,5 @@ pub mod WrittenOut
 pub mod WholeGraph
 pub mod Marks
 pub mod GraphBench
+pub mod TwinNets
+pub mod TestCopies

@@ -1,21 +1,23 @@
 -- A loop without what starts it: nothing comes and it rests, or every name of the body has a value and it spins. With the start bound
 -- to its identifiers (OneAfterAnother.antt) it is the whole loop.
-use Prim.Native.Nat.{ℕ, _+_, _-_, _<_}
+use Prim.Native.Nat.{ℕ, _+_, _-_, _<_, _≤_}
 use mathlib.Core.Path.{_≡_, refl, sym, _∙_, ap, subst}
 use mathlib.Core.Logic.{_⊎_, inl, inr, ⊎-elim}
 use mathlib.Core.Bool.{true, false}
-use mathlib.Core.List.{List, [], _∷_}
-use mathlib.Core.Option.{none, some}
+use mathlib.Core.List.{List, [], _∷_, _++_}
+use mathlib.Core.Option.{Option, none, some}
 use lib.ListN.{length}
 use native.Mathlib.Omega.{arith}
 use Rattle.value.specs.declared.Value.{Value}
 use Rattle.names.specs.Names.{Names}
-use Rattle.network.specs.Net.{Demand, Links}
+use Rattle.schedule.specs.Counts.{count}
+use Rattle.network.specs.Values.{true-value}
+use Rattle.network.specs.Net.{val, Demand, Links}
 use Rattle.network.specs.Uses.{In}
-use Rattle.pieces.specs.Goes.{Steps, stay, steps-then, steps-long}
+use Rattle.pieces.specs.Goes.{Net, Steps, stay, steps-then, steps-long}
 use Rattle.pieces.specs.Rows.{dec-in}
 use Rattle.graph.specs.Assembly.{Env, memberOf, total, ringGate, chain, chainLinks}
-use Rattle.graph.specs.Yields.{Values, Answer, absent, present, bound, Spins}
+use Rattle.graph.specs.Yields.{Values, Answer, absent, present, bound, Spins, Cut-spins}
 use Rattle.reference.specs.NameSets.{either}
 use Rattle.reference.specs.Plugged.{nowhere, registers, Somewhere, Has}
 use Rattle.reference.specs.Plan.{tokens, Hold, Between, Plan, Own, Port, Zone, Control, Outside, Ready, Before, After, Leads, Serves, fewer, fewer-long, ready-same}
@@ -30,6 +32,13 @@ pub data Core-yields (ns : List ℕ) (h : Names) (r : ℕ) (M : Values → ℕ �
   spins : (ρ : Values) (vs : List Value) (d : ℕ) (a : Answer) → length vs ≡ length ns → ((x : ℕ) → h x ≡ true → ρ′ x ≡ bound ns (present vs) ρ x)
       → ((x : ℕ) → h x ≡ true → memberOf ns x ≡ false → (v : Value) × (ρ x ≡ some v)) → Spins (length ns) (λ ws. M (bound ns (present ws) ρ)) vs d a
       → Core-yields ns h r M ρ′ d a
+
+-- The same for a loop that is cut: its rounds may end as C says once N are gone.
+pub data Cut-core (ns : List ℕ) (h : Names) (r N : ℕ) (M C : Values → ℕ → Answer → Type 0) (ρ′ : Values) : ℕ → Answer → Type 0 where
+  rests : ((x : ℕ) → h x ≡ true → ρ′ x ≡ none) → Cut-core ns h r N M C ρ′ 0 (some (absent r))
+  spins : (ρ : Values) (vs : List Value) (us : List (Option Value)) → length vs ≡ length ns → ((x : ℕ) → h x ≡ true → ρ′ x ≡ bound ns (present vs) ρ x)
+      → ((x : ℕ) → h x ≡ true → memberOf ns x ≡ false → (v : Value) × (ρ x ≡ some v))
+      → Cut-spins (length ns) N (λ ws. M (bound ns (present ws) ρ)) (λ ws. C (bound ns (present ws) ρ)) 0 vs us → Cut-core ns h r N M C ρ′ 0 (some us)
 
 hold-empty : (ls : List ℕ) (s : Links) → ((l : ℕ) → In l ls → s l ≡ []) → Hold ls (absent (length ls)) s
 hold-empty [] s e = tt
@@ -64,7 +73,7 @@ module _ (ns : List ℕ) (h : Names) (o kb it : ℕ) (is rs : List ℕ) (RB : �
         same = λ l u. refl;
       }
 
-  module _ (net : ℕ → Demand) (iterE startE ownE : Env) (start-is : (x : ℕ) → h x ≡ true → memberOf ns x ≡ true → startE x ≡ env x)
+  module _ (net : Net) (iterE startE ownE : Env) (start-is : (x : ℕ) → h x ≡ true → memberOf ns x ≡ true → startE x ≡ env x)
       (own-is : (x : ℕ) → h x ≡ true → memberOf ns x ≡ false → ownE x ≡ env x) (iter-is : (x : ℕ) → memberOf ns x ≡ true → iterE x ≡ Lay.iterated ns h o kb it is rs RB env x)
       (gates : (x : ℕ) → h x ≡ true → Somewhere net (ringGate (memberOf ns x) (control x) (iterE x) (startE x) (ownE x) (inner x))) (H : Has net (chain it copies (total h)))
       (M : Values → ℕ → Answer → Type 0) (SM : Serves net Body M) where
@@ -166,3 +175,26 @@ module _ (ns : List ℕ) (h : Names) (o kb it : ℕ) (is rs : List ℕ) (RB : �
             let t = started ρ′ ρ vs fit agree there s bef in
             finish ρ′ ρ vs fit agree there s bef (t .0) (t .2) (t .3) d a (t .1)
             (Rounds.rounds ns h o kb it is rs RB env K net iterE startE ownE start-is own-is iter-is gates H M SM ρ vs d a y (t .0) (turn ρ′ ρ vs fit agree there s bef (t .0) (t .2) (t .3)))
+
+  -- A cut loop: the body is served in both nets, and in each round that iterates the operator a fires.
+  module _ (net net° : Net) (same-net : net° .at ≡ net .at) (a N : ℕ)
+      (close : (u w : List ℕ) → net .Fine u → N ≤ count a u → net° .Fine w → net .Fine (u ++ w))
+      (iterE startE ownE : Env) (start-is : (x : ℕ) → h x ≡ true → memberOf ns x ≡ true → startE x ≡ env x)
+      (own-is : (x : ℕ) → h x ≡ true → memberOf ns x ≡ false → ownE x ≡ env x) (iter-is : (x : ℕ) → memberOf ns x ≡ true → iterE x ≡ Lay.iterated ns h o kb it is rs RB env x)
+      (gates : (x : ℕ) → h x ≡ true → Somewhere net (ringGate (memberOf ns x) (control x) (iterE x) (startE x) (ownE x) (inner x)))
+      (gates° : (x : ℕ) → h x ≡ true → Somewhere net° (ringGate (memberOf ns x) (control x) (iterE x) (startE x) (ownE x) (inner x)))
+      (H : Has net (chain it copies (total h))) (H° : Has net° (chain it copies (total h)))
+      (M C : Values → ℕ → Answer → Type 0) (SM : Serves net Body M) (SC : Serves net° Body C)
+      (tests : (ρ : Values) (ws : List Value) (s s₁ : Links) (c : ℕ) (t : Steps net s c s₁) → Rounds.Turn ns h o kb it is rs RB env K ρ ws s → s₁ it ≡ val true-value ∷ [] → 1 ≤ count a (t .w)) where
+    pub cut-core-serves : Serves net Core (Cut-core ns h (length rs) N M C)
+    cut-core-serves ρ′ c b y s bef = go y
+      where
+        go : {c : ℕ} {b : Answer} → Cut-core ns h (length rs) N M C ρ′ c b → Leads net Core s c b
+        go (rests no-value) = (s, stay net s, resting ρ′ s bef no-value)
+        go (spins ρ vs us fit agree there y) =
+            let t = started net iterE startE ownE start-is own-is iter-is gates H M SM ρ′ ρ vs fit agree there s bef in
+            let T = turn net iterE startE ownE start-is own-is iter-is gates H M SM ρ′ ρ vs fit agree there s bef (t .0) (t .2) (t .3) in
+            let e = Rounds.cut-rounds ns h o kb it is rs RB env K net net° same-net a N close iterE startE ownE start-is own-is iter-is gates gates° H H° M C SM SC ρ (tests ρ)
+            0 vs us y (t .0) (t .0) (record { w = []; runs = tt; ends = refl; fine = net .fine-none; often = omega arith }) (λ l p q. refl) T in
+            let L = finish net iterE startE ownE start-is own-is iter-is gates H M SM ρ′ ρ vs fit agree there s bef (t .0) (t .2) (t .3) 1 (some us) (t .1) e in
+            (L .0, fewer net s (L .0) 1 0 (omega arith) (L .1), L .2)

@@ -11,7 +11,7 @@ use Rattle.value.specs.declared.Value.{Value}
 use Rattle.names.specs.Names.{Names}
 use Rattle.network.specs.Values.{true-value}
 use Rattle.network.specs.Net.{val, Demand, Links}
-use Rattle.pieces.specs.Goes.{Steps}
+use Rattle.pieces.specs.Goes.{Net, Steps}
 use Rattle.graph.specs.Assembly.{Env, nameCount, memberOf, total, ringGate, chainLinks}
 use Rattle.graph.specs.Yields.{Values}
 use Rattle.reference.specs.NameSets.{not-both, rank-onto}
@@ -71,13 +71,13 @@ module _ (ns : List ℕ) (h : Names) (o kb it : ℕ) (is rs : List ℕ) (RB : �
   Holding ρ x s = (w : Value) × (s (registers + inner x) ≡ val w ∷ []) × (memberOf ns x ≡ false → ρ x ≡ some w)
 
   -- at least one gate fires
-  some-fire : (net : ℕ → Demand) (s s′ : Links) → Steps net s (tally 1 h nameCount) s′ → Steps net s 1 s′
+  some-fire : (net : Net) (s s′ : Links) → Steps net s (tally 1 h nameCount) s′ → Steps net s 1 s′
   some-fire net s s′ t =
       let z = K .two in
       let m = rank-onto h 0 (omega arith) in
       fewer net s s′ (tally 1 h nameCount) 1 (tally-one 1 h nameCount (m .0) (m .1) (m .2)) t
 
-  module _ (net : ℕ → Demand) (iterE startE ownE : Env) (start-is : (x : ℕ) → h x ≡ true → memberOf ns x ≡ true → startE x ≡ env x)
+  module _ (net : Net) (iterE startE ownE : Env) (start-is : (x : ℕ) → h x ≡ true → memberOf ns x ≡ true → startE x ≡ env x)
       (own-is : (x : ℕ) → h x ≡ true → memberOf ns x ≡ false → ownE x ≡ env x) (iter-is : (x : ℕ) → memberOf ns x ≡ true → iterE x ≡ iterated x)
       (gates : (x : ℕ) → h x ≡ true → Somewhere net (ringGate (memberOf ns x) (control x) (iterE x) (startE x) (ownE x) (inner x))) where
     abbrev Entry : ℕ → ℕ → Type 0

@@ -1,6 +1,6 @@
 -- The rounds of a loop: from the values of the body's names the body is served, iter? passes its copies, and the gates either take the next
 -- values or are ready for the next set, each with one false on its control. Every further round has at least one firing.
-use Prim.Native.Nat.{ℕ, suc, _+_, _-_}
+use Prim.Native.Nat.{ℕ, suc, _+_, _-_, _≤_}
 use mathlib.Core.Path.{_≡_, refl, sym, _∙_, ap, subst}
 use mathlib.Core.Logic.{_≢_, _⊎_, inl, inr, ⊎-elim}
 use mathlib.Core.Bool.{true, false}
@@ -9,15 +9,18 @@ use mathlib.Core.Option.{Option, none, some}
 use lib.ListN.{length, length-replicate}
 use native.Mathlib.Decide.{ℕ-discrete}
 use native.Mathlib.Omega.{arith}
+use Rattle.schedule.specs.Schedules.{possible-append, reached-append}
+use Rattle.schedule.specs.Counts.{count, count-append}
+use Rattle.network.specs.Commute.{enabled, next, output}
 use Rattle.value.specs.declared.Value.{Value}
 use Rattle.names.specs.Names.{Names}
 use Rattle.network.specs.Values.{true-value, false-value}
 use Rattle.network.specs.Net.{val, Demand, Links}
 use Rattle.network.specs.Uses.{In}
-use Rattle.pieces.specs.Goes.{Steps, Long, steps-then, steps-long}
+use Rattle.pieces.specs.Goes.{Net, one-place, Feasible, led-to, Steps, Long, steps-then, steps-long}
 use Rattle.pieces.specs.Rows.{in-front, in-back, in-app, dec-in}
 use Rattle.graph.specs.Assembly.{Env, memberOf, total, ringGate, chain, chainLinks}
-use Rattle.graph.specs.Yields.{Values, Answer, absent, present, bound, Spins, spent, stops, returns, again}
+use Rattle.graph.specs.Yields.{Values, Answer, absent, present, bound, Spins, spent, stops, returns, again, Cut-spins, last, onward, cuts}
 use Rattle.reference.specs.Plugged.{nowhere, registers, Somewhere, Has}
 use Rattle.reference.specs.Plan.{tokens, Hold, Between, Plan, Own, Register, Control, Ready, Before, After, Leads, Serves, fewer, fewer-long, ready-same, hold-same, hold-parts}
 use Rattle.reference.specs.Copies.{fans-out}
@@ -68,7 +71,7 @@ module _ (ns : List ℕ) (h : Names) (o kb it : ℕ) (is rs : List ℕ) (RB : �
     pub ready : (c r : ℕ) → Core .Ring c r → Ready c r s′
     pub same : (l : ℕ) → (Own Core l → ⊥) → (Register Core l → ⊥) → s′ l ≡ s l
 
-  abbrev pub Comes : (ℕ → Demand) → Links → ℕ → Answer → Type 0
+  abbrev pub Comes : Net → Links → ℕ → Answer → Type 0
   Comes net s d none = Long net s d
   Comes net s d (some vs) = (s′ : Links) × Steps net s d s′ × Ended s s′ vs
 
@@ -79,7 +82,7 @@ module _ (ns : List ℕ) (h : Names) (o kb it : ℕ) (is rs : List ℕ) (RB : �
     iter : s₂ it ≡ []
     same : (l : ℕ) → l ≢ it → (Copy l → ⊥) → s₂ l ≡ s₁ l
 
-  fan : (net : ℕ → Demand) → Has net (chain it copies (total h)) → (v : Value) (s₁ : Links) → s₁ it ≡ val v ∷ [] → ((l : ℕ) → Copy l → s₁ l ≡ []) →
+  fan : (net : Net) → Has net (chain it copies (total h)) → (v : Value) (s₁ : Links) → s₁ it ≡ val v ∷ [] → ((l : ℕ) → Copy l → s₁ l ≡ []) →
       (s₂ : Links) × Steps net s₁ 0 s₂ × Fanned v s₁ s₂
   fan net H v s₁ e dry =
       let two = K .two in
@@ -191,7 +194,7 @@ module _ (ns : List ℕ) (h : Names) (o kb it : ℕ) (is rs : List ℕ) (RB : �
           let g = held-kept ρ ws s T false-value (absent (length ns) ++ us) s₁ X s₂ F x e in
           inr (g .0, ap s₂ w ∙ g .1, ap s₂ z ∙ F .controls x e)
 
-  module _ (net : ℕ → Demand) (iterE startE ownE : Env) (start-is : (x : ℕ) → h x ≡ true → memberOf ns x ≡ true → startE x ≡ env x)
+  module _ (net : Net) (iterE startE ownE : Env) (start-is : (x : ℕ) → h x ≡ true → memberOf ns x ≡ true → startE x ≡ env x)
       (own-is : (x : ℕ) → h x ≡ true → memberOf ns x ≡ false → ownE x ≡ env x) (iter-is : (x : ℕ) → memberOf ns x ≡ true → iterE x ≡ iterated x)
       (gates : (x : ℕ) → h x ≡ true → Somewhere net (ringGate (memberOf ns x) (control x) (iterE x) (startE x) (ownE x) (inner x))) where
     abbrev Turned : ℕ → ℕ → Type 0
@@ -311,7 +314,7 @@ module _ (ns : List ℕ) (h : Names) (o kb it : ℕ) (is rs : List ℕ) (RB : �
 
       -- The entry into the first body is not counted here.
       pub rounds : (ws : List Value) (d : ℕ) (a : Answer) → Spins (length ns) Round ws d a → (s : Links) → Turn ρ ws s → Comes net s (d - 1) a
-      rounds _ _ _ (spent ws) s T = record { w = []; runs = tt; many = omega arith }
+      rounds _ _ _ (spent ws) s T = record { w = []; runs = tt; many = omega arith; fine = net .fine-none }
       rounds _ _ _ (stops ws c p) s T = fewer-long net s c (suc c - 1) (omega arith) (SM (bound ns (present ws) ρ) c none p s (T .body))
       rounds _ _ _ (returns ws c us p) s T =
           let e = ending ws s T c us (SM (bound ns (present ws) ρ) c (some (some false-value ∷ (absent (length ns) ++ us))) p s (T .body)) in
@@ -319,3 +322,82 @@ module _ (ns : List ℕ) (h : Names) (o kb it : ℕ) (is rs : List ℕ) (RB : �
       rounds _ _ _ (again ws us c d r a fit p y) s T =
           let t = turning ws s T c us r fit (SM (bound ns (present ws) ρ) c (some (some true-value ∷ (present us ++ absent r))) p s (T .body)) in
           after-turn s (t .0) c d a (t .1) (t .3) (rounds us d a y (t .0) (t .2))
+
+  -- ---- a loop that is cut
+
+  -- The schedule from a state on, with how often an operator has fired in it.
+  pub record So-far (net : Net) (a i : ℕ) (s₀ s : Links) : Type 0 where
+    pub w : List ℕ
+    pub runs : Feasible (net .at) w s₀
+    pub ends : led-to (net .at) w s₀ ≡ s
+    pub fine : net .Fine w
+    pub often : i ≤ count a w
+
+  -- more firings, in each of which so many are a's
+  further : (net : Net) (a i j : ℕ) (s₀ s s₁ : Links) (c : ℕ) → So-far net a i s₀ s → (t : Steps net s c s₁) → j ≤ count a (t .w) → So-far net a (i + j) s₀ s₁
+  further net a i j s₀ s s₁ c f t le = record {
+    w = f .w ++ t .w;
+    runs = possible-append (enabled (net .at) one-place) (next (net .at) one-place) (output (net .at) one-place) (f .w) (t .w) s₀ (f .runs) (subst (Feasible (net .at) (t .w)) (sym (f .ends)) (t .runs));
+    ends = reached-append (enabled (net .at) one-place) (next (net .at) one-place) (output (net .at) one-place) (f .w) (t .w) s₀ ∙ ap (led-to (net .at) (t .w)) (f .ends) ∙ t .ends;
+    fine = net .fine-both (f .w) (t .w) (f .fine) (t .fine);
+    often = omega (arith, count-append a (f .w) (t .w), f .often);
+  }
+
+  as-steps : (net : Net) (a i : ℕ) (s₀ s : Links) → So-far net a i s₀ s → Steps net s₀ 0 s
+  as-steps net a i s₀ s f = record { w = f .w; runs = f .runs; ends = f .ends; many = omega arith; fine = f .fine }
+
+  module _ (net net° : Net) (same-net : net° .at ≡ net .at) (a N : ℕ)
+      (close : (u w : List ℕ) → net .Fine u → N ≤ count a u → net° .Fine w → net .Fine (u ++ w))
+      (iterE startE ownE : Env) (start-is : (x : ℕ) → h x ≡ true → memberOf ns x ≡ true → startE x ≡ env x)
+      (own-is : (x : ℕ) → h x ≡ true → memberOf ns x ≡ false → ownE x ≡ env x) (iter-is : (x : ℕ) → memberOf ns x ≡ true → iterE x ≡ iterated x)
+      (gates : (x : ℕ) → h x ≡ true → Somewhere net (ringGate (memberOf ns x) (control x) (iterE x) (startE x) (ownE x) (inner x)))
+      (gates° : (x : ℕ) → h x ≡ true → Somewhere net° (ringGate (memberOf ns x) (control x) (iterE x) (startE x) (ownE x) (inner x)))
+      (H : Has net (chain it copies (total h))) (H° : Has net° (chain it copies (total h)))
+      (M C : Values → ℕ → Answer → Type 0) (SM : Serves net Body M) (SC : Serves net° Body C) (ρ : Values)
+      -- in each round of the body its first test is copied
+      (tests : (ws : List Value) (s s₁ : Links) (c : ℕ) (t : Steps net s c s₁) → Turn ρ ws s → s₁ it ≡ val true-value ∷ [] → 1 ≤ count a (t .w)) where
+    abbrev Around : List Value → ℕ → Answer → Type 0
+    Around ws = M (bound ns (present ws) ρ)
+
+    abbrev Off : List Value → ℕ → Answer → Type 0
+    Off ws = C (bound ns (present ws) ρ)
+
+    abbrev Frame : Links → Links → Type 0
+    Frame s₀ s = (l : ℕ) → (Own Core l → ⊥) → (Register Core l → ⊥) → s l ≡ s₀ l
+
+    abbrev Ends : Links → List (Option Value) → Type 0
+    Ends s₀ us = (s′ : Links) × Steps net s₀ 0 s′ × Ended s₀ s′ us
+
+    framed : (s₀ s s′ : Links) (us : List (Option Value)) → Frame s₀ s → Ended s s′ us → Ended s₀ s′ us
+    framed s₀ s s′ us fr E = record { gives = E .gives; clear = E .clear; ready = E .ready; same = λ l p q. E .same l p q ∙ fr l p q }
+
+    -- the last round, in the net that lets a's twin come
+    closed : (i : ℕ) (s₀ s s′ : Links) (c : ℕ) → N ≤ i → So-far net a i s₀ s → Steps net° s c s′ → Steps net s₀ 0 s′
+    closed i s₀ s s′ c le f t =
+        let runs : Feasible (net .at) (t .w) s = subst (λ z. Feasible z (t .w) s) same-net (t .runs) in
+        let ends : led-to (net .at) (t .w) s ≡ s′ = subst (λ z. led-to z (t .w) s ≡ s′) same-net (t .ends) in
+        record {
+          w = f .w ++ t .w;
+          runs = possible-append (enabled (net .at) one-place) (next (net .at) one-place) (output (net .at) one-place) (f .w) (t .w) s₀ (f .runs)
+              (subst (Feasible (net .at) (t .w)) (sym (f .ends)) runs);
+          ends = reached-append (enabled (net .at) one-place) (next (net .at) one-place) (output (net .at) one-place) (f .w) (t .w) s₀ ∙ ap (led-to (net .at) (t .w)) (f .ends) ∙ ends;
+          many = omega arith;
+          fine = close (f .w) (t .w) (f .fine) (omega (arith, f .often)) (t .fine);
+        }
+
+    pub cut-rounds : (i : ℕ) (ws : List Value) (us : List (Option Value)) → Cut-spins (length ns) N Around Off i ws us → (s₀ s : Links) → So-far net a i s₀ s → Frame s₀ s → Turn ρ ws s → Ends s₀ us
+    cut-rounds _ _ _ (last i ws c us p) s₀ s f fr T =
+        let e = ending net iterE startE ownE start-is own-is iter-is gates H M SM ρ ws s T c us (SM (bound ns (present ws) ρ) c (some (some false-value ∷ (absent (length ns) ++ us))) p s (T .body)) in
+        (e .0, as-steps net a (i + 0) s₀ (e .0) (further net a i 0 s₀ s (e .0) c f (e .1) (omega arith)), framed s₀ s (e .0) us fr (e .2))
+    cut-rounds _ _ _ (cuts i ws c us le p) s₀ s f fr T =
+        let e = ending net° iterE startE ownE start-is own-is iter-is gates° H° C SC ρ ws s T c us (SC (bound ns (present ws) ρ) c (some (some false-value ∷ (absent (length ns) ++ us))) p s (T .body)) in
+        (e .0, closed i s₀ s (e .0) c le f (e .1), framed s₀ s (e .0) us fr (e .2))
+    cut-rounds _ _ _ (onward i ws vs c r us fit p y) s₀ s f fr T =
+        let L = SM (bound ns (present ws) ρ) c (some (some true-value ∷ (present vs ++ absent r))) p s (T .body) in
+        let s₁ : Links = L .0 in
+        let F = fan net H true-value s₁ (L .2 .gives .0) (copies-dry net iterE startE ownE start-is own-is iter-is gates H M SM ρ ws s T (some true-value ∷ (present vs ++ absent r)) s₁ (L .2)) in
+        let g = next-round net iterE startE ownE start-is own-is iter-is gates ρ ws s T vs r fit s₁ (L .2) (F .0) (F .2) in
+        let f₁ = further net a i 1 s₀ s s₁ c f (L .1) (tests ws s s₁ c (L .1) T (L .2 .gives .0)) in
+        let f₃ = further net a (i + 1 + 0) 0 s₀ (F .0) (g .0) 1 (further net a (i + 1) 0 s₀ s₁ (F .0) 0 f₁ (F .1) (omega arith)) (g .1) (omega arith) in
+        let n : i + 1 + 0 + 0 ≡ suc i = omega arith in
+        cut-rounds (suc i) vs us y s₀ (g .0) (subst (λ k. So-far net a k s₀ (g .0)) n f₃) (λ l p q. g .3 l p q ∙ fr l p q) (g .2)

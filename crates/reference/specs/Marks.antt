@@ -208,33 +208,33 @@ registers-own (loop ns a b) ft n env =
 no-fewer : {k c : ℕ} → c ≡ k → k ≤ c
 no-fewer e = omega arith
 
--- Every gate of a loop is one of them.
-pub rings-marked : (D : ℕ → Type 0) (g : Graph) → Fit g → (n : ℕ) (env : Env) → Each (Remembers-in D) (operatorsOf g n env) → (c r : ℕ) → RingOf g n c r → D r
+-- Every gate of a loop is one of the operators: what each operator of a kind of gate has, it has too.
+pub rings-each : (Q : Operator → Type 0) (D : ℕ → ℕ → Type 0) → ((b : Bool) (c i s w o : ℕ) → Q (ringGate b c i s w o) → D c (registers + o)) → (g : Graph) → Fit g → (n : ℕ) (env : Env) → Each Q (operatorsOf g n env) → (c r : ℕ) → RingOf g n c r → D c r
 unfolding operatorsOf
-rings-marked D (wire x) ft n env H c r k = absurd k
-rings-marked D nothing ft n env H c r k = absurd k
-rings-marked D (beside a b) ft n env H c r k =
+rings-each Q D at (wire x) ft n env H c r k = absurd k
+rings-each Q D at nothing ft n env H c r k = absurd k
+rings-each Q D at (beside a b) ft n env H c r k =
     let f : Names = free a in
     let g : Names = free b in
     let s : ℕ = sharedLinks f g in
     let opa = operatorsOf a (n + s) (firstUse f g n env) in
     let opb = operatorsOf b (n + s + linksOf a) (secondUse f g n env) in
-    let Hp : Each (Remembers-in D) (opa ++ opb) = each-rest (Remembers-in D) (sharing f g n env) (opa ++ opb) H in
-    ⊎-elim (λ (z : RingOf a (n + s) c r). rings-marked D a (ft .0) (n + s) (firstUse f g n env) (each-first (Remembers-in D) opa opb Hp) c r z)
-    (λ (z : RingOf b (n + s + linksOf a) c r). rings-marked D b (ft .1) (n + s + linksOf a) (secondUse f g n env) (each-rest (Remembers-in D) opa opb Hp) c r z) k
-rings-marked D (bind ns a b) ft n env H c r k =
+    let Hp : Each Q (opa ++ opb) = each-rest Q (sharing f g n env) (opa ++ opb) H in
+    ⊎-elim (λ (z : RingOf a (n + s) c r). rings-each Q D at a (ft .0) (n + s) (firstUse f g n env) (each-first Q opa opb Hp) c r z)
+    (λ (z : RingOf b (n + s + linksOf a) c r). rings-each Q D at b (ft .1) (n + s + linksOf a) (secondUse f g n env) (each-rest Q opa opb Hp) c r z) k
+rings-each Q D at (bind ns a b) ft n env H c r k =
     let f : Names = free a in
     let g : Names = without (free b) (memberOf ns) in
     let s : ℕ = sharedLinks f g in
     let link : Env = named ns (outputs a (n + s) (firstUse f g n env)) (secondUse f g n env) in
     let opa = operatorsOf a (n + s) (firstUse f g n env) in
     let opb = operatorsOf b (n + s + linksOf a) link in
-    let Hp : Each (Remembers-in D) (opa ++ opb) = each-rest (Remembers-in D) (sharing f g n env) (opa ++ opb) H in
-    ⊎-elim (λ (z : RingOf a (n + s) c r). rings-marked D a (ft .0) (n + s) (firstUse f g n env) (each-first (Remembers-in D) opa opb Hp) c r z)
-    (λ (z : RingOf b (n + s + linksOf a) c r). rings-marked D b (ft .1) (n + s + linksOf a) link (each-rest (Remembers-in D) opa opb Hp) c r z) k
-rings-marked D (gate j a) ft n env H c r k =
-    rings-marked D a (ft .0) n env (each-first (Remembers-in D) (operatorsOf a n env) (gateOf j (outputs a n env) (n + linksOf a) ∷ []) H) c r k
-rings-marked D (loop ns a b) ft n env H c r k =
+    let Hp : Each Q (opa ++ opb) = each-rest Q (sharing f g n env) (opa ++ opb) H in
+    ⊎-elim (λ (z : RingOf a (n + s) c r). rings-each Q D at a (ft .0) (n + s) (firstUse f g n env) (each-first Q opa opb Hp) c r z)
+    (λ (z : RingOf b (n + s + linksOf a) c r). rings-each Q D at b (ft .1) (n + s + linksOf a) link (each-rest Q opa opb Hp) c r z) k
+rings-each Q D at (gate j a) ft n env H c r k =
+    rings-each Q D at a (ft .0) n env (each-first Q (operatorsOf a n env) (gateOf j (outputs a n env) (n + linksOf a) ∷ []) H) c r k
+rings-each Q D at (loop ns a b) ft n env H c r k =
     let f : Names = free a in
     let h : Names = free b in
     let g : Names = without h (memberOf ns) in
@@ -250,14 +250,17 @@ rings-marked D (loop ns a b) ft n env H c r k =
     let opb = operatorsOf b (o + t) (spread h o) in
     let opc = chain it (o + t + linksOf b) t in
     let opr = ring (listed h) (memberOf ns) cs (named ns (drop 1 ob) env) (named ns oa env) (secondUse f g n env) (spread h o) in
-    let Hp : Each (Remembers-in D) (opa ++ (opb ++ (opc ++ opr))) = each-rest (Remembers-in D) (sharing f g n env) (opa ++ (opb ++ (opc ++ opr))) H in
-    let Hq : Each (Remembers-in D) (opb ++ (opc ++ opr)) = each-rest (Remembers-in D) opa (opb ++ (opc ++ opr)) Hp in
-    let Hr : Each (Remembers-in D) (opc ++ opr) = each-rest (Remembers-in D) opb (opc ++ opr) Hq in
-    ⊎-elim (λ (z : RingOf a (n + s) c r). rings-marked D a (ft .0) (n + s) e₁ (each-first (Remembers-in D) opa (opb ++ (opc ++ opr)) Hp) c r z)
+    let Hp : Each Q (opa ++ (opb ++ (opc ++ opr))) = each-rest Q (sharing f g n env) (opa ++ (opb ++ (opc ++ opr))) H in
+    let Hq : Each Q (opb ++ (opc ++ opr)) = each-rest Q opa (opb ++ (opc ++ opr)) Hp in
+    let Hr : Each Q (opc ++ opr) = each-rest Q opb (opc ++ opr) Hq in
+    ⊎-elim (λ (z : RingOf a (n + s) c r). rings-each Q D at a (ft .0) (n + s) e₁ (each-first Q opa (opb ++ (opc ++ opr)) Hp) c r z)
     (λ (y : RingOf b (o + t) c r ⊎ ((x : ℕ) × (h x ≡ true) × (c ≡ getD cs (rank h x) 0) × (r ≡ registers + spread h o x))).
-    ⊎-elim (λ (z : RingOf b (o + t) c r). rings-marked D b (ft .1) (o + t) (spread h o) (each-first (Remembers-in D) opb (opc ++ opr) Hq) c r z)
+    ⊎-elim (λ (z : RingOf b (o + t) c r). rings-each Q D at b (ft .1) (o + t) (spread h o) (each-first Q opb (opc ++ opr) Hq) c r z)
     (λ (z : (x : ℕ) × (h x ≡ true) × (c ≡ getD cs (rank h x) 0) × (r ≡ registers + spread h o x)).
-    subst D (sym (z .3))
-    (ring-remembered D (memberOf ns (z .0)) (getD cs (rank h (z .0)) 0) (named ns (drop 1 ob) env (z .0)) (named ns oa env (z .0)) (secondUse f g n env (z .0)) (spread h o (z .0))
-    (each-ring (Remembers-in D) h (memberOf ns) cs (named ns (drop 1 ob) env) (named ns oa env) (secondUse f g n env) (spread h o) (no-fewer (ends-length t it (o + t + linksOf b)))
-    (each-rest (Remembers-in D) opc opr Hr) (z .0) (free-small b (ft .1) (z .0) (z .1)) (z .1)))) y) k
+    subst (λ k. D k r) (sym (z .2)) (subst (D (getD cs (rank h (z .0)) 0)) (sym (z .3))
+    (at (memberOf ns (z .0)) (getD cs (rank h (z .0)) 0) (named ns (drop 1 ob) env (z .0)) (named ns oa env (z .0)) (secondUse f g n env (z .0)) (spread h o (z .0))
+    (each-ring Q h (memberOf ns) cs (named ns (drop 1 ob) env) (named ns oa env) (secondUse f g n env) (spread h o) (no-fewer (ends-length t it (o + t + linksOf b)))
+    (each-rest Q opc opr Hr) (z .0) (free-small b (ft .1) (z .0) (z .1)) (z .1))))) y) k
+
+pub rings-marked : (D : ℕ → Type 0) (g : Graph) → Fit g → (n : ℕ) (env : Env) → Each (Remembers-in D) (operatorsOf g n env) → (c r : ℕ) → RingOf g n c r → D r
+rings-marked D g ft n env H c r k = rings-each (Remembers-in D) (λ c r. D r) (λ b c i s w o h. ring-remembered D b c i s w o h) g ft n env H c r k

@@ -8,11 +8,11 @@ use native.Mathlib.Decide.{ℕ-discrete}
 use native.Mathlib.Omega.{arith}
 use Rattle.names.specs.Names.{Names}
 use Rattle.network.specs.Net.{Demand, Links}
-use Rattle.pieces.specs.Goes.{Steps, stay, steps-then}
+use Rattle.pieces.specs.Goes.{Net, Steps, stay, steps-then}
 use Rattle.reference.specs.Plan.{fewer}
 
 -- What one gate does: some firings, after which `Post` holds, and links that are not its own are as they were.
-abbrev pub Works : (ℕ → Demand) → (ℕ → Type 0) → ℕ → (Links → Type 0) → Links → Type 0
+abbrev pub Works : Net → (ℕ → Type 0) → ℕ → (Links → Type 0) → Links → Type 0
 Works net F c Post s = (s′ : Links) × Steps net s c s′ × Post s′ × ((l : ℕ) → (F l → ⊥) → s′ l ≡ s l)
 
 -- The firings of the first k names.
@@ -31,7 +31,7 @@ tally-one e f (suc k) x lt h = go (ℕ-discrete x k) (λ l. tally-one e f k x l 
         omega arith
     go (no p) ih = let i = ih (omega arith) in omega arith
 
-module _ (net : ℕ → Demand) (f : Names) (e : ℕ) (F : ℕ → ℕ → Type 0) (Pre Post : ℕ → Links → Type 0)
+module _ (net : Net) (f : Names) (e : ℕ) (F : ℕ → ℕ → Type 0) (Pre Post : ℕ → Links → Type 0)
     (apart : (x y l : ℕ) → f x ≡ true → f y ≡ true → x ≢ y → F x l → F y l → ⊥)
     (pre-same : (x : ℕ) (s s′ : Links) → ((l : ℕ) → F x l → s′ l ≡ s l) → Pre x s → Pre x s′)
     (post-same : (x : ℕ) (s s′ : Links) → ((l : ℕ) → F x l → s′ l ≡ s l) → Post x s → Post x s′)

@@ -12,7 +12,7 @@ use Rattle.value.specs.declared.Value.{Value}
 use Rattle.names.specs.Names.{Names, union, without}
 use Rattle.network.specs.Net.{Demand, Links}
 use Rattle.network.specs.Uses.{In}
-use Rattle.pieces.specs.Goes.{Steps, steps-then, steps-long}
+use Rattle.pieces.specs.Goes.{Net, Steps, steps-then, steps-long}
 use Rattle.pieces.specs.Rows.{dec-in}
 use Rattle.graph.specs.Assembly.{Env, nameCount, memberOf, named, sharedLinks, secondUse, sharing}
 use Rattle.graph.specs.Yields.{Values, Answer, bound, Sequel, stops, goes-on}
@@ -20,7 +20,7 @@ use Rattle.graph.specs.Fit.{Different as DifferentNames}
 use Rattle.reference.specs.NameSets.{either, or-right, without-in, without-here, without-there}
 use Rattle.reference.specs.Plugged.{nowhere, Has}
 use Rattle.reference.specs.Plan.{tokens, Plan, Own, Register, Port, Zone, Control, Outside, Envs, Sound, Ready, Before, After, Leads, Serves, fewer, fewer-long, ready-same}
-use Rattle.reference.specs.Sharing.{Split, envs-second}
+use Rattle.reference.specs.Sharing.{Split, Changes, split-over, envs-second}
 use Rattle.reference.specs.Parts as Parts
 use Rattle.reference.specs.SideBySide as Copied
 use Rattle.reference.specs.Binding.{named-others, named-in, named-differ, named-onto, names-small, bound-others, named-holds}
@@ -140,10 +140,10 @@ module _ (ns : List ℕ) (f h : Names) (n ka kb : ℕ) (env : Env) (oa ob : List
               ⊎-elim (SA .ring-off c r k) (λ (z : Zone Rest c). Parts.zones-apart f outer n ka kb env oa ob RA RB ob E c (inl (SA .ring-own c r k .0)) z) (user-zone c (SB .outs-zone c i))
           off c r (inr k) i = SB .ring-off c r k i
 
-      module _ (net : ℕ → Demand) (H : Has net (sharing f outer n env)) (M N : Values → ℕ → Answer → Type 0) (SM : Serves net Maker M) (SN : Serves net User N) where
-        module _ (ρ : Values) (s : Links) (bef : Before Bound ρ s) (s₁ : Links) (S : Split f outer n env E net ρ s s₁) where
+      module _ (net : Net) (H : Has net (sharing f outer n env)) (M N : Values → ℕ → Answer → Type 0) (SM : Serves net Maker M) (SN : Serves net User N) where
+        module _ (ρ₀ ρ : Values) (s : Links) (bef : Before Bound ρ₀ s) (s₁ : Links) (S : Split f outer n env E net ρ s s₁) where
           to-maker : Before Maker ρ s₁
-          to-maker = Copied.before-first f outer n ka kb env oa ob RA RB ob E (SA .ring-own) (SB .ring-own) fits net H ρ s bef s₁ S
+          to-maker = Copied.before-first f outer n ka kb env oa ob RA RB ob E (SA .ring-own) (SB .ring-own) fits net H ρ₀ s bef ρ s₁ S
 
           module _ (s₂ : Links) (vs : List (Option Value)) (X : After Maker s₁ s₂ vs) where
             rest-same : (l : ℕ) → Zone Rest l → s₂ l ≡ s₁ l
@@ -162,8 +162,8 @@ module _ (ns : List ℕ) (f h : Names) (n ka kb : ℕ) (env : Env) (oa ob : List
             to-user =
                 record {
                   laid = λ x e. laid-user x e (either (memberOf ns x));
-                  clear = Copied.second-clear f outer n ka kb env oa ob RA RB ob E (SA .ring-own) (SB .ring-own) fits net H ρ s bef s₁ S s₂ (λ l o. rest-same l (inl o));
-                  ready = Copied.second-ready f outer n ka kb env oa ob RA RB ob E (SA .ring-own) (SB .ring-own) fits net H ρ s bef s₁ S s₂ (λ l o. rest-same l (inl o)) register-same;
+                  clear = Copied.second-clear f outer n ka kb env oa ob RA RB ob E (SA .ring-own) (SB .ring-own) fits net H ρ₀ s bef ρ s₁ S s₂ (λ l o. rest-same l (inl o));
+                  ready = Copied.second-ready f outer n ka kb env oa ob RA RB ob E (SA .ring-own) (SB .ring-own) fits net H ρ₀ s bef ρ s₁ S s₂ (λ l o. rest-same l (inl o)) register-same;
                   void = X .same nowhere (Parts.nowhere-outside-first f outer n ka kb env oa ob RA RB ob E fits) ∙ to-maker .void;
                 }
 
@@ -202,7 +202,7 @@ module _ (ns : List ℕ) (f h : Names) (n ka kb : ℕ) (env : Env) (oa ob : List
                       Y .same l (outside-user l (Parts.outside-second f outer n ka kb env oa ob RA RB ob E l u)
                       (λ i. ⊎-elim (u .not-own) (u .not-port) (Parts.first-in f outer n ka kb env oa ob RA RB ob E l (SA .outs-zone l i))))
                       ∙ X .same l (Parts.outside-first f outer n ka kb env oa ob RA RB ob E l u)
-                      ∙ Copied.untouched f outer n ka kb env oa ob RA RB ob E (SA .ring-own) (SB .ring-own) fits net H ρ s bef s₁ S l u
+                      ∙ Copied.untouched f outer n ka kb env oa ob RA RB ob E (SA .ring-own) (SB .ring-own) fits net H ρ₀ s bef ρ s₁ S l u
 
             lead-user : (c d : ℕ) → Steps net s₁ c s₂ → (a : Answer) → Leads net User s₂ d a → Leads net Bound s (c + d) a
             lead-user c d t none L =
@@ -220,4 +220,11 @@ module _ (ns : List ℕ) (f h : Names) (n ka kb : ℕ) (env : Env) (oa ob : List
         pub bind-serves : Serves net Bound (λ ρ. Sequel (M ρ) (λ vs. N (bound ns vs ρ)))
         bind-serves ρ c a y s bef =
             let k = Copied.copied f outer n ka kb env oa ob RA RB ob E (SA .ring-own) (SB .ring-own) fits net H ρ s bef in
-            lead ρ s bef (k .0) (k .1) c a y
+            lead ρ ρ s bef (k .0) (k .1) c a y
+
+        -- The same, where a twin of a shared name's copy makes its value err.
+        pub bind-over : Serves net Bound (λ ρ c a. (ρ′ : Values) × Changes f outer n env E net ρ ρ′ × Sequel (M ρ′) (λ vs. N (bound ns vs ρ′)) c a)
+        bind-over ρ c a (ρ′, ch, y) s bef =
+            let k = split-over f outer n env E net ρ ρ′ s H ch (bef .laid) (λ l b. bef .clear l (omega arith, omega arith)
+            (Copied.copy-control f outer n ka kb env oa ob RA RB ob E (SA .ring-own) (SB .ring-own) fits net H ρ s bef l b)) in
+            lead ρ ρ′ s bef (k .0) (k .1) c a y

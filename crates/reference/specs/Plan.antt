@@ -16,7 +16,7 @@ use Rattle.network.specs.Values.{false-value}
 use Rattle.network.specs.Net.{Token, val, mark, Demand, Links}
 use Rattle.network.specs.Uses.{In}
 use Rattle.pieces.specs.Load.{opt}
-use Rattle.pieces.specs.Goes.{Steps, Long}
+use Rattle.pieces.specs.Goes.{Net, Steps, Long}
 use Rattle.pieces.specs.Piece.{token-of}
 use Rattle.pieces.specs.Sets.{Different}
 use Rattle.graph.specs.Assembly.{Env, nameCount}
@@ -101,7 +101,7 @@ pub record After (P : Plan) (s s′ : Links) (vs : List (Option Value)) : Type 0
   pub ready : (c r : ℕ) → P .Ring c r → Ready c r s′
   pub same : (l : ℕ) → Outside P l → s′ l ≡ s l
 
-module _ (net : ℕ → Demand) where
+module _ (net : Net) where
   -- A schedule with one place a link: to the answer with the plan calm again, or of as many firings as there are rounds.
   abbrev pub Leads : Plan → Links → ℕ → Answer → Type 0
   Leads P s c none = Long net s c
@@ -111,10 +111,10 @@ module _ (net : ℕ → Demand) where
   Serves P M = (ρ : Values) (c : ℕ) (a : Answer) → M ρ c a → (s : Links) → Before P ρ s → Leads P s c a
 
   pub fewer : (s s′ : Links) (c d : ℕ) → d ≤ c → Steps net s c s′ → Steps net s d s′
-  fewer s s′ c d le t = record { w = t .w; runs = t .runs; ends = t .ends; many = omega (arith, t .many) }
+  fewer s s′ c d le t = record { w = t .w; runs = t .runs; ends = t .ends; many = omega (arith, t .many); fine = t .fine }
 
   pub fewer-long : (s : Links) (c d : ℕ) → d ≤ c → Long net s c → Long net s d
-  fewer-long s c d le t = record { w = t .w; runs = t .runs; many = omega (arith, t .many) }
+  fewer-long s c d le t = record { w = t .w; runs = t .runs; many = omega (arith, t .many); fine = t .fine }
 
 -- Links and registers that agree.
 pub ready-same : (c r : ℕ) (s s′ : Links) → s′ c ≡ s c → s′ r ≡ s r → Ready c r s → Ready c r s′

@@ -11,6 +11,7 @@ use native.Mathlib.Omega.{arith}
 use native.Mathlib.Nat.{zero-add}
 use native.Mathlib.Numerals.{one-add}
 use Rattle.names.specs.Names.{Names, common, sizeFrom, membersFrom, later, bit, put}
+use Rattle.pieces.specs.Goes.{Net}
 use Rattle.network.specs.Net.{Demand}
 use Rattle.network.specs.Fill.{Ports, fill}
 use Rattle.graph.specs.Assembly.{nameCount, Operator, Env, copyOf, copiesFor, sharing, firstUse, secondUse, ringGate, ring, listed, rank, total}
@@ -119,9 +120,9 @@ module _ (P : Operator → Type 0) where
       let r = ring-at nameCount 0 f ids cs it st ow out le h x lt e in
       subst (λ y. P (ringGate (ids y) (getD cs (sizeFrom x f) 0) (it y) (st y) (ow y) (out y))) z r
 
-module _ (net : ℕ → Demand) where
+module _ (net : Net) where
   abbrev pub Somewhere : Operator → Type 0
-  Somewhere o = (a : ℕ) × (net a ≡ demandOf o)
+  Somewhere o = (a : ℕ) × (net .at a ≡ demandOf o) × net .Fine (a ∷ [])
 
   abbrev pub Has : List Operator → Type 0
   Has = Each Somewhere
@@ -129,8 +130,8 @@ module _ (net : ℕ → Demand) where
   -- By position: the operators from number m on.
   abbrev pub Numbered : ℕ → List Operator → Type 0
   Numbered m [] = Unit {0}
-  Numbered m (o ∷ os) = (net m ≡ demandOf o) × Numbered (suc m) os
+  Numbered m (o ∷ os) = (net .at m ≡ demandOf o) × net .Fine (m ∷ []) × Numbered (suc m) os
 
   pub numbered-has : (m : ℕ) (os : List Operator) → Numbered m os → Has os
   numbered-has m [] h = tt
-  numbered-has m (o ∷ os) h = ((m, h .0), numbered-has (suc m) os (h .1))
+  numbered-has m (o ∷ os) h = ((m, h .0, h .1), numbered-has (suc m) os (h .2))

@@ -9,6 +9,7 @@ use mathlib.Core.Option.{some}
 use native.Mathlib.Omega.{arith}
 use Rattle.value.specs.declared.Value.{Value}
 use Rattle.network.specs.Values.{true-value, false-value}
+use Rattle.pieces.specs.Goes.{Net}
 use Rattle.network.specs.Net.{Token, val, mark, Demand, Links}
 use Rattle.pieces.specs.Load.{Load, On}
 use Rattle.pieces.specs.Gate.{Distinct, distinct-two, distinct-three, emitted, Consumes}
@@ -25,7 +26,7 @@ Passed b c e o v s = (s c ≡ []) × (s e ≡ []) × (s o ≡ val v ∷ []) × (
 abbrev pub Touched : ℕ → ℕ → ℕ → ℕ → Type 0
 Touched c e o l = (l ≡ c) ⊎ ((l ≡ e) ⊎ ((l ≡ o) ⊎ (l ≡ registers + o)))
 
-module _ (net : ℕ → Demand) (b : Bool) (c e o : ℕ) (v w : Value) (keeps : b ≡ false → w ≡ v) (s : Links) (ce : c ≢ e) (co : c ≢ o) (eo : e ≢ o) (cr : c ≢ registers + o) (er : e ≢ registers + o) where
+module _ (net : Net) (b : Bool) (c e o : ℕ) (v w : Value) (keeps : b ≡ false → w ≡ v) (s : Links) (ce : c ≢ e) (co : c ≢ o) (eo : e ≢ o) (cr : c ≢ registers + o) (er : e ≢ registers + o) where
   abbrev r : ℕ
   r = registers + o
 
@@ -74,7 +75,7 @@ module _ (net : ℕ → Demand) (b : Bool) (c e o : ℕ) (v w : Value) (keeps : 
       out l n (inr (inr z)) = z
 
   -- with the data alone (a first firing)
-  fresh-fires : (d : Demand) (t : Token) → (a : ℕ) × (net a ≡ d) → Consumes d ((r, some t) ∷ (e, some (val v)) ∷ []) given → s r ≡ t ∷ [] → s e ≡ val v ∷ [] → s o ≡ [] → s c ≡ [] →
+  fresh-fires : (d : Demand) (t : Token) → (a : ℕ) × (net .at a ≡ d) × net .Fine (a ∷ []) → Consumes d ((r, some t) ∷ (e, some (val v)) ∷ []) given → s r ≡ t ∷ [] → s e ≡ val v ∷ [] → s o ≡ [] → s c ≡ [] →
       Works net (Touched c e o) 1 (Passed b c e o v) s
   fresh-fires d t at k sr se so sc =
       done xs sub (no off) (yes (inr (inl refl))) (λ i. sc) (λ i. absurd (i (inr (inl refl))))
@@ -94,7 +95,7 @@ module _ (net : ℕ → Demand) (b : Bool) (c e o : ℕ) (v w : Value) (keeps : 
       sub l (inr (inr z)) = absurd z
 
   -- with a control and data
-  both-fire : (d : Demand) (t u : Token) → (a : ℕ) × (net a ≡ d) → Consumes d ((r, some t) ∷ (c, some u) ∷ (e, some (val v)) ∷ []) given → s r ≡ t ∷ [] → s c ≡ u ∷ [] → s e ≡ val v ∷ [] → s o ≡ [] →
+  both-fire : (d : Demand) (t u : Token) → (a : ℕ) × (net .at a ≡ d) × net .Fine (a ∷ []) → Consumes d ((r, some t) ∷ (c, some u) ∷ (e, some (val v)) ∷ []) given → s r ≡ t ∷ [] → s c ≡ u ∷ [] → s e ≡ val v ∷ [] → s o ≡ [] →
       Works net (Touched c e o) 1 (Passed b c e o v) s
   both-fire d t u at k sr sc se so =
       done xs sub (yes (inr (inl refl))) (yes (inr (inr (inl refl)))) (λ i. absurd (i (inr (inl refl)))) (λ i. absurd (i (inr (inr (inl refl)))))
@@ -110,7 +111,7 @@ module _ (net : ℕ → Demand) (b : Bool) (c e o : ℕ) (v w : Value) (keeps : 
       sub l (inr (inr (inr z))) = absurd z
 
 -- The start of a set: e is where the value comes in.
-pub start-gate : (net : ℕ → Demand) (b : Bool) (c i st ow o e : ℕ) (v : Value) (s : Links) → Somewhere net (ringGate b c i st ow o) → cond b st ow ≡ e →
+pub start-gate : (net : Net) (b : Bool) (c i st ow o e : ℕ) (v : Value) (s : Links) → Somewhere net (ringGate b c i st ow o) → cond b st ow ≡ e →
     c ≢ e → c ≢ o → e ≢ o → c ≢ registers + o → e ≢ registers + o → s e ≡ val v ∷ [] → s o ≡ [] → Ready c (registers + o) s → Works net (Touched c e o) 1 (Passed b c e o v) s
 unfolding ringGate nth
 start-gate net true c i st ow o e v s at en ce co eo cr er se so rd = go rd
@@ -139,7 +140,7 @@ start-gate net false c i st ow o e v s at en ce co eo cr er se so rd = go rd
         (0, val w, (refl, refl), (1, val false-value, (refl, refl), (2, val v, (refl, refl), ((refl, (refl, (refl, tt))), refl)))) sr sc se so
 
 -- A further round: FM takes the iterated value.
-pub again-moves : (net : ℕ → Demand) (c i st ow o : ℕ) (v w : Value) (s : Links) → Somewhere net (ringGate true c i st ow o) → c ≢ i → c ≢ o → i ≢ o → c ≢ registers + o → i ≢ registers + o →
+pub again-moves : (net : Net) (c i st ow o : ℕ) (v w : Value) (s : Links) → Somewhere net (ringGate true c i st ow o) → c ≢ i → c ≢ o → i ≢ o → c ≢ registers + o → i ≢ registers + o →
     s c ≡ val true-value ∷ [] → s i ≡ val v ∷ [] → s o ≡ [] → s (registers + o) ≡ val w ∷ [] → Works net (Touched c i o) 1 (Passed true c i o v) s
 unfolding ringGate nth
 again-moves net c i st ow o v w s at ci co io cr ir sc si so sr =
@@ -147,7 +148,7 @@ again-moves net c i st ow o v w s at ci co io cr ir sc si so sr =
     (0, val w, (refl, refl), (1, val true-value, (refl, refl), (2, val v, (refl, refl), ((refl, (refl, (refl, tt))), refl)))) sr sc si so
 
 -- FS repeats what it remembers, and takes its control alone.
-pub again-repeats : (net : ℕ → Demand) (c i st ow o : ℕ) (w : Value) (s : Links) → Somewhere net (ringGate false c i st ow o) → c ≢ o → c ≢ registers + o →
+pub again-repeats : (net : Net) (c i st ow o : ℕ) (w : Value) (s : Links) → Somewhere net (ringGate false c i st ow o) → c ≢ o → c ≢ registers + o →
     s c ≡ val true-value ∷ [] → s o ≡ [] → s (registers + o) ≡ val w ∷ [] →
     Works net (λ l. (l ≡ c) ⊎ ((l ≡ o) ⊎ (l ≡ registers + o))) 1 (λ s′. (s′ c ≡ []) × (s′ o ≡ val w ∷ []) × (s′ (registers + o) ≡ val w ∷ [])) s
 unfolding ringGate nth

@@ -15,9 +15,9 @@ use borrow.Author.Tests.{eqb-true, eq-eqb}
 use Rattle.value.specs.Operators.{operands, pick}
 use Rattle.names.specs.Names.{Names, without}
 use Rattle.network.specs.Net.{Demand}
-use Rattle.pieces.specs.Goes.{stay}
+use Rattle.pieces.specs.Goes.{Net, stay}
 use Rattle.graph.specs.Assembly.{Gate, const, oper, T, F, M, E, IC, Graph, wire, nothing, beside, bind, gate, loop, Env, memberOf, named, spread, rank, total, free, linksOf, outputs, operatorsOf, gateOutputs, gateOf, sharing, sharedLinks, firstUse, secondUse, chain, chainEnds, chainLinks, ring, listed}
-use Rattle.graph.specs.Yields.{Values, Answer, Yields, outputCount, absent, present, bound, Sequel, stops, goes-on, Looped, rests, spins}
+use Rattle.graph.specs.Yields.{Values, Answer, Yields, outputCount, absent, present, bound, Sequel, stops, goes-on, Looped, rests, spins, Cut-looped}
 use Rattle.graph.specs.Fit.{Fit, gateInputs}
 use Rattle.reference.specs.NameSets.{either}
 use Rattle.reference.specs.Plugged.{nowhere, registers, Somewhere, Has, each-first, each-rest, each-ring}
@@ -31,7 +31,7 @@ use Rattle.reference.specs.BehindGate as Gates
 use Rattle.reference.specs.LoopLayout as Lay
 use Rattle.reference.specs.LoopLayout.{spread-envs}
 use Rattle.reference.specs.LoopCore as Core
-use Rattle.reference.specs.LoopCore.{Core-yields}
+use Rattle.reference.specs.LoopCore.{Core-yields, Cut-core}
 use Rattle.reference.specs.GraphLayout.{RingOf, planOf, Layout, layout, free-small, bodyPlan, loop-laid, outs-parts, iterated-length, loop-length, never-bare, enough, envs-up, up-to, first-fits, second-fits, fore-fits, body-fits}
 
 few-operands : (b : Bool) → pick b 1 2 ≤ 3
@@ -58,7 +58,7 @@ rest-long : (k : ℕ) (ls : List ℕ) → suc k ≤ length ls → k ≤ length (
 rest-long k [] le = absurd (omega arith)
 rest-long k (l ∷ ls) le = omega arith
 
-module _ (net : ℕ → Demand) where
+module _ (net : Net) where
   serve-wire : (x n : ℕ) (env : Env) → Serves net (planOf (wire x) n env) (Yields (wire x))
   unfolding free linksOf outputs
   serve-wire x n env ρ c a (ec, ea) s bef =
@@ -102,6 +102,22 @@ module _ (net : ℕ → Demand) where
   looped ns h k r ρ P B e _ _ (stops c p) = stops c p
   looped ns h k r ρ P B e _ _ (spins c d vs a fit p q y) =
       goes-on c d (present vs) a p (Core.spins ρ vs d a fit (λ x m. refl) (λ x m w. q x (m, w)) y)
+
+  -- The same for a loop that is cut.
+  pub cut-looped : (N : ℕ) (ns : List ℕ) (h : Names) (k r : ℕ) (ρ : Values) (P : ℕ → Answer → Type 0) (B C : Values → ℕ → Answer → Type 0) → k ≡ r → (c : ℕ) (a : Answer) →
+      Cut-looped N ns (λ n. (h n ≡ true) × (memberOf ns n ≡ false)) r ρ P (λ vs. B (bound ns (present vs) ρ)) (λ vs. C (bound ns (present vs) ρ)) c a →
+      Sequel P (λ vs. Cut-core ns h k N B C (bound ns vs ρ)) c a
+  cut-looped N ns h k r ρ P B C e _ _ (Cut-looped.rests p q) =
+      subst (λ z. Sequel P (λ vs. Cut-core ns h k N B C (bound ns vs ρ)) 0 (some (absent z))) e
+      (goes-on 0 0 (absent (length ns)) (some (absent k)) p (Cut-core.rests (λ x m. nothing-comes x m (either (memberOf ns x)))))
+    where
+      nothing-comes : (x : ℕ) → h x ≡ true → (memberOf ns x ≡ true) ⊎ (memberOf ns x ≡ false) → bound ns (absent (length ns)) ρ x ≡ none
+      nothing-comes x m (inl w) = bound-absent ns (length ns) ρ x (omega arith) w
+      nothing-comes x m (inr w) = bound-others ns (absent (length ns)) ρ x w ∙ q x (m, w)
+  cut-looped N ns h k r ρ P B C e _ _ (Cut-looped.spins c vs us fit p q y) =
+      let z : c + 0 ≡ c = omega arith in
+      subst (λ d. Sequel P (λ vs. Cut-core ns h k N B C (bound ns vs ρ)) d (some us)) z
+      (goes-on c 0 (present vs) (some us) p (Cut-core.spins ρ vs us fit (λ x m. refl) (λ x m w. q x (m, w)) y))
 
   pub serves : (g : Graph) → Fit g → (n : ℕ) (env : Env) → Envs (free g) env n → n + linksOf g ≤ nowhere → Has net (operatorsOf g n env) → Serves net (planOf g n env) (Yields g)
   unfolding free linksOf outputs operatorsOf

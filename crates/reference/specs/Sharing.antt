@@ -4,21 +4,23 @@ use Prim.Native.Nat.{ℕ, _+_, _*_, _-_, _≤_, _<_, _/_, _%_, zero-le}
 use mathlib.Core.Path.{_≡_, refl, sym, _∙_, ap, subst}
 use mathlib.Core.Logic.{_≢_, _⊎_, inl, inr}
 use mathlib.Core.Bool.{true, false, cond, _&&_}
-use mathlib.Core.List.{[]}
+use mathlib.Core.List.{[], _∷_}
 use mathlib.Core.Option.{Option, none, some}
 use native.Mathlib.Decide.{ℕ-discrete}
 use native.Mathlib.Omega.{arith}
 use Rattle.value.specs.declared.Value.{Value}
 use Rattle.names.specs.Names.{Names, union, common}
+use Rattle.network.specs.Values.{err-value}
+use Rattle.network.specs.Poisoned.{poisoned}
 use Rattle.network.specs.Net.{Demand, Links}
-use Rattle.pieces.specs.Goes.{Steps, stay}
-use Rattle.graph.specs.Assembly.{Env, nameCount, rank, total, sharedLinks, firstUse, secondUse, sharing}
+use Rattle.pieces.specs.Goes.{Net, Steps, stay}
+use Rattle.graph.specs.Assembly.{Env, nameCount, rank, total, sharedLinks, firstUse, secondUse, copyOf, sharing}
 use Rattle.graph.specs.Yields.{Values}
 use Rattle.reference.specs.NameSets.{either, and-left, and-both, or-left, or-right, not-both, rank-total, rank-differs, rank-onto}
-use Rattle.reference.specs.Plugged.{Somewhere, Has, each-copy}
+use Rattle.reference.specs.Plugged.{demandOf, Somewhere, Has, each-copy}
 use Rattle.reference.specs.Plan.{tokens, Laid, Between, Envs, fewer}
 use Rattle.reference.specs.NameRows.{Works, tally, row-works}
-use Rattle.reference.specs.Copies.{copy-fires}
+use Rattle.reference.specs.Copies.{copy-fires, twin-fires}
 
 pub size-is : (f g : Names) → sharedLinks f g ≡ 2 * total (common f g)
 unfolding sharedLinks
@@ -160,16 +162,25 @@ module _ (f g : Names) (n : ℕ) (env : Env) where
         go x r p q (no z) = inr (omega arith)
 
     -- What the copies do.
-    pub record Split (net : ℕ → Demand) (ρ : Values) (s s′ : Links) : Type 0 where
+    pub record Split (net : Net) (ρ : Values) (s s′ : Links) : Type 0 where
       pub steps : Steps net s 0 s′
       pub first : Laid f e₁ ρ s′
       pub second : Laid g e₂ ρ s′
       pub emptied : (x : ℕ) → Shared x → s′ (env x) ≡ []
       pub same : (l : ℕ) → (Between n sh l → ⊥) → ((x : ℕ) → Shared x → l ≡ env x → ⊥) → s′ l ≡ s l
 
-    pub split : (net : ℕ → Demand) (ρ : Values) (s : Links) → Has net (sharing f g n env) → Laid (union f g) env ρ s → ((l : ℕ) → Between n sh l → s l ≡ []) →
-        (s′ : Links) × Split net ρ s s′
-    split net ρ s H laid dry =
+    -- A value that a copy hands on, or that its twin makes err.
+    abbrev pub Change : (net : Net) → ℕ → Option Value → Option Value → Type 0
+    Change net x v v′ =
+        (v′ ≡ v) ⊎ ((u : Value) × (v ≡ some u) × (v′ ≡ some err-value) × ((p : ℕ) × (net .at p ≡ poisoned (demandOf (copyOf (env x) (e₁ x) (e₂ x)))) × net .Fine (p ∷ [])))
+
+    pub record Changes (net : Net) (ρ ρ′ : Values) : Type 0 where
+      pub shared : (x : ℕ) → Shared x → Change net x (ρ x) (ρ′ x)
+      pub alone : (x : ℕ) → f x && g x ≡ false → ρ′ x ≡ ρ x
+
+    pub split-over : (net : Net) (ρ ρ′ : Values) (s : Links) → Has net (sharing f g n env) → Changes net ρ ρ′ → Laid (union f g) env ρ s → ((l : ℕ) → Between n sh l → s l ≡ []) →
+        (s′ : Links) × Split net ρ′ s s′
+    split-over net ρ ρ′ s H ch laid dry =
         let r = row-works net (common f g) 0 F Pre Post apart pre-same post-same step nameCount (λ x e. E .small x (in-first x (shared-first x e))) s pres in (
           r .0,
           record {
@@ -188,7 +199,7 @@ module _ (f g : Names) (n : ℕ) (env : Env) where
         Pre x s = (s (env x) ≡ tokens (ρ x)) × (s (e₁ x) ≡ []) × (s (e₂ x) ≡ [])
 
         Post : ℕ → Links → Type 0
-        Post x s = (s (env x) ≡ []) × (s (e₁ x) ≡ tokens (ρ x)) × (s (e₂ x) ≡ tokens (ρ x))
+        Post x s = (s (env x) ≡ []) × (s (e₁ x) ≡ tokens (ρ′ x)) × (s (e₂ x) ≡ tokens (ρ′ x))
 
         copy-own : (x : ℕ) → Shared x → Between n sh (e₁ x) × Between n sh (e₂ x)
         copy-own x e =
@@ -227,10 +238,12 @@ module _ (f g : Names) (n : ℕ) (env : Env) where
         post-same x s s′ e p = (e (env x) (inl refl) ∙ p .0, e (e₁ x) (inr (inl refl)) ∙ p .1, e (e₂ x) (inr (inr refl)) ∙ p .2)
 
         step : (x : ℕ) → Shared x → (s : Links) → Pre x s → Works net (F x) 0 (Post x) s
-        step x e s p = go (ρ x) (p .0) (p .1) (p .2)
+        step x e s p = change (ch .shared x e)
           where
-            go : (v : Option Value) → s (env x) ≡ tokens v → s (e₁ x) ≡ [] → s (e₂ x) ≡ [] →
-                (s′ : Links) × Steps net s 0 s′ × ((s′ (env x) ≡ []) × (s′ (e₁ x) ≡ tokens v) × (s′ (e₂ x) ≡ tokens v)) × ((l : ℕ) → (F x l → ⊥) → s′ l ≡ s l)
+            Done : Option Value → Type 0
+            Done v = (s′ : Links) × Steps net s 0 s′ × ((s′ (env x) ≡ []) × (s′ (e₁ x) ≡ tokens v) × (s′ (e₂ x) ≡ tokens v)) × ((l : ℕ) → (F x l → ⊥) → s′ l ≡ s l)
+
+            go : (v : Option Value) → s (env x) ≡ tokens v → s (e₁ x) ≡ [] → s (e₂ x) ≡ [] → Done v
             go none a b c = (s, stay net s, (a, b, c), λ l m. refl)
             go (some v) a b c =
                 let o = copy-own x e in
@@ -239,6 +252,16 @@ module _ (f g : Names) (n : ℕ) (env : Env) where
                 let q = second-shared x e in
                 let w = copy-fires net (env x) (e₁ x) (e₂ x) v s (each-copy (Somewhere net) f g n env H x (E .small x (in-first x (shared-first x e))) e) (omega arith) (omega arith) (omega arith) a b c in
                 (w .0, fewer net s (w .0) 1 0 (omega arith) (w .1), w .2, w .3)
+
+            change : Change net x (ρ x) (ρ′ x) → Done (ρ′ x)
+            change (inl z) = subst Done (sym z) (go (ρ x) (p .0) (p .1) (p .2))
+            change (inr (v, is-v, is-err, at)) =
+                let o = copy-own x e in
+                let u = E .below x (in-first x (shared-first x e)) in
+                let a = first-shared x e in
+                let b = second-shared x e in
+                let w = twin-fires net (env x) (e₁ x) (e₂ x) v s at (omega arith) (omega arith) (omega arith) (p .0 ∙ ap tokens is-v) (p .1) (p .2) in
+                subst Done (sym is-err) (w .0, fewer net s (w .0) 1 0 (omega arith) (w .1), w .2, w .3)
 
         pres : (x : ℕ) → Shared x → Pre x s
         pres x e = let o = copy-own x e in (laid x (in-first x (shared-first x e)), dry (e₁ x) (o .0), dry (e₂ x) (o .1))
@@ -254,11 +277,15 @@ module _ (f g : Names) (n : ℕ) (env : Env) where
             (λ z k′ h. let w : x ≡ z = E .differ x z a (in-first z (shared-first z k′)) h in not-both (f x && g x) (subst Shared (sym w) k′) e) y k i)
 
         at-first : (s′ : Links) → ((x : ℕ) → Shared x → Post x s′) → ((l : ℕ) → ((x : ℕ) → Shared x → F x l → ⊥) → s′ l ≡ s l) → (x : ℕ) → f x ≡ true →
-            (f x && g x ≡ true) ⊎ (f x && g x ≡ false) → s′ (e₁ x) ≡ tokens (ρ x)
+            (f x && g x ≡ true) ⊎ (f x && g x ≡ false) → s′ (e₁ x) ≡ tokens (ρ′ x)
         at-first s′ po fr x a (inl e) = po x e .1
-        at-first s′ po fr x a (inr e) = ap s′ (first-alone x e) ∙ alone-same s′ fr x (in-first x a) e ∙ laid x (in-first x a)
+        at-first s′ po fr x a (inr e) = ap s′ (first-alone x e) ∙ alone-same s′ fr x (in-first x a) e ∙ laid x (in-first x a) ∙ ap tokens (sym (ch .alone x e))
 
         at-second : (s′ : Links) → ((x : ℕ) → Shared x → Post x s′) → ((l : ℕ) → ((x : ℕ) → Shared x → F x l → ⊥) → s′ l ≡ s l) → (x : ℕ) → g x ≡ true →
-            (f x && g x ≡ true) ⊎ (f x && g x ≡ false) → s′ (e₂ x) ≡ tokens (ρ x)
+            (f x && g x ≡ true) ⊎ (f x && g x ≡ false) → s′ (e₂ x) ≡ tokens (ρ′ x)
         at-second s′ po fr x a (inl e) = po x e .2
-        at-second s′ po fr x a (inr e) = ap s′ (second-alone x e) ∙ alone-same s′ fr x (in-second x a) e ∙ laid x (in-second x a)
+        at-second s′ po fr x a (inr e) = ap s′ (second-alone x e) ∙ alone-same s′ fr x (in-second x a) e ∙ laid x (in-second x a) ∙ ap tokens (sym (ch .alone x e))
+
+    pub split : (net : Net) (ρ : Values) (s : Links) → Has net (sharing f g n env) → Laid (union f g) env ρ s → ((l : ℕ) → Between n sh l → s l ≡ []) →
+        (s′ : Links) × Split net ρ s s′
+    split net ρ s H = split-over net ρ ρ s H (record { shared = λ x e. inl refl; alone = λ x e. refl })

@@ -9,7 +9,7 @@ use Rattle.value.specs.declared.Value.{Value}
 use Rattle.names.specs.Names.{Names, union}
 use Rattle.network.specs.Net.{Demand, Links}
 use Rattle.network.specs.Uses.{In}
-use Rattle.pieces.specs.Goes.{Steps, steps-then, steps-long}
+use Rattle.pieces.specs.Goes.{Net, Steps, steps-then, steps-long}
 use Rattle.pieces.specs.Rows.{in-front, in-back, in-app}
 use Rattle.pieces.specs.Sets.{Different}
 use Rattle.graph.specs.Assembly.{Env, sharedLinks, secondUse, sharing}
@@ -37,7 +37,7 @@ module _ (f g : Names) (n ka kb : ℕ) (env : Env) (oa ob : List ℕ) (RA RB : �
   W = Parts.Whole f g n ka kb env oa ob RA RB os
 
   module _ (own-A : (c r : ℕ) → RA c r → Own A c × Register A r) (own-B : (c r : ℕ) → RB c r → Own B c × Register B r)
-      (fits : n + (sharedLinks f g + (ka + kb)) ≤ nowhere) (net : ℕ → Demand) (H : Has net (sharing f g n env)) (ρ : Values) (s : Links) (bef : Before W ρ s) where
+      (fits : n + (sharedLinks f g + (ka + kb)) ≤ nowhere) (net : Net) (H : Has net (sharing f g n env)) (ρ : Values) (s : Links) (bef : Before W ρ s) where
     first-control : (l : ℕ) → Own A l → (Control A l → ⊥) → Control W l → ⊥
     first-control l o n (r, inl k) = n (r, k)
     first-control l o n (r, inr k) = omega (arith, own-B l r k .0)
@@ -46,19 +46,20 @@ module _ (f g : Names) (n ka kb : ℕ) (env : Env) (oa ob : List ℕ) (RA RB : �
     second-control l o n (r, inl k) = omega (arith, own-A l r k .0)
     second-control l o n (r, inr k) = n (r, k)
 
-    copy-control : (l : ℕ) → Between n (sharedLinks f g) l → Control W l → ⊥
+    pub copy-control : (l : ℕ) → Between n (sharedLinks f g) l → Control W l → ⊥
     copy-control l o (r, inl k) = omega (arith, own-A l r k .0)
     copy-control l o (r, inr k) = omega (arith, own-B l r k .0)
 
     pub copied : (s′ : Links) × Split f g n env E net ρ s s′
     copied = split f g n env E net ρ s H (bef .laid) (λ l b. bef .clear l (omega arith, omega arith) (copy-control l b))
 
-    module _ (s₁ : Links) (S : Split f g n env E net ρ s s₁) where
+    -- the copies may have changed values: to those of ρ′
+    module _ (ρ′ : Values) (s₁ : Links) (S : Split f g n env E net ρ′ s s₁) where
       -- beyond the copies nothing has changed
       pub beyond : (l : ℕ) → n + sharedLinks f g ≤ l → s₁ l ≡ s l
       beyond l le = S .same l (λ b. omega arith) (λ x e z. let q = E .below x (or-left (f x) (g x) (and-left (f x) (g x) e)) in omega arith)
 
-      pub before-first : Before A ρ s₁
+      pub before-first : Before A ρ′ s₁
       before-first =
           record {
             laid = S .first;
@@ -115,10 +116,10 @@ module _ (f g : Names) (n ka kb : ℕ) (env : Env) (oa ob : List ℕ) (RA RB : �
         off c r (inr k) i =
             ⊎-elim (λ (j : In c oa). Parts.zones-apart f g n ka kb env oa ob RA RB os E c (SP .outs-zone c j) (inl (SQ .ring-own c r k .0))) (SQ .ring-off c r k) (in-app c oa ob i)
 
-    module _ (net : ℕ → Demand) (H : Has net (sharing f g n env)) (M N : Values → ℕ → Answer → Type 0) (SM : Serves net P M) (SN : Serves net Q N) where
+    module _ (net : Net) (H : Has net (sharing f g n env)) (M N : Values → ℕ → Answer → Type 0) (SM : Serves net P M) (SN : Serves net Q N) where
       module _ (ρ : Values) (s : Links) (bef : Before Pair ρ s) (s₁ : Links) (S : Split f g n env E net ρ s s₁) where
         to-first : Before P ρ s₁
-        to-first = before-first f g n ka kb env oa ob RA RB os E (SP .ring-own) (SQ .ring-own) fits net H ρ s bef s₁ S
+        to-first = before-first f g n ka kb env oa ob RA RB os E (SP .ring-own) (SQ .ring-own) fits net H ρ s bef ρ s₁ S
 
         module _ (s₂ : Links) (vs : List (Option Value)) (X : After P s₁ s₂ vs) where
           own-same : (l : ℕ) → Zone Q l → s₂ l ≡ s₁ l
@@ -131,8 +132,8 @@ module _ (f g : Names) (n ka kb : ℕ) (env : Env) (oa ob : List ℕ) (RA RB : �
           to-second =
               record {
                 laid = λ x e. own-same (secondUse f g n env x) (inr (x, e, refl)) ∙ S .second x e;
-                clear = second-clear f g n ka kb env oa ob RA RB os E (SP .ring-own) (SQ .ring-own) fits net H ρ s bef s₁ S s₂ (λ l o. own-same l (inl o));
-                ready = second-ready f g n ka kb env oa ob RA RB os E (SP .ring-own) (SQ .ring-own) fits net H ρ s bef s₁ S s₂ (λ l o. own-same l (inl o)) register-same;
+                clear = second-clear f g n ka kb env oa ob RA RB os E (SP .ring-own) (SQ .ring-own) fits net H ρ s bef ρ s₁ S s₂ (λ l o. own-same l (inl o));
+                ready = second-ready f g n ka kb env oa ob RA RB os E (SP .ring-own) (SQ .ring-own) fits net H ρ s bef ρ s₁ S s₂ (λ l o. own-same l (inl o)) register-same;
                 void = X .same nowhere (Parts.nowhere-outside-first f g n ka kb env oa ob RA RB os E fits) ∙ to-first .void;
               }
 
@@ -165,7 +166,7 @@ module _ (f g : Names) (n ka kb : ℕ) (env : Env) (oa ob : List ℕ) (RA RB : �
                 same : (l : ℕ) → Outside Pair l → s₃ l ≡ s l
                 same l u =
                     Y .same l (Parts.outside-second f g n ka kb env oa ob RA RB os E l u) ∙ X .same l (Parts.outside-first f g n ka kb env oa ob RA RB os E l u)
-                    ∙ untouched f g n ka kb env oa ob RA RB os E (SP .ring-own) (SQ .ring-own) fits net H ρ s bef s₁ S l u
+                    ∙ untouched f g n ka kb env oa ob RA RB os E (SP .ring-own) (SQ .ring-own) fits net H ρ s bef ρ s₁ S l u
 
           lead-second : (c d : ℕ) → Steps net s₁ c s₂ → (a : Answer) → Leads net Q s₂ d a → Leads net Pair s (c + d) (before vs a)
           lead-second c d t none L =

@@ -13,7 +13,7 @@ use Rattle.value.specs.declared.Value.{Value}
 use Rattle.network.specs.Net.{Token, mark, Demand, Links}
 use Rattle.network.specs.Uses.{In}
 use Rattle.pieces.specs.Load.{Load, opt, set-link, set-same, set-other, set-ext, put, put-app, put-off, put-set, On, on-app, Clear}
-use Rattle.pieces.specs.Goes.{Steps, Long}
+use Rattle.pieces.specs.Goes.{Net, Steps, Long}
 use Rattle.pieces.specs.Piece.{load, load-in, Piece, Region, Neat, Means}
 use Rattle.pieces.specs.Piece as Pieces
 use Rattle.pieces.specs.Sets.{Different}
@@ -323,7 +323,7 @@ module _ (g : Graph) (n : ℕ) (env : Env) (source credit : ℕ) where
                 go (no e) (no c) (no i) = τ-there b l i ∙ cl l (in-region l e c) ∙ sym (plain l e c ∙ rest-empty l i no-out)
 
     -- The whole graph has the schedule lemma as the pieces state it.
-    pub whole-serves : (net : ℕ → Demand) → Has net (operatorsOf g n env) → Unused net source → Unused net credit → Pieces.Serves net whole yields
+    pub whole-serves : (net : Net) → Has net (operatorsOf g n env) → Unused (net .at) source → Unused (net .at) credit → Pieces.Serves net whole yields
     whole-serves net H Us Uc vs c a y σ I = go a (serves net g ft n env E fits H (ρ vs σ I) c a y (s₀ vs σ I) (before vs σ I))
       where
         go : (a : Answer) → Leads net plan (s₀ vs σ I) c a → Pieces.Leads net (Region whole) (load inputs vs ++ σ) results Idle-load c a

@@ -2,3 +2,5 @@
 pub mod Schedules
 pub mod Counts
 pub mod Progress
+pub mod Twins
+pub mod Rounds

@@ -5,6 +5,7 @@ pub mod Wiring
 pub mod Ports
 pub mod PortedGraphs
 pub mod Machine
+pub mod AtRest
 pub mod Counts
 pub mod RowCounts
 pub mod ChoiceCounts
@@ -12,3 +13,4 @@ pub mod JoinCounts
 pub mod FormulaCounts
 pub mod MadeGraph
 pub mod LesserOfTwo
+pub mod SmallestLoop

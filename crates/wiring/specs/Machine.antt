@@ -10,9 +10,10 @@ use mathlib.Core.Option.{Option, some}
 use lib.ListN.{length}
 use native.Mathlib.Omega.{arith}
 use Rattle.network.specs.Rules.{Input, first as input₁, second as input₂, third as input₃}
-use Rattle.network.specs.Net.{Demand, halt}
+use Rattle.network.specs.Net.{Token, Demand, ask, halt}
 use Rattle.network.specs.Fill.{input}
-use Rattle.network.specs.Commute.{Free}
+use Rattle.network.specs.Commute.{Free, Never-emits}
+use Rattle.network.specs.Poisoned.{plain, twinned}
 use Rattle.network.specs.Wired.{Uses, never-asks, never-emits}
 use Rattle.network.specs.Ends.{machine}
 use Rattle.network.specs.Uses.{In, inputs, Takes-from, Puts-onto, fill-uses}
@@ -23,7 +24,9 @@ use Rattle.graph.specs.Assembly.{Graph, free, Env, Operator, linksOf, outputs, 
 use Rattle.graph.specs.Fit.{Fit}
 use Rattle.reference.specs.Plan.{Between, Envs}
 use Rattle.reference.specs.Plugged.{nowhere, registers, link-of, portsOf, demandOf, Each, Numbered, Has, numbered-has}
+use Rattle.pieces.specs.Goes.{any-list}
 use Rattle.reference.specs.Bystanders.{Unused}
+use Rattle.reference.specs.TwinNets.{Tested, tested-twinned}
 use Rattle.reference.specs.WholeGraph.{whole, yields, Idle-load}
 use Rattle.reference.specs.GraphBench.{ends-apart, fresh, fresh-is-idle, graph-bench}
 use Rattle.wiring.specs.Links.{optional, inputLinks, outputLinks}
@@ -37,14 +40,14 @@ netOf [] i = halt
 netOf (o ∷ os) zero = demandOf o
 netOf (o ∷ os) (suc i) = netOf os i
 
-numbered-from : (net : ℕ → Demand) (m : ℕ) (os : List Operator) → ((i : ℕ) → net (m + i) ≡ netOf os i) → Numbered net m os
+numbered-from : (net : ℕ → Demand) (m : ℕ) (os : List Operator) → ((i : ℕ) → net (m + i) ≡ netOf os i) → Numbered (any-list net) m os
 numbered-from net m [] h = tt
 numbered-from net m (o ∷ os) h =
-    (ap net (omega arith) ∙ h 0, numbered-from net (suc m) os (λ i. ap net (omega arith) ∙ h (suc i)))
+    (ap net (omega arith) ∙ h 0, tt, numbered-from net (suc m) os (λ i. ap net (omega arith) ∙ h (suc i)))
 
 -- It has them all, each under its position.
-pub net-has : (os : List Operator) → Has (netOf os) os
-net-has os = numbered-has (netOf os) 0 os (numbered-from (netOf os) 0 os (λ i. ap (netOf os) (omega arith)))
+pub net-has : (os : List Operator) → Has (any-list (netOf os)) os
+net-has os = numbered-has (any-list (netOf os)) 0 os (numbered-from (netOf os) 0 os (λ i. ap (netOf os) (omega arith)))
 
 -- A number past the last is no operator.
 pub net-past : (os : List Operator) (i : ℕ) → length os ≤ i → netOf os i ≡ halt
@@ -238,6 +241,15 @@ module _ (g : Graph) (n : ℕ) (env : Env) (fit : Fit g) (E : Envs (free g) env 
         asks = λ i. never-asks (TakesAt ops i) (PutsAt ops i) (netOf ops i) (net-uses ops i) l (takes-no-spare i l s);
         emits = λ i. never-emits (TakesAt ops i) (PutsAt ops i) (netOf ops i) (net-uses ops i) l (puts-no-spare i l s);
       }
+
+  -- Where one operator puts, no other does; so three operators that hand on a test are tested in the net with twins.
+  pub puts-alone : (i l : ℕ) → PutsAt ops i l → (e : ℕ) → i ≢ e → Never-emits (netOf ops e) l
+  puts-alone i l s e ne = never-emits (TakesAt ops e) (PutsAt ops e) (netOf ops e) (net-uses ops e) l (λ t. ne (one-putter i e l s t))
+
+  pub tested-at : (T a b c l₁ l₂ it : ℕ) (j k : Token → Demand) → PutsAt ops a l₁ → PutsAt ops b l₂ → PutsAt ops c it → netOf ops b ≡ ask l₁ j → netOf ops c ≡ ask l₂ k →
+      Tested (twinned (netOf ops) T) (plain (netOf ops) T) a b c l₁ l₂ it
+  tested-at T a b c l₁ l₂ it j k p q r s t =
+      tested-twinned (netOf ops) T a b c l₁ l₂ it j k (puts-alone a l₁ p) (puts-alone b l₂ q) (puts-alone c it r) s t
 
   -- Push and take beside the graph: they have numbers past the last operator, the inputs are links below the graph's own, the results its outputs.
   pub record Ends (push take source credit : ℕ) (ins : List ℕ) : Type 0 where

@@ -13,7 +13,7 @@ use Rattle.formula.specs.Widths.{width}
 use Rattle.formula.specs.Free.{freeE, freeB}
 use Rattle.formula.specs.Admitted.{AdmittedE, AdmittedB}
 use Rattle.graph.specs.Assembly.{Graph, wire, nothing, beside, bind, gate, loop, free, memberOf, gateOutputs}
-use Rattle.graph.specs.Yields.{Values, absent, bound, outputCount, Yields, Sequel, Beside, Gated, Looped, Fires}
+use Rattle.graph.specs.Yields.{Values, absent, bound, outputCount, YieldsIn, Sequel, Beside, Gated, loop-rests, Fires}
 use Rattle.graph.specs.Fit.{Fit}
 use Rattle.graph.specs.Translation.{graphE, graphB}
 use Rattle.yields.specs.Naming.{or-left, or-right}
@@ -35,33 +35,33 @@ nothing-bound ns f ρ h k e = go (memberOf ns k) refl
     go true m = bound-absent ρ ns k m
     go false m = bound-other ρ ns (absent (length ns)) k m ∙ h k e m
 
-pub absence : (g : Graph) → Fit g → (ρ : Values) → NothingAt (free g) ρ → Yields g ρ 0 (some (absent (outputCount g)))
+pub absence : (cut : Option ℕ) (g : Graph) → Fit g → (ρ : Values) → NothingAt (free g) ρ → YieldsIn cut g ρ 0 (some (absent (outputCount g)))
 unfolding free outputCount gateOutputs
-absence (wire x) f ρ h = (refl, ap (λ (v : Option _). some (v ∷ [])) (sym (h x (eq-eqb x x refl))))
-absence nothing f ρ h = (refl, refl)
-absence (beside a b) f ρ h =
-    subst (λ vs. Yields (beside a b) ρ 0 (some vs)) (absent-append (outputCount a) (outputCount b))
+absence cut (wire x) f ρ h = (refl, ap (λ (v : Option _). some (v ∷ [])) (sym (h x (eq-eqb x x refl))))
+absence cut nothing f ρ h = (refl, refl)
+absence cut (beside a b) f ρ h =
+    subst (λ vs. YieldsIn cut (beside a b) ρ 0 (some vs)) (absent-append (outputCount a) (outputCount b))
     (Beside.goes-on 0 0 (absent (outputCount a)) (some (absent (outputCount b)))
-    (absence a (f .0) ρ (λ k e. h k (or-left (free a k) (free b k) e))) (absence b (f .1) ρ (λ k e. h k (or-right (free a k) (free b k) e))))
-absence (bind ns a b) f ρ h =
+    (absence cut a (f .0) ρ (λ k e. h k (or-left (free a k) (free b k) e))) (absence cut b (f .1) ρ (λ k e. h k (or-right (free a k) (free b k) e))))
+absence cut (bind ns a b) f ρ h =
     Sequel.goes-on 0 0 (absent (length ns)) (some (absent (outputCount b)))
-    (subst (λ n. Yields a ρ 0 (some (absent n))) (f .2) (absence a (f .0) ρ (λ k e. h k (or-left (free a k) _ e))))
-    (absence b (f .1) (bound ns (absent (length ns)) ρ)
+    (subst (λ n. YieldsIn cut a ρ 0 (some (absent n))) (f .2) (absence cut a (f .0) ρ (λ k e. h k (or-left (free a k) _ e))))
+    (absence cut b (f .1) (bound ns (absent (length ns)) ρ)
     (nothing-bound ns (free b) ρ
     (λ k e m. h k (or-right (free a k) (free b k && not (memberOf ns k)) (kept (free b k) (memberOf ns k) m ∙ e)))))
-absence (gate g a) f ρ h =
-    Gated.ends 0 (absent (outputCount a)) (absent (gateOutputs g)) (absence a (f .0) ρ h) (Fires.rests g (outputCount a))
-absence (loop ns a b) f ρ h =
-    Looped.rests (subst (λ n. Yields a ρ 0 (some (absent n))) (f .2) (absence a (f .0) ρ (λ k e. h k (or-left (free a k) _ e))))
+absence cut (gate g a) f ρ h =
+    Gated.ends 0 (absent (outputCount a)) (absent (gateOutputs g)) (absence cut a (f .0) ρ h) (Fires.rests g (outputCount a))
+absence cut (loop ns a b) f ρ h =
+    loop-rests cut ns _ (outputCount (loop ns a b)) ρ (YieldsIn cut a ρ) _ _ (subst (λ n. YieldsIn cut a ρ 0 (some (absent n))) (f .2) (absence cut a (f .0) ρ (λ k e. h k (or-left (free a k) _ e))))
     (λ k o. h k (or-right (free a k) (free b k && not (memberOf ns k)) (kept (free b k) (memberOf ns k) (o .1) ∙ o .0)))
 
-pub absence-E : (x : Exp) → AdmittedE x → (ρ : Values) → NothingAt (freeE x) ρ → Yields (graphE x) ρ 0 (some (absent (width x)))
-absence-E x h ρ n =
-    subst (λ k. Yields (graphE x) ρ 0 (some (absent k))) (count-E x h)
-    (absence (graphE x) (fit-E x h) ρ (λ k e. n k (sym (free-E x h k) ∙ e)))
+pub absence-E : (cut : Option ℕ) (x : Exp) → AdmittedE x → (ρ : Values) → NothingAt (freeE x) ρ → YieldsIn cut (graphE x) ρ 0 (some (absent (width x)))
+absence-E cut x h ρ n =
+    subst (λ k. YieldsIn cut (graphE x) ρ 0 (some (absent k))) (count-E x h)
+    (absence cut (graphE x) (fit-E x h) ρ (λ k e. n k (sym (free-E x h k) ∙ e)))
 
-pub absence-B : (w : ℕ) (y : Body) → AdmittedB y → Returning w y → (ρ : Values) → NothingAt (freeB y) ρ
-    → Yields (graphB w y) ρ 0 (some (absent (suc (iteratedOutputs y + returnedOutputs w y))))
-absence-B w y h r ρ n =
-    subst (λ k. Yields (graphB w y) ρ 0 (some (absent k))) (count-B w y h r)
-    (absence (graphB w y) (fit-B w y h r) ρ (λ k e. n k (sym (free-B w y h k) ∙ e)))
+pub absence-B : (cut : Option ℕ) (w : ℕ) (y : Body) → AdmittedB y → Returning w y → (ρ : Values) → NothingAt (freeB y) ρ
+    → YieldsIn cut (graphB w y) ρ 0 (some (absent (suc (iteratedOutputs y + returnedOutputs w y))))
+absence-B cut w y h r ρ n =
+    subst (λ k. YieldsIn cut (graphB w y) ρ 0 (some (absent k))) (count-B w y h r)
+    (absence cut (graphB w y) (fit-B w y h r) ρ (λ k e. n k (sym (free-B w y h k) ∙ e)))

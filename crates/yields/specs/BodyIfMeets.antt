@@ -18,7 +18,7 @@ use Rattle.formula.specs.Admitted.{AdmittedB}
 use Rattle.meaning.specs.Meaning.{Env, bind, Outcome, yields, Ending, again, returns, thenB, branch, evalE, evalB}
 use Rattle.meaning.specs.WidthLaws.{SizedB}
 use Rattle.graph.specs.Assembly.{Graph}
-use Rattle.graph.specs.Yields.{Values, absent, present, bound, Yields}
+use Rattle.graph.specs.Yields.{Values, absent, present, bound, YieldsIn}
 use Rattle.graph.specs.Translation.{testName, armNames, joined, graphB}
 use Rattle.yields.specs.Naming.{or-left, or-right}
 use Rattle.yields.specs.BodyWidths.{iteratedOutputs, returnedOutputs, iterated-outputs, returned-outputs}
@@ -114,20 +114,23 @@ module _ (w : ℕ) (t : Exp) (x y : Body) (adm : AdmittedB (ifB t x y)) (r : Ret
       bound-other (bound (armNames true w x) xs ρ) (armNames false w y) ys testName (arm-from-test false w y testName (omega arith))
       ∙ bound-other ρ (armNames true w x) xs testName (arm-from-test true w x testName (omega arith))
 
-  module _ (env : Env) (ρ : Values) (hx : Holds (freeB x) env ρ) (hy : Holds (freeB y) env ρ) (l : ℕ) where
+  -- the environment of the second arm where the first got nothing
+  abbrev pub passed : Values → Values
+  passed ρ = bound (armNames true w x) (absent (length (armNames true w x))) ρ
+
+  pub passed-holds : (env : Env) (ρ : Values) → Holds (freeB y) env ρ → Holds (freeB y) env (passed ρ)
+  passed-holds env ρ hy = holds-beside (freeB y) env ρ (armNames true w x) _ (λ k i. arm-from-test true w x k (omega arith)) hy
+
+  module _ (cut : Option ℕ) (env : Env) (ρ : Values) (hx : Holds (freeB x) env ρ) (hy : Holds (freeB y) env ρ) (l : ℕ) where
     every-x : AllAt (freeB x) ρ
     every-x = all-held (freeB x) env ρ (small-B x (adm .2)) hx
 
     every-y : AllAt (freeB y) ρ
     every-y = all-held (freeB y) env ρ (small-B y (adm .3)) hy
 
-    -- the environment of the second arm where the first got nothing
-    abbrev passed : Values
-    passed = bound (armNames true w x) (absent (length (armNames true w x))) ρ
-
-    first-quiet : (ys : List (Option Value)) → Given true w x (bound (armNames false w y) ys passed) none (absent (iteratedOutputs x)) (absent (returnedOutputs w x))
+    first-quiet : (ys : List (Option Value)) → Given true w x (bound (armNames false w y) ys (passed ρ)) none (absent (iteratedOutputs x)) (absent (returnedOutputs w x))
     first-quiet ys =
-        given-still w x y passed none (absent (iteratedOutputs x)) (absent (returnedOutputs w x)) ys nx (given-nothing true w x ρ nx)
+        given-still w x y (passed ρ) none (absent (iteratedOutputs x)) (absent (returnedOutputs w x)) ys nx (given-nothing true w x ρ nx)
 
     first-gives : (a : Option Value) (is rs ys : List (Option Value)) → length is ≡ iteratedOutputs x → length rs ≡ returnedOutputs w x
         → Given true w x (bound (armNames false w y) ys (bound (armNames true w x) (a ∷ (is ++ rs)) ρ)) a is rs
@@ -136,62 +139,62 @@ module _ (w : ℕ) (t : Exp) (x y : Body) (adm : AdmittedB (ifB t x y)) (r : Ret
     abbrev K : ℕ
     K = iteratedOutputs (ifB t x y)
 
-    if-true : ρ testName ≡ some true-value → (o : Ending) → SizedB (iterated x) w o → EndsAs x o
-        → MeetsB (iteratedOutputs x) (returnedOutputs w x) (Yields (graphB w x) ρ) l o → MeetsB K w (Yields body-behind ρ) l o
+    pub if-true : ρ testName ≡ some true-value → (o : Ending) → SizedB (iterated x) w o → EndsAs x o
+        → MeetsB (iteratedOutputs x) (returnedOutputs w x) (YieldsIn cut (graphB w x) ρ) l o → MeetsB K w (YieldsIn cut body-behind ρ) l o
     if-true e (again vs m) s d p =
-        chosen-true (armNames true w x) (freeB x) (graphB w x) (armNames false w y) (freeB y) (graphB w y) (joined w x y) body-arms ρ true-value e every-x every-y
+        chosen-true (armNames true w x) (freeB x) (graphB w x) (armNames false w y) (freeB y) (graphB w y) (joined w x y) body-arms cut ρ true-value e every-x every-y
         refl (l - m) (some true-value ∷ (present vs ++ absent (returnedOutputs w x))) (some true-value ∷ (present vs ++ absent w)) p
-        (first-iterates w t x y adm nx ny _ (returnedOutputs w x) (iteratedOutputs y) (returnedOutputs w y) vs (test-still ρ _ _ ∙ e) d (s .0)
+        (first-iterates cut w t x y adm nx ny _ (returnedOutputs w x) (iteratedOutputs y) (returnedOutputs w y) vs (test-still ρ _ _ ∙ e) d (s .0)
         (first-gives (some true-value) (present vs) (absent (returnedOutputs w x)) _ (length-present vs ∙ s .0 ∙ sym (iterated-outputs x))
         (length-absent (returnedOutputs w x)))
         (given-nothing false w y _ ny))
     if-true e (returns vs m) s d p =
-        chosen-true (armNames true w x) (freeB x) (graphB w x) (armNames false w y) (freeB y) (graphB w y) (joined w x y) body-arms ρ true-value e every-x every-y
+        chosen-true (armNames true w x) (freeB x) (graphB w x) (armNames false w y) (freeB y) (graphB w y) (joined w x y) body-arms cut ρ true-value e every-x every-y
         refl (l - m) (some false-value ∷ (absent (iteratedOutputs x) ++ present vs)) (some false-value ∷ (absent K ++ present vs)) p
-        (first-returns w t x y adm nx ny _ (iteratedOutputs x) (iteratedOutputs y) (returnedOutputs w y) vs (test-still ρ _ _ ∙ e) d s
+        (first-returns cut w t x y adm nx ny _ (iteratedOutputs x) (iteratedOutputs y) (returnedOutputs w y) vs (test-still ρ _ _ ∙ e) d s
         (first-gives (some false-value) (absent (iteratedOutputs x)) (present vs) _ (length-absent (iteratedOutputs x))
         (length-present vs ∙ s ∙ sym (returned-outputs w x d)))
         (given-nothing false w y _ ny))
     if-true e Ending.unfinished s d p =
-        chosen-true-stops (armNames true w x) (freeB x) (graphB w x) (armNames false w y) (freeB y) (graphB w y) (joined w x y) body-arms ρ true-value e every-x
+        chosen-true-stops (armNames true w x) (freeB x) (graphB w x) (armNames false w y) (freeB y) (graphB w y) (joined w x y) body-arms cut ρ true-value e every-x
         every-y refl l p
 
-    if-false : ρ testName ≡ some false-value → (o : Ending) → SizedB (iterated y) w o → EndsAs y o
-        → MeetsB (iteratedOutputs y) (returnedOutputs w y) (Yields (graphB w y) passed) l o → MeetsB K w (Yields body-behind ρ) l o
+    pub if-false : ρ testName ≡ some false-value → (o : Ending) → SizedB (iterated y) w o → EndsAs y o
+        → MeetsB (iteratedOutputs y) (returnedOutputs w y) (YieldsIn cut (graphB w y) (passed ρ)) l o → MeetsB K w (YieldsIn cut body-behind ρ) l o
     if-false e (again vs m) s d p =
-        chosen-false (armNames true w x) (freeB x) (graphB w x) (armNames false w y) (freeB y) (graphB w y) (joined w x y) body-arms ρ false-value e every-x every-y
+        chosen-false (armNames true w x) (freeB x) (graphB w x) (armNames false w y) (freeB y) (graphB w y) (joined w x y) body-arms cut ρ false-value e every-x every-y
         refl (l - m) (some true-value ∷ (present vs ++ absent (returnedOutputs w y))) (some true-value ∷ (present vs ++ absent w)) p
-        (second-iterates w t x y adm nx ny _ (returnedOutputs w y) (iteratedOutputs x) (returnedOutputs w x) vs (test-still ρ _ _ ∙ e) d (s .0)
+        (second-iterates cut w t x y adm nx ny _ (returnedOutputs w y) (iteratedOutputs x) (returnedOutputs w x) vs (test-still ρ _ _ ∙ e) d (s .0)
         (first-quiet _)
-        (given false w y passed (some true-value) (present vs) (absent (returnedOutputs w y)) ny (length-present vs ∙ s .0 ∙ sym (iterated-outputs y))
+        (given false w y (passed ρ) (some true-value) (present vs) (absent (returnedOutputs w y)) ny (length-present vs ∙ s .0 ∙ sym (iterated-outputs y))
         (length-absent (returnedOutputs w y))))
     if-false e (returns vs m) s d p =
-        chosen-false (armNames true w x) (freeB x) (graphB w x) (armNames false w y) (freeB y) (graphB w y) (joined w x y) body-arms ρ false-value e every-x every-y
+        chosen-false (armNames true w x) (freeB x) (graphB w x) (armNames false w y) (freeB y) (graphB w y) (joined w x y) body-arms cut ρ false-value e every-x every-y
         refl (l - m) (some false-value ∷ (absent (iteratedOutputs y) ++ present vs)) (some false-value ∷ (absent K ++ present vs)) p
-        (second-returns w t x y adm nx ny _ (iteratedOutputs y) (iteratedOutputs x) (returnedOutputs w x) vs (test-still ρ _ _ ∙ e) d s (first-quiet _)
-        (given false w y passed (some false-value) (absent (iteratedOutputs y)) (present vs) ny (length-absent (iteratedOutputs y))
+        (second-returns cut w t x y adm nx ny _ (iteratedOutputs y) (iteratedOutputs x) (returnedOutputs w x) vs (test-still ρ _ _ ∙ e) d s (first-quiet _)
+        (given false w y (passed ρ) (some false-value) (absent (iteratedOutputs y)) (present vs) ny (length-absent (iteratedOutputs y))
         (length-present vs ∙ s ∙ sym (returned-outputs w y d))))
     if-false e Ending.unfinished s d p =
-        chosen-false-stops (armNames true w x) (freeB x) (graphB w x) (armNames false w y) (freeB y) (graphB w y) (joined w x y) body-arms ρ false-value e every-x
+        chosen-false-stops (armNames true w x) (freeB x) (graphB w x) (armNames false w y) (freeB y) (graphB w y) (joined w x y) body-arms cut ρ false-value e every-x
         every-y refl l p
 
-    if-neither : (v : Value) → ρ testName ≡ some v → sense v ≡ is-neither → MeetsB K w (Yields body-behind ρ) l (returns (replicate w Err) l)
+    pub if-neither : (v : Value) → ρ testName ≡ some v → sense v ≡ is-neither → MeetsB K w (YieldsIn cut body-behind ρ) l (returns (replicate w Err) l)
     if-neither v e s =
         let z : 0 ≡ l - l = omega arith in
-        subst (λ n. Yields body-behind ρ n (some (some false-value ∷ (absent K ++ present (replicate w Err))))) z
-        (chosen-neither (armNames true w x) (freeB x) (graphB w x) (armNames false w y) (freeB y) (graphB w y) (joined w x y) body-arms ρ v e every-x every-y s
+        subst (λ n. YieldsIn cut body-behind ρ n (some (some false-value ∷ (absent K ++ present (replicate w Err))))) z
+        (chosen-neither (armNames true w x) (freeB x) (graphB w x) (armNames false w y) (freeB y) (graphB w y) (joined w x y) body-arms cut ρ v e every-x every-y s
         (some false-value ∷ (absent K ++ present (replicate w Err)))
-        (neither-arm w t x y adm nx ny _ (iteratedOutputs x) (returnedOutputs w x) (iteratedOutputs y) (returnedOutputs w y) v (test-still ρ _ _ ∙ e) s
+        (neither-arm cut w t x y adm nx ny _ (iteratedOutputs x) (returnedOutputs w x) (iteratedOutputs y) (returnedOutputs w y) v (test-still ρ _ _ ∙ e) s
         (first-quiet _) (given-nothing false w y _ ny)))
 
     pub body-if : (v : Value) → ρ testName ≡ some v → SizedB (iterated x) w (evalB x w env l) → SizedB (iterated y) w (evalB y w env l)
-        → ((σ : Values) → Holds (freeB x) env σ → MeetsB (iteratedOutputs x) (returnedOutputs w x) (Yields (graphB w x) σ) l (evalB x w env l))
-        → ((σ : Values) → Holds (freeB y) env σ → MeetsB (iteratedOutputs y) (returnedOutputs w y) (Yields (graphB w y) σ) l (evalB y w env l))
-        → MeetsB K w (Yields body-behind ρ) l (branch v (returns (replicate w Err) l) (λ _. evalB x w env l) (λ _. evalB y w env l))
+        → ((σ : Values) → Holds (freeB x) env σ → MeetsB (iteratedOutputs x) (returnedOutputs w x) (YieldsIn cut (graphB w x) σ) l (evalB x w env l))
+        → ((σ : Values) → Holds (freeB y) env σ → MeetsB (iteratedOutputs y) (returnedOutputs w y) (YieldsIn cut (graphB w y) σ) l (evalB y w env l))
+        → MeetsB K w (YieldsIn cut body-behind ρ) l (branch v (returns (replicate w Err) l) (λ _. evalB x w env l) (λ _. evalB y w env l))
     unfolding branch
     body-if (Whole z) e sx sy p q = if-neither (Whole z) e refl
     body-if (Truth true) e sx sy p q = if-true e (evalB x w env l) sx (ends-as x w env l) (p ρ hx)
     body-if (Truth false) e sx sy p q =
         if-false e (evalB y w env l) sy (ends-as y w env l)
-        (q passed (holds-beside (freeB y) env ρ (armNames true w x) _ (λ k i. arm-from-test true w x k (omega arith)) hy))
+        (q (passed ρ) (passed-holds env ρ hy))
     body-if Err e sx sy p q = if-neither Err e refl

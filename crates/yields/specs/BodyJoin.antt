@@ -17,7 +17,7 @@ use Rattle.formula.specs.Widths.{iterated}
 use Rattle.formula.specs.Count.{returns, iterates}
 use Rattle.formula.specs.Admitted.{AdmittedB}
 use Rattle.graph.specs.Assembly.{wire, beside, gate, IC, memberOf}
-use Rattle.graph.specs.Yields.{Values, absent, present, bound, Yields, Fires}
+use Rattle.graph.specs.Yields.{Values, absent, present, bound, YieldsIn, Fires}
 use Rattle.graph.specs.Translation.{testName, iterName, iteratedName, returnedName, joinName, iteratedJoin, returnedJoin, armNames, joinNames, joined}
 use Rattle.yields.specs.Naming.{length-upFrom, above-upFrom}
 use Rattle.yields.specs.BodyWidths.{iteratedOutputs, returnedOutputs, iterated-both, iterated-outputs, returned-outputs}
@@ -146,45 +146,45 @@ module _ (side : Bool) (w : ℕ) (x : Body) (n : Narrow w x) (ρ : Values) (both
       → Hold (joining ρ both a b c) (returnedName side) vs
   all-answers vs is e g = still-hold ρ both a b c (returnedName side) (returnedOutputs w x) vs (room .1) e (g .answers)
 
-module _ (w : ℕ) (t : Exp) (x y : Body) (adm : AdmittedB (ifB t x y)) (nx : Narrow w x) (ny : Narrow w y) (ρ : Values) where
+module _ (cut : Option ℕ) (w : ℕ) (t : Exp) (x y : Body) (adm : AdmittedB (ifB t x y)) (nx : Narrow w x) (ny : Narrow w y) (ρ : Values) where
   same : iterates x ≡ true → iterates y ≡ true → iterated x ≡ iterated y
   same p q = iterated-both t x y adm p q
 
   -- IC fires, and the joins follow.
   joined-yields : (a b c : Option Value) (is rs : List (Option Value))
       → Fires (IC (iterates x && iterates y)) (ρ testName ∷ ρ (iterName true) ∷ ρ (iterName false) ∷ []) (joinOutputs (iterates x && iterates y) a b c)
-      → Yields (joinI (iterates x) (iterates y) (iterated x) (iterated y)) (joining ρ (iterates x && iterates y) a b c) 0 (some is)
-      → Yields (joinR (returns x) (returns y) w) (joining ρ (iterates x && iterates y) a b c) 0 (some rs)
-      → Yields (joined w x y) ρ 0 (some (a ∷ (is ++ rs)))
+      → YieldsIn cut (joinI (iterates x) (iterates y) (iterated x) (iterated y)) (joining ρ (iterates x && iterates y) a b c) 0 (some is)
+      → YieldsIn cut (joinR (returns x) (returns y) w) (joining ρ (iterates x && iterates y) a b c) 0 (some rs)
+      → YieldsIn cut (joined w x y) ρ 0 (some (a ∷ (is ++ rs)))
   unfolding joined iteratedJoin returnedJoin
   joined-yields a b c is rs f p q =
-      in-turn (joinNames (iterates x && iterates y))
+      in-turn cut (joinNames (iterates x && iterates y))
       (gate (IC (iterates x && iterates y)) (beside (wire testName) (beside (wire (iterName true)) (wire (iterName false)))))
       (beside (wire joinName) (beside (iteratedJoin x y) (returnedJoin w x y))) ρ 0 0 0 (joinOutputs (iterates x && iterates y) a b c)
       (some (a ∷ (is ++ rs))) refl
-      (three-yield ρ (IC (iterates x && iterates y)) testName (iterName true) (iterName false) (joinOutputs (iterates x && iterates y) a b c) f)
-      (side-by-side (wire joinName) (beside (iteratedJoin x y) (returnedJoin w x y)) (joining ρ (iterates x && iterates y) a b c) 0 0 0 (a ∷ []) (is ++ rs) refl
+      (three-yield cut ρ (IC (iterates x && iterates y)) testName (iterName true) (iterName false) (joinOutputs (iterates x && iterates y) a b c) f)
+      (side-by-side cut (wire joinName) (beside (iteratedJoin x y) (returnedJoin w x y)) (joining ρ (iterates x && iterates y) a b c) 0 0 0 (a ∷ []) (is ++ rs) refl
       (refl, ap (λ (v : Option Value). some (v ∷ [])) (sym (join-first ρ (iterates x && iterates y) a b c)))
-      (side-by-side (iteratedJoin x y) (returnedJoin w x y) (joining ρ (iterates x && iterates y) a b c) 0 0 0 is rs refl p q))
+      (side-by-side cut (iteratedJoin x y) (returnedJoin w x y) (joining ρ (iterates x && iterates y) a b c) 0 0 0 is rs refl p q))
 
   module _ (a b c u v : Option Value) where
     results-rest : (k l : ℕ) (ps qs : List (Option Value)) → Given true w x ρ u (absent k) ps → Given false w y ρ v (absent l) qs → b ≡ none
-        → Yields (joinI (iterates x) (iterates y) (iterated x) (iterated y)) (joining ρ (iterates x && iterates y) a b c) 0
+        → YieldsIn cut (joinI (iterates x) (iterates y) (iterated x) (iterated y)) (joining ρ (iterates x && iterates y) a b c) 0
         (some (absent (iteratedOutputs (ifB t x y))))
     unfolding iteratedOutputs
     results-rest k l ps qs gx gy e =
         subst
-        (λ n. Yields (joinI (iterates x) (iterates y) (iterated x) (iterated y)) (joining ρ (iterates x && iterates y) a b c) 0 (some (absent n)))
+        (λ n. YieldsIn cut (joinI (iterates x) (iterates y) (iterated x) (iterated y)) (joining ρ (iterates x && iterates y) a b c) 0 (some (absent n)))
         (sym (if-iterates t x y adm))
-        (joinI-rests (joining ρ (iterates x && iterates y) a b c) (iterates x) (iterates y) (iterated x) (iterated y) same
+        (joinI-rests cut (joining ρ (iterates x && iterates y) a b c) (iterates x) (iterates y) (iterated x) (iterated y) same
         (λ z. join-second ρ (iterates x && iterates y) a b c z ∙ e) (no-results true w x nx ρ (iterates x && iterates y) a b c u k ps gx)
         (no-results false w y ny ρ (iterates x && iterates y) a b c v l qs gy))
 
     answers-rest : (k l : ℕ) (ps qs : List (Option Value)) → Given true w x ρ u ps (absent k) → Given false w y ρ v qs (absent l) → c ≡ none
-        → Yields (joinR (returns x) (returns y) w) (joining ρ (iterates x && iterates y) a b c) 0 (some (absent w))
+        → YieldsIn cut (joinR (returns x) (returns y) w) (joining ρ (iterates x && iterates y) a b c) 0 (some (absent w))
     unfolding returnedOutputs
     answers-rest k l ps qs gx gy e =
-        joinR-rests (joining ρ (iterates x && iterates y) a b c) (returns x) (returns y) w (join-third ρ (iterates x && iterates y) a b c ∙ e)
+        joinR-rests cut (joining ρ (iterates x && iterates y) a b c) (returns x) (returns y) w (join-third ρ (iterates x && iterates y) a b c ∙ e)
         (no-answers true w x nx ρ (iterates x && iterates y) a b c u k ps gx) (no-answers false w y ny ρ (iterates x && iterates y) a b c v l qs gy)
 
   -- What comes from the test.
@@ -195,13 +195,13 @@ module _ (w : ℕ) (t : Exp) (x y : Body) (adm : AdmittedB (ifB t x y)) (nx : Na
 
   pub first-iterates : (k l m : ℕ) (vs : List Value) → ρ testName ≡ some true-value → iterates x ≡ true → length vs ≡ iterated x
       → Given true w x ρ (some true-value) (present vs) (absent k) → Given false w y ρ none (absent l) (absent m)
-      → Yields (joined w x y) ρ 0 (some (some true-value ∷ (present vs ++ absent w)))
+      → YieldsIn cut (joined w x y) ρ 0 (some (some true-value ∷ (present vs ++ absent w)))
   unfolding iteratedOutputs
   first-iterates k l m vs e i n gx gy =
       joined-yields (some true-value) (some true-value) none (present vs) (absent w)
       (at-IC (some true-value) (some true-value) none (joinOutputs (iterates x && iterates y) (some true-value) (some true-value) none) e (gx .iter?)
       (gy .iter?) (IC-true-true (iterates x && iterates y) true-value true-value refl refl))
-      (joinI-takes-first (joining ρ (iterates x && iterates y) (some true-value) (some true-value) none) (iterates x) (iterates y) (iterated x) (iterated y) vs i
+      (joinI-takes-first cut (joining ρ (iterates x && iterates y) (some true-value) (some true-value) none) (iterates x) (iterates y) (iterated x) (iterated y) vs i
       same (join-second ρ (iterates x && iterates y) (some true-value) (some true-value) none) n
       (all-results true w x nx ρ (iterates x && iterates y) (some true-value) (some true-value) none (some true-value) vs (absent k)
       (n ∙ sym (iterated-outputs x)) gx)
@@ -210,13 +210,13 @@ module _ (w : ℕ) (t : Exp) (x y : Body) (adm : AdmittedB (ifB t x y)) (nx : Na
 
   pub second-iterates : (k l m : ℕ) (vs : List Value) → ρ testName ≡ some false-value → iterates y ≡ true → length vs ≡ iterated y
       → Given true w x ρ none (absent l) (absent m) → Given false w y ρ (some true-value) (present vs) (absent k)
-      → Yields (joined w x y) ρ 0 (some (some true-value ∷ (present vs ++ absent w)))
+      → YieldsIn cut (joined w x y) ρ 0 (some (some true-value ∷ (present vs ++ absent w)))
   unfolding iteratedOutputs
   second-iterates k l m vs e i n gx gy =
       joined-yields (some true-value) (some false-value) none (present vs) (absent w)
       (at-IC (some false-value) none (some true-value) (joinOutputs (iterates x && iterates y) (some true-value) (some false-value) none) e (gx .iter?)
       (gy .iter?) (IC-false-true (iterates x && iterates y) false-value true-value refl refl))
-      (joinI-takes-second (joining ρ (iterates x && iterates y) (some true-value) (some false-value) none) (iterates x) (iterates y) (iterated x) (iterated y) vs i
+      (joinI-takes-second cut (joining ρ (iterates x && iterates y) (some true-value) (some false-value) none) (iterates x) (iterates y) (iterated x) (iterated y) vs i
       same (join-second ρ (iterates x && iterates y) (some true-value) (some false-value) none) n
       (no-results true w x nx ρ (iterates x && iterates y) (some true-value) (some false-value) none none l (absent m) gx)
       (all-results false w y ny ρ (iterates x && iterates y) (some true-value) (some false-value) none (some true-value) vs (absent k)
@@ -225,14 +225,14 @@ module _ (w : ℕ) (t : Exp) (x y : Body) (adm : AdmittedB (ifB t x y)) (nx : Na
 
   pub first-returns : (k l m : ℕ) (vs : List Value) → ρ testName ≡ some true-value → returns x ≡ true → length vs ≡ w
       → Given true w x ρ (some false-value) (absent k) (present vs) → Given false w y ρ none (absent l) (absent m)
-      → Yields (joined w x y) ρ 0 (some (some false-value ∷ (absent (iteratedOutputs (ifB t x y)) ++ present vs)))
+      → YieldsIn cut (joined w x y) ρ 0 (some (some false-value ∷ (absent (iteratedOutputs (ifB t x y)) ++ present vs)))
   unfolding returnedOutputs
   first-returns k l m vs e i n gx gy =
       joined-yields (some false-value) none (some true-value) (absent (iteratedOutputs (ifB t x y))) (present vs)
       (at-IC (some true-value) (some false-value) none (joinOutputs (iterates x && iterates y) (some false-value) none (some true-value)) e (gx .iter?)
       (gy .iter?) (IC-true-false (iterates x && iterates y) true-value false-value refl refl))
       (results-rest (some false-value) none (some true-value) (some false-value) none k l (present vs) (absent m) gx gy refl)
-      (joinR-takes-first (joining ρ (iterates x && iterates y) (some false-value) none (some true-value)) (returns x) (returns y) w vs i
+      (joinR-takes-first cut (joining ρ (iterates x && iterates y) (some false-value) none (some true-value)) (returns x) (returns y) w vs i
       (join-third ρ (iterates x && iterates y) (some false-value) none (some true-value)) n
       (all-answers true w x nx ρ (iterates x && iterates y) (some false-value) none (some true-value) (some false-value) vs (absent k)
       (n ∙ sym (returned-outputs w x i)) gx)
@@ -240,14 +240,14 @@ module _ (w : ℕ) (t : Exp) (x y : Body) (adm : AdmittedB (ifB t x y)) (nx : Na
 
   pub second-returns : (k l m : ℕ) (vs : List Value) → ρ testName ≡ some false-value → returns y ≡ true → length vs ≡ w
       → Given true w x ρ none (absent l) (absent m) → Given false w y ρ (some false-value) (absent k) (present vs)
-      → Yields (joined w x y) ρ 0 (some (some false-value ∷ (absent (iteratedOutputs (ifB t x y)) ++ present vs)))
+      → YieldsIn cut (joined w x y) ρ 0 (some (some false-value ∷ (absent (iteratedOutputs (ifB t x y)) ++ present vs)))
   unfolding returnedOutputs
   second-returns k l m vs e i n gx gy =
       joined-yields (some false-value) none (some false-value) (absent (iteratedOutputs (ifB t x y))) (present vs)
       (at-IC (some false-value) none (some false-value) (joinOutputs (iterates x && iterates y) (some false-value) none (some false-value)) e (gx .iter?)
       (gy .iter?) (IC-false-false (iterates x && iterates y) false-value false-value refl refl))
       (results-rest (some false-value) none (some false-value) none (some false-value) l k (absent m) (present vs) gx gy refl)
-      (joinR-takes-second (joining ρ (iterates x && iterates y) (some false-value) none (some false-value)) (returns x) (returns y) w vs i
+      (joinR-takes-second cut (joining ρ (iterates x && iterates y) (some false-value) none (some false-value)) (returns x) (returns y) w vs i
       (join-third ρ (iterates x && iterates y) (some false-value) none (some false-value)) n
       (no-answers true w x nx ρ (iterates x && iterates y) (some false-value) none (some false-value) none m (absent l) gx)
       (all-answers false w y ny ρ (iterates x && iterates y) (some false-value) none (some false-value) (some false-value) vs (absent k)
@@ -256,14 +256,14 @@ module _ (w : ℕ) (t : Exp) (x y : Body) (adm : AdmittedB (ifB t x y)) (nx : Na
   -- "in a body it ends the loop with err for each returned value"
   pub neither-arm : (k l m n : ℕ) (v : Value) → ρ testName ≡ some v → sense v ≡ is-neither
       → Given true w x ρ none (absent k) (absent l) → Given false w y ρ none (absent m) (absent n)
-      → Yields (joined w x y) ρ 0 (some (some false-value ∷ (absent (iteratedOutputs (ifB t x y)) ++ present (replicate w Err))))
+      → YieldsIn cut (joined w x y) ρ 0 (some (some false-value ∷ (absent (iteratedOutputs (ifB t x y)) ++ present (replicate w Err))))
   unfolding returnedOutputs
   neither-arm k l m n v e s gx gy =
       joined-yields (some false-value) none (some err-value) (absent (iteratedOutputs (ifB t x y))) (present (replicate w Err))
       (at-IC (some v) none none (joinOutputs (iterates x && iterates y) (some false-value) none (some err-value)) e (gx .iter?) (gy .iter?)
       (IC-err (iterates x && iterates y) v s))
       (results-rest (some false-value) none (some err-value) none none k m (absent l) (absent n) gx gy refl)
-      (joinR-errs (joining ρ (iterates x && iterates y) (some false-value) none (some err-value)) (returns x) (returns y) w
+      (joinR-errs cut (joining ρ (iterates x && iterates y) (some false-value) none (some err-value)) (returns x) (returns y) w
       (join-third ρ (iterates x && iterates y) (some false-value) none (some err-value))
       (no-answers true w x nx ρ (iterates x && iterates y) (some false-value) none (some err-value) none l (absent k) gx)
       (no-answers false w y ny ρ (iterates x && iterates y) (some false-value) none (some err-value) none n (absent m) gy))

@@ -13,7 +13,7 @@ use Rattle.value.specs.declared.Value.{Value}
 use Rattle.names.specs.Names.{Names, members}
 use Rattle.network.specs.Values.{Sense, is-true, is-false, is-neither, sense}
 use Rattle.graph.specs.Assembly.{Graph, bind, Gate, T, F, free}
-use Rattle.graph.specs.Yields.{Values, Answer, absent, bound, outputCount, Yields, Sequel, Fires}
+use Rattle.graph.specs.Yields.{Values, Answer, absent, bound, outputCount, YieldsIn, Sequel, Fires}
 use Rattle.graph.specs.Fit.{Fit}
 use Rattle.graph.specs.Translation.{testName, row, gated, arm}
 use Rattle.yields.specs.Naming.{Small, member-members}
@@ -31,23 +31,23 @@ AllAt f ρ = (k : ℕ) → f k ≡ true → (v : Value) × (ρ k ≡ some v)
 -- ---- one arm
 
 -- The gates let all names through.
-pub arm-passes : (G : Gate) (f : Names) (a : Graph) (ρ : Values) (c : ℕ) (z : Answer) → Small f
-    → ((k : ℕ) → f k ≡ true → Fires G (ρ testName ∷ ρ k ∷ []) (ρ k ∷ [])) → Yields a ρ c z → Yields (arm G f a) ρ c z
+pub arm-passes : (cut : Option ℕ) (G : Gate) (f : Names) (a : Graph) (ρ : Values) (c : ℕ) (z : Answer) → Small f
+    → ((k : ℕ) → f k ≡ true → Fires G (ρ testName ∷ ρ k ∷ []) (ρ k ∷ [])) → YieldsIn cut a ρ c z → YieldsIn cut (arm G f a) ρ c z
 unfolding arm
-arm-passes G f a ρ c z s p y =
-    in-turn (members f) (row (gated G) (members f)) a ρ 0 c c (map ρ (members f)) z (omega arith)
-    (row-yields ρ (gated G) ρ (members f) (λ k m. gated-yields ρ G k (ρ k ∷ []) (p k (sym (member-members f s k) ∙ m))))
-    (subst (λ (σ : Values). Yields a σ c z) (sym (fun-ext (λ k. bound-self ρ (members f) k))) y)
+arm-passes cut G f a ρ c z s p y =
+    in-turn cut (members f) (row (gated G) (members f)) a ρ 0 c c (map ρ (members f)) z (omega arith)
+    (row-yields cut ρ (gated G) ρ (members f) (λ k m. gated-yields cut ρ G k (ρ k ∷ []) (p k (sym (member-members f s k) ∙ m))))
+    (subst (λ (σ : Values). YieldsIn cut a σ c z) (sym (fun-ext (λ k. bound-self ρ (members f) k))) y)
 
 -- The gates absorb all names.
-pub arm-absorbs : (G : Gate) (f : Names) (a : Graph) (ρ : Values) → Small f → Has a f → Fit a
-    → ((k : ℕ) → f k ≡ true → Fires G (ρ testName ∷ ρ k ∷ []) (none ∷ [])) → Yields (arm G f a) ρ 0 (some (absent (outputCount a)))
+pub arm-absorbs : (cut : Option ℕ) (G : Gate) (f : Names) (a : Graph) (ρ : Values) → Small f → Has a f → Fit a
+    → ((k : ℕ) → f k ≡ true → Fires G (ρ testName ∷ ρ k ∷ []) (none ∷ [])) → YieldsIn cut (arm G f a) ρ 0 (some (absent (outputCount a)))
 unfolding arm
-arm-absorbs G f a ρ s e h p =
-    in-turn (members f) (row (gated G) (members f)) a ρ 0 0 0 (absent (length (members f))) (some (absent (outputCount a))) refl
-    (subst (λ (vs : List (Option Value)). Yields (row (gated G) (members f)) ρ 0 (some vs)) (absent-map (members f) (λ k. none) (λ k m. refl))
-    (row-yields ρ (gated G) (λ k. none) (members f) (λ k m. gated-yields ρ G k (none ∷ []) (p k (sym (member-members f s k) ∙ m)))))
-    (absence a h (bound (members f) (absent (length (members f))) ρ)
+arm-absorbs cut G f a ρ s e h p =
+    in-turn cut (members f) (row (gated G) (members f)) a ρ 0 0 0 (absent (length (members f))) (some (absent (outputCount a))) refl
+    (subst (λ (vs : List (Option Value)). YieldsIn cut (row (gated G) (members f)) ρ 0 (some vs)) (absent-map (members f) (λ k. none) (λ k m. refl))
+    (row-yields cut ρ (gated G) (λ k. none) (members f) (λ k m. gated-yields cut ρ G k (none ∷ []) (p k (sym (member-members f s k) ∙ m)))))
+    (absence cut a h (bound (members f) (absent (length (members f))) ρ)
     (nothing-bound (members f) (free a) ρ
     (λ k q m. absurd (false≢true (sym m ∙ member-members f s k ∙ sym (e k) ∙ q)))))
 
@@ -82,7 +82,7 @@ module _ (ns : List ℕ) (f : Names) (a : Graph) (ms : List ℕ) (g : Names) (b 
   abbrev pub behind : Graph
   behind = bind ns (arm T f a) (bind ms (arm F g b) j)
 
-  module _ (ρ : Values) (c : Value) (at-test : ρ testName ≡ some c) (all-f : AllAt f ρ) (all-g : AllAt g ρ) where
+  module _ (cut : Option ℕ) (ρ : Values) (c : Value) (at-test : ρ testName ≡ some c) (all-f : AllAt f ρ) (all-g : AllAt g ρ) where
     -- binding the first arm's outputs leaves the test and the names of the second arm
     still-test : (xs : List (Option Value)) → bound ns xs ρ testName ≡ some c
     still-test xs = bound-other ρ ns xs testName (A .from-n testName (omega arith)) ∙ at-test
@@ -97,50 +97,50 @@ module _ (ns : List ℕ) (f : Names) (a : Graph) (ms : List ℕ) (g : Names) (b 
             go true e = omega (arith, ltb-true k 33 e)
             go false e = absurd (false≢true (sym (A .small-g k (ltb-false k 33 e)) ∙ h))
 
-    first-absorbs : (s : Sense) → sense c ≡ s → (s ≡ is-true → ⊥) → Yields (arm T f a) ρ 0 (some (absent (length ns)))
+    first-absorbs : (s : Sense) → sense c ≡ s → (s ≡ is-true → ⊥) → YieldsIn cut (arm T f a) ρ 0 (some (absent (length ns)))
     first-absorbs s e n =
-        subst (λ m. Yields (arm T f a) ρ 0 (some (absent m))) (A .count-a)
-        (arm-absorbs T f a ρ (A .small-f) (A .has-f) (A .fit-a) (T-away ρ c at-test f all-f s e n))
+        subst (λ m. YieldsIn cut (arm T f a) ρ 0 (some (absent m))) (A .count-a)
+        (arm-absorbs cut T f a ρ (A .small-f) (A .has-f) (A .fit-a) (T-away ρ c at-test f all-f s e n))
 
     second-absorbs : (xs : List (Option Value)) (s : Sense) → sense c ≡ s → (s ≡ is-false → ⊥)
-        → Yields (arm F g b) (bound ns xs ρ) 0 (some (absent (length ms)))
+        → YieldsIn cut (arm F g b) (bound ns xs ρ) 0 (some (absent (length ms)))
     second-absorbs xs s e n =
-        subst (λ m. Yields (arm F g b) (bound ns xs ρ) 0 (some (absent m))) (A .count-b)
-        (arm-absorbs F g b (bound ns xs ρ) (A .small-g) (A .has-g) (A .fit-b) (F-away (bound ns xs ρ) c (still-test xs) g (still-all xs) s e n))
+        subst (λ m. YieldsIn cut (arm F g b) (bound ns xs ρ) 0 (some (absent m))) (A .count-b)
+        (arm-absorbs cut F g b (bound ns xs ρ) (A .small-g) (A .has-g) (A .fit-b) (F-away (bound ns xs ρ) c (still-test xs) g (still-all xs) s e n))
 
-    pub chosen-true : sense c ≡ is-true → (n : ℕ) (xs zs : List (Option Value)) → Yields a ρ n (some xs)
-        → Yields j (bound ms (absent (length ms)) (bound ns xs ρ)) 0 (some zs) → Yields behind ρ n (some zs)
+    pub chosen-true : sense c ≡ is-true → (n : ℕ) (xs zs : List (Option Value)) → YieldsIn cut a ρ n (some xs)
+        → YieldsIn cut j (bound ms (absent (length ms)) (bound ns xs ρ)) 0 (some zs) → YieldsIn cut behind ρ n (some zs)
     chosen-true e n xs zs p q =
-        in-turn ns (arm T f a) (bind ms (arm F g b) j) ρ n 0 n xs (some zs) (omega arith)
-        (arm-passes T f a ρ n (some xs) (A .small-f) (T-through ρ c at-test f all-f e) p)
-        (in-turn ms (arm F g b) j (bound ns xs ρ) 0 0 0 (absent (length ms)) (some zs) refl
+        in-turn cut ns (arm T f a) (bind ms (arm F g b) j) ρ n 0 n xs (some zs) (omega arith)
+        (arm-passes cut T f a ρ n (some xs) (A .small-f) (T-through ρ c at-test f all-f e) p)
+        (in-turn cut ms (arm F g b) j (bound ns xs ρ) 0 0 0 (absent (length ms)) (some zs) refl
         (second-absorbs xs is-true e (differ is-true is-false (λ z. omega arith))) q)
 
-    pub chosen-true-stops : sense c ≡ is-true → (n : ℕ) → Yields a ρ n none → Yields behind ρ n none
-    chosen-true-stops e n p = Sequel.stops n (arm-passes T f a ρ n none (A .small-f) (T-through ρ c at-test f all-f e) p)
+    pub chosen-true-stops : sense c ≡ is-true → (n : ℕ) → YieldsIn cut a ρ n none → YieldsIn cut behind ρ n none
+    chosen-true-stops e n p = Sequel.stops n (arm-passes cut T f a ρ n none (A .small-f) (T-through ρ c at-test f all-f e) p)
 
-    pub chosen-false : sense c ≡ is-false → (n : ℕ) (ys zs : List (Option Value)) → Yields b (bound ns (absent (length ns)) ρ) n (some ys)
-        → Yields j (bound ms ys (bound ns (absent (length ns)) ρ)) 0 (some zs) → Yields behind ρ n (some zs)
+    pub chosen-false : sense c ≡ is-false → (n : ℕ) (ys zs : List (Option Value)) → YieldsIn cut b (bound ns (absent (length ns)) ρ) n (some ys)
+        → YieldsIn cut j (bound ms ys (bound ns (absent (length ns)) ρ)) 0 (some zs) → YieldsIn cut behind ρ n (some zs)
     chosen-false e n ys zs p q =
-        in-turn ns (arm T f a) (bind ms (arm F g b) j) ρ 0 n n (absent (length ns)) (some zs) (omega arith)
+        in-turn cut ns (arm T f a) (bind ms (arm F g b) j) ρ 0 n n (absent (length ns)) (some zs) (omega arith)
         (first-absorbs is-false e (differ is-false is-true (λ z. omega arith)))
-        (in-turn ms (arm F g b) j (bound ns (absent (length ns)) ρ) n 0 n ys (some zs) (omega arith)
-        (arm-passes F g b (bound ns (absent (length ns)) ρ) n (some ys) (A .small-g)
+        (in-turn cut ms (arm F g b) j (bound ns (absent (length ns)) ρ) n 0 n ys (some zs) (omega arith)
+        (arm-passes cut F g b (bound ns (absent (length ns)) ρ) n (some ys) (A .small-g)
         (F-through (bound ns (absent (length ns)) ρ) c (still-test (absent (length ns))) g (still-all (absent (length ns))) e) p)
         q)
 
-    pub chosen-false-stops : sense c ≡ is-false → (n : ℕ) → Yields b (bound ns (absent (length ns)) ρ) n none → Yields behind ρ n none
+    pub chosen-false-stops : sense c ≡ is-false → (n : ℕ) → YieldsIn cut b (bound ns (absent (length ns)) ρ) n none → YieldsIn cut behind ρ n none
     chosen-false-stops e n p =
-        in-turn ns (arm T f a) (bind ms (arm F g b) j) ρ 0 n n (absent (length ns)) none (omega arith)
+        in-turn cut ns (arm T f a) (bind ms (arm F g b) j) ρ 0 n n (absent (length ns)) none (omega arith)
         (first-absorbs is-false e (differ is-false is-true (λ z. omega arith)))
         (Sequel.stops n
-        (arm-passes F g b (bound ns (absent (length ns)) ρ) n none (A .small-g)
+        (arm-passes cut F g b (bound ns (absent (length ns)) ρ) n none (A .small-g)
         (F-through (bound ns (absent (length ns)) ρ) c (still-test (absent (length ns))) g (still-all (absent (length ns))) e) p))
 
     pub chosen-neither : sense c ≡ is-neither → (zs : List (Option Value))
-        → Yields j (bound ms (absent (length ms)) (bound ns (absent (length ns)) ρ)) 0 (some zs) → Yields behind ρ 0 (some zs)
+        → YieldsIn cut j (bound ms (absent (length ms)) (bound ns (absent (length ns)) ρ)) 0 (some zs) → YieldsIn cut behind ρ 0 (some zs)
     chosen-neither e zs q =
-        in-turn ns (arm T f a) (bind ms (arm F g b) j) ρ 0 0 0 (absent (length ns)) (some zs) refl
+        in-turn cut ns (arm T f a) (bind ms (arm F g b) j) ρ 0 0 0 (absent (length ns)) (some zs) refl
         (first-absorbs is-neither e (differ is-neither is-true (λ z. omega arith)))
-        (in-turn ms (arm F g b) j (bound ns (absent (length ns)) ρ) 0 0 0 (absent (length ms)) (some zs) refl
+        (in-turn cut ms (arm F g b) j (bound ns (absent (length ns)) ρ) 0 0 0 (absent (length ms)) (some zs) refl
         (second-absorbs (absent (length ns)) is-neither e (differ is-neither is-false (λ z. omega arith))) q)

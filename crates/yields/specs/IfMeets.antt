@@ -17,7 +17,7 @@ use Rattle.formula.specs.Admitted.{AdmittedE}
 use Rattle.meaning.specs.Meaning.{Env, Outcome, yields, branch, evalE}
 use Rattle.meaning.specs.WidthLaws.{Sized}
 use Rattle.graph.specs.Assembly.{Graph, upFrom}
-use Rattle.graph.specs.Yields.{Values, absent, present, bound, Yields}
+use Rattle.graph.specs.Yields.{Values, absent, present, bound, YieldsIn}
 use Rattle.graph.specs.Translation.{testName, returnedName, mergeRow, graphE}
 use Rattle.yields.specs.Naming.{within-upFrom, below-upFrom}
 use Rattle.yields.specs.BodyWidths.{not-too-wide}
@@ -73,7 +73,14 @@ module _ (t x y : Exp) (adm : AdmittedE (ifE t x y)) where
       behind (upFrom (returnedName true) (width x)) (freeE x) (graphE x) (upFrom (returnedName false) (width x)) (freeE y) (graphE y)
       (mergeRow testName returnedName (width x)) exp-arms
 
-  module _ (env : Env) (ρ : Values) (hx : Holds (freeE x) env ρ) (hy : Holds (freeE y) env ρ) (l : ℕ) where
+  -- the environment of the second arm where the first got nothing
+  abbrev pub passed : Values → Values
+  passed ρ = bound (upFrom (returnedName true) (width x)) (absent (length (upFrom (returnedName true) (width x)))) ρ
+
+  pub passed-holds : (env : Env) (ρ : Values) → Holds (freeE y) env ρ → Holds (freeE y) env (passed ρ)
+  passed-holds env ρ hy = holds-beside (freeE y) env ρ (upFrom 51 (width x)) _ (from-33 _ (results-from-test true (width x))) hy
+
+  module _ (cut : Option ℕ) (env : Env) (ρ : Values) (hx : Holds (freeE x) env ρ) (hy : Holds (freeE y) env ρ) (l : ℕ) where
     small : width x ≤ 16
     small = not-too-wide x (adm .2)
 
@@ -83,46 +90,45 @@ module _ (t x y : Exp) (adm : AdmittedE (ifE t x y)) where
     every-y : AllAt (freeE y) ρ
     every-y = all-held (freeE y) env ρ (small-E y (adm .3)) hy
 
-    if-true : ρ testName ≡ some true-value → (o : Outcome) → Sized (width x) o → Meets (Yields (graphE x) ρ) l o → Meets (Yields exp-behind ρ) l o
+    pub if-true : ρ testName ≡ some true-value → (o : Outcome) → Sized (width x) o → Meets (YieldsIn cut (graphE x) ρ) l o → Meets (YieldsIn cut exp-behind ρ) l o
     if-true e (yields vs m) s p =
         chosen-true (upFrom 51 (width x)) (freeE x) (graphE x) (upFrom 84 (width x)) (freeE y) (graphE y) (mergeRow testName returnedName (width x)) exp-arms
-        ρ true-value e every-x every-y refl (l - m) (present vs) (present vs) p
-        (merge-second _ testName returnedName (width x) true-value vs (test-still (width x) small ρ _ _ ∙ e) refl s (first-holds (width x) small ρ vs _ s)
+        cut ρ true-value e every-x every-y refl (l - m) (present vs) (present vs) p
+        (merge-second cut _ testName returnedName (width x) true-value vs (test-still (width x) small ρ _ _ ∙ e) refl s (first-holds (width x) small ρ vs _ s)
         (second-empty (width x) small ρ _))
     if-true e Outcome.unfinished s p =
         chosen-true-stops (upFrom 51 (width x)) (freeE x) (graphE x) (upFrom 84 (width x)) (freeE y) (graphE y) (mergeRow testName returnedName (width x)) exp-arms
-        ρ true-value e every-x every-y refl l p
+        cut ρ true-value e every-x every-y refl l p
 
-    if-false : ρ testName ≡ some false-value → (o : Outcome) → Sized (width x) o
-        → Meets (Yields (graphE y) (bound (upFrom (returnedName true) (width x)) (absent (length (upFrom (returnedName true) (width x)))) ρ)) l o
-        → Meets (Yields exp-behind ρ) l o
+    pub if-false : ρ testName ≡ some false-value → (o : Outcome) → Sized (width x) o
+        → Meets (YieldsIn cut (graphE y) (passed ρ)) l o
+        → Meets (YieldsIn cut exp-behind ρ) l o
     if-false e (yields vs m) s p =
         chosen-false (upFrom 51 (width x)) (freeE x) (graphE x) (upFrom 84 (width x)) (freeE y) (graphE y) (mergeRow testName returnedName (width x)) exp-arms
-        ρ false-value e every-x every-y refl (l - m) (present vs) (present vs) p
-        (merge-third _ testName returnedName (width x) false-value vs (test-still (width x) small ρ _ _ ∙ e) refl s (first-empty (width x) small ρ _)
+        cut ρ false-value e every-x every-y refl (l - m) (present vs) (present vs) p
+        (merge-third cut _ testName returnedName (width x) false-value vs (test-still (width x) small ρ _ _ ∙ e) refl s (first-empty (width x) small ρ _)
         (second-holds (width x) small ρ vs _ s))
     if-false e Outcome.unfinished s p =
         chosen-false-stops (upFrom 51 (width x)) (freeE x) (graphE x) (upFrom 84 (width x)) (freeE y) (graphE y) (mergeRow testName returnedName (width x)) exp-arms
-        ρ false-value e every-x every-y refl l p
+        cut ρ false-value e every-x every-y refl l p
 
-    if-neither : (v : Value) → ρ testName ≡ some v → sense v ≡ is-neither → Meets (Yields exp-behind ρ) l (yields (replicate (width x) Err) l)
+    pub if-neither : (v : Value) → ρ testName ≡ some v → sense v ≡ is-neither → Meets (YieldsIn cut exp-behind ρ) l (yields (replicate (width x) Err) l)
     if-neither v e s =
         let z : 0 ≡ l - l = omega arith in
-        subst (λ n. Yields exp-behind ρ n (some (present (replicate (width x) Err)))) z
+        subst (λ n. YieldsIn cut exp-behind ρ n (some (present (replicate (width x) Err)))) z
         (chosen-neither (upFrom 51 (width x)) (freeE x) (graphE x) (upFrom 84 (width x)) (freeE y) (graphE y) (mergeRow testName returnedName (width x)) exp-arms
-        ρ v e every-x every-y s (present (replicate (width x) Err))
-        (merge-err _ testName returnedName (width x) v (test-still (width x) small ρ _ _ ∙ e) s (first-empty (width x) small ρ _)
+        cut ρ v e every-x every-y s (present (replicate (width x) Err))
+        (merge-err cut _ testName returnedName (width x) v (test-still (width x) small ρ _ _ ∙ e) s (first-empty (width x) small ρ _)
         (second-empty (width x) small ρ _)))
 
     pub exp-if : (v : Value) → ρ testName ≡ some v → Sized (width x) (evalE x env l) → Sized (width x) (evalE y env l)
-        → ((σ : Values) → Holds (freeE x) env σ → Meets (Yields (graphE x) σ) l (evalE x env l))
-        → ((σ : Values) → Holds (freeE y) env σ → Meets (Yields (graphE y) σ) l (evalE y env l))
-        → Meets (Yields exp-behind ρ) l (branch v (yields (replicate (width x) Err) l) (λ _. evalE x env l) (λ _. evalE y env l))
+        → ((σ : Values) → Holds (freeE x) env σ → Meets (YieldsIn cut (graphE x) σ) l (evalE x env l))
+        → ((σ : Values) → Holds (freeE y) env σ → Meets (YieldsIn cut (graphE y) σ) l (evalE y env l))
+        → Meets (YieldsIn cut exp-behind ρ) l (branch v (yields (replicate (width x) Err) l) (λ _. evalE x env l) (λ _. evalE y env l))
     unfolding branch
     exp-if (Whole z) e sx sy p q = if-neither (Whole z) e refl
     exp-if (Truth true) e sx sy p q = if-true e (evalE x env l) sx (p ρ hx)
     exp-if (Truth false) e sx sy p q =
         if-false e (evalE y env l) sy
-        (q (bound (upFrom 51 (width x)) (absent (length (upFrom 51 (width x)))) ρ)
-        (holds-beside (freeE y) env ρ (upFrom 51 (width x)) _ (from-33 _ (results-from-test true (width x))) hy))
+        (q (passed ρ) (passed-holds env ρ hy))
     exp-if Err e sx sy p q = if-neither Err e refl

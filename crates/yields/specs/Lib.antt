@@ -22,3 +22,5 @@ pub mod BodyIfMeets
 pub mod TreeMeets
 pub mod Agreement
 pub mod Examples
+pub mod Cuts
+pub mod FirstTests

@@ -110,16 +110,16 @@ module _ (ns : List ℕ) (x y : Graph) (ρ : Values) (lent : ℕ) where
   carry : (l : ℕ) (vs : List (Option Value)) → l ≤ lent → Yields x ρ (lent - l) (some vs)
       → (o : Outcome) → Within l o → Meets (Yields y (bound ns vs ρ)) l o → Meets (Yields (binding ns x y) ρ) lent o
   carry l vs h p (yields ws m) w q =
-      in-turn ns x y ρ (lent - l) (l - m) (lent - m) vs (some (present ws)) (omega arith) p q
-  carry l vs h p Outcome.unfinished w q = in-turn ns x y ρ (lent - l) l lent vs none (omega arith) p q
+      in-turn none ns x y ρ (lent - l) (l - m) (lent - m) vs (some (present ws)) (omega arith) p q
+  carry l vs h p Outcome.unfinished w q = in-turn none ns x y ρ (lent - l) l lent vs none (omega arith) p q
 
   carry-B : (i r l : ℕ) (vs : List (Option Value)) → l ≤ lent → Yields x ρ (lent - l) (some vs)
       → (o : Ending) → WithinB l o → MeetsB i r (Yields y (bound ns vs ρ)) l o → MeetsB i r (Yields (binding ns x y) ρ) lent o
   carry-B i r l vs h p (again ws m) w q =
-      in-turn ns x y ρ (lent - l) (l - m) (lent - m) vs (some (some true-value ∷ (present ws ++ absent r))) (omega arith) p q
+      in-turn none ns x y ρ (lent - l) (l - m) (lent - m) vs (some (some true-value ∷ (present ws ++ absent r))) (omega arith) p q
   carry-B i r l vs h p (returns ws m) w q =
-      in-turn ns x y ρ (lent - l) (l - m) (lent - m) vs (some (some false-value ∷ (absent i ++ present ws))) (omega arith) p q
-  carry-B i r l vs h p Ending.unfinished w q = in-turn ns x y ρ (lent - l) l lent vs none (omega arith) p q
+      in-turn none ns x y ρ (lent - l) (l - m) (lent - m) vs (some (some false-value ∷ (absent i ++ present ws))) (omega arith) p q
+  carry-B i r l vs h p Ending.unfinished w q = in-turn none ns x y ρ (lent - l) l lent vs none (omega arith) p q
 
   pub then-meets : (n : ℕ) (o : Outcome) (k : List Value → ℕ → Outcome) → Within lent o → Sized n o → Meets (Yields x ρ) lent o
       → ((vs : List Value) (l : ℕ) → Within l (k vs l))
@@ -149,8 +149,8 @@ module _ (x y : Graph) (ρ : Values) (lent : ℕ) where
       go : (p : Outcome) → Within l p → Meets (Yields y ρ) l p → Meets (Yields (beside x y) ρ) lent (then p (λ ws n. yields (vs ++ ws) n))
       go (yields ws n) h k =
           subst (λ (us : List (Option Value)). Yields (beside x y) ρ (lent - n) (some us)) (sym (present-append vs ws))
-          (side-by-side x y ρ (lent - l) (l - n) (lent - n) (present vs) (present ws) (omega arith) m k)
-      go Outcome.unfinished h k = second-stops x y ρ (lent - l) l lent (present vs) (omega arith) m k
+          (side-by-side none x y ρ (lent - l) (l - n) (lent - n) (present vs) (present ws) (omega arith) m k)
+      go Outcome.unfinished h k = second-stops none x y ρ (lent - l) l lent (present vs) (omega arith) m k
   pair-meets Outcome.unfinished q w m wq mq = Beside.stops lent m
 
 -- A gate behind a graph fires once.

@@ -24,8 +24,8 @@ use Rattle.formula.specs.Admitted.{AdmittedE, AdmittedB}
 use Rattle.meaning.specs.Meaning.{Env, bind, Outcome, yields, Ending, again, returns, thenB, branch, evalE, evalB}
 use Rattle.meaning.specs.Rounds.{Within, WithinB, within, within-B, turns}
 use Rattle.meaning.specs.WidthLaws.{Sized, SizedB, sized, sized-B, operator-fits, let-fits, if-fits, for-fits, let-fits-B, if-fits-B}
-use Rattle.graph.specs.Assembly.{Graph, beside, const, oper, memberOf, upFrom}
-use Rattle.graph.specs.Yields.{Values, present, bound, Yields, Gated, Fires}
+use Rattle.graph.specs.Assembly.{Graph, beside, const, oper, memberOf, upFrom, free}
+use Rattle.graph.specs.Yields.{Values, present, bound, Yields, YieldsIn, Gated, Fires}
 use Rattle.graph.specs.Translation.{testName, constantOf, graphE, graphB}
 use Rattle.yields.specs.Naming.{or-false, or-left, or-right, length-upFrom, member-upFrom}
 use Rattle.yields.specs.BodyWidths.{sound-E, sound-B, iteratedOutputs, returnedOutputs, iterated-outputs}
@@ -41,33 +41,36 @@ use Rattle.yields.specs.BodyIfMeets.{body-behind, body-if}
 
 -- ---- constants
 
+pub constant-ends : (cut : Option ℕ) (v : Value) (env : Env) (ρ : Values) → Holds (one trigger) env ρ → YieldsIn cut (constantOf v) ρ 0 (some (some v ∷ []))
+constant-ends cut v env ρ h =
+    let t = h .1 refl in
+    Gated.ends 0 (ρ trigger ∷ []) (some v ∷ []) (refl, refl)
+    (subst (λ (u : Option Value). Fires (const v) (u ∷ []) (some v ∷ [])) (sym (t .1)) (const-fires v (t .0)))
+
 constant-yields : (v : Value) (env : Env) (ρ : Values) (lent : ℕ) → Holds (one trigger) env ρ
     → Meets (Yields (constantOf v) ρ) lent (yields (v ∷ []) lent)
 constant-yields v env ρ lent h =
-    let t = h .1 refl in
     let z : 0 ≡ lent - lent = omega arith in
-    subst (λ n. Yields (constantOf v) ρ n (some (some v ∷ []))) z
-    (Gated.ends 0 (ρ trigger ∷ []) (some v ∷ []) (refl, refl)
-    (subst (λ (u : Option Value). Fires (const v) (u ∷ []) (some v ∷ [])) (sym (t .1)) (const-fires v (t .0))))
+    subst (λ n. Yields (constantOf v) ρ n (some (some v ∷ []))) z (constant-ends none v env ρ h)
 
-constant-first : (v : Value) (x : Graph) (env : Env) (ρ : Values) (n : ℕ) → Holds (one trigger) env ρ → (vs : List (Option Value))
-    → Yields x ρ n (some vs) → Yields (beside (constantOf v) x) ρ n (some (some v ∷ vs))
-constant-first v x env ρ n h vs p = side-by-side (constantOf v) x ρ 0 n n (some v ∷ []) vs (omega arith) (constant-yields v env ρ 0 h) p
+pub constant-first : (cut : Option ℕ) (v : Value) (x : Graph) (env : Env) (ρ : Values) (n : ℕ) → Holds (one trigger) env ρ → (vs : List (Option Value))
+    → YieldsIn cut x ρ n (some vs) → YieldsIn cut (beside (constantOf v) x) ρ n (some (some v ∷ vs))
+constant-first cut v x env ρ n h vs p = side-by-side cut (constantOf v) x ρ 0 n n (some v ∷ []) vs (omega arith) (constant-ends cut v env ρ h) p
 
 constant-stops : (v : Value) (x : Graph) (env : Env) (ρ : Values) (n : ℕ) → Holds (one trigger) env ρ
     → Yields x ρ n none → Yields (beside (constantOf v) x) ρ n none
-constant-stops v x env ρ n h p = second-stops (constantOf v) x ρ 0 n n (some v ∷ []) (omega arith) (constant-yields v env ρ 0 h) p
+constant-stops v x env ρ n h p = second-stops none (constantOf v) x ρ 0 n n (some v ∷ []) (omega arith) (constant-ends none v env ρ h) p
 
 -- ---- the ends of a body
 
-append-none : (vs : List (Option Value)) → vs ≡ vs ++ []
+pub append-none : (vs : List (Option Value)) → vs ≡ vs ++ []
 append-none [] = refl
 append-none (v ∷ vs) = ap {B = List (Option Value)} (λ r. v ∷ r) (append-none vs)
 
 returned-meets : (x : Graph) (env : Env) (ρ : Values) (r lent : ℕ) → Holds (one trigger) env ρ → (o : Outcome) → Meets (Yields x ρ) lent o
     → MeetsB 0 r (Yields (beside (constantOf (Truth false)) x) ρ) lent (thenB o (λ vs l. returns vs l))
 unfolding thenB
-returned-meets x env ρ r lent h (yields vs l) p = constant-first (Truth false) x env ρ (lent - l) h (present vs) p
+returned-meets x env ρ r lent h (yields vs l) p = constant-first none (Truth false) x env ρ (lent - l) h (present vs) p
 returned-meets x env ρ r lent h Outcome.unfinished p = constant-stops (Truth false) x env ρ lent h p
 
 iterated-meets : (x : Graph) (env : Env) (ρ : Values) (k lent : ℕ) → Holds (one trigger) env ρ → (o : Outcome) → Meets (Yields x ρ) lent o
@@ -75,25 +78,25 @@ iterated-meets : (x : Graph) (env : Env) (ρ : Values) (k lent : ℕ) → Holds 
 unfolding thenB
 iterated-meets x env ρ k lent h (yields vs l) p =
     subst (λ (us : List (Option Value)). Yields (beside (constantOf (Truth true)) x) ρ (lent - l) (some (some true-value ∷ us))) (append-none (present vs))
-    (constant-first (Truth true) x env ρ (lent - l) h (present vs) p)
+    (constant-first none (Truth true) x env ρ (lent - l) h (present vs) p)
 iterated-meets x env ρ k lent h Outcome.unfinished p = constant-stops (Truth true) x env ρ lent h p
 
 -- ---- parts of a set of names
 
-left-part : (f g : Names) (env : Env) (ρ : Values) → Holds (union f g) env ρ → Holds f env ρ
+pub left-part : (f g : Names) (env : Env) (ρ : Values) → Holds (union f g) env ρ → Holds f env ρ
 left-part f g env ρ h = holds-part f (union f g) env ρ (λ k e. or-left (f k) (g k) e) h
 
-right-part : (f g : Names) (env : Env) (ρ : Values) → Holds (union f g) env ρ → Holds g env ρ
+pub right-part : (f g : Names) (env : Env) (ρ : Values) → Holds (union f g) env ρ → Holds g env ρ
 right-part f g env ρ h = holds-part g (union f g) env ρ (λ k e. or-right (f k) (g k) e) h
 
 -- ---- the value of a test
 
-test-value : (vs : List Value) (ρ : Values) → length vs ≡ 1 → bound (testName ∷ []) (present vs) ρ testName ≡ some (getD vs 0 Err)
+pub test-value : (vs : List Value) (ρ : Values) → length vs ≡ 1 → bound (testName ∷ []) (present vs) ρ testName ≡ some (getD vs 0 Err)
 unfolding bound
 test-value [] ρ n = absurd (omega arith)
 test-value (v ∷ vs) ρ n = refl
 
-from-test : From 33 (testName ∷ [])
+pub from-test : From 33 (testName ∷ [])
 unfolding memberOf
 from-test k l = or-false (eqb testName k) false (ne-eqb testName k (λ e. omega arith)) refl
 
@@ -114,6 +117,13 @@ branch-within-B n (Whole z) e f g p q r = p
 branch-within-B n (Truth true) e f g p q r = q
 branch-within-B n (Truth false) e f g p q r = r
 branch-within-B n Err e f g p q r = p
+
+-- The names of a loop's body that are not its own have values.
+pub others-held : (a b : ℕ) (y : Body) (env : Env) (ρ : Values) → AdmittedB y → Holds (without (freeB y) (range a b)) env ρ → (k : ℕ) →
+    (free (graphB (returned y) y) k ≡ true) × (memberOf (upFrom a b) k ≡ false) → (v : Value) × (ρ k ≡ some v)
+others-held a b y env ρ adm h k e =
+    all-held (without (freeB y) (range a b)) env ρ (λ i l. unseen (freeB y i) _ (small-B y adm i l)) h k
+    (kept (freeB y k) (range a b k) (sym (member-upFrom a b k) ∙ e .1) ∙ sym (free-B (returned y) y adm k) ∙ e .0)
 
 -- ---- the theorem
 
@@ -150,7 +160,7 @@ mutual
       (sized t (sound-E t (adm .1)) env lent) (meets-E t (adm .1) env ρ (left-part (freeE t) (union (freeE x) (freeE y)) env ρ h) lent)
       (λ vs l. branch-within l (getD vs 0 Err) _ (λ _. evalE x env l) (λ _. evalE y env l) (omega arith) (within x env l) (within y env l))
       (λ vs l n.
-      exp-if t x y adm env (bound (testName ∷ []) (present vs) ρ)
+      exp-if t x y adm none env (bound (testName ∷ []) (present vs) ρ)
       (holds-beside (freeE x) env ρ (testName ∷ []) (present vs) from-test
       (left-part (freeE x) (freeE y) env ρ (right-part (freeE t) (union (freeE x) (freeE y)) env ρ h)))
       (holds-beside (freeE y) env ρ (testName ∷ []) (present vs) from-test
@@ -210,7 +220,7 @@ mutual
       (meets-E t (adm .1) env ρ (left-part (freeE t) (union (freeB x) (freeB y)) env ρ h) lent)
       (λ vs l. branch-within-B l (getD vs 0 Err) _ (λ _. evalB x w env l) (λ _. evalB y w env l) (omega arith) (within-B x w env l) (within-B y w env l))
       (λ vs l n.
-      body-if w t x y adm r env (bound (testName ∷ []) (present vs) ρ)
+      body-if w t x y adm r none env (bound (testName ∷ []) (present vs) ρ)
       (holds-beside (freeB x) env ρ (testName ∷ []) (present vs) from-test
       (left-part (freeB x) (freeB y) env ρ (right-part (freeE t) (union (freeB x) (freeB y)) env ρ h)))
       (holds-beside (freeB y) env ρ (testName ∷ []) (present vs) from-test
