@@ -1,9 +1,11 @@
 // A row of the fields' table by its kind (document 01, "The formula sheet").
 use formula::Shape;
+use formula::Way;
 ghost use mathlib.Core.Path.{_≡_};
-ghost use Prim.Native.Nat.{_+_, _*_, _≤_, _<_};
-ghost use lib.ListN.{length};
+ghost use Prim.Native.Nat.{ℕ, _+_, _*_, _-_, _≤_, _<_};
+ghost use lib.ListN.{length, getD};
 ghost use Rattle.formula.specs.Sheet.{field, shapeAt, shapeOf};
+ghost use Rattle.formula.specs.Ways.{wayOf};
 
 // Field j of row r, in a table of five fields a row.
 pub fn field_at(t: &[u32], r: usize, j: usize) -> u32
@@ -49,4 +51,30 @@ pub fn shape_at(t: &[u32], r: usize) -> Shape
         field_at(t, r, 3),
         field_at(t, r, 4),
     )
+}
+
+// Row r of a body by what its place asks of it.
+pub fn way_at(t: &[u32], r: usize) -> Way
+    requires { ⌜ (1 ≤ r) × (5 * r ≤ length (now t)) ⌝ }
+    ensures { λ w. ⌜ w ≡ wayOf (shapeAt (now (t .entry)) r) ⌝ }
+{
+    match shape_at(t, r) {
+        Shape::Identifier(_) => Way::End,
+        Shape::Whole(_) => Way::End,
+        Shape::Truth(_) => Way::End,
+        Shape::Pair(_, _) => Way::End,
+        Shape::Operator(_, _) => Way::End,
+        Shape::Let(a, b, c, d) => Way::Let(a, b, c, d),
+        Shape::If(a, b, c) => Way::If(a, b, c),
+        Shape::For(_, _, _, _) => Way::End,
+        Shape::Iter(a) => Way::Iter(a),
+    }
+}
+
+// The width of row r, in a table of one byte a row.
+pub fn width_at(widths: &[u8], r: usize) -> usize
+    requires { ⌜ (1 ≤ r) × (r ≤ length (now widths)) ⌝ }
+    ensures { λ w. ⌜ (w ≡ getD (now (widths .entry)) (r - 1) 0) × (w < 256) ⌝ }
+{
+    widths[r - 1] as usize
 }

@@ -1,5 +1,6 @@
 pub mod Refusals
 pub mod Sheet
+pub mod Ways
 pub mod Tree
 pub mod Widths
 pub mod Free

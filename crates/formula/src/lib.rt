@@ -31,6 +31,17 @@ pub enum Shape {
     Iter(usize),
 }
 
+// A row of a body by what its place asks of it: a let, an if and an iter are read by their place, every other row ends the body.
+pub enum Way {
+    // identifiers a to a+b-1, bound to row c, in row d
+    Let(u32, u32, usize, usize),
+    // the test's row and the arms'
+    If(usize, usize, usize),
+    // the row of the values
+    Iter(usize),
+    End,
+}
+
 // What one test says of a sheet: passed, or the lowest row at fault (0 where the test is not about a row).
 pub enum Check {
     Passed,
