@@ -54,10 +54,27 @@ inputLink m j = nameAt m 10 j
 abbrev pub resultLink : List ℕ → ℕ → ℕ
 resultLink m j = nameAt m 74 j
 
+-- ---- the parts behind the header: the most operators and links, and where records, registers and links begin
+
+abbrev pub mostOperators : ℕ
+mostOperators = 1024
+
+abbrev pub mostLinks : ℕ
+mostLinks = 3105
+
+abbrev pub recordsAt : ℕ
+recordsAt = 256
+
+abbrev pub registersAt : ℕ
+registersAt = 16640
+
+abbrev pub linksAt : ℕ
+linksAt = 21760
+
 -- ---- operator i: its kind's byte, a free byte, three input and three output links, two free bytes; and its register, one token
 
 abbrev pub operatorAt : ℕ → ℕ
-operatorAt i = 256 + 16 * i
+operatorAt i = recordsAt + 16 * i
 
 abbrev pub kindByte : List ℕ → ℕ → ℕ
 kindByte m i = getD m (operatorAt i) 0
@@ -67,7 +84,7 @@ abbrev pub portOf : List ℕ → ℕ → ℕ → ℕ
 portOf m i p = nameAt m (operatorAt i + 2) p
 
 abbrev pub registerAt : ℕ → ℕ
-registerAt i = 16640 + 5 * i
+registerAt i = registersAt + 5 * i
 
 -- ---- link l: a stretch of `size` bytes, the count of waiting tokens and `capacity` tokens of five bytes
 
@@ -75,11 +92,11 @@ abbrev pub sizeOf : ℕ → ℕ
 sizeOf capacity = 5 * capacity + 1
 
 abbrev pub linkAt : ℕ → ℕ → ℕ
-linkAt size l = 21760 + l * size
+linkAt size l = linksAt + l * size
 
 -- What a machine needs: 40,390 bytes at capacity 1, 55,915 at 2, 15,525 for each place above.
 abbrev pub need : ℕ → ℕ
-need size = 21760 + 3105 * size
+need size = linksAt + mostLinks * size
 
 -- "the capacity asked or stored (1 where outside 1..16)"
 unfoldable pub capacityIn : ℕ → ℕ

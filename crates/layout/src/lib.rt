@@ -4,10 +4,25 @@
 ghost use mathlib.Core.Path.{_≡_};
 ghost use Prim.Native.Nat.{ℕ, _+_, _*_, _≤_, _<_};
 ghost use lib.ListN.{length};
-ghost use Rattle.layout.specs.Layout.{number16, stored16, operatorAt, registerAt, linkAt, need, sizeOf, capacityOf};
+ghost use Rattle.layout.specs.Layout.{mostOperators, mostLinks, linksAt, number16, stored16, operatorAt, registerAt, linkAt, need, sizeOf, capacityOf};
 ghost use Rattle.layout.specs.Record.{recorded, placed};
 
-// An operator as it stands in memory: its kind's byte, its links (65535: none) and its register's
+// The most operators and links of a machine (specs/Layout).
+pub const OPERATORS: usize = 1024;
+
+pub const LINKS: usize = 3105;
+
+// Where the operators' records, their registers and the links' stretches begin.
+pub const RECORDS_AT: usize = 256;
+
+pub const REGISTERS_AT: usize = 16640;
+
+pub const LINKS_AT: usize = 21760;
+
+// The number that a port without a link, or a machine without a trigger, has for one.
+pub const NO_LINK: u16 = 65535;
+
+// An operator as it stands in memory: its kind's byte, its links and its register's
 // word (0 before the first firing; a constant's value).
 pub struct Operator {
     pub kind: u8,
@@ -43,25 +58,25 @@ pub fn store_number(mem: &mut [u8], at: usize, x: u16)
 }
 
 pub fn operator_at(i: usize) -> usize
-    requires { ⌜ i < 1024 ⌝ }
+    requires { ⌜ i < mostOperators ⌝ }
     ensures { λ r. ⌜ r ≡ operatorAt i ⌝ }
 {
-    256 + 16 * i
+    RECORDS_AT + 16 * i
 }
 
 pub fn register_at(i: usize) -> usize
-    requires { ⌜ i < 1024 ⌝ }
+    requires { ⌜ i < mostOperators ⌝ }
     ensures { λ r. ⌜ r ≡ registerAt i ⌝ }
 {
-    16640 + 5 * i
+    REGISTERS_AT + 5 * i
 }
 
 // Where the stretch of link l begins; `size` is the length of a stretch.
 pub fn link_at(size: usize, l: usize) -> usize
-    requires { ⌜ (size ≤ 81) × (l < 3105) ⌝ }
+    requires { ⌜ (size ≤ 81) × (l < mostLinks) ⌝ }
     ensures { λ r. ⌜ (r ≡ linkAt size l) × (r + size ≤ need size) ⌝ }
 {
-    21760 + l * size
+    LINKS_AT + l * size
 }
 
 // The stored capacity, 1 where it is outside 1..16 or not there at all.
@@ -86,7 +101,7 @@ pub fn machine_need(capacity: usize) -> usize
     requires { ⌜ capacity ≤ 16 ⌝ }
     ensures { λ r. ⌜ r ≡ need (sizeOf capacity) ⌝ }
 {
-    21760 + 3105 * (5 * capacity + 1)
+    LINKS_AT + LINKS * (5 * capacity + 1)
 }
 
 // Writes a record: kind and links, the free bytes 0.
@@ -106,7 +121,7 @@ fn store_links(mem: &mut [u8], at: usize, o: Operator)
 
 // Writes operator i: its record and its register.
 pub fn store_operator(mem: &mut [u8], i: usize, o: Operator)
-    requires { ⌜ (i < 1024) × (21760 ≤ length (now mem)) ⌝ }
+    requires { ⌜ (i < mostOperators) × (linksAt ≤ length (now mem)) ⌝ }
     ensures { λ _. ⌜ now (mem .exit) ≡ placed (now (mem .entry)) i o ⌝ }
 {
     let at = operator_at(i);

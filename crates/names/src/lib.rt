@@ -7,6 +7,11 @@ ghost use lib.Bits.{bitAnd};
 ghost use lib.Count.{ones, trailingZeros};
 ghost use lib.Dec.{eqb};
 
+// The trigger's place, behind the 32 identifiers, and the mask of it alone.
+pub const TRIGGER: u32 = 32;
+
+pub const TRIGGER_MASK: u64 = 4294967296;
+
 // The mask of one place.
 pub fn single(i: u32) -> u64
     requires { ⌜ i < 33 ⌝ }
