@@ -3,67 +3,42 @@
  * order, and every byte afterwards. The layout is docs/MEMORY.md's. A machine's memory is allocated at its exact length, so that a tool which
  * watches memory sees an access past its ends.
  */
-#include <inttypes.h>
-#include <stdio.h>
 #include <stdlib.h>
-#include <string.h>
 
-#include "bench.h"
+#include "check.h"
 
+/* The capacity of most machines here, and the length of a link's stretch at it. */
+enum { CAPACITY = 2, STRETCH = BENCH_VALUE_BYTES * CAPACITY + 1 };
+
+/* Where the figures of a memory stand. */
 enum {
-    CAPACITY = 2,
-    SIZE = 5 * CAPACITY + 1,
-    OPERATOR = 256,
-    REGISTER = 16640,
-    LINK = 21760,
-    NO_LINK = 65535,
-    CONSTANT = 12,
-    IC = 18,
-    FM = 19,
-    FS = 20
+    CAPACITY_AT = 0,
+    OPERATORS_AT = 1,
+    LINKS_AT = 3,
+    INPUTS_AT = 5,
+    RESULTS_AT = 6,
+    UNTAKEN_AT = 7,
+    TRIGGER_LINK_AT = 8,
+    INPUT_LINKS_AT = 10,
+    RESULT_LINKS_AT = 74,
+    RECORDS_AT = 256,
+    REGISTERS_AT = 16640,
+    STRETCHES_AT = 21760
 };
 
-static unsigned checks, failures;
+/* Bounds of the figures; a link's figure is two bytes long, a record sixteen, with its links from its third byte on. */
+enum { MOST_OPERATORS = 1024, MOST_LINKS = 3105, MOST_INPUTS = 32, MOST_RESULTS = 16, MOST_UNTAKEN = 16, MOST_CAPACITY = 16 };
+enum { NO_LINK = 65535, FIGURE_BYTES = 2, RECORD_BYTES = 16, PORTS_AT = 2, PORTS = 6, INPUT_PORTS = 3 };
 
-static void expect(const char *what, uint32_t got, uint32_t wanted) {
-    checks++;
-    if (got != wanted) {
-        failures++;
-        printf("%s: %" PRIu32 ", not %" PRIu32 "\n", what, got, wanted);
-    }
-}
+/* The kinds by which something differs: 1 to 9 have two inputs; 10, 11, constants and copies one. */
+enum { LAST_OF_TWO = 9, CONSTANT = 12, COPY = 13, M = 16, IC = 18, FM = 19, FS = 20, LAST_KIND = 20 };
 
-/* "for i, y = n, 1 do if 1 < i then iter i - 1, y * i else y": constants, copies, T, F, M or E, IC, FM and FS gates. */
-static const char factorial[] =
-    "     1     2     0     0     0\n"
-    "     2     1     0     0     0\n"
-    "     4     1     2     0     0\n"
-    "     2     1     0     0     0\n"
-    "     1     0     0     0     0\n"
-    "     4     4     5     0     0\n"
-    "     5     6     6     0     0\n"
-    "     1     0     0     0     0\n"
-    "     2     1     0     0     0\n"
-    "     4     8     9     0     0\n"
-    "     5     2    10     0     0\n"
-    "     1     1     0     0     0\n"
-    "     1     0     0     0     0\n"
-    "     4    12    13     0     0\n"
-    "     5     3    14     0     0\n"
-    "     4    11    15     0     0\n"
-    "     9    16     0     0     0\n"
-    "     1     1     0     0     0\n"
-    "     7     7    17    18     0\n"
-    "     8     0     2     3    19\n";
+static const uint8_t five[] = {BENCH_WHOLE, 5, 0, 0, 0};
+static const uint8_t two_values[] = {BENCH_WHOLE, 5, 0, 0, 0, BENCH_TRUTH, 1, 0, 0, 0};
 
-/* Both inputs as a pair: no operator, and the result links are the input links. */
-static const char pair[] =
-    "     1     0     0     0     0\n"
-    "     1     1     0     0     0\n"
-    "     4     1     2     0     0\n";
-
-static const uint8_t five[] = {1, 5, 0, 0, 0};
-static const uint8_t two_values[] = {1, 5, 0, 0, 0, 2, 1, 0, 0, 0};
+/* What is no value and no register's 'none' either. */
+static const uint8_t no_values[][BENCH_VALUE_BYTES] = {
+    {BENCH_ERR + 1, 0, 0, 0, 0}, {BENCH_TRUTH, 2, 0, 0, 0}, {BENCH_TRUTH, 0, 1, 0, 0}, {BENCH_ERR, 1, 0, 0, 0}, {0, 1, 0, 0, 0}};
 
 static uint8_t *memory;
 static size_t length;
@@ -76,7 +51,7 @@ static void begin(const char *sheet, uint32_t capacity) {
         exit(2);
     }
     memset(memory, 0xa5, length);
-    expect("start", bench_start((const uint8_t *)sheet, strlen(sheet), capacity, memory, length).refusal, 0);
+    expect("start", bench_start((const uint8_t *)sheet, strlen(sheet), capacity, memory, length).refusal, BENCH_ACCEPTED);
 }
 
 static unsigned figure(size_t at) {
@@ -135,7 +110,7 @@ static void stands(const char *what) {
         exit(2);
     }
     memcpy(copy, memory, length);
-    expect(what, bench_fire(copy, length, 0xffffffffu).refusal, BENCH_NOT_ABLE);
+    expect(what, bench_fire(copy, length, UINT32_MAX).refusal, BENCH_NOT_ABLE);
     free(copy);
 }
 
@@ -147,108 +122,132 @@ static void good_byte(const char *what, size_t at, uint8_t value) {
 }
 
 static void header(void) {
-    unsigned links = figure(3);
-    bad_byte("results 0", 6, 0);
-    bad_byte("results 17", 6, 17);
-    bad_byte("inputs 33", 5, 33);
-    bad_byte("untaken 17", 7, 17);
-    good_byte("untaken 16", 7, 16);
-    bad_figure("operators 1025", 1, 1025);
-    bad_figure("links 3106", 3, 3106);
-    bad_figure("trigger's link past the last", 8, links);
-    bad_figure("an input without a link", 10, NO_LINK);
-    bad_figure("an input's link past the last", 10, links);
-    bad_figure("an input's link that is the trigger's", 10, figure(8));
-    bad_figure("a result without a link", 74, NO_LINK);
-    bad_figure("a result's link past the last", 74, links);
-    unsigned trigger = figure(8);
-    put_figure(8, NO_LINK);
+    unsigned links = figure(LINKS_AT), trigger = figure(TRIGGER_LINK_AT);
+    bad_byte("no results", RESULTS_AT, 0);
+    bad_byte("too many results", RESULTS_AT, MOST_RESULTS + 1);
+    bad_byte("too many inputs", INPUTS_AT, MOST_INPUTS + 1);
+    bad_byte("too many untaken", UNTAKEN_AT, MOST_UNTAKEN + 1);
+    good_byte("sixteen untaken", UNTAKEN_AT, MOST_UNTAKEN);
+    bad_figure("too many operators", OPERATORS_AT, MOST_OPERATORS + 1);
+    bad_figure("too many links", LINKS_AT, MOST_LINKS + 1);
+    bad_figure("trigger's link past the last", TRIGGER_LINK_AT, links);
+    bad_figure("an input without a link", INPUT_LINKS_AT, NO_LINK);
+    bad_figure("an input's link past the last", INPUT_LINKS_AT, links);
+    bad_figure("an input's link that is the trigger's", INPUT_LINKS_AT, trigger);
+    bad_figure("a result without a link", RESULT_LINKS_AT, NO_LINK);
+    bad_figure("a result's link past the last", RESULT_LINKS_AT, links);
+    put_figure(TRIGGER_LINK_AT, NO_LINK);
     stands("no trigger");
-    put_figure(8, trigger);
+    put_figure(TRIGGER_LINK_AT, trigger);
 }
 
-/* How many inputs and outputs each kind has. */
-static void ports_of(unsigned kind, unsigned *inputs, unsigned *outputs) {
-    *inputs = kind <= 9 ? 2 : kind <= 13 ? 1 : kind == 16 || kind == IC || kind == FM ? 3 : 2;
-    *outputs = kind == 13 ? 2 : kind == IC ? 3 : 1;
+static unsigned inputs_of(unsigned kind) {
+    if (kind == M || kind == IC || kind == FM) {
+        return 3;
+    }
+    return kind > LAST_OF_TWO && kind <= COPY ? 1 : 2;
+}
+
+static unsigned outputs_of(unsigned kind) {
+    return kind == COPY ? 2 : kind == IC ? 3 : 1;
+}
+
+/* Whether a kind has a port, and whether that port must have a link: IC's second output may lack one. */
+static int has_port(unsigned kind, unsigned port) {
+    return port < INPUT_PORTS ? port < inputs_of(kind) : port - INPUT_PORTS < outputs_of(kind);
+}
+
+static int wants_link(unsigned kind, unsigned port) {
+    return has_port(kind, port) && !(kind == IC && port == INPUT_PORTS + 1);
+}
+
+static void port_of(size_t record, unsigned port) {
+    unsigned links = figure(LINKS_AT), kind = memory[record];
+    size_t ports = record + PORTS_AT, name = ports + FIGURE_BYTES * port;
+    bad_figure("a port's link past the last", name, links);
+    bad_figure("a port's link one below none", name, NO_LINK - 1);
+    if (wants_link(kind, port)) {
+        bad_figure("a port that is missing", name, NO_LINK);
+    }
+    if (!has_port(kind, port)) {
+        bad_figure("a port that the kind has not", name, 0);
+        return;
+    }
+    for (unsigned other = 0; other < port; other++) {
+        unsigned link = figure(ports + FIGURE_BYTES * other);
+        if (link != NO_LINK) {
+            bad_figure("a link named twice by one operator", name, link);
+        }
+    }
+}
+
+static void register_of(unsigned kind, size_t at) {
+    uint8_t held[BENCH_VALUE_BYTES];
+    memcpy(held, memory + at, sizeof held);
+    for (size_t b = 0; b < sizeof no_values / sizeof no_values[0]; b++) {
+        memcpy(memory + at, no_values[b], BENCH_VALUE_BYTES);
+        all_refuse("a register that is no value", BENCH_ALTERED);
+    }
+    memcpy(memory + at, five, sizeof five);
+    if (kind == CONSTANT || kind == FM || kind == FS) {
+        stands("a register that is a value");
+    } else {
+        all_refuse("a register that the kind has not", BENCH_ALTERED);
+    }
+    memset(memory + at, 0, BENCH_VALUE_BYTES);
+    if (kind == CONSTANT) {
+        all_refuse("a constant without a value", BENCH_ALTERED);
+    } else {
+        stands("a register before the first firing");
+    }
+    memcpy(memory + at, held, sizeof held);
 }
 
 static void operators(void) {
-    unsigned count = figure(1), links = figure(3);
+    unsigned count = figure(OPERATORS_AT);
     for (unsigned i = 0; i < count; i++) {
-        size_t at = OPERATOR + 16 * i;
-        unsigned kind = memory[at], inputs, outputs;
-        ports_of(kind, &inputs, &outputs);
-        bad_byte("kind 0", at, 0);
-        bad_byte("kind 21", at, 21);
-        bad_byte("kind 255", at, 255);
-        for (unsigned port = 0; port < 6; port++) {
-            size_t name = at + 2 + 2 * port;
-            int has = port < 3 ? port < inputs : port - 3 < outputs;
-            bad_figure("a port's link past the last", name, links);
-            bad_figure("a port's link one below none", name, NO_LINK - 1);
-            if (has && !(kind == IC && port == 4)) {
-                bad_figure("a port that is missing", name, NO_LINK);
-            }
-            if (!has) {
-                bad_figure("a port that the kind has not", name, 0);
-            }
-            for (unsigned other = 0; other < port; other++) {
-                if (has && figure(at + 2 + 2 * other) != NO_LINK) {
-                    bad_figure("a link named twice by one operator", name, figure(at + 2 + 2 * other));
-                }
-            }
+        size_t record = RECORDS_AT + RECORD_BYTES * i;
+        bad_byte("kind 0", record, 0);
+        bad_byte("a kind past the last", record, LAST_KIND + 1);
+        bad_byte("the largest kind", record, UINT8_MAX);
+        for (unsigned port = 0; port < PORTS; port++) {
+            port_of(record, port);
         }
-        size_t reg = REGISTER + 5 * i;
-        uint8_t held[5];
-        memcpy(held, memory + reg, 5);
-        static const uint8_t bad[][5] = {{4, 0, 0, 0, 0}, {2, 2, 0, 0, 0}, {2, 0, 1, 0, 0}, {3, 1, 0, 0, 0}, {0, 1, 0, 0, 0}};
-        for (size_t b = 0; b < sizeof bad / sizeof bad[0]; b++) {
-            memcpy(memory + reg, bad[b], 5);
-            all_refuse("a register that is no value", BENCH_ALTERED);
-        }
-        memcpy(memory + reg, five, 5);
-        if (kind == CONSTANT || kind == FM || kind == FS) {
-            stands("a register that is a value");
-        } else {
-            all_refuse("a register that the kind has not", BENCH_ALTERED);
-        }
-        memset(memory + reg, 0, 5);
-        if (kind == CONSTANT) {
-            all_refuse("a constant without a value", BENCH_ALTERED);
-        } else {
-            stands("a register before the first firing");
-        }
-        memcpy(memory + reg, held, 5);
+        register_of(memory[record], REGISTERS_AT + BENCH_VALUE_BYTES * i);
     }
 }
 
+static void link_of(size_t at) {
+    uint8_t held[STRETCH];
+    memcpy(held, memory + at, STRETCH);
+    bad_byte("more tokens than places", at, CAPACITY + 1);
+    bad_byte("255 tokens", at, UINT8_MAX);
+    memory[at] = CAPACITY;
+    for (size_t token = at + 1; token < at + STRETCH; token += BENCH_VALUE_BYTES) {
+        memcpy(memory + token, five, sizeof five);
+    }
+    stands("a full link");
+    for (size_t token = at + 1; token < at + STRETCH; token += BENCH_VALUE_BYTES) {
+        bad_byte("tag 0", token, 0);
+        bad_byte("a tag past the last", token, BENCH_ERR + 1);
+        bad_byte("a truth that is neither", token, BENCH_TRUTH);
+        bad_byte("an err with a payload", token, BENCH_ERR);
+    }
+    memory[at] = 1;
+    memset(memory + at + 1 + BENCH_VALUE_BYTES, 0xee, BENCH_VALUE_BYTES);
+    stands("a free place may hold anything");
+    memcpy(memory + at, held, STRETCH);
+}
+
 static void links_and_tokens(void) {
-    unsigned links = figure(3);
+    unsigned links = figure(LINKS_AT);
     for (unsigned l = 0; l < links; l++) {
-        size_t at = LINK + (size_t)l * SIZE;
-        uint8_t held[SIZE];
-        memcpy(held, memory + at, SIZE);
-        bad_byte("more tokens than places", at, CAPACITY + 1);
-        bad_byte("255 tokens", at, 255);
-        memory[at] = 2;
-        memcpy(memory + at + 1, five, 5);
-        memcpy(memory + at + 6, five, 5);
-        stands("a full link");
-        for (size_t token = at + 1; token <= at + 6; token += 5) {
-            bad_byte("tag 0", token, 0);
-            bad_byte("tag 4", token, 4);
-            bad_byte("a truth that is neither", token, 2);
-            bad_byte("an err with a payload", token, 3);
-        }
-        memory[at] = 1;
-        memset(memory + at + 6, 0xee, 5);
-        stands("a free place may hold anything");
-        memcpy(memory + at, held, SIZE);
+        link_of(STRETCHES_AT + (size_t)l * STRETCH);
     }
     /* behind the last link of the graph and the last operator anything may stand */
-    memset(memory + LINK + (size_t)links * SIZE, 0xee, length - (LINK + (size_t)links * SIZE));
-    memset(memory + OPERATOR + 16 * (size_t)figure(1), 0xee, 16);
+    size_t behind = STRETCHES_AT + (size_t)links * STRETCH;
+    memset(memory + behind, 0xee, length - behind);
+    memset(memory + RECORDS_AT + RECORD_BYTES * (size_t)figure(OPERATORS_AT), 0xee, RECORD_BYTES);
     stands("bytes that the graph does not use");
 }
 
@@ -259,14 +258,14 @@ static void lengths(void) {
     expect("run, no memory", bench_run(NULL, 0, 1).refusal, BENCH_MEMORY);
     expect("take, no memory", bench_take(NULL, 0, out, sizeof out).refusal, BENCH_MEMORY);
     expect("start, no memory", bench_start((const uint8_t *)pair, sizeof pair - 1, 1, NULL, 0).refusal, BENCH_MEMORY);
-    for (uint32_t capacity = 1; capacity <= 16; capacity++) {
+    for (uint32_t capacity = 1; capacity <= MOST_CAPACITY; capacity++) {
         begin(factorial, capacity);
         length--;
         all_refuse("a byte too few", BENCH_MEMORY);
-        memory[0] = 0;
+        memory[CAPACITY_AT] = 0;
         if (capacity > 1) {
             all_refuse("stored capacity 0", BENCH_ALTERED);
-            memory[0] = 17;
+            memory[CAPACITY_AT] = MOST_CAPACITY + 1;
             all_refuse("stored capacity 17", BENCH_ALTERED);
         } else {
             all_refuse("stored capacity 0 and a byte too few for 1", BENCH_MEMORY);
@@ -274,21 +273,21 @@ static void lengths(void) {
         length++;
     }
     begin(factorial, 1);
-    memory[0] = 0;
+    memory[CAPACITY_AT] = 0;
     all_refuse("stored capacity 0 in a memory for 1", BENCH_ALTERED);
-    memory[0] = 17;
+    memory[CAPACITY_AT] = MOST_CAPACITY + 1;
     all_refuse("stored capacity 17 in a memory for 1", BENCH_ALTERED);
-    memory[0] = 2;
+    memory[CAPACITY_AT] = 2;
     all_refuse("stored capacity 2 in a memory for 1", BENCH_MEMORY);
     begin(pair, CAPACITY);
-    uint8_t short_out[79] = {0};
-    memory[6] = 0;
+    uint8_t short_out[BENCH_RESULT_BYTES - 1] = {0};
+    memory[RESULTS_AT] = 0;
     expect("take, 11 before 31", bench_take(memory, length, short_out, sizeof short_out).refusal, BENCH_MEMORY);
     expect("take, 31", bench_take(memory, length, out, sizeof out).refusal, BENCH_ALTERED);
 }
 
 static void starts(void) {
-    uint32_t wrong[] = {0, 17, 255, 256, 257, 0xffffffffu};
+    uint32_t wrong[] = {0, MOST_CAPACITY + 1, 255, 256, 257, UINT32_MAX};
     size_t size = BENCH_MACHINE_BYTES(1);
     uint8_t *mem = malloc(size);
     if (mem == NULL) {
@@ -311,7 +310,7 @@ static void starts(void) {
         }
     }
     bench_start_answer good = bench_start((const uint8_t *)factorial, sizeof factorial - 1, 1, mem, size);
-    expect("factorial", good.refusal, 0);
+    expect("factorial", good.refusal, BENCH_ACCEPTED);
     expect("its operators", good.operators, 32);
     expect("its inputs", good.inputs, 1);
     expect("its results", good.results, 1);
@@ -319,33 +318,33 @@ static void starts(void) {
 }
 
 static void orders(void) {
-    static const uint8_t bad[] = {4, 0, 0, 0, 0};
+    static const uint8_t bad[] = {BENCH_ERR + 1, 0, 0, 0, 0};
     uint8_t out[BENCH_RESULT_BYTES];
     begin(factorial, CAPACITY);
-    memory[7] = 16;
+    memory[UNTAKEN_AT] = MOST_UNTAKEN;
     expect("12 before 32", bench_push(memory, length, bad, sizeof bad).refusal, BENCH_SET);
     expect("a set too long", bench_push(memory, length, two_values, sizeof two_values).refusal, BENCH_SET);
-    expect("a set too short", bench_push(memory, length, five, 4).refusal, BENCH_SET);
+    expect("a set too short", bench_push(memory, length, five, sizeof five - 1).refusal, BENCH_SET);
     expect("an empty set", bench_push(memory, length, five, 0).refusal, BENCH_SET);
     expect("32", bench_push(memory, length, five, sizeof five).refusal, BENCH_UNTAKEN);
-    size_t input = LINK + SIZE * (size_t)figure(10);
-    memory[input] = 2;
-    memcpy(memory + input + 1, two_values, 10);
+    size_t input = STRETCHES_AT + STRETCH * (size_t)figure(INPUT_LINKS_AT);
+    memory[input] = CAPACITY;
+    memcpy(memory + input + 1, two_values, sizeof two_values);
     expect("32 before 33", bench_push(memory, length, five, sizeof five).refusal, BENCH_UNTAKEN);
-    memory[7] = 15;
+    memory[UNTAKEN_AT] = MOST_UNTAKEN - 1;
     expect("33", bench_push(memory, length, five, sizeof five).refusal, BENCH_FULL);
-    memory[7] = 0;
+    memory[UNTAKEN_AT] = 0;
     expect("35", bench_take(memory, length, out, sizeof out).refusal, BENCH_NO_RESULT);
 
     begin(factorial, CAPACITY);
-    expect("no operator can fire", bench_run(memory, length, 0).refusal, 0);
-    expect("push", bench_push(memory, length, five, sizeof five).refusal, 0);
+    expect("no operator can fire", bench_run(memory, length, 0).refusal, BENCH_ACCEPTED);
+    expect("push", bench_push(memory, length, five, sizeof five).refusal, BENCH_ACCEPTED);
     bench_answer none = bench_run(memory, length, 0);
     expect("a run lent 0", none.refusal, BENCH_UNFINISHED);
     expect("its count", none.count, 0);
-    uint32_t last = figure(1) - 1;
+    uint32_t last = figure(OPERATORS_AT) - 1;
     expect("one past the last operator", bench_fire(memory, length, last + 1).refusal, BENCH_NOT_ABLE);
-    expect("the largest number", bench_fire(memory, length, 0xffffffffu).refusal, BENCH_NOT_ABLE);
+    expect("the largest number", bench_fire(memory, length, UINT32_MAX).refusal, BENCH_NOT_ABLE);
     uint32_t able = 0;
     for (uint32_t i = 0; i <= last; i++) {
         uint8_t *copy = malloc(length);
@@ -354,38 +353,42 @@ static void orders(void) {
         }
         memcpy(copy, memory, length);
         uint32_t refusal = bench_fire(copy, length, i).refusal;
-        able += refusal == 0;
-        expect("fired or not able", refusal == 0 || refusal == BENCH_NOT_ABLE, 1);
-        expect("not able leaves memory", refusal == 0 || memcmp(copy, memory, length) == 0, 1);
+        able += refusal == BENCH_ACCEPTED;
+        expect("fired or not able", refusal == BENCH_ACCEPTED || refusal == BENCH_NOT_ABLE, 1);
+        expect("not able leaves memory", refusal == BENCH_ACCEPTED || memcmp(copy, memory, length) == 0, 1);
         free(copy);
     }
     expect("some operator can fire", able > 0, 1);
     bench_answer all = bench_run(memory, length, 1000000);
-    expect("a run to its end", all.refusal, 0);
+    expect("a run to its end", all.refusal, BENCH_ACCEPTED);
     expect("nothing can fire", bench_run(memory, length, 1).count, 0);
     bench_answer taken = bench_take(memory, length, out, sizeof out);
-    expect("take", taken.refusal, 0);
+    expect("take", taken.refusal, BENCH_ACCEPTED);
     expect("width", taken.count, 1);
-    expect("120", out[0] == 1 && out[1] == 120 && out[2] == 0 && out[5] == 3 && out[75] == 3, 1);
+    static const uint8_t verdict[] = {BENCH_WHOLE, 120, 0, 0, 0};
+    expect("120", (uint32_t)memcmp(out, verdict, sizeof verdict), 0);
+    expect("err past the width", out[BENCH_VALUE_BYTES] == BENCH_ERR && out[BENCH_RESULT_BYTES - BENCH_VALUE_BYTES] == BENCH_ERR, 1);
     expect("taken once", bench_take(memory, length, out, sizeof out).refusal, BENCH_NO_RESULT);
 }
 
 static void sixteen(void) {
-    begin(pair, 16);
-    for (int i = 0; i < 16; i++) {
-        expect("sixteen pushes pass", bench_push(memory, length, two_values, sizeof two_values).refusal, 0);
+    begin(pair, MOST_CAPACITY);
+    for (int i = 0; i < MOST_UNTAKEN; i++) {
+        expect("sixteen pushes pass", bench_push(memory, length, two_values, sizeof two_values).refusal, BENCH_ACCEPTED);
     }
     expect("the seventeenth", bench_push(memory, length, two_values, sizeof two_values).refusal, BENCH_UNTAKEN);
     begin(pair, 1);
-    expect("one push", bench_push(memory, length, two_values, sizeof two_values).refusal, 0);
+    expect("one push", bench_push(memory, length, two_values, sizeof two_values).refusal, BENCH_ACCEPTED);
     expect("a full link", bench_push(memory, length, two_values, sizeof two_values).refusal, BENCH_FULL);
-    bad_figure("results named twice", 76, figure(74));
-    bad_figure("inputs named twice", 12, figure(10));
-    uint8_t out[90];
+    bad_figure("results named twice", RESULT_LINKS_AT + FIGURE_BYTES, figure(RESULT_LINKS_AT));
+    bad_figure("inputs named twice", INPUT_LINKS_AT + FIGURE_BYTES, figure(INPUT_LINKS_AT));
+    uint8_t out[BENCH_RESULT_BYTES + 10];
     memset(out, 0x5a, sizeof out);
     bench_answer taken = bench_take(memory, length, out, sizeof out);
     expect("both values", taken.count, 2);
-    expect("their bytes", memcmp(out, two_values, 10) == 0 && out[10] == 3 && out[79] == 0 && out[80] == 0x5a && out[89] == 0x5a, 1);
+    expect("their bytes", (uint32_t)memcmp(out, two_values, sizeof two_values), 0);
+    expect("err behind them", out[sizeof two_values] == BENCH_ERR && out[BENCH_RESULT_BYTES - 1] == 0, 1);
+    expect("nothing behind the result set", out[BENCH_RESULT_BYTES] == 0x5a && out[sizeof out - 1] == 0x5a, 1);
 }
 
 int main(void) {
@@ -398,6 +401,5 @@ int main(void) {
     operators();
     links_and_tokens();
     free(memory);
-    printf("%u checks, %u failed\n", checks, failures);
-    return failures == 0 ? 0 : 1;
+    return tell();
 }

@@ -12,6 +12,8 @@
 
 #define CAPACITY 2
 #define READINGS 2
+/* A few firings between two looks at what is connected. */
+#define FIRINGS 5
 
 /* A static stretch, as firmware without a heap has it. */
 static uint8_t memory[BENCH_MACHINE_BYTES(CAPACITY)];
@@ -25,10 +27,10 @@ static const char sheet[] =
     "     1     1     0     0     0\n"
     "     7     4     5     6     0\n";
 
-/* A whole number as the five bytes of a value. */
+/* A whole number as the bytes of a value. */
 static void put_whole(uint8_t *to, int32_t number) {
     uint32_t bits = (uint32_t)number;
-    to[0] = 1;
+    to[0] = BENCH_WHOLE;
     for (int i = 0; i < 4; i++) {
         to[1 + i] = (uint8_t)(bits >> (8 * i));
     }
@@ -40,11 +42,11 @@ static void show(const uint8_t *value) {
         bits |= (uint32_t)value[1 + i] << (8 * i);
     }
     switch (value[0]) {
-    case 1:
+    case BENCH_WHOLE:
         /* two's complement, without a conversion that C leaves to the compiler */
         printf(" %" PRId64, bits < 0x80000000u ? (int64_t)bits : (int64_t)bits - 0x100000000);
         break;
-    case 2:
+    case BENCH_TRUTH:
         printf(" %c", bits == 1 ? 'T' : 'F');
         break;
     default:
@@ -70,7 +72,7 @@ static unsigned show_ready(unsigned shown) {
         }
         printf("beacon %u:", shown + 1);
         for (uint32_t i = 0; i < answer.count; i++) {
-            show(result + 5 * i);
+            show(result + BENCH_VALUE_BYTES * i);
         }
         printf("\n");
         shown++;
@@ -92,9 +94,9 @@ int main(void) {
     while (shown < count) {
         /* A beacon that is plugged in while the links are full waits for its turn. */
         if (pushed < count) {
-            uint8_t set[5 * READINGS];
+            uint8_t set[BENCH_VALUE_BYTES * READINGS];
             for (int i = 0; i < READINGS; i++) {
-                put_whole(set + 5 * i, beacons[pushed][i]);
+                put_whole(set + BENCH_VALUE_BYTES * i, beacons[pushed][i]);
             }
             bench_answer answer = bench_push(memory, sizeof memory, set, sizeof set);
             if (answer.refusal == BENCH_ACCEPTED) {
@@ -103,8 +105,7 @@ int main(void) {
                 fail("push", answer.refusal);
             }
         }
-        /* A few firings between two looks at what is connected. */
-        bench_answer ran = bench_run(memory, sizeof memory, 5);
+        bench_answer ran = bench_run(memory, sizeof memory, FIRINGS);
         if (ran.refusal != BENCH_ACCEPTED && ran.refusal != BENCH_UNFINISHED) {
             fail("run", ran.refusal);
         }

@@ -13,8 +13,11 @@
  * A refused call leaves every lent byte as it was, and its other numbers are 0, save `row` where it names a row, and a run refused with
  * BENCH_UNFINISHED, which keeps its firings and gives their count.
  *
- * Values. A value is five bytes: a tag (1 whole number, 2 truth, 3 err) and four bytes, lowest first: a whole number as int32_t, a truth
- * as 0 or 1, an err as 0. Nothing else is a value. A set is its values one after another, in the order of the inputs, rising.
+ * Values. A value is BENCH_VALUE_BYTES bytes: a tag (BENCH_WHOLE, BENCH_TRUTH or BENCH_ERR) and four bytes, lowest first: a whole number as
+ * int32_t, a truth as 0 or 1, an err as 0. Nothing else is a value.
+ *
+ * Sets. The inputs are the identifiers that are free in the formula, and a set is one value for each, one after another, by rising identifier:
+ * a formula in which 3 and 17 are free takes the value of 3, then that of 17. Results stand in the order of the formula's values.
  */
 #ifndef BENCH_H
 #define BENCH_H
@@ -25,6 +28,10 @@
 #ifdef __cplusplus
 extern "C" {
 #endif
+
+/* The tags of a value, and its length. */
+enum { BENCH_WHOLE = 1, BENCH_TRUTH = 2, BENCH_ERR = 3 };
+#define BENCH_VALUE_BYTES 5
 
 /* Said of what was handed in. `row` counts from 1 for 3 to 9 and is 0 for the others. */
 enum {
@@ -44,7 +51,8 @@ enum {
     BENCH_CAPACITY = 14,  /* a capacity outside 1..16 */
 
     /* Said of how the machine stands. */
-    BENCH_ALTERED = 31,   /* a stored figure or token outside its range, or a link named twice; never given where only these calls wrote */
+    BENCH_ALTERED = 31,   /* a stored figure or token outside its range, or a link named twice by one operator, the inputs or the results;
+                             never given where only these calls wrote since an accepted bench_start */
     BENCH_UNTAKEN = 32,   /* sixteen sets untaken */
     BENCH_FULL = 33,      /* an input link, or the trigger's, full */
     BENCH_NOT_ABLE = 34,  /* the operator is absent or not able to fire */
@@ -52,8 +60,8 @@ enum {
     BENCH_UNFINISHED = 36 /* run: something can still fire after the lent firings; evaluation: more rounds needed than lent */
 };
 
-/* What a result set needs: sixteen values of five bytes. */
-#define BENCH_RESULT_BYTES 80
+/* What a result set needs: sixteen values. */
+#define BENCH_RESULT_BYTES (16 * BENCH_VALUE_BYTES)
 
 /* What a machine needs at a capacity of 1 to 16: 40,390 bytes at 1, 55,915 at 2, 15,525 more for each further place. */
 #define BENCH_MACHINE_BYTES(capacity) ((size_t)21760 + 3105 * (5 * (size_t)(capacity) + 1))
@@ -108,7 +116,10 @@ bench_start_answer bench_start(const uint8_t *sheet, size_t sheet_bytes, uint32_
  * at that (11) and at all that is stored (31), and then gives its own refusals.
  */
 
-/* Gives one value to each input link, and a trigger where the formula has constants. Refusals, in this order: 11, 31, 12, 32, 33. */
+/*
+ * Gives one value to each input link, and a trigger where the graph has constants: those of constant rows, and those by which a loop says
+ * whether it goes on. Refusals, in this order: 11, 31, 12, 32, 33.
+ */
 bench_answer bench_push(uint8_t *memory, size_t memory_bytes, const uint8_t *set, size_t set_bytes);
 
 /* Fires one operator, counted from 0. Refusals, in this order: 11, 31, 34. */

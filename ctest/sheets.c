@@ -1,0 +1,262 @@
+/*
+ * Reading and evaluation through the C interface: the worked examples of document 01, every refusal with its row, and every byte of what is
+ * lent for the result set. Sheets, sets and result sets are allocated at their exact length, so that a tool which watches memory sees an access past
+ * their ends.
+ */
+#include <stdlib.h>
+
+#include "check.h"
+
+enum { ROW_BYTES = 31, MOST_ROWS = 200, HELD = 0x5a };
+
+static const char lesser_of_two[] =
+    "     1     0     0     0     0\n"
+    "     1     1     0     0     0\n"
+    "     4     1     2     0     0\n"
+    "     5     6     3     0     0\n"
+    "     1     0     0     0     0\n"
+    "     1     1     0     0     0\n"
+    "     7     4     5     6     0\n";
+
+/* "x + x" */
+static const char doubled[] =
+    "     1     0     0     0     0\n"
+    "     1     0     0     0     0\n"
+    "     4     1     2     0     0\n"
+    "     5     1     3     0     0\n";
+
+/* The number 7: no input. */
+static const char seven[] = "     2     7     0     0     0\n";
+
+static const struct {
+    const char *what, *sheet;
+    uint32_t refusal, row;
+} refused[] = {
+    {"an empty sheet", "", BENCH_LINES, 0},
+    {"a row without its line feed", "     1     0     0     0     0", BENCH_LINES, 0},
+    {"a row too long", "     1     0     0     0      0\n", BENCH_LINES, 0},
+    {"a leading zero", "     1    00     0     0     0\n", BENCH_FIELD, 1},
+    {"code 12", "     1     0     0     0     0\n     5    12     1     0     0\n", BENCH_RANGE, 2},
+    {"a row that names itself", "     5    11     1     0     0\n", BENCH_NAMING, 1},
+    {"a row that nothing names", "     1     0     0     0     0\n     1     1     0     0     0\n", BENCH_NAMED, 1},
+    {"iter as the formula", "     1     0     0     0     0\n     9     1     0     0     0\n", BENCH_ITER, 2},
+    {"add with one operand", "     1     0     0     0     0\n     5     1     1     0     0\n", BENCH_WIDTH, 2},
+    {"let x = 1 in 2", "     2     1     0     0     0\n     2     2     0     0     0\n     6     0     1     1     2\n", BENCH_BOUND, 3},
+};
+
+/* A value as the calls take and give it. */
+typedef struct {
+    uint8_t bytes[BENCH_VALUE_BYTES];
+} value;
+
+static value of(uint8_t tag, uint32_t bits) {
+    value v = {{tag, (uint8_t)bits, (uint8_t)(bits >> 8), (uint8_t)(bits >> 16), (uint8_t)(bits >> 24)}};
+    return v;
+}
+
+static value whole(uint32_t number) {
+    return of(BENCH_WHOLE, number);
+}
+
+static value truth(uint32_t bit) {
+    return of(BENCH_TRUTH, bit);
+}
+
+static value err(void) {
+    return of(BENCH_ERR, 0);
+}
+
+/* A copy of some bytes at its exact length; of no bytes it may be NULL. */
+static uint8_t *lend(const void *bytes, size_t length) {
+    uint8_t *copy = malloc(length);
+    if (copy == NULL && length > 0) {
+        exit(2);
+    }
+    if (length > 0) {
+        memcpy(copy, bytes, length);
+    }
+    return copy;
+}
+
+static bench_read_answer read_bytes(const void *bytes, size_t length) {
+    uint8_t *sheet = lend(bytes, length);
+    bench_read_answer answer = bench_read(sheet, length);
+    free(sheet);
+    return answer;
+}
+
+/* What an evaluation answered and left in the bytes lent for its result set. */
+typedef struct {
+    bench_evaluate_answer answer;
+    uint8_t out[2 * BENCH_RESULT_BYTES];
+} evaluated;
+
+static evaluated evaluate_bytes(const void *sheet_bytes, size_t sheet_length, const void *set_bytes, size_t set_length, uint32_t rounds,
+                                size_t out_length) {
+    evaluated got;
+    memset(got.out, HELD, sizeof got.out);
+    uint8_t *sheet = lend(sheet_bytes, sheet_length);
+    uint8_t *set = lend(set_bytes, set_length);
+    uint8_t *out = lend(got.out, out_length);
+    got.answer = bench_evaluate(sheet, sheet_length, set, set_length, rounds, out, out_length);
+    if (out_length > 0) {
+        memcpy(got.out, out, out_length);
+    }
+    free(sheet);
+    free(set);
+    free(out);
+    return got;
+}
+
+static evaluated evaluate(const char *sheet, const value *set, size_t values, uint32_t rounds) {
+    return evaluate_bytes(sheet, strlen(sheet), set, values * sizeof *set, rounds, BENCH_RESULT_BYTES);
+}
+
+/* Whether all bytes from one on are as they were lent. */
+static int untouched(const uint8_t *out, size_t from) {
+    for (size_t i = from; i < 2 * BENCH_RESULT_BYTES; i++) {
+        if (out[i] != HELD) {
+            return 0;
+        }
+    }
+    return 1;
+}
+
+static void expect_refused(const char *what, evaluated got, uint32_t refusal, uint32_t row) {
+    expect(what, got.answer.refusal, refusal);
+    expect(what, got.answer.row, row);
+    expect(what, got.answer.width, 0);
+    expect(what, got.answer.rounds, 0);
+    expect(what, untouched(got.out, 0) != 0, 1);
+}
+
+/* One result, and err in the fifteen places behind it. */
+static void expect_one(const char *what, evaluated got, value wanted, uint32_t rounds) {
+    value nothing = err();
+    expect(what, got.answer.refusal, BENCH_ACCEPTED);
+    expect(what, got.answer.row, 0);
+    expect(what, got.answer.width, 1);
+    expect(what, got.answer.rounds, rounds);
+    expect(what, (uint32_t)memcmp(got.out, &wanted, sizeof wanted), 0);
+    for (size_t at = BENCH_VALUE_BYTES; at < BENCH_RESULT_BYTES; at += BENCH_VALUE_BYTES) {
+        expect(what, (uint32_t)memcmp(got.out + at, &nothing, sizeof nothing), 0);
+    }
+    expect(what, untouched(got.out, BENCH_RESULT_BYTES) != 0, 1);
+}
+
+static void expect_read(const char *what, const char *sheet, uint32_t rows, uint32_t operators, uint32_t inputs, uint32_t results) {
+    bench_read_answer answer = read_bytes(sheet, strlen(sheet));
+    expect(what, answer.refusal, BENCH_ACCEPTED);
+    expect(what, answer.row, 0);
+    expect(what, answer.rows, rows);
+    expect(what, answer.operators, operators);
+    expect(what, answer.inputs, inputs);
+    expect(what, answer.results, results);
+}
+
+static void expect_unread(const char *what, const char *sheet, size_t length, uint32_t refusal, uint32_t row) {
+    bench_read_answer answer = read_bytes(sheet, length);
+    expect(what, answer.refusal, refusal);
+    expect(what, answer.row, row);
+    expect(what, answer.rows, 0);
+    expect(what, answer.operators, 0);
+    expect(what, answer.inputs, 0);
+    expect(what, answer.results, 0);
+    /* The set is bad too: what is wrong with the sheet comes first. */
+    expect_refused(what, evaluate_bytes(sheet, length, "x", 1, 0, BENCH_RESULT_BYTES), refusal, row);
+    expect_refused(what, evaluate_bytes(sheet, length, "x", 1, 0, BENCH_RESULT_BYTES - 1), BENCH_MEMORY, 0);
+}
+
+static void worked_examples(void) {
+    value sets[][2] = {{whole(3), whole(5)}, {whole(7), whole(7)}, {err(), whole(2)}, {truth(1), whole(1)}};
+    value results[] = {whole(3), whole(7), err(), err()};
+    expect_read("the lesser of two", lesser_of_two, 7, 8, 2, 1);
+    for (size_t i = 0; i < sizeof results / sizeof results[0]; i++) {
+        expect_one("the lesser of two", evaluate(lesser_of_two, sets[i], 2, 0), results[i], 0);
+    }
+    expect_read("x + x", doubled, 4, 2, 1, 1);
+    value n[] = {whole(5), whole(0), whole(12), whole(13), err()};
+    expect_read("factorial", factorial, 20, 32, 1, 1);
+    expect_one("factorial of 5", evaluate(factorial, &n[0], 1, 5), whole(120), 5);
+    expect_one("more rounds than needed", evaluate(factorial, &n[0], 1, UINT32_MAX), whole(120), 5);
+    expect_refused("a round too few", evaluate(factorial, &n[0], 1, 4), BENCH_UNFINISHED, 0);
+    expect_refused("no rounds", evaluate(factorial, &n[0], 1, 0), BENCH_UNFINISHED, 0);
+    expect_one("factorial of 0", evaluate(factorial, &n[1], 1, 1), whole(1), 1);
+    expect_one("factorial of 12", evaluate(factorial, &n[2], 1, 12), whole(479001600), 12);
+    expect_one("factorial of 13", evaluate(factorial, &n[3], 1, 13), err(), 13);
+    expect_one("factorial of err", evaluate(factorial, &n[4], 1, 1), err(), 1);
+}
+
+/* A row at its place in a sheet. */
+static void put_row(char *sheet, unsigned row, unsigned kind, unsigned a, unsigned b, unsigned c) {
+    char text[ROW_BYTES + 1];
+    snprintf(text, sizeof text, "%6u%6u%6u%6u     0\n", kind % 100000, a % 100000, b % 100000, c % 100000);
+    memcpy(sheet + (size_t)ROW_BYTES * (row - 1), text, ROW_BYTES);
+}
+
+enum { IDENTIFIER = 1, PAIR = 4, OPERATOR = 5, IF = 7, ADD = 1, NEGATE = 11 };
+
+static void long_sheets(void) {
+    char sheet[(MOST_ROWS + 1) * ROW_BYTES];
+    put_row(sheet, 1, IDENTIFIER, 0, 0, 0);
+    for (unsigned row = 2; row <= MOST_ROWS + 1; row++) {
+        put_row(sheet, row, OPERATOR, NEGATE, row - 1, 0);
+    }
+    expect("200 rows", read_bytes(sheet, MOST_ROWS * ROW_BYTES).operators, MOST_ROWS - 1);
+    expect_unread("201 rows", sheet, sizeof sheet, BENCH_ROWS, 0);
+    /* x0 + x1 + .. + x19 within ifs within ifs: each if has a gate for each name that is free in its arms. */
+    unsigned row = 1;
+    put_row(sheet, row, IDENTIFIER, 0, 0, 0);
+    for (unsigned name = 1; name < 20; name++, row += 3) {
+        put_row(sheet, row + 1, IDENTIFIER, name, 0, 0);
+        put_row(sheet, row + 2, PAIR, row, row + 1, 0);
+        put_row(sheet, row + 3, OPERATOR, ADD, row + 2, 0);
+    }
+    for (; row + 3 <= MOST_ROWS; row += 3) {
+        put_row(sheet, row + 1, IDENTIFIER, 0, 0, 0);
+        put_row(sheet, row + 2, IDENTIFIER, 0, 0, 0);
+        put_row(sheet, row + 3, IF, row + 1, row, row + 2);
+    }
+    expect_unread("too many operators", sheet, (size_t)row * ROW_BYTES, BENCH_OPERATORS, 0);
+}
+
+static void sets(void) {
+    value two[] = {whole(5), truth(1)}, result[] = {whole(5), truth(1), err()};
+    value bad[] = {of(0, 0), of(BENCH_ERR + 1, 0), of(BENCH_TRUTH, 2), of(BENCH_TRUTH, 256), of(BENCH_ERR, 1)};
+    expect_refused("a value too few", evaluate(pair, two, 1, 0), BENCH_SET, 0);
+    expect_refused("a byte too few", evaluate_bytes(pair, sizeof pair - 1, two, sizeof two - 1, 0, BENCH_RESULT_BYTES), BENCH_SET, 0);
+    expect_refused("a value too many", evaluate(factorial, two, 2, 9), BENCH_SET, 0);
+    for (size_t i = 0; i < sizeof bad / sizeof bad[0]; i++) {
+        expect_refused("no value, and 12 before 36", evaluate(factorial, &bad[i], 1, 0), BENCH_SET, 0);
+    }
+    evaluated both = evaluate_bytes(pair, sizeof pair - 1, two, sizeof two, 0, sizeof both.out);
+    expect("two results", both.answer.refusal, BENCH_ACCEPTED);
+    expect("two results", both.answer.width, 2);
+    expect("two results", (uint32_t)memcmp(both.out, result, sizeof result), 0);
+    expect("bytes past the result set", untouched(both.out, BENCH_RESULT_BYTES) != 0, 1);
+}
+
+static void nothing_lent(void) {
+    uint8_t out[BENCH_RESULT_BYTES];
+    const uint8_t *sheet = (const uint8_t *)seven;
+    bench_evaluate_answer answer = bench_evaluate(sheet, sizeof seven - 1, NULL, 0, 0, out, sizeof out);
+    value wanted = whole(7);
+    expect("no sheet", bench_read(NULL, 0).refusal, BENCH_LINES);
+    expect("no sheet to evaluate", bench_evaluate(NULL, 0, NULL, 0, 0, out, sizeof out).refusal, BENCH_LINES);
+    expect("no set for no inputs", answer.refusal, BENCH_ACCEPTED);
+    expect("no set for no inputs", (uint32_t)memcmp(out, &wanted, sizeof wanted), 0);
+    sheet = (const uint8_t *)pair;
+    expect("no set for two inputs", bench_evaluate(sheet, sizeof pair - 1, NULL, 0, 0, out, sizeof out).refusal, BENCH_SET);
+    expect("no room", bench_evaluate(sheet, sizeof pair - 1, NULL, 0, 0, NULL, 0).refusal, BENCH_MEMORY);
+}
+
+int main(void) {
+    worked_examples();
+    for (size_t i = 0; i < sizeof refused / sizeof refused[0]; i++) {
+        expect_unread(refused[i].what, refused[i].sheet, strlen(refused[i].sheet), refused[i].refusal, refused[i].row);
+    }
+    long_sheets();
+    sets();
+    nothing_lent();
+    return tell();
+}
