@@ -1,54 +1,84 @@
-// How much stack the product's `bench_evaluate` and `bench_start` take, for the deepest sheets of each kind of row: the stack below the call is
-// filled with a pattern, and afterwards the lowest byte that changed is looked for.
+// How much stack each of the product's calls takes, for sheets that lead deep: the stack below the call is filled with a pattern, and afterwards the
+// lowest byte that changed is looked for.
 
 use compare::bytes::{self, OUT_BYTES};
+use compare::random::Rng;
 use compare::sheet::{self, write};
 use compare::value::Value;
-use compare::{memory, product};
+use compare::{examples, memory, product};
 use std::hint::black_box;
 use std::thread;
 
 const PAINTED: usize = 1 << 20;
 const PATTERN: u8 = 0xa5;
+const ROUNDS: u32 = 1000;
+const FIRINGS: u32 = 10_000;
+const MOST_ROWS: usize = 200;
+const CALLS: [&str; 7] = ["read", "evaluate", "start", "push", "fire", "run", "take"];
+
+type Row = [u32; 5];
 
 fn main() {
+    // a stack that is larger than what is painted
+    let run = thread::Builder::new().stack_size(4 * PAINTED).spawn(measure_all);
+    run.expect("a thread").join().expect("no panic");
+}
+
+fn measure_all() {
+    println!("{:36}{}", "bytes of stack", CALLS.map(|name| format!("{name:>9}")).concat());
+    let mut most = [0; CALLS.len()];
     for (name, sheet, value) in sheets() {
         let refused = sheet::read(&sheet).err();
         assert!(refused.is_none(), "{name}: {refused:?}");
-        let copy = sheet.clone();
-        let (refusal, bytes) = apart(move || evaluation(&sheet, value));
-        println!("evaluate: {name:34} refusal {refusal:2}, {bytes:7} bytes of stack");
-        let (refusal, bytes) = apart(move || starting(&copy));
-        println!("start:    {name:34} refusal {refusal:2}, {bytes:7} bytes of stack");
+        let taken = measure(&sheet, value);
+        print_line(name, taken);
+        most = std::array::from_fn(|call| most[call].max(taken[call]));
     }
+    print_line("the most", most);
 }
 
-/// A measurement on a stack of its own.
-fn apart(measure: impl FnOnce() -> (u32, usize) + Send + 'static) -> (u32, usize) {
-    let run = thread::Builder::new().stack_size(4 * PAINTED).spawn(measure);
-    run.expect("a thread").join().expect("no panic")
+fn print_line(name: &str, taken: [usize; CALLS.len()]) {
+    println!("{name:36}{}", taken.map(|bytes| format!("{bytes:9}")).concat());
 }
 
-/// The refusal, and how far below this frame the call wrote.
-#[inline(never)]
-fn evaluation(sheet: &[u8], value: Value) -> (u32, usize) {
+/// What each call takes for one sheet, with `value` for each input. Every call must be accepted, and the pushed set be taken.
+fn measure(sheet: &[u8], value: Value) -> [usize; CALLS.len()] {
     let inputs = bytes::read(sheet).inputs as usize;
     let set = bytes::encode_set(&vec![value; inputs]);
     let mut out = [0; OUT_BYTES];
-    paint();
-    let here = black_box(&out).as_ptr() as usize;
-    let refusal = product::evaluate(sheet, &set, 1000, &mut out).refusal;
-    (refusal, here - lowest_changed(here))
+    let mut mem = vec![0; memory::need(1)];
+    let read = below(|| product::read(sheet).refusal);
+    let evaluate = below(|| product::evaluate(sheet, &set, ROUNDS, &mut out).refusal);
+    let start = below(|| product::start(sheet, 1, &mut mem).refusal);
+    let push = below(|| product::push(&mut mem, &set).refusal);
+    let fire = deepest_fire(&mem, product::start(sheet, 1, &mut mem.clone()).operators);
+    let run = below(|| product::run(&mut mem, FIRINGS).refusal);
+    let take = below(|| product::take(&mut mem, &mut out).refusal);
+    [read, evaluate, start, push, fire, run, take]
 }
 
+/// The most that firing any one operator takes, able or not.
+fn deepest_fire(mem: &[u8], operators: u32) -> usize {
+    let fire = |operator| {
+        let mut copy = mem.to_vec();
+        below(|| {
+            product::fire(&mut copy, operator);
+            0
+        })
+    };
+    (0..=operators).map(fire).max().unwrap_or(0)
+}
+
+/// How far below this frame a call wrote; the call must not be refused.
 #[inline(never)]
-fn starting(sheet: &[u8]) -> (u32, usize) {
-    let mut mem = vec![0; memory::need(1)];
+fn below(call: impl FnOnce() -> u32) -> usize {
     let here = [0u8; 16];
     paint();
     let here = black_box(&here).as_ptr() as usize;
-    let refusal = product::start(sheet, 1, &mut mem).refusal;
-    (refusal, here - lowest_changed(here))
+    let refusal = call();
+    let lowest = lowest_changed(here);
+    assert_eq!(refusal, 0);
+    here - lowest
 }
 
 #[inline(never)]
@@ -63,48 +93,62 @@ fn lowest_changed(here: usize) -> usize {
     (start..here).find(|&at| unsafe { (at as *const u8).read_volatile() } != PATTERN).unwrap_or(here)
 }
 
-/// A sheet, and the value that leads into its depth.
+const NAME: Row = [1, 0, 0, 0, 0];
+
+/// A sheet of 200 rows, or nearly, and the value that leads into its depth and out of it.
 fn sheets() -> Vec<(&'static str, Vec<u8>, Value)> {
-    let chain = |row: fn(u32) -> [u32; 5]| (2..=200).map(row).collect::<Vec<_>>();
-    let name = [1, 0, 0, 0, 0];
-    let negations = [vec![name], chain(|row| [5, 11, row - 1, 0, 0])].concat();
+    let (whole, yes, no) = (Value::Whole(7), Value::Truth(true), Value::Truth(false));
+    let many = examples::many_operators(&mut Rng::new(1));
     vec![
-        ("200 rows of negations", write(&negations), Value::Whole(7)),
-        ("lets in lets, 199 rows", write(&lets(name)), Value::Whole(7)),
-        ("ifs in ifs, 199 rows", write(&ifs(name)), Value::Truth(true)),
-        ("loops in loops, 199 rows", write(&loops()), Value::Truth(false)),
+        ("the lesser of two", examples::lesser(), whole),
+        ("negations", chain(|last| vec![[5, 11, last, 0, 0]]), whole),
+        ("sums in sums", chain(|last| vec![NAME, [4, last + 1, last, 0, 0], [5, 1, last + 2, 0, 0]]), Value::Whole(0)),
+        ("lets in lets", chain(|last| vec![NAME, [6, 0, 1, last + 1, last]]), whole),
+        ("ifs in ifs", chain(|last| vec![NAME, NAME, [7, last + 1, last, last + 2, 0]]), yes),
+        ("ifs in the tests of ifs", chain(|last| vec![NAME, NAME, [7, last, last + 1, last + 2, 0]]), yes),
+        ("loops in loops", chain(loop_around), no),
+        ("loops in the starts of loops", chain(loop_from), no),
+        ("ifs in a loop's body", body(if_around), no),
+        ("lets in a loop's body", body(|last| vec![NAME, [6, 0, 1, last + 1, last]]), no),
+        ("over 1,000 operators", many.bytes, whole),
     ]
 }
 
-/// let x = x in let x = x in ..
-fn lets(name: [u32; 5]) -> Vec<[u32; 5]> {
-    let mut rows = vec![name];
-    while rows.len() + 2 <= 200 {
-        let last = rows.len() as u32;
-        rows.extend([name, [6, 0, 1, last + 1, last]]);
+/// Parts around an identifier, as many as fit; an identifier that is negated once or more where rows are left. A part is given the row it goes around.
+fn chain(part: impl Fn(u32) -> Vec<Row>) -> Vec<u8> {
+    let left = (MOST_ROWS - 1) % part(1).len();
+    let mut rows = vec![NAME];
+    rows.extend((1..=left as u32).map(|last| [5, 11, last, 0, 0]));
+    while rows.len() < MOST_ROWS {
+        rows.extend(part(rows.len() as u32));
     }
-    rows
+    write(&rows)
 }
 
-/// if x then if x then .. else x else x
-fn ifs(name: [u32; 5]) -> Vec<[u32; 5]> {
-    let mut rows = vec![name];
-    while rows.len() + 3 <= 200 {
-        let last = rows.len() as u32;
-        rows.extend([name, name, [7, last + 1, last, last + 2, 0]]);
-    }
-    rows
+/// for x = x do if x then iter x else (row `last`)
+fn loop_around(last: u32) -> Vec<Row> {
+    let body = [7, last + 2, last + 4, last, 0];
+    vec![NAME, NAME, NAME, [9, last + 3, 0, 0, 0], body, [8, 0, 1, last + 1, last + 5]]
 }
 
-/// for x = x do if x then iter x else (a loop in the returned arm)
-fn loops() -> Vec<[u32; 5]> {
-    let name = [1, 0, 0, 0, 0];
-    let mut rows = vec![name];
-    while rows.len() + 6 <= 200 {
-        let last = rows.len() as u32;
-        let start = [name, name, name, [9, last + 3, 0, 0, 0]];
-        rows.extend(start);
-        rows.extend([[7, last + 2, last + 4, last, 0], [8, 0, 1, last + 1, last + 5]]);
+/// for x = (row `last`) do if x then iter x else x
+fn loop_from(last: u32) -> Vec<Row> {
+    let body = [7, last + 1, last + 3, last + 4, 0];
+    vec![NAME, NAME, [9, last + 2, 0, 0, 0], NAME, body, [8, 0, 1, last, last + 5]]
+}
+
+/// if x then iter x else (row `last`)
+fn if_around(last: u32) -> Vec<Row> {
+    vec![NAME, NAME, [9, last + 2, 0, 0, 0], [7, last + 1, last + 3, last, 0]]
+}
+
+/// A loop around a body that iterates or returns, with parts around that body, as many as fit.
+fn body(part: impl Fn(u32) -> Vec<Row>) -> Vec<u8> {
+    let mut rows = [vec![NAME], if_around(1)].concat();
+    while rows.len() + part(1).len() + 2 <= MOST_ROWS {
+        rows.extend(part(rows.len() as u32));
     }
-    rows
+    let last = rows.len() as u32;
+    rows.extend([NAME, [8, 0, 1, last + 1, last]]);
+    write(&rows)
 }
