@@ -57,17 +57,14 @@ class Repo:
                 raise Refusal("no crates.txt in this folder or above it: run from a Rattle repository")
             root = root.parent
         self.root = root
-        self.deps = self._read_crates()
+        self.lines = self._read_crates()
+        self.deps = {name: line.split(":", 1)[1].split() for name, line in self.lines.items()}
 
     def _read_crates(self):
-        """Crate name -> the names after its colon, as crates.txt has them."""
-        deps = {}
-        for line in (self.root / "crates.txt").read_text(encoding="utf-8").splitlines():
-            line = line.split("#", 1)[0]
-            if ":" in line:
-                name, rest = line.split(":", 1)
-                deps[name.strip()] = rest.split()
-        return deps
+        """Crate name -> its line of crates.txt, to the letter: rt knows a proved crate by it too."""
+        lines = (self.root / "crates.txt").read_text(encoding="utf-8").splitlines()
+        lines = [line.split("#", 1)[0] for line in lines]
+        return {line.split(":", 1)[0].strip(): line for line in lines if ":" in line}
 
     def crate(self, name):
         """The folder of the crate `name`; refuses an unknown name."""
@@ -624,7 +621,7 @@ class Workshop:
         """Brings the copy up to date; `proofs` maps a file below proofs/ to its text."""
         self.room.mkdir(exist_ok=True)
         crates = self.repo.below(self.crate)
-        lines = [f"{name}: {' '.join(self.repo.deps[name])}\n" for name in crates]
+        lines = [self.repo.lines[name] + "\n" for name in crates]
         (self.room / "crates.txt").write_text("".join(lines), encoding="utf-8")
         for name in crates[:-1]:
             self._copy_dep(name)
