@@ -21,8 +21,8 @@ use Rattle.formula.specs.Free.{freeE}
 use Rattle.formula.specs.Tests.{verdictOf}
 use Rattle.meaning.specs.Rows.{ExpRow, widthIn}
 use Rattle.meaning.specs.Accepted.{passes, accepted, formula-row}
-use Rattle.sheet.specs.Nodes.{nodeAt, returnedIn, freeIn}
-use Rattle.sheet.specs.Reading.{Tables, Accepts}
+use Rattle.sheet_tables.specs.Nodes.{nodeAt, returnedIn, freeIn}
+use Rattle.sheet_read.specs.Reading.{Tables, Accepts}
 use Rattle.eval.specs.declared.Evaluation.{Evaluation}
 use Rattle.eval.specs.Evaluate.{refused, evaluated, afterVerdict, evaluationOf}
 

@@ -3,11 +3,11 @@
 // include/bench.h says the same in C.
 use calls::Answer;
 use evaluate::EvaluateAnswer;
-use sheet::read::ReadAnswer;
+use sheet_read::read::ReadAnswer;
 use start::StartAnswer;
 ghost use mathlib.Core.Path.{_≡_};
 ghost use Rattle.formula.specs.Tests.{readingOf};
-ghost use Rattle.sheet.specs.Reading.{answerOf};
+ghost use Rattle.sheet_read.specs.Reading.{answerOf};
 ghost use Rattle.evaluate.specs.Handed.{handed as evaluationHanded, handedOut};
 ghost use Rattle.start.specs.Start.{begun, started};
 ghost use Rattle.calls.specs.Calls.{outcome, handed, pushed, fired, ran, taken};
@@ -16,7 +16,7 @@ ghost use Rattle.calls.specs.Calls.{outcome, handed, pushed, fired, ran, taken}
 pub extern "C" fn bench_read(sheet: &[u8]) -> ReadAnswer
     ensures { λ r. ⌜ r ≡ answerOf (readingOf (now (sheet .entry))) ⌝ }
 {
-    sheet::read::bench_read(sheet)
+    sheet_read::read::bench_read(sheet)
 }
 
 #[no_mangle]

@@ -20,7 +20,7 @@ use Rattle.yields.specs.Naming.{Small}
 use Rattle.yields.specs.BodyWidths.{iterated-16, returnedOutputs, returned-outputs-le}
 use Rattle.graph.specs.Assembly.{Graph, loop, free, memberOf, upFrom, total, linksOf}
 use Rattle.graph.specs.Translation.{graphE, graphB}
-use Rattle.sheet.specs.Masks.{outside}
+use Rattle.sheet_tables.specs.Masks.{outside}
 use Rattle.emit.specs.Masked.{listOf, list-is}
 use Rattle.emit.specs.Environments.{listed-small}
 use Rattle.emit.specs.Laid.{listed-length}

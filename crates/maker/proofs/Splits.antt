@@ -20,7 +20,7 @@ use Rattle.yields.specs.BodyWidths.{returnedOutputs, iterated-outputs}
 use Rattle.graph.specs.Fit.{Fit}
 use Rattle.graph.specs.Assembly.{Graph, beside, bind, loop, free, memberOf, upFrom, total, linksOf}
 use Rattle.wiring.specs.Conservation.{length-outputs}
-use Rattle.sheet.specs.Masks.{outside}
+use Rattle.sheet_tables.specs.Masks.{outside}
 use Rattle.emit.specs.Masked.{listOf, Mask, mask-short, list-length}
 use Rattle.emit.specs.Emitted.{linkIn, dealt}
 use Rattle.emit.specs.Counts.{operatorCount}

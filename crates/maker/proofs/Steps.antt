@@ -28,7 +28,7 @@ use Rattle.yields.specs.BodyWidths.{not-too-wide}
 use Rattle.graph.specs.Yields.{outputCount}
 use Rattle.graph.specs.Assembly.{Graph, beside, bind, gate, oper, free, memberOf, upFrom, gateOutputs}
 use Rattle.graph.specs.Translation.{graphE, graphB, constantOf}
-use Rattle.sheet.specs.Masks.{plainMask, outside, Ranged}
+use Rattle.sheet_tables.specs.Masks.{plainMask, outside, Ranged}
 use Rattle.emit.specs.Masked.{listOf}
 use Rattle.emit.specs.Emitted.{assigned}
 use Rattle.emit.specs.Counts.{operatorCount}

@@ -18,8 +18,8 @@ use Rattle.formula.specs.Widths.{returned}
 use Rattle.formula.specs.Tests.{verdictOf}
 use Rattle.meaning.specs.Rows.{Placed, widthIn, Accepted}
 use Rattle.meaning.specs.Accepted.{passes, accepted}
-use Rattle.sheet.specs.Nodes.{nodeAt, returnedIn, freeIn as freeOf}
-use Rattle.sheet.specs.Reading.{Tables, Accepts, Told}
+use Rattle.sheet_tables.specs.Nodes.{nodeAt, returnedIn, freeIn as freeOf}
+use Rattle.sheet_read.specs.Reading.{Tables, Accepts, Told}
 use Rattle.verdicts.specs.Admitting.{accepted-admitted}
 use Rattle.verdicts.specs.Verdicts.{accepted-graph}
 use Rattle.emit.specs.Nodes.{Kids, Read, freeIn}

@@ -5,7 +5,7 @@ use crate::parts::numbered;
 use crate::rows::row;
 use names::has;
 use names::minus;
-use sheet::masks::mask_at;
+use sheet_tables::masks::mask_at;
 ghost use mathlib.Core.Path.{_≡_};
 ghost use mathlib.Core.Bool.{cond};
 ghost use mathlib.Core.List.{_++_};

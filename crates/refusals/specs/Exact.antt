@@ -25,7 +25,7 @@ use Rattle.formula.specs.Places.{placesOf}
 use Rattle.formula.specs.Tree.{Exp, formulaOf}
 use Rattle.formula.specs.Free.{freeE, inputsOf as inputsIn}
 use Rattle.formula.specs.Tests.{whole, lowest, laidOut, fewRows, fieldsWell, rangesWell, namesWell, namedOnce, allNamed, placedWell, widthsWell, boundWell, operatorsOf as operatorsIn, afterCheck, verdictBy, verdictOf, tests, rowTests, formulaTests, graphTests, sheetOf, figuresOf, answerBy, readingOf}
-use Rattle.sheet.specs.Reading.{answerOf}
+use Rattle.sheet_read.specs.Reading.{answerOf}
 use Rattle.meaning.specs.Meaning.{Outcome, yields, inputsHold, evalE}
 use Rattle.eval.specs.declared.Evaluation.{Evaluation}
 use Rattle.eval.specs.Evaluate.{setValues, concluded, evaluatedWith, evaluated, afterVerdict, evaluationOf}

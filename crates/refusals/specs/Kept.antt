@@ -19,8 +19,8 @@ use Rattle.formula.specs.Refusals.{numberOf}
 use Rattle.formula.specs.Tree.{Exp, formulaOf}
 use Rattle.formula.specs.Free.{freeE, inputsOf as inputsIn}
 use Rattle.formula.specs.Tests.{verdictOf, figuresOf, answerBy, readingOf}
-use Rattle.sheet.specs.declared.read.ReadAnswer.{ReadAnswer}
-use Rattle.sheet.specs.Reading.{answerOf}
+use Rattle.sheet_read.specs.declared.read.ReadAnswer.{ReadAnswer}
+use Rattle.sheet_read.specs.Reading.{answerOf}
 use Rattle.meaning.specs.Meaning.{Outcome as Ended, yields, inputsHold, evalE}
 use Rattle.eval.specs.declared.Evaluation.{Evaluation}
 use Rattle.eval.specs.Evaluate.{setValues, concluded, evaluatedWith, evaluated, afterVerdict, evaluationOf}

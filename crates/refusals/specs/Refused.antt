@@ -9,7 +9,7 @@ use mathlib.Core.List.{List, [], _∷_}
 use Rattle.formula.specs.declared.Refusal.{Refusal}
 use Rattle.formula.specs.Refusals.{numberOf}
 use Rattle.formula.specs.Tests.{readingOf}
-use Rattle.sheet.specs.Reading.{answerOf}
+use Rattle.sheet_read.specs.Reading.{answerOf}
 use Rattle.evaluate.specs.Handed.{handedOut}
 use Rattle.calls.specs.Calls.{pushed, fired, ran, taken}
 use Rattle.start.specs.Start.{started}

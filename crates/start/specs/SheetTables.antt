@@ -6,7 +6,7 @@ use mathlib.Core.List.{List}
 use native.Mathlib.Omega.{arith}
 use lib.ListN.{length, take, length-take}
 use Rattle.formula.specs.declared.Verdict.the-variants.{Passed}
-use Rattle.sheet.specs.Reading.{Tables, Accepts, Told}
+use Rattle.sheet_read.specs.Reading.{Tables, Accepts, Told}
 use Rattle.formula.specs.Tree.{expOf}
 use Rattle.maker.specs.Making.{makingOf}
 use Rattle.maker.specs.declared.make.Making.{Making}

@@ -2,12 +2,12 @@
 // written and every link emptied (document 01, "Running": "Start takes a link capacity of 1 to 16";
 // refusals 11, 14, then 1 to 10). The definitions are specs/Start; the contracts are equations on the
 // answer and on every lent byte, and the firmware's entry point asks nothing of its caller.
-use fields::blank;
 use formula::Refusal;
 use formula::Verdict;
 use maker::make::Making;
 use maker::make::make;
-use sheet::read::fill_tables;
+use sheet_fields::blank;
+use sheet_read::read::fill_tables;
 ghost use mathlib.Core.Path.{_≡_};
 ghost use Prim.Native.Nat.{ℕ, _+_, _*_, _≤_, _<_};
 ghost use lib.ListN.{length};

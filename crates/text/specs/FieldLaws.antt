@@ -17,7 +17,7 @@ use Rattle.value.specs.Bytes.{wordOf}
 use Rattle.formula.specs.declared.Field.the-variants.{Number, Malformed}
 use Rattle.formula.specs.declared.Field.{Field}
 use Rattle.formula.specs.Sheet.{digitsOf, fieldOf, zeroOf}
-use Rattle.fields.proofs.FieldLaws.{field-zero, zero-end, zero-more}
+use Rattle.sheet_fields.proofs.FieldLaws.{field-zero, zero-end, zero-more}
 use Rattle.text.specs.Fields.{positive, negative, behindMinus, alone, fieldValue, wordBy}
 
 -- ---- numbers

@@ -5,12 +5,12 @@ use Rattle.evaluate.proofs.evaluate.Reads as reads
 use Rattle.evaluate.proofs.evaluate.Lts as lts
 use Rattle.eval.proofs.evaluate.evaluate_row.Reads as evaluate-row-reads
 use Rattle.eval.proofs.evaluate.refuse.Reads as refuse-reads
-use Rattle.fields.proofs.blank.bytes.Reads as bytes-reads
-use Rattle.fields.proofs.blank.fields.Reads as fields-reads
-use Rattle.fields.proofs.blank.marks.Reads as marks-reads
-use Rattle.fields.proofs.blank.numbers.Reads as numbers-reads
-use Rattle.fields.proofs.blank.words.Reads as words-reads
-use Rattle.sheet.proofs.read.fill_tables.Reads as fill-tables-reads
+use Rattle.sheet_fields.proofs.blank.bytes.Reads as bytes-reads
+use Rattle.sheet_fields.proofs.blank.fields.Reads as fields-reads
+use Rattle.sheet_fields.proofs.blank.marks.Reads as marks-reads
+use Rattle.sheet_fields.proofs.blank.numbers.Reads as numbers-reads
+use Rattle.sheet_fields.proofs.blank.words.Reads as words-reads
+use Rattle.sheet_read.proofs.read.fill_tables.Reads as fill-tables-reads
 use Prim.Native.Nat.{ℕ, _+_, _-_, _*_, _≤_, _<_}
 use mathlib.Core.Path.{_≡_, refl, sym, ap, _∙_}
 use lib.ListN.{length}

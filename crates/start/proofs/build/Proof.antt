@@ -3,13 +3,13 @@ use Rattle.start.proofs.build.Statement.{statement}
 use Rattle.start.proofs.build.Tie as tie
 use Rattle.start.proofs.build.Reads as reads
 use Rattle.start.proofs.build.Lts as lts
-use Rattle.fields.proofs.blank.bytes.Reads as bytes-reads
-use Rattle.fields.proofs.blank.fields.Reads as fields-reads
-use Rattle.fields.proofs.blank.marks.Reads as marks-reads
-use Rattle.fields.proofs.blank.numbers.Reads as numbers-reads
-use Rattle.fields.proofs.blank.words.Reads as words-reads
+use Rattle.sheet_fields.proofs.blank.bytes.Reads as bytes-reads
+use Rattle.sheet_fields.proofs.blank.fields.Reads as fields-reads
+use Rattle.sheet_fields.proofs.blank.marks.Reads as marks-reads
+use Rattle.sheet_fields.proofs.blank.numbers.Reads as numbers-reads
+use Rattle.sheet_fields.proofs.blank.words.Reads as words-reads
 use Rattle.maker.proofs.make.make.Reads as make-reads
-use Rattle.sheet.proofs.read.fill_tables.Reads as fill-tables-reads
+use Rattle.sheet_read.proofs.read.fill_tables.Reads as fill-tables-reads
 use Rattle.start.proofs.complete.Reads as complete-reads
 use Rattle.start.proofs.refused.Reads as refused-reads
 use mathlib.Core.Path.{_≡_, refl, sym, ap, _∙_, subst}

@@ -34,7 +34,7 @@ use Rattle.eval.proofs.words.put_whole.Reads as put-whole-reads
 use Rattle.eval.proofs.words.put_word.Reads as put-word-reads
 use Rattle.eval.proofs.words.wide.Reads as wide-reads
 use Rattle.eval.proofs.words.width_at.Reads as width-at-reads
-use Rattle.sheet.proofs.shape.shape_at.Reads as shape-at-reads
+use Rattle.sheet_fields.proofs.shape.shape_at.Reads as shape-at-reads
 use Rattle.eval.proofs.cycle.+body+by_kind+expr+rounds+single.{statement}
 use Rattle.eval.proofs.cycle.+body+by_kind+expr+rounds+single.Tie.{close}
 use Prim.Native.Nat.{ℕ, _+_, _*_, _-_, _≤_, _<_}

@@ -3,7 +3,7 @@ use Rattle.eval.proofs.cycle.way_at.Statement.{statement}
 use Rattle.eval.proofs.cycle.way_at.Tie as tie
 use Rattle.eval.proofs.cycle.way_at.Reads as reads
 use Rattle.eval.proofs.cycle.way_at.Lts as lts
-use Rattle.sheet.proofs.shape.shape_at.Reads as shape-at-reads
+use Rattle.sheet_fields.proofs.shape.shape_at.Reads as shape-at-reads
 use mathlib.Core.Path.{_≡_, refl, sym, _∙_}
 
 -- src/cycle.rt:46:11  { ⏎ match shape_at(t, r) {

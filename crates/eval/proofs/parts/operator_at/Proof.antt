@@ -9,7 +9,7 @@ use Rattle.eval.proofs.parts.operator_at.Tie as tie
 use Rattle.eval.proofs.parts.operator_at.Reads as reads
 use Rattle.eval.proofs.parts.operator_at.Lts as lts
 use Rattle.eval.proofs.words.width_at.Reads as width-at-reads
-use Rattle.sheet.proofs.shape.shape_at.Reads as shape-at-reads
+use Rattle.sheet_fields.proofs.shape.shape_at.Reads as shape-at-reads
 use Prim.Native.Nat.{ℕ, _+_, _*_, _-_, _≤_, _<_}
 use mathlib.Core.Path.{_≡_, refl, sym, _∙_}
 use Rattle.formula.specs.declared.Shape.the-variants.{Pair}

@@ -7,7 +7,7 @@ use Rattle.eval.proofs.parts.part_at.Lts as lts
 use Rattle.eval.proofs.parts.operator_at.Reads as operator-at-reads
 use Rattle.eval.proofs.words.truth_word.Reads as truth-word-reads
 use Rattle.eval.proofs.words.whole_word.Reads as whole-word-reads
-use Rattle.sheet.proofs.shape.shape_at.Reads as shape-at-reads
+use Rattle.sheet_fields.proofs.shape.shape_at.Reads as shape-at-reads
 use Prim.Native.Nat.{ℕ, _+_, _*_, _-_, _≤_, _<_}
 use mathlib.Core.Path.{_≡_, refl, sym, _∙_}
 use lib.ListN.{getD}

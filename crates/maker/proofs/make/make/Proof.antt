@@ -11,7 +11,7 @@ use Rattle.maker.proofs.parts.numbered.Reads as numbered-reads
 use Rattle.maker.proofs.rows.row.Reads as row-reads
 use Rattle.names.proofs.has.Reads as has-reads
 use Rattle.names.proofs.minus.Reads as minus-reads
-use Rattle.sheet.proofs.masks.mask_at.Reads as mask-at-reads
+use Rattle.sheet_tables.proofs.masks.mask_at.Reads as mask-at-reads
 use Prim.Native.Nat.{ℕ, _+_, _*_, _-_, _≤_, _<_}
 use mathlib.Core.Path.{_≡_, refl, sym, ap, _∙_}
 use Rattle.maker.proofs.Whole.{make-inside, make-ready, free-mask, make-room, inputs-mask, inputs-counted, inputs-few, triggered, few-results-made, made-memory, made-answer}

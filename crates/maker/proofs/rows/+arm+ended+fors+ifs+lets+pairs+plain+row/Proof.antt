@@ -45,10 +45,10 @@ use Rattle.maker.proofs.rows.again.Reads as again-reads
 use Rattle.maker.proofs.rows.way_at.Reads as way-at-reads
 use Rattle.maker.proofs.rows.width_at.Reads as width-at-reads
 use Rattle.names.proofs.range_mask.Reads as range-mask-reads
-use Rattle.sheet.proofs.masks.mask_at.Reads as mask-at-reads
-use Rattle.sheet.proofs.masks.outside.Reads as outside-reads
-use Rattle.sheet.proofs.masks.plain_mask.Reads as plain-mask-reads
-use Rattle.sheet.proofs.shape.shape_at.Reads as shape-at-reads
+use Rattle.sheet_tables.proofs.masks.mask_at.Reads as mask-at-reads
+use Rattle.sheet_tables.proofs.masks.outside.Reads as outside-reads
+use Rattle.sheet_tables.proofs.masks.plain_mask.Reads as plain-mask-reads
+use Rattle.sheet_fields.proofs.shape.shape_at.Reads as shape-at-reads
 use Rattle.maker.proofs.rows.+arm+ended+fors+ifs+lets+pairs+plain+row.{statement}
 use Rattle.maker.proofs.rows.+arm+ended+fors+ifs+lets+pairs+plain+row.Tie.{close}
 use Prim.Native.Nat.{ℕ, _+_, _*_, _-_, _≤_, _<_}
@@ -63,7 +63,7 @@ use Rattle.layout.specs.Record.{placed}
 use Rattle.formula.specs.declared.Shape.the-variants.{Identifier, Whole, Truth, Pair, Operator, Let, If, For, Iter}
 use Rattle.formula.specs.Sheet.{shapeAt, namedIn}
 use Rattle.value.specs.declared.Value.the-variants.{Truth as truth-value, Whole as whole-value}
-use Rattle.sheet.specs.Masks.{outside, plainMask, Ranged}
+use Rattle.sheet_tables.specs.Masks.{outside, plainMask, Ranged}
 use Rattle.formula.specs.declared.Shape.{Shape}
 use Rattle.formula.specs.TreeLaws.{AllBetween}
 use Rattle.emit.specs.Nodes.{Ready, Child, Ends, graphIn, at-identifier, at-whole, at-truth, at-iter}

@@ -13,7 +13,7 @@ use mathlib.Core.Path.{_≡_, sym, _∙_, ap, refl}
 use lib.ListN.{length, getD}
 use lib.Seq.{slice}
 use Rattle.formula.specs.Sheet.{digitsOf}
-use Rattle.fields.proofs.FieldLaws.{grows, digits-more, digits-low, digits-high, digits-end}
+use Rattle.sheet_fields.proofs.FieldLaws.{grows, digits-more, digits-low, digits-high, digits-end}
 use native.Mathlib.Nat.{pow-le-pow-right, lt-of-lt-of-le}
 
 -- v has at most k + 1 digits

@@ -28,7 +28,7 @@ use Rattle.value.specs.Bytes.{wordOf}
 use Rattle.formula.specs.Sheet.{digitsOf, fieldOf, zeroOf}
 use Rattle.formula.specs.declared.Field.{Field}
 use Rattle.formula.specs.declared.Field.the-variants.{Number}
-use Rattle.fields.proofs.FieldLaws.{field-zero, field-low, field-high, field-digit, zero-end, zero-more}
+use Rattle.sheet_fields.proofs.FieldLaws.{field-zero, field-low, field-high, field-digit, zero-end, zero-more}
 use Rattle.text.specs.Fields.{positive, fieldValue, wordBy, alone}
 use Rattle.text.specs.FieldLaws.{alone-word, value-true, value-false, value-err, value-minus, value-number, zero-word, positive-malformed}
 

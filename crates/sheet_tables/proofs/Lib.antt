@@ -1,0 +1,4 @@
+pub mod NodeLaws
+pub mod WidthLaws
+pub mod MaskLaws
+pub mod LoopLaws

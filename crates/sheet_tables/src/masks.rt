@@ -1,0 +1,135 @@
+// The free names of each row as a u64 mask, and test 9 of document 01, "a bound identifier not free in row d".
+use formula::Check;
+use formula::Shape;
+use names::count;
+use names::minus;
+use names::range_mask;
+use names::single;
+use sheet_fields::shape::shape_at;
+ghost use mathlib.Core.Path.{_≡_};
+ghost use mathlib.Core.Bool.{Bool, true, false};
+ghost use Prim.Native.Nat.{ℕ, _+_, _*_, _-_, _^_, _≤_, _<_};
+ghost use lib.ListN.{length, getD};
+ghost use lib.Bits.{bitOr};
+ghost use lib.Dec.{eqb};
+ghost use Rattle.names.specs.Names.{mask};
+ghost use Rattle.formula.specs.Sheet.{namedIn};
+ghost use Rattle.formula.specs.TreeLaws.{AllBetween};
+ghost use Rattle.formula.specs.declared.Check.the-variants.{Passed};
+ghost use Rattle.formula.specs.Tests.{lowest, boundWell};
+ghost use Rattle.sheet_tables.specs.Nodes.{nodeAt, freeIn, Holds};
+ghost use Rattle.sheet_tables.specs.Ready.{Ready};
+ghost use Rattle.sheet_tables.specs.Masks.{plainMask, maskBy, boundBy, outside as outsideOf, missing, isReturned, Ranged};
+
+// The trigger, name 32.
+const TRIGGER: u64 = 4294967296;
+
+pub fn mask_at(m: &[u64], r: usize) -> u64
+    requires { ⌜ (1 ≤ r) × (r ≤ length (now m)) ⌝ }
+    ensures { λ v. ⌜ v ≡ getD (now (m .entry)) (r - 1) 0 ⌝ }
+{
+    m[r - 1]
+}
+
+// The names of m but the identifiers a to a + b - 1.
+pub fn outside(m: u64, a: u32, b: u32) -> u64
+    requires { ⌜ a + b ≤ 32 ⌝ }
+    ensures { λ v. ⌜ v ≡ outsideOf m a b ⌝ }
+{
+    minus(m, range_mask(a, b))
+}
+
+// The mask of row r, of shape s, read as an expression.
+pub fn plain_mask(s: Shape, r: usize, m: &[u64]) -> u64
+    requires { ⌜ (AllBetween r (namedIn s)) × (Ranged s) × (r ≤ length (now m) + 1) ⌝ }
+    ensures { λ v. ⌜ v ≡ plainMask (λ k. getD (now (m .entry)) (k - 1) 0) s ⌝ }
+{
+    match s {
+        Shape::Identifier(a) => single(a),
+        Shape::Whole(_) => TRIGGER,
+        Shape::Truth(_) => TRIGGER,
+        Shape::Pair(a, b) => mask_at(m, a) | mask_at(m, b),
+        Shape::Operator(_, b) => mask_at(m, b),
+        Shape::Let(a, b, c, d) => mask_at(m, c) | outside(mask_at(m, d), a, b),
+        Shape::If(a, b, c) => mask_at(m, a) | (mask_at(m, b) | mask_at(m, c)),
+        Shape::For(a, b, c, d) => mask_at(m, c) | outside(mask_at(m, d), a, b),
+        Shape::Iter(a) => TRIGGER | mask_at(m, a),
+    }
+}
+
+// Whether a row of this kind, in a body place, is a returned expression.
+pub fn is_returned(s: Shape) -> bool
+    ensures { λ b. ⌜ b ≡ isReturned s ⌝ }
+{
+    match s {
+        Shape::Identifier(_) => true,
+        Shape::Whole(_) => true,
+        Shape::Truth(_) => true,
+        Shape::Pair(_, _) => true,
+        Shape::Operator(_, _) => true,
+        Shape::Let(_, _, _, _) => false,
+        Shape::If(_, _, _) => false,
+        Shape::For(_, _, _, _) => true,
+        Shape::Iter(_) => false,
+    }
+}
+
+fn mask_of(s: Shape, r: usize, in_body: bool, m: &[u64]) -> u64
+    requires { ⌜ (AllBetween r (namedIn s)) × (Ranged s) × (r ≤ length (now m) + 1) ⌝ }
+    ensures { λ v. ⌜ v ≡ maskBy «in_body» (λ k. getD (now (m .entry)) (k - 1) 0) s ⌝ }
+{
+    let plain = plain_mask(s, r, m);
+    if !in_body {
+        return plain;
+    }
+    if is_returned(s) {
+        TRIGGER | plain
+    } else {
+        plain
+    }
+}
+
+// Whether no identifier from a to a + b - 1 is missing from m.
+fn covered(m: u64, a: u32, b: u32) -> bool
+    requires { ⌜ a + b ≤ 32 ⌝ }
+    ensures { λ r. ⌜ r ≡ eqb (missing m a b) 0 ⌝ }
+{
+    count(minus(range_mask(a, b), m)) == 0
+}
+
+// Test 9 of row r, of shape s.
+fn bound_well(s: Shape, r: usize, m: &[u64]) -> bool
+    requires { ⌜ (AllBetween r (namedIn s)) × (Ranged s) × (r ≤ length (now m) + 1) ⌝ }
+    ensures { λ b. ⌜ b ≡ boundBy (λ k. getD (now (m .entry)) (k - 1) 0) s ⌝ }
+{
+    match s {
+        Shape::Identifier(_) => true,
+        Shape::Whole(_) => true,
+        Shape::Truth(_) => true,
+        Shape::Pair(_, _) => true,
+        Shape::Operator(_, _) => true,
+        Shape::Let(a, b, _, d) => covered(mask_at(m, d), a, b),
+        Shape::If(_, _, _) => true,
+        Shape::For(a, b, _, d) => covered(mask_at(m, d), a, b),
+        Shape::Iter(_) => true,
+    }
+}
+
+// Test 9. The rows before the first fault have their masks in the table.
+pub fn test_bound(t: &[u32], n: usize, p: &[bool], m: &mut [u64]) -> Check
+    requires { ⌜ (Ready (now t) n (now p)) × (length (now m) ≡ n) ⌝ }
+    ensures { λ r. ⌜ (r ≡ lowest n (boundWell (now (t .entry)) (now (p .entry))))
+        × (r ≡ Passed → Holds 0 (now (m .exit)) n (λ k. mask (freeIn (nodeAt (now (t .entry)) (now (p .entry)) k)))) ⌝ }
+{
+    let mut i = 0;
+    while i < n {
+        let r = i + 1;
+        let s = shape_at(t, r);
+        if !bound_well(s, r, &m[..i]) {
+            return Check::Fault(r);
+        }
+        m[i] = mask_of(s, r, p[i], &m[..i]);
+        i += 1;
+    }
+    Check::Passed
+}
