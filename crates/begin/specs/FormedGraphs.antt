@@ -20,7 +20,7 @@ use Rattle.graph.specs.Fit.{Fit, gateInputs}
 use Rattle.reference.specs.Plugged.{Each}
 use Rattle.wiring.specs.Conservation.{length-outputs}
 use Rattle.wiring.specs.Ports.{each-append}
-use Rattle.view.specs.Sound.{Ith, PortOf, Formed}
+use Rattle.view.specs.Sound.{PortOf, Formed}
 
 -- ---- one operator
 

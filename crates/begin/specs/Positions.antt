@@ -1,6 +1,6 @@
 -- Where things stand in a list: operators by their number (view/specs/Sound: Ith) with the links of their ports, and links in lists in which none stands
 -- twice. Assumes nothing.
-use Prim.Native.Nat.{ℕ, zero, suc, _+_, _<_}
+use Prim.Native.Nat.{ℕ, zero, suc, _<_}
 use mathlib.Core.Path.{_≡_, refl, ap, subst}
 use mathlib.Core.Logic.{_≢_, inl, inr}
 use mathlib.Core.List.{List, [], _∷_, _++_}

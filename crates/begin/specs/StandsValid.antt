@@ -2,9 +2,9 @@
 -- has touched since". One section for each part of valid/specs/Valid. Assumes a sound graph and a capacity of 1 to 16.
 use Prim.Native.Nat.{ℕ, zero, suc, _+_, _*_, _≤_, _<_}
 use mathlib.Core.Path.{_≡_, refl, sym, ap, ap₂, _∙_, subst}
-use mathlib.Core.Logic.{_≢_, inl, inr}
+use mathlib.Core.Logic.{_≢_}
 use mathlib.Core.Bool.{Bool, true, false, cond, _&&_, _||_, not}
-use mathlib.Core.List.{List, [], _∷_, _++_}
+use mathlib.Core.List.{List, _++_}
 use mathlib.Core.Option.{Option, none, some}
 use lib.ListN.{length, getD}
 use lib.Dec.{leb, ltb, eqb}
@@ -25,14 +25,14 @@ use Rattle.network.specs.Firing.{Holds}
 use Rattle.network.specs.Uses.{In}
 use Rattle.pieces.specs.Sets.{Different}
 use Rattle.queue.specs.Stretch.{waiting}
-use Rattle.layout.specs.Layout.{capacityByte, operatorsOf, linksOf, inputsOf, resultsOf, untakenOf, noLink, number16, nameAt, triggerOf, inputLink, operatorAt, kindByte, portOf, sizeOf, linkAt, need, capacityIn, capacityOf}
+use Rattle.layout.specs.Layout.{capacityByte, operatorsOf, linksOf, inputsOf, resultsOf, untakenOf, noLink, number16, nameAt, triggerOf, inputLink, operatorAt, kindByte, portOf, sizeOf, linkAt, need}
 use Rattle.layout.specs.Fits.{stretch-fits}
 use Rattle.layout.specs.Kinds.{byteOf, Coded, hasPort, mayLack}
 use Rattle.machine.specs.Parts.{part-length}
 use Rattle.machine.specs.LinkLaws.{linkPart}
 use Rattle.valid.specs.Below.{allBelow, and-both, below-all}
 use Rattle.valid.specs.Valid.{figuresOk, unlike, unlikeAt, freshAt, resultOk, inputOk, portOk, namedOk, registerOk, kindOk, operatorOk, tokenOk, stretchOk, linkOk, valid}
-use Rattle.calls.specs.Calls.{sizeIn, standing}
+use Rattle.calls.specs.Calls.{standing}
 use Rattle.graph.specs.Assembly.{Operator}
 use Rattle.graph.specs.Translation.{Made}
 use Rattle.reference.specs.Plugged.{link-of, portsOf}

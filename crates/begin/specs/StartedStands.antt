@@ -1,7 +1,7 @@
 -- Start leaves the machine of the made graph, empty: its operators and registers, its header, no token on any link, no set untaken, and every FM and FS as before
 -- its first firing. Document 01, demand 3: "Start a machine empty for an accepted sheet". Assumes a sound graph, a capacity of 1 to 16 and a memory
 -- of the length that refusal 11 asks for.
-use Prim.Native.Nat.{ℕ, zero, suc, _+_, _≤_, _<_}
+use Prim.Native.Nat.{ℕ, _+_, _≤_, _<_}
 use mathlib.Core.Path.{_≡_, refl, sym, ap, _∙_, subst}
 use mathlib.Core.Bool.{Bool, true, false, false≢true}
 use mathlib.Core.List.{List, [], _∷_, _++_}
@@ -25,7 +25,7 @@ use Rattle.layout.specs.Fits.{stretch-fits}
 use Rattle.machine.specs.LinkLaws.{linkPart}
 use Rattle.graph.specs.Assembly.{Operator}
 use Rattle.graph.specs.Translation.{Made, madeOf}
-use Rattle.reference.specs.Plugged.{nowhere, registers, link-of, portsOf, Each}
+use Rattle.reference.specs.Plugged.{nowhere, registers, link-of, portsOf}
 use Rattle.reference.specs.Marks.{register-of, marks, marks-hold, Remembers-in, marks-in, each-marked}
 use Rattle.wiring.specs.Links.{optional, outputLinks}
 use Rattle.wiring.specs.Ports.{Ported}

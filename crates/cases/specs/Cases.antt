@@ -1,6 +1,6 @@
 -- Document 01's marked examples (p): "one list of definitions' outcomes with one proof over the list". A case is a question and
 -- what it gives; a question that a later part answers is one constructor more, in `Question`, `Answer` and `got`.
-use Prim.Native.Nat.{ℕ, zero, suc}
+use Prim.Native.Nat.{ℕ}
 use mathlib.Core.Path.{_≡_, refl}
 use mathlib.Core.Bool.{Bool, true, false}
 use mathlib.Core.List.{List, [], _∷_, _++_, map}
@@ -10,21 +10,23 @@ use lib.ListN.{length, replicate}
 use Rattle.value.specs.declared.Value.{Value}
 use Rattle.value.specs.declared.Value.the-variants.{Whole, Truth, Err}
 use Rattle.value.specs.Bytes.{bytesOf}
-use Rattle.formula.specs.declared.Refusal.{Refusal}
-use Rattle.formula.specs.declared.Refusal.the-variants.{Rows, Named, StrayIter, Unused, Set, Unfinished}
-use Rattle.formula.specs.declared.Verdict.the-variants.{Passed}
+use Rattle.formula.specs.declared.Verdict.{Verdict}
+use Rattle.formula.specs.declared.Verdict.the-variants.{Passed, Refused}
 use Rattle.formula.specs.declared.Figures.{Figures}
 use Rattle.formula.specs.declared.Reading.{Reading}
 use Rattle.formula.specs.declared.Reading.the-variants.{Accepted, Rejected}
+use Rattle.formula.specs.Refusals.{numberOf}
 use Rattle.formula.specs.Tree.{formulaOf}
 use Rattle.formula.specs.Count.{countE}
 use Rattle.formula.specs.Tests.{fewRows, readingOf}
 use Rattle.graph.specs.Translation.{madeOf}
 use Rattle.network.specs.Net.{append}
+use Rattle.eval.specs.declared.Cell.{Cell}
 use Rattle.eval.specs.declared.Evaluation.{Evaluation}
-use Rattle.eval.specs.Evaluate.{cell, refused, evaluationOf}
+use Rattle.eval.specs.Evaluate.{cell, evaluationOf}
 use Rattle.reference.specs.Marks.{marks}
 use Rattle.verdicts.specs.Running.{startOf}
+use Rattle.ends.specs.ResultBytes.{spelled}
 use Rattle.demand.specs.Pushes.{pushRefusals}
 use Rattle.examples.specs.Sheets.{bytes, lesser, twice, factorial, iterAlone, letUnused, alike, constantRow}
 
@@ -42,27 +44,35 @@ pub data Question : Type 0 where
   -- a sheet, a capacity, a set, and how often it is pushed from the start
   pushes : List ℕ → ℕ → List Value → ℕ → Question
 
+-- A refusal is told by document 01's number, 0 where there is none.
 pub data Answer : Type 0 where
-  says : Reading → Answer
+  accepts : Figures → Answer
+  -- a refusal's number and row
+  refuses : ℕ → ℕ → Answer
   passes : Bool → Answer
   operators : ℕ → Answer
-  evaluates : Evaluation → Answer
+  -- a refusal's number and row, then width, rounds and cells
+  evaluates : ℕ → ℕ → ℕ → ℕ → List Cell → Answer
   -- what each push answers, 0 where it is accepted
   refusals : List ℕ → Answer
 
--- A set in the byte form.
-unfoldable pub setBytes : List Value → List ℕ
-unfolding bytesOf
-setBytes [] = []
-setBytes (v ∷ vs) = bytesOf v ++ setBytes vs
+abbrev readingSays : Reading → Answer
+readingSays (Accepted figures) = accepts figures
+readingSays (Rejected r row) = refuses (numberOf r) row
+
+abbrev evaluationSays : Verdict → Evaluation → Answer
+evaluationSays Passed e = evaluates 0 0 (e .width) (e .rounds) (e .cells)
+evaluationSays (Refused r row) e = evaluates (numberOf r) row (e .width) (e .rounds) (e .cells)
 
 unfoldable pub got : Question → Answer
-unfolding readingOf countE formulaOf madeOf evaluationOf setBytes pushRefusals marks append ℕ-discrete
-got (reading s) = says (readingOf s)
+unfolding readingOf countE formulaOf madeOf evaluationOf bytesOf pushRefusals marks append ℕ-discrete
+got (reading s) = readingSays (readingOf s)
 got (test-2 s) = passes (fewRows s)
 got (counted s) = operators (countE (formulaOf s) .operators)
 got (made s) = operators (length (madeOf (formulaOf s) .operators))
-got (evaluation s vs rounds) = evaluates (evaluationOf s (setBytes vs) rounds)
+got (evaluation s vs rounds) =
+    let e : Evaluation = evaluationOf s (spelled vs) rounds in
+    evaluationSays (e .verdict) e
 got (pushes s capacity vs k) = refusals (pushRefusals (formulaOf s) capacity vs k (startOf (formulaOf s)))
 
 pub record Case : Type 0 where
@@ -73,17 +83,18 @@ abbrev case : Question → Answer → Case
 case q a = record { asks = q; gives = a }
 
 abbrev accepted : ℕ → ℕ → ℕ → ℕ → Answer
-accepted n o i w = says (Accepted (record { rows = n; operators = o; inputs = i; results = w }))
+accepted n o i w = accepts (record { rows = n; operators = o; inputs = i; results = w })
 
 abbrev number : ℕ → Value
 number n = Whole (pos n)
 
 -- One value after k rounds.
 abbrev one : Value → ℕ → Answer
-one v k = evaluates (record { cells = cell v ∷ replicate 15 (cell Err); width = 1; rounds = k; verdict = Passed })
+one v k = evaluates 0 0 1 k (cell v ∷ replicate 15 (cell Err))
 
-abbrev refusal : Refusal → Answer
-refusal r = evaluates (refused r 0)
+-- "A refusal's counts and rows are 0 unless stated, its result set has width 0."
+abbrev refusal : ℕ → Answer
+refusal n = evaluates n 0 0 0 (replicate 16 (cell Err))
 
 abbrev pub threeAndFive : List Value
 threeAndFive = number 3 ∷ number 5 ∷ []
@@ -109,7 +120,7 @@ cases =
     -- "n = 5 gives 120 in 5 rounds", also where more are lent; "4 rounds give 36"
     ∷ case (evaluation (bytes factorial) (number 5 ∷ []) 5) (one (number 120) 5)
     ∷ case (evaluation (bytes factorial) (number 5 ∷ []) 1000) (one (number 120) 5)
-    ∷ case (evaluation (bytes factorial) (number 5 ∷ []) 4) (refusal Unfinished)
+    ∷ case (evaluation (bytes factorial) (number 5 ∷ []) 4) (refusal 36)
     -- "n = 0 gives 1", "n = E gives E"
     ∷ case (evaluation (bytes factorial) (number 0 ∷ []) 1) (one (number 1) 1)
     ∷ case (evaluation (bytes factorial) (Err ∷ []) 1) (one Err 1)
@@ -117,15 +128,15 @@ cases =
     ∷ case (evaluation (bytes factorial) (number 12 ∷ []) 12) (one (number 479001600) 12)
     ∷ case (evaluation (bytes factorial) (number 13 ∷ []) 13) (one Err 13)
     -- a value too few
-    ∷ case (evaluation (bytes lesser) (number 3 ∷ []) 0) (refusal Set)
+    ∷ case (evaluation (bytes lesser) (number 3 ∷ []) 0) (refusal 12)
     -- "iter as the formula: 7", "let x = 1 in 2: 9"
-    ∷ case (reading (bytes iterAlone)) (says (Rejected StrayIter 2))
-    ∷ case (reading (bytes letUnused)) (says (Rejected Unused 3))
+    ∷ case (reading (bytes iterAlone)) (refuses 7 2)
+    ∷ case (reading (bytes letUnused)) (refuses 9 3)
     -- "200 rows pass test 2, 201 do not": of constants that nothing names, 200 then fail test 6
     ∷ case (test-2 (alike 200 constantRow)) (passes true)
     ∷ case (test-2 (alike 201 constantRow)) (passes false)
-    ∷ case (reading (alike 200 constantRow)) (says (Rejected Named 1))
-    ∷ case (reading (alike 201 constantRow)) (says (Rejected Rows 0))
+    ∷ case (reading (alike 200 constantRow)) (refuses 6 1)
+    ∷ case (reading (alike 201 constantRow)) (refuses 2 0)
     -- the sheets above are accepted, with these rows, operators, inputs and results
     ∷ case (reading (bytes lesser)) (accepted 7 8 2 1)
     ∷ case (reading (bytes twice)) (accepted 4 2 1 1)

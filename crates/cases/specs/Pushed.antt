@@ -18,13 +18,16 @@ use Rattle.start.specs.Start.{started}
 use Rattle.demand.specs.Started.{start-accepts}
 use Rattle.demand.specs.Pushes.{pushRefusals, pushAnswers, pushes-from-start}
 use Rattle.examples.specs.Sheets.{bytes, lesser}
-use Rattle.cases.specs.Cases.{Answer, says, passes, operators, evaluates, refusals, setBytes, threeAndFive, got, cases, cases-worked}
+use Rattle.ends.specs.ResultBytes.{spelled}
+use Rattle.value.specs.Bytes.{bytesOf}
+use Rattle.cases.specs.Cases.{Answer, accepts, refuses, passes, operators, evaluates, refusals, threeAndFive, got, cases, cases-worked}
 
 unfoldable refusalsIn : Answer → List ℕ
-refusalsIn (says r) = []
+refusalsIn (accepts figures) = []
+refusalsIn (refuses n row) = []
 refusalsIn (passes b) = []
 refusalsIn (operators n) = []
-refusalsIn (evaluates e) = []
+refusalsIn (evaluates n row width rounds cells) = []
 refusalsIn (refusals rs) = rs
 
 -- The first case of the list.
@@ -36,14 +39,14 @@ lesser-passed : verdictOf (bytes lesser) ≡ Passed
 unfolding verdictOf bytes lesser
 lesser-passed = refl
 
-set-read : setValues (madeOf (formulaOf (bytes lesser)) .inputs) (setBytes threeAndFive) ≡ some threeAndFive
-unfolding setValues madeOf formulaOf bytes lesser setBytes
+set-read : setValues (madeOf (formulaOf (bytes lesser)) .inputs) (spelled threeAndFive) ≡ some threeAndFive
+unfolding setValues madeOf formulaOf bytes lesser bytesOf
 set-read = refl
 
 -- "sixteen pushes at capacity 16 pass, the seventeenth gives 32"
 pub seventeenth-refused : (memory : List ℕ) → need (sizeOf 16) ≤ length memory → (lent : ℕ) → need (sizeOf 16) ≤ lent
-    → pushAnswers lent 17 (setBytes threeAndFive) (started (bytes lesser) 16 memory .mem) ≡ replicate 16 0 ++ (32 ∷ [])
+    → pushAnswers lent 17 (spelled threeAndFive) (started (bytes lesser) 16 memory .mem) ≡ replicate 16 0 ++ (32 ∷ [])
 seventeenth-refused memory long lent enough =
     pushes-from-start (bytes lesser) 16 memory (start-accepts (bytes lesser) 16 memory lesser-passed (omega arith) (omega arith) long)
-    (setBytes threeAndFive) threeAndFive set-read lent enough 17
+    (spelled threeAndFive) threeAndFive set-read lent enough 17
     ∙ case-worked

@@ -9,6 +9,8 @@ pub mod Agreed
 pub mod Started
 pub mod Demand3
 pub mod Oldest
+pub mod ByHistory
+pub mod Evaluated
 pub mod Onward
 pub mod Pushes
 pub mod LesserStarts

@@ -1,5 +1,6 @@
 -- "either every pushed set has been taken, or the oldest untaken one has its whole result ready to take": the take that would be accepted hands out the oldest
--- untaken set's verdict. It is demand 3 (Demand3) of the list with that take behind it. Assumes an accepted start and nothing else.
+-- untaken set's verdict, and its evaluation ends: where nothing can fire, nothing of it is left to do. It is demand 3 (Demand3) of the list with that take
+-- behind it. Assumes an accepted start and nothing else.
 use Prim.Native.Nat.{ℕ, _+_, _≤_, _<_}
 use mathlib.Core.Path.{_≡_, refl, sym, ap, subst, _∙_}
 use mathlib.Core.Logic.{_⊎_, inl, inr}
@@ -15,8 +16,12 @@ use Rattle.eval.specs.Evaluate.{evaluationOf}
 use Rattle.layout.specs.Layout.{operatorsOf, sizeOf, need}
 use Rattle.calls.specs.Calls.{taken}
 use Rattle.start.specs.Start.{started}
+use Rattle.begin.specs.StartedStands.{accepted-stands}
 use Rattle.demand.specs.MemoryCalls.{Call, fire, take, Result, result, accepted, answerOf, memoryAfter, setOf, resultOf, memoryAfterAll, setsPushed, resultsTaken}
 use Rattle.demand.specs.Claim.{Enough, Ends, yielded}
+use Rattle.demand.specs.Agreed.{calls-agree}
+use Rattle.demand.specs.OnMemory.{ends-when-still}
+use Rattle.start.specs.StartLaws.{accepted-start}
 use Rattle.demand.specs.Demand3.{demand-3}
 
 -- ---- a list with one call more
@@ -61,11 +66,17 @@ module _ (sheet : List ℕ) (capacity : ℕ) (memory : List ℕ) (h : started sh
       → length (resultsTaken calls start) < length (setsPushed calls start)
       → (lent : ℕ) (out : List ℕ) → need (sizeOf capacity) ≤ lent → 80 ≤ length out
       → (answerOf (take lent out) now .refusal ≡ 0)
-      × (((j : ℕ) → j ≤ length (resultsTaken calls start) → Ends sheet (getD (setsPushed calls start) j []))
-      → (rounds : ℕ) → Enough sheet (getD (setsPushed calls start) (length (resultsTaken calls start)) []) rounds
+      × Ends sheet (getD (setsPushed calls start) (length (resultsTaken calls start)) [])
+      × ((rounds : ℕ) → Enough sheet (getD (setsPushed calls start) (length (resultsTaken calls start)) []) rounds
       → handedOut lent out now ≡ yielded (evaluationOf sheet (getD (setsPushed calls start) (length (resultsTaken calls start)) []) rounds))
-  oldest-ready still untaken lent out long room = (ok, verdict)
+  oldest-ready still untaken lent out long room = (ok, ends (length (resultsTaken calls start)) (omega arith), verdict)
     where
+      ends : (j : ℕ) → j ≤ length (resultsTaken calls start) → Ends sheet (getD (setsPushed calls start) j [])
+      ends j l =
+          let a = accepted-start sheet capacity memory h in
+          ends-when-still sheet (a .passed) capacity (a .some) (a .most) (calls-agree sheet (a .passed) capacity (a .some) (a .most)) start (accepted-stands sheet capacity memory h) calls still j l
+          (omega arith)
+
       ok : answerOf (take lent out) now .refusal ≡ 0
       ok = go (demand-3 sheet capacity memory h calls .ready still)
         where
@@ -83,10 +94,9 @@ module _ (sheet : List ℕ) (capacity : ℕ) (memory : List ℕ) (h : started sh
           sets-with calls (take lent out) start ∙ ap (λ (z : List (List ℕ)). setsPushed calls start ++ z) (take-no-set lent out now)
           ∙ append-nil (setsPushed calls start)
 
-      verdict : ((j : ℕ) → j ≤ length (resultsTaken calls start) → Ends sheet (getD (setsPushed calls start) j []))
-          → (rounds : ℕ) → Enough sheet (getD (setsPushed calls start) (length (resultsTaken calls start)) []) rounds
+      verdict : (rounds : ℕ) → Enough sheet (getD (setsPushed calls start) (length (resultsTaken calls start)) []) rounds
           → handedOut lent out now ≡ yielded (evaluationOf sheet (getD (setsPushed calls start) (length (resultsTaken calls start)) []) rounds)
-      verdict ends rounds enough =
+      verdict rounds enough =
           let k = length (resultsTaken calls start) in
           let more : length (resultsTaken (calls ++ (take lent out ∷ [])) start) ≡ k + 1
           = ap length results-are ∙ length-append (resultsTaken calls start) (handedOut lent out now ∷ []) in

@@ -39,7 +39,7 @@ use Rattle.verdicts.specs.Verdicts as Verdicts
 use Rattle.view.specs.Stands.{Stands}
 use Rattle.demand.specs.MemoryCalls.{Call, fire, take, Result, result, answerOf, memoryAfterAll, setsPushed, resultsTaken}
 use Rattle.demand.specs.Claim.{Enough, Ends, yielded, OwnVerdicts}
-use Rattle.demand.specs.Evaluations.{shown, enough-yields}
+use Rattle.demand.specs.Evaluations.{shown, enough-yields, yields-enough}
 use Rattle.begin.specs.Lent.{stands-lent}
 use Rattle.view.specs.FireCall.{stands-size}
 use Rattle.demand.specs.Agree.{CallsAgree}
@@ -151,6 +151,12 @@ module _ (sheet : List ℕ) (ok : verdictOf sheet ≡ Passed) (capacity : ℕ) (
     pub no-step : (i : ℕ) → stepsOf x capacity (fires i) links ≡ []
     unfolding stepsOf
     no-step i = cannot-refused (firing i) (decAble (places capacity) (operatorAt x i) links) (cannot-fire i)
+
+    -- Direct evaluation of the oldest untaken set ends, and so does that of every set before it.
+    pub ends-when-still : (j : ℕ) → j ≤ length (resultsTaken calls start) → j < length (setsPushed calls start) → Ends sheet (getD (setsPushed calls start) j [])
+    ends-when-still j most l =
+        let z = Verdicts.ends-when-quiet sheet ok capacity low (F .calls) no-step j (omega (arith, as-many-sets)) (omega (arith, as-many-results)) in
+        yields-enough sheet ok (getD (setsPushed calls start) j []) (getD sets j []) (read j (omega (arith, as-many-sets))) (z .0) (z .1)
 
     take-accepted : Able (places capacity) (takeOf x) links → (lent : ℕ) (out : List ℕ) → need (sizeOf capacity) ≤ lent → 80 ≤ length out
         → answerOf (take lent out) memory .refusal ≡ 0

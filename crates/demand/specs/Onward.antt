@@ -1,7 +1,7 @@
 -- On real memory: when nothing can fire and every pushed set has been taken, a push of any good set is accepted, so that a caller who runs until nothing can fire
--- and takes what is ready (Claim `ready`) is refused no good set. And what such a caller counts: the sets untaken are those pushed and not taken, and neither 11
--- nor 31 comes of the whole memory after any list of calls (document 01, "Running"). Assumes an accepted start and nothing else.
-use Prim.Native.Nat.{ℕ, _+_, _≤_, _<_}
+-- and takes what is ready (Claim `ready`) is refused no good set. And neither 11 nor 31 comes of
+-- the whole memory after any list of calls (document 01, "Running"). Assumes an accepted start and nothing else.
+use Prim.Native.Nat.{ℕ, _≤_, _<_}
 use mathlib.Core.Path.{_≡_, ap, subst}
 use mathlib.Core.Bool.{true}
 use mathlib.Core.List.{List}
@@ -12,22 +12,22 @@ use Rattle.formula.specs.declared.Refusal.the-variants.{NotAble}
 use Rattle.formula.specs.Refusals.{numberOf}
 use Rattle.formula.specs.Tree.{Exp, formulaOf}
 use Rattle.graph.specs.Translation.{madeOf}
-use Rattle.layout.specs.Layout.{operatorsOf, inputsOf, untakenOf, sizeOf, need}
+use Rattle.layout.specs.Layout.{operatorsOf, inputsOf, sizeOf, need}
 use Rattle.calls.specs.Calls.{standing, setOk}
 use Rattle.verdicts.specs.Running as Abstract
 use Rattle.verdicts.specs.Running.{startOf}
-use Rattle.verdicts.specs.Verdicts.{pushable-when-quiet, untaken-counted}
+use Rattle.verdicts.specs.Verdicts.{pushable-when-quiet}
 use Rattle.ends.specs.Sets.{set-values}
 use Rattle.ends.specs.Push.{push-accepted}
 use Rattle.begin.specs.Lent.{stands-lent}
 use Rattle.start.specs.Start.{started}
+use Rattle.begin.specs.StartedStands.{accepted-stands}
 use Rattle.demand.specs.MemoryCalls.{Call, push, fire, answerOf, memoryAfterAll, setsPushed, resultsTaken}
 use Rattle.demand.specs.Agree.{CallsAgree}
 use Rattle.demand.specs.Follow.{Follows}
 use Rattle.demand.specs.OnMemory.{F as bytes-follow, as-many-results, as-many-sets, no-step}
 use Rattle.demand.specs.Agreed.{calls-agree}
-use Rattle.demand.specs.Started.{StartAccepted, start-accepted}
-use Rattle.demand.specs.Demand3.{start-stands}
+use Rattle.start.specs.StartLaws.{AcceptedStart, accepted-start}
 
 module _ (sheet : List ℕ) (capacity : ℕ) (memory : List ℕ) (h : started sheet capacity memory .answer .refusal ≡ 0) (calls : List Call) where
   abbrev x : Exp
@@ -39,28 +39,23 @@ module _ (sheet : List ℕ) (capacity : ℕ) (memory : List ℕ) (h : started sh
   abbrev now : List ℕ
   now = memoryAfterAll calls start
 
-  begun : StartAccepted sheet capacity memory
-  begun = start-accepted sheet capacity memory h
+  begun : AcceptedStart sheet capacity memory
+  begun = accepted-start sheet capacity memory h
 
   agree : CallsAgree x capacity
-  agree = calls-agree sheet (begun .passed) capacity (begun .low) (begun .high)
+  agree = calls-agree sheet (begun .passed) capacity (begun .some) (begun .most)
 
-  abbrev followed : Follows x capacity (begun .low) (begun .high) agree (startOf x) now (setsPushed calls start) (resultsTaken calls start)
-  followed = bytes-follow sheet (begun .passed) capacity (begun .low) (begun .high) agree start (start-stands sheet capacity memory h) calls
+  abbrev followed : Follows x capacity (begun .some) (begun .most) agree (startOf x) now (setsPushed calls start) (resultsTaken calls start)
+  followed = bytes-follow sheet (begun .passed) capacity (begun .some) (begun .most) agree start (accepted-stands sheet capacity memory h) calls
 
   abbrev links : Links
   links = Abstract.standing x capacity (followed .calls)
 
   results-counted : length (resultsTaken calls start) ≡ length (Abstract.taken x capacity (followed .calls))
-  results-counted = as-many-results sheet (begun .passed) capacity (begun .low) (begun .high) agree start (start-stands sheet capacity memory h) calls
+  results-counted = as-many-results sheet (begun .passed) capacity (begun .some) (begun .most) agree start (accepted-stands sheet capacity memory h) calls
 
   sets-counted : length (setsPushed calls start) ≡ length (Abstract.pushed x capacity (followed .calls))
-  sets-counted = as-many-sets sheet (begun .passed) capacity (begun .low) (begun .high) agree start (start-stands sheet capacity memory h) calls
-
-  -- The stored count of untaken sets is that of the sets pushed less that of the results taken.
-  pub untaken-counts : untakenOf now + length (resultsTaken calls start) ≡ length (setsPushed calls start)
-  untaken-counts =
-      omega (arith, followed .stands .untaken-is, results-counted, sets-counted, untaken-counted sheet (begun .passed) capacity (begun .low) (followed .calls))
+  sets-counted = as-many-sets sheet (begun .passed) capacity (begun .some) (begun .most) agree start (accepted-stands sheet capacity memory h) calls
 
   -- Neither 11 nor 31 for a call lent the whole memory.
   pub never-short : standing now ≡ 0
@@ -75,8 +70,8 @@ module _ (sheet : List ℕ) (capacity : ℕ) (memory : List ℕ) (h : started sh
   push-accepted-when-still still all lent set long good =
       let L = stands-lent (madeOf x) (agree .sound) capacity now links (followed .stands) lent long in
       let v = set-values (madeOf x .inputs) set (subst (λ (n : ℕ). setOk n set ≡ true) (followed .stands .inputs-are) good) in
-      let can = pushable-when-quiet sheet (begun .passed) capacity (begun .low) (followed .calls)
-      (no-step sheet (begun .passed) capacity (begun .low) (begun .high) agree start (start-stands sheet capacity memory h) calls still)
+      let can = pushable-when-quiet sheet (begun .passed) capacity (begun .some) (followed .calls)
+      (no-step sheet (begun .passed) capacity (begun .some) (begun .most) agree start (accepted-stands sheet capacity memory h) calls still)
       (omega (arith, results-counted, sets-counted)) (v .0) (v .1 .count) in
       ap (λ o. o .answer .refusal)
-      (push-accepted (madeOf x) (agree .sound) capacity (begun .low) (begun .high) (firstOf lent now) links L set (v .0) (v .1) (agree .good (firstOf lent now) links L) can)
+      (push-accepted (madeOf x) (agree .sound) capacity (begun .some) (begun .most) (firstOf lent now) links L set (v .0) (v .1) (agree .good (firstOf lent now) links L) can)

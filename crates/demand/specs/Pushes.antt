@@ -33,10 +33,10 @@ use Rattle.ends.specs.Push.{tests-push, push-accepted, stands-pushed}
 use Rattle.begin.specs.Lent.{stands-lent, stands-behind}
 use Rattle.view.specs.FireCall.{stands-size}
 use Rattle.begin.specs.StandsValid.{stands-well}
-use Rattle.start.specs.Start.{started, startedMemory}
+use Rattle.start.specs.Start.{started}
 use Rattle.begin.specs.MadeSound.{made-sound}
-use Rattle.begin.specs.StartedStands.{started-stands}
-use Rattle.demand.specs.Started.{start-accepted}
+use Rattle.begin.specs.StartedStands.{accepted-stands}
+use Rattle.start.specs.StartLaws.{accepted-start}
 use Rattle.demand.specs.MemoryCalls.{push, answersOf, memoryAfter, answerOf}
 
 -- ---- on the links
@@ -162,8 +162,7 @@ pub pushes-from-start : (sheet : List ℕ) (capacity : ℕ) (memory : List ℕ) 
     → (set : List ℕ) (v : List Value) → setValues (madeOf (formulaOf sheet) .inputs) set ≡ some v → (lent : ℕ) → need (sizeOf capacity) ≤ lent → (k : ℕ)
     → pushAnswers lent k set (started sheet capacity memory .mem) ≡ pushRefusals (formulaOf sheet) capacity v k (startOf (formulaOf sheet))
 pushes-from-start sheet capacity memory h set v r lent enough k =
-    let a = start-accepted sheet capacity memory h in
+    let a = accepted-start sheet capacity memory h in
     let x = formulaOf sheet in
-    ap (pushAnswers lent k set) (a .memory)
-    ∙ pushes-answered x (made-sound sheet (a .passed)) capacity (a .low) (a .high) set v (values-set (madeOf x .inputs) set v r) lent enough k
-    (startedMemory (madeOf x) capacity memory) (startOf x) (started-stands sheet (a .passed) capacity (a .low) (a .high) memory (a .long))
+    pushes-answered x (made-sound sheet (a .passed)) capacity (a .some) (a .most) set v (values-set (madeOf x .inputs) set v r) lent enough k
+    (started sheet capacity memory .mem) (startOf x) (accepted-stands sheet capacity memory h)

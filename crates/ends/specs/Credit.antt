@@ -1,21 +1,21 @@
 -- The count of untaken sets: byte 7 of the memory (layout/specs/Layout) is the length of the credit link (verdicts/specs/Running). Setting the byte
 -- stands with one token more or less on that link, and with nothing else. Document 01, "32 sixteen sets untaken", "35 .. no set untaken". Assumes
 -- the bounds of `Sound`.
-use Prim.Native.Nat.{ℕ, zero, suc, _+_, _-_, _≤_, _<_}
+use Prim.Native.Nat.{ℕ, zero, suc, _+_, _≤_, _<_}
 use mathlib.Core.Path.{_≡_, refl, sym, ap, subst, _∙_}
 use mathlib.Core.Logic.{_≢_, inl}
 use mathlib.Core.Bool.{Bool, true, false}
 use mathlib.Core.List.{List, [], _∷_, _++_}
 use mathlib.Core.Option.{Option, none, some}
 use native.Mathlib.Omega.{arith}
-use lib.ListN.{length, take, set, length-set, length-append}
+use lib.ListN.{length, take, set, length-set}
 use lib.Seq.{getD-set-same, getD-set-other, drop-set-lt}
 use Rattle.network.specs.Rules.{Register}
-use Rattle.network.specs.Net.{Token, Links, tail, pop, pop-same, pop-other, append, append-same, append-other}
+use Rattle.network.specs.Net.{Links}
 use Rattle.network.specs.Uses.{In}
 use Rattle.network.specs.Fill.{remembering}
 use Rattle.network.specs.Firing.{Holds}
-use Rattle.layout.specs.Layout.{untakenOf, registerAt, linkAt, sizeOf}
+use Rattle.layout.specs.Layout.{registerAt, linkAt, sizeOf}
 use Rattle.machine.specs.LinkLaws.{linkPart}
 use Rattle.graph.specs.Assembly.{Operator}
 use Rattle.graph.specs.Translation.{Made}
@@ -71,20 +71,3 @@ module _ (g : Made) (S : Sound g) where
               word = word-agrees (set m 7 n) m (registerAt i) (registerAt i) (λ j l. getD-set-other m 7 (registerAt i + j) n 0 (λ e. omega arith)) ∙ x .word;
               held = held (remembering (o .kind)) o (x .register) (register-near i o h) (x .held);
             }
-
-    -- One set more untaken, one less.
-    pub stands-untaken-more : (t : Token) → length (q creditLink) < 16 → Stands g capacity (set m 7 (untakenOf m + 1)) (append creditLink t q)
-    stands-untaken-more t few =
-        stands-untaken (untakenOf m + 1) (append creditLink t q) (λ l ne. append-other creditLink l t q ne)
-        (ap length (append-same creditLink t q) ∙ length-append (q creditLink) (t ∷ []) ∙ ap (λ (n : ℕ). n + 1) (sym (H .untaken-is)))
-        (omega (arith, H .untaken-is))
-
-    pub stands-untaken-less : 0 < length (q creditLink) → Stands g capacity (set m 7 (untakenOf m - 1)) (pop creditLink q)
-    stands-untaken-less some-wait =
-        stands-untaken (untakenOf m - 1) (pop creditLink q) (λ l ne. pop-other creditLink l q ne)
-        (ap length (pop-same creditLink q) ∙ shorter (q creditLink) ∙ ap (λ (n : ℕ). n - 1) (sym (H .untaken-is)))
-        (omega (arith, H .untaken-is, H .untaken-few))
-      where
-        shorter : (ts : List Token) → length (tail ts) ≡ length ts - 1
-        shorter [] = refl
-        shorter (t ∷ ts) = omega arith

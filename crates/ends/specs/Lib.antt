@@ -5,4 +5,3 @@ pub mod TakeLinks
 pub mod Credit
 pub mod Push
 pub mod Take
-pub mod FormulaEnds

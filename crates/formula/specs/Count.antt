@@ -1,8 +1,7 @@
 -- Document 01, "The graph": how many operators a formula's graph has, and how many links its operators emit on. Only the
 -- counts stand here; which operator takes from which link is the translation's, and it has these counts.
 use Prim.Native.Nat.{ℕ, _+_, _*_, _-_}
-use mathlib.Core.Bool.{Bool, true, false, not, cond, _&&_, _||_}
-use lib.Dec.{eqb}
+use mathlib.Core.Bool.{Bool, true, false, cond, _&&_, _||_}
 use Rattle.names.specs.Names.{Names, trigger, one, union, common, without, range, size, sizeFrom}
 use Rattle.formula.specs.Tree.{Exp, identifier, whole, truth, pair, operator, letE, ifE, forE, Body, ret, iter, letB, ifB}
 use Rattle.formula.specs.Widths.{width, iterated, returned}

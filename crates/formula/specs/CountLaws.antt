@@ -9,23 +9,6 @@ use Rattle.formula.specs.Widths.{width, iterated, returned}
 use Rattle.formula.specs.Free.{freeE, freeB}
 use Rattle.formula.specs.Count.{Count, _⊕_, gates, copies, joins, returns, iterates, countE, countB}
 
--- What joins a body if's results, by whether both arms iterate and whether one returns.
-pub joined-operators : (p q : Bool) (v w : ℕ)
-    → (joins p ⊕ cond p (gates v ⊕ copies (v - 1)) (gates 0) ⊕ cond q (gates w) (gates 0) ⊕ copies (w - 1)) .operators
-    ≡ cond p v 0 + cond p (v - 1) 0 + cond q w 0 + (w - 1) + 1
-joined-operators true true v w = omega arith
-joined-operators true false v w = omega arith
-joined-operators false true v w = omega arith
-joined-operators false false v w = omega arith
-
-pub joined-links : (p q : Bool) (v w : ℕ)
-    → (joins p ⊕ cond p (gates v ⊕ copies (v - 1)) (gates 0) ⊕ cond q (gates w) (gates 0) ⊕ copies (w - 1)) .links
-    ≡ cond p v 0 + 2 * cond p (v - 1) 0 + cond q w 0 + 2 * (w - 1) + (2 + cond p 1 0)
-joined-links true true v w = omega arith
-joined-links true false v w = omega arith
-joined-links false true v w = omega arith
-joined-links false false v w = omega arith
-
 -- ---- the count of each kind, with the sizes of its sets of names as numbers
 
 module _ (x y t : Exp) (a k : ℕ) where
@@ -84,9 +67,6 @@ sum-few u v a b = record { few = let x = a .few in let y = b .few in omega arith
 
 gates-few : (k : ℕ) → Few (gates k)
 gates-few k = record { few = omega arith }
-
-copies-few : (k : ℕ) → Few (copies k)
-copies-few k = record { few = omega arith }
 
 joins-few : (p q : Bool) (v w : ℕ) → Few (joins p ⊕ cond p (gates v ⊕ copies (v - 1)) (gates 0) ⊕ cond q (gates w) (gates 0) ⊕ copies (w - 1))
 joins-few true true v w = record { few = omega arith }

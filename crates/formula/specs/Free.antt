@@ -1,7 +1,7 @@
 -- Document 01, "Names free in a row follow ordinary scope", and test 9. Names 0 to 31 are the identifiers; 32 is the
 -- trigger, "a name like the 32 identifiers", which every constant takes, a body's iter? constants included.
 use Prim.Native.Nat.{ℕ}
-use mathlib.Core.Bool.{Bool, true, false, not, _&&_, _||_}
+use mathlib.Core.Bool.{Bool, true}
 use mathlib.Core.List.{List}
 use lib.Dec.{eqb}
 use Rattle.names.specs.Names.{Names, trigger, one, union, without, range, size, sizeFrom, members, membersFrom}

@@ -1,8 +1,8 @@
 -- Document 01, "The formula sheet": the bytes of a sheet as rows of five decimal fields, a row by its kind, and the rows
 -- that it names. A sheet is a list of bytes; its fields are one list of numbers, five a row.
-use Prim.Native.Nat.{ℕ, zero, suc, _+_, _*_, _-_, _/_, _%_}
-use mathlib.Core.Bool.{Bool, true, false, cond, _&&_}
-use mathlib.Core.List.{List, [], _∷_, _++_}
+use Prim.Native.Nat.{ℕ, zero, suc, _+_, _*_, _-_, _/_}
+use mathlib.Core.Bool.{Bool, cond, _&&_}
+use mathlib.Core.List.{List, [], _∷_}
 use lib.ListN.{length, getD, take, drop}
 use lib.Dec.{eqb, leb}
 use Rattle.formula.specs.declared.Field.{Field}

@@ -1,12 +1,11 @@
 -- Laws of a sheet's lines and fields: where in the bytes a line and its fields stand, and the table of fields row by row.
-use Prim.Native.Nat.{ℕ, zero, suc, _+_, _*_, _-_, _/_, _≤_, _<_}
+use Prim.Native.Nat.{ℕ, zero, suc, _+_, _*_, _-_, _<_}
 use mathlib.Core.Path.{_≡_, refl, sym, ap, _∙_}
 use mathlib.Core.List.{List, [], _∷_, _++_}
 use native.Mathlib.Omega.{arith}
-use native.Mathlib.Numerals.{add-one}
 use native.Mathlib.Nat.{not-suc-le-zero, le-of-suc-le-suc}
 use lib.ListN.{length, getD, take, drop}
-use lib.Seq.{slice, take-take, drop-drop, getD-take, getD-drop, take-nil, drop-nil, take-add}
+use lib.Seq.{slice, take-take, drop-drop, getD-take, getD-drop, take-nil, take-add}
 use Rattle.formula.specs.Sheet.{rowCount, linesIn, linesOf, fieldText, fieldOf, numberIn, fieldsIn, fieldsOf}
 use mathlib.Core.Bool.{_&&_}
 use Rattle.formula.specs.Tests.{lineAt, wellFormed, fieldsWell}

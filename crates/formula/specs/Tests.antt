@@ -1,9 +1,9 @@
 -- Document 01, "Said by what was handed in", 1 to 10: the tests of a sheet as one ordered list. "Each number is tested over
 -- the whole sheet before the next"; "3 to 9 give the lowest row at fault, others row 0".
-use Prim.Native.Nat.{ℕ, zero, suc, _+_, _*_, _-_, _/_, _%_}
+use Prim.Native.Nat.{ℕ, zero, suc, _+_, _-_, _%_}
 use mathlib.Core.Bool.{Bool, true, false, not, cond, _&&_, _||_}
 use mathlib.Core.List.{List, [], _∷_, _++_}
-use lib.ListN.{length, getD, take}
+use lib.ListN.{length, getD}
 use lib.Dec.{eqb, leb, ltb}
 use Rattle.formula.specs.declared.Field.{Field}
 use Rattle.formula.specs.declared.Field.the-variants.{Number, Malformed as malformed}
@@ -19,7 +19,7 @@ use Rattle.formula.specs.declared.Figures.{Figures}
 use Rattle.formula.specs.declared.Reading.{Reading}
 use Rattle.formula.specs.declared.Reading.the-variants.{Accepted, Rejected}
 use Rattle.formula.specs.Sheet.{rowCount, linesOf, fieldText, fieldOf, fieldsOf, fieldsIn, field, shapeAt, namedIn}
-use Rattle.formula.specs.Tree.{Exp, Body, expOf, formulaOf}
+use Rattle.formula.specs.Tree.{expOf, formulaOf}
 use Rattle.formula.specs.Places.{inBody, placesOf, Node, expression, body, nodeIn}
 use Rattle.formula.specs.Widths.{wideE, wideB, width}
 use Rattle.formula.specs.Free.{boundE, boundB, inputsOf}

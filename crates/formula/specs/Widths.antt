@@ -1,6 +1,6 @@
 -- Document 01, "Widths" and test 8. 0 stands for a width that a body does not have: every width there is, is at least 1.
 use Prim.Native.Nat.{ℕ, _+_}
-use mathlib.Core.Bool.{Bool, true, false, not, cond, _&&_, _||_}
+use mathlib.Core.Bool.{Bool, true, not, cond, _&&_, _||_}
 use lib.Dec.{eqb, leb}
 use Rattle.value.specs.Operators.{operands}
 use Rattle.formula.specs.Tree.{Exp, identifier, whole, truth, pair, operator, letE, ifE, forE, Body, ret, iter, letB, ifB}

@@ -1,9 +1,9 @@
 -- Which graphs of the assembly language are fit to run: ports and names match in number, every bound name is used, so that no
 -- token is left on a link without a taker, and a loop's body hands on no bare input. The translation of an admitted formula is
 -- fit; the wiring and the schedule are proved for every fit graph.
-use Prim.Native.Nat.{ℕ, zero, suc, _+_, _≤_, _<_}
+use Prim.Native.Nat.{ℕ, suc, _≤_, _<_}
 use mathlib.Core.Path.{_≡_}
-use mathlib.Core.Bool.{Bool, true, false, cond}
+use mathlib.Core.Bool.{true, false, cond}
 use mathlib.Core.List.{List, [], _∷_}
 use lib.ListN.{length}
 use lib.Dec.{eqb}

@@ -1,14 +1,13 @@
 -- The translation of a formula to its graph: Brock, figures 2.3 to 2.13, as document 01, "The graph", completes them.
-use Prim.Native.Nat.{ℕ, zero, suc, _+_, _*_, _-_}
-use mathlib.Core.Bool.{Bool, true, false, cond, _&&_, _||_}
+use Prim.Native.Nat.{ℕ, _+_}
+use mathlib.Core.Bool.{Bool, true, false, cond, _&&_}
 use mathlib.Core.List.{List, [], _∷_, _++_}
-use mathlib.Core.Option.{Option, none, some}
 use lib.ListN.{length}
 use lib.IntN.{pos}
 use lib.Dec.{eqb}
 use Rattle.value.specs.declared.Value.{Value}
-use Rattle.value.specs.declared.Value.the-variants.{Whole, Truth, Err}
-use Rattle.names.specs.Names.{Names, trigger, without, one, size, sizeFrom, members, membersFrom, below}
+use Rattle.value.specs.declared.Value.the-variants.{Whole, Truth}
+use Rattle.names.specs.Names.{Names, trigger, size, sizeFrom, members, membersFrom, below}
 use Rattle.formula.specs.Tree.{Exp, identifier, whole, truth, pair, operator, letE, ifE, forE, Body, ret, iter, letB, ifB}
 use Rattle.formula.specs.Widths.{width, returned, iterated}
 use Rattle.formula.specs.Free.{freeE, freeB, inputsOf}

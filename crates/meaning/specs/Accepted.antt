@@ -1,13 +1,12 @@
 -- What reading's verdict says of an accepted sheet (document 01, 1 to 10): each test passed, for each row; its rows are
 -- those of Rows, and its formula is sound. Rests on formula's tests and on the laws of places.
-use Prim.Native.Nat.{ℕ, zero, suc, _+_, _*_, _-_, _/_, _%_, _≤_, _<_}
+use Prim.Native.Nat.{ℕ, zero, suc, _-_, _/_, _%_, _≤_, _<_}
 use mathlib.Core.Path.{_≡_, refl, sym, ap, _∙_, subst}
 use mathlib.Core.Bool.{Bool, true, false, not, _&&_}
-use mathlib.Core.List.{List, [], _∷_, _++_, map}
+use mathlib.Core.List.{List, [], _∷_, map}
 use lib.Dec.{eqb, leb}
-use lib.ListN.{length, getD, set, replicate, getD-replicate}
-use lib.Seq.{getD-set-other}
-use borrow.Author.Tests.{eqb-true, eqb-false, leb-true, not-true}
+use lib.ListN.{length, getD}
+use borrow.Author.Tests.{eqb-true, eqb-false, not-true}
 use native.Mathlib.Omega.{arith}
 use Rattle.formula.specs.declared.Shape.{Shape}
 use Rattle.formula.specs.declared.Shape.the-variants.{Identifier, Whole, Truth, Pair, Operator, Let, If, For, Iter}
@@ -17,11 +16,11 @@ use Rattle.formula.specs.declared.Refusal.{Refusal}
 use Rattle.formula.specs.declared.Verdict.{Verdict}
 use Rattle.formula.specs.declared.Verdict.the-variants.{Passed as passed, Refused}
 use Rattle.formula.specs.Sheet.{rowCount, linesOf, fieldsOf, shapeAt, namedIn}
-use Rattle.formula.specs.Tree.{expOf, bodyOf, formulaOf}
-use Rattle.formula.specs.TreeLaws.{Named, AllBetween, all-between, and-true}
-use Rattle.formula.specs.Places.{inBody, placesOf, bodiesIn, mark, markDown}
-use Rattle.formula.specs.PlaceLaws.{Sound, fieldPlaces, places-as}
-use Rattle.formula.specs.Tests.{lowest, whole, laidOut, fewRows, fieldsWell, rangesWell, namesWell, allNamed, occurrences, namedOnce, placedWell, widthsWell, boundWell, operatorsOf, Sheet, sheetOf, Test, tests, rowTests, formulaTests, graphTests, afterCheck, verdictBy, verdictOf}
+use Rattle.formula.specs.Tree.{formulaOf}
+use Rattle.formula.specs.TreeLaws.{Named, all-between, and-true}
+use Rattle.formula.specs.Places.{inBody, placesOf}
+use Rattle.formula.specs.PlaceLaws.{Sound, fieldPlaces, places-as, last-place}
+use Rattle.formula.specs.Tests.{lowest, whole, laidOut, fewRows, fieldsWell, rangesWell, namesWell, allNamed, namedOnce, placedWell, widthsWell, boundWell, operatorsOf, sheetOf, tests, rowTests, formulaTests, graphTests, afterCheck, verdictBy, verdictOf}
 use Rattle.formula.specs.TestLaws.{passed-each}
 use Rattle.formula.specs.SheetLaws.{fields-length}
 use Rattle.meaning.specs.WidthLaws.{SoundE}
@@ -139,44 +138,6 @@ module _ (s : List ℕ) (h : Passes s) where
         wide = λ r l u. passed-each (rowCount s) _ (h .widths) r l u;
         widths = table;
       }
-
--- ---- the last row is in an expression place: no row names it
-
-bodies-between : (r : ℕ) (b : Bool) (s : Shape) → AllBetween r (namedIn s) → AllBetween r (bodiesIn b s)
-unfolding namedIn bodiesIn
-bodies-between r b (Identifier i) h = tt
-bodies-between r b (Whole i) h = tt
-bodies-between r b (Truth i) h = tt
-bodies-between r b (Pair x y) h = tt
-bodies-between r b (Operator k x) h = tt
-bodies-between r true (Let i k x y) h = h .1
-bodies-between r false (Let i k x y) h = tt
-bodies-between r true (If x y z) h = h .1
-bodies-between r false (If x y z) h = tt
-bodies-between r b (For i k x y) h = h .1
-bodies-between r b (Iter x) h = tt
-
-mark-above : (r x : ℕ) (l : List ℕ) → AllBetween r l → r ≤ x → (p : List Bool) → inBody (mark l p) x ≡ inBody p x
-unfolding mark
-mark-above r x [] h u p = refl
-mark-above r x (y ∷ l) h u p =
-    mark-above r x l (h .1) u (set p (y - 1) true)
-    ∙ getD-set-other p (y - 1) (x - 1) true false (λ (e : x - 1 ≡ y - 1). omega arith)
-
-mark-down-above : (t : List ℕ) (n : ℕ) → Named t n → (r x : ℕ) → r ≤ n → r ≤ x → (p : List Bool)
-    → inBody (markDown t r p) x ≡ inBody p x
-unfolding markDown
-mark-down-above t n ok zero x u v p = refl
-mark-down-above t n ok (suc r) x u v p =
-    mark-down-above t n ok r x (omega arith) (omega arith) (mark (bodiesIn (inBody p (suc r)) (shapeAt t (suc r))) p)
-    ∙ mark-above (suc r) x (bodiesIn (inBody p (suc r)) (shapeAt t (suc r)))
-    (bodies-between (suc r) (inBody p (suc r)) (shapeAt t (suc r)) (ok .names (suc r) (omega arith) u)) v p
-
-pub last-place : (t : List ℕ) (n : ℕ) → Named t n → 1 ≤ n → inBody (placesOf t n) n ≡ false
-unfolding placesOf
-last-place t n ok l =
-    mark-down-above t n ok n n (omega arith) (omega arith) (replicate n false)
-    ∙ getD-replicate n (n - 1) false false (omega arith)
 
 -- ---- the formula of an accepted sheet
 

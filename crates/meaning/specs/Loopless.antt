@@ -1,13 +1,12 @@
 -- A formula without for: its evaluation ends, and no round is used (document 02, the out-of-turn bench).
 use Prim.Native.Nat.{ℕ}
-use mathlib.Core.Path.{_≡_, refl, sym, _∙_, ap}
+use mathlib.Core.Path.{_≡_, refl, _∙_, ap}
 use mathlib.Core.Bool.{true, false}
 use mathlib.Core.List.{List, [], _∷_, _++_}
-use lib.ListN.{getD, replicate}
+use lib.ListN.{getD}
 use Rattle.value.specs.declared.Value.{Value}
 use Rattle.value.specs.declared.Value.the-variants.{Whole, Truth, Err}
 use Rattle.formula.specs.Tree.{Exp, identifier, whole, truth, pair, operator, letE, ifE, forE}
-use Rattle.formula.specs.Widths.{width}
 use Rattle.meaning.specs.Meaning.{Env, bind, Outcome, yields, then, branch, evalE}
 
 abbrev pub Loopless : Exp → Type 0

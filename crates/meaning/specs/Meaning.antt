@@ -1,11 +1,11 @@
 -- Document 01, "The meaning": direct evaluation of a formula's tree in an environment, with rounds. "A round is one entry
 -- into a loop body." Evaluation is lent a number of rounds and tells those left, or is unfinished where more are needed.
-use Prim.Native.Nat.{ℕ, zero, suc, _+_, _-_}
-use mathlib.Core.Bool.{Bool, true, false, cond, _&&_}
+use Prim.Native.Nat.{ℕ, zero, suc, _-_}
+use mathlib.Core.Bool.{true, false, cond}
 use mathlib.Core.List.{List, [], _∷_, _++_}
 use lib.ListN.{getD, replicate}
-use lib.IntN.{ℤ, pos}
-use lib.Dec.{eqb, leb, ltb}
+use lib.IntN.{pos}
+use lib.Dec.{eqb}
 use Rattle.value.specs.declared.Value.{Value}
 use Rattle.value.specs.declared.Value.the-variants.{Whole, Truth, Err}
 use Rattle.value.specs.Operators.{apply}

@@ -1,11 +1,11 @@
 -- Laws of the meaning (document 01, "The meaning" and "Direct evaluation is lent rounds and tells those used"): the rounds
 -- left never exceed those lent, more rounds change nothing but what is left of them, a loop's bound is of no account, and
 -- an evaluation that ends has one result. Assumes nothing of the tree.
-use Prim.Native.Nat.{ℕ, zero, suc, _+_, _-_, _≤_, _<_}
+use Prim.Native.Nat.{ℕ, zero, suc, _+_, _-_, _≤_}
 use mathlib.Core.Path.{_≡_, refl, sym, ap, _∙_, subst}
 use mathlib.Core.Bool.{Bool, true, false}
-use mathlib.Core.List.{List, [], _∷_, _++_}
-use lib.ListN.{getD, replicate}
+use mathlib.Core.List.{List, [], _++_}
+use lib.ListN.{getD}
 use native.Mathlib.Omega.{arith}
 use native.Mathlib.Nat.{suc-add, le-of-suc-le-suc}
 use lib.Dec.{leb}
@@ -165,11 +165,6 @@ turns-step y a b outer env m =
     loop-bound (λ e k. evalB y (returned y) e k) (λ us. bind a b us outer) (λ e k. within-B y (returned y) e k) m l
     (bind a b ws outer) l h (omega arith)
     )
-
-pub for-turns : (a b : ℕ) (x : Exp) (y : Body) (env : Env) (l : ℕ)
-    → evalE (forE a b x y) env l ≡ then (evalE x env l) (λ vs l₁. turns y a b env (bind a b vs env) l₁)
-unfolding evalE turns
-for-turns a b x y env l = refl
 
 -- ---- more rounds change only what is left
 

@@ -3,20 +3,20 @@
 -- expression places."). Assumes nothing.
 use Prim.Native.Nat.{ℕ, zero, suc, _+_, _*_, _-_, _≤_, _<_}
 use mathlib.Core.Path.{_≡_, refl, sym, ap, _∙_, subst}
-use mathlib.Core.Bool.{Bool, true, false, not, cond, _&&_, _||_, false≢true}
-use mathlib.Core.List.{List, [], _∷_, _++_}
-use lib.Dec.{eqb, leb, ltb}
+use mathlib.Core.Bool.{Bool, true, false, cond, _&&_, false≢true}
+use mathlib.Core.List.{List}
+use lib.Dec.{eqb, leb}
 use lib.ListN.{length, getD}
 use borrow.Author.Tests.{leb-true}
 use native.Mathlib.Omega.{arith}
 use Rattle.formula.specs.declared.Shape.{Shape}
 use Rattle.formula.specs.declared.Shape.the-variants.{Identifier, Whole, Truth, Pair, Operator, Let, If, For, Iter}
 use Rattle.formula.specs.Sheet.{field, shapeOf, shapeAt, namedIn}
-use Rattle.formula.specs.Tree.{Exp, identifier, whole, truth, pair, operator, letE, ifE, forE, Body, ret, iter, letB, ifB, expNode, bodyNode, expOf, bodyOf}
+use Rattle.formula.specs.Tree.{Exp, Body, ret, expNode, bodyNode, expOf, bodyOf}
 use Rattle.formula.specs.TreeLaws.{AllBetween, Named, and-true, exp-as, body-as, between-as}
 use Rattle.formula.specs.Places.{inBody, placesOf, nodeIn}
-use Rattle.formula.specs.Widths.{width, returned, iterated, wideE, wideB}
-use Rattle.formula.specs.Tests.{inRange, rangesWell, placedWell, isIter, wideNode, widthsWell}
+use Rattle.formula.specs.Widths.{width, returned, wideE, wideB}
+use Rattle.formula.specs.Tests.{inRange, rangesWell, placedWell, wideNode, widthsWell}
 use Rattle.meaning.specs.WidthLaws.{SoundE, SoundB, ret-fits}
 
 -- ---- test 4 by a row's shape

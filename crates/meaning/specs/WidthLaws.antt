@@ -2,11 +2,11 @@
 -- ("kinds 1 to 3 have one value, a pair the sum, ..", "a for what its body returns"), an iter as many as the iterated width.
 -- Assumes that every node of the tree passes test 8.
 use Prim.Native.Nat.{ℕ, zero, suc, _+_, _≤_}
-use mathlib.Core.Path.{_≡_, refl, sym, ap, _∙_}
-use mathlib.Core.Bool.{Bool, true, false, not, _&&_, _||_, false≢true}
-use mathlib.Core.List.{List, [], _∷_, _++_}
+use mathlib.Core.Path.{_≡_, refl, sym, _∙_}
+use mathlib.Core.Bool.{true, false, not, _&&_, false≢true}
+use mathlib.Core.List.{List, _++_}
 use lib.Dec.{eqb, leb}
-use lib.ListN.{length, getD, replicate, length-replicate, length-append}
+use lib.ListN.{length, getD, length-replicate, length-append}
 use borrow.Author.Tests.{leb-true, eqb-true, ne-eqb}
 use native.Mathlib.Omega.{arith}
 use Rattle.value.specs.declared.Value.{Value}

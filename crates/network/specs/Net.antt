@@ -2,7 +2,7 @@
 -- place". Push and take ("Running") are treated as operators of the same kind (Ends.antt). A link is the queue of its waiting tokens, the
 -- oldest first; a state is the links alone, since a register is a link that its gate alone takes from and puts onto and that holds one token.
 -- Links are total functions of their numbers, so no bound appears; a capacity is a function of the link.
-use Prim.Native.Nat.{ℕ, _<_, _≤_, _+_}
+use Prim.Native.Nat.{ℕ, _<_, _≤_}
 use mathlib.Core.Path.{_≡_, refl, sym, _∙_, fun-ext}
 use mathlib.Core.Logic.{_≢_, ite}
 use mathlib.Core.List.{List, [], _∷_, _++_}

@@ -1,8 +1,8 @@
 -- A network with a twin of each operator that takes the same and gives err wherever the operator gives something. Twins are events of the proof
 -- alone: a reference may make one, a run never does. Own events commute with every event of another operator. Assumes `Free`, as Commute.antt does.
-use Prim.Native.Nat.{ℕ, _<_, _≤_, _+_, _-_}
+use Prim.Native.Nat.{ℕ, _<_, _+_, _-_}
 use mathlib.Core.Path.{_≡_, refl, sym, _∙_, ap, subst}
-use mathlib.Core.Logic.{_≢_, ite, if-pos, if-neg, _⊎_, inl, inr, Ne·symm}
+use mathlib.Core.Logic.{_≢_, ite, _⊎_, inl, inr, Ne·symm}
 use mathlib.Core.List.{List, [], _∷_}
 use lib.ListN.{length}
 use native.Mathlib.Decide.{decLt, ℕ-discrete}
@@ -10,7 +10,7 @@ use native.Mathlib.Omega.{arith}
 use Rattle.schedule.specs.Schedules.{Possible, reached}
 use Rattle.schedule.specs.Twins.{Part-diamond}
 use Rattle.network.specs.Values.{err-value}
-use Rattle.network.specs.Net.{Token, val, Demand, ask, fire, halt, Links, head, tail, pop, pop-same, pop-other, append, append-other, Able, appends, act, label}
+use Rattle.network.specs.Net.{Token, val, Demand, ask, fire, halt, Links, head, tail, pop, append, append-other, Able, appends, act}
 use Rattle.network.specs.Commute.{Never-asks, Not-among, Never-emits, Free-emissions, Free, enabled, next, output, stays, meets, same-label}
 
 abbrev pub poisons : List (ℕ × Token) → List (ℕ × Token)

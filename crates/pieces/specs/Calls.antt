@@ -26,7 +26,7 @@ use Rattle.pieces.specs.Piece.{Piece, Means, Fits}
 use Rattle.pieces.specs.Sets.{tokens-of, onto, net, drawn-able, able-with-more}
 use Rattle.pieces.specs.Goes.{one-place}
 use Rattle.pieces.specs.Demand3.{tape-of, each-tokens, All-worked, Long-reference, tried}
-use Rattle.pieces.specs.Made.{Made, Ending, Fitting, E, X, O, demand-results, demand-ready, demand-push-or-take, tries}
+use Rattle.pieces.specs.Made.{Made, Ending, Fitting, E, X, O, demand-results, demand-ready, demand-ends, demand-push-or-take, tries}
 use Rattle.pieces.specs.Tape.{able-set, Step, pushing, firing, taking, sets-of, takes-of, Accepted, after, results-of, Sized, events-of, Source-apart, Follows, asks-take, emits-take, simulated, counts}
 
 -- A firing leaves a link that it does not use as it was.
@@ -202,6 +202,34 @@ module _ (graph : ℕ → Demand) (p k source credit : ℕ) (P : Piece) (M : Mea
           inr (take-able w (tape-of (sets-of w) []) [] (sim .leads)
           (demand-ready graph p k source credit P M eval F cap roomy (sets-of w) [] (events-of p k w) (fitting (sets-of w) s) (sim .possible) (omega (arith, c .0)) (omega (arith, c .0, c .1))
           (none-fires w (tape-of (sets-of w) []) [] (sim .leads) quiet)))
+
+  first-sized : (n : ℕ) (vss : List (List Value)) → Sized (P .ins) vss → Sized (P .ins) (take n vss)
+  first-sized zero vss s = tt
+  first-sized (suc n) [] s = tt
+  first-sized (suc n) (v ∷ vss) s = (s .0, first-sized n vss (s .1))
+
+  -- Where nothing can fire, the evaluation of the oldest untaken set has ended, and so has that of every set before it.
+  pub ended-when-quiet : (w : List Step) → Sized (P .ins) (sets-of w) → Accepted-calls w → ((a : ℕ) → Able cap (graph a) (standing w) → ⊥) →
+      (n : ℕ) → n ≤ length (sets-of w) → n ≤ suc (takes-of w) → (rss : List (List Value)) × Ending graph p k source credit P M eval (take n (sets-of w)) rss
+  ended-when-quiet w s a quiet n few most =
+      let c = counts graph p k source credit (P .ins) (P .outs) cap A w started a in
+      let l : length (take n (sets-of w)) ≡ n = length-take-at n (sets-of w) few in
+      demand-ends graph p k source credit P M eval F cap roomy (take n (sets-of w)) (tape-of (drop n (sets-of w)) []) (events-of p k w)
+      (fitting (take n (sets-of w)) (first-sized n (sets-of w) s)) (subst (λ t. Possible Can Xs Os (events-of p k w) (set-link source t started)) tapes (sim .possible))
+      (omega (arith, c .0, l)) (omega (arith, c .1, l))
+      (none-fires w (tape-of (take n (sets-of w)) (tape-of (drop n (sets-of w)) [])) [] (subst (λ t. led w t ≡ set-link source [] (standing w)) tapes (sim .leads)) quiet)
+    where
+      Xs : ℕ → Links → Links
+      Xs = X graph p k source credit P M eval F cap roomy
+
+      Os : ℕ → Links → List Token
+      Os = O graph p k source credit P M eval F cap roomy
+
+      sim : Follows graph p k source credit (P .ins) (P .outs) cap (events-of p k w) (set-link source (tape-of (sets-of w) []) started) (set-link source [] (standing w)) (taken-results w)
+      sim = simulated graph p k source credit (P .ins) (P .outs) cap A w started [] s a
+
+      tapes : tape-of (sets-of w) [] ≡ tape-of (take n (sets-of w)) (tape-of (drop n (sets-of w)) [])
+      tapes = ap (λ z. tape-of z []) (sym (take-append-drop n (sets-of w))) ∙ tape-append (take n (sets-of w)) (drop n (sets-of w)) []
 
   sized-more : (vss : List (List Value)) (v : List Value) → Sized (P .ins) vss → Fits (P .ins) v → Sized (P .ins) (vss ++ (v ∷ []))
   sized-more [] v s f = (f, tt)

@@ -1,7 +1,7 @@
 -- Both halves of demand 3 for a machine over any piece that has the schedule lemma, at every capacity of at least one place: the reference is
 -- push, the piece's schedule, take, for one set after another; the residual (crate schedule) carries its results over to every list of events.
 -- Assumes that operators commute (network, Commute.antt and Wired.antt).
-use Prim.Native.Nat.{ℕ, suc, _<_, _≤_, _+_, _-_}
+use Prim.Native.Nat.{ℕ, suc, _<_, _≤_, _+_}
 use mathlib.Core.Path.{_≡_, refl, sym, _∙_, ap, subst}
 use mathlib.Core.Logic.{_≢_, if-pos, if-neg, Ne·symm, _⊎_, inl, inr}
 use mathlib.Core.List.{List, [], _∷_, _++_}
@@ -31,10 +31,6 @@ tape-of (v ∷ vs) tail = tokens-of v ++ tape-of vs tail
 abbrev pub each-tokens : List (List Value) → List (List Token)
 each-tokens [] = []
 each-tokens (r ∷ rs) = tokens-of r ∷ each-tokens rs
-
-len-each : (rs : List (List Value)) → length (each-tokens rs) ≡ length rs
-len-each [] = refl
-len-each (r ∷ rs) = ap suc (len-each rs)
 
 module _ (graph : ℕ → Demand) (p k source credit : ℕ) (P : Piece) (M : Means) (B : Bench graph p k source credit P M) (cap : ℕ → ℕ) (roomy : (l : ℕ) → 1 ≤ cap l) where
   abbrev N : ℕ → Demand
@@ -84,12 +80,13 @@ module _ (graph : ℕ → Demand) (p k source credit : ℕ) (P : Piece) (M : Mea
     pub pushes : count p w ≡ length rss
     pub takes : count k w ≡ length rss
 
-  -- a list of events of at least so many, with few pushes
+  -- a list of events of at least so many, with few pushes and a take less
   pub record Long-reference (q : Links) (n c : ℕ) : Type 0 where
     pub w : List ℕ
     pub runs : Possible Enabled Next Output w q
     pub many : c ≤ length w
     pub few : count p w ≤ n
+    pub untaken : count k w < n
 
   ref-nil : (q : Links) → Reference q [] q
   ref-nil q = record { w = []; runs = tt; leads = refl; gives = refl; pushes = refl; takes = refl }
@@ -106,13 +103,14 @@ module _ (graph : ℕ → Demand) (p k source credit : ℕ) (P : Piece) (M : Mea
         takes = count-append k (f .w) (g .w) ∙ simp length-append (omega (arith, f .takes, g .takes));
       }
 
-  ref-long : (q q₁ : Links) (r : List (List Token)) (n c : ℕ) → Reference q r q₁ → Long-reference q₁ n c → Long-reference q (length r + n) c
+  pub ref-long : (q q₁ : Links) (r : List (List Token)) (n c : ℕ) → Reference q r q₁ → Long-reference q₁ n c → Long-reference q (length r + n) c
   ref-long q q₁ r n c f g =
       record {
         w = f .w ++ g .w;
         runs = possible-append Enabled Next Output (f .w) (g .w) q (f .runs) (subst (Possible Enabled Next Output (g .w)) (sym (f .leads)) (g .runs));
         many = simp length-append (omega (arith, g .many));
         few = omega (arith, count-append p (f .w) (g .w), f .pushes, g .few);
+        untaken = omega (arith, count-append k (f .w) (g .w), f .takes, g .untaken);
       }
 
   -- push: an event of the machine, to the load of the piece's inputs on a base that holds the credit
@@ -185,7 +183,7 @@ module _ (graph : ℕ → Demand) (p k source credit : ℕ) (P : Piece) (M : Mea
         ∙ sym (put-set source tape σ b (own-src σ i source (B .source-off)))
 
   -- one set, from its push to its take
-  one : (vs rs : List Value) (c : ℕ) (tape : List Token) (σ : Load) (b : Links) → Fits (P .ins) vs → Fits (P .outs) rs → M (some-of vs) c (some (some-of rs)) →
+  pub one : (vs rs : List Value) (c : ℕ) (tape : List Token) (σ : Load) (b : Links) → Fits (P .ins) vs → Fits (P .outs) rs → M (some-of vs) c (some (some-of rs)) →
       P .Idle σ → Clear (Region P) b → b credit ≡ [] → (σ′ : Load) × P .Idle σ′ × Reference (Between σ (tokens-of vs ++ tape) b) (tokens-of rs ∷ []) (Between σ′ tape b)
   one vs rs c tape σ b fv fr m i cl ce =
       let h = B .serves (some-of vs) c (some (some-of rs)) m σ i in
@@ -220,7 +218,7 @@ module _ (graph : ℕ → Demand) (p k source credit : ℕ) (P : Piece) (M : Mea
           }
 
   -- a set whose rounds do not suffice
-  one-long : (vs : List Value) (c : ℕ) (tape : List Token) (σ : Load) (b : Links) → Fits (P .ins) vs → M (some-of vs) c none →
+  pub one-long : (vs : List Value) (c : ℕ) (tape : List Token) (σ : Load) (b : Links) → Fits (P .ins) vs → M (some-of vs) c none →
       P .Idle σ → Clear (Region P) b → b credit ≡ [] → Long-reference (Between σ (tokens-of vs ++ tape) b) 1 c
   one-long vs c tape σ b fv m i cl ce =
       let s = B .serves (some-of vs) c none m σ i (base tape b) (base-clear tape b cl) in
@@ -234,6 +232,7 @@ module _ (graph : ℕ → Demand) (p k source credit : ℕ) (P : Piece) (M : Mea
             runs = (push-on vs tape σ b fv i cl ce, subst (Possible Enabled Next Output w) (sym (push-to vs tape σ b fv i cl ce)) (l .runs));
             many = omega arith;
             few = let z : count p (p ∷ w) ≡ suc (count p w) = if-pos (ℕ-discrete p p) refl _ _ in omega (arith, l .no-push);
+            untaken = let z : count k (p ∷ w) ≡ count k w = if-neg (ℕ-discrete k p) (Ne·symm (B .push-not-take)) _ _ in omega (arith, l .no-take);
           }
 
   -- Many sets, one after another.
@@ -285,7 +284,7 @@ module _ (graph : ℕ → Demand) (p k source credit : ℕ) (P : Piece) (M : Mea
           })
       next′ r σ′ f (inr g) =
           let h = ref-long (Between σ (tokens-of v ++ tape-of vss tail) b) (Between σ′ (tape-of vss tail) b) (tokens-of r ∷ []) (length vss) c f g in
-          inr (record { w = h .w; runs = h .runs; many = h .many; few = omega (arith, h .few) })
+          inr (record { w = h .w; runs = h .runs; many = h .many; few = omega (arith, h .few); untaken = omega (arith, h .untaken) })
 
       go : ((σ′ : Load) → P .Idle σ′ → All-worked vss tail σ′ b ⊎ Long-reference (Between σ′ (tape-of vss tail) b) (length vss) c) →
           ((r : List Value) × (d : ℕ) × Fits (P .outs) r × M (some-of v) d (some (some-of r))) ⊎ M (some-of v) c none →
@@ -295,7 +294,7 @@ module _ (graph : ℕ → Demand) (p k source credit : ℕ) (P : Piece) (M : Mea
           next′ r (f .0) (f .2) (ih (f .0) (f .1))
       go ih (inr m) =
           let h = one-long v c (tape-of vss tail) σ b (t .0) m i cl ce in
-          inr (record { w = h .w; runs = h .runs; many = h .many; few = omega (arith, h .few) })
+          inr (record { w = h .w; runs = h .runs; many = h .many; few = omega (arith, h .few); untaken = omega (arith, h .untaken) })
 
   module _ (free : (a b : ℕ) → a ≢ b → Free (N a) (N b)) where
     abbrev Commutes : Diamond Enabled Next Output

@@ -1,14 +1,14 @@
 -- One firing as a rule on loads: a gate that takes every token of a load turns it into what it emits. That it takes them is a tuple which
 -- computes from the firing itself, so each gate in each of its cases is one line where it is used.
-use Prim.Native.Nat.{ℕ, zero, suc, _+_}
+use Prim.Native.Nat.{ℕ, zero, suc}
 use mathlib.Core.Path.{_≡_, refl, sym, _∙_, ap, subst}
 use mathlib.Core.Logic.{_≢_, _⊎_, inl, inr, ⊎-elim}
 use mathlib.Core.List.{List, [], _∷_, _++_}
 use mathlib.Core.Option.{Option, none, some}
 use native.Mathlib.Omega.{arith}
 use Rattle.network.specs.Net.{Token, Demand, ask, fire, halt, Links, head, tail, pop, append, pop-same, pop-other, append-same, append-other, Room, Able, appends, act}
-use Rattle.pieces.specs.Load.{Load, opt, set-link, set-same, set-other, set-ext, put, put-set, On, Within, Nones, put-nones}
-use Rattle.pieces.specs.Goes.{one-place, Net, Goes}
+use Rattle.pieces.specs.Load.{Load, opt, set-link, set-same, set-other, set-ext, put, put-set, On, Nones, put-nones}
+use Rattle.pieces.specs.Goes.{one-place}
 
 -- the token at place p of a load, and the load without it
 abbrev pub Holds-at : ℕ → Load → ℕ → Token → Type 0
@@ -117,16 +117,3 @@ consumes-does (ask l k) xs es b (p, t, a, e) dx de cx ce =
       (rw v (omega arith), subst (λ u. Able one-place (k u) (pop l (put xs b))) (sym g) (subst (λ q. Able one-place (k t) q) (sym s) (h .0))),
       ap (λ u. act (k u) (pop l (put xs b))) g ∙ ap (act (k t)) s ∙ h .1,
     )
-
--- The rule.
-pub fires : (net : Net) (D : ℕ → Type 0) (a : ℕ) (d : Demand) (xs : Load) (es : List (ℕ × Token)) → net .at a ≡ d → net .Fine (a ∷ []) → Consumes d xs es → Distinct xs → Distinct (emitted es) →
-    Within xs D → Within (emitted es) D → Goes net D xs 1 (emitted es)
-fires net D a d xs es p fi e dx de wx we b cl =
-    let h = consumes-does d xs es b e dx de (λ l o. cl l (wx l o)) (λ l o. cl l (we l o)) in
-    record {
-      w = a ∷ [];
-      runs = (subst (λ z. Able one-place z (put xs b)) (sym p) (h .0), tt);
-      ends = ap (λ z. act z (put xs b)) p ∙ h .1;
-      many = omega arith;
-      fine = fi;
-    }

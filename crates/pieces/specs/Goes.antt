@@ -3,13 +3,13 @@
 -- rounds than were lent leaves behind. Knows of no gate and no formula.
 use Prim.Native.Nat.{ℕ, _≤_, _+_}
 use mathlib.Core.Path.{_≡_, refl, sym, _∙_, ap, subst}
-use mathlib.Core.List.{List, [], _∷_, _++_}
+use mathlib.Core.List.{List, [], _++_}
 use lib.ListN.{length, length-append}
 use native.Mathlib.Omega.{arith}
 use Rattle.network.specs.Net.{Demand, Links}
 use Rattle.network.specs.Commute.{enabled, next, output}
 use Rattle.schedule.specs.Schedules.{Possible, reached, possible-append, reached-append}
-use Rattle.pieces.specs.Load.{Load, put, put-app, Clear, Off, Apart, Within, put-off, put-clear, Nones, put-nones, cat, pulls, Pair, put-pulls, app-assoc}
+use Rattle.pieces.specs.Load.{Load, put, put-app, Clear, Off, Apart, Within, put-off, put-clear, Nones, put-nones}
 
 -- The capacity is one at every link.
 abbrev pub one-place : ℕ → ℕ
@@ -99,9 +99,6 @@ module _ (net : Net) where
   pub go-wide : (D E : ℕ → Type 0) (xs ys : Load) (c : ℕ) → ((l : ℕ) → D l → E l) → Goes D xs c ys → Goes E xs c ys
   go-wide D E xs ys c up f b cl = f b (λ l d. cl l (up l d))
 
-  pub go-wide-on : (D E : ℕ → Type 0) (xs : Load) (c : ℕ) → ((l : ℕ) → D l → E l) → Goes-on D xs c → Goes-on E xs c
-  go-wide-on D E xs c up f b cl = f b (λ l d. cl l (up l d))
-
   pub go-less : (D : ℕ → Type 0) (xs ys : Load) (c d : ℕ) → d ≤ c → Goes D xs c ys → Goes D xs d ys
   go-less D xs ys c d le f b cl = let s = f b cl in record { w = s .w; runs = s .runs; ends = s .ends; many = omega (arith, s .many); fine = s .fine }
 
@@ -112,9 +109,6 @@ module _ (net : Net) where
   pub go-by : (D : ℕ → Type 0) (xs ys zs : Load) (c : ℕ) → Off zs D → Goes D xs c ys → Goes D (xs ++ zs) c (ys ++ zs)
   go-by D xs ys zs c off f b cl =
       rw (put-app xs zs b, put-app ys zs b) (f (put zs b) (put-clear zs D b off cl))
-
-  pub go-by-on : (D : ℕ → Type 0) (xs zs : Load) (c : ℕ) → Off zs D → Goes-on D xs c → Goes-on D (xs ++ zs) c
-  go-by-on D xs zs c off f b cl = rw (put-app xs zs b) (f (put zs b) (put-clear zs D b off cl))
 
   -- loads that are one and the same on a clear base
   abbrev pub Alike : (ℕ → Type 0) → Load → Load → Type 0
@@ -129,40 +123,10 @@ module _ (net : Net) where
   pub go-from-on : (D : ℕ → Type 0) (xs xs′ : Load) (c : ℕ) → Alike D xs xs′ → Goes-on D xs c → Goes-on D xs′ c
   go-from-on D xs xs′ c e f b cl = subst (λ q. Long q c) (e b cl) (f b cl)
 
-  pub alike-pulls : (D : ℕ → Type 0) (ks : List ℕ) (bs : List Load) → Pair bs → Alike D (cat (pulls ks bs)) (cat bs)
-  alike-pulls D ks bs p b cl = put-pulls ks bs b p
-
   pub alike-sym : (D : ℕ → Type 0) (xs ys : Load) → Alike D xs ys → Alike D ys xs
   alike-sym D xs ys e b cl = sym (e b cl)
-
-  pub alike-then : (D : ℕ → Type 0) (xs ys zs : Load) → Alike D xs ys → Alike D ys zs → Alike D xs zs
-  alike-then D xs ys zs e f b cl = e b cl ∙ f b cl
 
   -- empty links said or not
   pub alike-nones : (D : ℕ → Type 0) (xs ys : Load) → Nones xs → Within xs D → Apart xs ys → Alike D (xs ++ ys) ys
   alike-nones D xs ys n wi ap′ b cl =
       put-app xs ys b ∙ put-nones xs (put ys b) n (λ l o. put-off l ys b (λ o′. ap′ l o o′) ∙ cl l (wi l o))
-
-  pub alike-cat : (D : ℕ → Type 0) (zs xs ys : Load) → Alike D xs ys → Alike D (zs ++ xs) (zs ++ ys)
-  alike-cat D zs xs ys e b cl = put-app zs xs b ∙ ap (put zs) (e b cl) ∙ sym (put-app zs ys b)
-
-  -- work at the first two blocks
-  pub go-two : (D : ℕ → Type 0) (x y u v : Load) (c : ℕ) (bs : List Load) → Off (cat bs) D → Goes D (x ++ y) c (u ++ v) →
-      Goes D (cat (x ∷ y ∷ bs)) c (cat (u ∷ v ∷ bs))
-  go-two D x y u v c bs off f =
-      subst (λ z. Goes D z c (u ++ (v ++ cat bs))) (app-assoc x y (cat bs))
-      (subst (λ z. Goes D ((x ++ y) ++ cat bs) c z) (app-assoc u v (cat bs)) (go-by D (x ++ y) (u ++ v) (cat bs) c off f))
-
-  pub go-two-on : (D : ℕ → Type 0) (x y : Load) (c : ℕ) (bs : List Load) → Off (cat bs) D → Goes-on D (x ++ y) c → Goes-on D (cat (x ∷ y ∷ bs)) c
-  go-two-on D x y c bs off f = subst (λ z. Goes-on D z c) (app-assoc x y (cat bs)) (go-by-on D (x ++ y) (cat bs) c off f)
-
-  -- blocks in another order
-  pub go-order : (D : ℕ → Type 0) (xs : Load) (c : ℕ) (ks : List ℕ) (bs : List Load) → Pair bs → Goes D xs c (cat bs) → Goes D xs c (cat (pulls ks bs))
-  go-order D xs c ks bs p f = go-to D xs (cat bs) (cat (pulls ks bs)) c (alike-sym D (cat (pulls ks bs)) (cat bs) (alike-pulls D ks bs p)) f
-
-  -- what is done first need not count
-  pub go-first : (D : ℕ → Type 0) (xs ys zs : Load) (c : ℕ) → Goes D xs 0 ys → Goes D ys c zs → Goes D xs c zs
-  go-first D xs ys zs c f g = go-less D xs zs (0 + c) c (omega arith) (go-then D xs ys zs 0 c f g)
-
-  pub go-first-on : (D : ℕ → Type 0) (xs ys : Load) (c : ℕ) → Goes D xs 0 ys → Goes-on D ys c → Goes-on D xs c
-  go-first-on D xs ys c f g = go-less-on D xs (0 + c) c (omega arith) (go-then-on D xs ys 0 c f g)

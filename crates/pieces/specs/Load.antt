@@ -1,12 +1,11 @@
 -- Loads: which tokens lie on which links. A state is a load put upon a base that is empty there; all reasoning about schedules is rewriting of
 -- loads, and what is not in the load is in the base, which nothing touches. A register, a waiting control and a datum are all load.
 -- Blocks of a load that share no link may change places; where links have colours, that they share none is computed from numerals.
-use Prim.Native.Nat.{ℕ, zero, suc, _+_}
+use Prim.Native.Nat.{ℕ, zero, suc}
 use mathlib.Core.Path.{_≡_, refl, sym, _∙_, ap, fun-ext}
 use mathlib.Core.Logic.{_≢_, ite, _⊎_, inl, inr, ⊎-elim}
 use mathlib.Core.List.{List, [], _∷_, _++_}
 use mathlib.Core.Option.{Option, none, some}
-use mathlib.Core.Bool.{Bool, true, false, _&&_, and-eq-true-iff, false≢true}
 use native.Mathlib.Decide.{ℕ-discrete}
 use Rattle.network.specs.Net.{Token, Links}
 
@@ -180,88 +179,10 @@ put-pull (suc k) (x ∷ bs) b p = go (pull k bs) (far-pull x k bs (p .0)) (put-p
         put-app c (x ++ cat cs) b ∙ ap (put c) (put-app x (cat cs) b) ∙ put-swap c x (put (cat cs) b) (λ l o o′. f .0 l o′ o)
         ∙ ap (put x) (sym (put-app c (cat cs) b) ∙ e) ∙ sym (put-app x (cat bs) b)
 
-pub pair-pulls : (ks : List ℕ) (bs : List Load) → Pair bs → Pair (pulls ks bs)
-pair-pulls [] bs p = p
-pair-pulls (k ∷ ks) bs p = pair-pulls ks (pull k bs) (pair-pull k bs p)
-
 pub put-pulls : (ks : List ℕ) (bs : List Load) (b : Links) → Pair bs → put (cat (pulls ks bs)) b ≡ put (cat bs) b
 put-pulls [] bs b p = refl
 put-pulls (k ∷ ks) bs b p = put-pulls ks (pull k bs) b (pair-pull k bs p) ∙ put-pull k bs b p
 
--- Links have colours: blocks of different colours are apart, and that numerals differ is computed.
-abbrev pub differs : ℕ → List ℕ → Bool
-differs i [] = true
-differs i (j ∷ js) = ite (ℕ-discrete i j) false (differs i js)
-
-abbrev pub all-differ : List ℕ → Bool
-all-differ [] = true
-all-differ (i ∷ is) = differs i is && all-differ is
-
-differs-ne : (i : ℕ) (j : ℕ) (js : List ℕ) → differs i (j ∷ js) ≡ true → (i ≢ j) × (differs i js ≡ true)
-differs-ne i j js e = go (ℕ-discrete i j) e
-  where
-    go : (d : Dec (i ≡ j)) → ite d false (differs i js) ≡ true → (i ≢ j) × (differs i js ≡ true)
-    go (yes p) h = absurd (false≢true h)
-    go (no n) h = (n, h)
-
-module _ (colour : ℕ → ℕ) where
-  abbrev pub Tint : ℕ → Load → Type 0
-  Tint i xs = (l : ℕ) → On l xs → colour l ≡ i
-
-  abbrev pub Tints : List ℕ → List Load → Type 0
-  Tints [] [] = Unit {0}
-  Tints [] (x ∷ bs) = ⊥
-  Tints (i ∷ is) [] = ⊥
-  Tints (i ∷ is) (x ∷ bs) = Tint i x × Tints is bs
-
-  tint-far : (i : ℕ) (x : Load) (is : List ℕ) (bs : List Load) → Tint i x → Tints is bs → differs i is ≡ true → Far x bs
-  tint-far i x [] [] t ts e = tt
-  tint-far i x [] (y ∷ bs) t ts e = absurd ts
-  tint-far i x (j ∷ js) [] t ts e = tt
-  tint-far i x (j ∷ js) (y ∷ bs) t ts e =
-      let d = differs-ne i j js e in
-      (λ l o o′. d .0 (sym (t l o) ∙ ts .0 l o′), tint-far i x js bs t (ts .1) (d .1))
-
-  pub pair-of : (is : List ℕ) (bs : List Load) → Tints is bs → all-differ is ≡ true → Pair bs
-  pair-of [] [] ts e = tt
-  pair-of [] (x ∷ bs) ts e = absurd ts
-  pair-of (i ∷ is) [] ts e = tt
-  pair-of (i ∷ is) (x ∷ bs) ts e =
-      let c = and-eq-true-iff (differs i is) (all-differ is) .0 e in
-      (tint-far i x is bs (ts .0) (ts .1) (c .0), pair-of is bs (ts .1) (c .1))
-
-  -- a link of the blocks has one of their colours
-  abbrev pub Among : ℕ → List ℕ → Type 0
-  Among k [] = ⊥
-  Among k (i ∷ is) = (k ≡ i) ⊎ Among k is
-
-  pub tint-on : (is : List ℕ) (bs : List Load) (l : ℕ) → Tints is bs → On l (cat bs) → Among (colour l) is
-  tint-on [] [] l ts o = o
-  tint-on [] (x ∷ bs) l ts o = absurd ts
-  tint-on (i ∷ is) [] l ts o = absurd ts
-  tint-on (i ∷ is) (x ∷ bs) l ts o =
-      ⊎-elim (λ (p : On l x). inl (ts .0 l p)) (λ (p : On l (cat bs)). inr (tint-on is bs l (ts .1) p)) (on-app l x (cat bs) o)
-
-  pub among-not : (k i : ℕ) (is : List ℕ) → k ≡ i → differs i is ≡ true → Among k is → ⊥
-  among-not k i [] e d a = a
-  among-not k i (j ∷ js) e d (inl z) = differs-ne i j js d .0 (sym e ∙ z)
-  among-not k i (j ∷ js) e d (inr z) = among-not k i js e (differs-ne i j js d .1) z
-
-  pub off-tints : (is : List ℕ) (bs : List Load) (D : ℕ → Type 0) → Tints is bs → ((l : ℕ) → D l → Among (colour l) is → ⊥) → Off (cat bs) D
-  off-tints is bs D ts f l o d = f l d (tint-on is bs l ts o)
-
-pub apart-cat : (x : Load) (bs : List Load) → Far x bs → Apart x (cat bs)
-apart-cat x [] f l o p = p
-apart-cat x (y ∷ bs) f l o p = ⊎-elim (λ (q : On l y). f .0 l o q) (λ (q : On l (cat bs)). apart-cat x bs (f .1) l o q) (on-app l y (cat bs) p)
-
 pub app-assoc : (xs ys zs : Load) → (xs ++ ys) ++ zs ≡ xs ++ (ys ++ zs)
 app-assoc [] ys zs = refl
 app-assoc (x ∷ xs) ys zs = ap (λ z. x ∷ z) (app-assoc xs ys zs)
-
-pub app-nil : (x : Load) → x ++ [] ≡ x
-app-nil [] = refl
-app-nil (y ∷ x) = ap (λ z. y ∷ z) (app-nil x)
-
--- A first entry and two blocks, cut apart.
-pub cut-outputs : (x : ℕ × Option Token) (P Q : Load) (bs : List Load) → cat ((x ∷ (P ++ Q)) ∷ bs) ≡ cat ((x ∷ []) ∷ P ∷ Q ∷ bs)
-cut-outputs x P Q bs = ap (λ z. x ∷ z) (app-assoc P Q (cat bs))

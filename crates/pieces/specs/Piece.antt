@@ -2,16 +2,15 @@
 -- schedule to the values on its outputs with the piece idle again, or as many firings as anyone asks where the rounds do not suffice.
 -- A piece is known by its links alone; no numbering and no translation appears. That the graph of a formula has it is proved in
 -- crate reference (WholeGraph.antt).
-use Prim.Native.Nat.{ℕ, _≤_, _+_}
-use mathlib.Core.Path.{_≡_, refl, ap, subst}
-use mathlib.Core.Logic.{_⊎_, inl, inr, ⊎-elim}
+use Prim.Native.Nat.{ℕ}
+use mathlib.Core.Logic.{_⊎_, inl, inr}
 use mathlib.Core.List.{List, [], _∷_, _++_}
 use mathlib.Core.Option.{Option, none, some}
 use Rattle.value.specs.declared.Value.{Value}
-use Rattle.network.specs.Net.{Token, val, Demand}
+use Rattle.network.specs.Net.{Token, val}
 use Rattle.network.specs.Uses.{In}
-use Rattle.pieces.specs.Load.{cat, Load, On, on-app, Within, Nones}
-use Rattle.pieces.specs.Goes.{Net, Goes, Goes-on, Alike, go-stay, go-then, go-then-on, go-less, go-less-on, go-from, go-to, alike-nones, alike-sym, go-from-on}
+use Rattle.pieces.specs.Load.{Load, On, Within}
+use Rattle.pieces.specs.Goes.{Net, Goes, Goes-on}
 
 -- As many of the one as of the other: values for links, for gates, for names.
 abbrev pub Fits : {X Y : Type 0} → List X → List Y → Type 0
@@ -76,33 +75,9 @@ module _ (net : Net) where
   abbrev pub Serves : Piece → Means → Type 0
   Serves P M = (vs : Values) (c : ℕ) (a : Answer) → M vs c a → (σ : Load) → P .Idle σ → Leads (Region P) (load (P .ins) vs ++ σ) (P .outs) (P .Idle) c a
 
-  pub lead-after : (D : ℕ → Type 0) (xs ys : Load) (os : List ℕ) (Idle : Load → Type 0) (c d : ℕ) (a : Answer) → Goes net D xs c ys →
-      Leads D ys os Idle d a → Leads D xs os Idle (c + d) a
-  lead-after D xs ys os Idle c d none f g = go-then-on net D xs ys c d f g
-  lead-after D xs ys os Idle c d (some rs) f (σ, i, g) = (σ, i, go-then net D xs ys (load os rs ++ σ) c d f g)
-
-  pub lead-less : (D : ℕ → Type 0) (xs : Load) (os : List ℕ) (Idle : Load → Type 0) (c d : ℕ) (a : Answer) → d ≤ c → Leads D xs os Idle c a → Leads D xs os Idle d a
-  lead-less D xs os Idle c d none le g = go-less-on net D xs c d le g
-  lead-less D xs os Idle c d (some rs) le (σ, i, g) = (σ, i, go-less net D xs (load os rs ++ σ) c d le g)
-
-  pub lead-from : (D : ℕ → Type 0) (xs xs′ : Load) (os : List ℕ) (Idle : Load → Type 0) (c : ℕ) (a : Answer) → Alike net D xs xs′ → Leads D xs os Idle c a →
-      Leads D xs′ os Idle c a
-  lead-from D xs xs′ os Idle c none e g = go-from-on net D xs xs′ c e g
-  lead-from D xs xs′ os Idle c (some rs) e (σ, i, g) = (σ, i, go-from net D xs xs′ (load os rs ++ σ) c e g)
-
--- A body is a piece whose outputs are iter?, the iterated values and the returned values, and whose meaning has one of two forms.
-abbrev pub none-of : List ℕ → Values
-none-of [] = []
-none-of (l ∷ ls) = none ∷ none-of ls
-
 abbrev pub some-of : List Value → Values
 some-of [] = []
 some-of (v ∷ vs) = some v ∷ some-of vs
-
--- Absent inputs: the piece has nothing to do. This needs no hypothesis on what it means.
-pub load-nones : (ls : List ℕ) → Nones (load ls [])
-load-nones [] = tt
-load-nones (l ∷ ls) = (refl, load-nones ls)
 
 pub load-in : (ls : List ℕ) (vs : Values) (l : ℕ) → On l (load ls vs) → In l ls
 load-in [] vs l o = absurd o
@@ -110,46 +85,3 @@ load-in (k ∷ ls) [] l (inl e) = inl e
 load-in (k ∷ ls) [] l (inr o) = inr (load-in ls [] l o)
 load-in (k ∷ ls) (v ∷ vs) l (inl e) = inl e
 load-in (k ∷ ls) (v ∷ vs) l (inr o) = inr (load-in ls vs l o)
-
-pub absent : (net : Net) (P : Piece) → Neat P → (σ : Load) → P .Idle σ → Goes net (Region P) (load (P .ins) [] ++ σ) 0 (load (P .outs) [] ++ σ)
-absent net P N σ id =
-    go-from net (Region P) σ (load (P .ins) [] ++ σ) (load (P .outs) [] ++ σ) 0
-    (alike-sym net (Region P) (load (P .ins) [] ++ σ) σ (alike-nones net (Region P) (load (P .ins) []) σ (load-nones (P .ins)) (λ l o. inr (inl (load-in (P .ins) [] l o)))
-    (λ l o o′. N .off-ins l (N .idle-own σ id l o′) (load-in (P .ins) [] l o))))
-    (go-to net (Region P) σ σ (load (P .outs) [] ++ σ) 0
-    (alike-sym net (Region P) (load (P .outs) [] ++ σ) σ (alike-nones net (Region P) (load (P .outs) []) σ (load-nones (P .outs)) (λ l o. inr (inr (load-in (P .outs) [] l o)))
-    (λ l o o′. N .off-outs l (N .idle-own σ id l o′) (load-in (P .outs) [] l o))))
-    (go-stay net (Region P) σ))
-
-pub load-app-none : (is rs : List ℕ) (ws : Values) → load (is ++ rs) (none-of is ++ ws) ≡ load is (none-of is) ++ load rs ws
-load-app-none [] rs ws = refl
-load-app-none (i ∷ is) rs ws = ap (λ z. (i, none) ∷ z) (load-app-none is rs ws)
-
-pub none-of-nones : (is : List ℕ) → Nones (load is (none-of is))
-none-of-nones [] = tt
-none-of-nones (i ∷ is) = (refl, none-of-nones is)
-
-pub load-app-fit : (is rs : List ℕ) (us : List Value) (ws : Values) → Fits is us → load (is ++ rs) (some-of us ++ ws) ≡ load is (some-of us) ++ load rs ws
-load-app-fit [] rs [] ws f = refl
-load-app-fit [] rs (v ∷ vs) ws f = absurd f
-load-app-fit (i ∷ is) rs [] ws f = absurd f
-load-app-fit (i ∷ is) rs (v ∷ vs) ws f = ap (λ z. (i, some (val v)) ∷ z) (load-app-fit is rs vs ws f)
-
--- one value on every link
-abbrev pub same-of : List ℕ → Value → List Value
-same-of [] v = []
-same-of (l ∷ ls) v = v ∷ same-of ls v
-
-pub same-fit : (ls : List ℕ) (v : Value) → Fits ls (same-of ls v)
-same-fit [] v = tt
-same-fit (l ∷ ls) v = same-fit ls v
-
--- Two pieces idle, the one's load before the other's.
-abbrev pub Both-idle : (Load → Type 0) → (Load → Type 0) → Load → Type 0
-Both-idle I J σ = (σP : Load) × (σQ : Load) × I σP × J σQ × (σ ≡ cat (σP ∷ σQ ∷ []))
-
-pub both-idle-own : (I J : Load → Type 0) (A B own : ℕ → Type 0) → ((σ : Load) → I σ → Within σ A) → ((σ : Load) → J σ → Within σ B) → ((l : ℕ) → A l → own l) →
-    ((l : ℕ) → B l → own l) → (σ : Load) → Both-idle I J σ → Within σ own
-both-idle-own I J A B own wI wJ a b σ (σP, σQ, i, j, e) l o =
-    ⊎-elim (λ (z : On l σP). a l (wI σP i l z))
-    (λ (z : On l (σQ ++ [])). ⊎-elim (λ (y : On l σQ). b l (wJ σQ j l y)) (λ (y : ⊥). absurd y) (on-app l σQ [] z)) (on-app l σP (σQ ++ []) (subst (On l) e o))

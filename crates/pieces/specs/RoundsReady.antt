@@ -3,21 +3,21 @@
 -- Assumes what Calls.antt assumes, and that every number from n on is no operator.
 use Prim.Native.Nat.{ℕ, zero, suc, _<_, _≤_, _+_}
 use mathlib.Core.Path.{_≡_, refl, sym, _∙_, ap, ap₂, subst}
-use mathlib.Core.Logic.{_≢_, Ne·symm, if-neg, inl, inr}
+use mathlib.Core.Logic.{_≢_, if-neg}
 use mathlib.Core.List.{List, [], _∷_, _++_}
 use mathlib.Core.Option.{Option}
 use lib.ListN.{length, length-append}
 use native.Mathlib.Decide.{ℕ-discrete}
 use native.Mathlib.Omega.{arith}
-use Rattle.schedule.specs.Schedules.{remaining, Possible, reached, Diamond, reached-append}
+use Rattle.schedule.specs.Schedules.{remaining, Possible, reached, reached-append}
 use Rattle.schedule.specs.Counts.{count}
 use Rattle.schedule.specs.Rounds.{turn, roundFrom, rounds, ready-after}
 use Rattle.value.specs.declared.Value.{Value}
-use Rattle.network.specs.Net.{Token, Demand, halt, Links, Able, act, label}
+use Rattle.network.specs.Net.{Token, Demand, halt, Links, Able, act}
 use Rattle.network.specs.Commute.{enabled, next, output, diamond}
 use Rattle.network.specs.Ends.{take-demand, machine, machine-graph, machine-take}
 use Rattle.pieces.specs.Load.{set-link, set-other, set-ext}
-use Rattle.pieces.specs.Tape.{able-set, act-set, Step, pushing, firing, taking, sets-of, takes-of, demand-of, Accepted, after, results-of, Sized, events-of, Source-apart, Follows, asks-take, emits-take, simulated, counts}
+use Rattle.pieces.specs.Tape.{able-set, act-set, Step, pushing, firing, taking, sets-of, takes-of, demand-of, Accepted, results-of, Sized, events-of, Source-apart, Follows, asks-take, emits-take, simulated, counts}
 use Rattle.pieces.specs.Piece.{Piece, Means}
 use Rattle.pieces.specs.Sets.{net}
 use Rattle.pieces.specs.Made.{Made}

@@ -1,15 +1,14 @@
 -- Rows of gates side by side, each keeping to its own links, and blocks laid gate by gate instead of kind by kind. Knows of no gate's rule.
 use Prim.Native.Nat.{ℕ, suc, _+_}
-use mathlib.Core.Path.{_≡_, refl, sym, _∙_, ap, subst}
+use mathlib.Core.Path.{_≡_, sym, _∙_, subst}
 use mathlib.Core.Logic.{_⊎_, inl, inr, ⊎-elim}
 use mathlib.Core.List.{List, [], _∷_, _++_}
 use lib.ListN.{length}
 use native.Mathlib.Decide.{ℕ-discrete}
 use native.Mathlib.Omega.{arith}
-use Rattle.network.specs.Net.{Demand, Links}
 use Rattle.network.specs.Uses.{In}
-use Rattle.pieces.specs.Load.{Load, put, put-app, put-swap, put-clear, On, on-app, on-left, on-right, Off, Apart, Within, cat}
-use Rattle.pieces.specs.Goes.{Net, Steps, Goes, Alike, go-stay, go-then, go-wide, go-by}
+use Rattle.pieces.specs.Load.{Load, put, put-app, put-swap, put-clear, On, on-app, Off, Within, cat}
+use Rattle.pieces.specs.Goes.{Net, Steps, Goes, go-stay, go-then, go-wide, go-by}
 
 abbrev pub join : List (List ℕ) → List ℕ
 join [] = []
@@ -38,53 +37,7 @@ dec-in l (x ∷ xs) = go (ℕ-discrete l x) (dec-in l xs)
     go (no n) (yes p) = yes (inr p)
     go (no n) (no m) = no (λ o. ⊎-elim n m o)
 
--- two lists of blocks, laid one by one
-abbrev pub zip-blocks : List Load → List Load → List Load
-zip-blocks [] ys = ys
-zip-blocks (x ∷ xs) [] = x ∷ xs
-zip-blocks (x ∷ xs) (y ∷ ys) = (x ++ y) ∷ zip-blocks xs ys
-
-pub put-zip : (xs ys : List Load) (b : Links) → Apart (cat xs) (cat ys) → put (cat xs ++ cat ys) b ≡ put (cat (zip-blocks xs ys)) b
-put-zip [] ys b f = refl
-put-zip (x ∷ xs) [] b f = put-app (cat (x ∷ xs)) [] b
-put-zip (x ∷ xs) (y ∷ ys) b f =
-    put-app (x ++ cat xs) (y ++ cat ys) b ∙ put-app x (cat xs) (put (y ++ cat ys) b)
-    ∙ ap (put x) (ap (put (cat xs)) (put-app y (cat ys) b) ∙ put-swap (cat xs) y (put (cat ys) b) (λ l o o′. f l (on-right l x (cat xs) o) (on-left l y (cat ys) o′))
-    ∙ ap (put y) (sym (put-app (cat xs) (cat ys) b) ∙ put-zip xs ys b (λ l o o′. f l (on-right l x (cat xs) o) (on-right l y (cat ys) o′))))
-    ∙ sym (put-app x y (put (cat (zip-blocks xs ys)) b)) ∙ sym (put-app (x ++ y) (cat (zip-blocks xs ys)) b)
-
-pub on-zip : (l : ℕ) (xs ys : List Load) → On l (cat (zip-blocks xs ys)) → On l (cat xs) ⊎ On l (cat ys)
-on-zip l [] ys o = inr o
-on-zip l (x ∷ xs) [] o = inl o
-on-zip l (x ∷ xs) (y ∷ ys) o =
-    ⊎-elim (λ (p : On l (x ++ y)). ⊎-elim (λ (a : On l x). inl (on-left l x (cat xs) a)) (λ (a : On l y). inr (on-left l y (cat ys) a)) (on-app l x y p))
-    (λ (p : On l (cat (zip-blocks xs ys))).
-    ⊎-elim (λ (a : On l (cat xs)). inl (on-right l x (cat xs) a)) (λ (a : On l (cat ys)). inr (on-right l y (cat ys) a)) (on-zip l xs ys p))
-    (on-app l (x ++ y) (cat (zip-blocks xs ys)) o)
-
-pub zip-two : (xs ys : List Load) (z : Load) (b : Links) → Apart (cat xs) (cat ys) → put (cat xs ++ (cat ys ++ z)) b ≡ put (cat (zip-blocks xs ys) ++ z) b
-zip-two xs ys z b f =
-    put-app (cat xs) (cat ys ++ z) b ∙ ap (put (cat xs)) (put-app (cat ys) z b) ∙ sym (put-app (cat xs) (cat ys) (put z b)) ∙ put-zip xs ys (put z b) f
-    ∙ sym (put-app (cat (zip-blocks xs ys)) z b)
-
-pub zip-three : (xs ys zs : List Load) (z : Load) (b : Links) → Apart (cat xs) (cat ys) → Apart (cat xs) (cat zs) → Apart (cat ys) (cat zs) →
-    put (cat xs ++ (cat ys ++ (cat zs ++ z))) b ≡ put (cat (zip-blocks xs (zip-blocks ys zs)) ++ z) b
-zip-three xs ys zs z b f g h =
-    put-app (cat xs) (cat ys ++ (cat zs ++ z)) b ∙ ap (put (cat xs)) (zip-two ys zs z b h) ∙ sym (put-app (cat xs) (cat (zip-blocks ys zs) ++ z) b)
-    ∙ zip-two xs (zip-blocks ys zs) z b (λ l o o′. ⊎-elim (λ (a : On l (cat ys)). f l o a) (λ (a : On l (cat zs)). g l o a) (on-zip l ys zs o′))
-
-abbrev pub single-blocks : Load → List Load
-single-blocks [] = []
-single-blocks (x ∷ xs) = (x ∷ []) ∷ single-blocks xs
-
-pub cat-single : (xs : Load) → cat (single-blocks xs) ≡ xs
-cat-single [] = refl
-cat-single (x ∷ xs) = ap (λ z. x ∷ z) (cat-single xs)
-
 module _ (net : Net) where
-  pub alike-zip : (D : ℕ → Type 0) (xs ys : List Load) → Apart (cat xs) (cat ys) → Alike net D (cat xs ++ cat ys) (cat (zip-blocks xs ys))
-  alike-zip D xs ys f b cl = put-zip xs ys b f
-
   pub go-left : (D : ℕ → Type 0) (xs ys zs : Load) (c : ℕ) → Off zs D → Within xs D → Within ys D → Goes net D xs c ys → Goes net D (zs ++ xs) c (zs ++ ys)
   go-left D xs ys zs c off wx wy f b cl =
       let e : put (zs ++ xs) b ≡ put xs (put zs b) = put-app zs xs b ∙ put-swap zs xs b (λ l o o′. off l o (wx l o′)) in

@@ -1,6 +1,6 @@
 -- One set pushed and one set taken, on the machine over a piece (network, Ends.antt): what push makes of the tape, and what take hands out.
 -- Assumes of the numbers only that push and take are no operators of the graph and that source and credit are no links of it.
-use Prim.Native.Nat.{ℕ, _≤_, _+_, _-_}
+use Prim.Native.Nat.{ℕ, _≤_}
 use mathlib.Core.Path.{_≡_, refl, sym, _∙_, ap, subst}
 use mathlib.Core.Logic.{_≢_, _⊎_, inl, inr}
 use mathlib.Core.List.{List, [], _∷_, _++_}

@@ -1,7 +1,7 @@
 -- The machine as the calls see it: push is given its set, and no source link holds the sets to come. What a list of accepted calls does there,
 -- the network with the sets on its source link does event by event, so that the theorems on events speak of calls.
 -- A refused call is no step and a run is its firings (document 01, "Running").
-use Prim.Native.Nat.{ℕ, suc, _<_, _+_}
+use Prim.Native.Nat.{ℕ, suc, _<_}
 use mathlib.Core.Path.{_≡_, refl, sym, _∙_, ap, subst}
 use mathlib.Core.Logic.{_≢_, ite, if-pos, if-neg, Ne·symm, inl, inr}
 use mathlib.Core.List.{List, [], _∷_, _++_}

@@ -1,6 +1,6 @@
 -- Which outputs of a graph are links of its own, and which are bare: the link of a name passes straight through. For parts side by
 -- side and one after another; a loop's body must have no bare output.
-use Prim.Native.Nat.{ℕ, _+_, _-_, _<_}
+use Prim.Native.Nat.{ℕ, _+_, _<_}
 use mathlib.Core.Path.{_≡_, sym, _∙_, ap, subst}
 use mathlib.Core.Logic.{_⊎_, inl, inr, ⊎-elim}
 use mathlib.Core.Bool.{true, false, cond}

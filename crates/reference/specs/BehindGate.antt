@@ -1,5 +1,5 @@
 -- A graph with a gate behind its outputs: nothing comes to the gate and it rests, or it fires once by the table of rules.
-use Prim.Native.Nat.{ℕ, zero, suc, _+_, _-_, _≤_, _<_}
+use Prim.Native.Nat.{ℕ, zero, suc, _+_, _≤_, _<_}
 use mathlib.Core.Path.{_≡_, refl, _∙_, ap}
 use mathlib.Core.Logic.{_⊎_, inl, inr, ⊎-elim}
 use mathlib.Core.Bool.{true, false}
@@ -11,7 +11,7 @@ use native.Mathlib.Omega.{arith}
 use Rattle.value.specs.declared.Value.{Value}
 use Rattle.names.specs.Names.{Names}
 use Rattle.network.specs.Rules.{Kind, Register}
-use Rattle.network.specs.Net.{Demand, Links}
+use Rattle.network.specs.Net.{Links}
 use Rattle.network.specs.Fill.{remembering}
 use Rattle.network.specs.Decide.{Decision, decide}
 use Rattle.network.specs.Uses.{In}

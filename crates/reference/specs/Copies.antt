@@ -11,7 +11,7 @@ use native.Mathlib.Omega.{arith}
 use Rattle.value.specs.declared.Value.{Value}
 use Rattle.network.specs.Values.{err-value}
 use Rattle.network.specs.Poisoned.{poisoned}
-use Rattle.network.specs.Net.{val, Demand, Links}
+use Rattle.network.specs.Net.{val, Links}
 use Rattle.network.specs.Uses.{In}
 use Rattle.pieces.specs.Goes.{Net, Steps, stay, steps-then}
 use Rattle.pieces.specs.Gate.{distinct-two}

@@ -1,6 +1,6 @@
 -- A gate between inputs and outputs fires once: it takes every token that waits, and what the table of rules decides lies on its
 -- outputs. From the law that a decision carried out is the firing (network, Firing.antt).
-use Prim.Native.Nat.{ℕ, _+_, _-_, _≤_, _<_}
+use Prim.Native.Nat.{ℕ, _≤_, _<_}
 use mathlib.Core.Path.{_≡_, refl, sym, _∙_, ap, subst, fun-ext}
 use mathlib.Core.Logic.{inl, inr}
 use mathlib.Core.Bool.{Bool, false}
@@ -11,7 +11,7 @@ use native.Mathlib.Decide.{ℕ-discrete}
 use native.Mathlib.Omega.{arith}
 use Rattle.value.specs.declared.Value.{Value}
 use Rattle.network.specs.Rules.{Kind, Input, first, second, third, Register}
-use Rattle.network.specs.Net.{Token, val, Demand, Links, append, append-same, append-other, Room, Able, appends, act}
+use Rattle.network.specs.Net.{Token, val, Links, append, append-same, append-other, Room, Able, appends, act}
 use Rattle.network.specs.Fill.{Ports, emission, remembering, kept, fill}
 use Rattle.network.specs.Decide.{Decision, decide}
 use Rattle.network.specs.Firing.{first-token, pop-if, gone, heads, Apart, performed, Roomy, Holds, Own-register, unregistered, fill-acts, able-fill}

@@ -2,7 +2,7 @@
 -- says, and which links and registers the gates of its loops have.
 use Prim.Native.Nat.{ℕ, zero, suc, _+_, _-_, _≤_, _<_}
 use mathlib.Core.Path.{_≡_, refl, sym, _∙_, ap, ap₂, subst}
-use mathlib.Core.Logic.{_≢_, _⊎_, inl, inr, ⊎-elim}
+use mathlib.Core.Logic.{_⊎_, inl, inr, ⊎-elim}
 use mathlib.Core.Bool.{Bool, true, false, cond, false≢true}
 use mathlib.Core.List.{List, [], _∷_, _++_}
 use lib.ListN.{length, getD, take, drop, length-append, length-drop, take-append-drop}
@@ -18,7 +18,6 @@ use Rattle.reference.specs.NameSets.{not-both, or-left, or-right, or-cas
 use Rattle.reference.specs.Plugged.{nowhere, registers}
 use Rattle.reference.specs.Plan.{Between, Plan, Envs, Sound}
 use Rattle.reference.specs.Sharing.{envs-first, envs-second}
-use Rattle.reference.specs.Parts as Parts
 use Rattle.reference.specs.SideBySide as Side
 use Rattle.reference.specs.OneAfterAnother as After
 use Rattle.reference.specs.BehindGate as Gates

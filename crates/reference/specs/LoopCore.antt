@@ -12,7 +12,7 @@ use Rattle.value.specs.declared.Value.{Value}
 use Rattle.names.specs.Names.{Names}
 use Rattle.schedule.specs.Counts.{count}
 use Rattle.network.specs.Values.{true-value}
-use Rattle.network.specs.Net.{val, Demand, Links}
+use Rattle.network.specs.Net.{val, Links}
 use Rattle.network.specs.Uses.{In}
 use Rattle.pieces.specs.Goes.{Net, Steps, stay, steps-then, steps-long}
 use Rattle.pieces.specs.Rows.{dec-in}

@@ -1,6 +1,6 @@
 -- All gates of a loop at work: at the start of a set each takes the value that comes in; in a further round each FM takes its iterated value and
 -- each FS repeats. In both cases the body's names then have their values, every control is empty, and every register holds a value.
-use Prim.Native.Nat.{ℕ, _+_, _-_, _≤_, _<_}
+use Prim.Native.Nat.{ℕ, _+_, _≤_, _<_}
 use mathlib.Core.Path.{_≡_, refl, sym, _∙_, ap, subst}
 use mathlib.Core.Logic.{_≢_, _⊎_, inl, inr, ⊎-elim}
 use mathlib.Core.Bool.{Bool, true, false, cond}
@@ -10,7 +10,7 @@ use native.Mathlib.Omega.{arith}
 use Rattle.value.specs.declared.Value.{Value}
 use Rattle.names.specs.Names.{Names}
 use Rattle.network.specs.Values.{true-value}
-use Rattle.network.specs.Net.{val, Demand, Links}
+use Rattle.network.specs.Net.{val, Links}
 use Rattle.pieces.specs.Goes.{Net, Steps}
 use Rattle.graph.specs.Assembly.{Env, nameCount, memberOf, total, ringGate, chainLinks}
 use Rattle.graph.specs.Yields.{Values}

@@ -40,11 +40,6 @@ pub different-back : (xs ys : List ℕ) → Different (xs ++ ys) → Different y
 different-back [] ys d = d
 different-back (x ∷ xs) ys d = different-back xs ys (d .1)
 
-pub different-apart : (xs ys : List ℕ) (l : ℕ) → Different (xs ++ ys) → In l xs → In l ys → ⊥
-different-apart [] ys l d i j = i
-different-apart (x ∷ xs) ys l d (inl e) j = d .0 (subst (λ z. In z (xs ++ ys)) e (in-back l xs ys j))
-different-apart (x ∷ xs) ys l d (inr i) j = different-apart xs ys l (d .1) i j
-
 -- ns are the loop's identifiers, h the names of its body, env their links outside; o is the first own link, kb the number of the
 -- body's links, it, is and rs its outputs.
 module _ (ns : List ℕ) (h : Names) (o kb it : ℕ) (is rs : List ℕ) (RB : ℕ → ℕ → Type 0) (env : Env) where

@@ -15,7 +15,7 @@ use Rattle.network.specs.Commute.{enabled, next, output}
 use Rattle.value.specs.declared.Value.{Value}
 use Rattle.names.specs.Names.{Names}
 use Rattle.network.specs.Values.{true-value, false-value}
-use Rattle.network.specs.Net.{val, Demand, Links}
+use Rattle.network.specs.Net.{val, Links}
 use Rattle.network.specs.Uses.{In}
 use Rattle.pieces.specs.Goes.{Net, one-place, Feasible, led-to, Steps, Long, steps-then, steps-long}
 use Rattle.pieces.specs.Rows.{in-front, in-back, in-app, dec-in}

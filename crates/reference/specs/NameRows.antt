@@ -7,7 +7,7 @@ use mathlib.Core.Bool.{Bool, true, false, cond, false≢true}
 use native.Mathlib.Decide.{ℕ-discrete}
 use native.Mathlib.Omega.{arith}
 use Rattle.names.specs.Names.{Names}
-use Rattle.network.specs.Net.{Demand, Links}
+use Rattle.network.specs.Net.{Links}
 use Rattle.pieces.specs.Goes.{Net, Steps, stay, steps-then}
 use Rattle.reference.specs.Plan.{fewer}
 

@@ -1,6 +1,6 @@
 -- One graph after another, its outputs bound to names of the second: the copies of the names that both use, then the first, then the
 -- second. Every bound name is used by the second, so nothing stays behind on an output of the first.
-use Prim.Native.Nat.{ℕ, _+_, _-_, _≤_, _<_}
+use Prim.Native.Nat.{ℕ, _+_, _≤_, _<_}
 use mathlib.Core.Path.{_≡_, refl, sym, _∙_, ap, subst}
 use mathlib.Core.Logic.{_⊎_, inl, inr, ⊎-elim}
 use mathlib.Core.Bool.{true, false}
@@ -10,7 +10,7 @@ use lib.ListN.{length}
 use native.Mathlib.Omega.{arith}
 use Rattle.value.specs.declared.Value.{Value}
 use Rattle.names.specs.Names.{Names, union, without}
-use Rattle.network.specs.Net.{Demand, Links}
+use Rattle.network.specs.Net.{Links}
 use Rattle.network.specs.Uses.{In}
 use Rattle.pieces.specs.Goes.{Net, Steps, steps-then, steps-long}
 use Rattle.pieces.specs.Rows.{dec-in}

@@ -1,6 +1,6 @@
 -- Two parts of a graph laid out one behind the other, with the copies of the names that both use before them: where the links of the
 -- parts lie in the whole. Both users' links are different, and each link of the whole is one of a part or the link of a shared name.
-use Prim.Native.Nat.{ℕ, _+_, _-_, _≤_, _<_}
+use Prim.Native.Nat.{ℕ, _+_, _≤_, _<_}
 use mathlib.Core.Path.{_≡_, sym, _∙_, subst}
 use mathlib.Core.Logic.{_⊎_, inl, inr, ⊎-elim}
 use mathlib.Core.Bool.{true, false, _&&_}
@@ -15,9 +15,6 @@ use Rattle.reference.specs.Plan.{Plan, Register, Zone, Outside, Envs}
 use Rattle.reference.specs.Sharing.{Shared, first-alone, second-alone, Spot, first-spot, second-spot, envs-first, envs-second, uses-apart, first-left, second-left, copies-used}
 
 module _ (f g : Names) (n ka kb : ℕ) (env : Env) (oa ob : List ℕ) (RA RB : ℕ → ℕ → Type 0) where
-  abbrev sh : ℕ
-  sh = sharedLinks f g
-
   abbrev pub First : Plan
   First = record { names = f; start = n + sharedLinks f g; size = ka; env = firstUse f g n env; outs = oa; Ring = RA }
 

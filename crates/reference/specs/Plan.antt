@@ -2,8 +2,8 @@
 -- interval, and its outputs; the registers of its loops' gates lie as far above them as `registers` says.
 -- Between two sets every own link is empty, except that each gate of a loop is ready: it has never fired and its control link is empty, or it
 -- has fired and its control link holds just one false. All is said of states link by link; no order of links or operators appears.
-use Prim.Native.Nat.{ℕ, suc, _+_, _≤_, _<_}
-use mathlib.Core.Path.{_≡_, refl, _∙_, ap}
+use Prim.Native.Nat.{ℕ, _+_, _≤_, _<_}
+use mathlib.Core.Path.{_≡_, refl, _∙_}
 use mathlib.Core.Logic.{_⊎_, inl, inr}
 use mathlib.Core.Bool.{true}
 use mathlib.Core.List.{List, [], _∷_, _++_}
@@ -13,7 +13,7 @@ use native.Mathlib.Omega.{arith}
 use Rattle.value.specs.declared.Value.{Value}
 use Rattle.names.specs.Names.{Names}
 use Rattle.network.specs.Values.{false-value}
-use Rattle.network.specs.Net.{Token, val, mark, Demand, Links}
+use Rattle.network.specs.Net.{Token, val, mark, Links}
 use Rattle.network.specs.Uses.{In}
 use Rattle.pieces.specs.Load.{opt}
 use Rattle.pieces.specs.Goes.{Net, Steps, Long}
@@ -132,12 +132,6 @@ hold-both [] ms [] ws s h k = k
 hold-both [] ms (v ∷ vs) ws s h k = absurd h
 hold-both (l ∷ ls) ms [] ws s h k = absurd h
 hold-both (l ∷ ls) ms (v ∷ vs) ws s h k = (h .0, hold-both ls ms vs ws s (h .1) k)
-
-pub hold-length : (ls : List ℕ) (vs : List (Option Value)) (s : Links) → Hold ls vs s → length ls ≡ length vs
-hold-length [] [] s h = refl
-hold-length [] (v ∷ vs) s h = absurd h
-hold-length (l ∷ ls) [] s h = absurd h
-hold-length (l ∷ ls) (v ∷ vs) s h = ap suc (hold-length ls vs s (h .1))
 
 pub hold-parts : (ls ms : List ℕ) (vs ws : List (Option Value)) (s : Links) → length vs ≡ length ls → Hold (ls ++ ms) (vs ++ ws) s → Hold ls vs s × Hold ms ws s
 hold-parts [] ms [] ws s e h = (tt, h)

@@ -2,9 +2,9 @@
 -- names' values and its gates ready, a schedule that is possible with one place a link, of at least as many firings as rounds, leads
 -- to the yielded values on its outputs, everything else of it empty and its gates ready again, and nothing outside touched; or,
 -- where the rounds lent do not suffice, there is a schedule of that many firings.
-use Prim.Native.Nat.{ℕ, suc, _+_, _-_, _≤_}
+use Prim.Native.Nat.{ℕ, suc, _+_, _≤_}
 use mathlib.Core.Path.{_≡_, refl, sym, _∙_, ap, subst}
-use mathlib.Core.Logic.{_≢_, _⊎_, inl, inr, ⊎-elim}
+use mathlib.Core.Logic.{_⊎_, inl, inr, ⊎-elim}
 use mathlib.Core.Bool.{Bool, true, false, _||_, false≢true}
 use mathlib.Core.List.{List, [], _∷_, _++_}
 use mathlib.Core.Option.{none, some}
@@ -14,7 +14,6 @@ use native.Mathlib.Omega.{arith}
 use borrow.Author.Tests.{eqb-true, eq-eqb}
 use Rattle.value.specs.Operators.{operands, pick}
 use Rattle.names.specs.Names.{Names, without}
-use Rattle.network.specs.Net.{Demand}
 use Rattle.pieces.specs.Goes.{Net, stay}
 use Rattle.graph.specs.Assembly.{Gate, const, oper, T, F, M, E, IC, Graph, wire, nothing, beside, bind, gate, loop, Env, memberOf, named, spread, rank, total, free, linksOf, outputs, operatorsOf, gateOutputs, gateOf, sharing, sharedLinks, firstUse, secondUse, chain, chainEnds, chainLinks, ring, listed}
 use Rattle.graph.specs.Yields.{Values, Answer, Yields, outputCount, absent, present, bound, Sequel, stops, goes-on, Looped, rests, spins, Cut-looped}

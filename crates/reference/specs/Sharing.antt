@@ -12,7 +12,7 @@ use Rattle.value.specs.declared.Value.{Value}
 use Rattle.names.specs.Names.{Names, union, common}
 use Rattle.network.specs.Values.{err-value}
 use Rattle.network.specs.Poisoned.{poisoned}
-use Rattle.network.specs.Net.{Demand, Links}
+use Rattle.network.specs.Net.{Links}
 use Rattle.pieces.specs.Goes.{Net, Steps, stay}
 use Rattle.graph.specs.Assembly.{Env, nameCount, rank, total, sharedLinks, firstUse, secondUse, copyOf, sharing}
 use Rattle.graph.specs.Yields.{Values}

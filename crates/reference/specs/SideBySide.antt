@@ -1,5 +1,5 @@
 -- Two graphs side by side: the copies of the names that both use, then the first, then the second.
-use Prim.Native.Nat.{ℕ, _+_, _-_, _≤_}
+use Prim.Native.Nat.{ℕ, _+_, _≤_}
 use mathlib.Core.Path.{_≡_, refl, _∙_, ap}
 use mathlib.Core.Logic.{_⊎_, inl, inr, ⊎-elim}
 use mathlib.Core.List.{List, [], _∷_, _++_}
@@ -7,7 +7,7 @@ use mathlib.Core.Option.{Option, none, some}
 use native.Mathlib.Omega.{arith}
 use Rattle.value.specs.declared.Value.{Value}
 use Rattle.names.specs.Names.{Names, union}
-use Rattle.network.specs.Net.{Demand, Links}
+use Rattle.network.specs.Net.{Links}
 use Rattle.network.specs.Uses.{In}
 use Rattle.pieces.specs.Goes.{Net, Steps, steps-then, steps-long}
 use Rattle.pieces.specs.Rows.{in-front, in-back, in-app}

@@ -1,17 +1,15 @@
 -- The nets of references with twins: every twin comes late, except those of the operators in X, which a loop around them answers for. And that in each
 -- round of a loop its first test is copied, from what lies on three links before and after. Assumes one putter for each of the three.
-use Prim.Native.Nat.{ℕ, zero, suc, _≤_, _<_}
-use mathlib.Core.Path.{_≡_, refl, sym, _∙_, ap, subst}
+use Prim.Native.Nat.{ℕ, zero, suc, _≤_}
+use mathlib.Core.Path.{_≡_, refl, sym, _∙_, subst}
 use mathlib.Core.Logic.{_≢_, _⊎_, inl, inr, ite}
 use mathlib.Core.List.{List, [], _∷_, _++_}
-use lib.ListN.{length}
 use native.Mathlib.Decide.{ℕ-discrete}
 use native.Mathlib.Omega.{arith}
-use Rattle.schedule.specs.Schedules.{Possible}
 use Rattle.schedule.specs.Counts.{count}
 use Rattle.schedule.specs.Twins.{Late, late-append, late-behind, late-one, late-other}
 use Rattle.network.specs.Net.{Token, Demand, ask, Links}
-use Rattle.network.specs.Commute.{Never-emits, enabled, next, output}
+use Rattle.network.specs.Commute.{Never-emits}
 use Rattle.network.specs.Poisoned.{Made-by, fed, fed-before, plain as plainIn, twinned, twinned-puts, twinned-asks}
 use Rattle.pieces.specs.Goes.{Net, one-place, Feasible, led-to}
 

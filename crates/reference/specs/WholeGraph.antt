@@ -10,7 +10,7 @@ use lib.ListN.{length}
 use native.Mathlib.Decide.{ℕ-discrete, decLt}
 use native.Mathlib.Omega.{arith}
 use Rattle.value.specs.declared.Value.{Value}
-use Rattle.network.specs.Net.{Token, mark, Demand, Links}
+use Rattle.network.specs.Net.{Token, mark, Links}
 use Rattle.network.specs.Uses.{In}
 use Rattle.pieces.specs.Load.{Load, opt, set-link, set-same, set-other, set-ext, put, put-app, put-off, put-set, On, on-app, Clear}
 use Rattle.pieces.specs.Goes.{Net, Steps, Long}

@@ -7,7 +7,6 @@ use mathlib.Core.Logic.{_⊎_, inl, inr, _≢_, _↔_}
 use mathlib.Core.List.{List, [], _∷_}
 use native.Mathlib.Omega.{arith}
 use Rattle.formula.specs.declared.Refusal.{Refusal}
-use Rattle.formula.specs.declared.Refusal.the-variants.{Layout, Rows, Malformed, Range, Naming, Named as named, StrayIter, Width, Unused, Operators, Memory, Set, SetFile, Capacity, Altered, Untaken, Full, NotAble, NoResult, Unfinished}
 use Rattle.formula.specs.Refusals.{numberOf, number-positive}
 
 -- A condition with the refusal that it brings.
@@ -100,12 +99,3 @@ first-named (c ∷ cs) n = go (c .0) refl n (first-named cs)
         → Named (cond b (numberOf (c .1)) (first-refusal cs))
     go true p h ih = (c .1, refl)
     go false p h ih = ih h
-
--- What comes behind a row: the row's number where its condition holds, else the first of the rest.
-pub first-here : (b : Bool) (r : Refusal) (cs : List Row) → b ≡ true → first-refusal ((b, r) ∷ cs) ≡ numberOf r
-unfolding first-refusal
-first-here b r cs e = ap (λ (x : Bool). cond x (numberOf r) (first-refusal cs)) e
-
-pub first-later : (b : Bool) (r : Refusal) (cs : List Row) → b ≡ false → first-refusal ((b, r) ∷ cs) ≡ first-refusal cs
-unfolding first-refusal
-first-later b r cs e = ap (λ (x : Bool). cond x (numberOf r) (first-refusal cs)) e

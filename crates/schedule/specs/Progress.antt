@@ -1,7 +1,7 @@
 -- What follows from the residual for a run that comes to rest: the first event left of a reference can happen now, and two runs from one
 -- state that are both at rest have made each event equally often (document 02, the tally).
 -- Assumes the diamond.
-use Prim.Native.Nat.{ℕ, _<_, _≤_, _-_}
+use Prim.Native.Nat.{ℕ, _<_, _≤_}
 use mathlib.Core.Path.{_≡_, refl, sym, _∙_, ap, subst}
 use mathlib.Core.Logic.{_≢_, _⊎_, inl, inr}
 use mathlib.Core.List.{List, [], _∷_}
@@ -31,6 +31,17 @@ module _ {S O : Type 0} (enabled : ℕ → S → Type 0) (next : ℕ → S → S
           (e : ℕ) × (e ≢ push) × enabled e (reached enabled next output u s)
       go [] e r = absurd (omega (arith, length-remaining u w, ap length e))
       go (b ∷ v) e r = (b, remaining-head-differs push b u w v e le, r .0)
+
+  -- Where the run has made the reference's takes too: something other than a push and a take can happen.
+  pub endless-inside : (push take : ℕ) (u w : List ℕ) (s : S) → Possible enabled next output u s → Possible enabled next output w s →
+      count push w ≤ count push u → count take w ≤ count take u → length u < length w →
+      (e : ℕ) × (e ≢ push) × (e ≢ take) × enabled e (reached enabled next output u s)
+  endless-inside push take u w s ru rw′ le le′ lt = go (remaining u w) refl (remaining-possible enabled next output D u w s ru rw′)
+    where
+      go : (v : List ℕ) → remaining u w ≡ v → Possible enabled next output v (reached enabled next output u s) →
+          (e : ℕ) × (e ≢ push) × (e ≢ take) × enabled e (reached enabled next output u s)
+      go [] e r = absurd (omega (arith, length-remaining u w, ap length e))
+      go (b ∷ v) e r = (b, remaining-head-differs push b u w v e le, remaining-head-differs take b u w v e le′, r .0)
 
   -- A reference that has more of some event than the run, or is longer: something can happen.
   pub something-left : (a : ℕ) (u w : List ℕ) (s : S) → Possible enabled next output u s → Possible enabled next output w s →

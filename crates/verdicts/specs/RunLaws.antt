@@ -70,17 +70,6 @@ module _ (x : Exp) (capacity : ℕ) where
   refused-is s (yes p) n = absurd (n p)
   refused-is s (no m) n = refl
 
-  -- "up to a lent number of firings"
-  pub run-at-most : (lent : ℕ) (q : Links) → length (runSteps x capacity lent q) ≤ lent
-  unfolding runSteps
-  run-at-most zero q = omega arith
-  run-at-most (suc lent) q = go (leastAble x capacity q) (λ a. run-at-most lent (act (operatorAt x a) q))
-    where
-      go : (o : Option ℕ) → ((a : ℕ) → length (runSteps x capacity lent (act (operatorAt x a) q)) ≤ lent)
-          → length (onward o (λ a. runSteps x capacity lent (act (operatorAt x a) q))) ≤ suc lent
-      go none ih = omega arith
-      go (some a) ih = let i = ih a in omega arith
-
   run-quiet : (lent : ℕ) (q : Links) → length (runSteps x capacity lent q) < lent → (b : ℕ) → Cannot b (afterSteps x (runSteps x capacity lent q) q)
   unfolding runSteps
   run-quiet zero q l b = absurd (omega arith)

@@ -5,7 +5,6 @@ use Prim.Native.Nat.{ℕ, zero, suc, _+_, _≤_, _<_}
 use mathlib.Core.Path.{_≡_, refl, sym, ap, subst, _∙_}
 use mathlib.Core.Logic.{_⊎_, inl, inr}
 use mathlib.Core.List.{List, [], _∷_, map}
-use mathlib.Core.Option.{some}
 use lib.ListN.{length, getD, take}
 use native.Mathlib.Omega.{arith}
 use Rattle.value.specs.declared.Value.{Value}
@@ -25,7 +24,7 @@ use Rattle.pieces.specs.Sets.{tokens-of, onto}
 use Rattle.pieces.specs.Demand3.{each-tokens}
 use Rattle.pieces.specs.Made.{Ending}
 use Rattle.pieces.specs.Tape.{Step, taking, sets-of, takes-of, Accepted, after, results-of, Sized}
-use Rattle.pieces.specs.Calls.{first-half, second-half, untaken-from-start, push-when-quiet}
+use Rattle.pieces.specs.Calls.{first-half, second-half, ended-when-quiet, untaken-from-start, push-when-quiet}
 use Rattle.graph.specs.Translation.{madeOf}
 use Rattle.wiring.specs.Machine.{netOf}
 use Rattle.wiring.specs.FormulaCounts.{made-operators, made-links-bound}
@@ -89,14 +88,11 @@ module _ (x : Exp) (h : AdmittedE x) (few : countE x .operators ≤ 1024) (capac
       subst (Sized (pieceOf x h .ins)) (sym (steps-sets x capacity w))
       (sets-sized x capacity (pieceOf x h .ins) ports (sets-of w) (sets-whole x capacity w a))
 
-  -- a set that ends, with the trigger's value behind it
-  ending-set : (v r : List Value) → length v ≡ madeOf x .inputs → EndsWith x v r
-      → (rounds : ℕ) × (evaluation x h rounds (withTrigger (madeOf x .triggered) v) ≡ some r)
-  ending-set v r e p = (
-    p .0,
-    ap (λ (m : ℕ). resultOf x (take m (withTrigger (madeOf x .triggered) v)) (p .0)) (sym (e ∙ made-inputs))
-        ∙ ap (λ (u : List Value). resultOf x u (p .0)) (trigger-off x capacity (madeOf x .triggered) v) ∙ p .1,
-  )
+  -- a set with the trigger's value behind it is evaluated as the set
+  triggered-result : (v : List Value) → length v ≡ madeOf x .inputs → (rounds : ℕ) → evaluation x h rounds (withTrigger (madeOf x .triggered) v) ≡ resultOf x v rounds
+  triggered-result v e rounds =
+      ap (λ (m : ℕ). resultOf x (take m (withTrigger (madeOf x .triggered) v)) rounds) (sym (e ∙ made-inputs))
+      ∙ ap (λ (u : List Value). resultOf x u rounds) (trigger-off x capacity (madeOf x .triggered) v)
 
   ending : (vss rss : List (List Value)) → Each-whole x capacity vss → EachEnds x vss rss
       → Ending (netOf (madeOf x .operators)) pushNumber takeNumber sourceLink creditLink (pieceOf x h) (meansOf x h) (evaluation x h) (triggered-sets x capacity vss) rss
@@ -104,7 +100,14 @@ module _ (x : Exp) (h : AdmittedE x) (few : countE x .operators ≤ 1024) (capac
   ending [] (r ∷ rss) a e = e
   ending (v ∷ vss) [] a e = e
   ending (v ∷ vss) (r ∷ rss) a e =
-      (sets-sized x capacity (pieceOf x h .ins) ports (v ∷ []) (a .0, tt) .0, ending-set v r (a .0) (e .0), ending vss rss (a .1) (e .1))
+      (sets-sized x capacity (pieceOf x h .ins) ports (v ∷ []) (a .0, tt) .0, (e .0 .0, triggered-result v (a .0) (e .0 .0) ∙ e .0 .1), ending vss rss (a .1) (e .1))
+
+  ended : (vss rss : List (List Value)) → Each-whole x capacity vss
+      → Ending (netOf (madeOf x .operators)) pushNumber takeNumber sourceLink creditLink (pieceOf x h) (meansOf x h) (evaluation x h) (triggered-sets x capacity vss) rss → EachEnds x vss rss
+  ended [] [] a e = tt
+  ended [] (r ∷ rss) a e = e
+  ended (v ∷ vss) [] a e = e
+  ended (v ∷ vss) (r ∷ rss) a e = ((e .1 .0, sym (triggered-result v (a .0) (e .1 .0)) ∙ e .1 .1), ended vss rss (a .1) (e .2))
 
   first-results : (w : List Step) → Made-in-turn x capacity w (startOf x) → Whole-sets x capacity w → (k : ℕ) → k ≤ length (handed x w (startOf x)) → (rss : List (List Value))
       → EachEnds x (take k (sets-of w)) rss → take k (handed x w (startOf x)) ≡ each-tokens rss
@@ -153,6 +156,22 @@ module _ (x : Exp) (h : AdmittedE x) (few : countE x .operators ≤ 1024) (capac
       go (inr o) =
           inr (subst (λ (os : List ℕ). Able (places capacity) (take-demand creditLink os) (afterSteps x w (startOf x))) (results-are x h)
           (subst (Able (places capacity) (take-demand creditLink (pieceOf x h .outs))) (after-here w) o))
+
+  -- the evaluation of the oldest untaken set and of every set before it has ended
+  quiet-ends : (w : List Step) → Made-in-turn x capacity w (startOf x) → Whole-sets x capacity w
+      → ((a : ℕ) → Able (places capacity) (operatorAt x a) (afterSteps x w (startOf x)) → ⊥)
+      → (n : ℕ) → n ≤ length (sets-of w) → n ≤ suc (length (handed x w (startOf x))) → (rss : List (List Value)) × EachEnds x (take n (sets-of w)) rss
+  quiet-ends w a f quiet n inside most =
+      let z =
+      ended-when-quiet (netOf (madeOf x .operators)) pushNumber takeNumber sourceLink creditLink (pieceOf x h) (meansOf x h) (evaluation x h) (owed x h few) (places capacity) roomy
+      (source-is-apart x h few (places capacity)) (credit-is-apart x h few (places capacity)) (map (triggering x capacity) w) (sized-here w f) (accepted-here w a)
+      (λ b o. quiet b (subst (Able (places capacity) (operatorAt x b)) (after-here w) o)) n (omega (arith, inside, pushed-count w))
+      (omega (arith, most, handed-count x capacity w (startOf x), steps-takes x capacity w)) in (
+        z .0,
+        ended (take n (sets-of w)) (z .0) (first-whole x capacity n (sets-of w) (sets-whole x capacity w f))
+            (subst (λ (vss : List (List Value)). Ending (netOf (madeOf x .operators)) pushNumber takeNumber sourceLink creditLink (pieceOf x h) (meansOf x h) (evaluation x h) vss (z .0))
+            (ap (take n) (steps-sets x capacity w) ∙ first-triggered x capacity n (sets-of w)) (z .1)),
+      )
 
   quiet-push : (w : List Step) → Made-in-turn x capacity w (startOf x) → Whole-sets x capacity w
       → ((a : ℕ) → Able (places capacity) (operatorAt x a) (afterSteps x w (startOf x)) → ⊥)
@@ -250,6 +269,14 @@ module _ (s : List ℕ) (accepted : verdictOf s ≡ passed) (capacity : ℕ) (ro
           → (length (taken x capacity calls) ≡ length (pushed x capacity calls)) ⊎ (accept (decAble (places capacity) (takeOf x) (standing x capacity calls)) taking ≡ taking ∷ [])
       go (inl e) = inl e
       go (inr o) = inr (can-accepted taking (decAble (places capacity) (takeOf x) (standing x capacity calls)) o)
+
+  -- When nothing can fire, direct evaluation of the oldest untaken set ends, and so does that of every set before it.
+  pub ends-when-quiet : ((a : ℕ) → stepsOf (formulaOf s) capacity (fires a) (standing (formulaOf s) capacity calls) ≡ [])
+      → (j : ℕ) → j < length (pushed (formulaOf s) capacity calls) → j ≤ length (taken (formulaOf s) capacity calls)
+      → (r : List Value) × EndsWith (formulaOf s) (getD (pushed (formulaOf s) capacity calls) j []) r
+  ends-when-quiet quiet j l most =
+      let z = quiet-ends x admitted few capacity room (history x capacity calls) made sets (none-able quiet) (suc j) (omega arith) (omega arith) in
+      (getD (z .0) j [], ends-at x j (pushed x capacity calls) (z .0) (omega arith) (z .1))
 
   -- When nothing can fire and every pushed set has been taken, a push of any set with a value for each input can be made.
   pub pushable-when-quiet : ((a : ℕ) → stepsOf (formulaOf s) capacity (fires a) (standing (formulaOf s) capacity calls) ≡ [])

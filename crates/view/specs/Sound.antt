@@ -1,7 +1,7 @@
 -- What holds of the graph of an accepted formula and is asked of it by the machine's memory: bounds on its figures ("over 1,024 operators", the layout's
 -- 3,105 links) and that each operator has the ports and the register of its kind (document 01, refusal 31: "a stored figure .. outside its range").
 -- Definitions only; assumes nothing.
-use Prim.Native.Nat.{ℕ, zero, suc, _+_, _≤_, _<_}
+use Prim.Native.Nat.{ℕ, zero, suc, _+_, _≤_}
 use mathlib.Core.Path.{_≡_}
 use mathlib.Core.Bool.{Bool, true, false}
 use mathlib.Core.List.{List, [], _∷_}

@@ -2,11 +2,11 @@
 -- the graph g at a capacity, with the tokens of q waiting on its links. Header, operators' records and stretches: layout/specs/Layout. The links of q
 -- beyond the graph's own are the registers of FM and FS gates (reference/specs/Plugged) and the credit link, one token for each set untaken
 -- (verdicts/specs/Owed). Definitions only; assumes nothing.
-use Prim.Native.Nat.{ℕ, zero, suc, _+_, _*_, _≤_, _<_}
+use Prim.Native.Nat.{ℕ, _+_, _*_, _≤_, _<_}
 use mathlib.Core.Path.{_≡_}
-use mathlib.Core.Bool.{Bool, true, false, cond}
-use mathlib.Core.List.{List, [], _∷_}
-use mathlib.Core.Option.{Option, none, some}
+use mathlib.Core.Bool.{cond}
+use mathlib.Core.List.{List, []}
+use mathlib.Core.Option.{none, some}
 use lib.ListN.{length, getD}
 use Rattle.value.specs.declared.Value.{Value}
 use Rattle.value.specs.Bytes.{InRange, wordOf, wordAt}

@@ -44,9 +44,6 @@ val-same : (v w : Value) → val v ≡ val w → v ≡ w
 val-same v w e = ap value-of e
 
 module _ (capacity : ℕ) (s : List ℕ) (long : length s ≡ 5 * capacity + 1) where
-  pub waits-empty : waiting s ≡ 0 → Waits capacity s []
-  waits-empty e = record { counted = e; fits = omega arith; each = λ j h. absurd (omega arith) }
-
   pub waits-room : (ts : List Token) → Waits capacity s ts → roomIn s ≡ ltb (length ts) capacity
   unfolding roomIn
   waits-room ts w = go (ltb (length ts) capacity) refl

@@ -18,15 +18,15 @@ use Rattle.network.specs.Uses.{In, inputs, has-input, operand-inputs}
 use Rattle.graph.specs.Assembly.{Graph, free, Env, Operator, nth, ringGate, linksOf, operatorsOf}
 use Rattle.graph.specs.Fit.{Fit}
 use Rattle.reference.specs.Plugged.{nowhere, registers, link-of, portsOf, demandOf, Each}
-use Rattle.reference.specs.Plan.{Plan, Control, Envs, Before}
-use Rattle.reference.specs.GraphLayout.{planOf, RingOf}
+use Rattle.reference.specs.Plan.{Control, Envs, Before}
+use Rattle.reference.specs.GraphLayout.{planOf}
 use Rattle.reference.specs.WrittenOut.{no-values}
 use Rattle.reference.specs.Marks.{rings-each}
 use Rattle.pieces.specs.Sets.{Different}
-use Rattle.pieces.specs.Rows.{in-front, in-back}
+use Rattle.pieces.specs.Rows.{in-back}
 use Rattle.wiring.specs.Links.{optional, inputLinks}
 use Rattle.wiring.specs.Wiring.{inputsAt, Wired, wired}
-use Rattle.wiring.specs.Ports.{port, Linked, Ported}
+use Rattle.wiring.specs.Ports.{Linked, Ported}
 use Rattle.wiring.specs.PortedGraphs.{ported}
 use Rattle.wiring.specs.Machine.{netOf}
 

@@ -22,7 +22,7 @@ use Rattle.yields.specs.BodyWidths.{wide-enough, not-too-wide, iterated-16}
 use Rattle.yields.specs.Joins.{merge-control}
 use Rattle.yields.specs.ArmNames.{arm-from-test, joined-lacks, joined-test}
 use Rattle.yields.specs.FreeNames.{small-E, small-B, small-trigger, free-E, free-B, merge-joins, results-from-test}
-use Rattle.yields.specs.FitGraphs.{Returning, fit-E, fit-B}
+use Rattle.yields.specs.FitGraphs.{fit-E}
 use Rattle.wiring.specs.Counts.{countG, links-are, operators-are, three-links}
 use Rattle.wiring.specs.RowCounts.{Same, total-size}
 use Rattle.wiring.specs.ChoiceCounts.{choice-count}
@@ -160,12 +160,6 @@ operator-count x h n env = operators-are (graphE x) n env (fit-E x h) ∙ count-
 
 pub link-count : (x : Exp) → AdmittedE x → linksOf (graphE x) ≡ countE x .links
 link-count x h = links-are (graphE x) ∙ count-E x h .1
-
-pub operator-count-B : (w : ℕ) (y : Body) → AdmittedB y → Returning w y → (n : ℕ) (env : Env) → length (operatorsOf (graphB w y) n env) ≡ countB w y .operators
-operator-count-B w y h r n env = operators-are (graphB w y) n env (fit-B w y h r) ∙ count-B w y h (r .at-most) .0
-
-pub link-count-B : (w : ℕ) (y : Body) → AdmittedB y → Returning w y → linksOf (graphB w y) ≡ countB w y .links
-link-count-B w y h r = links-are (graphB w y) ∙ count-B w y h (r .at-most) .1
 
 -- ---- bounds
 

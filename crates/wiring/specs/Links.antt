@@ -1,6 +1,6 @@
 -- The links that operators take from and put onto (graph/specs/Assembly), with how often each link stands among them: for the copies of
 -- shared names, the chain of copies of iter?, the gates of a loop, and a gate. Assumes nothing.
-use Prim.Native.Nat.{ℕ, zero, suc, _+_, _*_, _-_, _≤_}
+use Prim.Native.Nat.{ℕ, zero, suc, _+_, _*_, _≤_}
 use mathlib.Core.Path.{_≡_, refl, sym, ap, ap₂, _∙_}
 use mathlib.Core.Bool.{Bool, true, false, not}
 use mathlib.Core.List.{List, [], _∷_, _++_}

@@ -2,7 +2,7 @@
 -- at most one of them takes and at most one puts, so that any two firings commute (network/specs/Commute): the maker's debt of pieces/specs/Wiring,
 -- and the bench of the schedule lemma (reference/specs/GraphBench) with this network. Assumes a fit graph whose names have different links below
 -- its own, all links below the absent one, and a source and a credit link that are none of them and no register links.
-use Prim.Native.Nat.{ℕ, zero, suc, _+_, _-_, _≤_, _<_}
+use Prim.Native.Nat.{ℕ, zero, suc, _+_, _≤_, _<_}
 use mathlib.Core.Path.{_≡_, refl, sym, ap, _∙_, subst}
 use mathlib.Core.Logic.{_≢_, _⊎_, inl, inr}
 use mathlib.Core.List.{List, [], _∷_, _++_}
@@ -16,7 +16,7 @@ use Rattle.network.specs.Commute.{Free, Never-emits}
 use Rattle.network.specs.Poisoned.{plain, twinned}
 use Rattle.network.specs.Wired.{Uses, never-asks, never-emits}
 use Rattle.network.specs.Ends.{machine}
-use Rattle.network.specs.Uses.{In, inputs, Takes-from, Puts-onto, fill-uses}
+use Rattle.network.specs.Uses.{In, Takes-from, Puts-onto, fill-uses}
 use Rattle.pieces.specs.Rows.{in-front, in-back}
 use Rattle.pieces.specs.Sets.{Bench}
 use Rattle.pieces.specs.Wiring.{Wiring, wiring-free}

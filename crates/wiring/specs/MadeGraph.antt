@@ -1,20 +1,20 @@
 -- The made graph of an admitted formula (graph/specs/Translation: madeOf): its inputs have the links 0, 1, .. and the trigger the next, where it is a
 -- free name; its wiring; and that push, take and its operators commute, which is what network/specs/Commute asks. Document 01, "Running": "Push
 -- gives one value to each input link, and one trigger if that link exists .. Take removes one value from each result port."
-use Prim.Native.Nat.{ℕ, zero, suc, _+_, _-_, _≤_, _<_}
+use Prim.Native.Nat.{ℕ, zero, suc, _+_, _≤_, _<_}
 use mathlib.Core.Path.{_≡_, refl, sym, ap, ap₂, _∙_, subst}
 use mathlib.Core.Logic.{_≢_, inl, inr}
 use mathlib.Core.Bool.{Bool, true, false}
 use mathlib.Core.List.{List, [], _∷_}
-use lib.ListN.{length, getD}
+use lib.ListN.{length}
 use lib.Dec.{eqb}
 use borrow.Author.Tests.{ne-eqb}
 use native.Mathlib.Omega.{arith}
 use native.Mathlib.Decide.{decLt}
 use native.Mathlib.Nat.{zero-add}
-use Rattle.names.specs.Names.{Names, trigger, one, without, later, bit, put, size, sizeFrom, members, membersFrom, below}
-use Rattle.names.proofs.Counts.{Member, sizeFrom-cong, sizeFrom-suc}
-use Rattle.names.proofs.Sets.{below-lt, below-suc, below-all, length-members, nth-member}
+use Rattle.names.specs.Names.{Names, trigger, one, without, later, bit, put, size, sizeFrom, membersFrom, below}
+use Rattle.names.proofs.Counts.{sizeFrom-cong, sizeFrom-suc}
+use Rattle.names.proofs.Sets.{below-lt, below-suc, below-all, length-members}
 use Rattle.formula.specs.Tree.{Exp}
 use Rattle.formula.specs.Free.{freeE, inputsOf}
 use Rattle.formula.specs.Count.{countE}
@@ -24,16 +24,15 @@ use Rattle.network.specs.Commute.{Free}
 use Rattle.network.specs.Ends.{machine}
 use Rattle.network.specs.Uses.{In}
 use Rattle.pieces.specs.Piece.{Piece, Means}
-use Rattle.pieces.specs.Sets.{Different, Bench, net}
+use Rattle.pieces.specs.Sets.{Different, Bench}
 use Rattle.pieces.specs.Wiring.{Wiring, wiring-free}
-use Rattle.graph.specs.Assembly.{Env, Operator, free, upFrom, rank, total, listed, nameCount, linksOf, outputs, operatorsOf}
+use Rattle.graph.specs.Assembly.{Env, Operator, free, upFrom, rank, total, listed, nameCount, linksOf, operatorsOf}
 use Rattle.graph.specs.Translation.{graphE, portOf, Made, madeOf}
 use Rattle.reference.specs.NameSets.{rank-differs, listed-only, not-both}
 use Rattle.reference.specs.Plan.{Between, Envs}
 use Rattle.reference.specs.Plugged.{nowhere, registers, Each}
 use Rattle.reference.specs.WrittenOut.{links-of, in-links}
 use Rattle.reference.specs.WholeGraph.{whole, yields, inputs}
-use Rattle.reference.specs.GraphBench.{fresh}
 use Rattle.yields.specs.Naming.{Small}
 use Rattle.yields.specs.Choice.{kept, gone}
 use Rattle.yields.specs.FreeNames.{small-E, free-E}
@@ -42,7 +41,7 @@ use Rattle.wiring.specs.Conservation.{length-outputs}
 use Rattle.wiring.specs.Wiring.{inputsAt, outputsAt, Zone, wired, outputs-different, outputs-zone}
 use Rattle.wiring.specs.Ports.{Ported}
 use Rattle.wiring.specs.PortedGraphs.{ported}
-use Rattle.wiring.specs.Machine.{netOf, TakesAt, PutsAt, Ends, graph-wiring, machine-commutes, bench, start-idle}
+use Rattle.wiring.specs.Machine.{netOf, TakesAt, PutsAt, Ends, graph-wiring, bench}
 use Rattle.wiring.specs.RowCounts.{total-size}
 use Rattle.wiring.specs.FormulaCounts.{made-operators, made-links-bound}
 
@@ -76,15 +75,6 @@ trigger-link x =
 pub port-count : (x : Exp) → size (freeE x) ≡ length (inputsOf x) + bit (freeE x trigger)
 unfolding portOf
 port-count x = sym (below-all (freeE x)) ∙ below-suc (freeE x) 32 ∙ ap (λ (m : ℕ). m + bit (freeE x trigger)) (trigger-link x)
-
--- The i-th input, from 0 on, has the link i.
-pub input-link : (x : Exp) (i : ℕ) → i < length (inputsOf x) → portOf x (getD (inputsOf x) i 0) ≡ i
-unfolding portOf inputsOf below members
-input-link x i h =
-    let g : Names = without (freeE x) (one trigger) in
-    let m : Member 33 0 i g = nth-member g i (rw (length-members g) at h) in
-    let z : getD (members g) i 0 ≡ m .place = m .listed ∙ omega arith in
-    ap (λ (k : ℕ). sizeFrom k (freeE x)) z ∙ sym (untriggered (freeE x) (m .place) (omega (arith, m .inside))) ∙ m .rank
 
 module _ (x : Exp) (h : AdmittedE x) where
   -- The links of the free names are different and lie below the graph's own.
@@ -282,11 +272,3 @@ module _ (x : Exp) (h : AdmittedE x) where
       pub made-bench : Bench (netOf (madeOf x .operators)) push take source credit piece meaning
       unfolding madeOf
       made-bench = bench (graphE x) n (portOf x) (fit-E x h) E room push take source credit ins made-ends
-
-      pub piece-commutes : (a b : ℕ) → a ≢ b
-          → Free (net (netOf (madeOf x .operators)) push take source credit piece meaning a) (net (netOf (madeOf x .operators)) push take source credit piece meaning b)
-      unfolding madeOf
-      piece-commutes = machine-commutes (graphE x) n (portOf x) (fit-E x h) E room push take source credit ins made-ends
-
-      pub idle-at-start : piece .Idle (fresh (graphE x) (fit-E x h) n (portOf x) E room source credit)
-      idle-at-start = start-idle (graphE x) n (portOf x) (fit-E x h) E room push take source credit ins made-ends

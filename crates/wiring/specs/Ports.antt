@@ -1,6 +1,6 @@
 -- The ports of one operator (graph/specs/Assembly): it has a link for each input of its kind and a first output, and it takes from no link that
 -- it puts onto. Here for a copy, a gate and the gates of a loop, each from what is known of its links. Assumes nothing.
-use Prim.Native.Nat.{ℕ, zero, suc, _+_, _-_, _<_}
+use Prim.Native.Nat.{ℕ, zero, suc, _<_}
 use mathlib.Core.Path.{_≡_, refl, sym, _∙_, subst}
 use mathlib.Core.Logic.{inl, inr}
 use mathlib.Core.Bool.{Bool, true, false, false≢true}

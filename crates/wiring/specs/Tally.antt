@@ -1,8 +1,8 @@
 -- Tallies: how often a link stands in a list, and sums over the members of a set of names. That no link has two takers is shown by
 -- counting: a link that stands at most once in a list of links has at most one place there. Assumes nothing.
-use Prim.Native.Nat.{ℕ, zero, suc, _+_, _*_, _-_, _≤_, _<_}
+use Prim.Native.Nat.{ℕ, zero, suc, _+_, _*_, _≤_, _<_}
 use mathlib.Core.Path.{_≡_, refl, sym, ap, ap₂, _∙_}
-use mathlib.Core.Logic.{_⊎_, inl, inr}
+use mathlib.Core.Logic.{inl, inr}
 use mathlib.Core.Bool.{Bool, true, false, _&&_, _||_, not}
 use mathlib.Core.List.{List, [], _∷_, _++_}
 use lib.ListN.{take, drop}
@@ -30,10 +30,6 @@ pub times-nil : (l : ℕ) → times l [] ≡ 0
 unfolding times
 times-nil l = refl
 
-pub times-head : (l x : ℕ) (xs : List ℕ) → times l (x ∷ xs) ≡ bit (eqb x l) + times l xs
-unfolding times
-times-head l x xs = refl
-
 pub times-one : (l x : ℕ) → times l (x ∷ []) ≡ bit (eqb x l)
 unfolding times
 times-one l x = omega arith
@@ -44,23 +40,11 @@ times-cut l zero xs = zero-add (times l xs)
 times-cut l (suc k) [] = refl
 times-cut l (suc k) (x ∷ xs) = omega (arith, times-cut l k xs)
 
-bit-same : (x : ℕ) → bit (eqb x x) ≡ 1
-bit-same x = ap bit (eq-eqb x x refl)
-
 pub in-times : (l : ℕ) (xs : List ℕ) → In l xs → 1 ≤ times l xs
 unfolding times
 in-times l [] i = absurd i
 in-times l (x ∷ xs) (inl e) = let b : bit (eqb x l) ≡ 1 = ap bit (eq-eqb x l (sym e)) in omega arith
 in-times l (x ∷ xs) (inr i) = omega (arith, in-times l xs i)
-
-pub times-in : (l : ℕ) (xs : List ℕ) → 1 ≤ times l xs → In l xs
-unfolding times
-times-in l [] h = absurd (omega arith)
-times-in l (x ∷ xs) h = go (eqb x l) refl (λ k. times-in l xs k)
-  where
-    go : (b : Bool) → eqb x l ≡ b → (1 ≤ times l xs → In l xs) → (l ≡ x) ⊎ In l xs
-    go true e ih = inl (sym (eqb-true x l e))
-    go false e ih = let k : 1 ≤ bit false + times l xs = rw e at h in inr (ih (omega arith))
 
 -- ---- a stretch of links
 

@@ -1,7 +1,7 @@
 -- Each link of a fit graph has at most one taker and at most one putter among its operators (document 01, "The graph"; an operator's number is
 -- its position in the list). Operators put onto own links only; they take from own links and from the links of names; no operator takes
 -- from an output. Assumes that the links of the names are different and lie below the graph's own.
-use Prim.Native.Nat.{ℕ, zero, suc, _+_, _-_, _≤_, _<_}
+use Prim.Native.Nat.{ℕ, zero, suc, _+_, _≤_, _<_}
 use mathlib.Core.Path.{_≡_, refl, sym, ap, _∙_}
 use mathlib.Core.Logic.{_⊎_, inl, inr}
 use mathlib.Core.Bool.{Bool, true, false}

@@ -1,6 +1,6 @@
 -- Where nothing comes, nothing goes: a fit graph whose inputs are all absent yields absent outputs in no round, loops resting. This is the arm of
 -- an if that was not chosen (Brock, section 2.3: T and F gates absorb). Then the same for the graph of a formula and of a body.
-use Prim.Native.Nat.{ℕ, suc, _+_}
+use Prim.Native.Nat.{ℕ}
 use mathlib.Core.Path.{_≡_, refl, sym, ap, _∙_, subst}
 use mathlib.Core.Bool.{Bool, true, false, not, _&&_}
 use mathlib.Core.List.{List, [], _∷_}
@@ -8,19 +8,11 @@ use mathlib.Core.Option.{Option, none, some}
 use lib.ListN.{length}
 use borrow.Author.Tests.{eq-eqb}
 use Rattle.names.specs.Names.{Names}
-use Rattle.formula.specs.Tree.{Exp, Body}
-use Rattle.formula.specs.Widths.{width}
-use Rattle.formula.specs.Free.{freeE, freeB}
-use Rattle.formula.specs.Admitted.{AdmittedE, AdmittedB}
 use Rattle.graph.specs.Assembly.{Graph, wire, nothing, beside, bind, gate, loop, free, memberOf, gateOutputs}
 use Rattle.graph.specs.Yields.{Values, absent, bound, outputCount, YieldsIn, Sequel, Beside, Gated, loop-rests, Fires}
 use Rattle.graph.specs.Fit.{Fit}
-use Rattle.graph.specs.Translation.{graphE, graphB}
 use Rattle.yields.specs.Naming.{or-left, or-right}
-use Rattle.yields.specs.BodyWidths.{iteratedOutputs, returnedOutputs}
 use Rattle.yields.specs.Choice.{kept}
-use Rattle.yields.specs.FreeNames.{free-E, free-B}
-use Rattle.yields.specs.FitGraphs.{fit-E, fit-B, count-E, count-B, Returning}
 use Rattle.yields.specs.Lookups.{absent-append, bound-other, bound-absent}
 
 abbrev pub NothingAt : Names → Values → Type 0
@@ -54,14 +46,3 @@ absence cut (gate g a) f ρ h =
 absence cut (loop ns a b) f ρ h =
     loop-rests cut ns _ (outputCount (loop ns a b)) ρ (YieldsIn cut a ρ) _ _ (subst (λ n. YieldsIn cut a ρ 0 (some (absent n))) (f .2) (absence cut a (f .0) ρ (λ k e. h k (or-left (free a k) _ e))))
     (λ k o. h k (or-right (free a k) (free b k && not (memberOf ns k)) (kept (free b k) (memberOf ns k) (o .1) ∙ o .0)))
-
-pub absence-E : (cut : Option ℕ) (x : Exp) → AdmittedE x → (ρ : Values) → NothingAt (freeE x) ρ → YieldsIn cut (graphE x) ρ 0 (some (absent (width x)))
-absence-E cut x h ρ n =
-    subst (λ k. YieldsIn cut (graphE x) ρ 0 (some (absent k))) (count-E x h)
-    (absence cut (graphE x) (fit-E x h) ρ (λ k e. n k (sym (free-E x h k) ∙ e)))
-
-pub absence-B : (cut : Option ℕ) (w : ℕ) (y : Body) → AdmittedB y → Returning w y → (ρ : Values) → NothingAt (freeB y) ρ
-    → YieldsIn cut (graphB w y) ρ 0 (some (absent (suc (iteratedOutputs y + returnedOutputs w y))))
-absence-B cut w y h r ρ n =
-    subst (λ k. YieldsIn cut (graphB w y) ρ 0 (some (absent k))) (count-B w y h r)
-    (absence cut (graphB w y) (fit-B w y h r) ρ (λ k e. n k (sym (free-B w y h k) ∙ e)))

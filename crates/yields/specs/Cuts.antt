@@ -23,18 +23,16 @@ use Rattle.formula.specs.Count.{returns as returnsAlways, iterates}
 use Rattle.formula.specs.Admitted.{AdmittedE, AdmittedB}
 use Rattle.meaning.specs.Meaning.{Env, bind, yields, again, returns}
 use Rattle.meaning.specs.WidthLaws.{operator-fits, let-fits, if-fits, for-fits, let-fits-B, if-fits-B}
-use Rattle.graph.specs.Assembly.{Graph, memberOf, upFrom, free}
+use Rattle.graph.specs.Assembly.{Graph, memberOf, upFrom}
 use Rattle.graph.specs.Yields.{Values, Answer, absent, present, bound, cut-loops, YieldsBy, YieldsIn, Gated, Sequel, Cut-spins, Cut-looped}
 use Rattle.graph.specs.Translation.{testName, graphE, graphB}
-use Rattle.yields.specs.Naming.{or-left, or-right, length-upFrom, member-upFrom, above-upFrom}
+use Rattle.yields.specs.Naming.{or-left, or-right, length-upFrom, above-upFrom}
 use Rattle.yields.specs.BodyWidths.{wide-enough, iteratedOutputs, returnedOutputs, iterated-first, iterated-second}
-use Rattle.yields.specs.Choice.{kept, unseen}
 use Rattle.yields.specs.Gates.{operator-fires}
-use Rattle.yields.specs.FreeNames.{small-B, free-B}
 use Rattle.yields.specs.FitGraphs.{Returning, let-returning, arms-returning, loop-returning, loop-outputs}
 use Rattle.yields.specs.Lookups.{present-append}
 use Rattle.yields.specs.Rows.{in-turn, side-by-side}
-use Rattle.yields.specs.Meets.{Part, Holds, holds-bound, holds-beside, all-held}
+use Rattle.yields.specs.Meets.{Part, Holds, holds-bound, holds-beside}
 use Rattle.yields.specs.IfMeets as Exps
 use Rattle.yields.specs.IfMeets.{exp-behind}
 use Rattle.yields.specs.BodyIfMeets as Bodies

@@ -1,9 +1,8 @@
 -- The theorem at work on document 01's factorial, "for i, y = n, 1 do if 1 < i then iter i - 1, y * i else y": its graph yields 120 for n = 5 in five
 -- rounds, has no end in four, and yields err for n = err. And on a loop with an if whose arms both iter, which must not drop its err results. The
 -- hypotheses of the theorem can be met.
-use Prim.Native.Nat.{ℕ}
-use mathlib.Core.Path.{_≡_, refl}
-use mathlib.Core.List.{List, [], _∷_}
+use mathlib.Core.Path.{refl}
+use mathlib.Core.List.{[], _∷_}
 use mathlib.Core.Option.{none, some}
 use lib.IntN.{pos}
 use native.Mathlib.Omega.{arith}

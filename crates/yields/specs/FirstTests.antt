@@ -1,14 +1,13 @@
 -- Every body uses the trigger, so each arm of a body's if stands behind at least one gate, and the if's test passes a copy between the two arms
 -- (document 01, "The graph": "a T gate on each free name of arm b and an F gate on each of arm c").
-use Prim.Native.Nat.{ℕ, _+_, _≤_}
+use Prim.Native.Nat.{ℕ}
 use mathlib.Core.Path.{_≡_, refl, sym, _∙_}
-use mathlib.Core.Bool.{true, false}
-use native.Mathlib.Omega.{arith}
-use Rattle.names.specs.Names.{Names, trigger, one, union, without, range, members}
+use mathlib.Core.Bool.{true}
+use Rattle.names.specs.Names.{Names, trigger, range, members}
 use Rattle.formula.specs.Tree.{Body, ret, iter, letB, ifB}
 use Rattle.formula.specs.Free.{freeE, freeB}
 use Rattle.formula.specs.Admitted.{AdmittedB}
-use Rattle.graph.specs.Assembly.{Graph, Gate, free, upFrom}
+use Rattle.graph.specs.Assembly.{Gate, free}
 use Rattle.graph.specs.Translation.{testName, row, gated, arm, graphB}
 use Rattle.yields.specs.Naming.{Small, or-left, or-right, member-members, member-upFrom, above-upFrom}
 use Rattle.yields.specs.Choice.{row-has, kept}

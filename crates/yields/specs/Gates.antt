@@ -178,11 +178,6 @@ IC-err both c e =
     IC-fires both (some c ∷ none ∷ none ∷ []) (decision true false false (some false-value) none (some err-value) none)
     (ap (by-control IC-rule (some c ∷ none ∷ none ∷ [])) e) (record { control = refl; data2 = refl; data3 = refl })
 
-pub IC-rests : (both : Bool) → Fires (IC both) (none ∷ none ∷ none ∷ []) (joinOutputs both none none none)
-unfolding gateOutputs
-IC-rests true = rests (IC true) 3
-IC-rests false = rests (IC false) 3
-
 -- ---- the three senses are different
 
 abbrev pub place : Sense → ℕ

@@ -10,7 +10,6 @@ pub mod FitGraphs
 pub mod Gates
 pub mod Lookups
 pub mod Absence
-pub mod SameNames
 pub mod Rows
 pub mod Branches
 pub mod JoinRows
