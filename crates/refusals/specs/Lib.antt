@@ -5,3 +5,4 @@ pub mod RunCount
 pub mod Rows
 pub mod Kept
 pub mod Refused
+pub mod FiredLinks
