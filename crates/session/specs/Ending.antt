@@ -5,7 +5,7 @@ use mathlib.Core.Path.{_≡_, refl, sym, ap, subst}
 use mathlib.Core.List.{List, [], _++_}
 use native.Mathlib.Omega.{arith}
 use borrow.Author.Tests.{ne-eqb}
-use Rattle.session.specs.declared.passes.Stage.{Stage}
+use Rattle.session.specs.declared.Stage.{Stage}
 use Rattle.session.specs.Passes.{Pass, passOf, partOf, remainingAfter, Repeats, none-left, again, passes}
 use Rattle.session.specs.Waiting.{Waiting, PassesTo}
 use Rattle.session.specs.Onward.{Going, goes-on}

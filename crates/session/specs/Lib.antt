@@ -12,5 +12,6 @@ pub mod Reached
 pub mod WholeSets
 pub mod Onward
 pub mod Ending
+pub mod Firings
 pub mod AnyMemory
 pub mod OwnLines

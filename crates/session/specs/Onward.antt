@@ -18,7 +18,7 @@ use Rattle.formula.specs.Refusals.{numberOf}
 use Rattle.formula.specs.Tree.{Exp, formulaOf}
 use Rattle.network.specs.Net.{Links}
 use Rattle.graph.specs.Translation.{madeOf}
-use Rattle.layout.specs.Layout.{operatorsOf, inputsOf, untakenOf, sizeOf, need}
+use Rattle.layout.specs.Layout.{operatorsOf, inputsOf, untakenOf, capacityIn, sizeOf, need}
 use Rattle.machine.specs.Fire.{ableAt}
 use Rattle.runs.specs.Run.{stillAt}
 use Rattle.calls.specs.Calls.{Outcome, sizeIn, standing, setOk, pushed, fired, ran, taken}
@@ -166,6 +166,14 @@ module _ (sheet : List ℕ) (capacity : ℕ) (memory : List ℕ) (h : started sh
   stands-now : (calls : List Call) → (q : Links) × Stands (madeOf x) capacity (memoryAfterAll calls start) q
   stands-now calls = machine-stands sheet capacity memory h calls
 
+  -- The same operators and capacity at every time, and neither 11 nor 31.
+  pub same-machine : (m : List ℕ) (s : List (List ℕ)) (r : List Result) → Reached start m s r
+      → (operatorsOf m ≡ length (madeOf x .operators)) × (sizeIn m ≡ sizeOf (capacityIn capacity)) × (standing m ≡ 0)
+  same-machine m s r R =
+      let S = stands-now (R .calls) .1 in
+      subst (λ (z : List ℕ). (operatorsOf z ≡ length (madeOf x .operators)) × (sizeIn z ≡ sizeOf (capacityIn capacity)) × (standing z ≡ 0)) (R .memory)
+      (S .operators-are, ap (λ (c : ℕ). sizeOf (capacityIn c)) (S .capacity-is), never-short sheet capacity memory h (R .calls))
+
   abbrev Still : List ℕ → Type 0
   Still m = (i : ℕ) → i < operatorsOf m → answerOf (fire (length m) i) m .refusal ≡ numberOf NotAble
 
@@ -178,7 +186,7 @@ module _ (sheet : List ℕ) (capacity : ℕ) (memory : List ℕ) (h : started sh
   -- Where nothing can fire, a set can be taken, or every set is taken and the next could be pushed.
   module _ (m : List ℕ) (s : List (List ℕ)) (r : List Result) (R : Reached start m s r) (st : stillAt m (sizeIn m) (operatorsOf m) ≡ true) where
     here : standing m ≡ 0
-    here = subst (λ (z : List ℕ). standing z ≡ 0) (R .memory) (never-short sheet capacity memory h (R .calls))
+    here = same-machine m s r R .2
 
     long : need (sizeOf capacity) ≤ length m
     long = subst (λ (z : List ℕ). need (sizeOf capacity) ≤ length z) (R .memory) (stands-now (R .calls) .1 .long)
@@ -221,7 +229,7 @@ module _ (sheet : List ℕ) (capacity : ℕ) (memory : List ℕ) (h : started sh
     pub F : FeedReached start (madeOf x .inputs) rest (U .sets) (U .results) f
     F = feed-reached start (madeOf x .inputs) rest m (U .sets) (U .results) (U .reached) (U .whole)
 
-    A : Reached start (a .mem) (U .sets ++ F .more) (U .results)
+    pub A : Reached start (a .mem) (U .sets ++ F .more) (U .results)
     A = after-run start (f .mem) (U .sets ++ F .more) (U .results) (F .reached) left
 
     pub D : DrainReached start (madeOf x .inputs) (U .sets ++ F .more) (U .results) d
@@ -255,8 +263,8 @@ module _ (sheet : List ℕ) (capacity : ℕ) (memory : List ℕ) (h : started sh
           whole = F .whole;
         }
 
-    C : RunCounts (f .mem) left
-    C = run-counts (f .mem) left (subst (λ (z : List ℕ). standing z ≡ 0) (F .reached .memory) (never-short sheet capacity memory h (F .reached .calls)))
+    pub C : RunCounts (f .mem) left
+    C = run-counts (f .mem) left (same-machine (f .mem) (U .sets ++ F .more) (U .results) (F .reached) .2)
 
     -- A run without a firing leaves the memory as it was.
     unfired : a .answer .count ≡ 0 → a .mem ≡ f .mem

@@ -3,20 +3,31 @@
 use Prim.Native.Nat.{ℕ, _+_, _≤_, _<_}
 use mathlib.Core.Path.{_≡_}
 use mathlib.Core.Logic.{_⊎_}
+use mathlib.Core.Bool.{_&&_}
 use mathlib.Core.List.{List, [], _++_}
+use lib.Dec.{leb}
 use lib.ListN.{length, take}
+use Rattle.value.specs.Operators.{pick}
 use Rattle.formula.specs.declared.Refusal.the-variants.{Set}
 use Rattle.formula.specs.Refusals.{numberOf}
+use Rattle.start.specs.Start.{started}
 use Rattle.text.specs.declared.Seen.{Seen}
 use Rattle.text.specs.Printed.{headLine, refusalLine}
 use Rattle.text.specs.SetLines.{SetFile as Sets, sets, badLine, setsOf}
-use Rattle.text.specs.Scan.{seenOf}
-use Rattle.session.specs.declared.passes.Stage.{Stage}
-use Rattle.session.specs.declared.opening.Opened.{Opened}
+use Rattle.text.specs.Scan.{seenOf, seenLaidOut}
+use Rattle.session.specs.declared.Stage.{Stage}
+use Rattle.session.specs.declared.Opened.{Opened}
 use Rattle.session.specs.Passes.{passes}
 use Rattle.session.specs.Waiting.{Waiting}
 use Rattle.session.specs.Onward.{Going}
-use Rattle.session.specs.Output.{allFirings, benchOutput}
+use Rattle.session.specs.Output.{linkCapacity, allFirings, mostSetBytes, mostSheetBytes, benchOutput}
+
+-- The lengths of a refusal's line and of the first line.
+abbrev pub refusalBytes : ℕ
+refusalBytes = 13
+
+abbrev pub headBytes : ℕ
+headBytes = 19
 
 -- A refusal is printed alone.
 pub record Refuses (number row end : ℕ) (r : Opened) (out : List ℕ) : Type 0 where
@@ -24,8 +35,8 @@ pub record Refuses (number row end : ℕ) (r : Opened) (out : List ℕ) : Type 0
   pub at-end : r .stage .at ≡ end
   pub none-left : r .stage .remaining ≡ 0
   pub none-fired : r .stage .firings ≡ 0
-  pub length-is : r .stage .printed ≡ 13
-  pub prints : take 13 out ≡ refusalLine number row
+  pub length-is : r .stage .printed ≡ refusalBytes
+  pub prints : take refusalBytes out ≡ refusalLine number row
 
 -- What the set file's test decides.
 pub record Heads (inputs results : ℕ) (ss : List (List ℕ)) (r : Opened) (out : List ℕ) : Type 0 where
@@ -33,8 +44,8 @@ pub record Heads (inputs results : ℕ) (ss : List (List ℕ)) (r : Opened) (out
   pub at-start : r .stage .at ≡ 0
   pub all-left : r .stage .remaining ≡ length ss
   pub all-firings : r .stage .firings ≡ allFirings
-  pub length-is : r .stage .printed ≡ 19
-  pub prints : take 19 out ≡ headLine inputs results (length ss)
+  pub length-is : r .stage .printed ≡ headBytes
+  pub prints : take headBytes out ≡ headLine inputs results (length ss)
 
 abbrev pub JudgesBy : Sets → ℕ → ℕ → ℕ → Opened → List ℕ → Type 0
 JudgesBy (badLine i) inputs results end r out = Refuses (numberOf Set) i end r out
@@ -46,7 +57,7 @@ Judges inputs results file r out = JudgesBy (setsOf inputs file) inputs results 
 -- The sheet's first bytes, and what was seen of it in all: behind 200 rows the bytes themselves matter no more.
 pub record Whole (first : List ℕ) (x : Seen) (more : List ℕ) : Type 0 where
   pub seen-is : x ≡ seenOf (first ++ more)
-  pub at-hand : (more ≡ []) ⊎ (6200 ≤ length first)
+  pub at-hand : (more ≡ []) ⊎ (mostSheetBytes ≤ length first)
 
 pub record Begins (formula file : List ℕ) (at-hand : List ℕ) (r : Opened) (m′ out : List ℕ) : Type 0 where
   pub rest : List (List ℕ)
@@ -55,6 +66,10 @@ pub record Begins (formula file : List ℕ) (at-hand : List ℕ) (r : Opened) (m
   pub output-is : benchOutput formula file
       ≡ take (r .stage .printed) out ++ passes (r .stage .remaining + r .stage .firings) (r .stage .remaining) rest m′ (r .stage .firings)
 
+-- The lent memory then: start was called, unless tests 1 and 2 of what was seen refuse the sheet before.
+unfoldable pub openedMemory : List ℕ → Seen → List ℕ → List ℕ
+openedMemory first x m = pick (seenLaidOut x && leb (x .length) mostSheetBytes) (started first linkCapacity m .mem) m
+
 abbrev pub OpensTo : List ℕ → Seen → List ℕ → Opened → List ℕ → List ℕ → Type 0
 OpensTo first x file r m′ out =
-    (more moreSets : List ℕ) → Whole first x more → (moreSets ≡ []) ⊎ (65536 < length file) → Begins (first ++ more) (file ++ moreSets) file r m′ out
+    (more moreSets : List ℕ) → Whole first x more → (moreSets ≡ []) ⊎ (mostSetBytes < length file) → Begins (first ++ more) (file ++ moreSets) file r m′ out

@@ -34,20 +34,21 @@ use Rattle.text.specs.ScanLaws.{seen-laid-out, seen-many, seen-few}
 use Rattle.text.specs.SetLines.{SetFile as File, sets as setsIn, badLine, setsOf, setsFrom, countOf}
 use Rattle.text.specs.SetLines.{linesOf as fileLines}
 use Rattle.text.specs.SetLineLaws.{no-line, Few, file-few}
-use Rattle.session.specs.declared.passes.Stage.{Stage}
-use Rattle.session.specs.declared.opening.Opened.{Opened}
-use Rattle.session.specs.Passes.{passes}
+use Rattle.session.specs.declared.Stage.{Stage}
+use Rattle.session.specs.declared.Opened.{Opened}
+use Rattle.session.specs.Passes.{outBytes, passes}
+use Rattle.session.specs.PassLaws.{behind-written}
 use Rattle.session.specs.Waiting.{Waiting}
 use Rattle.session.specs.Onward.{Going, over, on}
-use Rattle.session.specs.Output.{allFirings, linkCapacity, judged, outputBy, outputIn, blankMemory, benchOutput}
+use Rattle.session.specs.Output.{allFirings, linkCapacity, mostSetBytes, mostSheetBytes, judged, outputBy, outputIn, blankMemory, benchOutput}
 use Rattle.session.specs.OutputLaws.{starts, underway, any-memory}
 use Rattle.session.specs.Ending.{Proceeds}
-use Rattle.session.specs.Opening.{Refuses, Heads, JudgesBy, Judges, Whole, Begins, OpensTo}
+use Rattle.session.specs.Opening.{refusalBytes, headBytes, Refuses, Heads, JudgesBy, Judges, Whole, Begins, openedMemory, OpensTo}
 
 -- ---- what is printed
 
-pub refusal-printed : (number row end : ℕ) (l out : List ℕ) → 13 ≤ length l → out ≡ sets l 0 (refusalLine number row)
-    → Refuses number row end (record { inputs = 0; stage = record { at = end; remaining = 0; firings = 0; printed = 13 } }) out
+pub refusal-printed : (number row end : ℕ) (l out : List ℕ) → refusalBytes ≤ length l → out ≡ sets l 0 (refusalLine number row)
+    → Refuses number row end (record { inputs = 0; stage = record { at = end; remaining = 0; firings = 0; printed = refusalBytes } }) out
 refusal-printed number row end l out h e =
     record {
       inputs-are = refl;
@@ -55,11 +56,11 @@ refusal-printed number row end l out h e =
       none-left = refl;
       none-fired = refl;
       length-is = refl;
-      prints = ap (take 13) e ∙ written-front l 0 13 (refusalLine number row) (refusal-length number row) h;
+      prints = ap (take refusalBytes) e ∙ written-front l 0 refusalBytes (refusalLine number row) (refusal-length number row) h;
     }
 
-pub head-printed : (inputs results : ℕ) (ss : List (List ℕ)) (n : ℕ) (l out : List ℕ) → 19 ≤ length l → n ≡ length ss → out ≡ sets l 0 (headLine inputs results n)
-    → Heads inputs results ss (record { inputs = inputs; stage = record { at = 0; remaining = n; firings = 1000000; printed = 19 } }) out
+pub head-printed : (inputs results : ℕ) (ss : List (List ℕ)) (n : ℕ) (l out : List ℕ) → headBytes ≤ length l → n ≡ length ss → out ≡ sets l 0 (headLine inputs results n)
+    → Heads inputs results ss (record { inputs = inputs; stage = record { at = 0; remaining = n; firings = allFirings; printed = headBytes } }) out
 head-printed inputs results ss n l out h q e =
     record {
       inputs-are = refl;
@@ -67,8 +68,16 @@ head-printed inputs results ss n l out h q e =
       all-left = q;
       all-firings = refl;
       length-is = refl;
-      prints = ap (take 19) e ∙ written-front l 0 19 (headLine inputs results n) (head-length inputs results n) h ∙ ap (headLine inputs results) q;
+      prints = ap (take headBytes) e ∙ written-front l 0 headBytes (headLine inputs results n) (head-length inputs results n) h ∙ ap (headLine inputs results) q;
     }
+
+-- ---- what lies behind it
+
+pub refusal-behind : (number row : ℕ) (l out : List ℕ) → refusalBytes ≤ length l → out ≡ sets l 0 (refusalLine number row) → drop refusalBytes out ≡ drop refusalBytes l
+refusal-behind number row l out h e = ap (drop refusalBytes) e ∙ behind-written l l 0 refusalBytes (refusalLine number row) (refusal-length number row) h refl
+
+pub head-behind : (inputs results n : ℕ) (l out : List ℕ) → headBytes ≤ length l → out ≡ sets l 0 (headLine inputs results n) → drop headBytes out ≡ drop headBytes l
+head-behind inputs results n l out h e = ap (drop headBytes) e ∙ behind-written l l 0 headBytes (headLine inputs results n) (head-length inputs results n) h refl
 
 -- ---- the set file's test
 
@@ -93,11 +102,11 @@ module _ (inputs results : ℕ) (file : List ℕ) where
   pub judged-bad : (i : ℕ) (r : Opened) (out : List ℕ) → bad i ≡ countOf (setsOf inputs file) → Refuses (numberOf Set) i (length file) r out → Judges inputs results file r out
   judged-bad i r out e h = subst (λ (f : File). JudgesBy f inputs results (length file) r out) (sym (bad-is (setsOf inputs file) i e)) h
 
-  pub judged-sets : (n : ℕ) (l out : List ℕ) → counted n ≡ countOf (setsOf inputs file) → 19 ≤ length l → out ≡ sets l 0 (headLine inputs results n)
-      → Judges inputs results file (record { inputs = inputs; stage = record { at = 0; remaining = n; firings = 1000000; printed = 19 } }) out
+  pub judged-sets : (n : ℕ) (l out : List ℕ) → counted n ≡ countOf (setsOf inputs file) → headBytes ≤ length l → out ≡ sets l 0 (headLine inputs results n)
+      → Judges inputs results file (record { inputs = inputs; stage = record { at = 0; remaining = n; firings = allFirings; printed = headBytes } }) out
   judged-sets n l out e h p =
       let c = count-is (setsOf inputs file) n e in
-      subst (λ (f : File). JudgesBy f inputs results (length file) (record { inputs = inputs; stage = record { at = 0; remaining = n; firings = 1000000; printed = 19 } }) out)
+      subst (λ (f : File). JudgesBy f inputs results (length file) (record { inputs = inputs; stage = record { at = 0; remaining = n; firings = allFirings; printed = headBytes } }) out)
       (sym (c .1)) (head-printed inputs results (c .0) n l out h (c .2) p)
 
 -- ---- a refusal is the whole output
@@ -113,7 +122,7 @@ begins-refused formula file at-hand r m′ out number row p e =
         lines-are = ap (λ (n : ℕ). setsFrom (r .inputs) 0 (fileLines (drop n at-hand))) (p .at-end) ∙ rw (drop-length at-hand) (no-line (r .inputs) 0 [] (omega arith));
       };
       going = over (p .none-left);
-      output-is = e ∙ sym (rw (p .none-left, p .none-fired, p .length-is, append-nil (take 13 out)) (p .prints));
+      output-is = e ∙ sym (rw (p .none-left, p .none-fired, p .length-is, append-nil (take refusalBytes out)) (p .prints));
     }
 
 -- ---- the sheet's tests
@@ -141,12 +150,12 @@ whole-rows s e =
     (and-right (not (eqb (length s) 0)) (eqb (length s % 31) 0)
     (and-left (not (eqb (length s) 0) && eqb (length s % 31) 0) (is-passed (lowest (rowCount s) (endedAt (linesOf s)))) e))
 
-no-more : (first more : List ℕ) → length (first ++ more) ≤ 6200 → (more ≡ []) ⊎ (6200 ≤ length first) → more ≡ []
+no-more : (first more : List ℕ) → length (first ++ more) ≤ mostSheetBytes → (more ≡ []) ⊎ (mostSheetBytes ≤ length first) → more ≡ []
 no-more first more h (inl e) = e
 no-more first [] h (inr k) = refl
 no-more first (b ∷ more) h (inr k) = absurd (omega (arith, length-append first (b ∷ more), h, k))
 
-no-more-sets : (file more : List ℕ) → length file ≤ 65536 → (more ≡ []) ⊎ (65536 < length file) → more ≡ []
+no-more-sets : (file more : List ℕ) → length file ≤ mostSetBytes → (more ≡ []) ⊎ (mostSetBytes < length file) → more ≡ []
 no-more-sets file more h (inl e) = e
 no-more-sets file more h (inr k) = absurd (omega arith)
 
@@ -161,20 +170,20 @@ module _ (first : List ℕ) (x : Seen) (file m : List ℕ) (r : Opened) (m′ ou
       begins-refused s (file ++ moreSets) file r m′ out (numberOf Layout) 0 p (ap (λ (z : Verdict). outputBy z s (file ++ moreSets) blankMemory) v)
 
   module _ (e : seenLaidOut x ≡ true) where
-    pub opens-rows : 6200 < x .length → Refuses (numberOf Rows) 0 (length file) r out → OpensTo first x file r m′ out
+    pub opens-rows : mostSheetBytes < x .length → Refuses (numberOf Rows) 0 (length file) r out → OpensTo first x file r m′ out
     unfolding benchOutput outputIn outputBy
     opens-rows h p more moreSets w u =
         let s : List ℕ = first ++ more in
         let a : laidOut s (linesOf s) ≡ true = sym (seen-laid-out s) ∙ ap seenLaidOut (sym (w .seen-is)) ∙ e in
-        let n : 6200 < length s = seen-many s (subst (λ (y : Seen). 6200 < y .length) (w .seen-is) h) in
+        let n : mostSheetBytes < length s = seen-many s (subst (λ (y : Seen). mostSheetBytes < y .length) (w .seen-is) h) in
         let v = rows-refused s a (lt-leb (rowCount s) 200 (omega (arith, n, whole-rows s a))) in
         begins-refused s (file ++ moreSets) file r m′ out (numberOf Rows) 0 p (ap (λ (z : Verdict). outputBy z s (file ++ moreSets) blankMemory) v)
 
   -- The whole sheet is at hand.
-  module _ (h : x .length ≤ 6200) (room : 55915 ≤ length m) (a : StartAnswer) (q : begun a m′ ≡ started first linkCapacity m) where
+  module _ (h : x .length ≤ mostSheetBytes) (room : need (sizeOf linkCapacity) ≤ length m) (a : StartAnswer) (q : begun a m′ ≡ started first linkCapacity m) where
     sheet-is : (more : List ℕ) → Whole first x more → first ++ more ≡ first
     sheet-is more w =
-        let n : length (first ++ more) ≤ 6200 = seen-few (first ++ more) (subst (λ (y : Seen). y .length ≤ 6200) (w .seen-is) h) in
+        let n : length (first ++ more) ≤ mostSheetBytes = seen-few (first ++ more) (subst (λ (y : Seen). y .length ≤ mostSheetBytes) (w .seen-is) h) in
         ap (λ (z : List ℕ). first ++ z) (no-more first more n (w .at-hand)) ∙ append-nil first
 
     read-is : started first linkCapacity m ≡ byVerdict (verdictOf first) (formulaOf first) linkCapacity m
@@ -221,18 +230,18 @@ module _ (first : List ℕ) (x : Seen) (file m : List ℕ) (r : Opened) (m′ ou
       pub inputs-few : a .inputs ≤ 32
       inputs-few = subst (λ (n : ℕ). n ≤ 32) (sym (ap (λ (b : Begun). b .answer .inputs) answers)) (made-sound first (accepts .passed) .few-inputs)
 
-      pub opens-long : 65536 < length file → Refuses (numberOf SetFile) 0 (length file) r out → OpensTo first x file r m′ out
+      pub opens-long : mostSetBytes < length file → Refuses (numberOf SetFile) 0 (length file) r out → OpensTo first x file r m′ out
       unfolding benchOutput outputIn outputBy
       opens-long k p more moreSets w u =
-          let n : ltb 65536 (length (file ++ moreSets)) ≡ true = lt-ltb 65536 (length (file ++ moreSets)) (omega (arith, length-append file moreSets, k)) in
+          let n : ltb mostSetBytes (length (file ++ moreSets)) ≡ true = lt-ltb mostSetBytes (length (file ++ moreSets)) (omega (arith, length-append file moreSets, k)) in
           begins-refused (first ++ more) (file ++ moreSets) file r m′ out (numberOf SetFile) 0 p
           (ap (λ (s : List ℕ). benchOutput s (file ++ moreSets)) (sheet-is more w) ∙ rw (accepts .passed, n) refl)
 
-      judged-output : length file ≤ 65536 → benchOutput first file ≡ judged first m (figuresOf first) (setsOf (a .inputs) file)
+      judged-output : length file ≤ mostSetBytes → benchOutput first file ≡ judged first m (figuresOf first) (setsOf (a .inputs) file)
       unfolding outputIn outputBy
-      judged-output k = any-memory first file m room ∙ rw (accepts .passed, le-ltb 65536 (length file) k, inputs-are) refl
+      judged-output k = any-memory first file m room ∙ rw (accepts .passed, le-ltb mostSetBytes (length file) k, inputs-are) refl
 
-      judged-begins : length file ≤ 65536 → (f : File) → setsOf (a .inputs) file ≡ f → JudgesBy f (a .inputs) (a .results) (length file) r out → Begins first file file r m′ out
+      judged-begins : length file ≤ mostSetBytes → (f : File) → setsOf (a .inputs) file ≡ f → JudgesBy f (a .inputs) (a .results) (length file) r out → Begins first file file r m′ out
       unfolding judged setsOf
       judged-begins k (badLine i) e p =
           begins-refused first file file r m′ out (numberOf Set) i p (judged-output k ∙ ap (judged first m (figuresOf first)) e)
@@ -251,23 +260,39 @@ module _ (first : List ℕ) (x : Seen) (file m : List ℕ) (r : Opened) (m′ ou
                 ∙ rw (p .all-left, p .all-firings, p .length-is, p .prints, inputs-are, results-are, b) refl;
           }
 
-      pub opens-judged : length file ≤ 65536 → Judges (a .inputs) (a .results) file r out → OpensTo first x file r m′ out
+      pub opens-judged : length file ≤ mostSetBytes → Judges (a .inputs) (a .results) file r out → OpensTo first x file r m′ out
       opens-judged k p more moreSets w u =
           let n : file ++ moreSets ≡ file = ap (λ (y : List ℕ). file ++ y) (no-more-sets file moreSets k u) ∙ append-nil file in
           rw (sheet-is more w, n) (judged-begins k (setsOf (a .inputs) file) refl p)
 
+-- ---- the lent memory
+
+module _ (first : List ℕ) (x : Seen) (m : List ℕ) where
+  pub memory-unlaid : seenLaidOut x ≡ false → m ≡ openedMemory first x m
+  unfolding openedMemory
+  memory-unlaid e = rw e refl
+
+  module _ (e : seenLaidOut x ≡ true) where
+    pub memory-long : mostSheetBytes < x .length → m ≡ openedMemory first x m
+    unfolding openedMemory
+    memory-long h = rw (e, lt-leb (x .length) mostSheetBytes h) refl
+
+    pub memory-started : x .length ≤ mostSheetBytes → (a : StartAnswer) (m′ : List ℕ) → begun a m′ ≡ started first linkCapacity m → m′ ≡ openedMemory first x m
+    unfolding openedMemory
+    memory-started h a m′ q = rw (e, le-leb (x .length) mostSheetBytes h) (ap (λ (b : Begun). b .mem) q)
+
 -- ---- bounds
 
-pub refusal-bounds : (number row end : ℕ) (r : Opened) (out : List ℕ) → Refuses number row end r out → (r .inputs ≤ 32) × (r .stage .at ≤ end) × (r .stage .printed ≤ 65536)
+pub refusal-bounds : (number row end : ℕ) (r : Opened) (out : List ℕ) → Refuses number row end r out → (r .inputs ≤ 32) × (r .stage .at ≤ end) × (r .stage .printed ≤ outBytes)
 refusal-bounds number row end r out p = (omega (arith, p .inputs-are), omega (arith, p .at-end), omega (arith, p .length-is))
 
 pub begins-proceeds : (formula file at-hand : List ℕ) (r : Opened) (m′ out : List ℕ) → Begins formula file at-hand r m′ out → Proceeds (r .inputs) at-hand (r .stage) m′
 begins-proceeds formula file at-hand r m′ out b = record { rest = b .rest; waits = b .waits; going = b .going }
 
 pub judged-bounds : (inputs results : ℕ) (file : List ℕ) (r : Opened) (out : List ℕ) → inputs ≤ 32 → Judges inputs results file r out
-    → (r .inputs ≤ 32) × (r .stage .at ≤ length file) × (r .stage .printed ≤ 65536)
+    → (r .inputs ≤ 32) × (r .stage .at ≤ length file) × (r .stage .printed ≤ outBytes)
 judged-bounds inputs results file r out h p = go (setsOf inputs file) p
   where
-    go : (f : File) → JudgesBy f inputs results (length file) r out → (r .inputs ≤ 32) × (r .stage .at ≤ length file) × (r .stage .printed ≤ 65536)
+    go : (f : File) → JudgesBy f inputs results (length file) r out → (r .inputs ≤ 32) × (r .stage .at ≤ length file) × (r .stage .printed ≤ outBytes)
     go (badLine i) q = refusal-bounds (numberOf Set) i (length file) r out q
     go (setsIn ss) q = (omega (arith, q .inputs-are, h), omega (arith, q .at-start), omega (arith, q .length-is))

@@ -25,6 +25,14 @@ linkCapacity = 2
 abbrev pub allFirings : ℕ
 allFirings = 1000000
 
+-- "a set file over 65,536 bytes"
+abbrev pub mostSetBytes : ℕ
+mostSetBytes = 65536
+
+-- "over 200 rows", of 31 bytes
+abbrev pub mostSheetBytes : ℕ
+mostSheetBytes = 6200
+
 -- As many repetitions as there are sets and firings are enough (specs/OutputLaws).
 unfoldable pub judged : List ℕ → List ℕ → Figures → Sets → List ℕ
 unfolding passes
@@ -36,7 +44,7 @@ unfoldable pub outputBy : Verdict → List ℕ → List ℕ → List ℕ → Lis
 unfolding judged
 outputBy (Refused r row) formula file memory = refusalLine (numberOf r) row
 outputBy Passed formula file memory =
-    pick (ltb 65536 (length file)) (refusalLine (numberOf SetFile) 0) (judged formula memory (figuresOf formula) (setsOf (figuresOf formula .inputs) file))
+    pick (ltb mostSetBytes (length file)) (refusalLine (numberOf SetFile) 0) (judged formula memory (figuresOf formula) (setsOf (figuresOf formula .inputs) file))
 
 -- With a memory that is lent to the machine.
 unfoldable pub outputIn : List ℕ → List ℕ → List ℕ → List ℕ

@@ -30,7 +30,7 @@ use Rattle.session.specs.Reached.{at-start}
 use Rattle.session.specs.Onward.{Underway, Going, on}
 use Rattle.session.specs.Ending.{Finished, passes-end}
 use Rattle.session.specs.AnyMemory.{Alike, same-passes}
-use Rattle.session.specs.Output.{linkCapacity, allFirings, judged, outputBy, outputIn, blankMemory, benchOutput}
+use Rattle.session.specs.Output.{linkCapacity, allFirings, mostSetBytes, judged, outputBy, outputIn, blankMemory, benchOutput}
 
 low : 1 ≤ linkCapacity
 low = omega arith
@@ -100,19 +100,19 @@ any-memory formula file m h = go (verdictOf formula) refl
     go : (v : Verdict) → verdictOf formula ≡ v → outputBy v formula file blankMemory ≡ outputBy v formula file m
     go (Refused r row) e = refl
     go Passed e =
-        ap (λ (z : List ℕ). pick (ltb 65536 (length file)) (refusalLine (numberOf SetFile) 0) z)
+        ap (λ (z : List ℕ). pick (ltb mostSetBytes (length file)) (refusalLine (numberOf SetFile) 0) z)
         (same-judged formula e blankMemory m file blank-long h (setsOf (figuresOf formula .inputs) file) refl)
 
 -- With good sets it is the first line and the repetitions.
-pub output-is : (formula file : List ℕ) → verdictOf formula ≡ Passed → length file ≤ 65536 → (ss : List (List ℕ)) → setsOf (figuresOf formula .inputs) file ≡ sets ss
+pub output-is : (formula file : List ℕ) → verdictOf formula ≡ Passed → length file ≤ mostSetBytes → (ss : List (List ℕ)) → setsOf (figuresOf formula .inputs) file ≡ sets ss
     → benchOutput formula file
     ≡ headLine (figuresOf formula .inputs) (figuresOf formula .results) (length ss)
     ++ passes (length ss + allFirings) (length ss) ss (started formula linkCapacity blankMemory .mem) allFirings
 unfolding benchOutput outputIn outputBy judged
-output-is formula file ok h ss e = rw (ok, le-ltb 65536 (length file) h, e) refl
+output-is formula file ok h ss e = rw (ok, le-ltb mostSetBytes (length file) h, e) refl
 
 -- For an accepted sheet and good sets: the first line, and what the repetitions print until every set is taken.
-pub output-repeats : (formula file : List ℕ) → verdictOf formula ≡ Passed → length file ≤ 65536 → (ss : List (List ℕ)) → setsOf (figuresOf formula .inputs) file ≡ sets ss
+pub output-repeats : (formula file : List ℕ) → verdictOf formula ≡ Passed → length file ≤ mostSetBytes → (ss : List (List ℕ)) → setsOf (figuresOf formula .inputs) file ≡ sets ss
     → (out : List ℕ) × Finished (length ss) ss (started formula linkCapacity blankMemory .mem) allFirings out
     × (benchOutput formula file ≡ headLine (figuresOf formula .inputs) (figuresOf formula .results) (length ss) ++ out)
 output-repeats formula file ok h ss e = (

@@ -8,30 +8,37 @@ use mathlib.Core.Bool.{Bool, true, false}
 use mathlib.Core.List.{List, [], _∷_, _++_, append-assoc, append-nil}
 use native.Mathlib.Omega.{arith}
 use native.Mathlib.Decide.{ℕ-discrete}
+use borrow.Author.Tests.{lt-ltb}
 use lib.ListN.{length, getD, take, length-append, List·getD-append}
 use Rattle.value.specs.Operators.{pick}
 use Rattle.formula.specs.declared.Refusal.the-variants.{Unfinished}
 use Rattle.formula.specs.declared.Verdict.the-variants.{Passed}
 use Rattle.formula.specs.Refusals.{numberOf}
+use Rattle.formula.specs.Tree.{formulaOf}
 use Rattle.formula.specs.Tests.{verdictOf, figuresOf}
-use Rattle.layout.specs.Layout.{operatorsOf, sizeOf, need}
+use Rattle.layout.specs.Layout.{operatorsOf, capacityIn, sizeOf, need}
+use Rattle.graph.specs.Translation.{madeOf}
+use Rattle.machine.specs.Fire.{ableAt}
 use Rattle.runs.specs.Run.{runs, stillAt}
-use Rattle.calls.specs.Calls.{sizeIn, standing, ran}
+use Rattle.calls.specs.Calls.{Outcome, sizeIn, standing, fired, ran}
+use Rattle.calls.specs.CallLaws.{fired-accepted}
 use Rattle.eval.specs.Evaluate.{evaluationOf}
 use Rattle.start.specs.Start.{started}
-use Rattle.refusals.specs.RunCount.{run-is}
+use Rattle.refusals.specs.RunCount.{RunCounts, run-is, unstill-able}
 use Rattle.demand.specs.MemoryCalls.{Result, result, setsPushed, resultsTaken}
 use Rattle.demand.specs.Claim.{Enough, Ends, yielded}
 use Rattle.demand.specs.Demand3.{demand-3}
 use Rattle.demand.specs.Onward.{never-short}
 use Rattle.text.specs.Printed.{headLine, refusalLine}
+use Rattle.text.specs.PrintLaws.{refusal-length}
 use Rattle.text.specs.SetLines.{sets, setsOf}
 use Rattle.session.specs.Passes.{feeding, drainedOf, Pass, passOf, partOf, remainingAfter, passes}
 use Rattle.session.specs.PassLaws.{part-plain, part-refused, remaining-plain, remaining-refused}
 use Rattle.session.specs.Reached.{Reached, lineOf}
-use Rattle.session.specs.Onward.{linesOf, Underway, F, D, underway-on, less-to-do}
+use Rattle.session.specs.Onward.{linesOf, Underway, F, A, D, C, same-machine, underway-on, less-to-do}
 use Rattle.session.specs.Ending.{passes-over, passes-again}
-use Rattle.session.specs.Output.{linkCapacity, allFirings, judged, outputBy, outputIn, blankMemory, benchOutput}
+use Rattle.session.specs.Firings.{LentRun, lentRun, countOf, runsMade, firingsOf, StillFires, UsesAll, uses-on, runs-over, runs-again}
+use Rattle.session.specs.Output.{linkCapacity, allFirings, mostSetBytes, judged, outputBy, outputIn, blankMemory, benchOutput}
 use Rattle.session.specs.OutputLaws.{blank-long, starts, underway, output-is}
 
 -- ---- the claim
@@ -76,8 +83,13 @@ module _ (sheet : List ℕ) (capacity : ℕ) (memory : List ℕ) (h : started sh
   abbrev start : List ℕ
   start = started sheet capacity memory .mem
 
-  -- These results more are taken, and their lines printed, to the end.
-  record Prints (results : List Result) (out : List ℕ) : Type 0 where
+  -- How it ends: every set is taken, or 36 is printed, all of the firings left having been used.
+  abbrev EndsBy : ℕ → List LentRun → List Result → List ℕ → Type 0
+  EndsBy left runs results ending =
+      ((length results ≡ length all) × (ending ≡ [])) ⊎ ((ending ≡ refusalLine (numberOf Unfinished) 0) × UsesAll left runs)
+
+  -- These results more are taken, and their lines printed, to the end, by these runs with the firings left.
+  record Prints (left : ℕ) (runs : List LentRun) (results : List Result) (out : List ℕ) : Type 0 where
     more : List Result
     memory-then : List ℕ
     sets-then : List (List ℕ)
@@ -86,7 +98,13 @@ module _ (sheet : List ℕ) (capacity : ℕ) (memory : List ℕ) (h : started sh
     in-order : sets-then ++ rest-then ≡ all
     ending : List ℕ
     out-is : out ≡ linesOf more ++ ending
-    ends : ((length (results ++ more) ≡ length all) × (ending ≡ [])) ⊎ (ending ≡ refusalLine (numberOf Unfinished) 0)
+    ends : EndsBy left runs (results ++ more) ending
+    within : firingsOf runs ≤ left
+
+  ends-on : (left : ℕ) (run : LentRun) (runs : List LentRun) (r r′ : List Result) (ending : List ℕ) → countOf run ≤ left → r ≡ r′
+      → EndsBy (left - countOf run) runs r ending → EndsBy left (run ∷ runs) r′ ending
+  ends-on left run runs r r′ ending c e (inl a) = inl (ap length (sym e) ∙ a .0, a .1)
+  ends-on left run runs r r′ ending c e (inr b) = inr (b .0, uses-on run runs left c (b .1))
 
   passes-over-any : (f : ℕ) (rest : List (List ℕ)) (m : List ℕ) (left : ℕ) → passes f 0 rest m left ≡ []
   unfolding passes
@@ -102,7 +120,7 @@ module _ (sheet : List ℕ) (capacity : ℕ) (memory : List ℕ) (h : started sh
       go false e = run-is m left st false e .2
 
   module _ (n : ℕ) (rest : List (List ℕ)) (m : List ℕ) (left : ℕ) (U : Underway sheet capacity memory h all n rest m) where
-    at-end : n ≡ 0 → Prints (U .results) []
+    at-end : n ≡ 0 → Prints left [] (U .results) []
     unfolding linesOf
     at-end e =
         record {
@@ -115,19 +133,42 @@ module _ (sheet : List ℕ) (capacity : ℕ) (memory : List ℕ) (h : started sh
           ending = [];
           out-is = refl;
           ends = inl (ap length (append-nil (U .results)) ∙ omega (arith, U .counts, e), refl);
+          within = omega arith;
         }
 
-    fed-stands : standing (feeding rest m .mem) ≡ 0
-    fed-stands =
-        let R = F sheet capacity memory h all n rest m left U .reached in
-        subst (λ (z : List ℕ). standing z ≡ 0) (R .memory) (never-short sheet capacity memory h (R .calls))
+    abbrev run : LentRun
+    run = lentRun (feeding rest m .mem) left
+
+    fed-reached : Reached start (feeding rest m .mem) (U .sets ++ F sheet capacity memory h all n rest m left U .more) (U .results)
+    fed-reached = F sheet capacity memory h all n rest m left U .reached
+
+    before : (operatorsOf (run .before) ≡ length (madeOf (formulaOf sheet) .operators)) × (sizeIn (run .before) ≡ sizeOf (capacityIn capacity)) × (standing (run .before) ≡ 0)
+    before = same-machine sheet capacity memory h (run .before) (U .sets ++ F sheet capacity memory h all n rest m left U .more) (U .results) fed-reached
+
+    counts : RunCounts (run .before) left
+    counts = C sheet capacity memory h all n rest m left U
+
+    -- After a run's 36 an operator can fire.
+    still-fires : ran (run .before) left .answer .refusal ≡ numberOf Unfinished → StillFires run []
+    still-fires e =
+        let m′ = ran (run .before) left .mem in
+        let after =
+        same-machine sheet capacity memory h m′ (U .sets ++ F sheet capacity memory h all n rest m left U .more) (U .results)
+        (A sheet capacity memory h all n rest m left U) in
+        let able = unstill-able m′ (sizeIn (run .before)) (operatorsOf (run .before)) (counts .unfinished e .1) in (
+          able .0,
+          ap (λ (o : Outcome). o .answer .refusal)
+              (fired-accepted m′ (after .2) (able .0) (lt-ltb (able .0) (operatorsOf m′) (omega (arith, able .1, before .0, after .0)))
+              (subst (λ (k : ℕ). ableAt m′ k (able .0) ≡ true) (before .1 ∙ sym (after .1)) (able .2))),
+        )
 
     -- After a run's 36.
-    last-part : (ran (feeding rest m .mem) left .answer .refusal ≡ 0 → ⊥) → Prints (U .results) (partOf (passOf rest m left) ++ [])
+    last-part : (ran (run .before) left .answer .refusal ≡ 0 → ⊥) → Prints left (run ∷ []) (U .results) (partOf (passOf rest m left) ++ [])
     unfolding underway-on
     last-part i =
         let d = D sheet capacity memory h all n rest m left U in
         let on = underway-on sheet capacity memory h all n rest m left U in
+        let e = run-unfinished (run .before) left (before .2) i in
         record {
           more = d .more;
           memory-then = drainedOf (ran (feeding rest m .mem) left .mem) .mem;
@@ -138,15 +179,17 @@ module _ (sheet : List ℕ) (capacity : ℕ) (memory : List ℕ) (h : started sh
           ending = refusalLine (numberOf Unfinished) 0;
           out-is =
               append-nil (partOf (passOf rest m left)) ∙ part-refused rest m left i
-              ∙ ap₂ (λ (a : List ℕ) (b : ℕ). a ++ refusalLine b 0) (d .lines-are) (run-unfinished (feeding rest m .mem) left fed-stands i);
-          ends = inr refl;
+              ∙ ap₂ (λ (a : List ℕ) (b : ℕ). a ++ refusalLine b 0) (d .lines-are) e;
+          ends = inr (refl, (omega (arith, counts .unfinished e .0), still-fires e));
+          within = omega (arith, counts .lent);
         }
 
     -- A part and what follows it.
-    then-more : ran (feeding rest m .mem) left .answer .refusal ≡ 0 → (out : List ℕ) → Prints (underway-on sheet capacity memory h all n rest m left U .results) out
-        → Prints (U .results) (partOf (passOf rest m left) ++ out)
+    then-more : ran (run .before) left .answer .refusal ≡ 0 → (runs : List LentRun) (out : List ℕ)
+        → Prints (left - countOf run) runs (underway-on sheet capacity memory h all n rest m left U .results) out
+        → Prints left (run ∷ runs) (U .results) (partOf (passOf rest m left) ++ out)
     unfolding underway-on
-    then-more e out P =
+    then-more e runs out P =
         let d = D sheet capacity memory h all n rest m left U in
         let z = append-assoc (U .results) (d .more) (P .more) in
         record {
@@ -161,48 +204,72 @@ module _ (sheet : List ℕ) (capacity : ℕ) (memory : List ℕ) (h : started sh
               ap₂ (λ (a b : List ℕ). a ++ b) (part-plain rest m left e ∙ d .lines-are) (P .out-is)
               ∙ sym (append-assoc (linesOf (d .more)) (linesOf (P .more)) (P .ending))
               ∙ ap (λ (a : List ℕ). a ++ P .ending) (sym (lines-append (d .more) (P .more)));
-          ends = subst (λ (r : List Result). ((length r ≡ length all) × (P .ending ≡ [])) ⊎ (P .ending ≡ refusalLine (numberOf Unfinished) 0)) z (P .ends);
+          ends = ends-on left run runs (U .results ++ d .more ++ P .more) (U .results ++ (d .more ++ P .more)) (P .ending) (counts .lent) z (P .ends);
+          within = omega (arith, counts .lent, P .within);
         }
 
     abbrev p : Pass
     p = passOf rest m left
 
-    -- A repetition, and what is printed behind it.
+    -- A repetition, and what is printed behind it with k sets left to take.
+    abbrev Printed : ℕ → ℕ → Type 0
+    Printed f k = Prints left (run ∷ runsMade f k (p .rest) (p .mem) (p .left)) (U .results) (partOf p ++ passes f k (p .rest) (p .mem) (p .left))
+
     one-part : (f : ℕ) → 0 < n → n + left ≤ suc f
-        → ((k : ℕ) (on : Underway sheet capacity memory h all k (p .rest) (p .mem)) → k + p .left ≤ f → Prints (on .results) (passes f k (p .rest) (p .mem) (p .left)))
-        → Prints (U .results) (partOf p ++ passes f (remainingAfter n p) (p .rest) (p .mem) (p .left))
+        → ((k : ℕ) (on : Underway sheet capacity memory h all k (p .rest) (p .mem)) → k + p .left ≤ f
+        → Prints (p .left) (runsMade f k (p .rest) (p .mem) (p .left)) (on .results) (passes f k (p .rest) (p .mem) (p .left)))
+        → Printed f (remainingAfter n p)
     unfolding passOf
     one-part f some l later = go (ℕ-discrete (ran (feeding rest m .mem) left .answer .refusal) 0)
       where
-        go : Dec (ran (feeding rest m .mem) left .answer .refusal ≡ 0) → Prints (U .results) (partOf p ++ passes f (remainingAfter n p) (p .rest) (p .mem) (p .left))
+        go : Dec (ran (feeding rest m .mem) left .answer .refusal ≡ 0) → Printed f (remainingAfter n p)
         go (yes e) =
             let taken = drainedOf (ran (feeding rest m .mem) left .mem) .count in
             let less = less-to-do sheet capacity memory h all n rest m left U some e in
-            subst (λ (i : ℕ). Prints (U .results) (partOf p ++ passes f i (p .rest) (p .mem) (p .left))) (sym (remaining-plain rest m left n e))
-            (then-more e (passes f (n - taken) (p .rest) (p .mem) (p .left))
+            subst (Printed f) (sym (remaining-plain rest m left n e))
+            (then-more e (runsMade f (n - taken) (p .rest) (p .mem) (p .left)) (passes f (n - taken) (p .rest) (p .mem) (p .left))
             (later (n - taken) (underway-on sheet capacity memory h all n rest m left U) (omega (arith, less, l))))
         go (no i) =
-            subst (λ (z : List ℕ). Prints (U .results) (partOf p ++ z))
-            (sym (ap (λ (k : ℕ). passes f k (p .rest) (p .mem) (p .left)) (remaining-refused rest m left n i) ∙ passes-over-any f (p .rest) (p .mem) (p .left)))
-            (last-part i)
+            subst (Printed f) (sym (remaining-refused rest m left n i))
+            (subst (λ (rs : List LentRun). Prints left (run ∷ rs) (U .results) (partOf p ++ passes f 0 (p .rest) (p .mem) (p .left)))
+            (sym (runs-over f (p .rest) (p .mem) (p .left)))
+            (subst (λ (z : List ℕ). Prints left (run ∷ []) (U .results) (partOf p ++ z)) (sym (passes-over-any f (p .rest) (p .mem) (p .left))) (last-part i)))
+
+  abbrev PrintsFrom : ℕ → ℕ → List (List ℕ) → List ℕ → ℕ → List Result → Type 0
+  PrintsFrom f n rest m left results = Prints left (runsMade f n rest m left) results (passes f n rest m left)
+
+  over : (f : ℕ) (rest : List (List ℕ)) (m : List ℕ) (left : ℕ) (U : Underway sheet capacity memory h all 0 rest m) → PrintsFrom f 0 rest m left (U .results)
+  over f rest m left U =
+      subst (λ (rs : List LentRun). Prints left rs (U .results) (passes f 0 rest m left)) (sym (runs-over f rest m left))
+      (subst (Prints left [] (U .results)) (sym (passes-over-any f rest m left)) (at-end 0 rest m left U refl))
 
   prints : (f n : ℕ) (rest : List (List ℕ)) (m : List ℕ) (left : ℕ) (U : Underway sheet capacity memory h all n rest m) → n + left ≤ f
-      → Prints (U .results) (passes f n rest m left)
-  prints zero zero rest m left U l = subst (Prints (U .results)) (sym (passes-over-any 0 rest m left)) (at-end 0 rest m left U refl)
+      → PrintsFrom f n rest m left (U .results)
+  prints zero zero rest m left U l = over 0 rest m left U
   prints zero (suc n) rest m left U l = absurd (omega arith)
-  prints (suc f) zero rest m left U l = subst (Prints (U .results)) (sym (passes-over f rest m left)) (at-end 0 rest m left U refl)
+  prints (suc f) zero rest m left U l = over (suc f) rest m left U
   prints (suc f) (suc n) rest m left U l =
-      subst (Prints (U .results)) (sym (passes-again f rest m left n))
+      subst (λ (rs : List LentRun). Prints left rs (U .results) (passes (suc f) (suc n) rest m left)) (sym (runs-again f rest m left n))
+      (subst
+      (Prints left
+      (lentRun (feeding rest m .mem) left ∷ runsMade f (remainingAfter (suc n) (passOf rest m left)) (passOf rest m left .rest) (passOf rest m left .mem) (passOf rest m left .left))
+      (U .results))
+      (sym (passes-again f rest m left n))
       (one-part (suc n) rest m left U f (omega arith) l
-      (λ k on b. prints f k (passOf rest m left .rest) (passOf rest m left .mem) (passOf rest m left .left) on b))
+      (λ k on b. prints f k (passOf rest m left .rest) (passOf rest m left .mem) (passOf rest m left .left) on b)))
 
 -- ---- the program
 
-module _ (formula file : List ℕ) (ok : verdictOf formula ≡ Passed) (small : length file ≤ 65536) (ss : List (List ℕ)) (good : setsOf (figuresOf formula .inputs) file ≡ sets ss) where
+module _ (formula file : List ℕ) (ok : verdictOf formula ≡ Passed) (small : length file ≤ mostSetBytes) (ss : List (List ℕ)) (good : setsOf (figuresOf formula .inputs) file ≡ sets ss) where
   abbrev begins : started formula linkCapacity blankMemory .answer .refusal ≡ 0
   begins = starts formula ok blankMemory blank-long
 
-  P : Prints formula linkCapacity blankMemory begins ss [] (passes (length ss + allFirings) (length ss) ss (started formula linkCapacity blankMemory .mem) allFirings)
+  -- The runs that the program makes.
+  abbrev runs-made : List LentRun
+  runs-made = runsMade (length ss + allFirings) (length ss) ss (started formula linkCapacity blankMemory .mem) allFirings
+
+  P : Prints formula linkCapacity blankMemory begins ss allFirings runs-made []
+      (passes (length ss + allFirings) (length ss) ss (started formula linkCapacity blankMemory .mem) allFirings)
   unfolding underway
   P =
       prints formula linkCapacity blankMemory begins ss (length ss + allFirings) (length ss) ss (started formula linkCapacity blankMemory .mem) allFirings
@@ -234,8 +301,13 @@ module _ (formula file : List ℕ) (ok : verdictOf formula ≡ Passed) (small : 
       (λ j b. subst (Ends formula) (sym (set-at j (omega (arith, no-more)))) (end j b)) rounds (subst (λ (z : List ℕ). Enough formula z rounds) (sym here) enough)
       ∙ ap (λ (z : List ℕ). yielded (evaluationOf formula z rounds)) here
 
+  last-line : EndsBy formula linkCapacity blankMemory begins ss allFirings runs-made (P .more) (P .ending)
+      → ((length (P .more) ≡ length ss) × (P .ending ≡ [])) ⊎ (P .ending ≡ refusalLine (numberOf Unfinished) 0)
+  last-line (inl a) = inl a
+  last-line (inr b) = inr (b .0)
+
   own-lines : OwnLines formula ss (passes (length ss + allFirings) (length ss) ss (started formula linkCapacity blankMemory .mem) allFirings)
-  own-lines = record { results = P .more; ending = P .ending; out-is = P .out-is; few = fits; own = own-result; ends = P .ends }
+  own-lines = record { results = P .more; ending = P .ending; out-is = P .out-is; few = fits; own = own-result; ends = last-line (P .ends) }
 
   -- THE PROGRAM PRINTS EACH SET'S OWN VERDICT.
   pub program-own-lines : (out : List ℕ) × OwnLines formula ss out
@@ -256,3 +328,18 @@ module _ (formula file : List ℕ) (ok : verdictOf formula ≡ Passed) (small : 
       ∙ ap (λ (z : List ℕ). z ++ o .ending)
       (lines-own formula rounds (o .results) ss (o .few)
       (λ k l. o .own k l (λ j b. (rounds (getD ss j []), enough j (omega (arith, o .few)))) (rounds (getD ss k [])) (enough k (omega (arith, o .few))))))
+
+  -- ---- "It uses capacity 2 and 1,000,000 firings in all"
+
+  -- The runs' counts are no more than 1,000,000 together.
+  pub uses-at-most : firingsOf runs-made ≤ allFirings
+  uses-at-most = P .within
+
+  -- WHERE 36 IS PRINTED LAST, ALL FIRINGS ARE USED: the counts of the runs sum to 1,000,000, and "something can still fire after the lent firings".
+  pub unfinished-uses-all : program-own-lines .1 .ending ≡ refusalLine (numberOf Unfinished) 0 → UsesAll allFirings runs-made
+  unfolding program-own-lines P own-lines prints
+  unfinished-uses-all e = go (P .ends)
+    where
+      go : EndsBy formula linkCapacity blankMemory begins ss allFirings runs-made (P .more) (P .ending) → UsesAll allFirings runs-made
+      go (inl a) = absurd (omega (arith, ap length (sym e ∙ a .1), refusal-length (numberOf Unfinished) 0))
+      go (inr b) = b .1

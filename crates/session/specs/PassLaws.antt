@@ -8,7 +8,7 @@ use native.Mathlib.Omega.{arith}
 use borrow.Author.Tests.{eq-eqb, ne-eqb, eqb-true, eqb-false, ltb-true, ltb-false, lt-ltb, le-ltb}
 use lib.Dec.{eqb, ltb}
 use lib.ListN.{length, getD, take, drop, set, replicate, length-replicate, length-set, length-append}
-use lib.Seq.{getD-set-same, sets}
+use lib.Seq.{getD-set-same, sets, length-take-le, drop-at, drop-drop}
 use Rattle.value.specs.Operators.{pick}
 use Rattle.formula.specs.declared.Refusal.the-variants.{NoResult}
 use Rattle.formula.specs.Refusals.{numberOf}
@@ -18,7 +18,7 @@ use Rattle.valid.specs.Figures.{Figures, valid-figures}
 use Rattle.calls.specs.Calls.{Handed, Outcome, handed, answers, refusal, standing, sizeIn, resultReady, written, emptied, takenMemory, taken, pushed, ran}
 use Rattle.calls.specs.CallLaws.{Kept, standing-good, emptied-keeps, taken-refused, taken-none, taken-empty, taken-accepted}
 use Rattle.text.specs.Printed.{resultLine, refusalLine}
-use Rattle.text.specs.PrintLaws.{line-length, refusal-length, written-front}
+use Rattle.text.specs.PrintLaws.{line-length, refusal-length, written-part, written-front}
 use Rattle.session.specs.Passes.{feeding, fed, takenFrom, lineBy, Drained, drained, withLine, draining, drainedOf, Pass, passBy, passOf, partOf, remainingAfter, passes}
 
 -- ---- what a take says
@@ -126,6 +126,15 @@ module _ (m : List ℕ) where
             short = omega (arith, ap length (line-handed e), line-length (takenFrom m .answer .count) (takenFrom m .out), w);
             few = f .untaken;
           }
+
+-- ---- what lies behind the bytes to be printed
+
+pub behind-written : (l₀ l : List ℕ) (at n : ℕ) (v : List ℕ) → length v ≡ n → at + n ≤ length l → drop at l ≡ drop at l₀ → drop (at + n) (sets l at v) ≡ drop (at + n) l₀
+behind-written l₀ l at n v e h p =
+    let q : length (take at l ++ v) ≡ at + n = length-append (take at l) v ∙ rw (length-take-le at l (omega arith), e) refl in
+    ap (drop (at + n)) (written-part l at n v e h)
+    ∙ drop-at (take at l ++ v) (drop (at + n) l) (at + n) q
+    ∙ sym (drop-drop n at l) ∙ ap (drop n) p ∙ drop-drop n at l₀
 
 -- ---- a drain, take by take
 

@@ -25,6 +25,14 @@ feeding (s ∷ ss) m = pick (eqb (pushed m s .answer .refusal) 0) (feeding ss (p
 
 -- ---- "takes until refused"
 
+-- Sixteen fields and a line feed: the longest line.
+abbrev pub longestLine : ℕ
+longestLine = 177
+
+-- The program's room for what a repetition prints.
+abbrev pub outBytes : ℕ
+outBytes = 65536
+
 -- What a take answers, with room for one result set.
 unfoldable pub takenFrom : List ℕ → Handed
 takenFrom m = taken m (replicate 80 0)

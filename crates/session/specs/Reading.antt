@@ -9,7 +9,8 @@ use lib.Seq.{length-take-le}
 use Rattle.text.specs.declared.Seen.{Seen}
 use Rattle.text.specs.Scan.{unseen, scanned, seenOf}
 use Rattle.text.specs.ScanLaws.{scan-parts}
-use Rattle.session.specs.declared.run.Sheet.{Sheet}
+use Rattle.session.specs.declared.Sheet.{Sheet}
+use Rattle.session.specs.Output.{mostSheetBytes}
 use Rattle.session.specs.Opening.{Whole}
 
 -- What was kept after some bytes more.
@@ -43,7 +44,7 @@ short-sheet first n u x h e p =
       whole = record { seen-is = p ∙ ap (λ (w : Seen). scanned w (take n first)) e ∙ ap seenOf (sym (append-nil (take n first))); at-hand = inl refl };
     }
 
-pub long-sheet : (first : List ℕ) (n : ℕ) (u x y : Seen) → n ≤ length first → 6200 ≤ n → u ≡ unseen → x ≡ scanned u (take n first) → Continued x y
+pub long-sheet : (first : List ℕ) (n : ℕ) (u x y : Seen) → n ≤ length first → mostSheetBytes ≤ n → u ≡ unseen → x ≡ scanned u (take n first) → Continued x y
     → SheetRead first (record { length = n; seen = y })
 long-sheet first n u x y h k e p c =
     record {

@@ -9,7 +9,7 @@ use Rattle.calls.specs.declared.Answer.{Answer}
 use Rattle.calls.specs.Calls.{Outcome, outcome, ran}
 use Rattle.text.specs.Printed.{refusalLine}
 use Rattle.text.specs.PrintLaws.{refusal-length, written-front}
-use Rattle.session.specs.declared.passes.Stage.{Stage}
+use Rattle.session.specs.declared.Stage.{Stage}
 use Rattle.session.specs.Passes.{feeding, Drained, drainedOf, Pass, passBy, passOf, partOf, remainingAfter}
 use Rattle.session.specs.Waiting.{Waiting, FeedsTo, PassedTo, PassesTo}
 use Rattle.session.specs.PassLaws.{pass-is, part-plain, part-refused, remaining-plain, remaining-refused}

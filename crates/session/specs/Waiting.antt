@@ -5,13 +5,17 @@ use mathlib.Core.Path.{_≡_}
 use mathlib.Core.List.{List}
 use lib.ListN.{length, take, drop}
 use Rattle.text.specs.SetLines.{linesOf, sets, setsFrom}
-use Rattle.session.specs.declared.passes.Stage.{Stage}
+use Rattle.session.specs.declared.Stage.{Stage}
 use Rattle.session.specs.Passes.{feeding, Pass, passOf, partOf, remainingAfter}
 
 -- The lines of the file from `at` on are these sets.
 pub record Waiting (inputs : ℕ) (file : List ℕ) (at : ℕ) (rest : List (List ℕ)) : Type 0 where
   pub line : ℕ
   pub lines-are : setsFrom inputs line (linesOf (drop at file)) ≡ sets rest
+
+-- Every line from `at` on is a set.
+abbrev pub Waits : ℕ → List ℕ → ℕ → Type 0
+Waits inputs file at = (rest : List (List ℕ)) × Waiting inputs file at rest
 
 -- What a feed leaves, whatever sets wait.
 abbrev pub FeedsTo : ℕ → List ℕ → ℕ → List ℕ → ℕ → List ℕ → Type 0

@@ -1,0 +1,34 @@
+use borrow.Author.Needs.{needs}
+use Rattle.session_run.proofs.opening.refused.Statement.{statement}
+use Rattle.session_run.proofs.opening.refused.Tie as tie
+use Rattle.session_run.proofs.opening.refused.Reads as reads
+use Rattle.session_run.proofs.opening.refused.Lts as lts
+use Rattle.text_print.proofs.put_refusal.Reads as put-refusal-reads
+use native.Mathlib.Omega.{arith}
+use borrow.Author.Tests.{not-true, not-false}
+use Rattle.session.specs.OpeningLaws.{refusal-printed, refusal-behind}
+use Prim.Native.Nat.{ℕ, suc, _+_, _-_, _*_, _≤_, _<_}
+use mathlib.Core.Path.{_≡_, sym, _∙_, ap, refl}
+use mathlib.Core.List.{List, [], _∷_, _++_}
+use mathlib.Core.Bool.{Bool, true, false, not}
+use lib.ListN.{length, take, drop}
+use Rattle.formula.specs.declared.Refusal.the-variants.{Layout, Rows, Set, SetFile}
+use Rattle.formula.specs.Refusals.{numberOf}
+use Rattle.text.specs.Printed.{headLine, refusalLine}
+use Rattle.session.specs.Opening.{Refuses, Judges}
+use Rattle.session.specs.OpeningLaws.{refusal-printed, bad-few, count-few, judged-bad, judged-sets, opens-layout, opens-rows, opens-refused, inputs-few, opens-long, opens-judged, refusal-bounds, judged-bounds}
+
+-- src/opening.rt:27:5  { ⏎ text_print::put_refusal(out, 0, number, row);
+put-refusal-requires : tie.Need-put-refusal-requires
+put-refusal-requires c κs = search needs
+
+-- src/opening.rt:22:1  // A refusal is the whole output. ⏎ fn refused(number: u32, row: u32, end: usize, out: &mut [u8]) -> Opened
+same-length : tie.Need-same-length
+same-length c = search needs
+
+-- src/opening.rt:22:1  // A refusal is the whole output. ⏎ fn refused(number: u32, row: u32, end: usize, out: &mut [u8]) -> Opened
+returns : tie.Need-returns
+returns c = (refusal-printed (c .before .before .before .before .before .args .number) (c .before .before .before .before .before .args .row) (c .before .before .before .before .before .args .end) (c .before .before .before .before .before .args .out .now) (c .before .before .put-refusal .last .0) (c .before .before .before .before .before .pre) (c .before .before .put-refusal .ensures), refusal-behind (c .before .before .before .before .before .args .number) (c .before .before .before .before .before .args .row) (c .before .before .before .before .before .args .out .now) (c .before .before .put-refusal .last .0) (c .before .before .before .before .before .pre) (c .before .before .put-refusal .ensures))
+
+pub refused-spec : {M : Type 1} → statement M
+refused-spec = tie.close (tie.spec put-refusal-requires same-length returns)

@@ -1,0 +1,88 @@
+// The opening of the program (session/specs/Output): the sheet's tests, 13, 12, the machine started, and the first line.
+use formula::Refusal;
+use session::CAPACITY;
+use session::FIRINGS;
+use session::Opened;
+use session::SET_FILE;
+use session::Stage;
+use text::HEAD_LINE;
+use text::Lines;
+use text::REFUSAL_LINE;
+use text::SHEET;
+use text::Seen;
+ghost use mathlib.Core.Path.{_≡_};
+ghost use Prim.Native.Nat.{ℕ, _+_, _≤_, _<_};
+ghost use lib.ListN.{length, drop};
+ghost use Rattle.session.specs.Opening.{refusalBytes, headBytes, openedMemory, OpensTo, Refuses, Judges};
+ghost use Rattle.session.specs.Output.{linkCapacity, mostSetBytes};
+ghost use Rattle.session.specs.Passes.{outBytes};
+ghost use Rattle.layout.specs.Layout.{need, sizeOf};
+
+// A refusal is the whole output.
+fn refused(number: u32, row: u32, end: usize, out: &mut [u8]) -> Opened
+    requires { ⌜ refusalBytes ≤ length (now out) ⌝ }
+    ensures { λ r. ⌜ Refuses number row end r (now (out .exit)) ⌝ }
+    ensures { λ r. ⌜ drop (r .stage .printed) (now (out .exit)) ≡ drop (r .stage .printed) (now (out .entry)) ⌝ }
+{
+    text_print::put_refusal(out, 0, number, row);
+    let stage = Stage {
+        at: end,
+        remaining: 0,
+        firings: 0,
+        printed: REFUSAL_LINE,
+    };
+    Opened { inputs: 0, stage }
+}
+
+// `first` has the sheet's first bytes, up to 6,200; `seen` is what was kept of all of them. `sets` has the set file's first
+// bytes, up to 65,537.
+pub fn open(first: &[u8], seen: Seen, sets: &[u8], mem: &mut [u8], out: &mut [u8]) -> Opened
+    requires { ⌜ (need (sizeOf linkCapacity) ≤ length (now mem)) × (outBytes ≤ length (now out)) × (length (now sets) ≤ mostSetBytes + 1) ⌝ }
+    ensures { λ r. ⌜ OpensTo (now (first .entry)) seen (now (sets .entry)) r (now (mem .exit)) (now (out .exit)) ⌝ }
+    ensures { λ r. ⌜ (r .inputs ≤ 32) × (r .stage .at ≤ length (now (sets .entry))) × (r .stage .printed ≤ outBytes)
+        × (now (mem .exit) ≡ openedMemory (now (first .entry)) seen (now (mem .entry)))
+        × (drop (r .stage .printed) (now (out .exit)) ≡ drop (r .stage .printed) (now (out .entry))) ⌝ }
+{
+    let end = sets.len();
+    if !text_read::scan::seen_laid_out(seen) {
+        return refused(formula::refusal_number(Refusal::Layout), 0, end, out);
+    }
+    if SHEET < seen.length {
+        return refused(formula::refusal_number(Refusal::Rows), 0, end, out);
+    }
+    let a = start::start(first, CAPACITY, mem);
+    if a.refusal != 0 {
+        return refused(a.refusal, a.row, end, out);
+    }
+    if SET_FILE < end {
+        return refused(formula::refusal_number(Refusal::SetFile), 0, end, out);
+    }
+    judge(a.inputs as usize, a.results, sets, out)
+}
+
+// 12, or the first line and the loop to come.
+fn judge(inputs: usize, results: u32, sets: &[u8], out: &mut [u8]) -> Opened
+    requires { ⌜ (inputs ≤ 32) × (headBytes ≤ length (now out)) × (length (now sets) ≤ mostSetBytes) ⌝ }
+    ensures { λ r. ⌜ Judges inputs results (now (sets .entry)) r (now (out .exit)) ⌝ }
+    ensures { λ r. ⌜ drop (r .stage .printed) (now (out .exit)) ≡ drop (r .stage .printed) (now (out .entry)) ⌝ }
+{
+    match text_read::sets::count_sets(sets, inputs) {
+        Lines::Bad(line) => refused(
+            formula::refusal_number(Refusal::Set),
+            line as u32,
+            sets.len(),
+            out,
+        ),
+        Lines::Sets(n) => {
+            let count = n as u32;
+            text_print::put_head(out, inputs as u32, results, count);
+            let stage = Stage {
+                at: 0,
+                remaining: count,
+                firings: FIRINGS,
+                printed: HEAD_LINE,
+            };
+            Opened { inputs, stage }
+        }
+    }
+}
