@@ -1,7 +1,7 @@
-// The calls of the firmware: push, fire, run and take over byte memory (document 01, "Running" and
-// the refusals). The definitions are specs/Calls; each contract is an equation on the answer and on
-// every lent byte, and asks nothing of the caller. Values lie in five bytes each (value's
-// specs/Bytes).
+// Push, fire, run and take over byte memory (document 01, "Running" and the refusals), which the
+// firmware's entry points call. The definitions are specs/Calls; each contract is an equation on the
+// answer and on every lent byte, and asks nothing of the caller. Values lie in five bytes each
+// (value's specs/Bytes).
 use formula::Refusal;
 ghost use mathlib.Core.Path.{_≡_};
 ghost use Prim.Native.Nat.{ℕ, _+_, _*_, _≤_, _<_};
@@ -258,32 +258,4 @@ pub fn take(mem: &mut [u8], out: &mut [u8]) -> Answer
         refusal: stands,
         count: 0,
     }
-}
-
-#[no_mangle]
-pub extern "C" fn bench_push(mem: &mut [u8], set: &[u8]) -> Answer
-    ensures { λ a. ⌜ outcome a (now (mem .exit)) ≡ pushed (now (mem .entry)) (now (set .entry)) ⌝ }
-{
-    push(mem, set)
-}
-
-#[no_mangle]
-pub extern "C" fn bench_fire(mem: &mut [u8], operator: u32) -> Answer
-    ensures { λ a. ⌜ outcome a (now (mem .exit)) ≡ fired (now (mem .entry)) operator ⌝ }
-{
-    fire(mem, operator)
-}
-
-#[no_mangle]
-pub extern "C" fn bench_run(mem: &mut [u8], firings: u32) -> Answer
-    ensures { λ a. ⌜ outcome a (now (mem .exit)) ≡ ran (now (mem .entry)) firings ⌝ }
-{
-    run(mem, firings)
-}
-
-#[no_mangle]
-pub extern "C" fn bench_take(mem: &mut [u8], out: &mut [u8]) -> Answer
-    ensures { λ a. ⌜ handed a (now (mem .exit)) (now (out .exit)) ≡ taken (now (mem .entry)) (now (out .entry)) ⌝ }
-{
-    take(mem, out)
 }

@@ -1,7 +1,8 @@
 // Starting a machine for a formula sheet in lent memory: the sheet read, its graph made, the header
 // written and every link emptied (document 01, "Running": "Start takes a link capacity of 1 to 16";
 // refusals 11, 14, then 1 to 10). The definitions are specs/Start; the contracts are equations on the
-// answer and on every lent byte, and the firmware's entry point asks nothing of its caller.
+// answer and on every lent byte, and `start`, which the firmware's entry point calls, asks nothing of
+// its caller.
 use formula::Refusal;
 use formula::Verdict;
 use maker::make::Making;
@@ -186,11 +187,4 @@ pub fn start(sheet: &[u8], capacity: u32, mem: &mut [u8]) -> StartAnswer
         return refused(Refusal::Capacity, 0);
     }
     build(sheet, capacity as usize, mem)
-}
-
-#[no_mangle]
-pub extern "C" fn bench_start(sheet: &[u8], capacity: u32, mem: &mut [u8]) -> StartAnswer
-    ensures { λ a. ⌜ begun a (now (mem .exit)) ≡ started (now (sheet .entry)) capacity (now (mem .entry)) ⌝ }
-{
-    start(sheet, capacity, mem)
 }
