@@ -19,17 +19,17 @@ use Rattle.yields.specs.BodyWidths.{not-too-wide}
 use Rattle.graph.specs.Assembly.{upFrom, operatorsOf}
 use Rattle.graph.specs.Translation.{graphE, portOf, madeOf}
 use Rattle.wiring.specs.MadeGraph.{trigger-link}
-use Rattle.emit.specs.Environments.{Agrees}
-use Rattle.emit.specs.Masked.{listOf, Mask, list-is, list-length, namesIn}
-use Rattle.emit.specs.Counts.{operatorCount, operators-length}
-use Rattle.emit.specs.Laid.{Laid}
-use Rattle.emit.specs.Nodes.{Kids, Ready, freeIn}
-use Rattle.emit.specs.declared.joins.Emitted.{Emitted}
+use Rattle.maker_laid.specs.Environments.{Agrees}
+use Rattle.maker_laid.specs.Masked.{listOf, Mask, list-is, list-length, namesIn}
+use Rattle.maker_laid.specs.Counts.{operatorCount, operators-length}
+use Rattle.maker_laid.specs.Laid.{Laid}
+use Rattle.maker_laid.specs.Nodes.{Kids, Ready, freeIn}
+use Rattle.maker_joins.specs.declared.Emitted.{Emitted}
 use Rattle.maker.specs.Making.{Makeable, makingOf, makingIn, padded}
-use Rattle.maker.specs.Room.{Room}
-use Rattle.maker.specs.Parts.{Numbered}
-use Rattle.maker.specs.Rows.{Part}
-use Rattle.maker.proofs.Splits.{counted-E, long-of, fit-in}
+use Rattle.maker_parts.specs.Room.{Room}
+use Rattle.maker_parts.specs.Parts.{Numbered}
+use Rattle.maker_rows.specs.Rows.{Part}
+use Rattle.maker_rows.proofs.Splits.{counted-E, long-of, fit-in}
 
 -- ---- arrays filled from the front
 

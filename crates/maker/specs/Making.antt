@@ -11,9 +11,9 @@ use Rattle.formula.specs.Tree.{Exp, expOf}
 use Rattle.formula.specs.Admitted.{AdmittedE}
 use Rattle.graph.specs.Assembly.{upFrom}
 use Rattle.graph.specs.Translation.{Made, madeOf}
-use Rattle.emit.specs.Encode.{encoded, written}
-use Rattle.emit.specs.Nodes.{Read}
-use Rattle.maker.specs.declared.make.Making.{Making}
+use Rattle.maker_laid.specs.Encode.{encoded, written}
+use Rattle.maker_laid.specs.Nodes.{Read}
+use Rattle.maker.specs.declared.Making.{Making}
 
 -- a list of links in k places; those past the last link hold none
 abbrev pub padded : ℕ → List ℕ → List ℕ

@@ -5,8 +5,8 @@
 use fields::blank;
 use formula::Refusal;
 use formula::Verdict;
-use maker::make::Making;
-use maker::make::make;
+use maker::Making;
+use maker::make;
 use sheet::read::fill_tables;
 ghost use mathlib.Core.Path.{_≡_};
 ghost use Prim.Native.Nat.{ℕ, _+_, _*_, _≤_, _<_};
