@@ -6,7 +6,7 @@ use mathlib.Core.Path.{_≡_}
 use mathlib.Core.Bool.{false, cond}
 use mathlib.Core.List.{List, [], _∷_, _++_}
 use lib.ListN.{length, replicate}
-use Rattle.layout.specs.Layout.{noLink}
+use Rattle.layout.specs.Layout.{mostOperators, mostLinks, noLink}
 use Rattle.formula.specs.Tree.{Exp, expOf}
 use Rattle.formula.specs.Admitted.{AdmittedE}
 use Rattle.graph.specs.Assembly.{upFrom}
@@ -46,5 +46,5 @@ pub record Makeable (t : List ℕ) (n : ℕ) (masks widths : List ℕ) : Type 0 
   pub some : 1 ≤ n
   pub place : read .place n ≡ false
   pub admitted : AdmittedE (expOf t n)
-  pub few : length (madeOf (expOf t n) .operators) ≤ 1024
-  pub low : madeOf (expOf t n) .links ≤ 3105
+  pub few : length (madeOf (expOf t n) .operators) ≤ mostOperators
+  pub low : madeOf (expOf t n) .links ≤ mostLinks

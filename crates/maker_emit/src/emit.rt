@@ -9,6 +9,7 @@ use layout::store_operator;
 ghost use mathlib.Core.Path.{_≡_};
 ghost use Prim.Native.Nat.{ℕ, _+_, _*_, _≤_, _<_};
 ghost use lib.ListN.{length, take};
+ghost use Rattle.layout.specs.Layout.{mostOperators, linksAt, noLink};
 ghost use Rattle.graph.specs.Assembly.{copiesFor, chain, chainEnds, ring};
 ghost use Rattle.maker_laid.specs.Encode.{encoded, written};
 ghost use Rattle.maker_laid.specs.Emitted.{linkIn, rowRecords, rowOutputs};
@@ -23,7 +24,7 @@ pub fn share(
     first: [u16; 33],
     second: [u16; 33],
 )
-    requires { ⌜ Mask mask × (m + length (listOf mask) ≤ 1024) × (21760 ≤ length (now mem)) ⌝ }
+    requires { ⌜ Mask mask × (m + length (listOf mask) ≤ mostOperators) × (linksAt ≤ length (now mem)) ⌝ }
     ensures { λ _. ⌜ now (mem .exit) ≡ written (now (mem .entry)) m (encoded (copiesFor (listOf mask) (linkIn env) (linkIn first) (linkIn second))) ⌝ }
 {
     let mut rest = mask;
@@ -48,7 +49,7 @@ pub fn gate_row(
     b: [u16; 33],
     k: usize,
 ) -> [u16; 33]
-    requires { ⌜ (k ≤ 33) × (m + 2 * k ≤ 1025) × (n + 3 * k ≤ 65535) × (21760 ≤ length (now mem)) ⌝ }
+    requires { ⌜ (k ≤ 33) × (m + 2 * k ≤ 1 + mostOperators) × (n + 3 * k ≤ noLink) × (linksAt ≤ length (now mem)) ⌝ }
     ensures { λ r. ⌜ (now (mem .exit) ≡ written (now (mem .entry)) m (rowRecords kind control n a b 0 k)) × (take k r ≡ rowOutputs n k) ⌝ }
 {
     let mut outs = [0u16; 33];
@@ -76,7 +77,7 @@ pub fn gate_row(
 
 // A chain of copies from link `l` to k users, and the users' links.
 pub fn spread(mem: &mut [u8], m: usize, n: u16, l: u16, k: usize) -> [u16; 33]
-    requires { ⌜ (k ≤ 33) × (m + k ≤ 1025) × (n + 2 * k ≤ 65535) × (21760 ≤ length (now mem)) ⌝ }
+    requires { ⌜ (k ≤ 33) × (m + k ≤ 1 + mostOperators) × (n + 2 * k ≤ noLink) × (linksAt ≤ length (now mem)) ⌝ }
     ensures { λ r. ⌜ (now (mem .exit) ≡ written (now (mem .entry)) m (encoded (chain l n k))) × (take k r ≡ chainEnds l n k) ⌝ }
 {
     let mut ends = [0u16; 33];
@@ -113,7 +114,7 @@ pub fn ring_gates(
     own: [u16; 33],
     out: [u16; 33],
 )
-    requires { ⌜ Mask mask × (m + length (listOf mask) ≤ 1024) × (21760 ≤ length (now mem)) ⌝ }
+    requires { ⌜ Mask mask × (m + length (listOf mask) ≤ mostOperators) × (linksAt ≤ length (now mem)) ⌝ }
     ensures { λ _. ⌜ now (mem .exit) ≡ written (now (mem .entry)) m (encoded (ring (listOf mask) (namesIn ids) controls (linkIn iterated) (linkIn started) (linkIn own) (linkIn out))) ⌝ }
 {
     let mut rest = mask;

@@ -1,4 +1,4 @@
--- The turns of the loop that numbers the names of a mask (src/parts: numbered).
+-- The turns of the loop that numbers the names of a mask (src/lib: numbered).
 use Prim.Native.Nat.{ℕ, suc, _+_, _-_, _*_, _/_, _%_, _^_, _≤_, _<_}
 use mathlib.Core.Path.{_≡_, sym, ap, _∙_}
 use mathlib.Core.Bool.{Bool, true, false}

@@ -1,4 +1,4 @@
--- What the functions of src/parts write and give: one record a function, whose fields are what the laws of emit (Done, DoneIf, DoneFor) ask for.
+-- What the functions of src/lib write and give: one record a function, whose fields are what the laws of maker_laid (Done, DoneIf, DoneFor) ask for.
 -- Document 01, "The graph". Assumes nothing.
 use Prim.Native.Nat.{ℕ, zero, suc, _+_, _-_, _*_, _^_, _≤_, _<_}
 use mathlib.Core.Path.{_≡_, refl, sym, ap, ap₂, _∙_, subst}
@@ -9,7 +9,7 @@ use lib.Dec.{ltb}
 use native.Mathlib.Omega.{arith}
 use Rattle.value.specs.declared.Value.{Value}
 use Rattle.value.specs.Bytes.{wordOf}
-use Rattle.layout.specs.Layout.{noLink}
+use Rattle.layout.specs.Layout.{mostOperators, mostLinks, noLink}
 use Rattle.layout.specs.Record.{placed}
 use Rattle.layout.specs.declared.Operator.{Operator as Record}
 use Rattle.names.specs.Names.{Names, mask, sizeFrom}
@@ -34,7 +34,7 @@ use Rattle.maker_parts.specs.Room.{Room}
 
 -- A graph as the code has written it, by what the code gave.
 abbrev pub Gives : Graph → ℕ → ℕ → List ℕ → List ℕ → List ℕ → Emitted → Type 0
-Gives G n m e mem mem′ x = Done G n m e mem mem′ (x .outs) (x .count) (x .links) (x .operators)
+Gives G n m e mem mem′ x = Done G n m e mem mem′ (x .outs) (x .count) (x .next .link) (x .next .operator)
 
 -- ---- constants and operators
 
@@ -72,18 +72,18 @@ operator-encoded c n (suc (suc (suc k))) outs p q l = absurd (omega arith)
 
 -- An operator behind its operands x.
 pub record Applied (code : ℕ) (mem mem′ : List ℕ) (x y : Emitted) : Type 0 where
-  pub memory : mem′ ≡ placed mem (x .operators) (encode (gateOf (oper code) (take (x .count) (x .outs)) (x .links)))
+  pub memory : mem′ ≡ placed mem (x .next .operator) (encode (gateOf (oper code) (take (x .count) (x .outs)) (x .next .link)))
   pub count : y .count ≡ 1
-  pub link : getD (y .outs) 0 0 ≡ x .links
+  pub link : getD (y .outs) 0 0 ≡ x .next .link
   pub long : 1 ≤ length (y .outs)
-  pub links : y .links ≡ x .links + 1
-  pub operators : y .operators ≡ x .operators + 1
+  pub links : y .next .link ≡ x .next .link + 1
+  pub operators : y .next .operator ≡ x .next .operator + 1
 
 pub done-applied : (code : ℕ) (a : Graph) (n m : ℕ) (e mem mem₁ mem₂ : List ℕ) (x y : Emitted) → Gives a n m e mem mem₁ x → Applied code mem₁ mem₂ x y
     → Gives (gate (oper code) a) n m e mem mem₂ y
 unfolding gateOutputs
 done-applied code a n m e mem mem₁ mem₂ x y d p =
-    done-gate (oper code) a n m e mem mem₁ mem₂ (x .outs) (y .outs) (x .links) (x .operators) (x .count) (y .count) (y .links) (y .operators) d (p .memory) refl (p .count)
+    done-gate (oper code) a n m e mem mem₁ mem₂ (x .outs) (y .outs) (x .next .link) (x .next .operator) (x .count) (y .count) (y .next .link) (y .next .operator) d (p .memory) refl (p .count)
     (p .link) (p .long) (p .links) (p .operators)
 
 -- ---- an arm's gates
@@ -151,21 +151,21 @@ ArmHas ε side x = ArmLinks ε side (getD (x .outs) 0 0) (drop 1 (x .outs)) (x .
 abbrev pub JoinGives : Bool → ℕ → ℕ → ℕ → ℕ → List ℕ → List ℕ → Emitted → Emitted → Emitted → Type 0
 JoinGives false w test n m mem mem′ x y z =
     (z .count ≡ x .count)
-    × ((ε : Env) → ε 33 ≡ test → Reads ε 51 (x .count) (x .outs) → Reads ε 84 (x .count) (y .outs)
-    → Laid (mergeRow testName returnedName (x .count)) n m ε mem mem′ (take (z .count) (z .outs)) (z .links) (z .operators))
+    × ((ε : Env) → ε testName ≡ test → Reads ε (returnedName true) (x .count) (x .outs) → Reads ε (returnedName false) (x .count) (y .outs)
+    → Laid (mergeRow testName returnedName (x .count)) n m ε mem mem′ (take (z .count) (z .outs)) (z .next .link) (z .next .operator))
 JoinGives true w test n m mem mem′ x y z =
     (z .iterated ≡ cond (ltb 0 (x .iterated)) (x .iterated) (y .iterated)) × (z .count ≡ 1 + z .iterated + w)
-    × ((ε : Env) → ε 33 ≡ test → ArmHas ε true x → ArmHas ε false y → Laid (joinOf w x y) n m ε mem mem′ (take (z .count) (z .outs)) (z .links) (z .operators))
+    × ((ε : Env) → ε testName ≡ test → ArmHas ε true x → ArmHas ε false y → Laid (joinOf w x y) n m ε mem mem′ (take (z .count) (z .outs)) (z .next .link) (z .next .operator))
 
--- M gates on the results of an expression's if, as src/parts writes them
+-- M gates on the results of an expression's if, as src/lib writes them
 pub merge-gives : (x y z : Emitted) (test n m : ℕ) (mem mem′ outs : List ℕ) → x .count ≤ 16 → mem′ ≡ written mem m (rowRecords 16 test n (x .outs) (y .outs) 0 (x .count))
-    → take (x .count) outs ≡ rowOutputs n (x .count) → z .outs ≡ outs → z .count ≡ x .count → z .links ≡ n + (3 * x .count - 2) → z .operators ≡ m + (2 * x .count - 1)
+    → take (x .count) outs ≡ rowOutputs n (x .count) → z .outs ≡ outs → z .count ≡ x .count → z .next .link ≡ n + (3 * x .count - 2) → z .next .operator ≡ m + (2 * x .count - 1)
     → JoinGives false 0 test n m mem mem′ x y z
 merge-gives x y z test n m mem mem′ outs h hm ho eo ec el em = (
   ec,
   λ ε e p q.
-      let l = merge-laid 33 lone-test returnedName (omega arith) (λ k u v t. omega arith) (x .count) h n m ε mem (x .outs) (y .outs) p q in
-      let a : mem′ ≡ written mem m (rowRecords 16 (ε 33) n (x .outs) (y .outs) 0 (x .count)) =
+      let l = merge-laid testName lone-test returnedName (omega arith) (λ k u v t. omega arith) (x .count) h n m ε mem (x .outs) (y .outs) p q in
+      let a : mem′ ≡ written mem m (rowRecords 16 (ε testName) n (x .outs) (y .outs) 0 (x .count)) =
       hm ∙ ap (λ (c : ℕ). written mem m (rowRecords 16 c n (x .outs) (y .outs) 0 (x .count))) (sym e)
       in
       let b : take (z .count) (z .outs) ≡ rowOutputs n (x .count) = ap₂ (λ (c : ℕ) (os : List ℕ). take c os) ec eo ∙ ho in
@@ -197,7 +197,7 @@ same-join w x y a b o p i =
 
 pub body-needs : (w n m : ℕ) (x y : Emitted) (a b : Arm) → BodyArms w n m x y → ArmOf x a → ArmOf y b
     → ((1 ≤ w) × (w ≤ 16)) × ((a .i ≤ 16) × (b .i ≤ 16)) × (0 < a .i → 0 < b .i → a .i ≡ b .i) × (0 < a .r → a .r ≡ w) × (0 < b .r → b .r ≡ w)
-    × (m + operatorCount (joinGraph (ltb 0 (a .i)) (ltb 0 (b .i)) (ltb 0 (a .r)) (ltb 0 (b .r)) (a .i) (b .i) w) ≤ 1024) × (n ≤ 50000)
+    × (m + operatorCount (joinGraph (ltb 0 (a .i)) (ltb 0 (b .i)) (ltb 0 (a .r)) (ltb 0 (b .r)) (a .i) (b .i) w) ≤ mostOperators) × (n ≤ mostLinks)
 body-needs w n m x y a b h o p = (
   h .width,
   (rw (o .1) (h .narrow .0), rw (p .1) (h .narrow .1)),
@@ -205,19 +205,19 @@ body-needs w n m x y a b h o p = (
   rw (o .3) (h .returns),
   rw (p .3) (h .returns′),
   rw (same-join w x y a b o p) (h .room .0),
-  (let z : n + 3 * operatorCount (joinOf w x y) ≤ 3105 = h .room .1 in omega arith),
+  (let z : n + 3 * operatorCount (joinOf w x y) ≤ mostLinks = h .room .1 in omega arith),
 )
 
 pub body-gives : (w test n m : ℕ) (x y z : Emitted) (a b : Arm) (mem mem′ : List ℕ) → ArmOf x a → ArmOf y b → z .iterated ≡ cond (ltb 0 (a .i)) (a .i) (b .i)
     → z .count ≡ 1 + z .iterated + w
-    → ((ε : Env) → ε 33 ≡ test → ArmLinks ε true (a .iter) (a .iterated) (a .i) (a .returned) (a .r) → ArmLinks ε false (b .iter) (b .iterated) (b .i) (b .returned) (b .r)
-    → Laid (joinGraph (ltb 0 (a .i)) (ltb 0 (b .i)) (ltb 0 (a .r)) (ltb 0 (b .r)) (a .i) (b .i) w) n m ε mem mem′ (take (z .count) (z .outs)) (z .links) (z .operators))
+    → ((ε : Env) → ε testName ≡ test → ArmLinks ε true (a .iter) (a .iterated) (a .i) (a .returned) (a .r) → ArmLinks ε false (b .iter) (b .iterated) (b .i) (b .returned) (b .r)
+    → Laid (joinGraph (ltb 0 (a .i)) (ltb 0 (b .i)) (ltb 0 (a .r)) (ltb 0 (b .r)) (a .i) (b .i) w) n m ε mem mem′ (take (z .count) (z .outs)) (z .next .link) (z .next .operator))
     → JoinGives true w test n m mem mem′ x y z
 body-gives w test n m x y z a b mem mem′ o p ei ec l = (
   ei ∙ ap₂ (λ (i j : ℕ). cond (ltb 0 i) i j) (o .1) (p .1),
   ec,
   λ ε e hx hy.
-      subst (λ (G : Graph). Laid G n m ε mem mem′ (take (z .count) (z .outs)) (z .links) (z .operators)) (same-join w x y a b o p)
+      subst (λ (G : Graph). Laid G n m ε mem mem′ (take (z .count) (z .outs)) (z .next .link) (z .next .operator)) (same-join w x y a b o p)
       (l ε e (arm-has ε true x a o hx) (arm-has ε false y b p hy)),
 )
 
@@ -234,15 +234,15 @@ pub record Closed (k a b : ℕ) (e own inner mem mem′ : List ℕ) (x y z : Emi
   pub again : List ℕ
   pub iterated : List ℕ
   pub started : List ℕ
-  pub chained : middle ≡ written mem (y .operators) (encoded (chain (getD (y .outs) 0 0) (y .links) (length (listOf k))))
-  pub ends : take (length (listOf k)) controls ≡ chainEnds (getD (y .outs) 0 0) (y .links) (length (listOf k))
+  pub chained : middle ≡ written mem (y .next .operator) (encoded (chain (getD (y .outs) 0 0) (y .next .link) (length (listOf k))))
+  pub ends : take (length (listOf k)) controls ≡ chainEnds (getD (y .outs) 0 0) (y .next .link) (length (listOf k))
   pub taken : take b again ≡ take b (drop 1 (y .outs))
   pub iterated-is : iterated ≡ assigned (upFrom a b) again e
   pub started-is : started ≡ assigned (upFrom a b) (x .outs) e
   pub ringed : mem′
-      ≡ written middle (y .operators + (length (listOf k) - 1))
+      ≡ written middle (y .next .operator + (length (listOf k) - 1))
       (encoded (ring (listOf k) (namesIn (2 ^ a * (2 ^ b - 1))) controls (linkIn iterated) (linkIn started) (linkIn own) (linkIn inner)))
   pub count : z .count ≡ y .count - (1 + b)
   pub outs : take (z .count) (z .outs) ≡ take (z .count) (drop (1 + b) (y .outs))
-  pub links : z .links ≡ y .links + 2 * (length (listOf k) - 1)
-  pub operators : z .operators ≡ y .operators + (length (listOf k) - 1) + length (listOf k)
+  pub links : z .next .link ≡ y .next .link + 2 * (length (listOf k) - 1)
+  pub operators : z .next .operator ≡ y .next .operator + (length (listOf k) - 1) + length (listOf k)

@@ -6,6 +6,7 @@ use mathlib.Core.Bool.{true, false}
 use mathlib.Core.List.{List}
 use lib.ListN.{length}
 use native.Mathlib.Omega.{arith}
+use Rattle.layout.specs.Layout.{mostOperators, mostLinks}
 use Rattle.names.specs.Names.{common, without}
 use Rattle.graph.specs.Assembly.{Graph, wire, nothing, beside, bind, gate, loop, Gate, const, oper, T, F, M, E, IC, free, memberOf, total, linksOf, sharedLinks, gateOutputs}
 use Rattle.wiring.specs.Counts.{countG}
@@ -15,7 +16,7 @@ use Rattle.maker_laid.specs.Done.{Done, Forked, done-links, done-operators}
 
 -- From link n and operator m on there is room for q operators.
 abbrev pub Room : ℕ → ℕ → ℕ → Type 0
-Room n m q = (m + q ≤ 1024) × (n + 3 * q ≤ 3105)
+Room n m q = (m + q ≤ mostOperators) × (n + 3 * q ≤ mostLinks)
 
 pub room-less : (n m p q : ℕ) → p ≤ q → Room n m q → Room n m p
 room-less n m p q h r = (omega (arith, r .0), omega (arith, r .1))

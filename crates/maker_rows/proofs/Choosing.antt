@@ -1,4 +1,4 @@
--- What the if of src/rows needs and gives, in both places: the copies for the arms, both arms behind their gates, and the joins (emit/specs/DoneIf).
+-- What the if of src/lib needs and gives, in both places: the copies for the arms, both arms behind their gates, and the joins (emit/specs/DoneIf).
 -- Assumes of a row what emit/specs/Nodes says of it.
 use Prim.Native.Nat.{ℕ, _+_, _-_, _*_, _≤_, _<_}
 use mathlib.Core.Path.{_≡_, sym, ap, _∙_, subst}
@@ -268,27 +268,27 @@ module _ (t masks widths : List ℕ) (p : Bool) (w r a b c : ℕ) (Y : Ready t m
   pub if-part : (n m : ℕ) (en mem mem₁ mem₂ mem₃ mem₄ mem₅ mem₆ mem₇ mem₈ first second left right : List ℕ) (n₁ m₁ n₃ m₃ : ℕ) (x y z v : Emitted) → length en ≡ 33 → length second ≡ 33
       → Room n m (operatorCount (graphIn p w t r))
       → Forked (bitAnd (getD masks (a - 1) 0) (bitOr (getD masks (b - 1) 0) (getD masks (c - 1) 0))) n m en mem mem₁ first second n₁ m₁ → Part false 0 t a n₁ m₁ first mem₁ mem₂ x
-      → Forked (bitAnd (getD masks (b - 1) 0) (getD masks (c - 1) 0)) (x .links) (x .operators) second mem₂ mem₃ left right n₃ m₃
+      → Forked (bitAnd (getD masks (b - 1) 0) (getD masks (c - 1) 0)) (x .next .link) (x .next .operator) second mem₂ mem₃ left right n₃ m₃
       → mem₄ ≡ placed mem₃ m₃ (copyRecord (getD (x .outs) 0 0) n₃ (n₃ + 1)) → Armed true p w t masks b n₃ (n₃ + 2) (m₃ + 1) left mem₄ mem₅ y
-      → mem₆ ≡ placed mem₅ (y .operators) (copyRecord (n₃ + 1) (y .links) (y .links + 1))
-      → Armed false p w t masks c (y .links) (y .links + 2) (y .operators + 1) right mem₆ mem₇ z → JoinGives p w (y .links + 1) (z .links) (z .operators) mem₇ mem₈ y z v
+      → mem₆ ≡ placed mem₅ (y .next .operator) (copyRecord (n₃ + 1) (y .next .link) (y .next .link + 1))
+      → Armed false p w t masks c (y .next .link) (y .next .link + 2) (y .next .operator + 1) right mem₆ mem₇ z → JoinGives p w (y .next .link + 1) (z .next .link) (z .next .operator) mem₇ mem₈ y z v
       → Part p w t r n m en mem mem₈ v
   if-part n m en mem mem₁ mem₂ mem₃ mem₄ mem₅ mem₆ mem₇ mem₈ first second left right n₁ m₁ n₃ m₃ x y z v len len₂ room F dx F₂ h₄ ay h₆ az g =
       record {
         done =
-            done-as (choiceOf t masks widths p w a b c) (graphIn p w t r) n m en mem mem₈ (v .outs) (v .count) (v .links) (v .operators) (at-if t masks widths p w r Y a b c e .0)
+            done-as (choiceOf t masks widths p w a b c) (graphIn p w t r) n m en mem mem₈ (v .outs) (v .count) (v .next .link) (v .next .operator) (at-if t masks widths p w r Y a b c e .0)
             (done-choice (graphE (expOf t a)) (sideNames t masks widths p true w b c) (freeIn p t b) (graphIn p w t b) (sideNames t masks widths p false w b c) (freeIn p t c) (graphIn p w t c)
             (joinOf t masks widths p w b c) (P t masks widths p w r a b c Y e) (different-first t masks widths p w r a b c Y e p fits) (different-second t masks widths p w r a b c Y e p fits)
             (sides-apart t masks widths p w r a b c Y e p fits) (bitAnd (getD masks (a - 1) 0) (bitOr (getD masks (b - 1) 0) (getD masks (c - 1) 0)))
             (bitAnd (getD masks (b - 1) 0) (getD masks (c - 1) 0)) n m en mem mem₁ mem₂ mem₃ mem₄ mem₅ mem₆ mem₇ mem₈ first second left right (x .outs) (y .outs) (z .outs) (v .outs)
-            n₁ m₁ (x .links) (x .operators) n₃ m₃ (y .links) (y .operators) (z .links) (z .operators) (v .links) (v .operators) (y .count) (z .count) (v .count) len len₂
+            n₁ m₁ (x .next .link) (x .next .operator) n₃ m₃ (y .next .link) (y .next .operator) (z .next .link) (z .next .operator) (v .next .link) (v .next .operator) (y .count) (z .count) (v .count) len len₂
             (test-small t masks widths p w r a b c Y e) (test-is t masks widths p w r a b c Y e) (arms-is t masks widths p w r a b c Y e) F
-            (subst (λ (k : ℕ). Done (graphE (expOf t a)) n₁ m₁ first mem₁ mem₂ (x .outs) k (x .links) (x .operators)) one (dx .done))
-            (let l : x .count ≤ length (x .outs) = long-of (graphE (expOf t a)) n₁ m₁ first mem₁ mem₂ (x .outs) (x .count) (x .links) (x .operators) (fit-in false 0 t a (if-test t masks widths p w r a b c Y e .ready .fits)) (dx .done) in omega (arith, one))
+            (subst (λ (k : ℕ). Done (graphE (expOf t a)) n₁ m₁ first mem₁ mem₂ (x .outs) k (x .next .link) (x .next .operator)) one (dx .done))
+            (let l : x .count ≤ length (x .outs) = long-of (graphE (expOf t a)) n₁ m₁ first mem₁ mem₂ (x .outs) (x .count) (x .next .link) (x .next .operator) (fit-in false 0 t a (if-test t masks widths p w r a b c Y e .ready .fits)) (dx .done) in omega (arith, one))
             F₂ h₄ (ay .armed) (names-first t masks widths w a b c p fits y cy) (ay .long) h₆ (az .armed) (names-second t masks widths w a b c p fits z cz) (az .long)
-            (join-laid t masks widths w a b c p fits (y .links + 1) (z .links) (z .operators) mem₇ mem₈ y z v cy cz g)
-            (join-count t masks widths w a b c p fits (y .links + 1) (z .links) (z .operators) mem₇ mem₈ y z v cy cz g));
-        iterates = λ q. join-iterates t masks widths w a b c p fits (y .links + 1) (z .links) (z .operators) mem₇ mem₈ y z v cy cz g q ∙ sym if-iterated;
+            (join-laid t masks widths w a b c p fits (y .next .link + 1) (z .next .link) (z .next .operator) mem₇ mem₈ y z v cy cz g)
+            (join-count t masks widths w a b c p fits (y .next .link + 1) (z .next .link) (z .next .operator) mem₇ mem₈ y z v cy cz g));
+        iterates = λ q. join-iterates t masks widths w a b c p fits (y .next .link + 1) (z .next .link) (z .next .operator) mem₇ mem₈ y z v cy cz g q ∙ sym if-iterated;
       }
     where
       fits : ArmsFit t masks widths p w a b c
@@ -301,4 +301,4 @@ module _ (t masks widths : List ℕ) (p : Bool) (w r a b c : ℕ) (Y : Ready t m
       cy = first-counts n₃ (n₃ + 2) (m₃ + 1) left mem₄ mem₅ y ay
 
       cz : ArmCounts p w t c z
-      cz = second-counts (y .links) (y .links + 2) (y .operators + 1) right mem₆ mem₇ z az
+      cz = second-counts (y .next .link) (y .next .link + 2) (y .next .operator + 1) right mem₆ mem₇ z az

@@ -1,4 +1,4 @@
--- The joins of an if, from what src/parts wrote and gave for both arms, in both places (emit/specs/Joined; graph/specs/Translation: mergeRow, joined).
+-- The joins of an if, from what maker_parts wrote and gave for both arms, in both places (maker_laid/specs/Joined; graph/specs/Translation: mergeRow, joined).
 -- Assumes of the arms what an admitted formula gives.
 use Prim.Native.Nat.{ℕ, zero, suc, _+_, _-_, _*_, _≤_, _<_}
 use mathlib.Core.Path.{_≡_, refl, sym, ap, ap₂, _∙_, subst}
@@ -194,13 +194,13 @@ module _ (t masks widths : List ℕ) (w a b c : ℕ) where
   -- the joins laid out for the names of both arms
   pub join-laid : (q : Bool) → Fits q → (test n m : ℕ) (mem mem′ : List ℕ) (x y z : Emitted) → ArmCounts q w t b x → ArmCounts q w t c y → JoinGives q w test n m mem mem′ x y z
       → (ε : Env) → ε testName ≡ test → NamesHave ε (sideNames t masks widths q true w b c) (x .outs) → NamesHave ε (sideNames t masks widths q false w b c) (y .outs)
-      → Laid (joinOf t masks widths q w b c) n m ε mem mem′ (take (z .count) (z .outs)) (z .links) (z .operators)
+      → Laid (joinOf t masks widths q w b c) n m ε mem mem′ (take (z .count) (z .outs)) (z .next .link) (z .next .operator)
   join-laid false h test n m mem mem′ x y z u v g ε et hx hy =
-      subst (λ (k : ℕ). Laid (mergeRow testName returnedName k) n m ε mem mem′ (take (z .count) (z .outs)) (z .links) (z .operators)) u
+      subst (λ (k : ℕ). Laid (mergeRow testName returnedName k) n m ε mem mem′ (take (z .count) (z .outs)) (z .next .link) (z .next .operator)) u
       (g .1 ε et (subst (λ (k : ℕ). Reads ε 51 k (x .outs)) (sym u) (reads-up ε 51 (width (expOf t b)) (x .outs) hx))
       (subst (λ (k : ℕ). Reads ε 84 k (y .outs)) (sym u) (reads-up ε 84 (width (expOf t b)) (y .outs) hy)))
   join-laid true h test n m mem mem′ x y z u v g ε et hx hy =
-      subst (λ (G : Graph). Laid G n m ε mem mem′ (take (z .count) (z .outs)) (z .links) (z .operators)) (same-joins h x y u v)
+      subst (λ (G : Graph). Laid G n m ε mem mem′ (take (z .count) (z .outs)) (z .next .link) (z .next .operator)) (same-joins h x y u v)
       (g .2 ε et
       (record {
         iter? = arm-iter ε true w (bodyOf t b) (x .outs) hx;

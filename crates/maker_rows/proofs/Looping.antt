@@ -1,4 +1,4 @@
--- What the loop of src/rows needs and gives: its start, its body on links of its own, and the ring (emit/specs/DoneFor). Assumes of a row what
+-- What the loop of src/lib needs and gives: its start, its body on links of its own, and the ring (maker_laid/specs/DoneFor). Assumes of a row what
 -- emit/specs/Nodes says of it.
 use Prim.Native.Nat.{ℕ, suc, _+_, _-_, _*_, _^_, _≤_, _<_}
 use mathlib.Core.Path.{_≡_, refl, sym, ap, _∙_, subst}
@@ -118,34 +118,34 @@ module _ (t masks widths : List ℕ) (r a b c d : ℕ) (Y : Ready t masks widths
         ∙ ap (λ (z : ℕ). suc (z + returnedOutputs W (bodyOf t d))) (for-fits a b (expOf t c) (bodyOf t d) (admitted .0 .0) .1)
 
     -- what closing the loop needs
-    pub room-ring : Room n m behindStart → ((1 + b ≤ y .count) × (y .count ≤ 33)) × (y .operators + (2 * length (listOf Md) - 1) ≤ 1024) × (y .links ≤ 50000)
+    pub room-ring : Room n m behindStart → ((1 + b ≤ y .count) × (y .count ≤ 33)) × (y .next .operator + (2 * length (listOf Md) - 1) ≤ 1024) × (y .next .link ≤ 3105)
     room-ring room =
-        numbers (operatorCount B) (total (free B)) (linksOf B) n m k (y .links) (y .operators) (y .count) (returnedOutputs W (bodyOf t d)) (length (listOf Md)) (ek ∙ body-names) body-names body-some
-        room (done-links B (n + k) m en mem mem′ (y .outs) (y .count) (y .links) (y .operators) body-done)
-        (done-operators B (n + k) m en mem mem′ (y .outs) (y .count) (y .links) (y .operators) body-done) (three-links B) body-count
+        numbers (operatorCount B) (total (free B)) (linksOf B) n m k (y .next .link) (y .next .operator) (y .count) (returnedOutputs W (bodyOf t d)) (length (listOf Md)) (ek ∙ body-names) body-names body-some
+        room (done-links B (n + k) m en mem mem′ (y .outs) (y .count) (y .next .link) (y .next .operator) body-done)
+        (done-operators B (n + k) m en mem mem′ (y .outs) (y .count) (y .next .link) (y .next .operator) body-done) (three-links B) body-count
         (subst (λ (z : ℕ). z ≤ 16) (for-fits a b (expOf t c) (bodyOf t d) (admitted .0 .0) .1) (iterated-16 (bodyOf t d) (admitted .3)))
         (omega (arith, returned-outputs-le W (bodyOf t d), body-child .ready .fits .1 .at-most))
       where
         numbers : (q s L n m k l o c R len : ℕ) → k ≡ s → len ≡ s → 1 ≤ len → Room n m (q + ((s - 1) + s)) → l ≡ n + k + L → o ≡ m + q → L ≤ 3 * q → c ≡ suc (b + R) → b ≤ 16 → R ≤ 16
-            → ((1 + b ≤ c) × (c ≤ 33)) × (o + (2 * len - 1) ≤ 1024) × (l ≤ 50000)
+            → ((1 + b ≤ c) × (c ≤ 33)) × (o + (2 * len - 1) ≤ 1024) × (l ≤ 3105)
         numbers q s L n m k l o c R len ek el h room f g i j u v =
             ((omega arith, omega arith), omega (arith, room .0), omega (arith, room .1))
 
     pub for-part : (n₀ m₀ n₁ m₁ ids : ℕ) (e₀ mem₀ mem₁ mem₅ first second : List ℕ) (x z : Emitted) → length e₀ ≡ 33 → Room n₀ m₀ (operatorCount (graphIn false 0 t r))
-        → Forked both n₀ m₀ e₀ mem₀ mem₁ first second n₁ m₁ → Part false 0 t c n₁ m₁ first mem₁ mem x → n ≡ x .links → m ≡ x .operators → Numbered Md n en
+        → Forked both n₀ m₀ e₀ mem₀ mem₁ first second n₁ m₁ → Part false 0 t c n₁ m₁ first mem₁ mem x → n ≡ x .next .link → m ≡ x .next .operator → Numbered Md n en
         → Closed Md a b e₀ second en mem′ mem₅ x y z → Part false 0 t r n₀ m₀ e₀ mem₀ mem₅ z
     for-part n₀ m₀ n₁ m₁ ids e₀ mem₀ mem₁ mem₅ first second x z len room F dx en′ em hn h =
         record {
           done =
-              done-as (loop (upFrom a b) A B) (graphIn false 0 t r) n₀ m₀ e₀ mem₀ mem₅ (z .outs) (z .count) (z .links) (z .operators) (at-for t masks widths 0 r Y a b c d e .0)
+              done-as (loop (upFrom a b) A B) (graphIn false 0 t r) n₀ m₀ e₀ mem₀ mem₅ (z .outs) (z .count) (z .next .link) (z .next .operator) (at-for t masks widths 0 r Y a b c d e .0)
               (done-loop a b A B both Md (2 ^ a * (2 ^ b - 1)) n₀ m₀ e₀ mem₀ mem₁ mem mem′ (h .middle) mem₅ first second en (x .outs) (y .outs) (h .controls) (h .again) (h .iterated) (h .started)
-              (z .outs) n₁ m₁ n m (y .links) (y .operators) (x .count) (y .count) (z .count) (z .links) (y .operators + (length (listOf Md) - 1)) (z .operators) len for-low
+              (z .outs) n₁ m₁ n m (y .next .link) (y .next .operator) (x .count) (y .count) (z .count) (z .next .link) (y .next .operator + (length (listOf Md) - 1)) (z .next .operator) len for-low
               (for-split n₀ m₀ room .small) (for-split n₀ m₀ room .is) F
               (subst (λ (i : ℕ). Done A n₁ m₁ first mem₁ mem (x .outs) (x .count) i m) (sym en′)
-              (subst (λ (i : ℕ). Done A n₁ m₁ first mem₁ mem (x .outs) (x .count) (x .links) i) (sym em) (dx .done)))
+              (subst (λ (i : ℕ). Done A n₁ m₁ first mem₁ mem (x .outs) (x .count) (x .next .link) i) (sym em) (dx .done)))
               (counted-E 0 t c n₁ m₁ first mem₁ mem x (for-first .ready .fits) (dx .done) ∙ for-fits a b (expOf t c) (bodyOf t d) (admitted .0 .0) .0)
               body-small body-is (sym (mask-range a b (omega (arith, for-low)))) hn
-              (subst (λ (i : ℕ). Done B (n + i) m en mem mem′ (y .outs) (y .count) (y .links) (y .operators)) ek body-done) (omega (arith, body-count)) (h .chained) (h .ends) refl (h .taken)
+              (subst (λ (i : ℕ). Done B (n + i) m en mem mem′ (y .outs) (y .count) (y .next .link) (y .next .operator)) ek body-done) (omega (arith, body-count)) (h .chained) (h .ends) refl (h .taken)
               (h .iterated-is) (h .started-is) (h .ringed) (h .count) (h .outs) (h .links) (h .operators));
           iterates = λ q. absurd (false≢true q);
         }

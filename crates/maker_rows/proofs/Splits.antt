@@ -50,9 +50,9 @@ module _ (A : Graph) (h : Names) (k rest n m : ℕ) (S : Split A h k rest n m) w
       room-less n₁ m₁ (operatorCount A) (operatorCount A + rest) (omega arith) (room-forked k n m e mem mem₁ first second n₁ m₁ (operatorCount A + rest) F (S .room))
 
   pub split-second : (e mem mem₁ mem₂ first second : List ℕ) (n₁ m₁ : ℕ) (x : Emitted) → Forked k n m e mem mem₁ first second n₁ m₁ → Gives A n₁ m₁ first mem₁ mem₂ x
-      → Room (x .links) (x .operators) rest
+      → Room (x .next .link) (x .next .operator) rest
   split-second e mem mem₁ mem₂ first second n₁ m₁ x F d =
-      room-behind A n₁ m₁ first mem₁ mem₂ (x .outs) (x .count) (x .links) (x .operators) rest d
+      room-behind A n₁ m₁ first mem₁ mem₂ (x .outs) (x .count) (x .next .link) (x .next .operator) rest d
       (room-forked k n m e mem mem₁ first second n₁ m₁ (operatorCount A + rest) F (S .room))
 
 -- ---- the names that two parts share
@@ -203,14 +203,14 @@ module _ (t masks widths : List ℕ) (p : Bool) (w k : ℕ) (C : Child t masks w
   arm-part side v control n m n₁ m₁ e mem mem₁ mem₂ inner x len ev g d =
       record {
         armed =
-            arm-done side (freeIn p t k) (graphIn p w t k) (small-in p w t k (C .ready .fits)) (has-in p w t k (C .ready .fits)) v control n m e mem mem₁ mem₂ inner (x .outs) n₁ m₁ (x .links) (x .operators)
+            arm-done side (freeIn p t k) (graphIn p w t k) (small-in p w t k (C .ready .fits)) (has-in p w t k (C .ready .fits)) v control n m e mem mem₁ mem₂ inner (x .outs) n₁ m₁ (x .next .link) (x .next .operator)
             (x .count) len (ev ∙ C .masked) (mask-short v (record { set = freeIn p t k; is = ev ∙ C .masked })) g (d .done);
         iterates = d .iterates;
-        long = long-of (graphIn p w t k) n₁ m₁ inner mem₁ mem₂ (x .outs) (x .count) (x .links) (x .operators) (fit-in p w t k (C .ready .fits)) (d .done);
-        operators = done-operators (graphIn p w t k) n₁ m₁ inner mem₁ mem₂ (x .outs) (x .count) (x .links) (x .operators) (d .done) ∙ sums m m₁ (length (listOf M)) (operatorCount (graphIn p w t k)) (g .operators ∙ ap (λ (z : ℕ). m + (2 * length (listOf z) - 1)) ev);
+        long = long-of (graphIn p w t k) n₁ m₁ inner mem₁ mem₂ (x .outs) (x .count) (x .next .link) (x .next .operator) (fit-in p w t k (C .ready .fits)) (d .done);
+        operators = done-operators (graphIn p w t k) n₁ m₁ inner mem₁ mem₂ (x .outs) (x .count) (x .next .link) (x .next .operator) (d .done) ∙ sums m m₁ (length (listOf M)) (operatorCount (graphIn p w t k)) (g .operators ∙ ap (λ (z : ℕ). m + (2 * length (listOf z) - 1)) ev);
         links =
-            few n n₁ (x .links) (length (listOf M)) (linksOf (graphIn p w t k)) (operatorCount (graphIn p w t k)) arm-some (g .links ∙ ap (λ (z : ℕ). n + (3 * length (listOf z) - 2)) ev)
-            (done-links (graphIn p w t k) n₁ m₁ inner mem₁ mem₂ (x .outs) (x .count) (x .links) (x .operators) (d .done)) (three-links (graphIn p w t k));
+            few n n₁ (x .next .link) (length (listOf M)) (linksOf (graphIn p w t k)) (operatorCount (graphIn p w t k)) arm-some (g .links ∙ ap (λ (z : ℕ). n + (3 * length (listOf z) - 2)) ev)
+            (done-links (graphIn p w t k) n₁ m₁ inner mem₁ mem₂ (x .outs) (x .count) (x .next .link) (x .next .operator) (d .done)) (three-links (graphIn p w t k));
       }
     where
       sums : (m m₁ l q : ℕ) → m₁ ≡ m + (2 * l - 1) → m₁ + q ≡ m + (2 * l - 1 + q)

@@ -1,4 +1,4 @@
--- What each function of src/rows needs and gives, by the kind of its row: pairs, lets, bodies that end, and rows of one operator. Assumes of a row
+-- What each function of src/lib needs and gives, by the kind of its row: pairs, lets, bodies that end, and rows of one operator. Assumes of a row
 -- what emit/specs/Nodes says of it.
 use Prim.Native.Nat.{ℕ, _+_, _-_, _*_, _^_, _≤_, _<_}
 use mathlib.Core.Path.{_≡_, refl, sym, ap, _∙_, subst}
@@ -17,6 +17,7 @@ use Rattle.names.proofs.Sets.{mask-one, known-union, known-minus, mask-range}
 use Rattle.formula.specs.declared.Shape.{Shape}
 use Rattle.formula.specs.declared.Shape.the-variants.{Identifier, Whole, Truth, Pair, Operator, Let, If, For, Iter}
 use Rattle.formula.specs.Sheet.{shapeAt, namedIn}
+use Rattle.formula.specs.Ways.{wayOf}
 use Rattle.formula.specs.Tree.{Exp, pair, expOf, bodyOf, expNode, bodyNode}
 use Rattle.formula.specs.TreeLaws.{AllBetween, exp-as, body-as, between-as}
 use Rattle.formula.specs.Widths.{width, iterated}
@@ -35,12 +36,12 @@ use Rattle.maker_laid.specs.Counts.{operatorCount}
 use Rattle.maker_laid.specs.Nodes.{graphIn, freeIn, Ready, Child, Ends, at-identifier, at-whole, at-truth, at-pair, at-operator, at-let, at-iteration, at-end, at-for}
 use Rattle.maker_laid.specs.Done.{Done, Forked, done-as, done-beside, done-let}
 use Rattle.maker_joins.specs.declared.Emitted.{Emitted}
-use Rattle.maker_rows.specs.declared.Way.{Way}
-use Rattle.maker_rows.specs.declared.Way.the-variants.{Let as let-way, If as if-way, Iter as iter-way, End}
+use Rattle.formula.specs.declared.Way.{Way}
+use Rattle.formula.specs.declared.Way.the-variants.{Let as let-way, If as if-way, Iter as iter-way, End}
 use Rattle.maker_parts.specs.Room.{Room, room-of, room-less, room-behind}
 use Rattle.maker_parts.specs.Ranges.{list-range}
 use Rattle.maker_parts.specs.Parts.{Gives, Applied, done-applied}
-use Rattle.maker_rows.specs.Rows.{Part, Ended, endGraph, wayOf}
+use Rattle.maker_rows.specs.Rows.{Part, Ended, endGraph}
 use Rattle.maker_rows.proofs.Splits.{Split, split-beside, split-bind, child-has, child-small, counted-E, fit-in, long-of}
 
 -- ---- the row behind a way
@@ -106,14 +107,14 @@ module _ (t masks widths : List ℕ) where
     pub pair-part : (n m : ℕ) (en mem mem₁ mem₂ mem₃ first second outs : List ℕ) (n₁ m₁ : ℕ) (x y : Emitted) → length en ≡ 33
         → Room n m (operatorCount (graphIn false 0 t r))
         → Forked (bitAnd (getD masks (a - 1) 0) (getD masks (b - 1) 0)) n m en mem mem₁ first second n₁ m₁
-        → Part false 0 t a n₁ m₁ first mem₁ mem₂ x → Part false 0 t b (x .links) (x .operators) second mem₂ mem₃ y
+        → Part false 0 t a n₁ m₁ first mem₁ mem₂ x → Part false 0 t b (x .next .link) (x .next .operator) second mem₂ mem₃ y
         → take (x .count + y .count) outs ≡ take (x .count) (x .outs) ++ take (y .count) (y .outs)
-        → Done (graphIn false 0 t r) n m en mem mem₃ outs (x .count + y .count) (y .links) (y .operators)
+        → Done (graphIn false 0 t r) n m en mem mem₃ outs (x .count + y .count) (y .next .link) (y .next .operator)
     pair-part n m en mem mem₁ mem₂ mem₃ first second outs n₁ m₁ x y len room F dx dy eo =
-        done-as (beside (graphE (expOf t a)) (graphE (expOf t b))) (graphIn false 0 t r) n m en mem mem₃ outs (x .count + y .count) (y .links) (y .operators)
+        done-as (beside (graphE (expOf t a)) (graphE (expOf t b))) (graphIn false 0 t r) n m en mem mem₃ outs (x .count + y .count) (y .next .link) (y .next .operator)
         (at-pair t masks widths 0 r Y a b e .0)
         (done-beside (graphE (expOf t a)) (graphE (expOf t b)) (bitAnd (getD masks (a - 1) 0) (getD masks (b - 1) 0)) n m en mem mem₁ mem₂ mem₃ first second (x .outs) (y .outs) outs
-        n₁ m₁ (x .links) (x .operators) (y .links) (y .operators) (x .count) (y .count) (x .count + y .count) len (pair-split n m room .small) (pair-split n m room .is) F (dx .done) (dy .done)
+        n₁ m₁ (x .next .link) (x .next .operator) (y .next .link) (y .next .operator) (x .count) (y .count) (x .count + y .count) len (pair-split n m room .small) (pair-split n m room .is) F (dx .done) (dy .done)
         refl eo)
 
   -- ---- lets
@@ -146,14 +147,14 @@ module _ (t masks widths : List ℕ) where
 
     pub let-part : (n m ids : ℕ) (en mem mem₁ mem₂ mem₃ first second inner : List ℕ) (n₁ m₁ : ℕ) (x y : Emitted) → length en ≡ 33 → length second ≡ 33
         → Room n m (operatorCount (graphIn p w t r)) → Forked letMask n m en mem mem₁ first second n₁ m₁ → Part false 0 t c n₁ m₁ first mem₁ mem₂ x
-        → ids ≡ 2 ^ a * (2 ^ b - 1) → inner ≡ assigned (listOf ids) (x .outs) second → Part p w t d (x .links) (x .operators) inner mem₂ mem₃ y
+        → ids ≡ 2 ^ a * (2 ^ b - 1) → inner ≡ assigned (listOf ids) (x .outs) second → Part p w t d (x .next .link) (x .next .operator) inner mem₂ mem₃ y
         → Part p w t r n m en mem mem₃ y
     let-part n m ids en mem mem₁ mem₂ mem₃ first second inner n₁ m₁ x y len len₂ room F dx ei eg dy =
         record {
           done =
-              done-as (bind (upFrom a b) (graphE (expOf t c)) (graphIn p w t d)) (graphIn p w t r) n m en mem mem₃ (y .outs) (y .count) (y .links) (y .operators)
+              done-as (bind (upFrom a b) (graphE (expOf t c)) (graphIn p w t d)) (graphIn p w t r) n m en mem mem₃ (y .outs) (y .count) (y .next .link) (y .next .operator)
               (at-let t masks widths p w r Y a b c d e .0)
-              (done-let a b (graphE (expOf t c)) (graphIn p w t d) letMask n m en mem mem₁ mem₂ mem₃ first second inner (x .outs) (y .outs) n₁ m₁ (x .links) (x .operators) (y .links) (y .operators)
+              (done-let a b (graphE (expOf t c)) (graphIn p w t d) letMask n m en mem mem₁ mem₂ mem₃ first second inner (x .outs) (y .outs) n₁ m₁ (x .next .link) (x .next .operator) (y .next .link) (y .next .operator)
               (x .count) (y .count) len len₂ let-low (let-split n m room .small) (let-split n m room .is) F (dx .done)
               (counted-E 0 t c n₁ m₁ first mem₁ mem₂ x (let-first .ready .fits) (dx .done) ∙ at-let t masks widths p w r Y a b c d e .2)
               (eg ∙ ap (λ (xs : List ℕ). assigned xs (x .outs) second) (list-range a b ids (omega (arith, let-low)) ei)) (dy .done));
@@ -178,17 +179,17 @@ module _ (t masks widths : List ℕ) where
 
     pub end-part : (n m i : ℕ) (en mem mem₁ mem₂ mem₃ first second outs : List ℕ) (n₁ m₁ : ℕ) (x y : Emitted) → length en ≡ 33
         → Room n m (operatorCount (endGraph b t k)) → Forked (bitAnd 4294967296 u) n m en mem mem₁ first second n₁ m₁
-        → Gives (constantOf (truth-value b)) n₁ m₁ first mem₁ mem₂ x → Part false 0 t k (x .links) (x .operators) second mem₂ mem₃ y
+        → Gives (constantOf (truth-value b)) n₁ m₁ first mem₁ mem₂ x → Part false 0 t k (x .next .link) (x .next .operator) second mem₂ mem₃ y
         → take (1 + y .count) outs ≡ take 1 (x .outs) ++ take (y .count) (y .outs) → i ≡ cond b (y .count) 0
-        → Ended b t k n m en mem mem₃ (record { outs = outs; count = 1 + y .count; iterated = i; links = y .links; operators = y .operators })
+        → Ended b t k n m en mem mem₃ (record { outs = outs; count = 1 + y .count; iterated = i; next = y .next })
     unfolding outputCount gateOutputs
     end-part n m i en mem mem₁ mem₂ mem₃ first second outs n₁ m₁ x y len room F dx dy eo ei =
         record {
           done =
-              done-beside (constantOf (truth-value b)) (graphE (expOf t k)) (bitAnd 4294967296 u) n m en mem mem₁ mem₂ mem₃ first second (x .outs) (y .outs) outs n₁ m₁ (x .links) (x .operators)
-              (y .links) (y .operators) (x .count) (y .count) (1 + y .count) len (end-split n m room .small) (end-split n m room .is) F dx (dy .done)
+              done-beside (constantOf (truth-value b)) (graphE (expOf t k)) (bitAnd 4294967296 u) n m en mem mem₁ mem₂ mem₃ first second (x .outs) (y .outs) outs n₁ m₁ (x .next .link) (x .next .operator)
+              (y .next .link) (y .next .operator) (x .count) (y .count) (1 + y .count) len (end-split n m room .small) (end-split n m room .is) F dx (dy .done)
               (ap (λ (z : ℕ). z + y .count) (sym (dx .counted))) (eo ∙ ap (λ (z : ℕ). take z (x .outs) ++ take (y .count) (y .outs)) (sym (dx .counted)));
-          iterates = ei ∙ ap (λ (z : ℕ). cond b z 0) (counted-E 0 t k (x .links) (x .operators) second mem₂ mem₃ y (Y .fits) (dy .done));
+          iterates = ei ∙ ap (λ (z : ℕ). cond b z 0) (counted-E 0 t k (x .next .link) (x .next .operator) second mem₂ mem₃ y (Y .fits) (dy .done));
         }
 
   pub constant-room : (b : Bool) (n m : ℕ) → Room n m (operatorCount (constantOf (truth-value b))) → Room n m 1
@@ -213,7 +214,7 @@ module _ (t masks widths : List ℕ) where
       unfolding iterated
       iter-part n m en mem mem′ x d =
           record {
-            done = done-as (endGraph true t a) (graphIn true w t r) n m en mem mem′ (x .outs) (x .count) (x .links) (x .operators) iter-graph (d .done);
+            done = done-as (endGraph true t a) (graphIn true w t r) n m en mem mem′ (x .outs) (x .count) (x .next .link) (x .next .operator) iter-graph (d .done);
             iterates = λ q. d .iterates ∙ sym (ap iterated (at-iteration t masks widths w r Y a e .0));
           }
 
@@ -232,7 +233,7 @@ module _ (t masks widths : List ℕ) where
       unfolding iterated
       return-part n m en mem mem′ x d =
           record {
-            done = done-as (endGraph false t r) (graphIn true w t r) n m en mem mem′ (x .outs) (x .count) (x .links) (x .operators) return-graph (d .done);
+            done = done-as (endGraph false t r) (graphIn true w t r) n m en mem mem′ (x .outs) (x .count) (x .next .link) (x .next .operator) return-graph (d .done);
             iterates = λ q. d .iterates ∙ sym (ap iterated (at-end t masks widths w r Y h .0));
           }
 
@@ -241,7 +242,7 @@ module _ (t masks widths : List ℕ) where
   pub part-E : (r n m : ℕ) (en mem mem′ : List ℕ) (x : Emitted) (G : Graph) → graphE (expOf t r) ≡ G → Gives G n m en mem mem′ x → Part false 0 t r n m en mem mem′ x
   part-E r n m en mem mem′ x G e d =
       record {
-        done = done-as G (graphE (expOf t r)) n m en mem mem′ (x .outs) (x .count) (x .links) (x .operators) e d;
+        done = done-as G (graphE (expOf t r)) n m en mem mem′ (x .outs) (x .count) (x .next .link) (x .next .operator) e d;
         iterates = λ q. absurd (false≢true q);
       }
 
@@ -301,15 +302,15 @@ module _ (t masks widths : List ℕ) where
           go false = (omega arith, omega arith)
 
       pub operator-needs : (n m : ℕ) (en mem mem′ : List ℕ) (x : Emitted) → Room n m (operatorCount (graphIn false 0 t r)) → Part false 0 t b n m en mem mem′ x
-          → (code < 256) × ((1 ≤ x .count) × (x .count ≤ 2)) × (x .count ≤ length (x .outs)) × Room (x .links) (x .operators) 1
+          → (code < 256) × ((1 ≤ x .count) × (x .count ≤ 2)) × (x .count ≤ length (x .outs)) × Room (x .next .link) (x .next .operator) 1
       operator-needs n m en mem mem′ x room d =
           let h = at-operator t masks widths 0 r Y code b e .1 in
           let c : x .count ≡ operands code = counted-E 0 t b n m en mem mem′ x (operator-child .ready .fits) (d .done) ∙ operator-fits code (expOf t b) (h .0 .0) in
           let o : (1 ≤ operands code) × (operands code ≤ 2) = one-or-two code in (
             omega (arith, h .1 .1),
             (omega (arith, o .0), omega (arith, o .1)),
-            long-of (graphE (expOf t b)) n m en mem mem′ (x .outs) (x .count) (x .links) (x .operators) (fit-in false 0 t b (operator-child .ready .fits)) (d .done),
-            room-behind (graphE (expOf t b)) n m en mem mem′ (x .outs) (x .count) (x .links) (x .operators) 1 (d .done) (room-of n m _ _ operator-count room),
+            long-of (graphE (expOf t b)) n m en mem mem′ (x .outs) (x .count) (x .next .link) (x .next .operator) (fit-in false 0 t b (operator-child .ready .fits)) (d .done),
+            room-behind (graphE (expOf t b)) n m en mem mem′ (x .outs) (x .count) (x .next .link) (x .next .operator) 1 (d .done) (room-of n m _ _ operator-count room),
           )
 
       pub operator-part : (n m : ℕ) (en mem mem₁ mem₂ : List ℕ) (x y : Emitted) → Part false 0 t b n m en mem mem₁ x → Applied code mem₁ mem₂ x y → Part false 0 t r n m en mem mem₂ y

@@ -9,19 +9,19 @@ use mathlib.Core.Path.{_≡_, refl, sym, ap, _∙_}
 use mathlib.Core.List.{List, _∷_, [], _++_, append-assoc}
 use lib.ListN.{take}
 
--- src/lib.rt:132:9  let ao = a.outs; ⏎ let front = join(first, 1, ao, a.count);
+-- src/lib.rt:207:9  let ao = a.outs; ⏎ let front = join(first, 1, ao, a.count);
 join-requires : tie.Need-join-requires
 join-requires c κs = search needs
 
--- src/lib.rt:134:17  let bo = b.outs; ⏎ join(front, 1 + a.count, bo, b.count)
+-- src/lib.rt:209:17  let bo = b.outs; ⏎ join(front, 1 + a.count, bo, b.count)
 add-join : tie.Need-add-join
 add-join c = search needs
 
--- src/lib.rt:134:5  let bo = b.outs; ⏎ join(front, 1 + a.count, bo, b.count)
+-- src/lib.rt:209:5  let bo = b.outs; ⏎ join(front, 1 + a.count, bo, b.count)
 join-requires-2 : tie.Need-join-requires-2
 join-requires-2 c κs = search needs
 
--- src/lib.rt:126:1  // A link, then two lists of links. ⏎ fn listed(l: u16, a: Emitted, b: Emitted) -> [u16; 33]
+-- src/lib.rt:201:1  // A link, then two lists of links. ⏎ fn listed(l: u16, a: Emitted, b: Emitted) -> [u16; 33]
 returns : tie.Need-returns
 returns c = c .join2 .ensures ∙ ap (λ (t : List ℕ). t ++ take (c .before .before .before .before .before .args .b .count) (c .before .before .before .before .before .args .b .outs)) (c .before .before .before .join .ensures)
 

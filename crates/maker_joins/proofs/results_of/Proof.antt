@@ -25,7 +25,6 @@ array-read-t11 c = search needs
 returns : tie.Need-returns
 returns c = search needs
 
--- antt refused `results-of-spec` as it was built: the module's report says why
 pub results-of-spec : {M : Type 1} → statement M
 results-of-spec =
     tie.close (tie.spec add-r sub-r part-requires add-part part-requires-2 array-read-t11 returns)

@@ -11,15 +11,15 @@ use Prim.Native.Nat.{_+_}
 use Rattle.names.specs.Names.{bit}
 use native.Mathlib.Omega.{arith}
 
--- src/lib.rt:219:16  if taken { ⏎ return l + 1;
+-- src/lib.rt:252:16  if taken { ⏎ return l + 1;
 add-result : tie.Need-add-result
 add-result c = search needs
 
--- src/lib.rt:219:9  if taken { ⏎ return l + 1;
+-- src/lib.rt:252:9  if taken { ⏎ return l + 1;
 returns : tie.Need-returns
 returns c = ap (λ (b : Bool). c .before .args .l + bit b) (sym (c .if1 .taken))
 
--- src/lib.rt:214:1  // The link behind one, where a name takes it. ⏎ fn behind(l: u16, taken: bool) -> u16
+-- src/lib.rt:247:1  // The link behind one, where a name takes it. ⏎ fn behind(l: usize, taken: bool) -> usize
 returns-2 : tie.Need-returns-2
 returns-2 c = omega (arith, ap bit (c .if1 .left))
 

@@ -8,15 +8,15 @@ use mathlib.Core.Path.{_≡_, refl, sym, ap, _∙_}
 use Rattle.maker_laid.specs.Masked.{mask-ones, mask-short}
 use native.Mathlib.Omega.{arith}
 
--- src/lib.rt:42:5  { ⏎ count(mask) as usize
+-- src/lib.rt:63:5  { ⏎ count(mask) as usize
 count-requires : tie.Need-count-requires
 count-requires c κs = search needs
 
--- src/lib.rt:42:5  { ⏎ count(mask) as usize
+-- src/lib.rt:63:5  { ⏎ count(mask) as usize
 cast-result : tie.Need-cast-result
 cast-result c = search needs
 
--- src/lib.rt:38:1  // How many names a mask has. ⏎ pub fn names_in(mask: u64) -> usize
+-- src/lib.rt:59:1  // How many names a mask has. ⏎ pub fn names_in(mask: u64) -> usize
 returns : tie.Need-returns
 returns c = (c .count .ensures .0 ∙ sym (mask-ones (c .before .args .mask) (c .before .pre)), omega (arith, mask-short (c .before .args .mask) (c .before .pre), mask-ones (c .before .args .mask) (c .before .pre), c .count .ensures .0))
 

@@ -10,15 +10,15 @@ use mathlib.Core.Bool.{Bool, cond}
 use lib.ListN.{getD}
 use borrow.Author.Tests.{lt-ltb, le-ltb}
 
--- src/lib.rt:117:16  let outs = x.outs; ⏎ return outs[1];
+-- src/lib.rt:144:16  let outs = x.outs; ⏎ return outs[1];
 array-read-result : tie.Need-array-read-result
 array-read-result c = search needs
 
--- src/lib.rt:117:9  let outs = x.outs; ⏎ return outs[1];
+-- src/lib.rt:144:9  let outs = x.outs; ⏎ return outs[1];
 returns : tie.Need-returns
 returns c = ap (λ (b : Bool). cond b (getD (c .before .before .before .args .x .outs) 1 0) 65535) (sym (lt-ltb 1 (c .before .before .before .args .x .count) (c .before .if1 .taken)))
 
--- src/lib.rt:111:1  // The second operand's link, or none. ⏎ fn second_of(x: Emitted) -> u16
+-- src/lib.rt:138:1  // The second operand's link, or none. ⏎ fn second_of(x: Emitted) -> u16
 returns-2 : tie.Need-returns-2
 returns-2 c = ap (λ (b : Bool). cond b (getD (c .before .before .args .x .outs) 1 0) 65535) (sym (le-ltb 1 (c .before .before .args .x .count) (c .if1 .left)))
 
