@@ -31,8 +31,8 @@ use Rattle.wiring.specs.Links.{optional, outputLinks}
 use Rattle.wiring.specs.Ports.{Ported}
 use Rattle.verdicts.specs.Owed.{creditLink}
 use Rattle.verdicts.specs.Running.{startOf}
-use Rattle.emit.specs.Encode.{heldOf, encode, encoded, written, length-written}
-use Rattle.emit.specs.Encode.{portOf as portWritten}
+use Rattle.maker_laid.specs.Encode.{heldOf, encode, encoded, written, length-written}
+use Rattle.maker_laid.specs.Encode.{portOf as portWritten}
 use Rattle.start.specs.Start.{Begun, headed, emptied, startedMemory, started}
 use Rattle.start.specs.StartLaws.{accepted-start}
 use Rattle.start.specs.ReadBack.{length-emptied, emptied-kept, emptied-read}

@@ -14,7 +14,7 @@ use Rattle.layout.specs.Record.{recordBytes, recorded, placed}
 use Rattle.layout.specs.declared.Operator.{Operator as Record}
 use Rattle.machine.specs.LinkLaws.{byte-kept}
 use Rattle.graph.specs.Assembly.{Operator}
-use Rattle.emit.specs.Encode.{heldOf, encode, encoded, written, length-placed}
+use Rattle.maker_laid.specs.Encode.{heldOf, encode, encoded, written, length-placed}
 use Rattle.start.specs.ReadBack.{Beside, row-kept, row-read}
 use Rattle.view.specs.Sound.{Ith}
 

@@ -22,6 +22,25 @@ pub const LINKS_AT: usize = 21760;
 // The number that a port without a link, or a machine without a trigger, has for one.
 pub const NO_LINK: u16 = 65535;
 
+// The bytes of the kinds behind the eleven operators (specs/Kinds).
+pub const CONSTANT: u8 = 12;
+
+pub const COPY: u8 = 13;
+
+pub const T: u8 = 14;
+
+pub const F: u8 = 15;
+
+pub const M: u8 = 16;
+
+pub const E: u8 = 17;
+
+pub const IC: u8 = 18;
+
+pub const FM: u8 = 19;
+
+pub const FS: u8 = 20;
+
 // An operator as it stands in memory: its kind's byte, its links and its register's
 // word (0 before the first firing; a constant's value).
 pub struct Operator {

@@ -1,7 +1,1 @@
-pub mod Numbering
-pub mod Splits
-pub mod Steps
-pub mod Joining
-pub mod Choosing
-pub mod Looping
 pub mod Whole

@@ -1,4 +1,4 @@
--- What making the whole graph needs and gives (src/make): the formula's row, with the links of its free names, is the translation's graph.
+-- What making the whole graph needs and gives (src/lib): the formula's row, with the links of its free names, is the translation's graph.
 use Prim.Native.Nat.{ℕ, zero, suc, _+_, _-_, _*_, _/_, _%_, _^_, _≤_, _<_}
 use mathlib.Core.Path.{_≡_, refl, sym, ap, ap₂, _∙_, subst}
 use mathlib.Core.Bool.{Bool, false, cond}
@@ -8,6 +8,7 @@ use lib.Seq.{length-take-le}
 use lib.Bits.{bitAnd}
 use lib.Dec.{eqb}
 use native.Mathlib.Omega.{arith}
+use Rattle.layout.specs.Layout.{mostLinks}
 use Rattle.names.specs.Names.{trigger, one, without, mask, size, sizeFrom, below}
 use Rattle.names.proofs.Sets.{known-minus, known-has, mask-one, size-le}
 use Rattle.names.proofs.Counts.{sizeFrom-le, sizeFrom-cong}
@@ -19,17 +20,17 @@ use Rattle.yields.specs.BodyWidths.{not-too-wide}
 use Rattle.graph.specs.Assembly.{upFrom, operatorsOf}
 use Rattle.graph.specs.Translation.{graphE, portOf, madeOf}
 use Rattle.wiring.specs.MadeGraph.{trigger-link}
-use Rattle.emit.specs.Environments.{Agrees}
-use Rattle.emit.specs.Masked.{listOf, Mask, list-is, list-length, namesIn}
-use Rattle.emit.specs.Counts.{operatorCount, operators-length}
-use Rattle.emit.specs.Laid.{Laid}
-use Rattle.emit.specs.Nodes.{Kids, Ready, freeIn}
-use Rattle.emit.specs.declared.joins.Emitted.{Emitted}
+use Rattle.maker_laid.specs.Environments.{Agrees}
+use Rattle.maker_laid.specs.Masked.{listOf, Mask, list-is, list-length, namesIn}
+use Rattle.maker_laid.specs.Counts.{operatorCount, operators-length}
+use Rattle.maker_laid.specs.Laid.{Laid}
+use Rattle.maker_laid.specs.Nodes.{Kids, Ready, freeIn}
+use Rattle.maker_joins.specs.declared.Emitted.{Emitted}
 use Rattle.maker.specs.Making.{Makeable, makingOf, makingIn, padded}
-use Rattle.maker.specs.Room.{Room}
-use Rattle.maker.specs.Parts.{Numbered}
-use Rattle.maker.specs.Rows.{Part}
-use Rattle.maker.proofs.Splits.{counted-E, long-of, fit-in}
+use Rattle.maker_parts.specs.Room.{Room}
+use Rattle.maker_parts.specs.Parts.{Numbered}
+use Rattle.maker_rows.specs.Rows.{Part}
+use Rattle.maker_rows.proofs.Splits.{counted-E, long-of, fit-in}
 
 -- ---- arrays filled from the front
 
@@ -157,9 +158,9 @@ module _ (t masks widths : List ℕ) (n : ℕ) (H : Makeable t n masks widths) w
           let w : width formula ≤ 16 = not-too-wide formula (H .admitted) in
           omega arith
 
-      laid : Laid (graphE formula) (size (freeE formula)) 0 (portOf formula) mem mem′ (take (x .count) (x .outs)) (x .links) (x .operators)
+      laid : Laid (graphE formula) (size (freeE formula)) 0 (portOf formula) mem mem′ (take (x .count) (x .outs)) (x .next .link) (x .next .operator)
       laid =
-          subst (λ (z : ℕ). Laid (graphE formula) z 0 (portOf formula) mem mem′ (take (x .count) (x .outs)) (x .links) (x .operators)) (names-counted k ek)
+          subst (λ (z : ℕ). Laid (graphE formula) z 0 (portOf formula) mem mem′ (take (x .count) (x .outs)) (x .next .link) (x .next .operator)) (names-counted k ek)
           (d .done .laid (portOf formula) (same-links env he))
 
       pub made-memory : mem′ ≡ makingIn mem formula
@@ -170,11 +171,14 @@ module _ (t masks widths : List ℕ) (n : ℕ) (H : Makeable t n masks widths) w
       unfolding madeOf
       results-are = laid .gives
 
-      links-are : x .links ≡ madeOf formula .links
+      links-are : x .next .link ≡ madeOf formula .links
       unfolding madeOf
       links-are = laid .links
 
-      operators-are : x .operators ≡ length (madeOf formula .operators)
+      pub low-links : x .next .link ≤ mostLinks
+      low-links = let e : x .next .link ≡ madeOf formula .links = links-are in let l : madeOf formula .links ≤ mostLinks = H .low in omega arith
+
+      operators-are : x .next .operator ≡ length (madeOf formula .operators)
       unfolding madeOf
       operators-are = laid .operators ∙ omega arith
 
@@ -188,12 +192,12 @@ module _ (t masks widths : List ℕ) (n : ℕ) (H : Makeable t n masks widths) w
 
       many : x .count ≡ length (madeOf formula .results)
       many =
-          sym (length-take-le (x .count) (x .outs) (long-of (graphE formula) k 0 env mem mem′ (x .outs) (x .count) (x .links) (x .operators) (fit-in false 0 t n (H .admitted)) (d .done)))
+          sym (length-take-le (x .count) (x .outs) (long-of (graphE formula) k 0 env mem mem′ (x .outs) (x .count) (x .next .link) (x .next .operator) (fit-in false 0 t n (H .admitted)) (d .done)))
           ∙ ap (length {A = ℕ}) results-are
 
       pub made-answer : (i tr : ℕ) (b : Bool) (is rs : List ℕ) → i ≡ length (inputsOf formula) → b ≡ freeE formula trigger → tr ≡ cond b i 65535 → is ≡ padded 32 (upFrom 0 i)
           → rs ≡ padded 16 (take (x .count) (x .outs))
-          → record { operators = x .operators; links = x .links; trigger = tr; inputs = i; «input_links» = is; results = x .count; «result_links» = rs } ≡ makingOf formula
+          → record { operators = x .next .operator; links = x .next .link; trigger = tr; inputs = i; «input_links» = is; results = x .count; «result_links» = rs } ≡ makingOf formula
       made-answer i tr b is rs ei eb et ea er j =
           record {
             operators = operators-are j;

@@ -22,7 +22,7 @@ use Rattle.sheet_tables.specs.Nodes.{nodeAt, returnedIn, freeIn as freeOf}
 use Rattle.sheet_read.specs.Reading.{Tables, Accepts, Told}
 use Rattle.verdicts.specs.Admitting.{accepted-admitted}
 use Rattle.verdicts.specs.Verdicts.{accepted-graph}
-use Rattle.emit.specs.Nodes.{Kids, Read, freeIn}
+use Rattle.maker_laid.specs.Nodes.{Kids, Read, freeIn}
 use Rattle.maker.specs.Making.{Makeable}
 
 placed-kids : (P : List Bool) (b : Bool) (s : Shape) → Placed P b s → Kids (λ k. inBody P k) b s

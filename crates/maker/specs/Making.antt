@@ -6,14 +6,14 @@ use mathlib.Core.Path.{_≡_}
 use mathlib.Core.Bool.{false, cond}
 use mathlib.Core.List.{List, [], _∷_, _++_}
 use lib.ListN.{length, replicate}
-use Rattle.layout.specs.Layout.{noLink}
+use Rattle.layout.specs.Layout.{mostOperators, mostLinks, noLink}
 use Rattle.formula.specs.Tree.{Exp, expOf}
 use Rattle.formula.specs.Admitted.{AdmittedE}
 use Rattle.graph.specs.Assembly.{upFrom}
 use Rattle.graph.specs.Translation.{Made, madeOf}
-use Rattle.emit.specs.Encode.{encoded, written}
-use Rattle.emit.specs.Nodes.{Read}
-use Rattle.maker.specs.declared.make.Making.{Making}
+use Rattle.maker_laid.specs.Encode.{encoded, written}
+use Rattle.maker_laid.specs.Nodes.{Read}
+use Rattle.maker.specs.declared.Making.{Making}
 
 -- a list of links in k places; those past the last link hold none
 abbrev pub padded : ℕ → List ℕ → List ℕ
@@ -46,5 +46,5 @@ pub record Makeable (t : List ℕ) (n : ℕ) (masks widths : List ℕ) : Type 0 
   pub some : 1 ≤ n
   pub place : read .place n ≡ false
   pub admitted : AdmittedE (expOf t n)
-  pub few : length (madeOf (expOf t n) .operators) ≤ 1024
-  pub low : madeOf (expOf t n) .links ≤ 3105
+  pub few : length (madeOf (expOf t n) .operators) ≤ mostOperators
+  pub low : madeOf (expOf t n) .links ≤ mostLinks

@@ -19,7 +19,7 @@ use Rattle.graph.specs.Translation.{Made, madeOf, portOf}
 use Rattle.yields.specs.BodyWidths.{not-too-wide}
 use Rattle.wiring.specs.MadeGraph.{trigger-link, result-count}
 use Rattle.maker.specs.Making.{padded, tellOf, makingOf, makingIn}
-use Rattle.maker.specs.declared.make.Making.{Making}
+use Rattle.maker.specs.declared.Making.{Making}
 use Rattle.start.specs.declared.StartAnswer.{StartAnswer}
 use Rattle.start.specs.Start.{begun, accepted, figured, named, headed, emptied, startedMemory, byVerdict}
 use Rattle.start.specs.StartLaws.{verdict-passed}

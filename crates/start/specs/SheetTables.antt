@@ -9,7 +9,7 @@ use Rattle.formula.specs.declared.Verdict.the-variants.{Passed}
 use Rattle.sheet_read.specs.Reading.{Tables, Accepts, Told}
 use Rattle.formula.specs.Tree.{expOf}
 use Rattle.maker.specs.Making.{makingOf}
-use Rattle.maker.specs.declared.make.Making.{Making}
+use Rattle.maker.specs.declared.Making.{Making}
 use Rattle.start.specs.Completed.{Modest, made-modest}
 use Rattle.maker.specs.AcceptedSheets.{accepted-makeable}
 

@@ -18,7 +18,7 @@ use Rattle.formula.specs.Tests.{verdictOf}
 use Rattle.layout.specs.Layout.{stored16, noLink, sizeOf, linkAt, need, capacityIn}
 use Rattle.graph.specs.Assembly.{upFrom}
 use Rattle.graph.specs.Translation.{Made, madeOf}
-use Rattle.emit.specs.Encode.{encoded, written}
+use Rattle.maker_laid.specs.Encode.{encoded, written}
 use Rattle.start.specs.declared.StartAnswer.{StartAnswer}
 
 -- ---- the answer

@@ -5,8 +5,8 @@
 // its caller.
 use formula::Refusal;
 use formula::Verdict;
-use maker::make::Making;
-use maker::make::make;
+use maker::Making;
+use maker::make;
 use sheet_fields::blank;
 use sheet_read::read::fill_tables;
 ghost use mathlib.Core.Path.{_≡_};

@@ -8,7 +8,7 @@ use Rattle.sheet_fields.proofs.blank.fields.Reads as fields-reads
 use Rattle.sheet_fields.proofs.blank.marks.Reads as marks-reads
 use Rattle.sheet_fields.proofs.blank.numbers.Reads as numbers-reads
 use Rattle.sheet_fields.proofs.blank.words.Reads as words-reads
-use Rattle.maker.proofs.make.make.Reads as make-reads
+use Rattle.maker.proofs.make.Reads as make-reads
 use Rattle.sheet_read.proofs.read.fill_tables.Reads as fill-tables-reads
 use Rattle.start.proofs.complete.Reads as complete-reads
 use Rattle.start.proofs.refused.Reads as refused-reads

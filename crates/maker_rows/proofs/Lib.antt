@@ -1,0 +1,5 @@
+pub mod Splits
+pub mod Steps
+pub mod Joining
+pub mod Choosing
+pub mod Looping
