@@ -1,9 +1,6 @@
 // The rows of an accepted sheet, each written as the part of the graph that it is (document 01, "The graph"; graph/specs/Translation,
 // figure by figure). A row is read by its place: as an expression, or as a body of a loop that returns some values. The functions call
 // each other; the row number falls. `env` has the link of each name; links and operators are dealt from the next numbers on.
-use sheet_fields::shape::shape_at;
-use sheet_fields::shape::way_at;
-use sheet_fields::shape::width_at;
 use formula::Shape;
 use formula::Way;
 use layout::store_operator;
@@ -25,6 +22,9 @@ use maker_parts::names_in;
 use maker_parts::numbered;
 use names::TRIGGER_MASK;
 use names::range_mask;
+use sheet_fields::shape::shape_at;
+use sheet_fields::shape::way_at;
+use sheet_fields::shape::width_at;
 use sheet_tables::masks::mask_at;
 use sheet_tables::masks::outside;
 use sheet_tables::masks::plain_mask;

@@ -1,4 +1,4 @@
--- A formula without for: its evaluation ends, and no round is used (document 02, the out-of-turn bench).
+-- A formula without for: its evaluation ends, and no round is used. Assumes nothing.
 use Prim.Native.Nat.{ℕ}
 use mathlib.Core.Path.{_≡_, refl, _∙_, ap}
 use mathlib.Core.Bool.{true, false}

@@ -276,7 +276,7 @@ module _ (graph : ℕ → Demand) (p k source credit : ℕ) (P : Piece) (M : Mea
             collect-credit cap credit (P .outs) (λ ts. ts) (standing w) (C .credit-no-result) (take-able w tape (tokens-of v ++ []) there en),
           ))
 
-  -- ---- counts of firings (document 02, the tally)
+  -- ---- counts of firings
 
   -- The references with one place a link, which are references at every capacity.
   abbrev pub Worked : List (List Value) → Type 0

@@ -10,7 +10,6 @@ use Prim.Native.Nat.{ℕ, _+_}
 use Rattle.layout.specs.Layout.{stored16}
 use Rattle.layout.specs.Record.{recorded, by-figures}
 use native.Mathlib.Omega.{arith}
-use lib.ListN.{length-set}
 
 -- src/lib.rt:97:27  { ⏎ store_number(mem, at, o.kind as u16);
 cast-store-number : tie.Need-cast-store-number

@@ -15,7 +15,6 @@ use lib.ListN.{getD-replicate, take, length, replicate}
 use Rattle.maker_laid.specs.Encode.{written}
 use Rattle.maker_laid.specs.Emitted.{rowRecords, rowOutputs}
 use native.Mathlib.Omega.{arith}
-use mathlib.Core.List.{List, map}
 
 -- src/lib.rt:198:9  { ⏎ let k = names_in(mask);
 names-in-requires : tie.Need-names-in-requires

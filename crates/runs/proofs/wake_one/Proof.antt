@@ -14,16 +14,7 @@ use mathlib.Core.List.{List}
 use lib.ListN.{length}
 use Rattle.runs.specs.Words.{woken, length-woken, mark-woken}
 use Rattle.runs.specs.Marks.{Awake, Woke, woke-none, woke-one}
-use mathlib.Core.Bool.{Bool, true, false}
-use Rattle.machine.specs.Fire.{ableAt, firedAt}
-use Rattle.runs.specs.Run.{Ran, ran, runs}
-use Rattle.runs.specs.RunLaws.{Quiet, quiet-none, Going, going-start, going-fire, going-next, going-end, going-full}
 use lib.ListN.{length, getD, set, length-set}
-use lib.Seq.{getD-set-same}
-use mathlib.Core.Logic.{_≢_, _⊎_, inl, inr, ⊎-elim}
-use Rattle.layout.specs.Layout.{need}
-use Rattle.runs.specs.Far.{name}
-use Rattle.runs.specs.Users.{Found, Noted, noted-skip, noted-have1, noted-have2, noted-full, noted-set1, noted-set2, Covers, Filling, filling-start, filling-more}
 use Rattle.runs.specs.Marks.{Awake, Woke, woke-none, woke-then, woke-one, Hits, hits-none, hits-more, Fast, fast-start, fast-skip, fast-next, fast-fire}
 
 -- src/lib.rt:141:9  if u < 1024 { ⏎ set_mark(awake, u);

@@ -14,7 +14,6 @@ use lib.Seq.{slice, sets, length-sets, length-front, length-take-le}
 use Rattle.value.specs.Bytes.{wholeOf, truthOf, wordAt}
 use Rattle.text.specs.Printed.{led, shown, numberField, letterField, optionField, wordField, resultFields, resultLine, headLine, refusalLine}
 use Rattle.text.specs.PrintLaws.{led-length, shown-length, number-length, letter-length, word-length, line-length, space-more, sign-put, sign-empty, led-spaces, digit-last, digit-more, number-start, shown-none, number-put, spaces-put, letter-parts, refusal-parts, head-parts, results-none, results-more, results-end, whole-positive, whole-negative, whole-outside, truth-false, truth-true, truth-neither, word-whole, word-truth, word-other}
-use Rattle.text.specs.PrintLaws.{led-length, shown-length, number-length, letter-length, word-length, line-length, space-more, sign-last, sign-none, led-spaces, digit-last, digit-more, number-start, shown-none, lent-part, letter-parts, refusal-parts, head-parts, results-none, results-more, results-end, whole-positive, whole-negative, whole-outside, truth-false, truth-true, truth-neither, word-whole, word-truth, word-other}
 
 -- src/lib.rt:55:15  { ⏎ let end = at + 6;
 add-end : tie.Need-add-end

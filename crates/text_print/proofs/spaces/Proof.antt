@@ -14,8 +14,6 @@ use Rattle.text.specs.Printed.{led, shown, numberField, letterField, optionFiel
 use Rattle.text.specs.PrintLaws.{led-length, shown-length, number-length, letter-length, word-length, line-length, space-more, sign-last, sign-none, led-spaces, digit-last, digit-more, number-start, shown-none, lent-part, letter-parts, refusal-parts, head-parts, results-none, results-more, results-end, whole-positive, whole-negative, whole-outside, truth-false, truth-true, truth-neither, word-whole, word-truth, word-other}
 use lib.Seq.{take-length}
 use lib.Seq.{take-suc-set, take-length}
-use native.Mathlib.Numerals.{add-one}
-use lib.ListN.{replicate-append-replicate}
 
 abbrev Inv-loop : tie.InvT-loop
 Inv-loop part₀ i₀ part i = (length part ≡ length part₀) × (i ≤ length part₀) × (take i part ≡ replicate i 32)

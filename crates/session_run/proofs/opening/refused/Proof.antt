@@ -7,15 +7,6 @@ use Rattle.text_print.proofs.put_refusal.Reads as put-refusal-reads
 use native.Mathlib.Omega.{arith}
 use borrow.Author.Tests.{not-true, not-false}
 use Rattle.session.specs.OpeningLaws.{refusal-printed, refusal-behind}
-use Prim.Native.Nat.{ℕ, suc, _+_, _-_, _*_, _≤_, _<_}
-use mathlib.Core.Path.{_≡_, sym, _∙_, ap, refl}
-use mathlib.Core.List.{List, [], _∷_, _++_}
-use mathlib.Core.Bool.{Bool, true, false, not}
-use lib.ListN.{length, take, drop}
-use Rattle.formula.specs.declared.Refusal.the-variants.{Layout, Rows, Set, SetFile}
-use Rattle.formula.specs.Refusals.{numberOf}
-use Rattle.text.specs.Printed.{headLine, refusalLine}
-use Rattle.session.specs.Opening.{Refuses, Judges}
 use Rattle.session.specs.OpeningLaws.{refusal-printed, bad-few, count-few, judged-bad, judged-sets, opens-layout, opens-rows, opens-refused, inputs-few, opens-long, opens-judged, refusal-bounds, judged-bounds}
 
 -- src/opening.rt:27:5  { ⏎ text_print::put_refusal(out, 0, number, row);
