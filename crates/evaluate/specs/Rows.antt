@@ -1,6 +1,6 @@
 -- From the reader's tables to the evaluator's needs: the last row of an accepted sheet's tables is the formula, with its width
 -- and its free names; and an evaluation by the reader's verdict (eval's specs/Evaluate). Assumes what the reader promises
--- (sheet's specs/Reading).
+-- (sheet_read's specs/Reading).
 use Prim.Native.Nat.{ℕ, zero, suc, _+_, _*_, _-_, _≤_, _<_}
 use mathlib.Core.Path.{_≡_, refl, sym, ap, _∙_, subst}
 use mathlib.Core.Bool.{Bool, true, false}
@@ -15,13 +15,13 @@ use Rattle.formula.specs.declared.Verdict.the-variants.{Passed, Refused}
 use Rattle.formula.specs.Sheet.{rowCount, fieldsOf}
 use Rattle.formula.specs.SheetLaws.{fields-length}
 use Rattle.formula.specs.Tree.{expOf, formulaOf}
-use Rattle.formula.specs.Places.{Node, nodeIn, inBody, placesOf}
+use Rattle.formula.specs.Places.{nodeIn, inBody, placesOf}
 use Rattle.formula.specs.PlaceLaws.{last-place}
 use Rattle.formula.specs.Free.{freeE}
 use Rattle.formula.specs.Tests.{verdictOf}
 use Rattle.meaning.specs.Rows.{ExpRow, widthIn}
 use Rattle.meaning.specs.Accepted.{passes, accepted, formula-row}
-use Rattle.sheet_tables.specs.Nodes.{nodeAt, returnedIn, freeIn}
+use Rattle.sheet_tables.specs.Nodes.{returnedIn, freeIn}
 use Rattle.sheet_read.specs.Reading.{Tables, Accepts}
 use Rattle.eval.specs.declared.Evaluation.{Evaluation}
 use Rattle.eval.specs.Evaluate.{refused, evaluated, afterVerdict, evaluationOf}
@@ -44,19 +44,15 @@ module _ (s : List ℕ) (x : Tables) (v : verdictOf s ≡ Passed) (ok : Accepts 
   abbrev widths : List ℕ
   widths = take (rowCount s) (x .returned)
 
-  place-of : (r : ℕ) → inBody (take (rowCount s) (x .places)) r ≡ inBody (placesOf (fieldsOf s) (rowCount s)) r
-  place-of r = ap (λ (q : List Bool). inBody q r) (ok .tables .ready .places)
-
   width-of : (r : ℕ) → 1 ≤ r → r ≤ rowCount s → getD widths (r - 1) 0 ≡ widthIn (inBody (placesOf (fieldsOf s) (rowCount s)) r) (fieldsOf s) r
   width-of r l u =
-      ok .tables .nodes .returned .entry r l u
-      ∙ ap (λ (b : Bool). returnedIn (nodeIn b (fieldsOf s) r)) (place-of r)
+      ok .tables .returned .entry r l u
       ∙ width-in (inBody (placesOf (fieldsOf s) (rowCount s)) r) (fieldsOf s) r
 
   formula-at : ExpRow (fieldsOf s) widths (rowCount s)
   formula-at =
       formula-row s (passes s v) widths
-      (accepted s (passes s v) widths (let e = ok .tables .nodes .returned-size in omega (arith, e)) width-of)
+      (accepted s (passes s v) widths (let e = ok .tables .returned-size in omega (arith, e)) width-of)
 
   -- The rows are some and few, and the tables have room for them.
   pub rows-some : 1 ≤ x .rows
@@ -69,7 +65,7 @@ module _ (s : List ℕ) (x : Tables) (v : verdictOf s ≡ Passed) (ok : Accepts 
   fields-long = rw (ok .rows) (taken-long (5 * rowCount s) (x .fields) (ap length (ok .fields) ∙ fields-length s))
 
   pub widths-long : x .rows ≤ length (x .returned)
-  widths-long = rw (ok .rows) (taken-long (rowCount s) (x .returned) (ok .tables .nodes .returned-size))
+  widths-long = rw (ok .rows) (taken-long (rowCount s) (x .returned) (ok .tables .returned-size))
 
   -- The last row, as the code hands it on.
   pub row-of : ExpRow (take (5 * x .rows) (x .fields)) (take (x .rows) (x .returned)) (x .rows)
@@ -84,9 +80,9 @@ module _ (s : List ℕ) (x : Tables) (v : verdictOf s ≡ Passed) (ok : Accepts 
   mask-at =
       ap (λ (k : ℕ). getD (x .masks) (k - 1) 0) (ok .rows)
       ∙ sym (getD-take (rowCount s) (x .masks) (rowCount s - 1) 0 (let a = ok .some in omega (arith, a)))
-      ∙ ok .tables .nodes .masks .entry (rowCount s) (ok .some) (omega arith)
+      ∙ ok .tables .masks .entry (rowCount s) (ok .some) (omega arith)
       ∙ free-in _ (fieldsOf s) (rowCount s)
-      (place-of (rowCount s) ∙ last-place (fieldsOf s) (rowCount s) (ok .tables .ready .sound .named) (ok .some))
+      (last-place (fieldsOf s) (rowCount s) (ok .tables .ready .sound .named) (ok .some))
 
   pub mask-of : getD (x .masks) (x .rows - 1) 0 ≡ mask (freeE (expOf (take (5 * x .rows) (x .fields)) (x .rows)))
   mask-of = mask-at ∙ ap (λ z. mask (freeE z)) (sym formula-is)

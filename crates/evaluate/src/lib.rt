@@ -9,6 +9,7 @@ use formula::Refusal;
 use formula::Verdict;
 use formula::refusal_number;
 use sheet_fields::blank;
+use sheet_read::read::Tested;
 use sheet_read::read::fill_tables;
 ghost use mathlib.Core.Path.{_≡_};
 ghost use Prim.Native.Nat.{ℕ, _+_, _*_, _-_, _≤_, _<_};
@@ -31,29 +32,12 @@ pub fn evaluate(sheet: &[u8], set: &[u8], rounds: u32) -> Evaluation
     ensures { λ e. ⌜ e ≡ evaluationOf (now (sheet .entry)) (now (set .entry)) rounds ⌝ }
 {
     let mut fields = blank::fields();
-    let mut places = blank::marks();
     let mut returned = blank::bytes();
-    let mut iterated = blank::bytes();
     let mut masks = blank::words();
-    let mut ends = blank::bytes();
-    let mut loops = blank::bytes();
-    let mut operators = blank::numbers();
-    let mut links = blank::numbers();
-    let verdict = fill_tables(
-        sheet,
-        &mut fields,
-        &mut places,
-        &mut returned,
-        &mut iterated,
-        &mut masks,
-        &mut ends,
-        &mut loops,
-        &mut operators,
-        &mut links,
-    );
-    match verdict {
-        Verdict::Refused(r, row) => refuse(r, row),
-        Verdict::Passed => {
+    let tested = fill_tables(sheet, &mut fields, &mut returned, &mut masks);
+    match tested {
+        Tested::Refused(r, row) => refuse(r, row),
+        Tested::Passed(_) => {
             let n = sheet.len() / 31;
             let end = 5 * n;
             let last = n - 1;

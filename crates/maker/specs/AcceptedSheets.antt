@@ -1,4 +1,4 @@
--- The tables that reading an accepted sheet gives (sheet/specs/Reading: Told) are such that the maker can work on them, and the formula that it makes
+-- The tables that reading an accepted sheet gives (sheet_read/specs/Reading: Told) are such that the maker can work on them, and the formula that it makes
 -- the graph of is the sheet's. Document 01: "the last is the formula"; tests 1 to 10. Assumes that the sheet was accepted.
 use Prim.Native.Nat.{ℕ, _+_, _-_, _*_, _≤_, _<_}
 use mathlib.Core.Path.{_≡_, refl, sym, ap, ap₂, _∙_, subst}
@@ -12,13 +12,13 @@ use Rattle.formula.specs.declared.Shape.the-variants.{Identifier, Whole, Truth,
 use Rattle.formula.specs.declared.Verdict.the-variants.{Passed as passed}
 use Rattle.formula.specs.Sheet.{rowCount, fieldsOf, shapeAt}
 use Rattle.formula.specs.Tree.{expOf, bodyOf, formulaOf}
-use Rattle.formula.specs.Places.{Node, nodeIn, inBody, placesOf}
+use Rattle.formula.specs.Places.{nodeIn, inBody, placesOf}
 use Rattle.formula.specs.PlaceLaws.{last-place}
 use Rattle.formula.specs.Widths.{returned}
 use Rattle.formula.specs.Tests.{verdictOf}
 use Rattle.meaning.specs.Rows.{Placed, widthIn, Accepted}
 use Rattle.meaning.specs.Accepted.{passes, accepted}
-use Rattle.sheet_tables.specs.Nodes.{nodeAt, returnedIn, freeIn as freeOf}
+use Rattle.sheet_tables.specs.Nodes.{returnedIn, freeIn as freeOf}
 use Rattle.sheet_read.specs.Reading.{Tables, Accepts, Told}
 use Rattle.verdicts.specs.Admitting.{accepted-admitted}
 use Rattle.verdicts.specs.Verdicts.{accepted-graph}
@@ -58,9 +58,6 @@ module _ (s : List ℕ) (x : Tables) (told : Told s x) (well : x .verdict ≡ pa
   abbrev place : ℕ → Bool
   place r = inBody (placesOf (fieldsOf s) (rowCount s)) r
 
-  same-node : (r : ℕ) → nodeAt t (take (rowCount s) (x .places)) r ≡ nodeIn (place r) t r
-  same-node r = ap (λ (q : List Bool). nodeIn (inBody q r) t r) (accepts .tables .ready .places)
-
   width-of : (b : Bool) (r : ℕ) → returnedIn (nodeIn b t r) ≡ widthIn b t r
   unfolding nodeIn widthIn
   width-of true r = refl
@@ -76,15 +73,15 @@ module _ (s : List ℕ) (x : Tables) (told : Told s x) (well : x .verdict ≡ pa
   returned-of b r e = subst (λ (q : Bool). returnedIn (nodeIn q t r) ≡ returned (bodyOf t r)) (sym e) refl
 
   widths-long : length widths ≡ n
-  widths-long = accepts .tables .nodes .returned-size
+  widths-long = accepts .tables .returned-size
 
   masks-long : length masks ≡ n
-  masks-long = accepts .tables .nodes .masks-size
+  masks-long = accepts .tables .masks-size
 
   rows-accepted : Accepted t widths n
   rows-accepted =
       accepted s (passes s verdict) widths (omega (arith, widths-long))
-      (λ r l u. accepts .tables .nodes .returned .entry r l u ∙ ap returnedIn (same-node r) ∙ width-of (place r) r)
+      (λ r l u. accepts .tables .returned .entry r l u ∙ width-of (place r) r)
 
   read : Read t masks widths
   read =
@@ -96,8 +93,8 @@ module _ (s : List ℕ) (x : Tables) (told : Told s x) (well : x .verdict ≡ pa
         widths-long = omega (arith, widths-long);
         named = rows-accepted .named;
         kids = λ r l u. placed-kids (placesOf t n) (place r) (shapeAt t r) (rows-accepted .placed r l u);
-        masked = λ r l u. accepts .tables .nodes .masks .entry r l u ∙ ap (λ (z : Node). mask (freeOf z)) (same-node r) ∙ free-of (place r) r;
-        returns = λ r l u e. accepts .tables .nodes .returned .entry r l u ∙ ap returnedIn (same-node r) ∙ returned-of (place r) r e;
+        masked = λ r l u. accepts .tables .masks .entry r l u ∙ free-of (place r) r;
+        returns = λ r l u e. accepts .tables .returned .entry r l u ∙ returned-of (place r) r e;
       }
 
   sheet-makeable : Makeable (fieldsOf s) (rowCount s) masks widths

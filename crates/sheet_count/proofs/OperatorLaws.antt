@@ -13,24 +13,22 @@ use borrow.Author.Tests.{ne-eqb, le-leb, lt-leb}
 use Rattle.names.specs.Names.{mask}
 use Rattle.formula.specs.declared.Shape.{Shape}
 use Rattle.formula.specs.declared.Shape.the-variants.{Identifier, Whole, Truth, Pair, Operator, Let, If, For, Iter}
-use Rattle.formula.specs.declared.Check.{Check}
-use Rattle.formula.specs.declared.Check.the-variants.{Passed, Fault}
 use Rattle.formula.specs.Sheet.{shapeAt, namedIn}
 use Rattle.formula.specs.Tree.{Exp, Body, expOf, bodyOf}
 use Rattle.formula.specs.Places.{Node, expression, body, nodeIn, inBody, placesOf}
 use Rattle.formula.specs.Count.{Count, countE, countB}
-use Rattle.formula.specs.CountLaws.{Few, links-few, links-few-body}
-use Rattle.formula.specs.Tests.{occurrences, whole, operatorsOf}
+use Rattle.formula.specs.Tests.{occurrences, operatorsOf}
 use Rattle.formula.specs.TreeLaws.{AllBetween}
 use Rattle.formula.specs.PlaceLaws.{Namer, namer, last-place}
 use Rattle.sheet_count.specs.declared.count.Own.{Own}
+use Rattle.sheet_count.specs.declared.count.Total.the-variants.{Within, Over}
 use Rattle.sheet_tables.specs.Nodes.{nodeAt, returnedIn, iteratedIn, freeIn, countIn, Holds}
 use Rattle.sheet_tables.specs.Ready.{Ready}
 use Rattle.sheet_count.specs.Filled.{Filled}
 use Rattle.sheet_tables.specs.Masks.{plainMask, Ranged}
 use Rattle.sheet_tables.specs.Ends.{endsIn}
 use Rattle.sheet_tables.specs.Loops.{loopsOf}
-use Rattle.sheet_count.specs.Counts.{plainOwn, bodyOwn, ownBy, ownOperators, ownLinks, total, namedTotal, countAt}
+use Rattle.sheet_count.specs.Counts.{plainOwn, bodyOwn, ownBy, ownOperators, total, namedTotal, countAt, totalOf}
 use Rattle.sheet_tables.proofs.NodeLaws.{nodeBy, Parts, node-at, parts-at}
 use Rattle.sheet_tables.proofs.MaskLaws.{ranged-at}
 use Rattle.sheet_tables.proofs.LoopLaws.{loops-at, loopsOf-length}
@@ -101,10 +99,6 @@ bounded-blank c zero k = omega arith
 bounded-blank c (suc n) zero = omega arith
 bounded-blank c (suc n) (suc k) = bounded-blank c n k
 
-few-links : (w : ℕ) (x : Node) → Few (countIn w x)
-few-links w (expression x) = links-few x
-few-links w (body y) = links-few-body w y
-
 module _ (t : List ℕ) (n : ℕ) (p : List Bool) (ok : Ready t n p) where
   abbrev L : List ℕ
   L = loopsOf t p (λ k. returnedIn (nodeAt t p k)) n
@@ -113,12 +107,12 @@ module _ (t : List ℕ) (n : ℕ) (p : List Bool) (ok : Ready t n p) where
   row-counts : (r : ℕ) → 1 ≤ r → r ≤ n
       → Counted (countAt t p n r)
       (ownBy (inBody p r) (λ k. mask (freeIn (nodeAt t p k))) (λ k. returnedIn (nodeAt t p k)) (λ k. iteratedIn (nodeAt t p k)) (λ k. endsIn (nodeAt t p k)) (getD L (r - 1) 0) (shapeAt t r))
-      (namedTotal (λ k. countAt t p n k .operators) (shapeAt t r)) (namedTotal (λ k. countAt t p n k .links) (shapeAt t r))
+      (namedTotal (λ k. countAt t p n k .operators) (shapeAt t r))
   row-counts r a b =
       subst
       (λ (x : Node). Counted (countIn (getD L (r - 1) 0) x)
       (ownBy (inBody p r) (λ k. mask (freeIn (nodeAt t p k))) (λ k. returnedIn (nodeAt t p k)) (λ k. iteratedIn (nodeAt t p k)) (λ k. endsIn (nodeAt t p k)) (getD L (r - 1) 0) (shapeAt t r))
-      (namedTotal (λ k. countAt t p n k .operators) (shapeAt t r)) (namedTotal (λ k. countAt t p n k .links) (shapeAt t r)))
+      (namedTotal (λ k. countAt t p n k .operators) (shapeAt t r)))
       (sym (node-at t n p ok r a b))
       (counted (nodeAt t p) (expOf t) (bodyOf t) (λ k. getD L (k - 1) 0) (getD L (r - 1) 0) (inBody p r) (shapeAt t r)
       (parts-at t n p ok r a b) (ranged-at t n p ok r a b) (loops-at t n p (ok .sound) (λ k. returnedIn (nodeAt t p k)) r a b))
@@ -146,29 +140,25 @@ module _ (t : List ℕ) (n : ℕ) (p : List Bool) (ok : Ready t n p) where
       let e : inBody p n ≡ false = ap (λ (q : List Bool). inBody q n) (ok .places) ∙ last-place t n (ok .sound .named) h in
       ap (λ (b : Bool). countIn (getD (loopsOf t p (λ k. returnedIn (nodeAt t p k)) n) (n - 1) 0) (nodeIn b t n) .operators) e
 
-  pub over : (x : ℕ) → 1 ≤ x → x ≤ n → 1024 < countAt t p n x .operators → Fault 0 ≡ whole (leb (operatorsOf t n) 1024)
+  pub over : (x : ℕ) → 1 ≤ x → x ≤ n → 1024 < countAt t p n x .operators → Over ≡ totalOf (operatorsOf t n)
   over x a b h =
       let i = part-whole n x a b (omega arith) in
       let e = last-count (omega arith) in
       rw (lt-leb (operatorsOf t n) 1024 (omega arith)) refl
 
-  pub within : 1 ≤ n → countAt t p n n .operators ≤ 1024 → Passed ≡ whole (leb (operatorsOf t n) 1024)
-  within a h = let e = last-count a in rw (le-leb (operatorsOf t n) 1024 (omega arith)) refl
-
-  pub links-within : (x : ℕ) → countAt t p n x .operators ≤ 1024 → countAt t p n x .links ≤ 3072
-  links-within x h =
-      let f = few-links (getD (loopsOf t p (λ k. returnedIn (nodeAt t p k)) n) (x - 1) 0) (nodeAt t p x) .few in omega arith
+  pub within : 1 ≤ n → (k : ℕ) → k ≡ countAt t p n n .operators → k ≤ 1024 → Within k ≡ totalOf (operatorsOf t n)
+  within a k d h = let e = d ∙ last-count a in rw (sym e, le-leb k 1024 h) refl
 
 module _ (t : List ℕ) (n : ℕ) (p : List Bool) (w m ret it f : List ℕ) (ok : Filled t n p w m ret it f) where
   pub loops-size : length w ≡ n
   loops-size = ap length (ok .loops) ∙ loopsOf-length t p (λ k. returnedIn (nodeAt t p k)) n
 
   -- What the code computes of row i + 1.
-  pub row-told : (i : ℕ) → i < n → (ops links : List ℕ) → Holds 0 ops i (λ k. countAt t p n k .operators) → Holds 0 links i (λ k. countAt t p n k .links)
+  pub row-told : (i : ℕ) → i < n → (ops : List ℕ) → Holds 0 ops i (λ k. countAt t p n k .operators)
       → (s : Shape) → s ≡ shapeAt t (i + 1) → (o : Own)
       → o ≡ ownBy (getD p i false) (λ k. getD m (k - 1) 0) (λ k. getD ret (k - 1) 0) (λ k. getD it (k - 1) 0) (λ k. getD f (k - 1) 0) (getD w (i + 1 - 1) 0) s
-      → Counted (countAt t p n (i + 1)) o (namedTotal (λ k. getD ops (k - 1) 0) s) (namedTotal (λ k. getD links (k - 1) 0) s)
-  row-told i l ops links ho hl s e o d =
+      → Counted (countAt t p n (i + 1)) o (namedTotal (λ k. getD ops (k - 1) 0) s)
+  row-told i l ops ho s e o d =
       let a : 1 ≤ i + 1 = omega arith in
       let b : i + 1 ≤ n = omega arith in
       let names = ok .ready .sound .named .names (i + 1) a b in
@@ -186,11 +176,5 @@ module _ (t : List ℕ) (n : ℕ) (p : List Bool) (w m ret it f : List ℕ) (ok 
       let same-ops : namedTotal (λ k. getD ops (k - 1) 0) s ≡ namedTotal (λ k. countAt t p n k .operators) (shapeAt t (i + 1)) =
       ap (namedTotal (λ k. getD ops (k - 1) 0)) e ∙ same-total (i + 1) (λ k. getD ops (k - 1) 0) (λ k. countAt t p n k .operators) (namedIn (shapeAt t (i + 1))) names (λ k u v. ho .entry k u (omega arith))
       in
-      let same-links : namedTotal (λ k. getD links (k - 1) 0) s ≡ namedTotal (λ k. countAt t p n k .links) (shapeAt t (i + 1)) =
-      ap (namedTotal (λ k. getD links (k - 1) 0)) e ∙ same-total (i + 1) (λ k. getD links (k - 1) 0) (λ k. countAt t p n k .links) (namedIn (shapeAt t (i + 1))) names (λ k u v. hl .entry k u (omega arith))
-      in
       let c = row-counts t n p (ok .ready) (i + 1) a b in
-      record {
-        operators-are = let u = c .operators-are in let v = ap ownOperators same-o in omega arith;
-        links-are = let u = c .links-are in let v = ap ownLinks same-o in omega arith;
-      }
+      record { operators-are = let u = c .operators-are in let v = ap ownOperators same-o in omega arith }

@@ -12,12 +12,14 @@ use Rattle.formula.specs.Sheet.{namedIn}
 use lib.ListN.{getD}
 use Rattle.formula.specs.Count.{Count}
 use Rattle.sheet_count.specs.declared.count.Own.{Own}
+use Rattle.sheet_count.specs.declared.count.Total.{Total}
+use Rattle.sheet_count.specs.declared.count.Total.the-variants.{Within, Over}
 use Rattle.sheet_tables.specs.Nodes.{nodeAt, returnedIn, countIn}
 use Rattle.sheet_tables.specs.Loops.{loopsOf}
 use Rattle.sheet_tables.specs.Masks.{triggerMask, outside, plainMask}
 
 abbrev pub own : ℕ → ℕ → Own
-own g k = record { gates = g; copies = k; joins = 0; outputs = 0 }
+own g k = record { gates = g; copies = k; joins = 0 }
 
 -- "A name .. used k times, k above 1, passes k-1 two-way copies": one copy for each name of both parts.
 abbrev pub sharing : ℕ → ℕ → ℕ
@@ -51,7 +53,6 @@ bodyIf x y z v w e f =
       gates = armGates y z + cond (bothIterate e f) v 0 + cond (oneReturns e f) w 0;
       copies = ifCopies x y z + armGates y z + cond (bothIterate e f) (v - 1) 0 + (w - 1);
       joins = 1;
-      outputs = 2 + cond (bothIterate e f) 1 0;
     }
 
 -- A row read as an expression; a let in a body place has the same, and an iter its true constant.
@@ -68,7 +69,7 @@ plainOwn M R (Iter x) = own 1 (sharing triggerMask (M x))
 
 -- A returned expression has its false constant besides.
 abbrev pub ended : Own → ℕ → Own
-ended o m = record { gates = o .gates + 1; copies = o .copies + sharing triggerMask m; joins = o .joins; outputs = o .outputs }
+ended o m = record { gates = o .gates + 1; copies = o .copies + sharing triggerMask m; joins = o .joins }
 
 -- A row in a body place; I and F have the iterated widths and the ends of earlier rows, w is the loop's returned width.
 unfoldable pub bodyOwn : (ℕ → ℕ) → (ℕ → ℕ) → (ℕ → ℕ) → (ℕ → ℕ) → ℕ → Shape → Own
@@ -90,10 +91,6 @@ ownBy false M R I F w s = plainOwn M R s
 abbrev pub ownOperators : Own → ℕ
 ownOperators o = o .gates + o .copies + o .joins
 
--- A gate emits on one link, a copy on two, IC on its outputs.
-abbrev pub ownLinks : Own → ℕ
-ownLinks o = o .gates + 2 * o .copies + o .outputs
-
 abbrev pub total : List ℕ → ℕ
 total [] = 0
 total (x ∷ xs) = x + total xs
@@ -107,8 +104,11 @@ pub record Small (k : ℕ) (o : Own) : Type 0 where
   pub gates : o .gates ≤ k
   pub copies : o .copies ≤ k
   pub joins : o .joins ≤ 1
-  pub outputs : o .outputs ≤ 3
 
--- The operators and links of row r and all below it; a body's row is counted with the returned width of its whole loop.
+-- The count of row r and all below it; a body's row is counted with the returned width of its whole loop.
 abbrev pub countAt : List ℕ → List Bool → ℕ → ℕ → Count
 countAt t p n r = countIn (getD (loopsOf t p (λ k. returnedIn (nodeAt t p k)) n) (r - 1) 0) (nodeAt t p r)
+
+-- Test 10: "over 1,024 operators".
+abbrev pub totalOf : ℕ → Total
+totalOf k = cond (leb k 1024) (Within k) Over

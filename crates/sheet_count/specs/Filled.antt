@@ -1,4 +1,4 @@
--- The tables that test 10 of document 01 reads, and what it leaves.
+-- The tables that test 10 of document 01 reads.
 use Prim.Native.Nat.{ℕ, _≤_}
 use mathlib.Core.Path.{_≡_}
 use mathlib.Core.Bool.{Bool}
@@ -9,12 +9,12 @@ use Rattle.sheet_tables.specs.Nodes.{nodeAt, returnedIn, iteratedIn, freeIn, Ho
 use Rattle.sheet_tables.specs.Ends.{endsIn}
 use Rattle.sheet_tables.specs.Loops.{loopsOf}
 use Rattle.sheet_tables.specs.Ready.{Ready}
-use Rattle.sheet_count.specs.Counts.{countAt}
 
 -- The tables that test 10 reads: loop widths w, masks m, returned and iterated widths, ends f.
 pub record Filled (t : List ℕ) (n : ℕ) (p : List Bool) (w m ret it f : List ℕ) : Type 0 where
   pub ready : Ready t n p
   pub some : 1 ≤ n
+  pub few : n ≤ 200
   pub loops : w ≡ loopsOf t p (λ k. returnedIn (nodeAt t p k)) n
   pub masks : Holds 0 m n (λ k. mask (freeIn (nodeAt t p k)))
   pub returned : Holds 0 ret n (λ k. returnedIn (nodeAt t p k))
@@ -24,10 +24,3 @@ pub record Filled (t : List ℕ) (n : ℕ) (p : List Bool) (w m ret it f : List 
   pub returned-size : length ret ≡ n
   pub iterated-size : length it ≡ n
   pub ends-size : length f ≡ n
-
--- What test 10 leaves in the tables of ends, loop widths and counts.
-pub record Graphed (t : List ℕ) (n : ℕ) (p : List Bool) (f w k l : List ℕ) : Type 0 where
-  pub ends : Holds 0 f n (λ r. endsIn (nodeAt t p r))
-  pub loops : w ≡ loopsOf t p (λ r. returnedIn (nodeAt t p r)) n
-  pub operators : Holds 0 k n (λ r. countAt t p n r .operators)
-  pub links : Holds 0 l n (λ r. countAt t p n r .links)

@@ -1,9 +1,12 @@
-// The operators and links of each row with all below it, and test 10 of document 01, "over 1,024 operators". A row has at
-// least the operators of the rows that it names, so the first row over 1,024 decides.
-use formula::Check;
+// The operators of each row with all below it, and test 10 of document 01, "over 1,024 operators". A row has at least the
+// operators of the rows that it names, so the first row over 1,024 decides.
 use formula::Shape;
+use names::TRIGGER_MASK;
 use names::count;
+use sheet_fields::blank;
 use sheet_fields::shape::shape_at;
+use sheet_tables::ends::find_ends;
+use sheet_tables::loops::find_loops;
 use sheet_tables::masks::mask_at;
 use sheet_tables::masks::outside;
 use sheet_tables::masks::plain_mask;
@@ -15,24 +18,25 @@ ghost use lib.ListN.{length, getD};
 ghost use Rattle.formula.specs.Sheet.{namedIn};
 ghost use Rattle.formula.specs.TreeLaws.{AllBetween};
 ghost use Rattle.sheet_tables.specs.Masks.{Ranged};
-ghost use Rattle.sheet_count.specs.Counts.{own as ownOf, sharing as sharingOf, ifCopies, armGates, expIf, forOwn, bothIterate, oneReturns, bodyIf, plainOwn, ended as endedOf, ownBy, ownOperators, ownLinks, namedTotal, Small, countAt};
-ghost use lib.ListN.{replicate};
-ghost use lib.Dec.{leb};
-ghost use Rattle.formula.specs.declared.Check.the-variants.{Passed};
-ghost use Rattle.formula.specs.Tests.{whole, operatorsOf};
-ghost use Rattle.sheet_tables.specs.Nodes.{Holds};
+ghost use Rattle.sheet_count.specs.Counts.{own as ownOf, sharing as sharingOf, ifCopies, armGates, expIf, forOwn, bothIterate, oneReturns, bodyIf, plainOwn, ended as endedOf, ownBy, ownOperators, namedTotal, Small, totalOf};
+ghost use Rattle.formula.specs.Tests.{operatorsOf};
 ghost use Rattle.sheet_count.specs.Filled.{Filled};
+ghost use Rattle.sheet_tables.specs.Ready.{Ready, Noded};
 
-// The operators of a row's own: gates with one output, two-way copies, and IC gates with their outputs.
+// The operators of a row's own: gates with one output, two-way copies, and IC gates.
 pub struct Own {
     pub gates: u32,
     pub copies: u32,
     pub joins: u32,
-    pub outputs: u32,
 }
 
-// The trigger, name 32.
-const TRIGGER: u64 = 4294967296;
+// What test 10 says: the operators of the formula, or that they are too many.
+pub enum Total {
+    Within(u32),
+    Over,
+}
+
+const MOST_OPERATORS: u32 = 1024;
 
 // Gates and copies alone.
 fn simple(gates: u32, copies: u32) -> Own
@@ -42,7 +46,6 @@ fn simple(gates: u32, copies: u32) -> Own
         gates,
         copies,
         joins: 0,
-        outputs: 0,
     }
 }
 
@@ -122,30 +125,32 @@ fn body_if(x: u64, y: u64, z: u64, v: u32, w: u32, e: u32, f: u32) -> Own
         gates: g + when(both, v) + when(one_returns(e, f), w),
         copies: if_copies(x, y, z) + g + when(both, less_one(v)) + less_one(w),
         joins: 1,
-        outputs: 2 + when(both, 1),
     }
 }
 
 // The operators of row r's own, of shape s, read as an expression.
-fn plain_own(s: Shape, r: usize, m: &[u64], ret: &[u8]) -> Own
-    requires { ⌜ (AllBetween r (namedIn s)) × (Ranged s) × (r ≤ length (now m) + 1) × (r ≤ length (now ret) + 1) ⌝ }
-    ensures { λ o. ⌜ (o ≡ plainOwn (λ k. getD (now (m .entry)) (k - 1) 0) (λ k. getD (now (ret .entry)) (k - 1) 0) s) × (Small 1000 o) ⌝ }
+fn plain_own(s: Shape, r: usize, masks: &[u64], returned: &[u8]) -> Own
+    requires { ⌜ (AllBetween r (namedIn s)) × (Ranged s) × (r ≤ length (now masks) + 1) × (r ≤ length (now returned) + 1) ⌝ }
+    ensures { λ o. ⌜ (o ≡ plainOwn (λ k. getD (now (masks .entry)) (k - 1) 0) (λ k. getD (now (returned .entry)) (k - 1) 0) s) × (Small 1000 o) ⌝ }
 {
     match s {
         Shape::Identifier(_) => simple(0, 0),
         Shape::Whole(_) => simple(1, 0),
         Shape::Truth(_) => simple(1, 0),
-        Shape::Pair(a, b) => simple(0, sharing(mask_at(m, a), mask_at(m, b))),
+        Shape::Pair(a, b) => simple(0, sharing(mask_at(masks, a), mask_at(masks, b))),
         Shape::Operator(_, _) => simple(1, 0),
-        Shape::Let(a, b, c, d) => simple(0, sharing(mask_at(m, c), outside(mask_at(m, d), a, b))),
-        Shape::If(a, b, c) => exp_if(
-            mask_at(m, a),
-            mask_at(m, b),
-            mask_at(m, c),
-            width_at(ret, b),
+        Shape::Let(a, b, c, d) => simple(
+            0,
+            sharing(mask_at(masks, c), outside(mask_at(masks, d), a, b)),
         ),
-        Shape::For(a, b, c, d) => for_own(mask_at(m, c), mask_at(m, d), a, b),
-        Shape::Iter(a) => simple(1, sharing(TRIGGER, mask_at(m, a))),
+        Shape::If(a, b, c) => exp_if(
+            mask_at(masks, a),
+            mask_at(masks, b),
+            mask_at(masks, c),
+            width_at(returned, b),
+        ),
+        Shape::For(a, b, c, d) => for_own(mask_at(masks, c), mask_at(masks, d), a, b),
+        Shape::Iter(a) => simple(1, sharing(TRIGGER_MASK, mask_at(masks, a))),
     }
 }
 
@@ -156,9 +161,8 @@ fn ended(o: Own, m: u64) -> Own
 {
     Own {
         gates: o.gates + 1,
-        copies: o.copies + sharing(TRIGGER, m),
+        copies: o.copies + sharing(TRIGGER_MASK, m),
         joins: o.joins,
-        outputs: o.outputs,
     }
 }
 
@@ -168,61 +172,61 @@ fn own_of(
     r: usize,
     in_body: bool,
     w: u32,
-    m: &[u64],
-    ret: &[u8],
-    it: &[u8],
-    f: &[u8],
+    masks: &[u64],
+    returned: &[u8],
+    iterated: &[u8],
+    ends: &[u8],
 ) -> Own
-    requires { ⌜ (AllBetween r (namedIn s)) × (Ranged s) × (w < 256) × (r ≤ length (now m) + 1) × (r ≤ length (now ret) + 1) × (r ≤ length (now it) + 1) × (r ≤ length (now f) + 1) ⌝ }
-    ensures { λ o. ⌜ (o ≡ ownBy «in_body» (λ k. getD (now (m .entry)) (k - 1) 0) (λ k. getD (now (ret .entry)) (k - 1) 0) (λ k. getD (now (it .entry)) (k - 1) 0) (λ k. getD (now (f .entry)) (k - 1) 0) w s) × (Small 2000 o) ⌝ }
+    requires { ⌜ (AllBetween r (namedIn s)) × (Ranged s) × (w < 256) × (r ≤ length (now masks) + 1) × (r ≤ length (now returned) + 1) × (r ≤ length (now iterated) + 1) × (r ≤ length (now ends) + 1) ⌝ }
+    ensures { λ o. ⌜ (o ≡ ownBy «in_body» (λ k. getD (now (masks .entry)) (k - 1) 0) (λ k. getD (now (returned .entry)) (k - 1) 0) (λ k. getD (now (iterated .entry)) (k - 1) 0) (λ k. getD (now (ends .entry)) (k - 1) 0) w s) × (Small 2000 o) ⌝ }
 {
-    let plain = plain_own(s, r, m, ret);
+    let plain = plain_own(s, r, masks, returned);
     if !in_body {
         return plain;
     }
     match s {
-        Shape::Identifier(_) => ended(plain, plain_mask(s, r, m)),
-        Shape::Whole(_) => ended(plain, plain_mask(s, r, m)),
-        Shape::Truth(_) => ended(plain, plain_mask(s, r, m)),
-        Shape::Pair(_, _) => ended(plain, plain_mask(s, r, m)),
-        Shape::Operator(_, _) => ended(plain, plain_mask(s, r, m)),
+        Shape::Identifier(_) => ended(plain, plain_mask(s, r, masks)),
+        Shape::Whole(_) => ended(plain, plain_mask(s, r, masks)),
+        Shape::Truth(_) => ended(plain, plain_mask(s, r, masks)),
+        Shape::Pair(_, _) => ended(plain, plain_mask(s, r, masks)),
+        Shape::Operator(_, _) => ended(plain, plain_mask(s, r, masks)),
         Shape::Let(_, _, _, _) => plain,
         Shape::If(a, b, c) => body_if(
-            mask_at(m, a),
-            mask_at(m, b),
-            mask_at(m, c),
-            width_at(it, b),
+            mask_at(masks, a),
+            mask_at(masks, b),
+            mask_at(masks, c),
+            width_at(iterated, b),
             w,
-            width_at(f, b),
-            width_at(f, c),
+            width_at(ends, b),
+            width_at(ends, c),
         ),
-        Shape::For(_, _, _, _) => ended(plain, plain_mask(s, r, m)),
+        Shape::For(_, _, _, _) => ended(plain, plain_mask(s, r, masks)),
         Shape::Iter(_) => plain,
     }
 }
 
-fn number_at(l: &[u32], r: usize) -> u32
-    requires { ⌜ (1 ≤ r) × (r ≤ length (now l)) ⌝ }
-    ensures { λ v. ⌜ v ≡ getD (now (l .entry)) (r - 1) 0 ⌝ }
+fn number_at(counts: &[u32], r: usize) -> u32
+    requires { ⌜ (1 ≤ r) × (r ≤ length (now counts)) ⌝ }
+    ensures { λ v. ⌜ v ≡ getD (now (counts .entry)) (r - 1) 0 ⌝ }
 {
-    l[r - 1]
+    counts[r - 1]
 }
 
 // The sum of the entries of the rows that row r names.
-fn named_total(s: Shape, r: usize, l: &[u32]) -> u32
-    requires { ⌜ (AllBetween r (namedIn s)) × (r ≤ length (now l) + 1) × ((k : ℕ) → getD (now l) k 0 ≤ 3072) ⌝ }
-    ensures { λ v. ⌜ (v ≡ namedTotal (λ k. getD (now (l .entry)) (k - 1) 0) s) × (v ≤ 9216) ⌝ }
+fn named_total(s: Shape, r: usize, counts: &[u32]) -> u32
+    requires { ⌜ (AllBetween r (namedIn s)) × (r ≤ length (now counts) + 1) × ((k : ℕ) → getD (now counts) k 0 ≤ 3072) ⌝ }
+    ensures { λ v. ⌜ (v ≡ namedTotal (λ k. getD (now (counts .entry)) (k - 1) 0) s) × (v ≤ 9216) ⌝ }
 {
     match s {
         Shape::Identifier(_) => 0,
         Shape::Whole(_) => 0,
         Shape::Truth(_) => 0,
-        Shape::Pair(a, b) => number_at(l, a) + number_at(l, b),
-        Shape::Operator(_, b) => number_at(l, b),
-        Shape::Let(_, _, c, d) => number_at(l, c) + number_at(l, d),
-        Shape::If(a, b, c) => number_at(l, a) + number_at(l, b) + number_at(l, c),
-        Shape::For(_, _, c, d) => number_at(l, c) + number_at(l, d),
-        Shape::Iter(a) => number_at(l, a),
+        Shape::Pair(a, b) => number_at(counts, a) + number_at(counts, b),
+        Shape::Operator(_, b) => number_at(counts, b),
+        Shape::Let(_, _, c, d) => number_at(counts, c) + number_at(counts, d),
+        Shape::If(a, b, c) => number_at(counts, a) + number_at(counts, b) + number_at(counts, c),
+        Shape::For(_, _, c, d) => number_at(counts, c) + number_at(counts, d),
+        Shape::Iter(a) => number_at(counts, a),
     }
 }
 
@@ -233,42 +237,69 @@ fn operators_of(o: Own, below: u32) -> u32
     o.gates + o.copies + o.joins + below
 }
 
-fn links_of(o: Own, below: u32) -> u32
-    requires { ⌜ (Small 2000 o) × (below ≤ 9216) ⌝ }
-    ensures { λ k. ⌜ k ≡ ownLinks o + below ⌝ }
-{
-    o.gates + 2 * o.copies + o.outputs + below
-}
-
-// Test 10, with the counts of each row; w has the loop widths, m the masks, ret and it the widths, f the ends.
-pub fn test_operators(
-    t: &[u32],
+// The operators of the last row with all below it; the tables have the rows' loop widths, masks, widths and ends.
+fn count_rows(
+    fields: &[u32],
     n: usize,
-    p: &[bool],
-    w: &[u8],
-    m: &[u64],
-    ret: &[u8],
-    it: &[u8],
-    f: &[u8],
-    operators: &mut [u32],
-    links: &mut [u32],
-) -> Check
-    requires { ⌜ (Filled (now t) n (now p) (now w) (now m) (now ret) (now it) (now f)) × (now operators ≡ replicate n 0) × (now links ≡ replicate n 0) ⌝ }
-    ensures { λ r. ⌜ (r ≡ whole (leb (operatorsOf (now (t .entry)) n) 1024))
-        × (r ≡ Passed → (Holds 0 (now (operators .exit)) n (λ k. countAt (now (t .entry)) (now (p .entry)) n k .operators)) × (Holds 0 (now (links .exit)) n (λ k. countAt (now (t .entry)) (now (p .entry)) n k .links))) ⌝ }
+    places: &[bool],
+    loops: &[u8],
+    masks: &[u64],
+    returned: &[u8],
+    iterated: &[u8],
+    ends: &[u8],
+) -> Total
+    requires { ⌜ Filled (now fields) n (now places) (now loops) (now masks) (now returned) (now iterated) (now ends) ⌝ }
+    ensures { λ r. ⌜ r ≡ totalOf (operatorsOf (now (fields .entry)) n) ⌝ }
 {
+    let mut operators = blank::numbers();
     let mut i = 0;
     while i < n {
         let r = i + 1;
-        let s = shape_at(t, r);
-        let o = own_of(s, r, p[i], width_at(w, r), m, ret, it, f);
-        let k = operators_of(o, named_total(s, r, &operators[..i]));
-        if 1024 < k {
-            return Check::Fault(0);
+        let s = shape_at(fields, r);
+        let own = own_of(
+            s,
+            r,
+            places[i],
+            width_at(loops, r),
+            masks,
+            returned,
+            iterated,
+            ends,
+        );
+        let total = operators_of(own, named_total(s, r, &operators[..i]));
+        if MOST_OPERATORS < total {
+            return Total::Over;
         }
-        operators[i] = k;
-        links[i] = links_of(o, named_total(s, r, &links[..i]));
+        operators[i] = total;
         i += 1;
     }
-    Check::Passed
+    Total::Within(operators[n - 1])
+}
+
+// Test 10 of n rows in these places, with their masks and widths.
+pub fn test_operators(
+    fields: &[u32],
+    n: usize,
+    places: &[bool],
+    returned: &[u8],
+    iterated: &[u8],
+    masks: &[u64],
+) -> Total
+    requires { ⌜ (Ready (now fields) n (now places)) × (1 ≤ n) × (n ≤ 200) × (Noded (now fields) n (now places) (now returned) (now iterated) (now masks)) ⌝ }
+    ensures { λ r. ⌜ r ≡ totalOf (operatorsOf (now (fields .entry)) n) ⌝ }
+{
+    let mut ends = blank::bytes();
+    find_ends(fields, n, &mut ends[..n]);
+    let mut loops = blank::bytes();
+    find_loops(fields, n, places, returned, &mut loops[..n]);
+    count_rows(
+        fields,
+        n,
+        places,
+        &loops[..n],
+        masks,
+        returned,
+        iterated,
+        &ends[..n],
+    )
 }

@@ -26,16 +26,15 @@ use Rattle.sheet_tables.specs.Nodes.{nodeAt, returnedIn, freeIn}
 use Rattle.sheet_tables.specs.Masks.{triggerMask}
 use Rattle.sheet_tables.specs.Ready.{Ready}
 use Rattle.sheet_read.specs.Reading.{Tables, Accepts}
-use Rattle.sheet_count.proofs.OperatorLaws.{last-count}
 use Rattle.sheet_read.proofs.ReadLaws.{some-rows}
 
 same-figures : (f g : Figures) → f .rows ≡ g .rows → f .operators ≡ g .operators → f .inputs ≡ g .inputs → f .results ≡ g .results → f ≡ g
 same-figures f g a b c d = λ i. record { rows = a i; operators = b i; inputs = c i; results = d i }
 
 -- The last row's node.
-last-node : (t : List ℕ) (n : ℕ) (p : List Bool) → Ready t n p → 1 ≤ n → nodeAt t p n ≡ expression (expOf t n)
+last-node : (t : List ℕ) (n : ℕ) → Ready t n (placesOf t n) → 1 ≤ n → nodeAt t (placesOf t n) n ≡ expression (expOf t n)
 unfolding nodeIn
-last-node t n p ok h = ap (λ (b : Bool). nodeIn b t n) (ap (λ (q : List Bool). inBody q n) (ok .places) ∙ last-place t n (ok .sound .named) h)
+last-node t n ok h = ap (λ (b : Bool). nodeIn b t n) (last-place t n (ok .sound .named) h)
 
 module _ (s : List ℕ) (x : Tables) (ok : Accepts s x) where
   entry : (l : List ℕ) → getD l (x .rows - 1) 0 ≡ getD (take (rowCount s) l) (rowCount s - 1) 0
@@ -43,19 +42,14 @@ module _ (s : List ℕ) (x : Tables) (ok : Accepts s x) where
       ap (λ (k : ℕ). getD l (k - 1) 0) (ok .rows)
       ∙ sym (getD-take (rowCount s) l (rowCount s - 1) 0 (let a = ok .some in omega arith))
 
-  last : nodeAt (fieldsOf s) (take (rowCount s) (x .places)) (rowCount s) ≡ expression (expOf (fieldsOf s) (rowCount s))
-  last = last-node (fieldsOf s) (rowCount s) (take (rowCount s) (x .places)) (ok .tables .ready) (ok .some)
-
-  operators-are : getD (x .operators) (x .rows - 1) 0 ≡ operatorsOf (fieldsOf s) (rowCount s)
-  operators-are =
-      entry (x .operators) ∙ ok .tables .graph .operators .entry (rowCount s) (ok .some) (omega arith)
-      ∙ last-count (fieldsOf s) (rowCount s) (take (rowCount s) (x .places)) (ok .tables .ready) (ok .some)
+  last : nodeAt (fieldsOf s) (placesOf (fieldsOf s) (rowCount s)) (rowCount s) ≡ expression (expOf (fieldsOf s) (rowCount s))
+  last = last-node (fieldsOf s) (rowCount s) (ok .tables .ready) (ok .some)
 
   results-are : getD (x .returned) (x .rows - 1) 0 ≡ width (expOf (fieldsOf s) (rowCount s))
-  results-are = entry (x .returned) ∙ ok .tables .nodes .returned .entry (rowCount s) (ok .some) (omega arith) ∙ ap returnedIn last
+  results-are = entry (x .returned) ∙ ok .tables .returned .entry (rowCount s) (ok .some) (omega arith) ∙ ap returnedIn last
 
   mask-is : getD (x .masks) (x .rows - 1) 0 ≡ mask (freeE (expOf (fieldsOf s) (rowCount s)))
-  mask-is = entry (x .masks) ∙ ok .tables .nodes .masks .entry (rowCount s) (ok .some) (omega arith) ∙ ap (λ (z : Node). mask (freeIn z)) last
+  mask-is = entry (x .masks) ∙ ok .tables .masks .entry (rowCount s) (ok .some) (omega arith) ∙ ap (λ (z : Node). mask (freeIn z)) last
 
   inputs-are : ones (bitAnd (getD (x .masks) (x .rows - 1) 0) ((2 ^ 64 - 1) - triggerMask)) ≡ length (inputsOf (expOf (fieldsOf s) (rowCount s)))
   unfolding inputsOf
@@ -65,10 +59,10 @@ module _ (s : List ℕ) (x : Tables) (ok : Accepts s x) where
       ∙ sym (length-members (without (freeE (expOf (fieldsOf s) (rowCount s))) (one trigger)))
 
   -- The figures that the code makes.
-  pub figures-are : (f : Figures) → f .rows ≡ x .rows → f .operators ≡ getD (x .operators) (x .rows - 1) 0
+  pub figures-are : (f : Figures) → f .rows ≡ x .rows → f .operators ≡ x .operators
       → f .inputs ≡ ones (bitAnd (getD (x .masks) (x .rows - 1) 0) ((2 ^ 64 - 1) - triggerMask)) → f .results ≡ getD (x .returned) (x .rows - 1) 0 → f ≡ figuresOf s
   unfolding figuresOf operatorsOf formulaOf
-  figures-are f a b c d = same-figures f (figuresOf s) (a ∙ ok .rows) (b ∙ operators-are) (c ∙ inputs-are) (d ∙ results-are)
+  figures-are f a b c d = same-figures f (figuresOf s) (a ∙ ok .rows) (b ∙ ok .tables .operators) (c ∙ inputs-are) (d ∙ results-are)
 
 pub answer-modest : (s : List ℕ) (f : Figures) → readingOf s ≡ Accepted f → Modest f
 answer-modest s f h =

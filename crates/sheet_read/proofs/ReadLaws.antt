@@ -1,7 +1,7 @@
 -- The tests in order: what passes says what the next test may rest on, and the first fault is the verdict.
 use Prim.Native.Nat.{ℕ, zero, suc, _+_, _*_, _-_, _/_, _%_, _≤_, _<_}
 use mathlib.Core.Path.{_≡_, refl, sym, ap, subst, _∙_}
-use mathlib.Core.Bool.{Bool, true, false, not, cond, _&&_}
+use mathlib.Core.Bool.{Bool, true, false, not, cond, _&&_, false≢true}
 use mathlib.Core.List.{List, [], _∷_, _++_}
 use native.Mathlib.Omega.{arith}
 use lib.Dec.{leb, eqb}
@@ -22,35 +22,25 @@ use Rattle.formula.specs.Tests.{afterCheck, whole, is-passed, lowest, endedAt, 
 use Rattle.formula.specs.TestLaws.{passed-each}
 use Rattle.formula.specs.TreeLaws.{and-true}
 use Rattle.sheet_fields.specs.Decoding.{seen}
-use Rattle.sheet_tables.specs.Ready.{Ready, Noded}
-use Rattle.sheet_read.specs.Reading.{rowVerdict, placeVerdict, nodeVerdict, graphVerdict, formulaVerdict, Rowed}
+use Rattle.names.specs.Names.{mask}
+use Rattle.sheet_tables.specs.Nodes.{nodeAt, returnedIn, freeIn, Holds}
+use Rattle.sheet_tables.specs.Ready.{Ready}
+use Rattle.sheet_count.specs.declared.count.Total.{Total}
+use Rattle.sheet_count.specs.declared.count.Total.the-variants.{Within, Over}
+use Rattle.sheet_count.specs.Counts.{totalOf}
+use Rattle.sheet_read.specs.Reading.{rowVerdict, placeVerdict, tableVerdict, formulaVerdict, Rowed}
 use Rattle.sheet_rows.proofs.RowLaws.{named-by}
 
 -- All tests in their order.
 pub verdict-is : (s : List ℕ) → verdictOf s
-    ≡ rowVerdict s (placeVerdict (fieldsOf s) (rowCount s) (nodeVerdict (fieldsOf s) (placesOf (fieldsOf s) (rowCount s)) (rowCount s) (graphVerdict (fieldsOf s) (rowCount s))))
-unfolding verdictOf verdictBy tests rowTests formulaTests graphTests sheetOf rowVerdict placeVerdict nodeVerdict graphVerdict
+    ≡ rowVerdict s (formulaVerdict (fieldsOf s) (rowCount s))
+unfolding verdictOf verdictBy tests rowTests formulaTests graphTests sheetOf rowVerdict placeVerdict tableVerdict formulaVerdict
 verdict-is s = refl
 
 -- A verdict that goes on where it passed.
 abbrev pub then : Verdict → Verdict → Verdict
 then passed later = later
 then (Refused r row) later = Refused r row
-
-one-check : (r : Refusal) (c : Check) (later : Verdict) → afterCheck r c later ≡ then (afterCheck r c passed) later
-unfolding afterCheck
-one-check r Passed later = refl
-one-check r (Fault row) later = refl
-
-then-then : (u v w : Verdict) → then (then u v) w ≡ then u (then v w)
-then-then passed v w = refl
-then-then (Refused r row) v w = refl
-
-two-checks : (r q : Refusal) (c d : Check) (later : Verdict) → afterCheck r c (afterCheck q d later) ≡ then (afterCheck r c (afterCheck q d passed)) later
-unfolding afterCheck
-two-checks r q Passed Passed later = refl
-two-checks r q Passed (Fault row) later = refl
-two-checks r q (Fault row) d later = refl
 
 -- Tests 1 to 5 by what each says.
 abbrev pub five : Verdict → Check → Check → Check → Check → Check → Verdict
@@ -165,18 +155,7 @@ module _ (s : List ℕ) where
       ∙ subst (λ (j : ℕ). take j (paste t 0 (fieldsOf s) (5 * n)) ≡ take (5 * n) (fieldsOf s)) z (take-paste t 0 (fieldsOf s) (5 * n) (omega arith) g)
       ∙ take-all (5 * n) (fieldsOf s) (omega arith)
 
-pub place-then : (t : List ℕ) (n : ℕ) (later : Verdict) → placeVerdict t n later ≡ then (placeVerdict t n passed) later
-unfolding placeVerdict
-place-then t n later = two-checks Named StrayIter (lowest (n - 1) (λ k. namedOnce (allNamed t n) k)) (lowest n (placedWell t (placesOf t n))) later
-
-pub node-then : (t : List ℕ) (p : List Bool) (n : ℕ) (later : Verdict) → nodeVerdict t p n later ≡ then (nodeVerdict t p n passed) later
-unfolding nodeVerdict
-node-then t p n later = two-checks Width Unused (lowest n (widthsWell t p)) (lowest n (boundWell t p)) later
-
--- Two tests by what each says.
-two-by : (r q : Refusal) (c d a b : Check) → c ≡ a → d ≡ b → afterCheck r c (afterCheck q d passed) ≡ afterCheck r a (afterCheck q b passed)
-two-by r q c d a b e f = ap (λ (x : Check). afterCheck r x (afterCheck q d passed)) e ∙ ap (λ (x : Check). afterCheck r a (afterCheck q x passed)) f
-
+-- Tests 6 and 7 by what each says, before later ones.
 module _ (t : List ℕ) (n : ℕ) where
   abbrev sixth : Check
   sixth = lowest (n - 1) (λ k. namedOnce (allNamed t n) k)
@@ -184,44 +163,23 @@ module _ (t : List ℕ) (n : ℕ) where
   abbrev seventh : Check
   seventh = lowest n (placedWell t (placesOf t n))
 
-  pub fault-sixth : (r : ℕ) → sixth ≡ Fault r → Refused Named r ≡ placeVerdict t n passed
-  unfolding placeVerdict
-  fault-sixth r u = sym (two-by Named StrayIter sixth seventh (Fault r) seventh u refl)
+  places-by : (a b : Check) → sixth ≡ a → seventh ≡ b → formulaVerdict t n ≡ afterCheck Named a (afterCheck StrayIter b (tableVerdict t (placesOf t n) n))
+  unfolding formulaVerdict placeVerdict
+  places-by a b e f =
+      ap (λ (x : Check). afterCheck Named x (afterCheck StrayIter seventh (tableVerdict t (placesOf t n) n))) e
+      ∙ ap (λ (x : Check). afterCheck Named a (afterCheck StrayIter x (tableVerdict t (placesOf t n) n))) f
 
-  pub fault-seventh : sixth ≡ Passed → (r : ℕ) → seventh ≡ Fault r → Refused StrayIter r ≡ placeVerdict t n passed
-  unfolding placeVerdict
-  fault-seventh u r v = sym (two-by Named StrayIter sixth seventh Passed (Fault r) u v)
+  pub fault-sixth : (r : ℕ) → sixth ≡ Fault r → Refused Named r ≡ formulaVerdict t n
+  unfolding afterCheck
+  fault-sixth r u = sym (places-by (Fault r) seventh u refl)
 
-  pub places-pass : sixth ≡ Passed → seventh ≡ Passed → passed ≡ placeVerdict t n passed
-  unfolding placeVerdict
-  places-pass u v = sym (two-by Named StrayIter sixth seventh Passed Passed u v)
+  pub fault-seventh : sixth ≡ Passed → (r : ℕ) → seventh ≡ Fault r → Refused StrayIter r ≡ formulaVerdict t n
+  unfolding afterCheck
+  fault-seventh u r v = sym (places-by Passed (Fault r) u v)
 
-  pub fault-tenth : (r : ℕ) → whole (leb (operatorsOf t n) 1024) ≡ Fault r → Refused Operators r ≡ graphVerdict t n
-  unfolding graphVerdict
-  fault-tenth r u = sym (ap (λ (x : Check). afterCheck Operators x passed) u)
-
-  pub graph-passes : whole (leb (operatorsOf t n) 1024) ≡ Passed → passed ≡ graphVerdict t n
-  unfolding graphVerdict
-  graph-passes u = sym (ap (λ (x : Check). afterCheck Operators x passed) u)
-
-  module _ (p : List Bool) where
-    abbrev eighth : Check
-    eighth = lowest n (widthsWell t p)
-
-    abbrev ninth : Check
-    ninth = lowest n (boundWell t p)
-
-    pub fault-eighth : (r : ℕ) → eighth ≡ Fault r → Refused Width r ≡ nodeVerdict t p n passed
-    unfolding nodeVerdict
-    fault-eighth r u = sym (two-by Width Unused eighth ninth (Fault r) ninth u refl)
-
-    pub fault-ninth : eighth ≡ Passed → (r : ℕ) → ninth ≡ Fault r → Refused Unused r ≡ nodeVerdict t p n passed
-    unfolding nodeVerdict
-    fault-ninth u r v = sym (two-by Width Unused eighth ninth Passed (Fault r) u v)
-
-    pub nodes-pass : eighth ≡ Passed → ninth ≡ Passed → passed ≡ nodeVerdict t p n passed
-    unfolding nodeVerdict
-    nodes-pass u v = sym (two-by Width Unused eighth ninth Passed Passed u v)
+  pub places-pass : sixth ≡ Passed → seventh ≡ Passed → tableVerdict t (placesOf t n) n ≡ formulaVerdict t n
+  unfolding afterCheck
+  places-pass u v = sym (places-by Passed Passed u v)
 
   -- What tests 4 to 7 say together.
   pub ready : length t ≡ 5 * n → lowest n (rangesWell t) ≡ Passed → lowest n (namesWell t) ≡ Passed → sixth ≡ Passed → seventh ≡ Passed → Ready t n (placesOf t n)
@@ -234,35 +192,70 @@ module _ (t : List ℕ) (n : ℕ) where
         iters = passed-each n (placedWell t (placesOf t n)) d;
       }
 
--- ---- tests 6 to 10
+-- ---- tests 8 to 10
 
-module _ (t : List ℕ) (n : ℕ) where
-  formula-then : formulaVerdict t n ≡ then (placeVerdict t n passed) (then (nodeVerdict t (placesOf t n) n passed) (graphVerdict t n))
-  unfolding formulaVerdict
-  formula-then =
-      place-then t n (nodeVerdict t (placesOf t n) n (graphVerdict t n))
-      ∙ ap (then (placeVerdict t n passed)) (node-then t (placesOf t n) n (graphVerdict t n))
+is-over : Total → Bool
+is-over Over = true
+is-over (Within k) = false
 
-  pub place-refuses : (v : Verdict) (r : Refusal) (row : ℕ) → v ≡ placeVerdict t n passed → v ≡ Refused r row → Refused r row ≡ formulaVerdict t n
-  place-refuses v r row e f =
-      sym (formula-then ∙ ap (λ (x : Verdict). then x (then (nodeVerdict t (placesOf t n) n passed) (graphVerdict t n))) (sym e ∙ f))
+amount : Total → ℕ
+amount Over = 0
+amount (Within k) = k
 
-  pub node-refuses : (u v : Verdict) (r : Refusal) (row : ℕ) → u ≡ placeVerdict t n passed → u ≡ passed → v ≡ nodeVerdict t (placesOf t n) n passed → v ≡ Refused r row
-      → Refused r row ≡ formulaVerdict t n
-  node-refuses u v r row d c e f =
-      sym (formula-then ∙ ap (λ (x : Verdict). then x (then (nodeVerdict t (placesOf t n) n passed) (graphVerdict t n))) (sym d ∙ c)
-      ∙ ap (λ (x : Verdict). then x (graphVerdict t n)) (sym e ∙ f))
+pub tenth-over : (k : ℕ) → totalOf k ≡ Over → whole (leb k 1024) ≡ Fault 0
+unfolding is-over
+tenth-over k h = go (leb k 1024) h
+  where
+    go : (b : Bool) → cond b (Within k) Over ≡ Over → whole b ≡ Fault 0
+    go true e = absurd (false≢true (ap is-over e))
+    go false e = refl
 
-  pub graph-decides : (u v : Verdict) → u ≡ placeVerdict t n passed → u ≡ passed → v ≡ nodeVerdict t (placesOf t n) n passed → v ≡ passed → graphVerdict t n ≡ formulaVerdict t n
-  graph-decides u v d c e f =
-      sym (formula-then ∙ ap (λ (x : Verdict). then x (then (nodeVerdict t (placesOf t n) n passed) (graphVerdict t n))) (sym d ∙ c)
-      ∙ ap (λ (x : Verdict). then x (graphVerdict t n)) (sym e ∙ f))
+pub tenth-within : (k j : ℕ) → totalOf k ≡ Within j → (whole (leb k 1024) ≡ Passed) × (j ≡ k)
+unfolding is-over amount
+tenth-within k j h = go (leb k 1024) h
+  where
+    go : (b : Bool) → cond b (Within k) Over ≡ Within j → (whole b ≡ Passed) × (j ≡ k)
+    go true e = (refl, sym (ap amount e))
+    go false e = absurd (false≢true (sym (ap is-over e)))
+
+module _ (t : List ℕ) (n : ℕ) (p : List Bool) where
+  abbrev eighth : Check
+  eighth = lowest n (widthsWell t p)
+
+  abbrev ninth : Check
+  ninth = lowest n (boundWell t p)
+
+  abbrev tenth : Check
+  tenth = whole (leb (operatorsOf t n) 1024)
+
+  tables-by : (a b c : Check) → eighth ≡ a → ninth ≡ b → tenth ≡ c → tableVerdict t p n ≡ afterCheck Width a (afterCheck Unused b (afterCheck Operators c passed))
+  unfolding tableVerdict
+  tables-by a b c e f g =
+      ap (λ (x : Check). afterCheck Width x (afterCheck Unused ninth (afterCheck Operators tenth passed))) e
+      ∙ ap (λ (x : Check). afterCheck Width a (afterCheck Unused x (afterCheck Operators tenth passed))) f
+      ∙ ap (λ (x : Check). afterCheck Width a (afterCheck Unused b (afterCheck Operators x passed))) g
+
+  pub fault-eighth : (r : ℕ) → eighth ≡ Fault r → Refused Width r ≡ tableVerdict t p n
+  unfolding afterCheck
+  fault-eighth r u = sym (tables-by (Fault r) ninth tenth u refl refl)
+
+  module _ (u : eighth ≡ Passed) where
+    pub fault-ninth : (r : ℕ) → ninth ≡ Fault r → Refused Unused r ≡ tableVerdict t p n
+    unfolding afterCheck
+    fault-ninth r v = sym (tables-by Passed (Fault r) tenth u v refl)
+
+    pub fault-tenth : ninth ≡ Passed → (x : Total) → x ≡ totalOf (operatorsOf t n) → x ≡ Over → Refused Operators 0 ≡ tableVerdict t p n
+    unfolding afterCheck
+    fault-tenth v x e f = sym (tables-by Passed Passed (Fault 0) u v (tenth-over (operatorsOf t n) (sym e ∙ f)))
+
+    pub tables-pass : ninth ≡ Passed → (x : Total) → x ≡ totalOf (operatorsOf t n) → (k : ℕ) → x ≡ Within k → passed ≡ tableVerdict t p n
+    unfolding afterCheck
+    tables-pass v x e k f = sym (tables-by Passed Passed Passed u v (tenth-within (operatorsOf t n) k (sym e ∙ f) .0))
 
 -- ---- all tests
 
 module _ (s : List ℕ) where
   all-then : verdictOf s ≡ then (rowVerdict s passed) (formulaVerdict (fieldsOf s) (rowCount s))
-  unfolding formulaVerdict
   all-then = verdict-is s ∙ row-then s (formulaVerdict (fieldsOf s) (rowCount s))
 
   pub rows-refuse : (v : Verdict) (r : Refusal) (row : ℕ) → v ≡ rowVerdict s passed → v ≡ Refused r row → Refused r row ≡ verdictOf s
@@ -271,6 +264,20 @@ module _ (s : List ℕ) where
   pub formula-decides : (v : Verdict) → v ≡ rowVerdict s passed → v ≡ passed → formulaVerdict (fieldsOf s) (rowCount s) ≡ verdictOf s
   formula-decides v e f = sym (all-then ∙ ap (λ (x : Verdict). then x (formulaVerdict (fieldsOf s) (rowCount s))) (sym e ∙ f))
 
-pub rowed-as : (n : ℕ) (t u : List ℕ) (p q : List Bool) (a b c d e f g a′ b′ c′ d′ e′ f′ g′ : List ℕ) → u ≡ t → q ≡ p
-    → a′ ≡ a → b′ ≡ b → c′ ≡ c → d′ ≡ d → e′ ≡ e → f′ ≡ f → g′ ≡ g → Rowed t n p a b c d e f g → Rowed u n q a′ b′ c′ d′ e′ f′ g′
-rowed-as n t u p q a b c d e f g a′ b′ c′ d′ e′ f′ g′ x y i j k l m o r h = rw (x, y, i, j, k, l, m, o, r) h
+-- ---- tables
+
+-- From what tests 8 and 9 leave for rows in places p.
+pub rowed-by : (t : List ℕ) (n k : ℕ) (p : List Bool) (ret m : List ℕ) → Ready t n p → k ≡ operatorsOf t n → Holds 0 ret n (λ r. returnedIn (nodeAt t p r))
+    → Holds 0 m n (λ r. mask (freeIn (nodeAt t p r))) → length ret ≡ n → length m ≡ n → Rowed t n k ret m
+rowed-by t n k p ret m ok e a b c d =
+    record {
+      ready = subst (λ (q : List Bool). Ready t n q) (ok .places) ok;
+      operators = e;
+      returned = subst (λ (q : List Bool). Holds 0 ret n (λ r. returnedIn (nodeAt t q r))) (ok .places) a;
+      masks = subst (λ (q : List Bool). Holds 0 m n (λ r. mask (freeIn (nodeAt t q r)))) (ok .places) b;
+      returned-size = c;
+      masks-size = d;
+    }
+
+pub rowed-as : (n k : ℕ) (t u ret m ret′ m′ : List ℕ) → u ≡ t → ret′ ≡ ret → m′ ≡ m → Rowed t n k ret m → Rowed u n k ret′ m′
+rowed-as n k t u ret m ret′ m′ x y z h = rw (x, y, z) h

@@ -2,15 +2,14 @@
 -- the firmware (document 01, "Said by what was handed in", 1 to 10).
 use Prim.Native.Nat.{ℕ, zero, suc, _+_, _*_, _-_, _≤_}
 use mathlib.Core.Path.{_≡_}
-use mathlib.Core.Bool.{Bool, false}
+use mathlib.Core.Bool.{Bool}
 use mathlib.Core.List.{List}
-use lib.ListN.{take, length, replicate}
+use lib.ListN.{take, length}
 use lib.Dec.{leb}
 use Rattle.formula.specs.declared.Refusal.{Refusal}
 use Rattle.formula.specs.declared.Refusal.the-variants.{Layout, Rows, Malformed, Range, Naming, Named, StrayIter, Width, Unused, Operators}
 use Rattle.formula.specs.declared.Verdict.{Verdict}
-use Rattle.formula.specs.declared.Verdict.the-variants.{Passed as passed, Refused}
-use Rattle.formula.specs.declared.Figures.{Figures}
+use Rattle.formula.specs.declared.Verdict.the-variants.{Passed as passed, Refused as refused}
 use Rattle.formula.specs.declared.Reading.{Reading}
 use Rattle.formula.specs.declared.Reading.the-variants.{Accepted, Rejected}
 use Rattle.formula.specs.Refusals.{numberOf}
@@ -18,8 +17,11 @@ use Rattle.formula.specs.Sheet.{rowCount, linesOf, fieldsOf}
 use Rattle.formula.specs.Places.{placesOf}
 use Rattle.formula.specs.Tests.{afterCheck, whole, lowest, laidOut, fewRows, fieldsWell, rangesWell, namesWell, namedOnce, allNamed, placedWell, widthsWell, boundWell, operatorsOf, verdictOf}
 use Rattle.sheet_read.specs.declared.read.ReadAnswer.{ReadAnswer}
-use Rattle.sheet_tables.specs.Ready.{Ready, Noded}
-use Rattle.sheet_count.specs.Filled.{Graphed}
+use Rattle.sheet_read.specs.declared.read.Tested.{Tested}
+use Rattle.sheet_read.specs.declared.read.Tested.the-variants.{Refused, Passed}
+use Rattle.names.specs.Names.{mask}
+use Rattle.sheet_tables.specs.Nodes.{nodeAt, returnedIn, freeIn, Holds}
+use Rattle.sheet_tables.specs.Ready.{Ready}
 
 -- Tests 1 to 5, then what later tests say.
 unfoldable pub rowVerdict : List ℕ → Verdict → Verdict
@@ -40,61 +42,49 @@ placeVerdict t n later =
     (afterCheck StrayIter (lowest n (placedWell t (placesOf t n)))
     later)
 
--- Tests 8 and 9; p has the rows' places.
-unfoldable pub nodeVerdict : List ℕ → List Bool → ℕ → Verdict → Verdict
-unfolding afterCheck widthsWell boundWell
-nodeVerdict t p n later =
+-- Tests 8 to 10; p has the rows' places.
+unfoldable pub tableVerdict : List ℕ → List Bool → ℕ → Verdict
+unfolding afterCheck widthsWell boundWell operatorsOf
+tableVerdict t p n =
     afterCheck Width (lowest n (widthsWell t p))
     (afterCheck Unused (lowest n (boundWell t p))
-    later)
-
--- Test 10.
-unfoldable pub graphVerdict : List ℕ → ℕ → Verdict
-unfolding afterCheck operatorsOf
-graphVerdict t n = afterCheck Operators (whole (leb (operatorsOf t n) 1024)) passed
+    (afterCheck Operators (whole (leb (operatorsOf t n) 1024))
+    passed))
 
 -- Tests 6 to 10.
 unfoldable pub formulaVerdict : List ℕ → ℕ → Verdict
-unfolding placeVerdict nodeVerdict graphVerdict
-formulaVerdict t n = placeVerdict t n (nodeVerdict t (placesOf t n) n (graphVerdict t n))
+unfolding placeVerdict tableVerdict
+formulaVerdict t n = placeVerdict t n (tableVerdict t (placesOf t n) n)
 
--- What the tables of n rows with the fields t hold once tests 6 to 10 have passed.
-pub record Rowed (t : List ℕ) (n : ℕ) (p : List Bool) (ret it m f w k l : List ℕ) : Type 0 where
-  pub ready : Ready t n p
-  pub nodes : Noded t n p ret it m
-  pub graph : Graphed t n p f w k l
+-- What the tests say, and the operators of an accepted sheet's formula.
+abbrev pub verdictIn : Tested → Verdict
+verdictIn (Refused r row) = refused r row
+verdictIn (Passed k) = passed
+
+abbrev pub operatorsIn : Tested → ℕ
+operatorsIn (Refused r row) = 0
+operatorsIn (Passed k) = k
+
+-- What is known of n rows with the fields t once tests 6 to 10 have passed: k operators, returned widths ret, masks m.
+pub record Rowed (t : List ℕ) (n k : ℕ) (ret m : List ℕ) : Type 0 where
+  pub ready : Ready t n (placesOf t n)
+  pub operators : k ≡ operatorsOf t n
+  pub returned : Holds 0 ret n (λ r. returnedIn (nodeAt t (placesOf t n) r))
+  pub masks : Holds 0 m n (λ r. mask (freeIn (nodeAt t (placesOf t n) r)))
+  pub returned-size : length ret ≡ n
+  pub masks-size : length m ≡ n
 
 -- The tables of a sheet by row, and what the tests say of it.
 pub record Tables : Type 0 where
   pub verdict : Verdict
+  pub operators : ℕ
   pub rows : ℕ
   pub fields : List ℕ
-  pub places : List Bool
   pub returned : List ℕ
-  pub iterated : List ℕ
   pub masks : List ℕ
-  pub ends : List ℕ
-  pub loops : List ℕ
-  pub operators : List ℕ
-  pub links : List ℕ
 
-abbrev pub tablesOf : Verdict → ℕ → List ℕ → List Bool → List ℕ → List ℕ → List ℕ → List ℕ → List ℕ → List ℕ → List ℕ → Tables
-tablesOf v n t p ret it m f w k l =
-    record { verdict = v; rows = n; fields = t; places = p; returned = ret; iterated = it; masks = m; ends = f; loops = w; operators = k; links = l }
-
--- Tables that reading the sheet s may be lent: blank, with room for its rows.
-pub record Blank (s t : List ℕ) (p : List Bool) (ret it m f w k l : List ℕ) : Type 0 where
-  pub capacity : ℕ
-  pub room : rowCount s ≤ 200 → rowCount s ≤ capacity
-  pub fields : length t ≡ 5 * capacity
-  pub places : p ≡ replicate capacity false
-  pub returned : length ret ≡ capacity
-  pub iterated : length it ≡ capacity
-  pub masks : length m ≡ capacity
-  pub ends : length f ≡ capacity
-  pub loops : w ≡ replicate capacity 0
-  pub operators : k ≡ replicate capacity 0
-  pub links : l ≡ replicate capacity 0
+abbrev pub tablesOf : Tested → ℕ → List ℕ → List ℕ → List ℕ → Tables
+tablesOf v n t ret m = record { verdict = verdictIn v; operators = operatorsIn v; rows = n; fields = t; returned = ret; masks = m }
 
 -- The tables of an accepted sheet.
 pub record Accepts (s : List ℕ) (x : Tables) : Type 0 where
@@ -102,8 +92,7 @@ pub record Accepts (s : List ℕ) (x : Tables) : Type 0 where
   pub some : 1 ≤ rowCount s
   pub few : rowCount s ≤ 200
   pub fields : take (5 * rowCount s) (x .fields) ≡ fieldsOf s
-  pub tables : Rowed (fieldsOf s) (rowCount s) (take (rowCount s) (x .places)) (take (rowCount s) (x .returned)) (take (rowCount s) (x .iterated))
-      (take (rowCount s) (x .masks)) (take (rowCount s) (x .ends)) (take (rowCount s) (x .loops)) (take (rowCount s) (x .operators)) (take (rowCount s) (x .links))
+  pub tables : Rowed (fieldsOf s) (rowCount s) (x .operators) (take (rowCount s) (x .returned)) (take (rowCount s) (x .masks))
 
 pub record Told (s : List ℕ) (x : Tables) : Type 0 where
   pub verdict : x .verdict ≡ verdictOf s

@@ -1,4 +1,4 @@
--- The tables of an accepted sheet (sheet/specs/Reading: Told) as the maker is lent them: their rows are few, and each table is as long as its rows ask.
+-- The tables of an accepted sheet (sheet_read/specs/Reading: Told) as the maker is lent them: their rows are few, and each table is as long as its rows ask.
 -- Assumes the reader's promise and an accepted sheet.
 use Prim.Native.Nat.{ℕ, _*_, _≤_}
 use mathlib.Core.Path.{_≡_, sym, subst}
@@ -27,13 +27,13 @@ module _ (s : List ℕ) (x : Tables) (told : Told s x) (passes : x .verdict ≡ 
   fields-long = omega (arith, fields-size, length-take (5 * x .rows) (x .fields))
 
   pub masks-size : x .rows ≡ length (take (x .rows) (x .masks))
-  masks-size = rw (A .rows) (sym (A .tables .nodes .masks-size))
+  masks-size = rw (A .rows) (sym (A .tables .masks-size))
 
   pub masks-long : x .rows ≤ length (x .masks)
   masks-long = omega (arith, masks-size, length-take (x .rows) (x .masks))
 
   pub widths-size : x .rows ≡ length (take (x .rows) (x .returned))
-  widths-size = rw (A .rows) (sym (A .tables .nodes .returned-size))
+  widths-size = rw (A .rows) (sym (A .tables .returned-size))
 
   pub widths-long : x .rows ≤ length (x .returned)
   widths-long = omega (arith, widths-size, length-take (x .rows) (x .returned))

@@ -4,10 +4,10 @@
 // answer and on every lent byte, and `start`, which the firmware's entry point calls, asks nothing of
 // its caller.
 use formula::Refusal;
-use formula::Verdict;
 use maker::Making;
 use maker::make;
 use sheet_fields::blank;
+use sheet_read::read::Tested;
 use sheet_read::read::fill_tables;
 ghost use mathlib.Core.Path.{_≡_};
 ghost use Prim.Native.Nat.{ℕ, _+_, _*_, _≤_, _<_};
@@ -132,29 +132,12 @@ fn build(sheet: &[u8], capacity: usize, mem: &mut [u8]) -> StartAnswer
     ensures { λ a. ⌜ begun a (now (mem .exit)) ≡ byVerdict (verdictOf (now (sheet .entry))) (formulaOf (now (sheet .entry))) capacity (now (mem .entry)) ⌝ }
 {
     let mut fields = blank::fields();
-    let mut places = blank::marks();
     let mut returned = blank::bytes();
-    let mut iterated = blank::bytes();
     let mut masks = blank::words();
-    let mut ends = blank::bytes();
-    let mut loops = blank::bytes();
-    let mut operators = blank::numbers();
-    let mut links = blank::numbers();
-    let verdict = fill_tables(
-        sheet,
-        &mut fields,
-        &mut places,
-        &mut returned,
-        &mut iterated,
-        &mut masks,
-        &mut ends,
-        &mut loops,
-        &mut operators,
-        &mut links,
-    );
-    match verdict {
-        Verdict::Refused(r, row) => refused(r, row as u32),
-        Verdict::Passed => {
+    let tested = fill_tables(sheet, &mut fields, &mut returned, &mut masks);
+    match tested {
+        Tested::Refused(r, row) => refused(r, row as u32),
+        Tested::Passed(_) => {
             let rows = sheet.len() / 31;
             let end = 5 * rows;
             let made = make(&fields[..end], rows, &masks[..rows], &returned[..rows], mem);

@@ -5,8 +5,6 @@ use Rattle.start.proofs.build.Reads as reads
 use Rattle.start.proofs.build.Lts as lts
 use Rattle.sheet_fields.proofs.blank.bytes.Reads as bytes-reads
 use Rattle.sheet_fields.proofs.blank.fields.Reads as fields-reads
-use Rattle.sheet_fields.proofs.blank.marks.Reads as marks-reads
-use Rattle.sheet_fields.proofs.blank.numbers.Reads as numbers-reads
 use Rattle.sheet_fields.proofs.blank.words.Reads as words-reads
 use Rattle.maker.proofs.make.Reads as make-reads
 use Rattle.sheet_read.proofs.read.fill_tables.Reads as fill-tables-reads
@@ -15,6 +13,7 @@ use Rattle.start.proofs.refused.Reads as refused-reads
 use mathlib.Core.Path.{_≡_, refl, sym, ap, _∙_, subst}
 use mathlib.Core.List.{List}
 use Prim.Native.Nat.{ℕ, _+_, _-_, _*_, _≤_, _<_}
+use Rattle.sheet_read.specs.Reading.{verdictIn}
 use lib.ListN.{length, take}
 use Rattle.formula.specs.Acceptance.{low-row}
 use Rattle.formula.specs.Sheet.{rowCount}
@@ -32,37 +31,13 @@ use native.Mathlib.Omega.{arith}
 fields-requires : tie.Need-fields-requires
 fields-requires c κs = search needs
 
--- src/lib.rt:134:22  let mut fields = blank::fields(); ⏎ let mut places = blank::marks();
-marks-requires : tie.Need-marks-requires
-marks-requires c κs = search needs
-
 -- src/lib.rt:135:24  let mut places = blank::marks(); ⏎ let mut returned = blank::bytes();
 bytes-requires : tie.Need-bytes-requires
 bytes-requires c κs = search needs
 
--- src/lib.rt:136:24  let mut returned = blank::bytes(); ⏎ let mut iterated = blank::bytes();
-bytes-requires-2 : tie.Need-bytes-requires-2
-bytes-requires-2 c κs = search needs
-
 -- src/lib.rt:137:21  let mut iterated = blank::bytes(); ⏎ let mut masks = blank::words();
 words-requires : tie.Need-words-requires
 words-requires c κs = search needs
-
--- src/lib.rt:138:20  let mut masks = blank::words(); ⏎ let mut ends = blank::bytes();
-bytes-requires-3 : tie.Need-bytes-requires-3
-bytes-requires-3 c κs = search needs
-
--- src/lib.rt:139:21  let mut ends = blank::bytes(); ⏎ let mut loops = blank::bytes();
-bytes-requires-4 : tie.Need-bytes-requires-4
-bytes-requires-4 c κs = search needs
-
--- src/lib.rt:140:25  let mut loops = blank::bytes(); ⏎ let mut operators = blank::numbers();
-numbers-requires : tie.Need-numbers-requires
-numbers-requires c κs = search needs
-
--- src/lib.rt:141:21  let mut operators = blank::numbers(); ⏎ let mut links = blank::numbers();
-numbers-requires-2 : tie.Need-numbers-requires-2
-numbers-requires-2 c κs = search needs
 
 -- src/lib.rt:144:9  sheet, ⏎ &mut fields,
 slice-aggregate-fill-tables : tie.Need-slice-aggregate-fill-tables
@@ -76,54 +51,18 @@ slice-aggregate-fill-tables-2 c = search needs
 slice-aggregate-fill-tables-3 : tie.Need-slice-aggregate-fill-tables-3
 slice-aggregate-fill-tables-3 c = search needs
 
--- src/lib.rt:147:9  &mut returned, ⏎ &mut iterated,
-slice-aggregate-fill-tables-4 : tie.Need-slice-aggregate-fill-tables-4
-slice-aggregate-fill-tables-4 c = search needs
-
--- src/lib.rt:148:9  &mut iterated, ⏎ &mut masks,
-slice-aggregate-fill-tables-5 : tie.Need-slice-aggregate-fill-tables-5
-slice-aggregate-fill-tables-5 c = search needs
-
--- src/lib.rt:149:9  &mut masks, ⏎ &mut ends,
-slice-aggregate-fill-tables-6 : tie.Need-slice-aggregate-fill-tables-6
-slice-aggregate-fill-tables-6 c = search needs
-
--- src/lib.rt:150:9  &mut ends, ⏎ &mut loops,
-slice-aggregate-fill-tables-7 : tie.Need-slice-aggregate-fill-tables-7
-slice-aggregate-fill-tables-7 c = search needs
-
--- src/lib.rt:151:9  &mut loops, ⏎ &mut operators,
-slice-aggregate-fill-tables-8 : tie.Need-slice-aggregate-fill-tables-8
-slice-aggregate-fill-tables-8 c = search needs
-
--- src/lib.rt:152:9  &mut operators, ⏎ &mut links,
-slice-aggregate-fill-tables-9 : tie.Need-slice-aggregate-fill-tables-9
-slice-aggregate-fill-tables-9 c = search needs
-
 -- src/lib.rt:142:9  let mut links = blank::numbers(); ⏎ let verdict = fill_tables(
 fill-tables-requires : tie.Need-fill-tables-requires
 fill-tables-requires c κs =
-    record {
-      capacity = 200;
-      room = λ h. h;
-      fields = ap length (c .before .before .before .before .before .before .before .before .before .before .before .before .before .before .before .before .before .fields .ensures);
-      places = c .before .before .before .before .before .before .before .before .before .before .before .before .before .before .before .before .marks .ensures;
-      returned = ap length (c .before .before .before .before .before .before .before .before .before .before .before .before .before .before .before .bytes .ensures);
-      iterated = ap length (c .before .before .before .before .before .before .before .before .before .before .before .before .before .before .bytes2 .ensures);
-      masks = ap length (c .before .before .before .before .before .before .before .before .before .before .before .before .before .words .ensures);
-      ends = ap length (c .before .before .before .before .before .before .before .before .before .before .before .before .bytes3 .ensures);
-      loops = c .before .before .before .before .before .before .before .before .before .before .before .bytes4 .ensures;
-      operators = c .before .before .before .before .before .before .before .before .before .before .numbers .ensures;
-      links = c .before .before .before .before .before .before .before .before .before .numbers2 .ensures;
-    }
+    (ap length (c .before .before .before .before .before .fields .ensures), ap length (c .before .before .before .before .bytes .ensures), ap length (c .before .before .before .words .ensures))
 
 -- src/lib.rt:155:26  match verdict { ⏎ Verdict::Refused(r, row) => refused(r, row as u32),
-enum-known-verdict : tie.Need-enum-known-verdict
-enum-known-verdict c = search needs
+enum-known-tested : tie.Need-enum-known-tested
+enum-known-tested c = search needs
 
 -- src/lib.rt:155:48  match verdict { ⏎ Verdict::Refused(r, row) => refused(r, row as u32),
 cast-refused : tie.Need-cast-refused
-cast-refused c = let m = low-row (c .before .before .before .before .before .before .before .before .before .before .before .before .before .before .before .before .before .before .before .before .before .before .before .before .before .before .before .before .before .before .before .before .before .args .sheet .now) (c .before .verdict .given .0 .0) (c .before .verdict .given .0 .1 .0) (sym (c .before .before .before .before .before .before .before .before .before .before .before .before .fill-tables .ensures .verdict) ∙ c .before .verdict .given .1) in omega arith
+cast-refused c = let m = low-row (c .before .before .before .before .before .before .before .before .before .before .before .before .before .before .before .args .sheet .now) (c .before .tested .given .0 .0) (c .before .tested .given .0 .1 .0) (sym (c .before .before .before .before .before .before .fill-tables .ensures .verdict) ∙ ap verdictIn (c .before .tested .given .1)) in omega arith
 
 -- src/lib.rt:155:37  match verdict { ⏎ Verdict::Refused(r, row) => refused(r, row as u32),
 refused-requires : tie.Need-refused-requires
@@ -135,57 +74,57 @@ enum-told c = search needs
 
 -- src/lib.rt:158:23  let rows = sheet.len() / 31; ⏎ let end = 5 * rows;
 mul-end : tie.Need-mul-end
-mul-end c = omega (arith, rows-few (c .before .before .before .before .before .before .before .before .before .before .before .before .before .before .before .before .before .before .before .before .before .before .before .before .before .before .before .before .before .before .before .before .args .sheet .now) _ (c .before .before .before .before .before .before .before .before .before .before .before .fill-tables .ensures) (c .enum-told .given .1))
+mul-end c = omega (arith, rows-few (c .before .before .before .before .before .before .before .before .before .before .before .before .before .before .args .sheet .now) _ (c .before .before .before .before .before .fill-tables .ensures) (ap verdictIn (c .enum-told .given .1)))
 
 -- src/lib.rt:159:29  let end = 5 * rows; ⏎ let made = make(&fields[..end], rows, &masks[..rows], &returned[..rows], mem);
 array-share-prefix-fields : tie.Need-array-share-prefix-fields
-array-share-prefix-fields c = fields-long (c .before .before .before .before .before .before .before .before .before .before .before .before .before .before .before .before .before .before .before .before .before .before .before .before .before .before .before .before .before .before .before .before .args .sheet .now) _ (c .before .before .before .before .before .before .before .before .before .before .before .fill-tables .ensures) (c .enum-told .given .1)
+array-share-prefix-fields c = fields-long (c .before .before .before .before .before .before .before .before .before .before .before .before .before .before .args .sheet .now) _ (c .before .before .before .before .before .fill-tables .ensures) (ap verdictIn (c .enum-told .given .1))
 
 -- src/lib.rt:159:29  let end = 5 * rows; ⏎ let made = make(&fields[..end], rows, &masks[..rows], &returned[..rows], mem);
 slice-aggregate-make : tie.Need-slice-aggregate-make
-slice-aggregate-make c = fields-size (c .before .before .before .before .before .before .before .before .before .before .before .before .before .before .before .before .before .before .before .before .before .before .before .before .before .before .before .before .before .before .before .before .before .args .sheet .now) _ (c .before .before .before .before .before .before .before .before .before .before .before .before .fill-tables .ensures) (c .before .enum-told .given .1)
+slice-aggregate-make c = fields-size (c .before .before .before .before .before .before .before .before .before .before .before .before .before .before .before .args .sheet .now) _ (c .before .before .before .before .before .before .fill-tables .ensures) (ap verdictIn (c .before .enum-told .given .1))
 
 -- src/lib.rt:159:51  let end = 5 * rows; ⏎ let made = make(&fields[..end], rows, &masks[..rows], &returned[..rows], mem);
 array-share-prefix-masks : tie.Need-array-share-prefix-masks
-array-share-prefix-masks c = masks-long (c .before .before .before .before .before .before .before .before .before .before .before .before .before .before .before .before .before .before .before .before .before .before .before .before .before .before .before .before .before .before .before .before .before .args .sheet .now) _ (c .before .before .before .before .before .before .before .before .before .before .before .before .fill-tables .ensures) (c .before .enum-told .given .1)
+array-share-prefix-masks c = masks-long (c .before .before .before .before .before .before .before .before .before .before .before .before .before .before .before .args .sheet .now) _ (c .before .before .before .before .before .before .fill-tables .ensures) (ap verdictIn (c .before .enum-told .given .1))
 
 -- src/lib.rt:159:51  let end = 5 * rows; ⏎ let made = make(&fields[..end], rows, &masks[..rows], &returned[..rows], mem);
 slice-aggregate-make-2 : tie.Need-slice-aggregate-make-2
-slice-aggregate-make-2 c = masks-size (c .before .before .before .before .before .before .before .before .before .before .before .before .before .before .before .before .before .before .before .before .before .before .before .before .before .before .before .before .before .before .before .before .before .before .args .sheet .now) _ (c .before .before .before .before .before .before .before .before .before .before .before .before .before .fill-tables .ensures) (c .before .before .enum-told .given .1)
+slice-aggregate-make-2 c = masks-size (c .before .before .before .before .before .before .before .before .before .before .before .before .before .before .before .before .args .sheet .now) _ (c .before .before .before .before .before .before .before .fill-tables .ensures) (ap verdictIn (c .before .before .enum-told .given .1))
 
 -- src/lib.rt:159:67  let end = 5 * rows; ⏎ let made = make(&fields[..end], rows, &masks[..rows], &returned[..rows], mem);
 array-share-prefix-returned : tie.Need-array-share-prefix-returned
-array-share-prefix-returned c = widths-long (c .before .before .before .before .before .before .before .before .before .before .before .before .before .before .before .before .before .before .before .before .before .before .before .before .before .before .before .before .before .before .before .before .before .before .args .sheet .now) _ (c .before .before .before .before .before .before .before .before .before .before .before .before .before .fill-tables .ensures) (c .before .before .enum-told .given .1)
+array-share-prefix-returned c = widths-long (c .before .before .before .before .before .before .before .before .before .before .before .before .before .before .before .before .args .sheet .now) _ (c .before .before .before .before .before .before .before .fill-tables .ensures) (ap verdictIn (c .before .before .enum-told .given .1))
 
 -- src/lib.rt:159:67  let end = 5 * rows; ⏎ let made = make(&fields[..end], rows, &masks[..rows], &returned[..rows], mem);
 slice-aggregate-make-3 : tie.Need-slice-aggregate-make-3
-slice-aggregate-make-3 c = widths-size (c .before .before .before .before .before .before .before .before .before .before .before .before .before .before .before .before .before .before .before .before .before .before .before .before .before .before .before .before .before .before .before .before .before .before .before .args .sheet .now) _ (c .before .before .before .before .before .before .before .before .before .before .before .before .before .before .fill-tables .ensures) (c .before .before .before .enum-told .given .1)
+slice-aggregate-make-3 c = widths-size (c .before .before .before .before .before .before .before .before .before .before .before .before .before .before .before .before .before .args .sheet .now) _ (c .before .before .before .before .before .before .before .before .fill-tables .ensures) (ap verdictIn (c .before .before .before .enum-told .given .1))
 
 -- src/lib.rt:159:17  let end = 5 * rows; ⏎ let made = make(&fields[..end], rows, &masks[..rows], &returned[..rows], mem);
 make-requires : tie.Need-make-requires
-make-requires c κs = (accepted-makeable (c .before .before .before .before .before .before .before .before .before .before .before .before .before .before .before .before .before .before .before .before .before .before .before .before .before .before .before .before .before .before .before .before .before .before .before .before .args .sheet .now) _ (c .before .before .before .before .before .before .before .before .before .before .before .before .before .before .before .fill-tables .ensures) (c .before .before .before .before .enum-told .given .1), omega (arith, c .before .before .before .before .before .before .before .before .before .before .before .before .before .before .before .before .before .before .before .before .before .before .before .before .before .before .before .before .before .before .before .before .before .before .before .before .pre .1))
+make-requires c κs = (accepted-makeable (c .before .before .before .before .before .before .before .before .before .before .before .before .before .before .before .before .before .before .args .sheet .now) _ (c .before .before .before .before .before .before .before .before .before .fill-tables .ensures) (ap verdictIn (c .before .before .before .before .enum-told .given .1)), omega (arith, c .before .before .before .before .before .before .before .before .before .before .before .before .before .before .before .before .before .before .pre .1))
 
 -- src/lib.rt:163:13  let results = made.results; ⏎ complete(mem, capacity, made);
 complete-requires : tie.Need-complete-requires
-complete-requires c κs = (c .before .before .before .before .before .before .before .before .before .before .before .before .before .before .before .before .before .before .before .before .before .before .before .before .before .before .before .before .before .before .before .before .before .before .before .before .before .before .before .before .pre .0, omega (arith, c .before .before .before .before .before .before .before .before .before .before .before .before .before .before .before .before .before .before .before .before .before .before .before .before .before .before .before .before .before .before .before .before .before .before .before .before .before .before .before .before .pre .1, c .before .before .mem .given), making-modest (c .before .before .before .before .before .before .before .before .before .before .before .before .before .before .before .before .before .before .before .before .before .before .before .before .before .before .before .before .before .before .before .before .before .before .before .before .before .before .before .before .args .sheet .now) _ (c .before .before .before .before .before .before .before .before .before .before .before .before .before .before .before .before .before .before .before .fill-tables .ensures) (c .before .before .before .before .before .before .before .before .enum-told .given .1) (c .before .before .before .make .result) (c .before .before .before .make .ensures .0))
+complete-requires c κs = (c .before .before .before .before .before .before .before .before .before .before .before .before .before .before .before .before .before .before .before .before .before .before .pre .0, omega (arith, c .before .before .before .before .before .before .before .before .before .before .before .before .before .before .before .before .before .before .before .before .before .before .pre .1, c .before .before .mem .given), making-modest (c .before .before .before .before .before .before .before .before .before .before .before .before .before .before .before .before .before .before .before .before .before .before .args .sheet .now) _ (c .before .before .before .before .before .before .before .before .before .before .before .before .before .fill-tables .ensures) (ap verdictIn (c .before .before .before .before .before .before .before .before .enum-told .given .1)) (c .before .before .before .make .result) (c .before .before .before .make .ensures .0))
 
 -- src/lib.rt:167:28  row: 0, ⏎ operators: operators as u32,
-cast-t59 : tie.Need-cast-t59
-cast-t59 c = let m = making-modest (c .before .before .before .before .before .before .before .before .before .before .before .before .before .before .before .before .before .before .before .before .before .before .before .before .before .before .before .before .before .before .before .before .before .before .before .before .before .before .before .before .before .before .before .args .sheet .now) _ (c .before .before .before .before .before .before .before .before .before .before .before .before .before .before .before .before .before .before .before .before .before .before .fill-tables .ensures) (c .before .before .before .before .before .before .before .before .before .before .before .enum-told .given .1) (c .before .before .before .before .before .before .make .result) (c .before .before .before .before .before .before .make .ensures .0) .operators in omega arith
+cast-t39 : tie.Need-cast-t39
+cast-t39 c = let m = making-modest (c .before .before .before .before .before .before .before .before .before .before .before .before .before .before .before .before .before .before .before .before .before .before .before .before .before .args .sheet .now) _ (c .before .before .before .before .before .before .before .before .before .before .before .before .before .before .before .before .fill-tables .ensures) (ap verdictIn (c .before .before .before .before .before .before .before .before .before .before .before .enum-told .given .1)) (c .before .before .before .before .before .before .make .result) (c .before .before .before .before .before .before .make .ensures .0) .operators in omega arith
 
 -- src/lib.rt:168:25  operators: operators as u32, ⏎ inputs: inputs as u32,
-cast-t60 : tie.Need-cast-t60
-cast-t60 c = let m = making-modest (c .before .before .before .before .before .before .before .before .before .before .before .before .before .before .before .before .before .before .before .before .before .before .before .before .before .before .before .before .before .before .before .before .before .before .before .before .before .before .before .before .before .before .before .args .sheet .now) _ (c .before .before .before .before .before .before .before .before .before .before .before .before .before .before .before .before .before .before .before .before .before .before .fill-tables .ensures) (c .before .before .before .before .before .before .before .before .before .before .before .enum-told .given .1) (c .before .before .before .before .before .before .make .result) (c .before .before .before .before .before .before .make .ensures .0) .inputs in omega arith
+cast-t40 : tie.Need-cast-t40
+cast-t40 c = let m = making-modest (c .before .before .before .before .before .before .before .before .before .before .before .before .before .before .before .before .before .before .before .before .before .before .before .before .before .args .sheet .now) _ (c .before .before .before .before .before .before .before .before .before .before .before .before .before .before .before .before .fill-tables .ensures) (ap verdictIn (c .before .before .before .before .before .before .before .before .before .before .before .enum-told .given .1)) (c .before .before .before .before .before .before .make .result) (c .before .before .before .before .before .before .make .ensures .0) .inputs in omega arith
 
 -- src/lib.rt:169:26  inputs: inputs as u32, ⏎ results: results as u32,
-cast-t61 : tie.Need-cast-t61
-cast-t61 c = let m = making-modest (c .before .before .before .before .before .before .before .before .before .before .before .before .before .before .before .before .before .before .before .before .before .before .before .before .before .before .before .before .before .before .before .before .before .before .before .before .before .before .before .before .before .before .before .args .sheet .now) _ (c .before .before .before .before .before .before .before .before .before .before .before .before .before .before .before .before .before .before .before .before .before .before .fill-tables .ensures) (c .before .before .before .before .before .before .before .before .before .before .before .enum-told .given .1) (c .before .before .before .before .before .before .make .result) (c .before .before .before .before .before .before .make .ensures .0) .results in omega arith
+cast-t41 : tie.Need-cast-t41
+cast-t41 c = let m = making-modest (c .before .before .before .before .before .before .before .before .before .before .before .before .before .before .before .before .before .before .before .before .before .before .before .before .before .args .sheet .now) _ (c .before .before .before .before .before .before .before .before .before .before .before .before .before .before .before .before .fill-tables .ensures) (ap verdictIn (c .before .before .before .before .before .before .before .before .before .before .before .enum-told .given .1)) (c .before .before .before .before .before .before .make .result) (c .before .before .before .before .before .before .make .ensures .0) .results in omega arith
 
 -- src/lib.rt:129:1  // Tests 1 to 10, and the machine of an accepted sheet. ⏎ fn build(sheet: &[u8], capacity: usize, mem: &mut [u8]) -> StartAnswer
 returns : tie.Need-returns
 returns c =
-    ap (λ (a : StartAnswer). begun a (c .before .before .before .before .before .before .before .before .before .before .before .before .before .before .before .before .before .before .before .before .before .before .before .before .before .before .before .before .before .before .before .before .before .before .args .mem .now)) (c .refused .ensures)
-    ∙ sym (verdict-refused (verdictOf (c .before .before .before .before .before .before .before .before .before .before .before .before .before .before .before .before .before .before .before .before .before .before .before .before .before .before .before .before .before .before .before .before .before .before .args .sheet .now)) (formulaOf (c .before .before .before .before .before .before .before .before .before .before .before .before .before .before .before .before .before .before .before .before .before .before .before .before .before .before .before .before .before .before .before .before .before .before .args .sheet .now)) (c .before .before .before .before .before .before .before .before .before .before .before .before .before .before .before .before .before .before .before .before .before .before .before .before .before .before .before .before .before .before .before .before .before .before .args .capacity) (c .before .before .before .before .before .before .before .before .before .before .before .before .before .before .before .before .before .before .before .before .before .before .before .before .before .before .before .before .before .before .before .before .before .before .args .mem .now) (c .before .before .verdict .given .0 .0) (c .before .before .verdict .given .0 .1 .0) (sym (c .before .before .before .before .before .before .before .before .before .before .before .before .before .fill-tables .ensures .verdict) ∙ c .before .before .verdict .given .1))
+    ap (λ (a : StartAnswer). begun a (c .before .before .before .before .before .before .before .before .before .before .before .before .before .before .before .before .args .mem .now)) (c .refused .ensures)
+    ∙ sym (verdict-refused (verdictOf (c .before .before .before .before .before .before .before .before .before .before .before .before .before .before .before .before .args .sheet .now)) (formulaOf (c .before .before .before .before .before .before .before .before .before .before .before .before .before .before .before .before .args .sheet .now)) (c .before .before .before .before .before .before .before .before .before .before .before .before .before .before .before .before .args .capacity) (c .before .before .before .before .before .before .before .before .before .before .before .before .before .before .before .before .args .mem .now) (c .before .before .tested .given .0 .0) (c .before .before .tested .given .0 .1 .0) (sym (c .before .before .before .before .before .before .before .fill-tables .ensures .verdict) ∙ ap verdictIn (c .before .before .tested .given .1)))
 
 -- src/lib.rt:129:1  // Tests 1 to 10, and the machine of an accepted sheet. ⏎ fn build(sheet: &[u8], capacity: usize, mem: &mut [u8]) -> StartAnswer
 same-length : tie.Need-same-length
@@ -194,33 +133,21 @@ same-length c = search needs
 -- src/lib.rt:129:1  // Tests 1 to 10, and the machine of an accepted sheet. ⏎ fn build(sheet: &[u8], capacity: usize, mem: &mut [u8]) -> StartAnswer
 returns-2 : tie.Need-returns-2
 returns-2 c =
-    built (verdictOf (c .before .before .before .before .before .before .before .before .before .before .before .before .before .before .before .before .before .before .before .before .before .before .before .before .before .before .before .before .before .before .before .before .before .before .before .before .before .before .before .before .before .before .before .args .sheet .now)) (expOf (take (5 * rowCount (c .before .before .before .before .before .before .before .before .before .before .before .before .before .before .before .before .before .before .before .before .before .before .before .before .before .before .before .before .before .before .before .before .before .before .before .before .before .before .before .before .before .before .before .args .sheet .now)) (c .before .before .before .before .before .before .before .before .before .before .before .before .before .before .before .before .before .before .before .before .before .before .fill-tables .last .1 .0)) (rowCount (c .before .before .before .before .before .before .before .before .before .before .before .before .before .before .before .before .before .before .before .before .before .before .before .before .before .before .before .before .before .before .before .before .before .before .before .before .before .before .before .before .before .before .before .args .sheet .now))) (formulaOf (c .before .before .before .before .before .before .before .before .before .before .before .before .before .before .before .before .before .before .before .before .before .before .before .before .before .before .before .before .before .before .before .before .before .before .before .before .before .before .before .before .before .before .before .args .sheet .now)) (c .before .before .before .before .before .before .before .before .before .before .before .before .before .before .before .before .before .before .before .before .before .before .before .before .before .before .before .before .before .before .before .before .before .before .before .before .before .before .before .before .before .before .before .args .capacity) (c .before .before .before .before .before .before .before .before .before .before .before .before .before .before .before .before .before .before .before .before .before .before .before .before .before .before .before .before .before .before .before .before .before .before .before .before .before .before .before .before .before .before .before .args .mem .now) (c .before .before .before .before .before .before .make .last .1 .1 .1 .1 .0) (c .before .before .complete .last .0) (c .before .before .before .before .before .before .make .result)
-    (sym (c .before .before .before .before .before .before .before .before .before .before .before .before .before .before .before .before .before .before .before .before .before .before .fill-tables .ensures .verdict) ∙ c .before .before .before .before .before .before .before .before .before .before .before .enum-told .given .1) (accepted-formula (c .before .before .before .before .before .before .before .before .before .before .before .before .before .before .before .before .before .before .before .before .before .before .before .before .before .before .before .before .before .before .before .before .before .before .before .before .before .before .before .before .before .before .before .args .sheet .now) _ (c .before .before .before .before .before .before .before .before .before .before .before .before .before .before .before .before .before .before .before .before .before .before .fill-tables .ensures) (c .before .before .before .before .before .before .before .before .before .before .before .enum-told .given .1)) (c .before .before .before .before .before .before .make .ensures .0) (c .before .before .before .before .before .before .make .ensures .1) (c .before .before .complete .ensures)
+    built (verdictOf (c .before .before .before .before .before .before .before .before .before .before .before .before .before .before .before .before .before .before .before .before .before .before .before .before .before .args .sheet .now)) (expOf (take (5 * rowCount (c .before .before .before .before .before .before .before .before .before .before .before .before .before .before .before .before .before .before .before .before .before .before .before .before .before .args .sheet .now)) (c .before .before .before .before .before .before .before .before .before .before .before .before .before .before .before .before .fill-tables .last .1 .0)) (rowCount (c .before .before .before .before .before .before .before .before .before .before .before .before .before .before .before .before .before .before .before .before .before .before .before .before .before .args .sheet .now))) (formulaOf (c .before .before .before .before .before .before .before .before .before .before .before .before .before .before .before .before .before .before .before .before .before .before .before .before .before .args .sheet .now)) (c .before .before .before .before .before .before .before .before .before .before .before .before .before .before .before .before .before .before .before .before .before .before .before .before .before .args .capacity) (c .before .before .before .before .before .before .before .before .before .before .before .before .before .before .before .before .before .before .before .before .before .before .before .before .before .args .mem .now) (c .before .before .before .before .before .before .make .last .1 .1 .1 .1 .0) (c .before .before .complete .last .0) (c .before .before .before .before .before .before .make .result)
+    (sym (c .before .before .before .before .before .before .before .before .before .before .before .before .before .before .before .before .fill-tables .ensures .verdict) ∙ ap verdictIn (c .before .before .before .before .before .before .before .before .before .before .before .enum-told .given .1)) (accepted-formula (c .before .before .before .before .before .before .before .before .before .before .before .before .before .before .before .before .before .before .before .before .before .before .before .before .before .args .sheet .now) _ (c .before .before .before .before .before .before .before .before .before .before .before .before .before .before .before .before .fill-tables .ensures) (ap verdictIn (c .before .before .before .before .before .before .before .before .before .before .before .enum-told .given .1))) (c .before .before .before .before .before .before .make .ensures .0) (c .before .before .before .before .before .before .make .ensures .1) (c .before .before .complete .ensures)
 
 pub build-spec : {M : Type 1} → statement M
 build-spec =
     tie.close
     (tie.spec
     fields-requires
-    marks-requires
     bytes-requires
-    bytes-requires-2
     words-requires
-    bytes-requires-3
-    bytes-requires-4
-    numbers-requires
-    numbers-requires-2
     slice-aggregate-fill-tables
     slice-aggregate-fill-tables-2
     slice-aggregate-fill-tables-3
-    slice-aggregate-fill-tables-4
-    slice-aggregate-fill-tables-5
-    slice-aggregate-fill-tables-6
-    slice-aggregate-fill-tables-7
-    slice-aggregate-fill-tables-8
-    slice-aggregate-fill-tables-9
     fill-tables-requires
-    enum-known-verdict
+    enum-known-tested
     cast-refused
     refused-requires
     enum-told
@@ -233,9 +160,9 @@ build-spec =
     slice-aggregate-make-3
     make-requires
     complete-requires
-    cast-t59
-    cast-t60
-    cast-t61
+    cast-t39
+    cast-t40
+    cast-t41
     returns
     same-length
     returns-2)

@@ -8,19 +8,19 @@ use Rattle.names.proofs.minus.Reads as minus-reads
 use mathlib.Core.Path.{refl, _∙_, ap}
 use lib.Count.{ones}
 
--- src/read.rt:260:24  { ⏎ let inputs = count(minus(mask, 4294967296));
+-- src/read.rt:166:24  { ⏎ let inputs = count(minus(mask, TRIGGER_MASK));
 minus-requires : tie.Need-minus-requires
 minus-requires c κs = search needs
 
--- src/read.rt:260:9  { ⏎ let inputs = count(minus(mask, 4294967296));
+-- src/read.rt:166:9  { ⏎ let inputs = count(minus(mask, TRIGGER_MASK));
 count-requires : tie.Need-count-requires
 count-requires c κs = search needs
 
--- src/read.rt:264:17  operators: operators as usize, ⏎ inputs: inputs as usize,
+-- src/read.rt:170:17  operators: operators as usize, ⏎ inputs: inputs as usize,
 cast-t8 : tie.Need-cast-t8
 cast-t8 c = search needs
 
--- src/read.rt:257:1  // The figures of an accepted sheet, from its last row's entries; the inputs are the formula's free identifiers. ⏎ fn figures(rows: usize, operators: u32, mask: u64, results: u8) -> Figures
+-- src/read.rt:163:1  // The figures of an accepted sheet, from its last row's entries; the inputs are the formula's free identifiers. ⏎ fn figures(rows: usize, operators: u32, mask: u64, results: u8) -> Figures
 returns : tie.Need-returns
 returns c = (refl, refl, c .count .ensures .0 ∙ ap ones (c .before .minus .ensures), refl)
 
