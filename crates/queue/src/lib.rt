@@ -8,7 +8,8 @@ ghost use Prim.Native.Nat.{ℕ, _+_, _-_, _*_, _≤_, _<_};
 ghost use lib.ListN.{length, take, drop};
 ghost use Rattle.queue.specs.Stretch.{headOf, roomIn, appended, removed};
 
-fn wide(b: u8) -> usize
+// A count byte as a number.
+fn count_of(b: u8) -> usize
     ensures { λ r. ⌜ (r ≡ b) × (r < 256) ⌝ }
 {
     b as usize
@@ -30,7 +31,7 @@ pub fn room(q: &[u8]) -> bool
     requires { ⌜ 6 ≤ length (now q) ⌝ }
     ensures { λ r. ⌜ r ≡ roomIn (now (q .entry)) ⌝ }
 {
-    let end = 5 * wide(q[0]) + 6;
+    let end = 5 * count_of(q[0]) + 6;
     end <= q.len()
 }
 
@@ -38,7 +39,7 @@ pub fn append(q: &mut [u8], word: u64)
     requires { ⌜ (6 ≤ length (now q)) × (length (now q) ≤ 81) ⌝ }
     ensures { λ _. ⌜ now (q .exit) ≡ appended (now (q .entry)) word ⌝ }
 {
-    let n = wide(q[0]);
+    let n = count_of(q[0]);
     let at = 5 * n + 1;
     if at + 5 <= q.len() {
         value::bytes::store(q, at, word);
@@ -51,7 +52,7 @@ pub fn remove_first(q: &mut [u8])
     requires { ⌜ 6 ≤ length (now q) ⌝ }
     ensures { λ _. ⌜ now (q .exit) ≡ removed (now (q .entry)) ⌝ }
 {
-    let n = wide(q[0]);
+    let n = count_of(q[0]);
     if n == 0 {
         return;
     }

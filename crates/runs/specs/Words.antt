@@ -16,6 +16,10 @@ use lib.Seq.{getD-set-same, getD-set-other, set-getD}
 unfoldable pub bit : ℕ → ℕ → ℕ
 bit w k = w / 2 ^ k % 2
 
+-- the words that hold a mark for each operator
+abbrev pub markWords : ℕ
+markWords = 16
+
 unfoldable pub mark : List ℕ → ℕ → ℕ
 mark w x = bit (getD w (x / 64) 0) (x % 64)
 

@@ -6,16 +6,26 @@ ghost use mathlib.Core.Path.{_≡_};
 ghost use mathlib.Core.Bool.{true};
 ghost use Prim.Native.Nat.{ℕ, _+_, _-_, _*_, _/_, _≤_, _<_};
 ghost use lib.ListN.{length, getD};
-ghost use Rattle.layout.specs.Layout.{need};
+ghost use Rattle.layout.specs.Layout.{mostOperators, mostLinks, registersAt, need};
 ghost use Rattle.runs.specs.Run.{Ran, ran, runs, stillAt};
 ghost use Rattle.runs.specs.Far.{name};
 ghost use Rattle.runs.specs.Users.{Found, Noted, Covers};
-ghost use Rattle.runs.specs.Words.{mark, woken, slept, None};
+ghost use Rattle.runs.specs.Words.{markWords, mark, woken, slept, None};
 ghost use Rattle.runs.specs.Marks.{Awake, Woke, Hits};
+
+// Two places a link for the operators that name it, and the number of none.
+const USERS: usize = 6210;
+
+const NO_USER: usize = 65535;
+
+// A mark for each operator, 64 in a word; and a word with all of them.
+const MARK_WORDS: usize = 16;
+
+const ALL_MARKS: u64 = 18446744073709551615;
 
 // Scans from the first operator after each firing.
 pub fn run_plain(mem: &mut [u8], size: usize, n: usize, budget: u32) -> u32
-    requires { ⌜ (6 ≤ size) × (size ≤ 81) × (need size ≤ length (now mem)) × (n ≤ 1024) ⌝ }
+    requires { ⌜ (6 ≤ size) × (size ≤ 81) × (need size ≤ length (now mem)) × (n ≤ mostOperators) ⌝ }
     ensures { λ r. ⌜ ran (now (mem .exit)) r ≡ runs size n budget (now (mem .entry)) 0 ⌝ }
 {
     let mut count: u32 = 0;
@@ -34,7 +44,8 @@ pub fn run_plain(mem: &mut [u8], size: usize, n: usize, budget: u32) -> u32
     count
 }
 
-fn wide16(x: u16) -> usize
+// A user's number; that of no user is past every operator.
+fn user_of(x: u16) -> usize
     ensures { λ r. ⌜ (r ≡ x) × (r < 65536) ⌝ }
 {
     x as usize
@@ -42,7 +53,7 @@ fn wide16(x: u16) -> usize
 
 // The link of port k of operator j: 0 to 2 an input, 3 to 5 an output.
 fn port_of(mem: &[u8], j: usize, k: usize) -> usize
-    requires { ⌜ (16640 ≤ length (now mem)) × (j < 1024) × (k < 6) ⌝ }
+    requires { ⌜ (registersAt ≤ length (now mem)) × (j < mostOperators) × (k < 6) ⌝ }
     ensures { λ r. ⌜ (r ≡ name (now (mem .entry)) j k) × (r < 65536) ⌝ }
 {
     let at = layout::operator_at(j);
@@ -51,15 +62,15 @@ fn port_of(mem: &[u8], j: usize, k: usize) -> usize
 
 // Notes that operator j names link l; false where two others do.
 fn note(users: &mut [u16], l: usize, j: usize) -> bool
-    requires { ⌜ (6210 ≤ length (now users)) × (j < 1024) ⌝ }
+    requires { ⌜ (2 * mostLinks ≤ length (now users)) × (j < mostOperators) ⌝ }
     ensures { λ r. ⌜ Noted (now (users .entry)) (now (users .exit)) l j r ⌝ }
 {
-    if 3105 <= l {
+    if layout::LINKS <= l {
         return true;
     }
     let a = 2 * l;
-    let x = wide16(users[a]);
-    if x == 65535 {
+    let x = user_of(users[a]);
+    if x == NO_USER {
         users[a] = j as u16;
         return true;
     }
@@ -67,8 +78,8 @@ fn note(users: &mut [u16], l: usize, j: usize) -> bool
         return true;
     }
     let e = a + 1;
-    let y = wide16(users[e]);
-    if y == 65535 {
+    let y = user_of(users[e]);
+    if y == NO_USER {
         users[e] = j as u16;
         return true;
     }
@@ -80,7 +91,7 @@ fn note(users: &mut [u16], l: usize, j: usize) -> bool
 
 // Notes every name of the n operators; false where some link has a third user.
 fn fill_users(mem: &[u8], n: usize, users: &mut [u16]) -> bool
-    requires { ⌜ (16640 ≤ length (now mem)) × (n ≤ 1024) × (6210 ≤ length (now users)) ⌝ }
+    requires { ⌜ (registersAt ≤ length (now mem)) × (n ≤ mostOperators) × (2 * mostLinks ≤ length (now users)) ⌝ }
     ensures { λ r. ⌜ (r ≡ true → Covers (now (users .exit)) (now (mem .entry)) (6 * n)) ⌝ }
 {
     let end = 6 * n;
@@ -100,7 +111,7 @@ fn fill_users(mem: &[u8], n: usize, users: &mut [u16]) -> bool
 
 // Marks operator u. A mark that is there is not written anew: most are, and a write would hold up the next read.
 fn set_mark(awake: &mut [u64], u: usize)
-    requires { ⌜ (16 ≤ length (now awake)) × (u < 1024) ⌝ }
+    requires { ⌜ (markWords ≤ length (now awake)) × (u < mostOperators) ⌝ }
     ensures { λ _. ⌜ now (awake .exit) ≡ woken (now (awake .entry)) u ⌝ }
 {
     let at = u / 64;
@@ -112,35 +123,35 @@ fn set_mark(awake: &mut [u64], u: usize)
 
 // Takes the mark of operator u away.
 fn clear_mark(awake: &mut [u64], u: usize)
-    requires { ⌜ (16 ≤ length (now awake)) × (u < 1024) ⌝ }
+    requires { ⌜ (markWords ≤ length (now awake)) × (u < mostOperators) ⌝ }
     ensures { λ _. ⌜ now (awake .exit) ≡ slept (now (awake .entry)) u ⌝ }
 {
     let at = u / 64;
     awake[at] = awake[at] & !(1u64 << (u % 64));
 }
 
-// The first marked operator from i on, or 1024.
+// The first marked operator from i on, or layout::OPERATORS.
 fn next_mark(awake: &[u64], i: usize) -> usize
-    requires { ⌜ (16 ≤ length (now awake)) × (i ≤ 1024) ⌝ }
-    ensures { λ r. ⌜ (i ≤ r) × (r ≤ 1024) × (None (now (awake .entry)) i r) × (r < 1024 → mark (now (awake .entry)) r ≡ 1) ⌝ }
+    requires { ⌜ (markWords ≤ length (now awake)) × (i ≤ mostOperators) ⌝ }
+    ensures { λ r. ⌜ (i ≤ r) × (r ≤ mostOperators) × (None (now (awake .entry)) i r) × (r < mostOperators → mark (now (awake .entry)) r ≡ 1) ⌝ }
 {
     let mut j = i;
-    while j < 1024 {
+    while j < layout::OPERATORS {
         let rest = awake[j / 64] >> (j % 64);
         if rest != 0 {
             return j + u64::trailing_zeros(rest) as usize;
         }
         j = 64 * (j / 64 + 1);
     }
-    1024
+    layout::OPERATORS
 }
 
 // Marks operator u, and tells the lesser of u and low.
 fn wake_one(awake: &mut [u64], u: usize, low: usize) -> usize
-    requires { ⌜ 16 ≤ length (now awake) ⌝ }
-    ensures { λ r. ⌜ (Woke (now (awake .entry)) low (now (awake .exit)) r) × (u < 1024 → Awake (now (awake .exit)) r u) ⌝ }
+    requires { ⌜ markWords ≤ length (now awake) ⌝ }
+    ensures { λ r. ⌜ (Woke (now (awake .entry)) low (now (awake .exit)) r) × (u < mostOperators → Awake (now (awake .exit)) r u) ⌝ }
 {
-    if u < 1024 {
+    if u < layout::OPERATORS {
         set_mark(awake, u);
         if u < low {
             return u;
@@ -152,14 +163,14 @@ fn wake_one(awake: &mut [u64], u: usize, low: usize) -> usize
 
 // Marks the operators that name link l.
 fn wake_link(users: &[u16], awake: &mut [u64], l: usize, low: usize) -> usize
-    requires { ⌜ (16 ≤ length (now awake)) × (6210 ≤ length (now users)) ⌝ }
-    ensures { λ r. ⌜ (Woke (now (awake .entry)) low (now (awake .exit)) r) × ((x : ℕ) → x < 1024 → l < 3105 → Found (now (users .entry)) l x → Awake (now (awake .exit)) r x) ⌝ }
+    requires { ⌜ (markWords ≤ length (now awake)) × (2 * mostLinks ≤ length (now users)) ⌝ }
+    ensures { λ r. ⌜ (Woke (now (awake .entry)) low (now (awake .exit)) r) × ((x : ℕ) → x < mostOperators → l < mostLinks → Found (now (users .entry)) l x → Awake (now (awake .exit)) r x) ⌝ }
 {
-    if l < 3105 {
+    if l < layout::LINKS {
         let a = 2 * l;
         let e = a + 1;
-        let x = wide16(users[a]);
-        let y = wide16(users[e]);
+        let x = user_of(users[a]);
+        let y = user_of(users[e]);
         let first = wake_one(awake, x, low);
         return wake_one(awake, y, first);
     }
@@ -168,7 +179,7 @@ fn wake_link(users: &[u16], awake: &mut [u64], l: usize, low: usize) -> usize
 
 // Marks the operators that name a link of operator i, and tells the least number among them and i.
 fn wake(mem: &[u8], users: &[u16], awake: &mut [u64], i: usize) -> usize
-    requires { ⌜ (16640 ≤ length (now mem)) × (16 ≤ length (now awake)) × (6210 ≤ length (now users)) × (i < 1024) ⌝ }
+    requires { ⌜ (registersAt ≤ length (now mem)) × (markWords ≤ length (now awake)) × (2 * mostLinks ≤ length (now users)) × (i < mostOperators) ⌝ }
     ensures { λ r. ⌜ (Woke (now (awake .entry)) i (now (awake .exit)) r) × Hits (now (users .entry)) (now (mem .entry)) i 6 (now (awake .exit)) r ⌝ }
 {
     let mut low = i;
@@ -183,13 +194,13 @@ fn wake(mem: &[u8], users: &[u16], awake: &mut [u64], i: usize) -> usize
 
 // The run, with a mark for each operator that may be able.
 pub fn run(mem: &mut [u8], size: usize, n: usize, budget: u32) -> u32
-    requires { ⌜ (6 ≤ size) × (size ≤ 81) × (need size ≤ length (now mem)) × (n ≤ 1024) ⌝ }
+    requires { ⌜ (6 ≤ size) × (size ≤ 81) × (need size ≤ length (now mem)) × (n ≤ mostOperators) ⌝ }
     ensures { λ r. ⌜ ran (now (mem .exit)) r ≡ runs size n budget (now (mem .entry)) 0 ⌝ }
 {
-    let mut users = [65535u16; 6210];
+    let mut users = [layout::NO_LINK; USERS];
     let known = fill_users(mem, n, &mut users);
     if known {
-        let mut awake = [18446744073709551615u64; 16];
+        let mut awake = [ALL_MARKS; MARK_WORDS];
         let mut count: u32 = 0;
         let mut i: usize = 0;
         while count < budget {
@@ -212,7 +223,7 @@ pub fn run(mem: &mut [u8], size: usize, n: usize, budget: u32) -> u32
 
 // Whether nothing can fire (refusal 36 is its opposite, after the lent firings).
 pub fn idle(mem: &[u8], size: usize, n: usize) -> bool
-    requires { ⌜ (6 ≤ size) × (size ≤ 81) × (need size ≤ length (now mem)) × (n ≤ 1024) ⌝ }
+    requires { ⌜ (6 ≤ size) × (size ≤ 81) × (need size ≤ length (now mem)) × (n ≤ mostOperators) ⌝ }
     ensures { λ r. ⌜ r ≡ stillAt (now (mem .entry)) size n ⌝ }
 {
     let mut i = 0;

@@ -6,7 +6,7 @@ use Rattle.queue.proofs.append.Statement.{statement}
 use Rattle.queue.proofs.append.Tie as tie
 use Rattle.queue.proofs.append.Reads as reads
 use Rattle.queue.proofs.append.Lts as lts
-use Rattle.queue.proofs.wide.Reads as wide-reads
+use Rattle.queue.proofs.count_of.Reads as count-of-reads
 use Rattle.value.proofs.bytes.store.Reads as store-reads
 use Prim.Native.Nat.{ℕ, _+_, _*_}
 use mathlib.Core.Path.{_≡_, ap}
@@ -16,19 +16,19 @@ use borrow.Author.Tests.{le-leb, lt-leb}
 use lib.ListN.{length, set}
 use Rattle.queue.specs.Stretch.{waiting, roomIn, appended}
 
--- src/lib.rt:41:18  { ⏎ let n = wide(q[0]);
-slice-read-wide : tie.Need-slice-read-wide
-slice-read-wide c = search needs
+-- src/lib.rt:41:18  { ⏎ let n = count_of(q[0]);
+slice-read-count-of : tie.Need-slice-read-count-of
+slice-read-count-of c = search needs
 
--- src/lib.rt:41:9  { ⏎ let n = wide(q[0]);
-wide-requires : tie.Need-wide-requires
-wide-requires c κs = search needs
+-- src/lib.rt:41:9  { ⏎ let n = count_of(q[0]);
+count-of-requires : tie.Need-count-of-requires
+count-of-requires c κs = search needs
 
--- src/lib.rt:42:14  let n = wide(q[0]); ⏎ let at = 5 * n + 1;
+-- src/lib.rt:42:14  let n = count_of(q[0]); ⏎ let at = 5 * n + 1;
 mul-at : tie.Need-mul-at
 mul-at c = search needs
 
--- src/lib.rt:42:14  let n = wide(q[0]); ⏎ let at = 5 * n + 1;
+-- src/lib.rt:42:14  let n = count_of(q[0]); ⏎ let at = 5 * n + 1;
 add-at : tie.Need-add-at
 add-at c = search needs
 
@@ -59,19 +59,19 @@ same-length c = search needs
 -- src/lib.rt:37:1  } ⏎ pub fn append(q: &mut [u8], word: u64)
 returns : tie.Need-returns
 unfolding appended roomIn
-returns c = let r : roomIn (c .before .before .before .before .before .before .before .before .args .q .now) ≡ true = le-leb (5 * waiting (c .before .before .before .before .before .before .before .before .args .q .now) + 6) (length (c .before .before .before .before .before .before .before .before .args .q .now)) (omega (arith, c .before .before .before .before .before .wide .ensures .0)) in simp (r, c .before .before .before .before .before .wide .ensures .0) (rw (c .before .before .before .before .before .wide .ensures .0) at (ap (λ (l : List ℕ). set l 0 (waiting (c .before .before .before .before .before .before .before .before .args .q .now) + 1)) (c .before .before .store .ensures)))
+returns c = let r : roomIn (c .before .before .before .before .before .before .before .before .args .q .now) ≡ true = le-leb (5 * waiting (c .before .before .before .before .before .before .before .before .args .q .now) + 6) (length (c .before .before .before .before .before .before .before .before .args .q .now)) (omega (arith, c .before .before .before .before .before .count-of .ensures .0)) in simp (r, c .before .before .before .before .before .count-of .ensures .0) (rw (c .before .before .before .before .before .count-of .ensures .0) at (ap (λ (l : List ℕ). set l 0 (waiting (c .before .before .before .before .before .before .before .before .args .q .now) + 1)) (c .before .before .store .ensures)))
 
 -- src/lib.rt:37:1  } ⏎ pub fn append(q: &mut [u8], word: u64)
 returns-2 : tie.Need-returns-2
 unfolding appended roomIn
-returns-2 c = let r : roomIn (c .before .before .before .before .args .q .now) ≡ false = lt-leb (5 * waiting (c .before .before .before .before .args .q .now) + 6) (length (c .before .before .before .before .args .q .now)) (omega (arith, c .before .wide .ensures .0)) in simp r
+returns-2 c = let r : roomIn (c .before .before .before .before .args .q .now) ≡ false = lt-leb (5 * waiting (c .before .before .before .before .args .q .now) + 6) (length (c .before .before .before .before .args .q .now)) (omega (arith, c .before .count-of .ensures .0)) in simp r
 
 pub append-spec : {M : Type 1} → statement M
 append-spec =
     tie.close
     (tie.spec
-    slice-read-wide
-    wide-requires
+    slice-read-count-of
+    count-of-requires
     mul-at
     add-at
     add-if1

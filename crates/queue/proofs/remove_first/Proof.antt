@@ -1,5 +1,5 @@
 -- The tests, as paths name them:
---   tie if1  let n = wide(q[0]); ⏎ if n == 0 {
+--   tie if1  let n = count_of(q[0]); ⏎ if n == 0 {
 --   tie if2  let end = 5 * last; ⏎ if q.len() < end + 6 {
 use native.Mathlib.Omega.{arith}
 use borrow.Author.Needs.{needs}
@@ -7,7 +7,7 @@ use Rattle.queue.proofs.remove_first.Statement.{statement}
 use Rattle.queue.proofs.remove_first.Tie as tie
 use Rattle.queue.proofs.remove_first.Reads as reads
 use Rattle.queue.proofs.remove_first.Lts as lts
-use Rattle.queue.proofs.wide.Reads as wide-reads
+use Rattle.queue.proofs.count_of.Reads as count-of-reads
 use Prim.Native.Nat.{ℕ, _+_, _-_, _*_, _≤_}
 use mathlib.Core.Path.{_≡_, sym, _∙_, refl}
 use borrow.Author.Tests.{eq-eqb, ne-eqb, le-leb, lt-leb}
@@ -22,18 +22,18 @@ Inv-loop q₀ n last end i₀ q i = (i ≤ end) × (end + 6 ≤ length q₀) × 
 abbrev μ-loop : tie.MeasureT-loop
 μ-loop q₀ n last end i₀ q i = end - i
 
--- src/lib.rt:54:18  { ⏎ let n = wide(q[0]);
-slice-read-wide : tie.Need-slice-read-wide Inv-loop μ-loop
-slice-read-wide c = omega arith
+-- src/lib.rt:54:18  { ⏎ let n = count_of(q[0]);
+slice-read-count-of : tie.Need-slice-read-count-of Inv-loop μ-loop
+slice-read-count-of c = omega arith
 
--- src/lib.rt:54:9  { ⏎ let n = wide(q[0]);
-wide-requires : tie.Need-wide-requires Inv-loop μ-loop
-wide-requires c κs = search needs
+-- src/lib.rt:54:9  { ⏎ let n = count_of(q[0]);
+count-of-requires : tie.Need-count-of-requires Inv-loop μ-loop
+count-of-requires c κs = search needs
 
 -- src/lib.rt:56:9  if n == 0 { ⏎ return;
 returns : tie.Need-returns Inv-loop μ-loop
 unfolding removed
-returns c = simp (eq-eqb (waiting (c .before .before .before .before .args .q .now)) 0 (sym (c .before .wide .ensures .0) ∙ c .if1 .taken))
+returns c = simp (eq-eqb (waiting (c .before .before .before .before .args .q .now)) 0 (sym (c .before .count-of .ensures .0) ∙ c .if1 .taken))
 
 -- src/lib.rt:58:16  } ⏎ let last = n - 1;
 sub-last : tie.Need-sub-last Inv-loop μ-loop
@@ -50,11 +50,11 @@ add-if2 c = omega arith
 -- src/lib.rt:61:9  if q.len() < end + 6 { ⏎ return;
 returns-2 : tie.Need-returns-2 Inv-loop μ-loop
 unfolding removed
-returns-2 c = simp (ne-eqb (waiting (c .before .before .before .before .before .args .q .now)) 0 (omega (arith, c .before .before .wide .ensures .0, c .before .if1 .left)), lt-leb (5 * waiting (c .before .before .before .before .before .args .q .now) + 1) (length (c .before .before .before .before .before .args .q .now)) (omega (arith, c .before .before .wide .ensures .0, c .before .if1 .left)))
+returns-2 c = simp (ne-eqb (waiting (c .before .before .before .before .before .args .q .now)) 0 (omega (arith, c .before .before .count-of .ensures .0, c .before .if1 .left)), lt-leb (5 * waiting (c .before .before .before .before .before .args .q .now) + 1) (length (c .before .before .before .before .before .args .q .now)) (omega (arith, c .before .before .count-of .ensures .0, c .before .if1 .left)))
 
 -- src/lib.rt:64:5  let mut i = 0; ⏎ while i < end {
 loop-holds : tie.Need-loop-holds Inv-loop μ-loop
-loop-holds c = (omega arith, omega (arith, c .before .before .wide .ensures .0), paste-zero (c .before .before .before .before .before .args .q .now) 1 (drop 6 (c .before .before .before .before .before .args .q .now)), refl)
+loop-holds c = (omega arith, omega (arith, c .before .before .count-of .ensures .0), paste-zero (c .before .before .before .before .before .args .q .now) 1 (drop 6 (c .before .before .before .before .before .args .q .now)), refl)
 
 -- src/lib.rt:65:19  while i < end { ⏎ let b = q[i + 6];
 add-b : tie.Need-add-b Inv-loop μ-loop
@@ -99,7 +99,7 @@ same-length c = simp length-set (c .before .loop .inv .3)
 -- src/lib.rt:50:1  // Takes the oldest token away: the others move down by five bytes. ⏎ pub fn remove_first(q: &mut [u8])
 returns-3 : tie.Need-returns-3 Inv-loop μ-loop
 unfolding removed
-returns-3 c = let e : c .before .loop .i ≡ 5 * (c .before .before .before .before .wide .result - 1) = omega arith in simp (ne-eqb (waiting (c .before .before .before .before .before .before .before .args .q .now)) 0 (omega (arith, c .before .before .before .before .wide .ensures .0, c .before .before .before .if1 .left)), le-leb (5 * waiting (c .before .before .before .before .before .before .before .args .q .now) + 1) (length (c .before .before .before .before .before .before .before .args .q .now)) (omega (arith, c .before .before .before .before .wide .ensures .0, c .before .before .before .if1 .left))) (rw (c .before .loop .inv .2, e, c .before .before .before .before .wide .ensures .0) refl)
+returns-3 c = let e : c .before .loop .i ≡ 5 * (c .before .before .before .before .count-of .result - 1) = omega arith in simp (ne-eqb (waiting (c .before .before .before .before .before .before .before .args .q .now)) 0 (omega (arith, c .before .before .before .before .count-of .ensures .0, c .before .before .before .if1 .left)), le-leb (5 * waiting (c .before .before .before .before .before .before .before .args .q .now) + 1) (length (c .before .before .before .before .before .before .before .args .q .now)) (omega (arith, c .before .before .before .before .count-of .ensures .0, c .before .before .before .if1 .left))) (rw (c .before .loop .inv .2, e, c .before .before .before .before .count-of .ensures .0) refl)
 
 pub remove-first-spec : {M : Type 1} → statement M
 remove-first-spec =
@@ -107,8 +107,8 @@ remove-first-spec =
     (tie.spec
     Inv-loop
     μ-loop
-    slice-read-wide
-    wide-requires
+    slice-read-count-of
+    count-of-requires
     returns
     sub-last
     mul-end

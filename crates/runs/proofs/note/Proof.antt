@@ -1,15 +1,15 @@
 -- The tests, as paths name them:
 --   tie if1  { ⏎ if 3105 <= l {
---   tie if2  let x = wide16(users[a]); ⏎ if x == 65535 {
+--   tie if2  let x = user_of(users[a]); ⏎ if x == 65535 {
 --   tie if3  } ⏎ if x == j {
---   tie if4  let y = wide16(users[e]); ⏎ if y == 65535 {
+--   tie if4  let y = user_of(users[e]); ⏎ if y == 65535 {
 --   tie if5  } ⏎ if y == j {
 use borrow.Author.Needs.{needs}
 use Rattle.runs.proofs.note.Statement.{statement}
 use Rattle.runs.proofs.note.Tie as tie
 use Rattle.runs.proofs.note.Reads as reads
 use Rattle.runs.proofs.note.Lts as lts
-use Rattle.runs.proofs.wide16.Reads as wide16-reads
+use Rattle.runs.proofs.user_of.Reads as user-of-reads
 use native.Mathlib.Omega.{arith}
 use Prim.Native.Nat.{ℕ, _+_, _-_, _*_, _≤_, _<_}
 use mathlib.Core.Path.{_≡_, sym, _∙_, ap, refl}
@@ -34,17 +34,17 @@ returns c = noted-skip (c .before .before .args .users .now) (c .before .before 
 mul-a : tie.Need-mul-a
 mul-a c = search needs
 
--- src/lib.rt:60:20  let a = 2 * l; ⏎ let x = wide16(users[a]);
-mul-wide16 : tie.Need-mul-wide16
-mul-wide16 c = search needs
+-- src/lib.rt:60:20  let a = 2 * l; ⏎ let x = user_of(users[a]);
+mul-user-of : tie.Need-mul-user-of
+mul-user-of c = search needs
 
--- src/lib.rt:60:20  let a = 2 * l; ⏎ let x = wide16(users[a]);
-slice-read-wide16 : tie.Need-slice-read-wide16
-slice-read-wide16 c = search needs
+-- src/lib.rt:60:20  let a = 2 * l; ⏎ let x = user_of(users[a]);
+slice-read-user-of : tie.Need-slice-read-user-of
+slice-read-user-of c = search needs
 
--- src/lib.rt:60:9  let a = 2 * l; ⏎ let x = wide16(users[a]);
-wide16-requires : tie.Need-wide16-requires
-wide16-requires c κs = search needs
+-- src/lib.rt:60:9  let a = 2 * l; ⏎ let x = user_of(users[a]);
+user-of-requires : tie.Need-user-of-requires
+user-of-requires c κs = search needs
 
 -- src/lib.rt:62:20  if x == 65535 { ⏎ users[a] = j as u16;
 cast-users : tie.Need-cast-users
@@ -64,27 +64,27 @@ same-length c = search needs
 
 -- src/lib.rt:63:9  users[a] = j as u16; ⏎ return true;
 returns-2 : tie.Need-returns-2
-returns-2 c = noted-set1 (c .before .before .before .before .before .args .users .now) (c .before .before .before .before .before .args .l) (c .before .before .before .before .before .args .j) (sym (c .before .wide16 .ensures .0) ∙ c .if2 .taken) (omega arith)
+returns-2 c = noted-set1 (c .before .before .before .before .before .args .users .now) (c .before .before .before .before .before .args .l) (c .before .before .before .before .before .args .j) (sym (c .before .user-of .ensures .0) ∙ c .if2 .taken) (omega arith)
 
 -- src/lib.rt:66:9  if x == j { ⏎ return true;
 returns-3 : tie.Need-returns-3
-returns-3 c = noted-have1 (c .before .before .before .before .before .before .args .users .now) (c .before .before .before .before .before .before .args .l) (c .before .before .before .before .before .before .args .j) (sym (c .before .before .wide16 .ensures .0) ∙ c .if3 .taken)
+returns-3 c = noted-have1 (c .before .before .before .before .before .before .args .users .now) (c .before .before .before .before .before .before .args .l) (c .before .before .before .before .before .before .args .j) (sym (c .before .before .user-of .ensures .0) ∙ c .if3 .taken)
 
 -- src/lib.rt:68:13  } ⏎ let e = a + 1;
 add-e : tie.Need-add-e
 add-e c = search needs
 
--- src/lib.rt:69:20  let e = a + 1; ⏎ let y = wide16(users[e]);
-mul-wide16-2 : tie.Need-mul-wide16-2
-mul-wide16-2 c = search needs
+-- src/lib.rt:69:20  let e = a + 1; ⏎ let y = user_of(users[e]);
+mul-user-of-2 : tie.Need-mul-user-of-2
+mul-user-of-2 c = search needs
 
--- src/lib.rt:69:20  let e = a + 1; ⏎ let y = wide16(users[e]);
-slice-read-wide16-2 : tie.Need-slice-read-wide16-2
-slice-read-wide16-2 c = search needs
+-- src/lib.rt:69:20  let e = a + 1; ⏎ let y = user_of(users[e]);
+slice-read-user-of-2 : tie.Need-slice-read-user-of-2
+slice-read-user-of-2 c = search needs
 
--- src/lib.rt:69:9  let e = a + 1; ⏎ let y = wide16(users[e]);
-wide16-requires-2 : tie.Need-wide16-requires-2
-wide16-requires-2 c κs = search needs
+-- src/lib.rt:69:9  let e = a + 1; ⏎ let y = user_of(users[e]);
+user-of-requires-2 : tie.Need-user-of-requires-2
+user-of-requires-2 c κs = search needs
 
 -- src/lib.rt:71:20  if y == 65535 { ⏎ users[e] = j as u16;
 cast-users-2 : tie.Need-cast-users-2
@@ -104,11 +104,11 @@ same-length-2 c = search needs
 
 -- src/lib.rt:72:9  users[e] = j as u16; ⏎ return true;
 returns-4 : tie.Need-returns-4
-returns-4 c = noted-set2 (c .before .before .before .before .before .before .before .before .before .args .users .now) (c .before .before .before .before .before .before .before .before .before .args .l) (c .before .before .before .before .before .before .before .before .before .args .j) (sym (c .before .wide162 .ensures .0) ∙ c .if4 .taken) (omega arith)
+returns-4 c = noted-set2 (c .before .before .before .before .before .before .before .before .before .args .users .now) (c .before .before .before .before .before .before .before .before .before .args .l) (c .before .before .before .before .before .before .before .before .before .args .j) (sym (c .before .user-of2 .ensures .0) ∙ c .if4 .taken) (omega arith)
 
 -- src/lib.rt:75:9  if y == j { ⏎ return true;
 returns-5 : tie.Need-returns-5
-returns-5 c = noted-have2 (c .before .before .before .before .before .before .before .before .before .before .args .users .now) (c .before .before .before .before .before .before .before .before .before .before .args .l) (c .before .before .before .before .before .before .before .before .before .before .args .j) (sym (c .before .before .wide162 .ensures .0) ∙ c .if5 .taken)
+returns-5 c = noted-have2 (c .before .before .before .before .before .before .before .before .before .before .args .users .now) (c .before .before .before .before .before .before .before .before .before .before .args .l) (c .before .before .before .before .before .before .before .before .before .before .args .j) (sym (c .before .before .user-of2 .ensures .0) ∙ c .if5 .taken)
 
 -- src/lib.rt:52:1  // Notes that operator j names link l; false where two others do. ⏎ fn note(users: &mut [u16], l: usize, j: usize) -> bool
 returns-6 : tie.Need-returns-6
@@ -120,9 +120,9 @@ note-spec =
     (tie.spec
     returns
     mul-a
-    mul-wide16
-    slice-read-wide16
-    wide16-requires
+    mul-user-of
+    slice-read-user-of
+    user-of-requires
     cast-users
     mul-users
     slice-write-users
@@ -130,9 +130,9 @@ note-spec =
     returns-2
     returns-3
     add-e
-    mul-wide16-2
-    slice-read-wide16-2
-    wide16-requires-2
+    mul-user-of-2
+    slice-read-user-of-2
+    user-of-requires-2
     cast-users-2
     mul-users-2
     slice-write-users-2

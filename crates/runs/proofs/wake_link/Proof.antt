@@ -6,7 +6,7 @@ use Rattle.runs.proofs.wake_link.Tie as tie
 use Rattle.runs.proofs.wake_link.Reads as reads
 use Rattle.runs.proofs.wake_link.Lts as lts
 use Rattle.runs.proofs.wake_one.Reads as wake-one-reads
-use Rattle.runs.proofs.wide16.Reads as wide16-reads
+use Rattle.runs.proofs.user_of.Reads as user-of-reads
 use native.Mathlib.Omega.{arith}
 use Prim.Native.Nat.{ℕ, _+_, _-_, _*_, _≤_, _<_}
 use mathlib.Core.Path.{_≡_, sym, _∙_, ap, refl}
@@ -31,31 +31,31 @@ mul-a c = search needs
 add-e : tie.Need-add-e
 add-e c = search needs
 
--- src/lib.rt:123:24  let e = a + 1; ⏎ let x = wide16(users[a]);
-mul-wide16 : tie.Need-mul-wide16
-mul-wide16 c = search needs
+-- src/lib.rt:123:24  let e = a + 1; ⏎ let x = user_of(users[a]);
+mul-user-of : tie.Need-mul-user-of
+mul-user-of c = search needs
 
--- src/lib.rt:123:24  let e = a + 1; ⏎ let x = wide16(users[a]);
-shared-slice-read-wide16 : tie.Need-shared-slice-read-wide16
-shared-slice-read-wide16 c = search needs
+-- src/lib.rt:123:24  let e = a + 1; ⏎ let x = user_of(users[a]);
+shared-slice-read-user-of : tie.Need-shared-slice-read-user-of
+shared-slice-read-user-of c = search needs
 
--- src/lib.rt:123:13  let e = a + 1; ⏎ let x = wide16(users[a]);
-wide16-requires : tie.Need-wide16-requires
-wide16-requires c κs = search needs
+-- src/lib.rt:123:13  let e = a + 1; ⏎ let x = user_of(users[a]);
+user-of-requires : tie.Need-user-of-requires
+user-of-requires c κs = search needs
 
--- src/lib.rt:124:24  let x = wide16(users[a]); ⏎ let y = wide16(users[e]);
-mul-wide16-2 : tie.Need-mul-wide16-2
-mul-wide16-2 c = search needs
+-- src/lib.rt:124:24  let x = user_of(users[a]); ⏎ let y = user_of(users[e]);
+mul-user-of-2 : tie.Need-mul-user-of-2
+mul-user-of-2 c = search needs
 
--- src/lib.rt:124:24  let x = wide16(users[a]); ⏎ let y = wide16(users[e]);
-shared-slice-read-wide16-2 : tie.Need-shared-slice-read-wide16-2
-shared-slice-read-wide16-2 c = search needs
+-- src/lib.rt:124:24  let x = user_of(users[a]); ⏎ let y = user_of(users[e]);
+shared-slice-read-user-of-2 : tie.Need-shared-slice-read-user-of-2
+shared-slice-read-user-of-2 c = search needs
 
--- src/lib.rt:124:13  let x = wide16(users[a]); ⏎ let y = wide16(users[e]);
-wide16-requires-2 : tie.Need-wide16-requires-2
-wide16-requires-2 c κs = search needs
+-- src/lib.rt:124:13  let x = user_of(users[a]); ⏎ let y = user_of(users[e]);
+user-of-requires-2 : tie.Need-user-of-requires-2
+user-of-requires-2 c κs = search needs
 
--- src/lib.rt:125:13  let y = wide16(users[e]); ⏎ let first = wake_one(awake, x, low);
+-- src/lib.rt:125:13  let y = user_of(users[e]); ⏎ let first = wake_one(awake, x, low);
 wake-one-requires : tie.Need-wake-one-requires
 wake-one-requires c κs = search needs
 
@@ -69,7 +69,7 @@ same-length c = search needs
 
 -- src/lib.rt:126:9  let first = wake_one(awake, x, low); ⏎ return wake_one(awake, y, first);
 returns : tie.Need-returns
-returns c = (woke-then (c .before .before .before .before .before .before .before .before .before .before .before .before .before .before .before .args .awake .now) (c .before .before .before .before .before .before .before .before .before .before .before .before .before .before .before .args .low) (c .before .before .before .before .before .before .wake-one .last .0) (c .before .before .before .before .before .before .wake-one .result) (c .before .before .wake-one2 .last .0) (c .before .before .wake-one2 .result) (c .before .before .before .before .before .before .wake-one .ensures .0) (c .before .before .wake-one2 .ensures .0), λ x xl ll. λ (f : Found (c .before .before .before .before .before .before .before .before .before .before .before .before .before .before .before .args .users .now) (c .before .before .before .before .before .before .before .before .before .before .before .before .before .before .before .args .l) x). ⊎-elim (λ (e : getD (c .before .before .before .before .before .before .before .before .before .before .before .before .before .before .before .args .users .now) (2 * c .before .before .before .before .before .before .before .before .before .before .before .before .before .before .before .args .l) 0 ≡ x). let q : c .before .before .before .before .before .before .before .before .before .before .wide16 .result ≡ x = c .before .before .before .before .before .before .before .before .before .before .wide16 .ensures .0 ∙ e in c .before .before .wake-one2 .ensures .0 .keeps x ((rw q at (c .before .before .before .before .before .before .wake-one .ensures .1)) xl)) (λ (e : getD (c .before .before .before .before .before .before .before .before .before .before .before .before .before .before .before .args .users .now) (2 * c .before .before .before .before .before .before .before .before .before .before .before .before .before .before .before .args .l + 1) 0 ≡ x). let q : c .before .before .before .before .before .before .before .before .wide162 .result ≡ x = c .before .before .before .before .before .before .before .before .wide162 .ensures .0 ∙ e in (rw q at (c .before .before .wake-one2 .ensures .1)) xl) f)
+returns c = (woke-then (c .before .before .before .before .before .before .before .before .before .before .before .before .before .before .before .args .awake .now) (c .before .before .before .before .before .before .before .before .before .before .before .before .before .before .before .args .low) (c .before .before .before .before .before .before .wake-one .last .0) (c .before .before .before .before .before .before .wake-one .result) (c .before .before .wake-one2 .last .0) (c .before .before .wake-one2 .result) (c .before .before .before .before .before .before .wake-one .ensures .0) (c .before .before .wake-one2 .ensures .0), λ x xl ll. λ (f : Found (c .before .before .before .before .before .before .before .before .before .before .before .before .before .before .before .args .users .now) (c .before .before .before .before .before .before .before .before .before .before .before .before .before .before .before .args .l) x). ⊎-elim (λ (e : getD (c .before .before .before .before .before .before .before .before .before .before .before .before .before .before .before .args .users .now) (2 * c .before .before .before .before .before .before .before .before .before .before .before .before .before .before .before .args .l) 0 ≡ x). let q : c .before .before .before .before .before .before .before .before .before .before .user-of .result ≡ x = c .before .before .before .before .before .before .before .before .before .before .user-of .ensures .0 ∙ e in c .before .before .wake-one2 .ensures .0 .keeps x ((rw q at (c .before .before .before .before .before .before .wake-one .ensures .1)) xl)) (λ (e : getD (c .before .before .before .before .before .before .before .before .before .before .before .before .before .before .before .args .users .now) (2 * c .before .before .before .before .before .before .before .before .before .before .before .before .before .before .before .args .l + 1) 0 ≡ x). let q : c .before .before .before .before .before .before .before .before .user-of2 .result ≡ x = c .before .before .before .before .before .before .before .before .user-of2 .ensures .0 ∙ e in (rw q at (c .before .before .wake-one2 .ensures .1)) xl) f)
 
 -- src/lib.rt:116:1  // Marks the operators that name link l. ⏎ fn wake_link(users: &[u16], awake: &mut [u8], l: usize, low: usize) -> usize
 returns-2 : tie.Need-returns-2
@@ -81,12 +81,12 @@ wake-link-spec =
     (tie.spec
     mul-a
     add-e
-    mul-wide16
-    shared-slice-read-wide16
-    wide16-requires
-    mul-wide16-2
-    shared-slice-read-wide16-2
-    wide16-requires-2
+    mul-user-of
+    shared-slice-read-user-of
+    user-of-requires
+    mul-user-of-2
+    shared-slice-read-user-of-2
+    user-of-requires-2
     wake-one-requires
     wake-one-requires-2
     same-length
