@@ -1,5 +1,5 @@
 // Writes the list of sheets in src/cases.rs as test data: FOLDER/NNN/formula.txt, and FOLDER/expected with a line each:
-// refusal, row, rows, operators, inputs and results, in six-character fields. The product's crate readcases holds both.
+// refusal, row, rows, operators, inputs and results, in six-character fields. The product's crate sheet_runs holds both.
 
 use compare::cases;
 use std::path::Path;

@@ -31,92 +31,92 @@ use native.Mathlib.Omega.{arith}
 fields-requires : tie.Need-fields-requires
 fields-requires c κs = search needs
 
--- src/lib.rt:135:24  let mut places = blank::marks(); ⏎ let mut returned = blank::bytes();
+-- src/lib.rt:134:24  let mut fields = blank::fields(); ⏎ let mut returned = blank::bytes();
 bytes-requires : tie.Need-bytes-requires
 bytes-requires c κs = search needs
 
--- src/lib.rt:137:21  let mut iterated = blank::bytes(); ⏎ let mut masks = blank::words();
+-- src/lib.rt:135:21  let mut returned = blank::bytes(); ⏎ let mut masks = blank::words();
 words-requires : tie.Need-words-requires
 words-requires c κs = search needs
 
--- src/lib.rt:144:9  sheet, ⏎ &mut fields,
+-- src/lib.rt:136:37  let mut masks = blank::words(); ⏎ let tested = fill_tables(sheet, &mut fields, &mut returned, &mut masks);
 slice-aggregate-fill-tables : tie.Need-slice-aggregate-fill-tables
 slice-aggregate-fill-tables c = search needs
 
--- src/lib.rt:145:9  &mut fields, ⏎ &mut places,
+-- src/lib.rt:136:50  let mut masks = blank::words(); ⏎ let tested = fill_tables(sheet, &mut fields, &mut returned, &mut masks);
 slice-aggregate-fill-tables-2 : tie.Need-slice-aggregate-fill-tables-2
 slice-aggregate-fill-tables-2 c = search needs
 
--- src/lib.rt:146:9  &mut places, ⏎ &mut returned,
+-- src/lib.rt:136:65  let mut masks = blank::words(); ⏎ let tested = fill_tables(sheet, &mut fields, &mut returned, &mut masks);
 slice-aggregate-fill-tables-3 : tie.Need-slice-aggregate-fill-tables-3
 slice-aggregate-fill-tables-3 c = search needs
 
--- src/lib.rt:142:9  let mut links = blank::numbers(); ⏎ let verdict = fill_tables(
+-- src/lib.rt:136:18  let mut masks = blank::words(); ⏎ let tested = fill_tables(sheet, &mut fields, &mut returned, &mut masks);
 fill-tables-requires : tie.Need-fill-tables-requires
 fill-tables-requires c κs =
     (ap length (c .before .before .before .before .before .fields .ensures), ap length (c .before .before .before .before .bytes .ensures), ap length (c .before .before .before .words .ensures))
 
--- src/lib.rt:155:26  match verdict { ⏎ Verdict::Refused(r, row) => refused(r, row as u32),
+-- src/lib.rt:138:26  match tested { ⏎ Tested::Refused(r, row) => refused(r, row as u32),
 enum-known-tested : tie.Need-enum-known-tested
 enum-known-tested c = search needs
 
--- src/lib.rt:155:48  match verdict { ⏎ Verdict::Refused(r, row) => refused(r, row as u32),
+-- src/lib.rt:138:48  match tested { ⏎ Tested::Refused(r, row) => refused(r, row as u32),
 cast-refused : tie.Need-cast-refused
 cast-refused c = let m = low-row (c .before .before .before .before .before .before .before .before .before .before .before .before .before .before .before .args .sheet .now) (c .before .tested .given .0 .0) (c .before .tested .given .0 .1 .0) (sym (c .before .before .before .before .before .before .fill-tables .ensures .verdict) ∙ ap verdictIn (c .before .tested .given .1)) in omega arith
 
--- src/lib.rt:155:37  match verdict { ⏎ Verdict::Refused(r, row) => refused(r, row as u32),
+-- src/lib.rt:138:37  match tested { ⏎ Tested::Refused(r, row) => refused(r, row as u32),
 refused-requires : tie.Need-refused-requires
 refused-requires c κs = search needs
 
--- src/lib.rt:157:24  Verdict::Passed => { ⏎ let rows = sheet.len() / 31;
+-- src/lib.rt:140:24  Tested::Passed(_) => { ⏎ let rows = sheet.len() / 31;
 enum-told : tie.Need-enum-told
 enum-told c = search needs
 
--- src/lib.rt:158:23  let rows = sheet.len() / 31; ⏎ let end = 5 * rows;
+-- src/lib.rt:141:23  let rows = sheet.len() / 31; ⏎ let end = 5 * rows;
 mul-end : tie.Need-mul-end
 mul-end c = omega (arith, rows-few (c .before .before .before .before .before .before .before .before .before .before .before .before .before .before .args .sheet .now) _ (c .before .before .before .before .before .fill-tables .ensures) (ap verdictIn (c .enum-told .given .1)))
 
--- src/lib.rt:159:29  let end = 5 * rows; ⏎ let made = make(&fields[..end], rows, &masks[..rows], &returned[..rows], mem);
+-- src/lib.rt:142:29  let end = 5 * rows; ⏎ let made = make(&fields[..end], rows, &masks[..rows], &returned[..rows], mem);
 array-share-prefix-fields : tie.Need-array-share-prefix-fields
 array-share-prefix-fields c = fields-long (c .before .before .before .before .before .before .before .before .before .before .before .before .before .before .args .sheet .now) _ (c .before .before .before .before .before .fill-tables .ensures) (ap verdictIn (c .enum-told .given .1))
 
--- src/lib.rt:159:29  let end = 5 * rows; ⏎ let made = make(&fields[..end], rows, &masks[..rows], &returned[..rows], mem);
+-- src/lib.rt:142:29  let end = 5 * rows; ⏎ let made = make(&fields[..end], rows, &masks[..rows], &returned[..rows], mem);
 slice-aggregate-make : tie.Need-slice-aggregate-make
 slice-aggregate-make c = fields-size (c .before .before .before .before .before .before .before .before .before .before .before .before .before .before .before .args .sheet .now) _ (c .before .before .before .before .before .before .fill-tables .ensures) (ap verdictIn (c .before .enum-told .given .1))
 
--- src/lib.rt:159:51  let end = 5 * rows; ⏎ let made = make(&fields[..end], rows, &masks[..rows], &returned[..rows], mem);
+-- src/lib.rt:142:51  let end = 5 * rows; ⏎ let made = make(&fields[..end], rows, &masks[..rows], &returned[..rows], mem);
 array-share-prefix-masks : tie.Need-array-share-prefix-masks
 array-share-prefix-masks c = masks-long (c .before .before .before .before .before .before .before .before .before .before .before .before .before .before .before .args .sheet .now) _ (c .before .before .before .before .before .before .fill-tables .ensures) (ap verdictIn (c .before .enum-told .given .1))
 
--- src/lib.rt:159:51  let end = 5 * rows; ⏎ let made = make(&fields[..end], rows, &masks[..rows], &returned[..rows], mem);
+-- src/lib.rt:142:51  let end = 5 * rows; ⏎ let made = make(&fields[..end], rows, &masks[..rows], &returned[..rows], mem);
 slice-aggregate-make-2 : tie.Need-slice-aggregate-make-2
 slice-aggregate-make-2 c = masks-size (c .before .before .before .before .before .before .before .before .before .before .before .before .before .before .before .before .args .sheet .now) _ (c .before .before .before .before .before .before .before .fill-tables .ensures) (ap verdictIn (c .before .before .enum-told .given .1))
 
--- src/lib.rt:159:67  let end = 5 * rows; ⏎ let made = make(&fields[..end], rows, &masks[..rows], &returned[..rows], mem);
+-- src/lib.rt:142:67  let end = 5 * rows; ⏎ let made = make(&fields[..end], rows, &masks[..rows], &returned[..rows], mem);
 array-share-prefix-returned : tie.Need-array-share-prefix-returned
 array-share-prefix-returned c = widths-long (c .before .before .before .before .before .before .before .before .before .before .before .before .before .before .before .before .args .sheet .now) _ (c .before .before .before .before .before .before .before .fill-tables .ensures) (ap verdictIn (c .before .before .enum-told .given .1))
 
--- src/lib.rt:159:67  let end = 5 * rows; ⏎ let made = make(&fields[..end], rows, &masks[..rows], &returned[..rows], mem);
+-- src/lib.rt:142:67  let end = 5 * rows; ⏎ let made = make(&fields[..end], rows, &masks[..rows], &returned[..rows], mem);
 slice-aggregate-make-3 : tie.Need-slice-aggregate-make-3
 slice-aggregate-make-3 c = widths-size (c .before .before .before .before .before .before .before .before .before .before .before .before .before .before .before .before .before .args .sheet .now) _ (c .before .before .before .before .before .before .before .before .fill-tables .ensures) (ap verdictIn (c .before .before .before .enum-told .given .1))
 
--- src/lib.rt:159:17  let end = 5 * rows; ⏎ let made = make(&fields[..end], rows, &masks[..rows], &returned[..rows], mem);
+-- src/lib.rt:142:17  let end = 5 * rows; ⏎ let made = make(&fields[..end], rows, &masks[..rows], &returned[..rows], mem);
 make-requires : tie.Need-make-requires
 make-requires c κs = (accepted-makeable (c .before .before .before .before .before .before .before .before .before .before .before .before .before .before .before .before .before .before .args .sheet .now) _ (c .before .before .before .before .before .before .before .before .before .fill-tables .ensures) (ap verdictIn (c .before .before .before .before .enum-told .given .1)), omega (arith, c .before .before .before .before .before .before .before .before .before .before .before .before .before .before .before .before .before .before .pre .1))
 
--- src/lib.rt:163:13  let results = made.results; ⏎ complete(mem, capacity, made);
+-- src/lib.rt:146:13  let results = made.results; ⏎ complete(mem, capacity, made);
 complete-requires : tie.Need-complete-requires
 complete-requires c κs = (c .before .before .before .before .before .before .before .before .before .before .before .before .before .before .before .before .before .before .before .before .before .before .pre .0, omega (arith, c .before .before .before .before .before .before .before .before .before .before .before .before .before .before .before .before .before .before .before .before .before .before .pre .1, c .before .before .mem .given), making-modest (c .before .before .before .before .before .before .before .before .before .before .before .before .before .before .before .before .before .before .before .before .before .before .args .sheet .now) _ (c .before .before .before .before .before .before .before .before .before .before .before .before .before .fill-tables .ensures) (ap verdictIn (c .before .before .before .before .before .before .before .before .enum-told .given .1)) (c .before .before .before .make .result) (c .before .before .before .make .ensures .0))
 
--- src/lib.rt:167:28  row: 0, ⏎ operators: operators as u32,
+-- src/lib.rt:150:28  row: 0, ⏎ operators: operators as u32,
 cast-t39 : tie.Need-cast-t39
 cast-t39 c = let m = making-modest (c .before .before .before .before .before .before .before .before .before .before .before .before .before .before .before .before .before .before .before .before .before .before .before .before .before .args .sheet .now) _ (c .before .before .before .before .before .before .before .before .before .before .before .before .before .before .before .before .fill-tables .ensures) (ap verdictIn (c .before .before .before .before .before .before .before .before .before .before .before .enum-told .given .1)) (c .before .before .before .before .before .before .make .result) (c .before .before .before .before .before .before .make .ensures .0) .operators in omega arith
 
--- src/lib.rt:168:25  operators: operators as u32, ⏎ inputs: inputs as u32,
+-- src/lib.rt:151:25  operators: operators as u32, ⏎ inputs: inputs as u32,
 cast-t40 : tie.Need-cast-t40
 cast-t40 c = let m = making-modest (c .before .before .before .before .before .before .before .before .before .before .before .before .before .before .before .before .before .before .before .before .before .before .before .before .before .args .sheet .now) _ (c .before .before .before .before .before .before .before .before .before .before .before .before .before .before .before .before .fill-tables .ensures) (ap verdictIn (c .before .before .before .before .before .before .before .before .before .before .before .enum-told .given .1)) (c .before .before .before .before .before .before .make .result) (c .before .before .before .before .before .before .make .ensures .0) .inputs in omega arith
 
--- src/lib.rt:169:26  inputs: inputs as u32, ⏎ results: results as u32,
+-- src/lib.rt:152:26  inputs: inputs as u32, ⏎ results: results as u32,
 cast-t41 : tie.Need-cast-t41
 cast-t41 c = let m = making-modest (c .before .before .before .before .before .before .before .before .before .before .before .before .before .before .before .before .before .before .before .before .before .before .before .before .before .args .sheet .now) _ (c .before .before .before .before .before .before .before .before .before .before .before .before .before .before .before .before .fill-tables .ensures) (ap verdictIn (c .before .before .before .before .before .before .before .before .before .before .before .enum-told .given .1)) (c .before .before .before .before .before .before .make .result) (c .before .before .before .before .before .before .make .ensures .0) .results in omega arith
 
