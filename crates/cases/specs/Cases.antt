@@ -21,8 +21,8 @@ use Rattle.formula.specs.Count.{countE}
 use Rattle.formula.specs.Tests.{fewRows, readingOf}
 use Rattle.graph.specs.Translation.{madeOf}
 use Rattle.network.specs.Net.{append}
-use Rattle.eval.specs.declared.Evaluation.{Evaluation}
-use Rattle.eval.specs.Evaluate.{cell, refused, evaluationOf}
+use Rattle.meaning.specs.declared.Evaluation.{Evaluation}
+use Rattle.meaning.specs.Evaluate.{cell, refused, evaluationOf}
 use Rattle.reference.specs.Marks.{marks}
 use Rattle.verdicts.specs.Running.{startOf}
 use Rattle.demand.specs.Pushes.{pushRefusals}

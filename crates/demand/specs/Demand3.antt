@@ -19,7 +19,7 @@ use Rattle.begin.specs.MadeSound.{made-sound}
 use Rattle.begin.specs.Lent.{stands-behind}
 use Rattle.begin.specs.StartedStands.{started-stands}
 use Rattle.calls.specs.Calls.{answers}
-use Rattle.eval.specs.Evaluate.{evaluationOf}
+use Rattle.meaning.specs.Evaluate.{evaluationOf}
 use Rattle.demand.specs.MemoryCalls.{Call, result, answersOf, setsPushed, resultsTaken}
 use Rattle.demand.specs.Claim.{Enough, Ends, yielded, OwnVerdicts}
 use Rattle.demand.specs.Started.{start-accepted}

@@ -15,13 +15,13 @@ use Rattle.network.specs.Net.{Links, Able, act, label}
 use Rattle.graph.specs.Translation.{madeOf}
 use Rattle.layout.specs.Layout.{sizeOf, untakenOf, resultsOf}
 use Rattle.valid.specs.Below.{allBelow, and-left, and-right, and-both}
-use Rattle.eval.specs.Evaluate.{cellsOf, setValues}
+use Rattle.meaning.specs.Evaluate.{cellsOf}
+use Rattle.sets.specs.Sets.{setValues, setOk, values-set, set-values, values-pass}
 use Rattle.verdicts.specs.Running.{places, pushOf, takeOf}
 use Rattle.verdicts.specs.ResultSets.{valuesIn}
-use Rattle.calls.specs.Calls.{setOk, roomsOk, pushedMemory, resultReady, written, takenMemory}
+use Rattle.calls.specs.Calls.{roomsOk, pushedMemory, resultReady, written, takenMemory}
 use Rattle.view.specs.Sound.{Sound}
 use Rattle.view.specs.Stands.{Stands}
-use Rattle.ends.specs.Sets.{values-set, set-values, values-pass}
 use Rattle.ends.specs.ResultBytes.{cellBytes, cells-result}
 use Rattle.ends.specs.Push.{tests-push, push-tests, stands-pushed}
 use Rattle.ends.specs.Take.{tests-take, take-tests, stands-taken, take-writes}

@@ -17,7 +17,7 @@ use Rattle.formula.specs.Tests.{verdictOf, figuresOf}
 use Rattle.layout.specs.Layout.{operatorsOf, sizeOf, need}
 use Rattle.runs.specs.Run.{runs, stillAt}
 use Rattle.calls.specs.Calls.{sizeIn, standing, ran}
-use Rattle.eval.specs.Evaluate.{evaluationOf}
+use Rattle.meaning.specs.Evaluate.{evaluationOf}
 use Rattle.start.specs.Start.{started}
 use Rattle.refusals.specs.RunCount.{run-is}
 use Rattle.demand.specs.MemoryCalls.{Result, result, setsPushed, resultsTaken}
