@@ -5,7 +5,7 @@ use mathlib.Core.Bool.{Bool, true, false, _&&_}
 use mathlib.Core.List.{List}
 use native.Mathlib.Omega.{arith}
 use mathlib.Core.Logic.{_≢_}
-use borrow.Author.Tests.{ltb-true, ltb-false, ne-eqb, le-ltb, lt-ltb, eqb-true}
+use borrow.Author.Tests.{ltb-true, ltb-false, ne-eqb, le-ltb, lt-ltb}
 use lib.Dec.{ltb, eqb}
 use lib.ListN.{length, getD}
 use Rattle.value.specs.Operators.{pick}
@@ -20,10 +20,10 @@ use Rattle.runs.specs.Run as Run
 use Rattle.runs.specs.Run.{runs, stillAt}
 use Rattle.formula.specs.declared.Refusal.the-variants.{Memory, Set, Untaken, Full, NotAble, NoResult, Unfinished}
 use Rattle.formula.specs.Refusals.{numberOf}
-use Rattle.valid.specs.Below.{and-left}
 use native.Mathlib.Numerals.{add-one}
 use Rattle.value.specs.Bytes.{stored}
-use Rattle.calls.specs.Calls.{Outcome, Handed, outcome, handed, answers, refusal, sizeIn, standing, setOk, roomsOk, entered, pushedMemory, pushed, fired, ended, ran, resultReady, emptied, written, resultWord, takenMemory, taken}
+use Rattle.calls.specs.Calls.{Outcome, Handed, outcome, handed, answers, refusal, sizeIn, standing, roomsOk, entered, pushedMemory, pushed, fired, ended, ran, resultReady, emptied, written, resultWord, takenMemory, taken}
+use Rattle.sets.specs.Sets.{setOk}
 
 pub standing-good : (m : List ℕ) → standing m ≡ 0 → (need (sizeIn m) ≤ length m) × (valid m ≡ true)
 unfolding standing
@@ -175,8 +175,3 @@ module _ (m : List ℕ) where
       pub ran-unfinished : stillAt m′ (sizeIn m) (operatorsOf m) ≡ false → ran m b ≡ outcome (answers (numberOf Unfinished) c) m′
       unfolding ended
       ran-unfinished t = ran-ended b ∙ rw (← e, t) refl
-
--- a set of k values has their length
-pub set-length : (k : ℕ) (s : List ℕ) → setOk k s ≡ true → length s ≡ 5 * k
-unfolding setOk
-set-length k s h = eqb-true (length s) (5 * k) (and-left (eqb (length s) (5 * k)) _ h)

@@ -8,7 +8,8 @@ use mathlib.Core.List.{List}
 use lib.ListN.{length, getD, set}
 use lib.Dec.{ltb, eqb}
 use Rattle.value.specs.Operators.{pick}
-use Rattle.value.specs.Bytes.{isSome, valueOf, wordOf, wordAt, stored}
+use Rattle.value.specs.Bytes.{wordOf, wordAt, stored}
+use Rattle.sets.specs.Sets.{setOk}
 use Rattle.network.specs.Values.{true-value, err-value}
 use Rattle.formula.specs.declared.Refusal.{Refusal}
 use Rattle.formula.specs.declared.Refusal.the-variants.{Memory, Set, Altered, Untaken, Full, NotAble, NoResult, Unfinished}
@@ -54,13 +55,6 @@ standing m = pick (ltb (length m) (need (sizeIn m))) (numberOf Memory) (pick (va
 
 -- ---- push
 
--- 12 "a set with another number of values than inputs, a bad value field"
-unfoldable pub fieldOk : List ℕ → ℕ → Bool
-fieldOk s j = isSome (valueOf (wordAt s (5 * j)))
-
-unfoldable pub setOk : ℕ → List ℕ → Bool
-setOk k s = eqb (length s) (5 * k) && allBelow k (fieldOk s)
-
 -- 33 "an input link, or the trigger's link where it exists, full": a link that does not exist always has room
 unfoldable pub inputRoom : List ℕ → ℕ → ℕ → Bool
 inputRoom m size j = roomAt m size (inputLink m j)
@@ -81,7 +75,7 @@ triggered m s = appendedAt (entered (inputsOf m) m (sizeIn m) s) (sizeIn m) (tri
 unfoldable pub pushedMemory : List ℕ → List ℕ → List ℕ
 pushedMemory m s = set (triggered m s) 7 (untakenOf m + 1)
 
--- 11, 31, 12, 32, 33
+-- 11, 31, 12 (sets' specs/Sets), 32, 33
 unfoldable pub pushed : List ℕ → List ℕ → Outcome
 pushed m s =
     pick (eqb (standing m) 0)

@@ -8,7 +8,7 @@ ghost use Prim.Native.Nat.{ℕ, _+_, _*_, _≤_, _<_};
 ghost use lib.ListN.{length};
 ghost use Rattle.layout.specs.Layout.{need};
 ghost use Rattle.valid.specs.Below.{allBelow};
-ghost use Rattle.calls.specs.Calls.{outcome, handed, refusal, standing, setOk, roomsOk, entered, resultReady, resultWord, written, emptied, pushed, fired, ran, taken};
+ghost use Rattle.calls.specs.Calls.{outcome, handed, refusal, standing, roomsOk, entered, resultReady, resultWord, written, emptied, pushed, fired, ran, taken};
 
 // A call's answer: document 01's number of a refusal, 0 where accepted; the firings of a run or the
 // width of a taken result set, else 0.
@@ -39,25 +39,6 @@ fn standing_of(mem: &[u8]) -> u32
         return 0;
     }
     formula::refusal_number(Refusal::Altered)
-}
-
-// Whether a set has k values and nothing else.
-fn is_set(set: &[u8], k: usize) -> bool
-    requires { ⌜ k < 256 ⌝ }
-    ensures { λ r. ⌜ r ≡ setOk k (now (set .entry)) ⌝ }
-{
-    if set.len() != 5 * k {
-        return false;
-    }
-    let mut j = 0;
-    while j < k {
-        if value::bytes::is_value(value::bytes::load(set, 5 * j)) {
-            j += 1;
-        } else {
-            return false;
-        }
-    }
-    true
 }
 
 // Whether the trigger's link and the k input links have room.
@@ -100,7 +81,7 @@ pub fn push(mem: &mut [u8], set: &[u8]) -> Answer
     let stands = standing_of(mem);
     if stands == 0 {
         let k = layout::wide(mem[5]);
-        if is_set(set, k) {
+        if sets::is_set(set, k) {
             let untaken = mem[7];
             if untaken < 16 {
                 let size = 5 * layout::capacity(mem) + 1;

@@ -21,9 +21,9 @@ use Rattle.formula.specs.Count.{countE}
 use Rattle.formula.specs.Tests.{fewRows, readingOf}
 use Rattle.graph.specs.Translation.{madeOf}
 use Rattle.network.specs.Net.{append}
-use Rattle.eval.specs.declared.Cell.{Cell}
-use Rattle.eval.specs.declared.Evaluation.{Evaluation}
-use Rattle.eval.specs.Evaluate.{cell, evaluationOf}
+use Rattle.meaning.specs.declared.Cell.{Cell}
+use Rattle.meaning.specs.declared.Evaluation.{Evaluation}
+use Rattle.meaning.specs.Evaluate.{cell, evaluationOf}
 use Rattle.reference.specs.Marks.{marks}
 use Rattle.verdicts.specs.Running.{startOf}
 use Rattle.ends.specs.ResultBytes.{spelled}

@@ -11,7 +11,7 @@ use Rattle.formula.specs.declared.Verdict.the-variants.{Passed}
 use Rattle.formula.specs.Tree.{formulaOf}
 use Rattle.formula.specs.Tests.{verdictOf}
 use Rattle.graph.specs.Translation.{madeOf}
-use Rattle.eval.specs.Evaluate.{setValues}
+use Rattle.sets.specs.Sets.{setValues}
 use Rattle.layout.specs.Layout.{sizeOf, need}
 use Rattle.verdicts.specs.Running.{startOf}
 use Rattle.start.specs.Start.{started}

@@ -11,12 +11,13 @@ use Rattle.value.specs.declared.Value.{Value}
 use Rattle.network.specs.Net.{Links, Able, act, label}
 use Rattle.formula.specs.Tree.{Exp}
 use Rattle.graph.specs.Translation.{madeOf}
-use Rattle.eval.specs.Evaluate.{cellsOf, setValues}
+use Rattle.meaning.specs.Evaluate.{cellsOf}
+use Rattle.sets.specs.Sets.{setValues, setOk}
 use Rattle.layout.specs.Layout.{sizeOf, untakenOf}
 use Rattle.machine.specs.Fire.{ableAt, firedAt}
 use Rattle.valid.specs.Below.{allBelow}
 use Rattle.runs.specs.Run.{runs}
-use Rattle.calls.specs.Calls.{standing, setOk, roomsOk, pushedMemory, resultReady, written, takenMemory}
+use Rattle.calls.specs.Calls.{standing, roomsOk, pushedMemory, resultReady, written, takenMemory}
 use Rattle.verdicts.specs.ResultSets.{valuesIn}
 use Rattle.verdicts.specs.Running.{places, operatorAt, pushOf, takeOf, afterSteps, runSteps}
 use Rattle.view.specs.Sound.{Sound}

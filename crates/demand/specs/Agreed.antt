@@ -14,7 +14,7 @@ use Rattle.graph.specs.Translation.{madeOf}
 use Rattle.layout.specs.Layout.{sizeOf, resultsOf, untakenOf}
 use Rattle.valid.specs.Below.{allBelow, and-left, and-right, and-both}
 use Rattle.calls.specs.Calls.{resultReady, written}
-use Rattle.eval.specs.Evaluate.{cellsOf}
+use Rattle.meaning.specs.Evaluate.{cellsOf}
 use Rattle.verdicts.specs.Running.{places, takeOf}
 use Rattle.view.specs.Sound.{Sound}
 use Rattle.view.specs.Stands.{Stands}
@@ -22,7 +22,7 @@ use Rattle.view.specs.Able.{able-on-links, able-on-bytes}
 use Rattle.view.specs.Fired.{fired-stands}
 use Rattle.view.specs.Run.{run-same}
 use Rattle.ends.specs.ResultBytes.{cellBytes, cells-result}
-use Rattle.ends.specs.Sets.{set-values, values-set}
+use Rattle.sets.specs.Sets.{set-values, values-set}
 use Rattle.ends.specs.Push.{tests-push, stands-pushed}
 use Rattle.ends.specs.Take.{resultIn, tests-take, take-tests, stands-taken, take-writes}
 use Rattle.begin.specs.MadeSound.{made-sound}

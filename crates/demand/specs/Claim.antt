@@ -1,13 +1,13 @@
 -- Demand 3's sentences as one record, for a list of calls from the memory that a start left (document 01, "Running", second part). Direct evaluation is
--- eval/specs/Evaluate `evaluationOf`, of the sheet's and the set's bytes, which the evaluator's contract cites. Definitions only; assumes nothing.
+-- meaning/specs/Evaluate `evaluationOf`, of the sheet's and the set's bytes, which the evaluator's contract cites. Definitions only; assumes nothing.
 use Prim.Native.Nat.{ℕ, _≤_, _<_}
 use mathlib.Core.Path.{_≡_}
 use mathlib.Core.Logic.{_⊎_, _≢_}
 use mathlib.Core.List.{List, []}
 use lib.ListN.{length, getD}
 use Rattle.formula.specs.declared.Verdict.the-variants.{Passed}
-use Rattle.eval.specs.declared.Evaluation.{Evaluation}
-use Rattle.eval.specs.Evaluate.{evaluationOf}
+use Rattle.meaning.specs.declared.Evaluation.{Evaluation}
+use Rattle.meaning.specs.Evaluate.{evaluationOf}
 use Rattle.formula.specs.declared.Refusal.the-variants.{Altered, NotAble}
 use Rattle.formula.specs.Refusals.{numberOf}
 use Rattle.layout.specs.Layout.{operatorsOf, sizeOf, need}

@@ -1,5 +1,5 @@
 -- The firmware's two ways to a verdict, byte for byte: the eighty bytes that the k-th take wrote are the first eighty that evaluation of the k-th set writes
--- (evaluate/specs/Handed `handedOut`, the contract of bench_evaluate), and both tell the same width. Demand 3 (Claim) compares with the result set's bytes; here
+-- (eval_sheet/specs/Handed `handedOut`, the contract of bench_evaluate), and both tell the same width. Demand 3 (Claim) compares with the result set's bytes; here
 -- they are those that evaluation stores cell by cell. Document 01, "the result taken equals its result set in width and all sixteen places". Assumes an accepted
 -- start, and rounds and room enough for the evaluation.
 use Prim.Native.Nat.{ℕ, zero, suc, _+_, _-_, _*_, _≤_, _<_}
@@ -18,11 +18,12 @@ use Rattle.formula.specs.Tree.{formulaOf}
 use Rattle.formula.specs.Free.{freeE, inputsOf}
 use Rattle.formula.specs.Tests.{verdictOf}
 use Rattle.meaning.specs.Meaning.{Outcome, yields, inputsHold, evalE}
-use Rattle.eval.specs.declared.Cell.{Cell}
-use Rattle.eval.specs.declared.Evaluation.{Evaluation}
-use Rattle.eval.specs.Evaluate.{cell, cellsOf, setValues, concluded, evaluatedWith, evaluated, afterVerdict, evaluationOf}
-use Rattle.evaluate.specs.Handed.{Handed, written, handedOut, handed-passed}
-use Rattle.evaluate.specs.Small.{narrow-width}
+use Rattle.meaning.specs.declared.Cell.{Cell}
+use Rattle.meaning.specs.declared.Evaluation.{Evaluation}
+use Rattle.meaning.specs.Evaluate.{cell, cellsOf, concluded, evaluatedWith, evaluated, afterVerdict, evaluationOf}
+use Rattle.sets.specs.Sets.{setValues}
+use Rattle.eval_sheet.specs.Handed.{Handed, written, handedOut, handed-passed}
+use Rattle.eval_sheet.specs.Small.{narrow-width}
 use Rattle.ends.specs.ResultBytes.{cellBytes, length-cell-bytes, storedOut, cells-stored}
 use Rattle.start.specs.Start.{started}
 use Rattle.demand.specs.MemoryCalls.{Call, Result, result, setsPushed, resultsTaken}

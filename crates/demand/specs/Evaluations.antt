@@ -1,4 +1,4 @@
--- Direct evaluation of bytes (eval/specs/Evaluate `evaluationOf`) beside the abstract machine's verdicts (verdicts/specs/Results `EndsWith`): for an accepted
+-- Direct evaluation of bytes (meaning/specs/Evaluate `evaluationOf`) beside the abstract machine's verdicts (verdicts/specs/Results `EndsWith`): for an accepted
 -- sheet and a set that can be read, a number of rounds is enough if and only if the formula yields values with it, and they are the result set's. Assumes
 -- the verdict Passed.
 use Prim.Native.Nat.{ℕ}
@@ -13,7 +13,8 @@ use Rattle.formula.specs.Tree.{formulaOf}
 use Rattle.formula.specs.Free.{freeE, inputsOf}
 use Rattle.formula.specs.Tests.{verdictOf}
 use Rattle.meaning.specs.Meaning.{Outcome, yields, inputsHold, evalE}
-use Rattle.eval.specs.Evaluate.{cellsOf, setValues, concluded, evaluated, evaluationOf}
+use Rattle.meaning.specs.Evaluate.{cellsOf, concluded, evaluated, evaluationOf}
+use Rattle.sets.specs.Sets.{setValues}
 use Rattle.verdicts.specs.Results.{valuesOf, resultOf, EndsWith}
 use Rattle.ends.specs.ResultBytes.{cellBytes}
 use Rattle.demand.specs.MemoryCalls.{Result, result}

@@ -22,12 +22,13 @@ use Rattle.formula.specs.Tree.{Exp}
 use Rattle.formula.specs.declared.Refusal.the-variants.{Memory, Set, Untaken, Full, NotAble, NoResult, Unfinished, Altered}
 use Rattle.formula.specs.Refusals.{numberOf}
 use Rattle.graph.specs.Translation.{madeOf}
-use Rattle.eval.specs.Evaluate.{cellsOf, setValues}
+use Rattle.meaning.specs.Evaluate.{cellsOf}
+use Rattle.sets.specs.Sets.{setValues, setOk, values-set}
 use Rattle.layout.specs.Layout.{sizeOf, need, operatorsOf, inputsOf, resultsOf, untakenOf}
 use Rattle.machine.specs.Fire.{ableAt, firedAt}
 use Rattle.valid.specs.Below.{allBelow}
 use Rattle.runs.specs.Run.{Ran, runs, stillAt}
-use Rattle.calls.specs.Calls.{Outcome, Handed, outcome, handed as hands, answers, refusal, sizeIn, standing, setOk, roomsOk, pushedMemory, pushed, fired, ended, ran, resultReady, written, takenMemory, taken}
+use Rattle.calls.specs.Calls.{Outcome, Handed, outcome, handed as hands, answers, refusal, sizeIn, standing, roomsOk, pushedMemory, pushed, fired, ended, ran, resultReady, written, takenMemory, taken}
 use Rattle.calls.specs.CallLaws.{pushed-refused, fired-refused, ran-refused, taken-short, taken-refused, pushed-no-set, pushed-untaken, pushed-full, pushed-accepted, fired-absent, fired-idle, fired-accepted, ran-ended, taken-none, taken-empty, taken-accepted}
 use Rattle.verdicts.specs.Owed.{creditLink}
 use Rattle.verdicts.specs.ResultSets.{valuesIn}
@@ -36,7 +37,6 @@ use Rattle.verdicts.specs.Running.{places, operatorAt, pushOf, takeOf, decAble,
 use Rattle.view.specs.Stands.{Stands}
 use Rattle.demand.specs.MemoryCalls.{Call, push, fire, run, take, Result, result, accepted, answerOf, memoryAfter, setOf, resultOf}
 use Rattle.ends.specs.ResultBytes.{cellBytes, cells-result, length-result}
-use Rattle.ends.specs.Sets.{values-set}
 use Rattle.demand.specs.Evaluations.{shown}
 use Rattle.begin.specs.Lent.{stands-lent, stands-behind, short-refused}
 use Rattle.view.specs.FireCall.{stands-size}

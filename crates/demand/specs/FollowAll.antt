@@ -14,7 +14,7 @@ use Rattle.formula.specs.Tree.{Exp}
 use Rattle.formula.specs.declared.Refusal.the-variants.{Altered}
 use Rattle.formula.specs.Refusals.{numberOf}
 use Rattle.graph.specs.Translation.{madeOf}
-use Rattle.eval.specs.Evaluate.{setValues}
+use Rattle.sets.specs.Sets.{setValues}
 use Rattle.calls.specs.Calls.{answers}
 use Rattle.verdicts.specs.Running as Abstract
 use Rattle.verdicts.specs.Running.{operatorAt, pushOf, takeOf, demandOf, afterSteps, handed, stepsOf, stepsFrom}

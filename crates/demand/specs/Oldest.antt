@@ -12,7 +12,7 @@ use lib.ListN.{length, getD, take as firstOf, length-append}
 use lib.Seq.{getD-append-seam}
 use Rattle.formula.specs.declared.Refusal.the-variants.{NotAble}
 use Rattle.formula.specs.Refusals.{numberOf}
-use Rattle.eval.specs.Evaluate.{evaluationOf}
+use Rattle.meaning.specs.Evaluate.{evaluationOf}
 use Rattle.layout.specs.Layout.{operatorsOf, sizeOf, need}
 use Rattle.calls.specs.Calls.{taken}
 use Rattle.start.specs.Start.{started}

@@ -24,7 +24,8 @@ use Rattle.formula.specs.Free.{inputsOf}
 use Rattle.formula.specs.Tests.{verdictOf}
 use Rattle.graph.specs.Translation.{madeOf}
 use Rattle.wiring.specs.Machine.{net-past}
-use Rattle.eval.specs.Evaluate.{setValues, evaluationOf}
+use Rattle.meaning.specs.Evaluate.{evaluationOf}
+use Rattle.sets.specs.Sets.{setValues}
 use Rattle.layout.specs.Layout.{operatorsOf, sizeOf, need}
 use Rattle.machine.specs.Fire.{ableAt}
 use Rattle.valid.specs.Below.{allBelow}

@@ -13,11 +13,11 @@ use Rattle.formula.specs.Refusals.{numberOf}
 use Rattle.formula.specs.Tree.{Exp, formulaOf}
 use Rattle.graph.specs.Translation.{madeOf}
 use Rattle.layout.specs.Layout.{operatorsOf, inputsOf, sizeOf, need}
-use Rattle.calls.specs.Calls.{standing, setOk}
+use Rattle.calls.specs.Calls.{standing}
+use Rattle.sets.specs.Sets.{setOk, set-values}
 use Rattle.verdicts.specs.Running as Abstract
 use Rattle.verdicts.specs.Running.{startOf}
 use Rattle.verdicts.specs.Verdicts.{pushable-when-quiet}
-use Rattle.ends.specs.Sets.{set-values}
 use Rattle.ends.specs.Push.{push-accepted}
 use Rattle.begin.specs.Lent.{stands-lent}
 use Rattle.start.specs.Start.{started}

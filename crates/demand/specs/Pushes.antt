@@ -20,14 +20,13 @@ use Rattle.network.specs.Net.{Links, Able, act}
 use Rattle.graph.specs.Translation.{madeOf}
 use Rattle.layout.specs.Layout.{inputsOf, untakenOf, sizeOf, need}
 use Rattle.valid.specs.Below.{allBelow, and-both, below-at, below-all}
-use Rattle.calls.specs.Calls.{Outcome, sizeIn, standing, setOk, roomsOk, pushed}
+use Rattle.calls.specs.Calls.{Outcome, sizeIn, standing, roomsOk, pushed}
+use Rattle.sets.specs.Sets.{setOk, setValues, IsSet, values-pass, values-set}
 use Rattle.calls.specs.CallLaws.{pushed-untaken, pushed-full}
 use Rattle.verdicts.specs.Owed.{creditLink}
-use Rattle.eval.specs.Evaluate.{setValues}
 use Rattle.verdicts.specs.Running.{places, pushOf, startOf}
 use Rattle.view.specs.Sound.{Sound}
 use Rattle.view.specs.Stands.{Stands}
-use Rattle.ends.specs.Sets.{IsSet, values-pass, values-set}
 use Rattle.ends.specs.PushLinks.{push-room, room-push}
 use Rattle.ends.specs.Push.{tests-push, push-accepted, stands-pushed}
 use Rattle.begin.specs.Lent.{stands-lent, stands-behind}

@@ -1,4 +1,3 @@
-pub mod Sets
 pub mod ResultBytes
 pub mod PushLinks
 pub mod TakeLinks

@@ -23,13 +23,13 @@ use Rattle.valid.specs.Below.{allBelow, and-left, and-right, and-both, below-at
 use Rattle.graph.specs.Translation.{Made}
 use Rattle.verdicts.specs.Owed.{creditLink}
 use Rattle.verdicts.specs.Running.{places}
-use Rattle.calls.specs.Calls.{outcome, answers, sizeIn, standing, setOk, inputRoom, roomsOk, entered, triggered, pushedMemory, pushed}
+use Rattle.calls.specs.Calls.{outcome, answers, sizeIn, standing, inputRoom, roomsOk, entered, triggered, pushedMemory, pushed}
+use Rattle.sets.specs.Sets.{setOk}
 use Rattle.calls.specs.CallLaws.{pushed-accepted}
 use Rattle.view.specs.Sound.{Sound}
 use Rattle.view.specs.FireCall.{stands-size}
 use Rattle.view.specs.Stands.{Stands}
 use Rattle.view.specs.Moves.{stands-room, stands-append}
-use Rattle.ends.specs.Sets.{IsSet, values-pass}
 use Rattle.ends.specs.PushLinks.{pushInto, given, given-other, cued, cued-other, push-acts, push-room, room-push}
 use Rattle.ends.specs.Credit.{stands-untaken}
 

@@ -1,6 +1,6 @@
 -- A result set as bytes: document 01, "A result set is sixteen values carried whole, with its width; places past the width hold err", five bytes a
 -- value (value/specs/Bytes). One definition, and that the bytes which take writes (calls/specs/Calls: written) and the cells of direct evaluation
--- (eval/specs/Evaluate: cellsOf) are these. Assumes nothing.
+-- (meaning/specs/Evaluate: cellsOf) are these. Assumes nothing.
 use Prim.Native.Nat.{ℕ, zero, suc, _+_, _-_, _*_, _≤_, _<_}
 use mathlib.Core.Path.{_≡_, refl, sym, ap, ap₂, _∙_}
 use mathlib.Core.Bool.{Bool, true, false}
@@ -18,8 +18,8 @@ use Rattle.value.proofs.Words.{stored-parts}
 use Rattle.layout.specs.Layout.{resultLink}
 use Rattle.machine.specs.Links.{headAt}
 use Rattle.calls.specs.Calls.{resultWord, written}
-use Rattle.eval.specs.declared.Cell.{Cell}
-use Rattle.eval.specs.Evaluate.{cell, cellsOf}
+use Rattle.meaning.specs.declared.Cell.{Cell}
+use Rattle.meaning.specs.Evaluate.{cell, cellsOf}
 use Rattle.verdicts.specs.ResultSets.{resultSet}
 
 -- Five bytes a value.

@@ -2,13 +2,13 @@
 // numbers and byte memory"). No call asks anything of its caller; each contract is an equation on the answer and on every lent byte.
 // include/bench.h says the same in C.
 use calls::Answer;
-use evaluate::EvaluateAnswer;
+use eval_sheet::EvaluateAnswer;
 use sheet_read::read::ReadAnswer;
 use start::StartAnswer;
 ghost use mathlib.Core.Path.{_≡_};
 ghost use Rattle.formula.specs.Tests.{readingOf};
 ghost use Rattle.sheet_read.specs.Reading.{answerOf};
-ghost use Rattle.evaluate.specs.Handed.{handed as evaluationHanded, handedOut};
+ghost use Rattle.eval_sheet.specs.Handed.{handed as evaluationHanded, handedOut};
 ghost use Rattle.start.specs.Start.{begun, started};
 ghost use Rattle.calls.specs.Calls.{outcome, handed, pushed, fired, ran, taken};
 
@@ -28,7 +28,7 @@ pub extern "C" fn bench_evaluate(
 ) -> EvaluateAnswer
     ensures { λ a. ⌜ evaluationHanded a (now (out .exit)) ≡ handedOut (now (sheet .entry)) (now (set .entry)) rounds (now (out .entry)) ⌝ }
 {
-    evaluate::bench_evaluate(sheet, set, rounds, out)
+    eval_sheet::evaluate_into(sheet, set, rounds, out)
 }
 
 #[no_mangle]

@@ -5,3 +5,5 @@ pub mod WidthLaws
 pub mod Rows
 pub mod Accepted
 pub mod Loopless
+pub mod Scope
+pub mod Evaluate

@@ -22,14 +22,15 @@ use Rattle.formula.specs.Tests.{verdictOf, figuresOf, answerBy, readingOf}
 use Rattle.sheet_read.specs.declared.read.ReadAnswer.{ReadAnswer}
 use Rattle.sheet_read.specs.Reading.{answerOf}
 use Rattle.meaning.specs.Meaning.{Outcome as Ended, yields, inputsHold, evalE}
-use Rattle.eval.specs.declared.Evaluation.{Evaluation}
-use Rattle.eval.specs.Evaluate.{setValues, concluded, evaluatedWith, evaluated, afterVerdict, evaluationOf}
-use Rattle.evaluate.specs.Handed.{told, handedOut, Handed as Evaluated}
+use Rattle.meaning.specs.declared.Evaluation.{Evaluation}
+use Rattle.meaning.specs.Evaluate.{concluded, evaluatedWith, evaluated, afterVerdict, evaluationOf}
+use Rattle.sets.specs.Sets.{setValues, setOk}
+use Rattle.eval_sheet.specs.Handed.{told, handedOut, Handed as Evaluated}
 use Rattle.layout.specs.Layout.{operatorsOf, inputsOf, resultsOf, untakenOf}
 use Rattle.machine.specs.Fire.{ableAt, firedAt}
 use Rattle.valid.specs.Below.{allBelow}
 use Rattle.runs.specs.Run.{runs, stillAt}
-use Rattle.calls.specs.Calls.{Outcome, Handed, outcome, handed, answers, refusal, sizeIn, standing, setOk, roomsOk, pushedMemory, pushed, fired, ran, resultReady, taken}
+use Rattle.calls.specs.Calls.{Outcome, Handed, outcome, handed, answers, refusal, sizeIn, standing, roomsOk, pushedMemory, pushed, fired, ran, resultReady, taken}
 use Rattle.calls.specs.CallLaws.{ran-refused}
 use Rattle.start.specs.Start.{Begun, byVerdict, started}
 use Rattle.refusals.specs.Conditions.{no-room, short-asked}

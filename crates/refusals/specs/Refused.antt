@@ -10,7 +10,7 @@ use Rattle.formula.specs.declared.Refusal.{Refusal}
 use Rattle.formula.specs.Refusals.{numberOf}
 use Rattle.formula.specs.Tests.{readingOf}
 use Rattle.sheet_read.specs.Reading.{answerOf}
-use Rattle.evaluate.specs.Handed.{handedOut}
+use Rattle.eval_sheet.specs.Handed.{handedOut}
 use Rattle.calls.specs.Calls.{pushed, fired, ran, taken}
 use Rattle.start.specs.Start.{started}
 use Rattle.refusals.specs.FirstRefusal.{Row, first-refusal, Named, Among, numbers, NoneHolds, FirstHolds, accepted-exactly, refused-exactly, first-among, first-named}

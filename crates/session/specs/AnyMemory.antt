@@ -16,13 +16,13 @@ use Rattle.network.specs.Net.{Links, Able, act}
 use Rattle.graph.specs.Translation.{madeOf}
 use Rattle.layout.specs.Layout.{operatorsOf, untakenOf, sizeOf}
 use Rattle.runs.specs.Run.{Ran, runs, stillAt}
-use Rattle.calls.specs.Calls.{Outcome, Handed, handed, answers, refusal, sizeIn, standing, setOk, pushed, ran, taken, takenMemory}
+use Rattle.calls.specs.Calls.{Outcome, Handed, handed, answers, refusal, sizeIn, standing, pushed, ran, taken, takenMemory}
+use Rattle.sets.specs.Sets.{setOk, set-values}
 use Rattle.verdicts.specs.Running.{places, pushOf, decAble, afterSteps, runSteps}
 use Rattle.view.specs.Sound.{Sound}
 use Rattle.view.specs.Stands.{Stands}
 use Rattle.view.specs.Run.{run-same, still-cannot, cannot-still}
 use Rattle.ends.specs.ResultBytes.{resultBytes}
-use Rattle.ends.specs.Sets.{set-values}
 use Rattle.ends.specs.Take.{takeFrom, resultIn, stands-taken, take-accepted, take-refused}
 use Rattle.view.specs.FireCall.{stands-size}
 use Rattle.begin.specs.StandsValid.{stands-well}

@@ -21,7 +21,8 @@ use Rattle.graph.specs.Translation.{madeOf}
 use Rattle.layout.specs.Layout.{operatorsOf, inputsOf, untakenOf, capacityIn, sizeOf, need}
 use Rattle.machine.specs.Fire.{ableAt}
 use Rattle.runs.specs.Run.{stillAt}
-use Rattle.calls.specs.Calls.{Outcome, sizeIn, standing, setOk, pushed, fired, ran, taken}
+use Rattle.calls.specs.Calls.{Outcome, sizeIn, standing, pushed, fired, ran, taken}
+use Rattle.sets.specs.Sets.{setOk}
 use Rattle.calls.specs.CallLaws.{fired-idle}
 use Rattle.verdicts.specs.Running.{startOf, afterSteps, stepsFrom}
 use Rattle.view.specs.Stands.{Stands}

@@ -22,7 +22,7 @@ use Rattle.machine.specs.Fire.{ableAt}
 use Rattle.runs.specs.Run.{runs, stillAt}
 use Rattle.calls.specs.Calls.{Outcome, sizeIn, standing, fired, ran}
 use Rattle.calls.specs.CallLaws.{fired-accepted}
-use Rattle.eval.specs.Evaluate.{evaluationOf}
+use Rattle.meaning.specs.Evaluate.{evaluationOf}
 use Rattle.start.specs.Start.{started}
 use Rattle.refusals.specs.RunCount.{RunCounts, run-is, unstill-able}
 use Rattle.demand.specs.MemoryCalls.{Result, result, setsPushed, resultsTaken}

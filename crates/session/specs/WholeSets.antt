@@ -5,12 +5,11 @@ use mathlib.Core.Path.{_≡_, refl}
 use mathlib.Core.Bool.{Bool, true, false, _&&_}
 use mathlib.Core.List.{List, [], _∷_}
 use native.Mathlib.Omega.{arith}
-use borrow.Author.Tests.{eq-eqb}
 use lib.Dec.{eqb}
 use lib.ListN.{length, getD}
 use Rattle.value.specs.Operators.{pick}
-use Rattle.valid.specs.Below.{and-right, and-both, below-all}
-use Rattle.calls.specs.Calls.{fieldOk, setOk}
+use Rattle.valid.specs.Below.{and-right}
+use Rattle.sets.specs.Sets.{setOk, fields-set}
 use Rattle.text.specs.SetLines.{isSetLine, fieldsWell, fieldBytes, SetFile, sets, badLine, oneMore, setsFrom}
 use Rattle.text.specs.SetLineLaws.{bytes-length}
 use Rattle.text.specs.ValueBytes.{bytes-valued}
@@ -22,10 +21,10 @@ EachWhole k [] = Unit {0}
 EachWhole k (s ∷ ss) = (setOk k s ≡ true) × EachWhole k ss
 
 line-whole : (k : ℕ) (l : List ℕ) → isSetLine k l ≡ true → setOk k (fieldBytes k l) ≡ true
-unfolding isSetLine setOk fieldOk
+unfolding isSetLine
 line-whole k l e =
     let w = and-right (eqb (length l) (11 * k + 1) && eqb (getD l (11 * k) 0) 10) (fieldsWell k l) e in
-    and-both (eq-eqb (length (fieldBytes k l)) (5 * k) (bytes-length k l)) (below-all k (fieldOk (fieldBytes k l)) (bytes-valued k l w))
+    fields-set k (fieldBytes k l) (bytes-length k l) (bytes-valued k l w)
 
 pub sets-whole : (k i : ℕ) (ls : List (List ℕ)) (ss : List (List ℕ)) → setsFrom k i ls ≡ sets ss → EachWhole k ss
 unfolding setsFrom

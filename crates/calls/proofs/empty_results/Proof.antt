@@ -7,7 +7,7 @@ use Rattle.machine.proofs.remove_from.Reads as remove-from-reads
 use mathlib.Core.Path.{_≡_, sym, _∙_, refl, ap}
 use Prim.Native.Nat.{ℕ, _+_, _-_, _*_, _≤_, _<_}
 use mathlib.Core.List.{List}
-use Rattle.calls.specs.Calls.{sizeIn, standing, fieldOk, setOk, inputRoom, roomsOk, entered, pushedMemory, pushed, fired, ended, ran, resultReady, resultWord, written, emptied, takenMemory, taken, outcome, handed, refusal, answers}
+use Rattle.calls.specs.Calls.{sizeIn, standing, inputRoom, roomsOk, entered, pushedMemory, pushed, fired, ended, ran, resultReady, resultWord, written, emptied, takenMemory, taken, outcome, handed, refusal, answers}
 use Rattle.calls.specs.CallLaws.{standing-good, same-names, Kept, entered-keeps, emptied-keeps, entered-more, emptied-more, written-more, written-none, emptied-none}
 use Rattle.layout.specs.Layout.{need, sizeOf, capacityOf, capacityByte, nameAt, triggerOf, inputLink, resultLink, operatorsOf, inputsOf, resultsOf, untakenOf}
 use Rattle.machine.specs.Links.{headAt, roomAt, removedAt, appendedAt}

@@ -10,7 +10,7 @@ use Rattle.calls.proofs.push.Reads as reads
 use Rattle.calls.proofs.push.Lts as lts
 use Rattle.calls.proofs.enter.Reads as enter-reads
 use Rattle.calls.proofs.have_room.Reads as have-room-reads
-use Rattle.calls.proofs.is_set.Reads as is-set-reads
+use Rattle.sets.proofs.is_set.Reads as is-set-reads
 use Rattle.calls.proofs.refused.Reads as refused-reads
 use Rattle.calls.proofs.standing_of.Reads as standing-of-reads
 use Rattle.layout.proofs.capacity.Reads as capacity-reads
@@ -18,13 +18,13 @@ use Rattle.layout.proofs.number_at.Reads as number-at-reads
 use Rattle.layout.proofs.wide.Reads as wide-reads
 use Rattle.machine.proofs.append_to.Reads as append-to-reads
 use Rattle.value.proofs.bytes.to_word.Reads as to-word-reads
-use Rattle.calls.specs.CallLaws.{set-length}
+use Rattle.sets.specs.Sets.{set-length, setOk}
 use mathlib.Core.Path.{_≡_, sym, _∙_, refl, ap}
 use Prim.Native.Nat.{ℕ, _+_, _-_, _*_, _≤_, _<_}
 use mathlib.Core.List.{List}
 use mathlib.Core.Bool.{Bool, true, false, _&&_, _||_, not}
 use borrow.Author.Tests.{eq-eqb, ne-eqb, le-leb, lt-leb, lt-ltb, le-ltb}
-use Rattle.calls.specs.Calls.{sizeIn, standing, fieldOk, setOk, inputRoom, roomsOk, entered, triggered, pushedMemory, pushed, fired, ended, ran, resultReady, resultWord, written, emptied, takenMemory, taken, outcome, handed, refusal, answers}
+use Rattle.calls.specs.Calls.{sizeIn, standing, inputRoom, roomsOk, entered, triggered, pushedMemory, pushed, fired, ended, ran, resultReady, resultWord, written, emptied, takenMemory, taken, outcome, handed, refusal, answers}
 use Rattle.calls.specs.CallLaws.{standing-good, same-names, Kept, entered-keeps, emptied-keeps, entered-more, emptied-more, written-more, written-none, emptied-none, entered-none, pushed-refused, fired-refused, ran-refused, taken-short, taken-refused, pushed-no-set, pushed-untaken, pushed-full, pushed-accepted, fired-absent, fired-idle, fired-accepted, ran-ended, taken-none, taken-empty, taken-accepted}
 use Rattle.layout.specs.Layout.{need, sizeOf, capacityOf, capacityByte, nameAt, triggerOf, inputLink, resultLink, operatorsOf, inputsOf, resultsOf, untakenOf}
 use Rattle.machine.specs.Links.{headAt, roomAt, removedAt, appendedAt}

@@ -5,7 +5,7 @@ use Rattle.calls.proofs.refused.Reads as reads
 use Rattle.calls.proofs.refused.Lts as lts
 use Rattle.formula.proofs.refusal_number.Reads as refusal-number-reads
 use mathlib.Core.Path.{_≡_, sym, _∙_, refl, ap}
-use Rattle.calls.specs.Calls.{sizeIn, standing, fieldOk, setOk, inputRoom, roomsOk, entered, pushedMemory, pushed, fired, ended, ran, resultReady, resultWord, written, emptied, takenMemory, taken, outcome, handed, refusal, answers}
+use Rattle.calls.specs.Calls.{sizeIn, standing, inputRoom, roomsOk, entered, pushedMemory, pushed, fired, ended, ran, resultReady, resultWord, written, emptied, takenMemory, taken, outcome, handed, refusal, answers}
 
 -- src/lib.rt:25:18  Answer { ⏎ refusal: formula::refusal_number(r),
 refusal-number-requires : tie.Need-refusal-number-requires

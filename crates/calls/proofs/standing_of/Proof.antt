@@ -12,7 +12,7 @@ use Rattle.layout.proofs.machine_need.Reads as machine-need-reads
 use Rattle.valid.proofs.is_valid.Reads as is-valid-reads
 use mathlib.Core.Path.{_≡_, sym, _∙_, refl, ap}
 use borrow.Author.Tests.{eq-eqb, ne-eqb, le-leb, lt-leb, lt-ltb, le-ltb}
-use Rattle.calls.specs.Calls.{sizeIn, standing, fieldOk, setOk, inputRoom, roomsOk, entered, pushedMemory, pushed, fired, ended, ran, resultReady, resultWord, written, emptied, takenMemory, taken, outcome, handed, refusal, answers}
+use Rattle.calls.specs.Calls.{sizeIn, standing, inputRoom, roomsOk, entered, pushedMemory, pushed, fired, ended, ran, resultReady, resultWord, written, emptied, takenMemory, taken, outcome, handed, refusal, answers}
 use Rattle.layout.specs.Layout.{need, sizeOf, capacityOf, capacityByte, nameAt, triggerOf, inputLink, resultLink, operatorsOf, inputsOf, resultsOf, untakenOf}
 use lib.ListN.{length, getD, set, length-set}
 use Rattle.valid.specs.Valid.{valid}

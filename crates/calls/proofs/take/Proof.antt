@@ -21,7 +21,7 @@ use Prim.Native.Nat.{ℕ, _+_, _-_, _*_, _≤_, _<_}
 use mathlib.Core.List.{List}
 use mathlib.Core.Bool.{Bool, true, false, _&&_, _||_, not}
 use borrow.Author.Tests.{eq-eqb, ne-eqb, le-leb, lt-leb, lt-ltb, le-ltb}
-use Rattle.calls.specs.Calls.{sizeIn, standing, fieldOk, setOk, inputRoom, roomsOk, entered, pushedMemory, pushed, fired, ended, ran, resultReady, resultWord, written, emptied, takenMemory, taken, outcome, handed, refusal, answers}
+use Rattle.calls.specs.Calls.{sizeIn, standing, inputRoom, roomsOk, entered, pushedMemory, pushed, fired, ended, ran, resultReady, resultWord, written, emptied, takenMemory, taken, outcome, handed, refusal, answers}
 use Rattle.calls.specs.CallLaws.{standing-good, same-names, Kept, entered-keeps, emptied-keeps, entered-more, emptied-more, written-more, written-none, emptied-none, entered-none, pushed-refused, fired-refused, ran-refused, taken-short, taken-refused, pushed-no-set, pushed-untaken, pushed-full, pushed-accepted, fired-absent, fired-idle, fired-accepted, ran-ended, taken-none, taken-empty, taken-accepted}
 use Rattle.layout.specs.Layout.{need, sizeOf, capacityOf, capacityByte, nameAt, triggerOf, inputLink, resultLink, operatorsOf, inputsOf, resultsOf, untakenOf}
 use Rattle.machine.specs.Links.{headAt, roomAt, removedAt, appendedAt}

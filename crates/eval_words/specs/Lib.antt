@@ -1,0 +1,3 @@
+pub mod Words
+pub mod Needs
+pub mod Parts

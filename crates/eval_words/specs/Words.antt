@@ -1,0 +1,228 @@
+-- Values as words of the byte form (value's specs/Bytes), in the arrays that the evaluators lend one another: an array of
+-- words holds an environment. A word that is no value counts as err, so that an array of zeros holds err everywhere.
+-- Assumes nothing.
+use Prim.Native.Nat.{ℕ, zero, suc, _+_, _-_, _≤_, _<_}
+use mathlib.Core.Path.{_≡_, refl, sym, ap, _∙_, subst}
+use mathlib.Core.Bool.{Bool, true, false}
+use mathlib.Core.List.{List, [], _∷_, _++_, append-assoc}
+use mathlib.Core.Option.{Option, some, none}
+use lib.Dec.{ltb}
+use lib.ListN.{length, getD, set, take, drop, replicate, List·getD-append, getD-replicate}
+use lib.Seq.{getD-append-add, getD-set-same, getD-set-other, getD-take, getD-drop, length-take-le, paste}
+use borrow.Author.Tests.{ltb-true, ltb-false}
+use native.Mathlib.Omega.{arith}
+use Rattle.value.specs.declared.Value.{Value}
+use Rattle.value.specs.declared.Value.the-variants.{Whole, Truth, Err}
+use Rattle.value.specs.declared.Decoded.{Decoded}
+use Rattle.value.specs.declared.Decoded.the-variants.{Valid, Invalid}
+use Rattle.value.specs.Bytes.{InRange, wordOf, valueOf, decoded}
+use Rattle.value.proofs.Words.{value-of-word}
+use Rattle.value.specs.Operators.{apply}
+use Rattle.meaning.specs.Meaning.{Env, bind, Outcome, yields, Ending, then, thenB, branch}
+use Rattle.meaning.specs.Binding.{bind-is}
+use Rattle.eval_words.specs.declared.Choice.{Choice}
+use Rattle.eval_words.specs.declared.Choice.the-variants.{First, Second, Neither, Short as untold}
+use Rattle.eval_words.specs.declared.Single.{Single}
+use Rattle.eval_words.specs.declared.Single.the-variants.{Word, Short}
+
+abbrev pub orErr : Option Value → Value
+orErr (some v) = v
+orErr none = Err
+
+abbrev valueIn : Decoded → Value
+valueIn (Valid v) = v
+valueIn Invalid = Err
+
+abbrev Is-Invalid : Decoded → Type 0
+Is-Invalid (Valid v) = ⊥
+Is-Invalid Invalid = Unit {0}
+
+-- The value of a word.
+unfoldable pub heldOf : ℕ → Value
+heldOf w = orErr (valueOf w)
+
+-- The environment that an array of words holds.
+unfoldable pub envOf : List ℕ → Env
+envOf ws k = heldOf (getD ws k 0)
+
+pub held-word : (v : Value) → InRange v → heldOf (wordOf v) ≡ v
+unfolding heldOf
+held-word v h = ap orErr (value-of-word v h)
+
+pub held-valid : (w : ℕ) (v : Value) → decoded (valueOf w) ≡ Valid v → heldOf w ≡ v
+unfolding heldOf
+held-valid w v = go (valueOf w)
+  where
+    go : (o : Option Value) → decoded o ≡ Valid v → orErr o ≡ v
+    go (some u) e = ap valueIn e
+    go none e = absurd (subst Is-Invalid e tt)
+
+pub held-invalid : (w : ℕ) → decoded (valueOf w) ≡ Invalid → heldOf w ≡ Err
+unfolding heldOf
+held-invalid w = go (valueOf w)
+  where
+    go : (o : Option Value) → decoded o ≡ Invalid → orErr o ≡ Err
+    go (some u) e = absurd (subst Is-Invalid (sym e) tt)
+    go none e = refl
+
+pub held-err : heldOf 3 ≡ Err
+unfolding heldOf valueOf
+held-err = refl
+
+pub held-zero : heldOf 0 ≡ Err
+unfolding heldOf valueOf
+held-zero = refl
+
+-- An array of zeros holds err everywhere.
+pub zeros-err : (n k : ℕ) → envOf (replicate n 0) k ≡ Err
+unfolding envOf
+zeros-err zero k = held-zero
+zeros-err (suc n) zero = held-zero
+zeros-err (suc n) (suc k) = zeros-err n k
+
+-- A word written binds one identifier.
+pub put-binds : (l : List ℕ) (at w : ℕ) → at < length l → envOf (set l at w) ≡ bind at 1 (heldOf w ∷ []) (envOf l)
+unfolding envOf
+put-binds l at w h =
+    bind-is at 1 (heldOf w ∷ []) (envOf l) (envOf (set l at w))
+    (λ k p q.
+    let e : k ≡ at = omega arith in
+    let z : k - at ≡ 0 = omega arith in
+    rw (z, e) (ap heldOf (getD-set-same l at w 0 h))
+    )
+    (λ k p. ap heldOf (getD-set-other l at k w 0 (λ e. omega arith)))
+    (λ k p. ap heldOf (getD-set-other l at k w 0 (λ e. omega arith)))
+
+module _ (l : List ℕ) (at : ℕ) (s : List ℕ) (n : ℕ) (room : at + n ≤ length l) (given : n ≤ length s) where
+  head-length : length (take at l) ≡ at
+  head-length = length-take-le at l (omega arith)
+
+  part-length : length (take n s) ≡ n
+  part-length = length-take-le n s given
+
+  together : paste l at s n ≡ take at l ++ (take n s ++ drop (at + n) l)
+  together = append-assoc (take at l) (take n s) (drop (at + n) l)
+
+  pub paste-before : (k : ℕ) → k < at → getD (paste l at s n) k 0 ≡ getD l k 0
+  paste-before k p =
+      ap (λ (z : List ℕ). getD z k 0) together
+      ∙ List·getD-append (take at l) (take n s ++ drop (at + n) l) 0 k (rw head-length p)
+      ∙ getD-take at l k 0 p
+
+  shifted : (k : ℕ) → at ≤ k → getD (paste l at s n) k 0 ≡ getD (take n s ++ drop (at + n) l) (k - at) 0
+  shifted k p =
+      let e : k ≡ length (take at l) + (k - at) = rw head-length (omega arith) in
+      ap (λ (z : List ℕ). getD z k 0) together
+      ∙ ap (λ (j : ℕ). getD (take at l ++ (take n s ++ drop (at + n) l)) j 0) e
+      ∙ getD-append-add (take at l) (take n s ++ drop (at + n) l) (k - at) 0
+
+  pub paste-among : (k : ℕ) → at ≤ k → k < at + n → getD (paste l at s n) k 0 ≡ getD s (k - at) 0
+  paste-among k p q =
+      shifted k p
+      ∙ List·getD-append (take n s) (drop (at + n) l) 0 (k - at) (rw part-length (omega arith))
+      ∙ getD-take n s (k - at) 0 (omega arith)
+
+  pub paste-behind : (k : ℕ) → at + n ≤ k → getD (paste l at s n) k 0 ≡ getD l k 0
+  paste-behind k p =
+      let e : k - at ≡ length (take n s) + (k - at - n) = rw part-length (omega arith) in
+      let f : at + n + (k - at - n) ≡ k = omega arith in
+      shifted k (omega arith)
+      ∙ ap (λ (j : ℕ). getD (take n s ++ drop (at + n) l) j 0) e
+      ∙ getD-append-add (take n s) (drop (at + n) l) (k - at - n) 0
+      ∙ getD-drop (at + n) l (k - at - n) 0
+      ∙ ap (λ (j : ℕ). getD l j 0) f
+
+  -- Words pasted bind as many identifiers.
+  pub paste-binds : (vs : List Value) → ((i : ℕ) → i < n → envOf s i ≡ getD vs i Err)
+      → envOf (paste l at s n) ≡ bind at n vs (envOf l)
+  unfolding envOf
+  paste-binds vs h =
+      bind-is at n vs (envOf l) (envOf (paste l at s n))
+      (λ k p q. ap heldOf (paste-among k p q) ∙ h (k - at) (omega arith))
+      (λ k p. ap heldOf (paste-before k p))
+      (λ k p. ap heldOf (paste-behind k p))
+
+pub errs-binds : (l : List ℕ) (at n : ℕ) → at + n ≤ length l → n ≤ 16
+    → envOf (paste l at (replicate 16 3) n) ≡ bind at n (replicate n Err) (envOf l)
+unfolding envOf
+errs-binds l at n h i =
+    paste-binds l at (replicate 16 3) n h i (replicate n Err)
+    (λ j p. ap heldOf (getD-replicate 16 j 3 0 (omega arith)) ∙ held-err ∙ sym (getD-replicate n j Err Err p))
+
+-- ---- rows of width one
+
+-- What a row's answer says of its value.
+abbrev pub outcomeOf : Single → Outcome
+outcomeOf (Word w left) = yields (heldOf w ∷ []) left
+outcomeOf Short = Outcome.unfinished
+
+-- "every operand .. is evaluated": what an operator makes of its operands' values.
+abbrev pub applying : ℕ → List Value → ℕ → Outcome
+applying code vs left = yields (apply code (getD vs 0 Err) (getD vs 1 Err) ∷ []) left
+
+pub applied-word : (code a w left : ℕ) (s : Single) → s ≡ Word a left → heldOf w ≡ apply code (heldOf a) (heldOf 0)
+    → then (outcomeOf s) (applying code) ≡ outcomeOf (Word w left)
+unfolding then
+applied-word code a w left s e h =
+    ap (λ (z : Single). then (outcomeOf z) (applying code)) e
+    ∙ ap (λ (v : Value). yields (apply code (heldOf a) v ∷ []) left) (sym held-zero)
+    ∙ ap (λ (v : Value). yields (v ∷ []) left) (sym h)
+
+pub applied-short : (code : ℕ) (s : Single) → s ≡ Short → then (outcomeOf s) (applying code) ≡ outcomeOf Short
+unfolding then
+applied-short code s e = ap (λ (z : Single). then (outcomeOf z) (applying code)) e
+
+pub applied-to-word : (code a b w left : ℕ) (s : Single) → s ≡ Word b left → heldOf w ≡ apply code (heldOf a) (heldOf b)
+    → then (then (outcomeOf s) (λ vs l. yields (heldOf a ∷ vs) l)) (applying code) ≡ outcomeOf (Word w left)
+unfolding then
+applied-to-word code a b w left s e h =
+    ap (λ (z : Single). then (then (outcomeOf z) (λ vs l. yields (heldOf a ∷ vs) l)) (applying code)) e
+    ∙ ap (λ (v : Value). yields (v ∷ []) left) (sym h)
+
+pub applied-to-short : (code a : ℕ) (s : Single) → s ≡ Short
+    → then (then (outcomeOf s) (λ vs l. yields (heldOf a ∷ vs) l)) (applying code) ≡ outcomeOf Short
+unfolding then
+applied-to-short code a s e = ap (λ (z : Single). then (then (outcomeOf z) (λ vs l. yields (heldOf a ∷ vs) l)) (applying code)) e
+
+-- ---- the test of an if
+
+-- Which arm a test's value chooses.
+abbrev pub choiceOf : Value → ℕ → Choice
+choiceOf (Whole z) left = Neither left
+choiceOf (Truth true) left = First left
+choiceOf (Truth false) left = Second left
+choiceOf Err left = Neither left
+
+abbrev pub chosenOf : Single → Choice
+chosenOf (Word w left) = choiceOf (heldOf w) left
+chosenOf Short = untold
+
+-- What a choice leads to.
+abbrev pub byChoice : {A : Type 0} → A → (bad first second : ℕ → A) → Choice → A
+byChoice unfinished bad first second (First left) = first left
+byChoice unfinished bad first second (Second left) = second left
+byChoice unfinished bad first second (Neither left) = bad left
+byChoice unfinished bad first second untold = unfinished
+
+-- "of an if only the chosen arm"
+branch-choice : {A : Type 0} (unfinished : A) (bad first second : ℕ → A) (v : Value) (left : ℕ)
+    → branch v (bad left) (λ _. first left) (λ _. second left) ≡ byChoice unfinished bad first second (choiceOf v left)
+unfolding branch
+branch-choice u bad first second (Whole z) left = refl
+branch-choice u bad first second (Truth true) left = refl
+branch-choice u bad first second (Truth false) left = refl
+branch-choice u bad first second Err left = refl
+
+pub choice-made : (bad first second : ℕ → Outcome) (s : Single)
+    → then (outcomeOf s) (λ vs l. branch (getD vs 0 Err) (bad l) (λ _. first l) (λ _. second l))
+    ≡ byChoice Outcome.unfinished bad first second (chosenOf s)
+unfolding then
+choice-made bad first second (Word w left) = branch-choice Outcome.unfinished bad first second (heldOf w) left
+choice-made bad first second Short = refl
+
+pub choice-made-B : (bad first second : ℕ → Ending) (s : Single)
+    → thenB (outcomeOf s) (λ vs l. branch (getD vs 0 Err) (bad l) (λ _. first l) (λ _. second l))
+    ≡ byChoice Ending.unfinished bad first second (chosenOf s)
+unfolding thenB
+choice-made-B bad first second (Word w left) = branch-choice Ending.unfinished bad first second (heldOf w) left
+choice-made-B bad first second Short = refl

@@ -1,0 +1,142 @@
+// Values as words in lent arrays (specs/Words): each function that writes says what its array holds afterwards, as a binding of the
+// values it wrote over what the array held before.
+use crate::Choice;
+use crate::Single;
+use value::Decoded;
+use value::Value;
+ghost use mathlib.Core.Path.{_≡_};
+ghost use mathlib.Core.List.{[], _∷_};
+ghost use Prim.Native.Nat.{ℕ, _+_, _≤_, _<_};
+ghost use lib.IntN.{pos};
+ghost use lib.Dec.{eqb};
+ghost use lib.ListN.{length, replicate};
+ghost use lib.Seq.{paste};
+ghost use Rattle.value.specs.Operators.{apply};
+ghost use Rattle.meaning.specs.Meaning.{bind, yields, then};
+ghost use Rattle.eval_words.specs.Words.{heldOf, envOf, outcomeOf, applying, choiceOf, chosenOf};
+
+// The value of a word.
+pub fn held(w: u64) -> Value
+    ensures { λ v. ⌜ v ≡ heldOf w ⌝ }
+{
+    match value::bytes::from_word(w) {
+        Decoded::Valid(v) => v,
+        Decoded::Invalid => Value::Err,
+    }
+}
+
+// A word of the value.
+fn word(v: Value) -> u64
+    ensures { λ w. ⌜ heldOf w ≡ v ⌝ }
+{
+    value::bytes::to_word(v)
+}
+
+pub fn put_word(out: &mut [u64], at: usize, w: u64)
+    requires { ⌜ at < length (now out) ⌝ }
+    ensures { λ _. ⌜ (envOf (now (out .exit)) ≡ bind at 1 (heldOf w ∷ []) (envOf (now (out .entry)))) × (length (now (out .exit)) ≡ length (now (out .entry))) ⌝ }
+{
+    out[at] = w;
+}
+
+// A word of the operator of a code on the values of two words.
+pub fn operated(code: u32, a: u64, b: u64) -> u64
+    requires { ⌜ code < 256 ⌝ }
+    ensures { λ w. ⌜ heldOf w ≡ apply code (heldOf a) (heldOf b) ⌝ }
+{
+    word(value::apply_code(code as u8, held(a), held(b)))
+}
+
+// The operator of a code on one operand.
+pub fn applied(code: u32, operand: Single) -> Single
+    requires { ⌜ code < 256 ⌝ }
+    ensures { λ s. ⌜ then (outcomeOf operand) (applying code) ≡ outcomeOf s ⌝ }
+{
+    match operand {
+        Single::Word(a, left) => Single::Word(operated(code, a, 0), left),
+        Single::Short => Single::Short,
+    }
+}
+
+// The operator of a code on the value of a word and a second operand.
+pub fn applied_to(code: u32, a: u64, second: Single) -> Single
+    requires { ⌜ code < 256 ⌝ }
+    ensures { λ s. ⌜ then (then (outcomeOf second) (λ vs l. yields (heldOf a ∷ vs) l)) (applying code) ≡ outcomeOf s ⌝ }
+{
+    match second {
+        Single::Word(b, left) => Single::Word(operated(code, a, b), left),
+        Single::Short => Single::Short,
+    }
+}
+
+pub fn whole_word(a: u32) -> u64
+    requires { ⌜ a < 2147483648 ⌝ }
+    ensures { λ w. ⌜ heldOf w ≡ Value.Whole (pos a) ⌝ }
+{
+    word(Value::Whole(a as i32))
+}
+
+pub fn truth_word(a: u32) -> u64
+    ensures { λ w. ⌜ heldOf w ≡ Value.Truth (eqb a 1) ⌝ }
+{
+    word(Value::Truth(a == 1))
+}
+
+// The arm of an if that its test chooses.
+pub fn chosen(test: Single) -> Choice
+    ensures { λ c. ⌜ c ≡ chosenOf test ⌝ }
+{
+    match test {
+        Single::Word(w, left) => choose(held(w), left),
+        Single::Short => Choice::Short,
+    }
+}
+
+fn choose(v: Value, left: u32) -> Choice
+    ensures { λ c. ⌜ c ≡ choiceOf v left ⌝ }
+{
+    match v {
+        Value::Truth(b) => {
+            if b {
+                return Choice::First(left);
+            }
+            Choice::Second(left)
+        }
+        Value::Whole(_) => Choice::Neither(left),
+        Value::Err => Choice::Neither(left),
+    }
+}
+
+// The first n words of `from`, put into `to` from `at` on.
+pub fn copy(to: &mut [u64], at: usize, from: &[u64], n: usize)
+    requires { ⌜ (at + n ≤ length (now to)) × (n ≤ length (now from)) ⌝ }
+    ensures { λ _. ⌜ (now (to .exit) ≡ paste (now (to .entry)) at (now (from .entry)) n) × (length (now (to .exit)) ≡ length (now (to .entry))) ⌝ }
+{
+    let mut i = 0;
+    while i < n {
+        to[at + i] = from[i];
+        i += 1;
+    }
+}
+
+// Err n times.
+pub fn put_errs(out: &mut [u64], at: usize, n: usize)
+    requires { ⌜ (at + n ≤ length (now out)) × (n ≤ 16) ⌝ }
+    ensures { λ _. ⌜ (envOf (now (out .exit)) ≡ bind at n (replicate n Value.Err) (envOf (now (out .entry)))) × (length (now (out .exit)) ≡ length (now (out .entry))) ⌝ }
+{
+    let errs = [3; 16];
+    copy(out, at, &errs, n);
+}
+
+// An environment's words, to be bound anew.
+pub fn copied(env: &[u64; 32]) -> [u64; 32]
+    ensures { λ r. ⌜ r ≡ now (env .entry) ⌝ }
+{
+    *env
+}
+
+pub fn wide(a: u32) -> usize
+    ensures { λ r. ⌜ r ≡ a ⌝ }
+{
+    a as usize
+}

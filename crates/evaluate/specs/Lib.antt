@@ -1,3 +1,0 @@
-pub mod Handed
-pub mod Rows
-pub mod Small
