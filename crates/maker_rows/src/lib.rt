@@ -297,50 +297,22 @@ fn ifs(
     requires { ⌜ Ready (now t) (now masks) (now widths) (place .body) (place .returned) r × (shapeAt (now t) r ≡ If (choice .test) (choice .first) (choice .second)) × Room (next .link) (next .operator) (operatorCount (graphIn (place .body) (place .returned) (now t) r)) × (linksAt ≤ length (now mem)) ⌝ }
     ensures { λ x. ⌜ Part (place .body) (place .returned) (now (t .entry)) r (next .link) (next .operator) env (now (mem .entry)) (now (mem .exit)) x ⌝ }
 {
-    let mb = mask_at(masks, choice.first);
-    let mc = mask_at(masks, choice.second);
-    let f = fork(mem, mask_at(masks, choice.test) & (mb | mc), env, next);
+    let a = choice.test;
+    let b = choice.first;
+    let c = choice.second;
+    let mb = mask_at(masks, b);
+    let mc = mask_at(masks, c);
+    let f = fork(mem, mask_at(masks, a) & (mb | mc), env, next);
     let first = f.first;
     let second = f.second;
-    let x = row(
-        t,
-        masks,
-        widths,
-        EXPRESSION,
-        choice.test,
-        first,
-        f.next,
-        mem,
-    );
+    let x = row(t, masks, widths, EXPRESSION, a, first, f.next, mem);
     let g = fork(mem, mb & mc, second, x.next);
     let yes = g.first;
     let no = g.second;
     let test = x.outs;
-    let y = arm(
-        t,
-        masks,
-        widths,
-        place,
-        true,
-        choice.first,
-        test[0],
-        yes,
-        g.next,
-        mem,
-    );
+    let y = arm(t, masks, widths, place, true, b, test[0], yes, g.next, mem);
     let copied = (g.next.link + 1) as u16;
-    let z = arm(
-        t,
-        masks,
-        widths,
-        place,
-        false,
-        choice.second,
-        copied,
-        no,
-        y.next,
-        mem,
-    );
+    let z = arm(t, masks, widths, place, false, c, copied, no, y.next, mem);
     let last = (y.next.link + 1) as u16;
     joined(mem, place, last, y, z, z.next)
 }
