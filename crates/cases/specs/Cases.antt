@@ -24,9 +24,9 @@ use Rattle.network.specs.Net.{append}
 use Rattle.meaning.specs.declared.Cell.{Cell}
 use Rattle.meaning.specs.declared.Evaluation.{Evaluation}
 use Rattle.meaning.specs.Evaluate.{cell, evaluationOf}
-use Rattle.reference.specs.Marks.{marks}
-use Rattle.verdicts.specs.Running.{startOf}
-use Rattle.ends.specs.ResultBytes.{spelled}
+use Rattle.theory_reference.specs.Marks.{marks}
+use Rattle.theory_verdicts.specs.Running.{startOf}
+use Rattle.demand_ends.specs.ResultBytes.{spelled}
 use Rattle.demand.specs.Pushes.{pushRefusals}
 use Rattle.examples.specs.Sheets.{bytes, lesser, twice, factorial, iterAlone, letUnused, alike, constantRow}
 

@@ -11,14 +11,14 @@ use Rattle.formula.specs.declared.Verdict.the-variants.{Passed}
 use Rattle.formula.specs.Tree.{formulaOf}
 use Rattle.formula.specs.Tests.{verdictOf}
 use Rattle.graph.specs.Translation.{madeOf}
-use Rattle.sets.specs.Sets.{setValues}
-use Rattle.layout.specs.Layout.{sizeOf, need}
-use Rattle.verdicts.specs.Running.{startOf}
-use Rattle.start.specs.Start.{started}
+use Rattle.value_sets.specs.Sets.{setValues}
+use Rattle.machine_layout.specs.Layout.{sizeOf, need}
+use Rattle.theory_verdicts.specs.Running.{startOf}
+use Rattle.machine_start.specs.Start.{started}
 use Rattle.demand.specs.Started.{start-accepts}
 use Rattle.demand.specs.Pushes.{pushRefusals, pushAnswers, pushes-from-start}
 use Rattle.examples.specs.Sheets.{bytes, lesser}
-use Rattle.ends.specs.ResultBytes.{spelled}
+use Rattle.demand_ends.specs.ResultBytes.{spelled}
 use Rattle.value.specs.Bytes.{bytesOf}
 use Rattle.cases.specs.Cases.{Answer, accepts, refuses, passes, operators, evaluates, refusals, threeAndFive, got, cases, cases-worked}
 

@@ -12,17 +12,17 @@ use Rattle.network.specs.Net.{Links, Able, act, label}
 use Rattle.formula.specs.Tree.{Exp}
 use Rattle.graph.specs.Translation.{madeOf}
 use Rattle.meaning.specs.Evaluate.{cellsOf}
-use Rattle.sets.specs.Sets.{setValues, setOk}
-use Rattle.layout.specs.Layout.{sizeOf, untakenOf}
-use Rattle.machine.specs.Fire.{ableAt, firedAt}
-use Rattle.valid.specs.Below.{allBelow}
-use Rattle.runs.specs.Run.{runs}
-use Rattle.calls.specs.Calls.{standing, roomsOk, pushedMemory, resultReady, written, takenMemory}
-use Rattle.verdicts.specs.ResultSets.{valuesIn}
-use Rattle.verdicts.specs.Running.{places, operatorAt, pushOf, takeOf, afterSteps, runSteps}
-use Rattle.view.specs.Sound.{Sound}
-use Rattle.view.specs.Stands.{Stands}
-use Rattle.ends.specs.ResultBytes.{cellBytes}
+use Rattle.value_sets.specs.Sets.{setValues, setOk}
+use Rattle.machine_layout.specs.Layout.{sizeOf, untakenOf}
+use Rattle.machine_firing.specs.Fire.{ableAt, firedAt}
+use Rattle.machine_valid.specs.Below.{allBelow}
+use Rattle.machine_runs.specs.Run.{runs}
+use Rattle.machine_calls.specs.Calls.{standing, roomsOk, pushedMemory, resultReady, written, takenMemory}
+use Rattle.theory_verdicts.specs.ResultSets.{valuesIn}
+use Rattle.theory_verdicts.specs.Running.{places, operatorAt, pushOf, takeOf, afterSteps, runSteps}
+use Rattle.demand_view.specs.Sound.{Sound}
+use Rattle.demand_view.specs.Stands.{Stands}
+use Rattle.demand_ends.specs.ResultBytes.{cellBytes}
 
 pub record CallsAgree (x : Exp) (capacity : ℕ) : Type 0 where
   pub sound : Sound (madeOf x)

@@ -11,22 +11,22 @@ use Rattle.formula.specs.declared.Verdict.the-variants.{Passed}
 use Rattle.formula.specs.Tree.{Exp, formulaOf}
 use Rattle.formula.specs.Tests.{verdictOf}
 use Rattle.graph.specs.Translation.{madeOf}
-use Rattle.layout.specs.Layout.{sizeOf, resultsOf, untakenOf}
-use Rattle.valid.specs.Below.{allBelow, and-left, and-right, and-both}
-use Rattle.calls.specs.Calls.{resultReady, written}
+use Rattle.machine_layout.specs.Layout.{sizeOf, resultsOf, untakenOf}
+use Rattle.machine_valid.specs.Below.{allBelow, and-left, and-right, and-both}
+use Rattle.machine_calls.specs.Calls.{resultReady, written}
 use Rattle.meaning.specs.Evaluate.{cellsOf}
-use Rattle.verdicts.specs.Running.{places, takeOf}
-use Rattle.view.specs.Sound.{Sound}
-use Rattle.view.specs.Stands.{Stands}
-use Rattle.view.specs.Able.{able-on-links, able-on-bytes}
-use Rattle.view.specs.Fired.{fired-stands}
-use Rattle.view.specs.Run.{run-same}
-use Rattle.ends.specs.ResultBytes.{cellBytes, cells-result}
-use Rattle.sets.specs.Sets.{set-values, values-set}
-use Rattle.ends.specs.Push.{tests-push, stands-pushed}
-use Rattle.ends.specs.Take.{resultIn, tests-take, take-tests, stands-taken, take-writes}
-use Rattle.begin.specs.MadeSound.{made-sound}
-use Rattle.begin.specs.StandsValid.{stands-well}
+use Rattle.theory_verdicts.specs.Running.{places, takeOf}
+use Rattle.demand_view.specs.Sound.{Sound}
+use Rattle.demand_view.specs.Stands.{Stands}
+use Rattle.demand_view.specs.Able.{able-on-links, able-on-bytes}
+use Rattle.demand_view.specs.Fired.{fired-stands}
+use Rattle.demand_view.specs.Run.{run-same}
+use Rattle.demand_ends.specs.ResultBytes.{cellBytes, cells-result}
+use Rattle.value_sets.specs.Sets.{set-values, values-set}
+use Rattle.demand_ends.specs.Push.{tests-push, stands-pushed}
+use Rattle.demand_ends.specs.Take.{resultIn, tests-take, take-tests, stands-taken, take-writes}
+use Rattle.demand_begin.specs.MadeSound.{made-sound}
+use Rattle.demand_begin.specs.StandsValid.{stands-well}
 use Rattle.demand.specs.Agree.{CallsAgree}
 
 module _ (x : Exp) (S : Sound (madeOf x)) (capacity : ℕ) (low : 1 ≤ capacity) (high : capacity ≤ 16) (m : List ℕ) (q : Links) (H : Stands (madeOf x) capacity m q) where

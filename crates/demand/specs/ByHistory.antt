@@ -13,26 +13,26 @@ use Rattle.formula.specs.declared.Refusal.the-variants.{Memory}
 use Rattle.formula.specs.Refusals.{numberOf}
 use Rattle.graph.specs.Assembly.{Operator}
 use Rattle.graph.specs.Translation.{Made, madeOf}
-use Rattle.layout.specs.Layout.{operatorsOf, registerAt, sizeOf, need}
-use Rattle.machine.specs.Fire.{firedAt}
-use Rattle.calls.specs.Calls.{standing, fired, ran}
-use Rattle.calls.specs.CallLaws.{fired-refused, ran-refused}
-use Rattle.view.specs.Sound.{Ith, Sound}
-use Rattle.view.specs.Stands.{Stands}
-use Rattle.view.specs.Operators.{ith-there}
-use Rattle.view.specs.FiredHistory.{Fires-in-memory, fired-by-history}
-use Rattle.view.specs.FireCall as Standing
-use Rattle.view.specs.FireCall.{stands-size}
-use Rattle.begin.specs.Positions.{ith-inside}
-use Rattle.begin.specs.Lent.{agree-word, stands-lent, stands-behind, short-refused}
+use Rattle.machine_layout.specs.Layout.{operatorsOf, registerAt, sizeOf, need}
+use Rattle.machine_firing.specs.Fire.{firedAt}
+use Rattle.machine_calls.specs.Calls.{standing, fired, ran}
+use Rattle.machine_calls.specs.CallLaws.{fired-refused, ran-refused}
+use Rattle.demand_view.specs.Sound.{Ith, Sound}
+use Rattle.demand_view.specs.Stands.{Stands}
+use Rattle.demand_view.specs.Operators.{ith-there}
+use Rattle.demand_view.specs.FiredHistory.{Fires-in-memory, fired-by-history}
+use Rattle.demand_view.specs.FireCall as Standing
+use Rattle.demand_view.specs.FireCall.{stands-size}
+use Rattle.demand_begin.specs.Positions.{ith-inside}
+use Rattle.demand_begin.specs.Lent.{agree-word, stands-lent, stands-behind, short-refused}
 use Rattle.refusals.specs.RunCount.{Firings, run-counts}
-use Rattle.start.specs.Start.{started}
-use Rattle.begin.specs.StartedStands.{accepted-stands}
+use Rattle.machine_start.specs.Start.{started}
+use Rattle.demand_begin.specs.StartedStands.{accepted-stands}
 use Rattle.demand.specs.MemoryCalls.{Call, fire, run, answerOf, memoryAfter, memoryAfterAll}
 use Rattle.demand.specs.Agree.{CallsAgree}
 use Rattle.demand.specs.Agreed.{calls-agree}
 use Rattle.demand.specs.OnMemory.{F as bytes-follow}
-use Rattle.start.specs.StartLaws.{AcceptedStart, accepted-start}
+use Rattle.machine_start.specs.StartLaws.{AcceptedStart, accepted-start}
 
 -- So many firings by Brock's rule lead from the memory m, in which the links q stand, to the memory n: each finds the links as the one before left them.
 abbrev pub Fire-by-history : (g : Made) (capacity : ℕ) → ℕ → (m : List ℕ) (q : Links) (n : List ℕ) → Type 0

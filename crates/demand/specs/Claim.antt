@@ -10,9 +10,9 @@ use Rattle.meaning.specs.declared.Evaluation.{Evaluation}
 use Rattle.meaning.specs.Evaluate.{evaluationOf}
 use Rattle.formula.specs.declared.Refusal.the-variants.{Altered, NotAble}
 use Rattle.formula.specs.Refusals.{numberOf}
-use Rattle.layout.specs.Layout.{operatorsOf, sizeOf, need}
-use Rattle.calls.specs.Calls.{answers}
-use Rattle.ends.specs.ResultBytes.{cellBytes}
+use Rattle.machine_layout.specs.Layout.{operatorsOf, sizeOf, need}
+use Rattle.machine_calls.specs.Calls.{answers}
+use Rattle.demand_ends.specs.ResultBytes.{cellBytes}
 use Rattle.demand.specs.MemoryCalls.{Call, fire, take, Result, result, answerOf, memoryAfterAll, answersOf, setsPushed, resultsTaken}
 
 -- "Direct evaluation there is the meaning above with as many rounds as it needs"

@@ -8,15 +8,15 @@ use Rattle.formula.specs.declared.Verdict.the-variants.{Passed}
 use Rattle.formula.specs.Tree.{formulaOf}
 use Rattle.formula.specs.Tests.{verdictOf}
 use Rattle.graph.specs.Translation.{madeOf}
-use Rattle.verdicts.specs.Running.{startOf}
-use Rattle.view.specs.Stands.{Stands}
-use Rattle.start.specs.Start.{started}
-use Rattle.begin.specs.MadeSound.{made-sound}
-use Rattle.begin.specs.Lent.{stands-behind}
-use Rattle.begin.specs.StartedStands.{accepted-stands}
+use Rattle.theory_verdicts.specs.Running.{startOf}
+use Rattle.demand_view.specs.Stands.{Stands}
+use Rattle.machine_start.specs.Start.{started}
+use Rattle.demand_begin.specs.MadeSound.{made-sound}
+use Rattle.demand_begin.specs.Lent.{stands-behind}
+use Rattle.demand_begin.specs.StartedStands.{accepted-stands}
 use Rattle.demand.specs.MemoryCalls.{Call}
 use Rattle.demand.specs.Claim.{OwnVerdicts}
-use Rattle.start.specs.StartLaws.{accepted-start}
+use Rattle.machine_start.specs.StartLaws.{accepted-start}
 use Rattle.demand.specs.Agreed.{calls-agree}
 use Rattle.demand.specs.OnMemory.{own-verdicts-of-bytes}
 

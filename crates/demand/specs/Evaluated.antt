@@ -21,11 +21,11 @@ use Rattle.meaning.specs.Meaning.{Outcome, yields, inputsHold, evalE}
 use Rattle.meaning.specs.declared.Cell.{Cell}
 use Rattle.meaning.specs.declared.Evaluation.{Evaluation}
 use Rattle.meaning.specs.Evaluate.{cell, cellsOf, concluded, evaluatedWith, evaluated, afterVerdict, evaluationOf}
-use Rattle.sets.specs.Sets.{setValues}
+use Rattle.value_sets.specs.Sets.{setValues}
 use Rattle.eval_sheet.specs.Handed.{Handed, written, handedOut, handed-passed}
 use Rattle.eval_sheet.specs.Small.{narrow-width}
-use Rattle.ends.specs.ResultBytes.{cellBytes, length-cell-bytes, storedOut, cells-stored}
-use Rattle.start.specs.Start.{started}
+use Rattle.demand_ends.specs.ResultBytes.{cellBytes, length-cell-bytes, storedOut, cells-stored}
+use Rattle.machine_start.specs.Start.{started}
 use Rattle.demand.specs.MemoryCalls.{Call, Result, result, setsPushed, resultsTaken}
 use Rattle.demand.specs.Claim.{Enough, Ends, yielded}
 use Rattle.demand.specs.Demand3.{demand-3}

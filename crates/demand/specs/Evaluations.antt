@@ -14,9 +14,9 @@ use Rattle.formula.specs.Free.{freeE, inputsOf}
 use Rattle.formula.specs.Tests.{verdictOf}
 use Rattle.meaning.specs.Meaning.{Outcome, yields, inputsHold, evalE}
 use Rattle.meaning.specs.Evaluate.{cellsOf, concluded, evaluated, evaluationOf}
-use Rattle.sets.specs.Sets.{setValues}
-use Rattle.verdicts.specs.Results.{valuesOf, resultOf, EndsWith}
-use Rattle.ends.specs.ResultBytes.{cellBytes}
+use Rattle.value_sets.specs.Sets.{setValues}
+use Rattle.theory_verdicts.specs.Results.{valuesOf, resultOf, EndsWith}
+use Rattle.demand_ends.specs.ResultBytes.{cellBytes}
 use Rattle.demand.specs.MemoryCalls.{Result, result}
 use Rattle.demand.specs.Claim.{Enough, yielded}
 

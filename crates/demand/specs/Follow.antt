@@ -17,29 +17,29 @@ use Rattle.value.specs.declared.Value.{Value}
 use Rattle.value.specs.Operators.{pick}
 use Rattle.network.specs.Net.{Token, Demand, ask, fire as emits, Links, head, pop, Able, act, label}
 use Rattle.network.specs.Ends.{collect}
-use Rattle.pieces.specs.Tape.{Step, pushing, firing, taking, sets-of}
+use Rattle.theory_pieces.specs.Tape.{Step, pushing, firing, taking, sets-of}
 use Rattle.formula.specs.Tree.{Exp}
 use Rattle.formula.specs.declared.Refusal.the-variants.{Memory, Set, Untaken, Full, NotAble, NoResult, Unfinished, Altered}
 use Rattle.formula.specs.Refusals.{numberOf}
 use Rattle.graph.specs.Translation.{madeOf}
 use Rattle.meaning.specs.Evaluate.{cellsOf}
-use Rattle.sets.specs.Sets.{setValues, setOk, values-set}
-use Rattle.layout.specs.Layout.{sizeOf, need, operatorsOf, inputsOf, resultsOf, untakenOf}
-use Rattle.machine.specs.Fire.{ableAt, firedAt}
-use Rattle.valid.specs.Below.{allBelow}
-use Rattle.runs.specs.Run.{Ran, runs, stillAt}
-use Rattle.calls.specs.Calls.{Outcome, Handed, outcome, handed as hands, answers, refusal, sizeIn, standing, roomsOk, pushedMemory, pushed, fired, ended, ran, resultReady, written, takenMemory, taken}
-use Rattle.calls.specs.CallLaws.{pushed-refused, fired-refused, ran-refused, taken-short, taken-refused, pushed-no-set, pushed-untaken, pushed-full, pushed-accepted, fired-absent, fired-idle, fired-accepted, ran-ended, taken-none, taken-empty, taken-accepted}
-use Rattle.verdicts.specs.Owed.{creditLink}
-use Rattle.verdicts.specs.ResultSets.{valuesIn}
-use Rattle.verdicts.specs.Running as Abstract
-use Rattle.verdicts.specs.Running.{places, operatorAt, pushOf, takeOf, decAble, pushes, fires, takes, afterSteps, handed, accept, leastAble, onward, runSteps, stepsOf, stepsFrom}
-use Rattle.view.specs.Stands.{Stands}
+use Rattle.value_sets.specs.Sets.{setValues, setOk, values-set}
+use Rattle.machine_layout.specs.Layout.{sizeOf, need, operatorsOf, inputsOf, resultsOf, untakenOf}
+use Rattle.machine_firing.specs.Fire.{ableAt, firedAt}
+use Rattle.machine_valid.specs.Below.{allBelow}
+use Rattle.machine_runs.specs.Run.{Ran, runs, stillAt}
+use Rattle.machine_calls.specs.Calls.{Outcome, Handed, outcome, handed as hands, answers, refusal, sizeIn, standing, roomsOk, pushedMemory, pushed, fired, ended, ran, resultReady, written, takenMemory, taken}
+use Rattle.machine_calls.specs.CallLaws.{pushed-refused, fired-refused, ran-refused, taken-short, taken-refused, pushed-no-set, pushed-untaken, pushed-full, pushed-accepted, fired-absent, fired-idle, fired-accepted, ran-ended, taken-none, taken-empty, taken-accepted}
+use Rattle.theory_verdicts.specs.Owed.{creditLink}
+use Rattle.theory_verdicts.specs.ResultSets.{valuesIn}
+use Rattle.theory_verdicts.specs.Running as Abstract
+use Rattle.theory_verdicts.specs.Running.{places, operatorAt, pushOf, takeOf, decAble, pushes, fires, takes, afterSteps, handed, accept, leastAble, onward, runSteps, stepsOf, stepsFrom}
+use Rattle.demand_view.specs.Stands.{Stands}
 use Rattle.demand.specs.MemoryCalls.{Call, push, fire, run, take, Result, result, accepted, answerOf, memoryAfter, setOf, resultOf}
-use Rattle.ends.specs.ResultBytes.{cellBytes, cells-result, length-result}
+use Rattle.demand_ends.specs.ResultBytes.{cellBytes, cells-result, length-result}
 use Rattle.demand.specs.Evaluations.{shown}
-use Rattle.begin.specs.Lent.{stands-lent, stands-behind, short-refused}
-use Rattle.view.specs.FireCall.{stands-size}
+use Rattle.demand_begin.specs.Lent.{stands-lent, stands-behind, short-refused}
+use Rattle.demand_view.specs.FireCall.{stands-size}
 use Rattle.demand.specs.Agree.{CallsAgree}
 
 -- A take hands out one value for each result port.

@@ -9,16 +9,16 @@ use native.Mathlib.Omega.{arith}
 use lib.ListN.{length, getD}
 use Rattle.value.specs.declared.Value.{Value}
 use Rattle.network.specs.Net.{Token, Links, act, label}
-use Rattle.pieces.specs.Tape.{Step, pushing, firing, taking, sets-of}
+use Rattle.theory_pieces.specs.Tape.{Step, pushing, firing, taking, sets-of}
 use Rattle.formula.specs.Tree.{Exp}
 use Rattle.formula.specs.declared.Refusal.the-variants.{Altered}
 use Rattle.formula.specs.Refusals.{numberOf}
 use Rattle.graph.specs.Translation.{madeOf}
-use Rattle.sets.specs.Sets.{setValues}
-use Rattle.calls.specs.Calls.{answers}
-use Rattle.verdicts.specs.Running as Abstract
-use Rattle.verdicts.specs.Running.{operatorAt, pushOf, takeOf, demandOf, afterSteps, handed, stepsOf, stepsFrom}
-use Rattle.view.specs.Stands.{Stands}
+use Rattle.value_sets.specs.Sets.{setValues}
+use Rattle.machine_calls.specs.Calls.{answers}
+use Rattle.theory_verdicts.specs.Running as Abstract
+use Rattle.theory_verdicts.specs.Running.{operatorAt, pushOf, takeOf, demandOf, afterSteps, handed, stepsOf, stepsFrom}
+use Rattle.demand_view.specs.Stands.{Stands}
 use Rattle.demand.specs.MemoryCalls.{Call, Result, memoryAfter, setOf, resultOf, memoryAfterAll, answersOf, setsPushed, resultsTaken}
 use Rattle.demand.specs.Agree.{CallsAgree}
 use Rattle.demand.specs.Follow.{EachRead, shownTokens, Follows, follows-none, call-follows}

@@ -8,8 +8,8 @@ use Rattle.examples.specs.Sheets.{bytes, lesser}
 use Rattle.formula.specs.declared.Refusal.the-variants.{Memory, Capacity}
 use Rattle.formula.specs.Refusals.{numberOf}
 use Rattle.formula.specs.Tests.{verdictOf}
-use Rattle.layout.specs.Layout.{capacityIn}
-use Rattle.start.specs.Start.{started}
+use Rattle.machine_layout.specs.Layout.{capacityIn}
+use Rattle.machine_start.specs.Start.{started}
 use Rattle.demand.specs.MemoryCalls.{Call}
 use Rattle.demand.specs.Claim.{OwnVerdicts}
 use Rattle.demand.specs.Demand3.{demand-3}

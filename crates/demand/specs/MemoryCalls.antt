@@ -6,8 +6,8 @@ use mathlib.Core.Bool.{Bool, cond}
 use mathlib.Core.List.{List, [], _∷_, _++_}
 use lib.Dec.{eqb}
 use lib.ListN.{drop, take as firstOf}
-use Rattle.calls.specs.declared.Answer.{Answer}
-use Rattle.calls.specs.Calls.{pushed, fired, ran, taken}
+use Rattle.machine_calls.specs.declared.Answer.{Answer}
+use Rattle.machine_calls.specs.Calls.{pushed, fired, ran, taken}
 
 -- "each push, fire, run or take is lent that memory as the call before left it (a call lent too little gets 11 and is one of the refused)": the first number
 -- says how many bytes, counted from the memory's first; a call lent more than there is gets all. Then come push's set, fire's operator, run's firings

@@ -13,15 +13,15 @@ use lib.Seq.{getD-append-seam}
 use Rattle.formula.specs.declared.Refusal.the-variants.{NotAble}
 use Rattle.formula.specs.Refusals.{numberOf}
 use Rattle.meaning.specs.Evaluate.{evaluationOf}
-use Rattle.layout.specs.Layout.{operatorsOf, sizeOf, need}
-use Rattle.calls.specs.Calls.{taken}
-use Rattle.start.specs.Start.{started}
-use Rattle.begin.specs.StartedStands.{accepted-stands}
+use Rattle.machine_layout.specs.Layout.{operatorsOf, sizeOf, need}
+use Rattle.machine_calls.specs.Calls.{taken}
+use Rattle.machine_start.specs.Start.{started}
+use Rattle.demand_begin.specs.StartedStands.{accepted-stands}
 use Rattle.demand.specs.MemoryCalls.{Call, fire, take, Result, result, accepted, answerOf, memoryAfter, setOf, resultOf, memoryAfterAll, setsPushed, resultsTaken}
 use Rattle.demand.specs.Claim.{Enough, Ends, yielded}
 use Rattle.demand.specs.Agreed.{calls-agree}
 use Rattle.demand.specs.OnMemory.{ends-when-still}
-use Rattle.start.specs.StartLaws.{accepted-start}
+use Rattle.machine_start.specs.StartLaws.{accepted-start}
 use Rattle.demand.specs.Demand3.{demand-3}
 
 -- ---- a list with one call more

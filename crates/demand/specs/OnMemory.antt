@@ -14,8 +14,8 @@ use lib.ListN.{length, getD, take as firstOf, length-map}
 use lib.Seq.{take-length}
 use Rattle.value.specs.declared.Value.{Value}
 use Rattle.network.specs.Net.{Token, Links, Able}
-use Rattle.pieces.specs.Sets.{tokens-of}
-use Rattle.pieces.specs.Tape.{Step, firing, taking}
+use Rattle.theory_pieces.specs.Sets.{tokens-of}
+use Rattle.theory_pieces.specs.Tape.{Step, firing, taking}
 use Rattle.formula.specs.declared.Verdict.the-variants.{Passed}
 use Rattle.formula.specs.declared.Refusal.the-variants.{NotAble}
 use Rattle.formula.specs.Refusals.{numberOf}
@@ -23,26 +23,26 @@ use Rattle.formula.specs.Tree.{Exp, formulaOf}
 use Rattle.formula.specs.Free.{inputsOf}
 use Rattle.formula.specs.Tests.{verdictOf}
 use Rattle.graph.specs.Translation.{madeOf}
-use Rattle.wiring.specs.Machine.{net-past}
+use Rattle.theory_wiring.specs.Machine.{net-past}
 use Rattle.meaning.specs.Evaluate.{evaluationOf}
-use Rattle.sets.specs.Sets.{setValues}
-use Rattle.layout.specs.Layout.{operatorsOf, sizeOf, need}
-use Rattle.machine.specs.Fire.{ableAt}
-use Rattle.valid.specs.Below.{allBelow}
-use Rattle.calls.specs.declared.Answer.{Answer}
-use Rattle.calls.specs.Calls.{answers, resultReady, fired, taken}
-use Rattle.calls.specs.CallLaws.{fired-accepted, taken-accepted}
-use Rattle.verdicts.specs.Results.{EndsWith}
-use Rattle.verdicts.specs.ResultSets.{valuesIn}
-use Rattle.verdicts.specs.Running as Abstract
-use Rattle.verdicts.specs.Running.{places, operatorAt, takeOf, startOf, decAble, fires, accept, stepsOf}
-use Rattle.verdicts.specs.Verdicts as Verdicts
-use Rattle.view.specs.Stands.{Stands}
+use Rattle.value_sets.specs.Sets.{setValues}
+use Rattle.machine_layout.specs.Layout.{operatorsOf, sizeOf, need}
+use Rattle.machine_firing.specs.Fire.{ableAt}
+use Rattle.machine_valid.specs.Below.{allBelow}
+use Rattle.machine_calls.specs.declared.Answer.{Answer}
+use Rattle.machine_calls.specs.Calls.{answers, resultReady, fired, taken}
+use Rattle.machine_calls.specs.CallLaws.{fired-accepted, taken-accepted}
+use Rattle.theory_verdicts.specs.Results.{EndsWith}
+use Rattle.theory_verdicts.specs.ResultSets.{valuesIn}
+use Rattle.theory_verdicts.specs.Running as Abstract
+use Rattle.theory_verdicts.specs.Running.{places, operatorAt, takeOf, startOf, decAble, fires, accept, stepsOf}
+use Rattle.theory_verdicts.specs.Verdicts as Verdicts
+use Rattle.demand_view.specs.Stands.{Stands}
 use Rattle.demand.specs.MemoryCalls.{Call, fire, take, Result, result, answerOf, memoryAfterAll, setsPushed, resultsTaken}
 use Rattle.demand.specs.Claim.{Enough, Ends, yielded, OwnVerdicts}
 use Rattle.demand.specs.Evaluations.{shown, enough-yields, yields-enough}
-use Rattle.begin.specs.Lent.{stands-lent}
-use Rattle.view.specs.FireCall.{stands-size}
+use Rattle.demand_begin.specs.Lent.{stands-lent}
+use Rattle.demand_view.specs.FireCall.{stands-size}
 use Rattle.demand.specs.Agree.{CallsAgree}
 use Rattle.demand.specs.Follow.{shownTokens, Follows}
 use Rattle.demand.specs.FollowAll.{calls-follow, calls-unaltered, read-count, read-at}

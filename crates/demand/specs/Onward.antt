@@ -12,22 +12,22 @@ use Rattle.formula.specs.declared.Refusal.the-variants.{NotAble}
 use Rattle.formula.specs.Refusals.{numberOf}
 use Rattle.formula.specs.Tree.{Exp, formulaOf}
 use Rattle.graph.specs.Translation.{madeOf}
-use Rattle.layout.specs.Layout.{operatorsOf, inputsOf, sizeOf, need}
-use Rattle.calls.specs.Calls.{standing}
-use Rattle.sets.specs.Sets.{setOk, set-values}
-use Rattle.verdicts.specs.Running as Abstract
-use Rattle.verdicts.specs.Running.{startOf}
-use Rattle.verdicts.specs.Verdicts.{pushable-when-quiet}
-use Rattle.ends.specs.Push.{push-accepted}
-use Rattle.begin.specs.Lent.{stands-lent}
-use Rattle.start.specs.Start.{started}
-use Rattle.begin.specs.StartedStands.{accepted-stands}
+use Rattle.machine_layout.specs.Layout.{operatorsOf, inputsOf, sizeOf, need}
+use Rattle.machine_calls.specs.Calls.{standing}
+use Rattle.value_sets.specs.Sets.{setOk, set-values}
+use Rattle.theory_verdicts.specs.Running as Abstract
+use Rattle.theory_verdicts.specs.Running.{startOf}
+use Rattle.theory_verdicts.specs.Verdicts.{pushable-when-quiet}
+use Rattle.demand_ends.specs.Push.{push-accepted}
+use Rattle.demand_begin.specs.Lent.{stands-lent}
+use Rattle.machine_start.specs.Start.{started}
+use Rattle.demand_begin.specs.StartedStands.{accepted-stands}
 use Rattle.demand.specs.MemoryCalls.{Call, push, fire, answerOf, memoryAfterAll, setsPushed, resultsTaken}
 use Rattle.demand.specs.Agree.{CallsAgree}
 use Rattle.demand.specs.Follow.{Follows}
 use Rattle.demand.specs.OnMemory.{F as bytes-follow, as-many-results, as-many-sets, no-step}
 use Rattle.demand.specs.Agreed.{calls-agree}
-use Rattle.start.specs.StartLaws.{AcceptedStart, accepted-start}
+use Rattle.machine_start.specs.StartLaws.{AcceptedStart, accepted-start}
 
 module _ (sheet : List ℕ) (capacity : ℕ) (memory : List ℕ) (h : started sheet capacity memory .answer .refusal ≡ 0) (calls : List Call) where
   abbrev x : Exp

@@ -18,24 +18,24 @@ use Rattle.formula.specs.Refusals.{numberOf}
 use Rattle.formula.specs.Tree.{Exp, formulaOf}
 use Rattle.network.specs.Net.{Links, Able, act}
 use Rattle.graph.specs.Translation.{madeOf}
-use Rattle.layout.specs.Layout.{inputsOf, untakenOf, sizeOf, need}
-use Rattle.valid.specs.Below.{allBelow, and-both, below-at, below-all}
-use Rattle.calls.specs.Calls.{Outcome, sizeIn, standing, roomsOk, pushed}
-use Rattle.sets.specs.Sets.{setOk, setValues, IsSet, values-pass, values-set}
-use Rattle.calls.specs.CallLaws.{pushed-untaken, pushed-full}
-use Rattle.verdicts.specs.Owed.{creditLink}
-use Rattle.verdicts.specs.Running.{places, pushOf, startOf}
-use Rattle.view.specs.Sound.{Sound}
-use Rattle.view.specs.Stands.{Stands}
-use Rattle.ends.specs.PushLinks.{push-room, room-push}
-use Rattle.ends.specs.Push.{tests-push, push-accepted, stands-pushed}
-use Rattle.begin.specs.Lent.{stands-lent, stands-behind}
-use Rattle.view.specs.FireCall.{stands-size}
-use Rattle.begin.specs.StandsValid.{stands-well}
-use Rattle.start.specs.Start.{started}
-use Rattle.begin.specs.MadeSound.{made-sound}
-use Rattle.begin.specs.StartedStands.{accepted-stands}
-use Rattle.start.specs.StartLaws.{accepted-start}
+use Rattle.machine_layout.specs.Layout.{inputsOf, untakenOf, sizeOf, need}
+use Rattle.machine_valid.specs.Below.{allBelow, and-both, below-at, below-all}
+use Rattle.machine_calls.specs.Calls.{Outcome, sizeIn, standing, roomsOk, pushed}
+use Rattle.value_sets.specs.Sets.{setOk, setValues, IsSet, values-pass, values-set}
+use Rattle.machine_calls.specs.CallLaws.{pushed-untaken, pushed-full}
+use Rattle.theory_verdicts.specs.Owed.{creditLink}
+use Rattle.theory_verdicts.specs.Running.{places, pushOf, startOf}
+use Rattle.demand_view.specs.Sound.{Sound}
+use Rattle.demand_view.specs.Stands.{Stands}
+use Rattle.demand_ends.specs.PushLinks.{push-room, room-push}
+use Rattle.demand_ends.specs.Push.{tests-push, push-accepted, stands-pushed}
+use Rattle.demand_begin.specs.Lent.{stands-lent, stands-behind}
+use Rattle.demand_view.specs.FireCall.{stands-size}
+use Rattle.demand_begin.specs.StandsValid.{stands-well}
+use Rattle.machine_start.specs.Start.{started}
+use Rattle.demand_begin.specs.MadeSound.{made-sound}
+use Rattle.demand_begin.specs.StartedStands.{accepted-stands}
+use Rattle.machine_start.specs.StartLaws.{accepted-start}
 use Rattle.demand.specs.MemoryCalls.{push, answersOf, memoryAfter, answerOf}
 
 -- ---- on the links

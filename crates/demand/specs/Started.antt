@@ -9,9 +9,9 @@ use lib.Dec.{leb}
 use lib.ListN.{length}
 use Rattle.formula.specs.declared.Verdict.the-variants.{Passed}
 use Rattle.formula.specs.Tests.{verdictOf}
-use Rattle.layout.specs.Layout.{sizeOf, need, capacityIn}
-use Rattle.valid.specs.Below.{and-both}
-use Rattle.start.specs.Start.{refusal, byVerdict, started}
+use Rattle.machine_layout.specs.Layout.{sizeOf, need, capacityIn}
+use Rattle.machine_valid.specs.Below.{and-both}
+use Rattle.machine_start.specs.Start.{refusal, byVerdict, started}
 
 pub start-accepts : (sheet : List ℕ) (capacity : ℕ) (m : List ℕ) → verdictOf sheet ≡ Passed → 1 ≤ capacity → capacity ≤ 16 → need (sizeOf capacity) ≤ length m → started sheet capacity m .answer .refusal ≡ 0
 unfolding started byVerdict capacityIn

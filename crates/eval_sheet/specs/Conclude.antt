@@ -25,7 +25,7 @@ use Rattle.meaning.specs.Rows.{ExpRow}
 use Rattle.meaning.specs.declared.Cell.{Cell}
 use Rattle.meaning.specs.declared.Evaluation.{Evaluation}
 use Rattle.meaning.specs.Evaluate.{cell, cellsOf, refused, concluded, evaluatedWith, evaluated}
-use Rattle.sets.specs.Sets.{setOk, setValues, set-values, no-set}
+use Rattle.value_sets.specs.Sets.{setOk, setValues, set-values, no-set}
 use Rattle.eval_words.specs.Words.{heldOf, envOf, zeros-err}
 use Rattle.eval_words.specs.Needs.{W, narrow}
 use Rattle.eval_cycle.specs.declared.Rest.the-variants.{Left, Short}

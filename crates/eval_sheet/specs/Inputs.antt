@@ -20,7 +20,7 @@ use Rattle.formula.specs.Free.{freeE, inputsOf}
 use Rattle.meaning.specs.Meaning.{Env, inputsHold}
 use Rattle.meaning.specs.declared.Cell.{Cell}
 use Rattle.meaning.specs.Evaluate.{cell}
-use Rattle.sets.specs.Sets.{IsSet}
+use Rattle.value_sets.specs.Sets.{IsSet}
 use Rattle.eval_words.specs.Words.{heldOf, envOf, held-word, held-zero}
 
 -- The set that a mask stands for.

@@ -20,7 +20,7 @@ use Rattle.meaning.specs.WidthLaws.{SoundE, Sized, sized, wide-16}
 use Rattle.meaning.specs.Accepted.{passes, formula-sound}
 use Rattle.meaning.specs.declared.Evaluation.{Evaluation}
 use Rattle.meaning.specs.Evaluate.{concluded, evaluatedWith, evaluated, afterVerdict, evaluationOf}
-use Rattle.sets.specs.Sets.{setValues}
+use Rattle.value_sets.specs.Sets.{setValues}
 
 abbrev rowIn : Verdict → ℕ
 rowIn Passed = 0

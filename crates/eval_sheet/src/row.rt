@@ -104,7 +104,7 @@ pub fn evaluate_row(
     ensures { λ e. ⌜ e ≡ evaluated (expOf (now (t .entry)) n) (now (set .entry)) rounds ⌝ }
 {
     let inputs = names::count(names::minus(free, names::single(names::TRIGGER))) as usize;
-    if !sets::is_set(set, inputs) {
+    if !value_sets::is_set(set, inputs) {
         return refuse(Refusal::Set, 0);
     }
     let mut env = [0; 32];

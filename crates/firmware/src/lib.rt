@@ -1,16 +1,16 @@
 // Every call of the firmware and of formula editors in one archive, over byte slices and numbers (document 01, "calls push, run and take with
 // numbers and byte memory"). No call asks anything of its caller; each contract is an equation on the answer and on every lent byte.
 // include/bench.h says the same in C.
-use calls::Answer;
 use eval_sheet::EvaluateAnswer;
+use machine_calls::Answer;
+use machine_start::StartAnswer;
 use sheet_read::read::ReadAnswer;
-use start::StartAnswer;
 ghost use mathlib.Core.Path.{_≡_};
 ghost use Rattle.formula.specs.Tests.{readingOf};
 ghost use Rattle.sheet_read.specs.Reading.{answerOf};
 ghost use Rattle.eval_sheet.specs.Handed.{handed as evaluationHanded, handedOut};
-ghost use Rattle.start.specs.Start.{begun, started};
-ghost use Rattle.calls.specs.Calls.{outcome, handed, pushed, fired, ran, taken};
+ghost use Rattle.machine_start.specs.Start.{begun, started};
+ghost use Rattle.machine_calls.specs.Calls.{outcome, handed, pushed, fired, ran, taken};
 
 #[no_mangle]
 pub extern "C" fn bench_read(sheet: &[u8]) -> ReadAnswer
@@ -35,33 +35,33 @@ pub extern "C" fn bench_evaluate(
 pub extern "C" fn bench_start(sheet: &[u8], capacity: u32, mem: &mut [u8]) -> StartAnswer
     ensures { λ a. ⌜ begun a (now (mem .exit)) ≡ started (now (sheet .entry)) capacity (now (mem .entry)) ⌝ }
 {
-    start::start(sheet, capacity, mem)
+    machine_start::start(sheet, capacity, mem)
 }
 
 #[no_mangle]
 pub extern "C" fn bench_push(mem: &mut [u8], set: &[u8]) -> Answer
     ensures { λ a. ⌜ outcome a (now (mem .exit)) ≡ pushed (now (mem .entry)) (now (set .entry)) ⌝ }
 {
-    calls::push(mem, set)
+    machine_calls::push(mem, set)
 }
 
 #[no_mangle]
 pub extern "C" fn bench_fire(mem: &mut [u8], operator: u32) -> Answer
     ensures { λ a. ⌜ outcome a (now (mem .exit)) ≡ fired (now (mem .entry)) operator ⌝ }
 {
-    calls::fire(mem, operator)
+    machine_calls::fire(mem, operator)
 }
 
 #[no_mangle]
 pub extern "C" fn bench_run(mem: &mut [u8], firings: u32) -> Answer
     ensures { λ a. ⌜ outcome a (now (mem .exit)) ≡ ran (now (mem .entry)) firings ⌝ }
 {
-    calls::run(mem, firings)
+    machine_calls::run(mem, firings)
 }
 
 #[no_mangle]
 pub extern "C" fn bench_take(mem: &mut [u8], out: &mut [u8]) -> Answer
     ensures { λ a. ⌜ handed a (now (mem .exit)) (now (out .exit)) ≡ taken (now (mem .entry)) (now (out .entry)) ⌝ }
 {
-    calls::take(mem, out)
+    machine_calls::take(mem, out)
 }

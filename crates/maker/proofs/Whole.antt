@@ -8,7 +8,7 @@ use lib.Seq.{length-take-le}
 use lib.Bits.{bitAnd}
 use lib.Dec.{eqb}
 use native.Mathlib.Omega.{arith}
-use Rattle.layout.specs.Layout.{mostLinks}
+use Rattle.machine_layout.specs.Layout.{mostLinks}
 use Rattle.names.specs.Names.{trigger, one, without, mask, size, sizeFrom, below}
 use Rattle.names.proofs.Sets.{known-minus, known-has, mask-one, size-le}
 use Rattle.names.proofs.Counts.{sizeFrom-le, sizeFrom-cong}
@@ -16,10 +16,10 @@ use Rattle.formula.specs.Sheet.{shapeAt}
 use Rattle.formula.specs.Tree.{Exp, expOf}
 use Rattle.formula.specs.Widths.{width}
 use Rattle.formula.specs.Free.{freeE, inputsOf}
-use Rattle.yields.specs.BodyWidths.{not-too-wide}
+use Rattle.theory_yields.specs.BodyWidths.{not-too-wide}
 use Rattle.graph.specs.Assembly.{upFrom, operatorsOf}
 use Rattle.graph.specs.Translation.{graphE, portOf, madeOf}
-use Rattle.wiring.specs.MadeGraph.{trigger-link}
+use Rattle.theory_wiring.specs.MadeGraph.{trigger-link}
 use Rattle.maker_laid.specs.Environments.{Agrees}
 use Rattle.maker_laid.specs.Masked.{listOf, Mask, list-is, list-length, namesIn}
 use Rattle.maker_laid.specs.Counts.{operatorCount, operators-length}

@@ -20,8 +20,8 @@ use Rattle.meaning.specs.Rows.{Placed, widthIn, Accepted}
 use Rattle.meaning.specs.Accepted.{passes, accepted}
 use Rattle.sheet_tables.specs.Nodes.{returnedIn, freeIn as freeOf}
 use Rattle.sheet_read.specs.Reading.{Tables, Accepts, Told}
-use Rattle.verdicts.specs.Admitting.{accepted-admitted}
-use Rattle.verdicts.specs.Verdicts.{accepted-graph}
+use Rattle.theory_verdicts.specs.Admitting.{accepted-admitted}
+use Rattle.theory_verdicts.specs.Verdicts.{accepted-graph}
 use Rattle.maker_laid.specs.Nodes.{Kids, Read, freeIn}
 use Rattle.maker.specs.Making.{Makeable}
 

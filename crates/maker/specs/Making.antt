@@ -6,7 +6,7 @@ use mathlib.Core.Path.{_≡_}
 use mathlib.Core.Bool.{false, cond}
 use mathlib.Core.List.{List, [], _∷_, _++_}
 use lib.ListN.{length, replicate}
-use Rattle.layout.specs.Layout.{mostOperators, mostLinks, noLink}
+use Rattle.machine_layout.specs.Layout.{mostOperators, mostLinks, noLink}
 use Rattle.formula.specs.Tree.{Exp, expOf}
 use Rattle.formula.specs.Admitted.{AdmittedE}
 use Rattle.graph.specs.Assembly.{upFrom}

@@ -1,6 +1,6 @@
 // The whole graph of an accepted sheet (document 01, "The graph"): its operators in the machine's memory,
 // and by value what start stores besides them.
-use layout::NO_LINK;
+use machine_layout::NO_LINK;
 use maker_joins::Next;
 use maker_parts::names_in;
 use maker_parts::numbered;
@@ -16,7 +16,7 @@ ghost use mathlib.Core.Bool.{cond};
 ghost use mathlib.Core.List.{_++_};
 ghost use Prim.Native.Nat.{_+_, _*_, _-_, _≤_, _<_};
 ghost use lib.ListN.{length, take};
-ghost use Rattle.layout.specs.Layout.{linksAt, noLink};
+ghost use Rattle.machine_layout.specs.Layout.{linksAt, noLink};
 ghost use Rattle.formula.specs.Tree.{expOf};
 ghost use Rattle.graph.specs.Assembly.{upFrom};
 ghost use Rattle.maker.specs.Making.{Makeable, makingOf, makingIn, padded};

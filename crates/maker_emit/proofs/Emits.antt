@@ -8,8 +8,8 @@ use mathlib.Core.List.{List, [], _∷_, _++_, map, append-nil, append-assoc}
 use lib.ListN.{length, getD, set, take, drop, length-drop}
 use lib.Seq.{take-suc, getD-drop}
 use native.Mathlib.Omega.{arith}
-use Rattle.layout.specs.Record.{placed}
-use Rattle.layout.specs.declared.Operator.{Operator as Record}
+use Rattle.machine_layout.specs.Record.{placed}
+use Rattle.machine_layout.specs.declared.Operator.{Operator as Record}
 use Rattle.graph.specs.Assembly.{copiesFor, chain, chainEnds, ring, ringGate}
 use Rattle.maker_laid.specs.Encode.{encode, encoded, written, written-none, written-more}
 use Rattle.maker_laid.specs.Masked.{listOf, namesIn, Mask, Walked, mask-ended}

@@ -1,16 +1,16 @@
 // One operator as a record of memory (layout/specs/Record), and the loops over the names of a mask
 // that need no memory. Document 01, "Forms to follow": "trailing zeros walk the names".
-use layout::COPY;
-use layout::FM;
-use layout::FS;
-use layout::IC;
-use layout::NO_LINK;
-use layout::Operator;
+use machine_layout::COPY;
+use machine_layout::FM;
+use machine_layout::FS;
+use machine_layout::IC;
+use machine_layout::NO_LINK;
+use machine_layout::Operator;
 ghost use mathlib.Core.Path.{_≡_};
 ghost use mathlib.Core.List.{map, _∷_, []};
 ghost use Prim.Native.Nat.{ℕ, _+_, _*_, _≤_, _<_};
 ghost use lib.ListN.{length, take};
-ghost use Rattle.layout.specs.Layout.{mostLinks, noLink};
+ghost use Rattle.machine_layout.specs.Layout.{mostLinks, noLink};
 ghost use Rattle.graph.specs.Assembly.{ringGate, gateOf, IC as IC-gate};
 ghost use Rattle.maker_laid.specs.Encode.{encode};
 ghost use Rattle.maker_laid.specs.Emitted.{copyRecord, gateRecord, dealt, assigned, linkIn};

@@ -1,9 +1,9 @@
 // What joins the results of a body if's arms (document 01, "The graph"): M, E or copies, or
 // straight. Each contract holds for every environment that gives the arms' names their links.
-use layout::E;
-use layout::M;
-use layout::NO_LINK;
-use layout::store_operator;
+use machine_layout::E;
+use machine_layout::M;
+use machine_layout::NO_LINK;
+use machine_layout::store_operator;
 use maker_emit::emit::gate_row;
 use maker_emit::emit::spread;
 use maker_emit::links::join;
@@ -15,10 +15,10 @@ ghost use mathlib.Core.List.{_∷_, _++_};
 ghost use Prim.Native.Nat.{ℕ, _+_, _*_, _-_, _≤_, _<_};
 ghost use lib.ListN.{length, take, drop, getD};
 ghost use lib.Dec.{ltb};
-ghost use Rattle.layout.specs.Layout.{mostOperators, mostLinks, linksAt};
+ghost use Rattle.machine_layout.specs.Layout.{mostOperators, mostLinks, linksAt};
 ghost use Rattle.graph.specs.Assembly.{Env, chain, chainEnds};
 ghost use Rattle.graph.specs.Translation.{testName, iteratedName, returnedName, joinName};
-ghost use Rattle.yields.specs.Joins.{joinI, joinR};
+ghost use Rattle.theory_yields.specs.Joins.{joinI, joinR};
 ghost use Rattle.maker_laid.specs.Encode.{encoded, written};
 ghost use Rattle.maker_laid.specs.Emitted.{rowRecords, rowOutputs};
 ghost use Rattle.maker_laid.specs.Laid.{Laid};

@@ -6,9 +6,9 @@ use mathlib.Core.List.{List, [], _∷_, _++_}
 use lib.ListN.{length, getD}
 use lib.Dec.{ltb}
 use native.Mathlib.Omega.{arith}
-use Rattle.layout.specs.Record.{placed}
-use Rattle.layout.specs.declared.Operator.{Operator as Record}
-use Rattle.yields.specs.Joins.{joinI, joinR}
+use Rattle.machine_layout.specs.Record.{placed}
+use Rattle.machine_layout.specs.declared.Operator.{Operator as Record}
+use Rattle.theory_yields.specs.Joins.{joinI, joinR}
 use Rattle.graph.specs.Assembly.{Gate, IC, Env, gateOutputs, gateOf, upFrom, named}
 use Rattle.graph.specs.Translation.{joinNames}
 use Rattle.maker_laid.specs.Encode.{encode}

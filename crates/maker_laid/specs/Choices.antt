@@ -10,8 +10,8 @@ use lib.Dec.{eqb, ltb}
 use borrow.Author.Tests.{eqb-true, eqb-false, eq-eqb, ne-eqb, ltb-true, ltb-false}
 use native.Mathlib.Omega.{arith}
 use Rattle.names.specs.Names.{Names, one, union, common, without, members}
-use Rattle.yields.specs.Naming.{Small, or-left, or-right, or-false, or-true, or-neither, member-members, different-members}
-use Rattle.yields.specs.Choice.{choice, choice-free, From, Has, Joining, arm-free, row-has, row-lacks, gone, kept, unseen}
+use Rattle.theory_yields.specs.Naming.{Small, or-left, or-right, or-false, or-true, or-neither, member-members, different-members}
+use Rattle.theory_yields.specs.Choice.{choice, choice-free, From, Has, Joining, arm-free, row-has, row-lacks, gone, kept, unseen}
 use Rattle.graph.specs.Assembly.{Graph, wire, nothing, beside, bind, gate, loop, Gate, T, F, Env, free, memberOf, firstUse, secondUse, named}
 use Rattle.graph.specs.Translation.{testName, row, gated, arm}
 use Rattle.maker_laid.specs.Laid.{Laid, Copied, laid-bind}

@@ -12,9 +12,9 @@ use Rattle.names.specs.Names.{Names, common, without, sizeFrom}
 use Rattle.names.proofs.Counts.{sizeFrom-none}
 use Rattle.graph.specs.Assembly.{Graph, wire, nothing, beside, bind, gate, loop, Gate, IC, Env, Operator, free, memberOf, total, listed, linksOf, sharedLinks, outputs, operatorsOf, gateOf, sharing, firstUse, secondUse, named, spread, chain, chainEnds, ring, upFrom, gateOutputs}
 use Rattle.graph.specs.Yields.{outputCount}
-use Rattle.yields.specs.Naming.{length-upFrom}
+use Rattle.theory_yields.specs.Naming.{length-upFrom}
 use Rattle.graph.specs.Translation.{iteratedName, returnedName, joinNames, mergeRow, exceptRow, straight, copied}
-use Rattle.yields.specs.Joins.{joinI, joinR}
+use Rattle.theory_yields.specs.Joins.{joinI, joinR}
 use Rattle.maker_laid.specs.Laid.{Laid, chain-length, ring-length, ends-length, listed-length}
 use Rattle.maker_laid.specs.Sharing.{sharing-length, lone-test, lone-second, lone-third}
 use Rattle.maker_laid.specs.Results.{merge-laid, except-laid, straight-laid, copied-laid, none-is, some-is}

@@ -10,14 +10,14 @@ use lib.Bits.{bitAnd, bitOr}
 use lib.Dec.{eqb, ltb}
 use borrow.Author.Tests.{ltb-true, ltb-false}
 use native.Mathlib.Omega.{arith}
-use Rattle.layout.specs.Record.{placed}
+use Rattle.machine_layout.specs.Record.{placed}
 use Rattle.names.specs.Names.{Names, common, without, mask, members, size}
 use Rattle.names.proofs.Sets.{mask-cong}
 use Rattle.graph.specs.Assembly.{Graph, wire, nothing, beside, bind, gate, loop, Gate, Env, free, memberOf, total, linksOf, gateOutputs, gateOf, upFrom, firstUse, secondUse, named, copiesFor, listed}
 use Rattle.graph.specs.Yields.{outputCount}
 use Rattle.graph.specs.Fit.{Different}
-use Rattle.yields.specs.Naming.{Small, different-upFrom, upFrom-holds, length-upFrom}
-use Rattle.yields.specs.Choice.{Has, unseen}
+use Rattle.theory_yields.specs.Naming.{Small, different-upFrom, upFrom-holds, length-upFrom}
+use Rattle.theory_yields.specs.Choice.{Has, unseen}
 use Rattle.maker_laid.specs.Encode.{encode, encoded, written}
 use Rattle.maker_laid.specs.Emitted.{linkIn, dealt, assigned}
 use Rattle.maker_laid.specs.Masked.{listOf, Mask, list-is}

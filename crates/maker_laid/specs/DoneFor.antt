@@ -13,8 +13,8 @@ use native.Mathlib.Omega.{arith}
 use Rattle.names.specs.Names.{Names, common, without, range, mask, members, size, sizeFrom}
 use Rattle.names.proofs.Counts.{sizeFrom-cong}
 use Rattle.names.proofs.Sets.{mask-has, mask-range, known-has}
-use Rattle.yields.specs.Naming.{Small, or-left, or-right, member-members, member-upFrom, length-upFrom}
-use Rattle.yields.specs.FitGraphs.{count-loop}
+use Rattle.theory_yields.specs.Naming.{Small, or-left, or-right, member-members, member-upFrom, length-upFrom}
+use Rattle.theory_yields.specs.FitGraphs.{count-loop}
 use Rattle.graph.specs.Yields.{outputCount}
 use Rattle.graph.specs.Assembly.{Graph, loop, Env, Operator, free, memberOf, total, listed, rank, firstUse, secondUse, named, spread, upFrom, chain, chainEnds, chainLinks, ring, ringGate}
 use Rattle.maker_laid.specs.Encode.{encoded, written}

@@ -9,11 +9,11 @@ use lib.Seq.{getD-take, length-take-le}
 use lib.Dec.{eqb, ltb}
 use borrow.Author.Tests.{eqb-true, eqb-false, eq-eqb, ne-eqb, ltb-true, ltb-false}
 use native.Mathlib.Omega.{arith}
-use Rattle.layout.specs.Layout.{noLink}
-use Rattle.layout.specs.Record.{placed}
+use Rattle.machine_layout.specs.Layout.{noLink}
+use Rattle.machine_layout.specs.Record.{placed}
 use Rattle.names.specs.Names.{Names, one, common, without, mask, members}
-use Rattle.yields.specs.Naming.{Small, Apart, or-left, or-right, member-members, different-members}
-use Rattle.yields.specs.Choice.{choice, Has, From}
+use Rattle.theory_yields.specs.Naming.{Small, Apart, or-left, or-right, member-members, different-members}
+use Rattle.theory_yields.specs.Choice.{choice, Has, From}
 use Rattle.graph.specs.Fit.{Different}
 use Rattle.graph.specs.Yields.{outputCount}
 use Rattle.graph.specs.Assembly.{Graph, bind, Gate, T, F, Env, free, memberOf, firstUse, secondUse, named}

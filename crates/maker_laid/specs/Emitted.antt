@@ -8,8 +8,8 @@ use mathlib.Core.List.{List, [], _∷_, _++_, map}
 use mathlib.Core.Option.{Option, none, some}
 use lib.ListN.{length, getD, set, drop, take}
 use native.Mathlib.Omega.{arith}
-use Rattle.layout.specs.Layout.{noLink}
-use Rattle.layout.specs.declared.Operator.{Operator as Record}
+use Rattle.machine_layout.specs.Layout.{noLink}
+use Rattle.machine_layout.specs.declared.Operator.{Operator as Record}
 use Rattle.graph.specs.Assembly.{Env, Operator, copyOf, copiesFor, nth, ring, ringGate, chain, chainEnds}
 use Rattle.names.specs.Names.{Names}
 use Rattle.maker_laid.specs.Encode.{encode, encoded}

@@ -12,10 +12,10 @@ use native.Mathlib.Nat.{add-zero}
 use Rattle.value.specs.declared.Value.{Value}
 use Rattle.value.specs.Bytes.{wordOf, wordBytes, stored}
 use Rattle.network.specs.Rules.{Register}
-use Rattle.layout.specs.Layout.{noLink, operatorAt, registerAt}
-use Rattle.layout.specs.Kinds.{byteOf}
-use Rattle.layout.specs.Record.{recordBytes, recorded, placed}
-use Rattle.layout.specs.declared.Operator.{Operator as Record}
+use Rattle.machine_layout.specs.Layout.{noLink, operatorAt, registerAt}
+use Rattle.machine_layout.specs.Kinds.{byteOf}
+use Rattle.machine_layout.specs.Record.{recordBytes, recorded, placed}
+use Rattle.machine_layout.specs.declared.Operator.{Operator as Record}
 use Rattle.graph.specs.Assembly.{Operator}
 
 -- a port without a link, or with one

@@ -12,7 +12,7 @@ use native.Mathlib.Omega.{arith}
 use Rattle.names.specs.Names.{Names, common, mask, size, members, sizeFrom, membersFrom, later, put, bit}
 use Rattle.names.proofs.Counts.{sizeFrom-none}
 use Rattle.names.proofs.Walk.{membersFrom-none}
-use Rattle.yields.specs.Naming.{Small, or-neither, or-left, or-right}
+use Rattle.theory_yields.specs.Naming.{Small, or-neither, or-left, or-right}
 use Rattle.graph.specs.Fit.{Different}
 use Rattle.graph.specs.Assembly.{Env, memberOf, nameCount, rank, total, listed, firstUse, secondUse, named, spread}
 use Rattle.maker_laid.specs.Emitted.{linkIn, dealt, dealt-none, dealt-more, assigned}

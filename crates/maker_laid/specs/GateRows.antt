@@ -9,11 +9,11 @@ use lib.Seq.{getD-take, getD-drop, drop-drop}
 use lib.Dec.{eqb}
 use borrow.Author.Tests.{eqb-true, eqb-false, eq-eqb, ne-eqb}
 use native.Mathlib.Omega.{arith}
-use Rattle.layout.specs.Layout.{noLink}
-use Rattle.layout.specs.Record.{placed}
+use Rattle.machine_layout.specs.Layout.{noLink}
+use Rattle.machine_layout.specs.Record.{placed}
 use Rattle.names.specs.Names.{Names, one}
-use Rattle.yields.specs.Naming.{or-left, or-right, or-false, or-neither, or-true, upFrom-holds, length-upFrom}
-use Rattle.yields.specs.Choice.{row-lacks, row-has}
+use Rattle.theory_yields.specs.Naming.{or-left, or-right, or-false, or-neither, or-true, upFrom-holds, length-upFrom}
+use Rattle.theory_yields.specs.Choice.{row-lacks, row-has}
 use Rattle.graph.specs.Fit.{Different}
 use Rattle.graph.specs.Assembly.{Graph, wire, nothing, beside, bind, gate, loop, Gate, T, F, M, E, Env, free, memberOf, gateOutputs, gateOf, nth, upFrom, firstUse, secondUse, named, chain, chainEnds}
 use Rattle.graph.specs.Translation.{testName, row, gated, merged, excepted, mergeRow, exceptRow, straight, copied}

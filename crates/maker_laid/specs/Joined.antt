@@ -10,13 +10,13 @@ use lib.ListN.{length, getD}
 use lib.Dec.{eqb}
 use borrow.Author.Tests.{eqb-true, eqb-false, eq-eqb, ne-eqb}
 use native.Mathlib.Omega.{arith}
-use Rattle.layout.specs.Layout.{noLink}
-use Rattle.layout.specs.Record.{placed}
-use Rattle.layout.specs.declared.Operator.{Operator as Record}
-use Rattle.yields.specs.ArmNames.{join-from}
+use Rattle.machine_layout.specs.Layout.{noLink}
+use Rattle.machine_layout.specs.Record.{placed}
+use Rattle.machine_layout.specs.declared.Operator.{Operator as Record}
+use Rattle.theory_yields.specs.ArmNames.{join-from}
 use Rattle.maker_laid.specs.Environments.{named-other}
-use Rattle.yields.specs.Naming.{or-false, below-upFrom, above-upFrom, upFrom-holds, or-left, or-right}
-use Rattle.yields.specs.Joins.{joinI, joinR, merge-lacks, except-lacks, straight-lacks, copied-lacks}
+use Rattle.theory_yields.specs.Naming.{or-false, below-upFrom, above-upFrom, upFrom-holds, or-left, or-right}
+use Rattle.theory_yields.specs.Joins.{joinI, joinR, merge-lacks, except-lacks, straight-lacks, copied-lacks}
 use Rattle.graph.specs.Assembly.{Graph, wire, nothing, beside, bind, gate, loop, Gate, M, E, IC, Env, free, memberOf, gateOutputs, gateOf, nth, upFrom, named, chain, chainEnds}
 use Rattle.graph.specs.Translation.{testName, iterName, iteratedName, returnedName, joinName, joinNames, joined, iteratedJoin, returnedJoin}
 use Rattle.formula.specs.Tree.{Body}

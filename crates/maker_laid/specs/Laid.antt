@@ -8,8 +8,8 @@ use mathlib.Core.List.{List, [], _∷_, _++_, map, append-nil}
 use mathlib.Core.Option.{Option, none, some}
 use lib.ListN.{length, getD, drop, length-append}
 use native.Mathlib.Omega.{arith}
-use Rattle.layout.specs.Record.{placed}
-use Rattle.layout.specs.declared.Operator.{Operator as Record}
+use Rattle.machine_layout.specs.Record.{placed}
+use Rattle.machine_layout.specs.declared.Operator.{Operator as Record}
 use Rattle.names.specs.Names.{Names, without, sizeFrom, membersFrom}
 use Rattle.names.proofs.Counts.{length-membersFrom}
 use Rattle.graph.specs.Assembly.{Graph, wire, nothing, beside, bind, gate, loop, Gate, Env, Operator, free, memberOf, total, listed, linksOf, gateOutputs, sharedLinks, chainLinks, outputs, operatorsOf, gateOf, sharing, copiesFor, firstUse, secondUse, named, spread, upFrom, chain, chainEnds, ring}

@@ -22,10 +22,10 @@ use Rattle.formula.specs.Admitted.{AdmittedE, AdmittedB}
 use Rattle.graph.specs.Assembly.{Graph, wire, nothing, beside, bind, gate, loop, oper, upFrom, free}
 use Rattle.graph.specs.Translation.{graphE, graphB, constantOf, testName, returnedName, armNames, mergeRow, joined}
 use Rattle.meaning.specs.WidthLaws.{let-fits, let-fits-B}
-use Rattle.yields.specs.Naming.{Small, or-left, or-right}
-use Rattle.yields.specs.Choice.{Has, choice}
-use Rattle.yields.specs.FreeNames.{free-E, free-B, small-E, small-B, body-triggered}
-use Rattle.yields.specs.FitGraphs.{Returning, arms-returning, let-returning, loop-returning}
+use Rattle.theory_yields.specs.Naming.{Small, or-left, or-right}
+use Rattle.theory_yields.specs.Choice.{Has, choice}
+use Rattle.theory_yields.specs.FreeNames.{free-E, free-B, small-E, small-B, body-triggered}
+use Rattle.theory_yields.specs.FitGraphs.{Returning, arms-returning, let-returning, loop-returning}
 
 -- ---- a row by its place
 

@@ -9,10 +9,10 @@ use lib.Seq.{getD-drop, getD-take}
 use lib.Dec.{eqb, ltb}
 use borrow.Author.Tests.{eqb-true, eqb-false, eq-eqb, ne-eqb, lt-ltb}
 use native.Mathlib.Omega.{arith}
-use Rattle.layout.specs.Layout.{noLink}
+use Rattle.machine_layout.specs.Layout.{noLink}
 use Rattle.names.specs.Names.{Names, one}
-use Rattle.yields.specs.Naming.{or-false, or-true, length-upFrom}
-use Rattle.yields.specs.Joins.{joinI, joinR}
+use Rattle.theory_yields.specs.Naming.{or-false, or-true, length-upFrom}
+use Rattle.theory_yields.specs.Joins.{joinI, joinR}
 use Rattle.graph.specs.Assembly.{Graph, wire, nothing, beside, gate, Gate, M, E, Env, upFrom, chain, chainEnds}
 use Rattle.graph.specs.Translation.{iterName, iteratedName, returnedName, joinName, row, merged, excepted, mergeRow, exceptRow, straight, copied}
 use Rattle.maker_laid.specs.Encode.{encoded, written}

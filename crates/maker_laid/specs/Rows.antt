@@ -9,12 +9,12 @@ use lib.ListN.{length, getD}
 use lib.Dec.{eqb}
 use borrow.Author.Tests.{eqb-true, eqb-false, eq-eqb, ne-eqb}
 use native.Mathlib.Omega.{arith}
-use Rattle.layout.specs.Layout.{noLink}
-use Rattle.layout.specs.Record.{placed}
-use Rattle.layout.specs.declared.Operator.{Operator as Record}
+use Rattle.machine_layout.specs.Layout.{noLink}
+use Rattle.machine_layout.specs.Record.{placed}
+use Rattle.machine_layout.specs.declared.Operator.{Operator as Record}
 use Rattle.names.specs.Names.{Names, one}
-use Rattle.yields.specs.Naming.{or-left, or-right, or-false}
-use Rattle.yields.specs.Choice.{row-lacks, row-has, unseen}
+use Rattle.theory_yields.specs.Naming.{or-left, or-right, or-false}
+use Rattle.theory_yields.specs.Choice.{row-lacks, row-has, unseen}
 use Rattle.graph.specs.Assembly.{Graph, wire, nothing, beside, bind, gate, loop, Gate, T, F, M, E, Env, Operator, free, memberOf, gateOutputs, gateOf, nth, upFrom, firstUse, secondUse, chain, chainEnds}
 use Rattle.graph.specs.Translation.{row}
 use Rattle.maker_laid.specs.Encode.{encode, encoded, written, written-none, written-one, written-more}

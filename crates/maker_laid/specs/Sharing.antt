@@ -8,13 +8,13 @@ use lib.ListN.{length, getD, length-append}
 use lib.Dec.{eqb, ltb}
 use borrow.Author.Tests.{eqb-true, eqb-false, eq-eqb, ne-eqb, ltb-true, ltb-false}
 use native.Mathlib.Omega.{arith}
-use Rattle.layout.specs.Record.{placed}
-use Rattle.layout.specs.declared.Operator.{Operator as Record}
+use Rattle.machine_layout.specs.Record.{placed}
+use Rattle.machine_layout.specs.declared.Operator.{Operator as Record}
 use Rattle.names.specs.Names.{Names, one, union, common, mask, size, members, sizeFrom, membersFrom, later, put, bit}
 use Rattle.names.proofs.Counts.{sizeFrom-cong, membersFrom-cong, length-membersFrom, sizeFrom-none}
 use Rattle.names.proofs.Walk.{membersFrom-none}
 use Rattle.names.proofs.Sets.{members-cong, length-members}
-use Rattle.yields.specs.Naming.{Small, or-neither, or-true, or-left, or-right, or-false}
+use Rattle.theory_yields.specs.Naming.{Small, or-neither, or-true, or-left, or-right, or-false}
 use Rattle.graph.specs.Assembly.{Env, Operator, memberOf, rank, total, listed, sharedLinks, firstUse, secondUse, sharing, copiesFor, copyOf, nth}
 use Rattle.graph.specs.Translation.{testName}
 use Rattle.maker_laid.specs.Encode.{encode, encoded, written, written-one}

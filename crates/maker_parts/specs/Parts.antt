@@ -9,12 +9,12 @@ use lib.Dec.{ltb}
 use native.Mathlib.Omega.{arith}
 use Rattle.value.specs.declared.Value.{Value}
 use Rattle.value.specs.Bytes.{wordOf}
-use Rattle.layout.specs.Layout.{mostOperators, mostLinks, noLink}
-use Rattle.layout.specs.Record.{placed}
-use Rattle.layout.specs.declared.Operator.{Operator as Record}
+use Rattle.machine_layout.specs.Layout.{mostOperators, mostLinks, noLink}
+use Rattle.machine_layout.specs.Record.{placed}
+use Rattle.machine_layout.specs.declared.Operator.{Operator as Record}
 use Rattle.names.specs.Names.{Names, mask, sizeFrom}
-use Rattle.yields.specs.Naming.{Small}
-use Rattle.yields.specs.Choice.{Has}
+use Rattle.theory_yields.specs.Naming.{Small}
+use Rattle.theory_yields.specs.Choice.{Has}
 use Rattle.graph.specs.Assembly.{Graph, wire, gate, Gate, const, oper, T, F, Env, gateOutputs, gateOf, nth, upFrom, chain, chainEnds, ring}
 use Rattle.graph.specs.Translation.{constantOf, testName, iteratedName, returnedName, mergeRow}
 use Rattle.maker_laid.specs.Encode.{encode, encoded, written}

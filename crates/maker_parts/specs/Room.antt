@@ -6,10 +6,10 @@ use mathlib.Core.Bool.{true, false}
 use mathlib.Core.List.{List}
 use lib.ListN.{length}
 use native.Mathlib.Omega.{arith}
-use Rattle.layout.specs.Layout.{mostOperators, mostLinks}
+use Rattle.machine_layout.specs.Layout.{mostOperators, mostLinks}
 use Rattle.names.specs.Names.{common, without}
 use Rattle.graph.specs.Assembly.{Graph, wire, nothing, beside, bind, gate, loop, Gate, const, oper, T, F, M, E, IC, free, memberOf, total, linksOf, sharedLinks, gateOutputs}
-use Rattle.wiring.specs.Counts.{countG}
+use Rattle.theory_wiring.specs.Counts.{countG}
 use Rattle.maker_laid.specs.Masked.{listOf}
 use Rattle.maker_laid.specs.Counts.{operatorCount}
 use Rattle.maker_laid.specs.Done.{Done, Forked, done-links, done-operators}

@@ -1,13 +1,13 @@
 // Parts of a graph that need no other row: copies for shared names, names, constants, operators, an arm's
 // gates, the joins of an if, the ring of a loop (document 01, "The graph"). Each writes from the next
 // numbers on and gives those behind it.
-use layout::CONSTANT;
-use layout::F;
-use layout::M;
-use layout::NO_LINK;
-use layout::Operator;
-use layout::T;
-use layout::store_operator;
+use machine_layout::CONSTANT;
+use machine_layout::F;
+use machine_layout::M;
+use machine_layout::NO_LINK;
+use machine_layout::Operator;
+use machine_layout::T;
+use machine_layout::store_operator;
 use maker_emit::emit::ring_gates;
 use maker_emit::emit::share;
 use maker_emit::emit::spread;
@@ -33,7 +33,7 @@ ghost use mathlib.Core.Bool.{false};
 ghost use mathlib.Core.List.{List};
 ghost use lib.ListN.{length};
 ghost use Rattle.names.specs.Names.{bit};
-ghost use Rattle.layout.specs.Layout.{mostOperators, mostLinks, linksAt, noLink};
+ghost use Rattle.machine_layout.specs.Layout.{mostOperators, mostLinks, linksAt, noLink};
 ghost use Rattle.graph.specs.Assembly.{wire};
 ghost use Rattle.graph.specs.Translation.{constantOf};
 ghost use Rattle.maker_laid.specs.Masked.{listOf, Mask};

@@ -8,7 +8,7 @@ use lib.ListN.{length, getD}
 use lib.Bits.{bitAnd, bitOr}
 use borrow.Author.Tests.{ne-eqb}
 use native.Mathlib.Omega.{arith}
-use Rattle.layout.specs.Record.{placed}
+use Rattle.machine_layout.specs.Record.{placed}
 use Rattle.names.specs.Names.{Names, union, common, without, mask, size}
 use Rattle.names.proofs.Sets.{mask-cong, known-union, known-common}
 use Rattle.formula.specs.declared.Shape.the-variants.{If}
@@ -18,16 +18,16 @@ use Rattle.formula.specs.TreeLaws.{body-as}
 use Rattle.formula.specs.Widths.{width, iterated}
 use Rattle.formula.specs.Count.{iterates}
 use Rattle.formula.specs.Free.{freeE}
-use Rattle.yields.specs.Naming.{Small, Apart, different-upFrom, upFrom-holds, below-upFrom}
-use Rattle.yields.specs.Choice.{From, or-none}
-use Rattle.yields.specs.FreeNames.{merge-joins, results-from-test}
-use Rattle.yields.specs.Joins.{merge-control}
-use Rattle.yields.specs.BodyWidths.{wide-enough, not-too-wide}
-use Rattle.yields.specs.ArmNames.{arm-from-test, arm-different, arms-apart, narrow, joined-lacks, joined-test}
+use Rattle.theory_yields.specs.Naming.{Small, Apart, different-upFrom, upFrom-holds, below-upFrom}
+use Rattle.theory_yields.specs.Choice.{From, or-none}
+use Rattle.theory_yields.specs.FreeNames.{merge-joins, results-from-test}
+use Rattle.theory_yields.specs.Joins.{merge-control}
+use Rattle.theory_yields.specs.BodyWidths.{wide-enough, not-too-wide}
+use Rattle.theory_yields.specs.ArmNames.{arm-from-test, arm-different, arms-apart, narrow, joined-lacks, joined-test}
 use Rattle.graph.specs.Fit.{Different}
 use Rattle.graph.specs.Assembly.{Graph, T, free, memberOf, named}
 use Rattle.graph.specs.Translation.{graphE, testName, returnedName, arm}
-use Rattle.wiring.specs.ChoiceCounts.{choice-count}
+use Rattle.theory_wiring.specs.ChoiceCounts.{choice-count}
 use Rattle.maker_laid.specs.Masked.{listOf, Mask, list-length}
 use Rattle.maker_laid.specs.Emitted.{copyRecord}
 use Rattle.maker_laid.specs.Counts.{operatorCount}

@@ -13,10 +13,10 @@ use Rattle.formula.specs.Widths.{width, iterated, either}
 use Rattle.formula.specs.Count.{returns, iterates}
 use Rattle.formula.specs.Admitted.{AdmittedB}
 use Rattle.meaning.specs.WidthLaws.{if-fits, if-fits-B}
-use Rattle.yields.specs.Naming.{length-upFrom}
-use Rattle.yields.specs.BodyWidths.{wide-enough, not-too-wide, iterated-16, iterated-some, iterated-none, iterates-some, iterated-both, iteratedOutputs, returnedOutputs, iterated-outputs, returned-outputs, returned-outputs-none, returned-outputs-le}
-use Rattle.yields.specs.ArmNames.{arm-names, length-arm-names, narrow, iteratedNames, returnedNames}
-use Rattle.yields.specs.FitGraphs.{count-E, count-B}
+use Rattle.theory_yields.specs.Naming.{length-upFrom}
+use Rattle.theory_yields.specs.BodyWidths.{wide-enough, not-too-wide, iterated-16, iterated-some, iterated-none, iterates-some, iterated-both, iteratedOutputs, returnedOutputs, iterated-outputs, returned-outputs, returned-outputs-none, returned-outputs-le}
+use Rattle.theory_yields.specs.ArmNames.{arm-names, length-arm-names, narrow, iteratedNames, returnedNames}
+use Rattle.theory_yields.specs.FitGraphs.{count-E, count-B}
 use Rattle.graph.specs.Yields.{outputCount}
 use Rattle.graph.specs.Assembly.{Graph, Env, upFrom}
 use Rattle.graph.specs.Translation.{graphE, graphB, testName, iterName, iteratedName, returnedName, armNames, mergeRow, joined}

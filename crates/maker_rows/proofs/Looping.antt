@@ -16,8 +16,8 @@ use Rattle.formula.specs.Widths.{returned, iterated}
 use Rattle.formula.specs.Free.{freeE, freeB}
 use Rattle.formula.specs.Admitted.{AdmittedE}
 use Rattle.meaning.specs.WidthLaws.{for-fits}
-use Rattle.yields.specs.Naming.{Small}
-use Rattle.yields.specs.BodyWidths.{iterated-16, returnedOutputs, returned-outputs-le}
+use Rattle.theory_yields.specs.Naming.{Small}
+use Rattle.theory_yields.specs.BodyWidths.{iterated-16, returnedOutputs, returned-outputs-le}
 use Rattle.graph.specs.Assembly.{Graph, loop, free, memberOf, upFrom, total, linksOf}
 use Rattle.graph.specs.Translation.{graphE, graphB}
 use Rattle.sheet_tables.specs.Masks.{outside}

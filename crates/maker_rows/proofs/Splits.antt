@@ -13,13 +13,13 @@ use lib.Dec.{ltb}
 use borrow.Author.Tests.{ltb-true, ltb-false}
 use Rattle.formula.specs.Tree.{expOf, bodyOf}
 use Rattle.formula.specs.Widths.{width, iterated}
-use Rattle.yields.specs.Naming.{Small, member-upFrom}
-use Rattle.yields.specs.Choice.{Has, unseen}
-use Rattle.yields.specs.FitGraphs.{fit-E, fit-B, count-E, count-B}
-use Rattle.yields.specs.BodyWidths.{returnedOutputs, iterated-outputs}
+use Rattle.theory_yields.specs.Naming.{Small, member-upFrom}
+use Rattle.theory_yields.specs.Choice.{Has, unseen}
+use Rattle.theory_yields.specs.FitGraphs.{fit-E, fit-B, count-E, count-B}
+use Rattle.theory_yields.specs.BodyWidths.{returnedOutputs, iterated-outputs}
 use Rattle.graph.specs.Fit.{Fit}
 use Rattle.graph.specs.Assembly.{Graph, beside, bind, loop, free, memberOf, upFrom, total, linksOf}
-use Rattle.wiring.specs.Conservation.{length-outputs}
+use Rattle.theory_wiring.specs.Conservation.{length-outputs}
 use Rattle.sheet_tables.specs.Masks.{outside}
 use Rattle.maker_laid.specs.Masked.{listOf, Mask, mask-short, list-length}
 use Rattle.maker_laid.specs.Emitted.{linkIn, dealt}

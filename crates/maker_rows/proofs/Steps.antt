@@ -23,9 +23,9 @@ use Rattle.formula.specs.TreeLaws.{AllBetween, exp-as, body-as, between-as}
 use Rattle.formula.specs.Widths.{width, iterated}
 use Rattle.formula.specs.Free.{freeE, freeB}
 use Rattle.meaning.specs.WidthLaws.{operator-fits}
-use Rattle.yields.specs.Choice.{Has}
-use Rattle.yields.specs.FreeNames.{free-E, small-trigger}
-use Rattle.yields.specs.BodyWidths.{not-too-wide}
+use Rattle.theory_yields.specs.Choice.{Has}
+use Rattle.theory_yields.specs.FreeNames.{free-E, small-trigger}
+use Rattle.theory_yields.specs.BodyWidths.{not-too-wide}
 use Rattle.graph.specs.Yields.{outputCount}
 use Rattle.graph.specs.Assembly.{Graph, beside, bind, gate, oper, free, memberOf, upFrom, gateOutputs}
 use Rattle.graph.specs.Translation.{graphE, graphB, constantOf}

@@ -9,7 +9,7 @@ use Rattle.formula.specs.Tree.{expOf, bodyOf}
 use Rattle.formula.specs.Widths.{width, iterated}
 use Rattle.graph.specs.Assembly.{Graph, beside}
 use Rattle.graph.specs.Translation.{graphE, constantOf}
-use Rattle.layout.specs.Record.{placed}
+use Rattle.machine_layout.specs.Record.{placed}
 use Rattle.maker_laid.specs.Emitted.{copyRecord}
 use Rattle.maker_laid.specs.Masked.{listOf}
 use Rattle.maker_laid.specs.Counts.{operatorCount}

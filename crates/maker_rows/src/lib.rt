@@ -3,7 +3,7 @@
 // each other; the row number falls. `env` has the link of each name; links and operators are dealt from the next numbers on.
 use formula::Shape;
 use formula::Way;
-use layout::store_operator;
+use machine_layout::store_operator;
 use maker_emit::links::join;
 use maker_emit::records::assign;
 use maker_emit::records::copy_of;
@@ -38,7 +38,7 @@ ghost use Rattle.formula.specs.Sheet.{shapeAt};
 ghost use Rattle.formula.specs.Tree.{expOf};
 ghost use Rattle.formula.specs.Free.{freeE};
 ghost use Rattle.names.specs.Names.{mask};
-ghost use Rattle.layout.specs.Layout.{mostOperators, mostLinks, linksAt};
+ghost use Rattle.machine_layout.specs.Layout.{mostOperators, mostLinks, linksAt};
 ghost use Rattle.maker_laid.specs.Nodes.{Ready, Child, Ends, graphIn};
 ghost use Rattle.maker_laid.specs.Counts.{operatorCount};
 ghost use Rattle.maker_laid.specs.Masked.{listOf};

@@ -7,7 +7,7 @@ use mathlib.Core.Option.{Option, some, none}
 use lib.ListN.{length, replicate}
 use Rattle.value.specs.declared.Value.{Value}
 use Rattle.value.specs.declared.Value.the-variants.{Err}
-use Rattle.sets.specs.Sets.{setValues}
+use Rattle.value_sets.specs.Sets.{setValues}
 use Rattle.formula.specs.declared.Refusal.{Refusal}
 use Rattle.formula.specs.declared.Refusal.the-variants.{Set, Unfinished}
 use Rattle.formula.specs.declared.Verdict.{Verdict}

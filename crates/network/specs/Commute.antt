@@ -8,7 +8,7 @@ use mathlib.Core.Logic.{_≢_, Ne·symm}
 use mathlib.Core.List.{List, [], _∷_}
 use lib.ListN.{length}
 use native.Mathlib.Omega.{arith}
-use Rattle.schedule.specs.Schedules.{Diamond}
+use Rattle.theory_schedule.specs.Schedules.{Diamond}
 use Rattle.network.specs.Net.{Token, Demand, ask, fire, halt, Room, Able, appends, act, label, Links, head, pop, append, pop-other, append-other, pop-pop, pop-append, append-append, pop-shortens, append-lengthens, head-append}
 
 abbrev pub Never-asks : Demand → ℕ → Type 0

@@ -7,8 +7,8 @@ use mathlib.Core.List.{List, [], _∷_}
 use lib.ListN.{length}
 use native.Mathlib.Decide.{decLt, ℕ-discrete}
 use native.Mathlib.Omega.{arith}
-use Rattle.schedule.specs.Schedules.{Possible, reached}
-use Rattle.schedule.specs.Twins.{Part-diamond}
+use Rattle.theory_schedule.specs.Schedules.{Possible, reached}
+use Rattle.theory_schedule.specs.Twins.{Part-diamond}
 use Rattle.network.specs.Values.{err-value}
 use Rattle.network.specs.Net.{Token, val, Demand, ask, fire, halt, Links, head, tail, pop, append, append-other, Able, appends, act}
 use Rattle.network.specs.Commute.{Never-asks, Not-among, Never-emits, Free-emissions, Free, enabled, next, output, stays, meets, same-label}

@@ -16,13 +16,13 @@ use Rattle.formula.specs.Tree.{Exp, formulaOf}
 use Rattle.formula.specs.Free.{freeE, inputsOf as inputsIn}
 use Rattle.formula.specs.Tests.{lowest, laidOut, fewRows, fieldsWell, rangesWell, namesWell, namedOnce, allNamed, placedWell, widthsWell, boundWell, operatorsOf as operatorsIn}
 use Rattle.meaning.specs.Meaning.{Outcome, yields, inputsHold, evalE}
-use Rattle.sets.specs.Sets.{setValues, setOk}
-use Rattle.layout.specs.Layout.{sizeOf, need, capacityIn, operatorsOf, inputsOf, resultsOf, untakenOf}
-use Rattle.machine.specs.Fire.{ableAt}
-use Rattle.valid.specs.Below.{allBelow}
-use Rattle.valid.specs.Valid.{valid}
-use Rattle.runs.specs.Run.{runs, stillAt}
-use Rattle.calls.specs.Calls.{sizeIn, roomsOk, resultReady}
+use Rattle.value_sets.specs.Sets.{setValues, setOk}
+use Rattle.machine_layout.specs.Layout.{sizeOf, need, capacityIn, operatorsOf, inputsOf, resultsOf, untakenOf}
+use Rattle.machine_firing.specs.Fire.{ableAt}
+use Rattle.machine_valid.specs.Below.{allBelow}
+use Rattle.machine_valid.specs.Valid.{valid}
+use Rattle.machine_runs.specs.Run.{runs, stillAt}
+use Rattle.machine_calls.specs.Calls.{sizeIn, roomsOk, resultReady}
 use Rattle.refusals.specs.FirstRefusal.{Row}
 
 -- ---- how the machine stands

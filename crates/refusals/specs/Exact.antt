@@ -29,15 +29,15 @@ use Rattle.sheet_read.specs.Reading.{answerOf}
 use Rattle.meaning.specs.Meaning.{Outcome, yields, inputsHold, evalE}
 use Rattle.meaning.specs.declared.Evaluation.{Evaluation}
 use Rattle.meaning.specs.Evaluate.{concluded, evaluatedWith, evaluated, afterVerdict, evaluationOf}
-use Rattle.sets.specs.Sets.{setValues, setOk}
+use Rattle.value_sets.specs.Sets.{setValues, setOk}
 use Rattle.eval_sheet.specs.Handed.{told, handedOut, handed as evaluate-handed, answers as evaluate-answers}
-use Rattle.layout.specs.Layout.{operatorsOf, inputsOf, resultsOf, untakenOf}
-use Rattle.machine.specs.Fire.{ableAt, firedAt}
-use Rattle.valid.specs.Below.{allBelow}
-use Rattle.valid.specs.Valid.{valid}
-use Rattle.runs.specs.Run.{Ran, runs, stillAt}
-use Rattle.calls.specs.Calls.{outcome, handed, answers, refusal, sizeIn, standing, roomsOk, pushedMemory, pushed, fired, ended, ran, resultReady, written, takenMemory, taken}
-use Rattle.start.specs.Start.{begun, byVerdict, started, refusal as startRefusal}
+use Rattle.machine_layout.specs.Layout.{operatorsOf, inputsOf, resultsOf, untakenOf}
+use Rattle.machine_firing.specs.Fire.{ableAt, firedAt}
+use Rattle.machine_valid.specs.Below.{allBelow}
+use Rattle.machine_valid.specs.Valid.{valid}
+use Rattle.machine_runs.specs.Run.{Ran, runs, stillAt}
+use Rattle.machine_calls.specs.Calls.{outcome, handed, answers, refusal, sizeIn, standing, roomsOk, pushedMemory, pushed, fired, ended, ran, resultReady, written, takenMemory, taken}
+use Rattle.machine_start.specs.Start.{begun, byVerdict, started, refusal as startRefusal}
 use Rattle.refusals.specs.FirstRefusal.{Row, first-refusal}
 use Rattle.refusals.specs.Conditions.{short, no-room, altered, no-set, link-full, pushTable, fireTable, runTable, takeTable, failed, sheetTable, short-asked, startTable, no-values, lacking, rounds-lacking, is-none, is-unfinished, evaluateTable}
 

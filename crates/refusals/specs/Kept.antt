@@ -24,15 +24,15 @@ use Rattle.sheet_read.specs.Reading.{answerOf}
 use Rattle.meaning.specs.Meaning.{Outcome as Ended, yields, inputsHold, evalE}
 use Rattle.meaning.specs.declared.Evaluation.{Evaluation}
 use Rattle.meaning.specs.Evaluate.{concluded, evaluatedWith, evaluated, afterVerdict, evaluationOf}
-use Rattle.sets.specs.Sets.{setValues, setOk}
+use Rattle.value_sets.specs.Sets.{setValues, setOk}
 use Rattle.eval_sheet.specs.Handed.{told, handedOut, Handed as Evaluated}
-use Rattle.layout.specs.Layout.{operatorsOf, inputsOf, resultsOf, untakenOf}
-use Rattle.machine.specs.Fire.{ableAt, firedAt}
-use Rattle.valid.specs.Below.{allBelow}
-use Rattle.runs.specs.Run.{runs, stillAt}
-use Rattle.calls.specs.Calls.{Outcome, Handed, outcome, handed, answers, refusal, sizeIn, standing, roomsOk, pushedMemory, pushed, fired, ran, resultReady, taken}
-use Rattle.calls.specs.CallLaws.{ran-refused}
-use Rattle.start.specs.Start.{Begun, byVerdict, started}
+use Rattle.machine_layout.specs.Layout.{operatorsOf, inputsOf, resultsOf, untakenOf}
+use Rattle.machine_firing.specs.Fire.{ableAt, firedAt}
+use Rattle.machine_valid.specs.Below.{allBelow}
+use Rattle.machine_runs.specs.Run.{runs, stillAt}
+use Rattle.machine_calls.specs.Calls.{Outcome, Handed, outcome, handed, answers, refusal, sizeIn, standing, roomsOk, pushedMemory, pushed, fired, ran, resultReady, taken}
+use Rattle.machine_calls.specs.CallLaws.{ran-refused}
+use Rattle.machine_start.specs.Start.{Begun, byVerdict, started}
 use Rattle.refusals.specs.Conditions.{no-room, short-asked}
 use Rattle.refusals.specs.Rows.{RowTold, VerdictRow, verdict-row}
 use Rattle.refusals.specs.RunCount.{Firings, run-is, run-counts}

@@ -11,8 +11,8 @@ use Rattle.formula.specs.Refusals.{numberOf}
 use Rattle.formula.specs.Tests.{readingOf}
 use Rattle.sheet_read.specs.Reading.{answerOf}
 use Rattle.eval_sheet.specs.Handed.{handedOut}
-use Rattle.calls.specs.Calls.{pushed, fired, ran, taken}
-use Rattle.start.specs.Start.{started}
+use Rattle.machine_calls.specs.Calls.{pushed, fired, ran, taken}
+use Rattle.machine_start.specs.Start.{started}
 use Rattle.refusals.specs.FirstRefusal.{Row, first-refusal, Named, Among, numbers, NoneHolds, FirstHolds, accepted-exactly, refused-exactly, first-among, first-named}
 use Rattle.refusals.specs.Conditions.{pushTable, fireTable, runTable, takeTable, sheetTable, startTable, evaluateTable, sheetNumbers, pushNumbers, fireNumbers, runNumbers, takeNumbers, startNumbers, evaluateNumbers}
 use Rattle.refusals.specs.Rows.{RowTold}

@@ -11,12 +11,12 @@ use lib.Dec.{ltb}
 use Rattle.value.specs.Operators.{pick}
 use Rattle.formula.specs.declared.Refusal.the-variants.{Unfinished}
 use Rattle.formula.specs.Refusals.{numberOf}
-use Rattle.layout.specs.Layout.{operatorsOf}
-use Rattle.machine.specs.Fire.{ableAt, firedAt}
-use Rattle.runs.specs.Run.{leastFrom, least, Ran, runs, stillAt}
-use Rattle.runs.specs.RunLaws.{Quiet, runs-step, runs-end, runs-zero}
-use Rattle.calls.specs.Calls.{sizeIn, standing, ended, ran}
-use Rattle.calls.specs.CallLaws.{ran-ended}
+use Rattle.machine_layout.specs.Layout.{operatorsOf}
+use Rattle.machine_firing.specs.Fire.{ableAt, firedAt}
+use Rattle.machine_runs.specs.Run.{leastFrom, least, Ran, runs, stillAt}
+use Rattle.machine_runs.specs.RunLaws.{Quiet, runs-step, runs-end, runs-zero}
+use Rattle.machine_calls.specs.Calls.{sizeIn, standing, ended, ran}
+use Rattle.machine_calls.specs.CallLaws.{ran-ended}
 
 -- The firings between two memories: k of them lead from m to m′, each of the least-numbered able operator of n.
 abbrev pub Firings : ℕ → ℕ → ℕ → List ℕ → List ℕ → Type 0

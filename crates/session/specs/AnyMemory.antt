@@ -14,18 +14,18 @@ use Rattle.formula.specs.Tree.{Exp}
 use Rattle.formula.specs.declared.Refusal.the-variants.{NoResult}
 use Rattle.network.specs.Net.{Links, Able, act}
 use Rattle.graph.specs.Translation.{madeOf}
-use Rattle.layout.specs.Layout.{operatorsOf, untakenOf, sizeOf}
-use Rattle.runs.specs.Run.{Ran, runs, stillAt}
-use Rattle.calls.specs.Calls.{Outcome, Handed, handed, answers, refusal, sizeIn, standing, pushed, ran, taken, takenMemory}
-use Rattle.sets.specs.Sets.{setOk, set-values}
-use Rattle.verdicts.specs.Running.{places, pushOf, decAble, afterSteps, runSteps}
-use Rattle.view.specs.Sound.{Sound}
-use Rattle.view.specs.Stands.{Stands}
-use Rattle.view.specs.Run.{run-same, still-cannot, cannot-still}
-use Rattle.ends.specs.ResultBytes.{resultBytes}
-use Rattle.ends.specs.Take.{takeFrom, resultIn, stands-taken, take-accepted, take-refused}
-use Rattle.view.specs.FireCall.{stands-size}
-use Rattle.begin.specs.StandsValid.{stands-well}
+use Rattle.machine_layout.specs.Layout.{operatorsOf, untakenOf, sizeOf}
+use Rattle.machine_runs.specs.Run.{Ran, runs, stillAt}
+use Rattle.machine_calls.specs.Calls.{Outcome, Handed, handed, answers, refusal, sizeIn, standing, pushed, ran, taken, takenMemory}
+use Rattle.value_sets.specs.Sets.{setOk, set-values}
+use Rattle.theory_verdicts.specs.Running.{places, pushOf, decAble, afterSteps, runSteps}
+use Rattle.demand_view.specs.Sound.{Sound}
+use Rattle.demand_view.specs.Stands.{Stands}
+use Rattle.demand_view.specs.Run.{run-same, still-cannot, cannot-still}
+use Rattle.demand_ends.specs.ResultBytes.{resultBytes}
+use Rattle.demand_ends.specs.Take.{takeFrom, resultIn, stands-taken, take-accepted, take-refused}
+use Rattle.demand_view.specs.FireCall.{stands-size}
+use Rattle.demand_begin.specs.StandsValid.{stands-well}
 use Rattle.refusals.specs.RunCount.{run-is}
 use Rattle.demand.specs.Pushes.{pushRefusal, afterPush, push-answered}
 use Rattle.session.specs.Passes.{Fed, fed, feeding, takenFrom, lineBy, Drained, drained, withLine, draining, drainedOf, Pass, passBy, passOf, partOf, remainingAfter, passes}

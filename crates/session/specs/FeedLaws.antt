@@ -9,7 +9,7 @@ use borrow.Author.Tests.{eq-eqb, ne-eqb}
 use lib.ListN.{length, take, drop, length-drop}
 use lib.Seq.{drop-drop, take-at}
 use Rattle.value.specs.Operators.{pick}
-use Rattle.calls.specs.Calls.{Outcome, pushed, outcome}
+use Rattle.machine_calls.specs.Calls.{Outcome, pushed, outcome}
 use Rattle.text.specs.SetLines.{linesOf, isSetLine, fieldBytes, SetFile, sets, badLine, oneMore, setsFrom}
 use Rattle.text.specs.SetLineLaws.{bad-line, good-line, no-line, set-line-fits, bytes-length}
 use Rattle.session.specs.Passes.{Fed, fed, feeding}

@@ -7,7 +7,7 @@ use native.Mathlib.Omega.{arith}
 use borrow.Author.Tests.{ne-eqb}
 use lib.Dec.{eqb}
 use Rattle.value.specs.Operators.{pick}
-use Rattle.calls.specs.Calls.{fired, ran}
+use Rattle.machine_calls.specs.Calls.{fired, ran}
 use Rattle.session.specs.Passes.{feeding, Pass, passOf, remainingAfter}
 
 -- A run: the memory before it and the firings that it is lent.

@@ -18,15 +18,15 @@ use Rattle.formula.specs.Refusals.{numberOf}
 use Rattle.formula.specs.Tree.{Exp, formulaOf}
 use Rattle.network.specs.Net.{Links}
 use Rattle.graph.specs.Translation.{madeOf}
-use Rattle.layout.specs.Layout.{operatorsOf, inputsOf, untakenOf, capacityIn, sizeOf, need}
-use Rattle.machine.specs.Fire.{ableAt}
-use Rattle.runs.specs.Run.{stillAt}
-use Rattle.calls.specs.Calls.{Outcome, sizeIn, standing, pushed, fired, ran, taken}
-use Rattle.sets.specs.Sets.{setOk}
-use Rattle.calls.specs.CallLaws.{fired-idle}
-use Rattle.verdicts.specs.Running.{startOf, afterSteps, stepsFrom}
-use Rattle.view.specs.Stands.{Stands}
-use Rattle.start.specs.Start.{started}
+use Rattle.machine_layout.specs.Layout.{operatorsOf, inputsOf, untakenOf, capacityIn, sizeOf, need}
+use Rattle.machine_firing.specs.Fire.{ableAt}
+use Rattle.machine_runs.specs.Run.{stillAt}
+use Rattle.machine_calls.specs.Calls.{Outcome, sizeIn, standing, pushed, fired, ran, taken}
+use Rattle.value_sets.specs.Sets.{setOk}
+use Rattle.machine_calls.specs.CallLaws.{fired-idle}
+use Rattle.theory_verdicts.specs.Running.{startOf, afterSteps, stepsFrom}
+use Rattle.demand_view.specs.Stands.{Stands}
+use Rattle.machine_start.specs.Start.{started}
 use Rattle.refusals.specs.RunCount.{Firings, still-quiet, RunCounts, run-counts}
 use Rattle.refusals.specs.Kept.{push-keeps}
 use Rattle.demand.specs.MemoryCalls.{Call, push, fire, take, Result, answerOf, memoryAfterAll, setsPushed, resultsTaken}

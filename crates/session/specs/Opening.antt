@@ -10,7 +10,7 @@ use lib.ListN.{length, take}
 use Rattle.value.specs.Operators.{pick}
 use Rattle.formula.specs.declared.Refusal.the-variants.{Set}
 use Rattle.formula.specs.Refusals.{numberOf}
-use Rattle.start.specs.Start.{started}
+use Rattle.machine_start.specs.Start.{started}
 use Rattle.text.specs.declared.Seen.{Seen}
 use Rattle.text.specs.Printed.{headLine, refusalLine}
 use Rattle.text.specs.SetLines.{SetFile as Sets, sets, badLine, setsOf}

@@ -18,12 +18,12 @@ use Rattle.formula.specs.Refusals.{numberOf}
 use Rattle.formula.specs.Sheet.{linesOf, rowCount}
 use Rattle.formula.specs.Tree.{formulaOf}
 use Rattle.formula.specs.Tests.{verdictOf, verdictBy, afterCheck, tests, rowTests, sheetOf, laidOut, fewRows, figuresOf, is-passed, lowest, endedAt}
-use Rattle.layout.specs.Layout.{need, sizeOf, capacityIn}
+use Rattle.machine_layout.specs.Layout.{need, sizeOf, capacityIn}
 use Rattle.graph.specs.Translation.{madeOf}
-use Rattle.start.specs.declared.StartAnswer.{StartAnswer}
-use Rattle.start.specs.Start.{Begun, begun, refusal, accepted, startedMemory, byVerdict, started}
-use Rattle.start.specs.StartLaws.{AcceptedStart, accepted-start, started-read, capacity-in}
-use Rattle.begin.specs.MadeSound.{made-sound, same-figures}
+use Rattle.machine_start.specs.declared.StartAnswer.{StartAnswer}
+use Rattle.machine_start.specs.Start.{Begun, begun, refusal, accepted, startedMemory, byVerdict, started}
+use Rattle.machine_start.specs.StartLaws.{AcceptedStart, accepted-start, started-read, capacity-in}
+use Rattle.demand_begin.specs.MadeSound.{made-sound, same-figures}
 use Rattle.text.specs.declared.Seen.{Seen}
 use Rattle.text.specs.declared.Lines.{Lines}
 use Rattle.text.specs.declared.Lines.the-variants.{Sets as counted, Bad as bad}

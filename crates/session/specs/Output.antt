@@ -12,8 +12,8 @@ use Rattle.formula.specs.declared.Verdict.the-variants.{Passed, Refused}
 use Rattle.formula.specs.declared.Figures.{Figures}
 use Rattle.formula.specs.Refusals.{numberOf}
 use Rattle.formula.specs.Tests.{verdictOf, figuresOf}
-use Rattle.layout.specs.Layout.{need, sizeOf}
-use Rattle.start.specs.Start.{started}
+use Rattle.machine_layout.specs.Layout.{need, sizeOf}
+use Rattle.machine_start.specs.Start.{started}
 use Rattle.text.specs.Printed.{headLine, refusalLine}
 use Rattle.text.specs.SetLines.{SetFile as Sets, sets, badLine, setsOf}
 use Rattle.session.specs.Passes.{passes}

@@ -16,12 +16,12 @@ use Rattle.formula.specs.Refusals.{numberOf}
 use Rattle.formula.specs.Tree.{formulaOf}
 use Rattle.formula.specs.Tests.{verdictOf, figuresOf}
 use Rattle.graph.specs.Translation.{madeOf}
-use Rattle.layout.specs.Layout.{need, sizeOf}
-use Rattle.start.specs.Start.{started}
-use Rattle.begin.specs.MadeSound.{made-sound, same-figures}
+use Rattle.machine_layout.specs.Layout.{need, sizeOf}
+use Rattle.machine_start.specs.Start.{started}
+use Rattle.demand_begin.specs.MadeSound.{made-sound, same-figures}
 use Rattle.demand.specs.Started.{start-accepts}
-use Rattle.begin.specs.StartedStands.{accepted-stands}
-use Rattle.verdicts.specs.Running.{startOf}
+use Rattle.demand_begin.specs.StartedStands.{accepted-stands}
+use Rattle.theory_verdicts.specs.Running.{startOf}
 use Rattle.text.specs.Printed.{headLine, refusalLine}
 use Rattle.text.specs.SetLines.{SetFile as Sets, sets, badLine, setsOf, linesOf}
 use Rattle.session.specs.Passes.{passes}

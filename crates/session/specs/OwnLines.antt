@@ -16,14 +16,14 @@ use Rattle.formula.specs.declared.Verdict.the-variants.{Passed}
 use Rattle.formula.specs.Refusals.{numberOf}
 use Rattle.formula.specs.Tree.{formulaOf}
 use Rattle.formula.specs.Tests.{verdictOf, figuresOf}
-use Rattle.layout.specs.Layout.{operatorsOf, capacityIn, sizeOf, need}
+use Rattle.machine_layout.specs.Layout.{operatorsOf, capacityIn, sizeOf, need}
 use Rattle.graph.specs.Translation.{madeOf}
-use Rattle.machine.specs.Fire.{ableAt}
-use Rattle.runs.specs.Run.{runs, stillAt}
-use Rattle.calls.specs.Calls.{Outcome, sizeIn, standing, fired, ran}
-use Rattle.calls.specs.CallLaws.{fired-accepted}
+use Rattle.machine_firing.specs.Fire.{ableAt}
+use Rattle.machine_runs.specs.Run.{runs, stillAt}
+use Rattle.machine_calls.specs.Calls.{Outcome, sizeIn, standing, fired, ran}
+use Rattle.machine_calls.specs.CallLaws.{fired-accepted}
 use Rattle.meaning.specs.Evaluate.{evaluationOf}
-use Rattle.start.specs.Start.{started}
+use Rattle.machine_start.specs.Start.{started}
 use Rattle.refusals.specs.RunCount.{RunCounts, run-is, unstill-able}
 use Rattle.demand.specs.MemoryCalls.{Result, result, setsPushed, resultsTaken}
 use Rattle.demand.specs.Claim.{Enough, Ends, yielded}

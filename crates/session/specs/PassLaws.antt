@@ -12,11 +12,11 @@ use lib.Seq.{getD-set-same, sets, length-take-le, drop-at, drop-drop}
 use Rattle.value.specs.Operators.{pick}
 use Rattle.formula.specs.declared.Refusal.the-variants.{NoResult}
 use Rattle.formula.specs.Refusals.{numberOf}
-use Rattle.layout.specs.Layout.{need, sizeOf, capacityOf, capacityIn, untakenOf, resultsOf}
-use Rattle.valid.specs.Below.{allBelow}
-use Rattle.valid.specs.Figures.{Figures, valid-figures}
-use Rattle.calls.specs.Calls.{Handed, Outcome, handed, answers, refusal, standing, sizeIn, resultReady, written, emptied, takenMemory, taken, pushed, ran}
-use Rattle.calls.specs.CallLaws.{Kept, standing-good, emptied-keeps, taken-refused, taken-none, taken-empty, taken-accepted}
+use Rattle.machine_layout.specs.Layout.{need, sizeOf, capacityOf, capacityIn, untakenOf, resultsOf}
+use Rattle.machine_valid.specs.Below.{allBelow}
+use Rattle.machine_valid.specs.Figures.{Figures, valid-figures}
+use Rattle.machine_calls.specs.Calls.{Handed, Outcome, handed, answers, refusal, standing, sizeIn, resultReady, written, emptied, takenMemory, taken, pushed, ran}
+use Rattle.machine_calls.specs.CallLaws.{Kept, standing-good, emptied-keeps, taken-refused, taken-none, taken-empty, taken-accepted}
 use Rattle.text.specs.Printed.{resultLine, refusalLine}
 use Rattle.text.specs.PrintLaws.{line-length, refusal-length, written-part, written-front}
 use Rattle.session.specs.Passes.{feeding, fed, takenFrom, lineBy, Drained, drained, withLine, draining, drainedOf, Pass, passBy, passOf, partOf, remainingAfter, passes}

@@ -6,8 +6,8 @@ use mathlib.Core.List.{List, [], _∷_, _++_}
 use lib.ListN.{length, replicate}
 use lib.Dec.{eqb}
 use Rattle.value.specs.Operators.{pick}
-use Rattle.layout.specs.Layout.{untakenOf}
-use Rattle.calls.specs.Calls.{Handed, Outcome, pushed, ran, taken}
+use Rattle.machine_layout.specs.Layout.{untakenOf}
+use Rattle.machine_calls.specs.Calls.{Handed, Outcome, pushed, ran, taken}
 use Rattle.text.specs.Printed.{resultLine, refusalLine}
 
 -- ---- "it pushes until refused or out of sets"

@@ -10,8 +10,8 @@ use lib.ListN.{length, drop, replicate, length-replicate, take as firstOf}
 use lib.Seq.{take-length, take-all, drop-length}
 use Rattle.value.specs.Bytes.{stored}
 use Rattle.value.proofs.Words.{length-stored}
-use Rattle.layout.specs.Layout.{resultsOf}
-use Rattle.calls.specs.Calls.{Handed, sizeIn, resultWord, written, pushed, ran, taken}
+use Rattle.machine_layout.specs.Layout.{resultsOf}
+use Rattle.machine_calls.specs.Calls.{Handed, sizeIn, resultWord, written, pushed, ran, taken}
 use Rattle.text.specs.Printed.{resultLine}
 use Rattle.demand.specs.MemoryCalls.{Call, push, run, take, Result, result, accepted, memoryAfter, setOf, resultOf, memoryAfterAll, setsPushed, resultsTaken}
 use Rattle.demand.specs.Oldest.{results-with, sets-with}

@@ -5,8 +5,8 @@ use mathlib.Core.List.{List, [], _∷_, _++_}
 use native.Mathlib.Omega.{arith}
 use lib.ListN.{length, take}
 use lib.Seq.{sets}
-use Rattle.calls.specs.declared.Answer.{Answer}
-use Rattle.calls.specs.Calls.{Outcome, outcome, ran}
+use Rattle.machine_calls.specs.declared.Answer.{Answer}
+use Rattle.machine_calls.specs.Calls.{Outcome, outcome, ran}
 use Rattle.text.specs.Printed.{refusalLine}
 use Rattle.text.specs.PrintLaws.{refusal-length, written-front}
 use Rattle.session.specs.declared.Stage.{Stage}

@@ -8,8 +8,8 @@ use native.Mathlib.Omega.{arith}
 use lib.Dec.{eqb}
 use lib.ListN.{length, getD}
 use Rattle.value.specs.Operators.{pick}
-use Rattle.valid.specs.Below.{and-right}
-use Rattle.sets.specs.Sets.{setOk, fields-set}
+use Rattle.machine_valid.specs.Below.{and-right}
+use Rattle.value_sets.specs.Sets.{setOk, fields-set}
 use Rattle.text.specs.SetLines.{isSetLine, fieldsWell, fieldBytes, SetFile, sets, badLine, oneMore, setsFrom}
 use Rattle.text.specs.SetLineLaws.{bytes-length}
 use Rattle.text.specs.ValueBytes.{bytes-valued}

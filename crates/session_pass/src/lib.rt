@@ -39,7 +39,7 @@ fn take_line(mem: &mut [u8], out: &mut [u8], at: usize) -> usize
         × (now (out .exit) ≡ sets (now (out .entry)) at (lineBy (takenFrom (now (mem .entry))))) ⌝ }
 {
     let mut result = blank_result();
-    let a = calls::take(mem, &mut result);
+    let a = machine_calls::take(mem, &mut result);
     if a.refusal == 0 {
         let width = a.count as usize;
         text_print::put_results(out, at, width, &result);
@@ -80,7 +80,7 @@ fn feed(mem: &mut [u8], sets: &[u8], at: usize, inputs: usize) -> usize
     let size = VALUE_BYTES * inputs;
     while next < sets.len() {
         if text_read::sets::read_set(sets, next, inputs, &mut set) {
-            let a = calls::push(mem, &set[..size]);
+            let a = machine_calls::push(mem, &set[..size]);
             if a.refusal != 0 {
                 return next;
             }
@@ -107,7 +107,7 @@ pub fn pass(mem: &mut [u8], sets: &[u8], inputs: usize, stage: Stage, out: &mut 
         × (drop (r .printed) (now (out .exit)) ≡ drop (r .printed) (now (out .entry))) ⌝ }
 {
     let at = feed(mem, sets, stage.at, inputs);
-    let a = calls::run(mem, stage.firings);
+    let a = machine_calls::run(mem, stage.firings);
     let taken = drain(mem, out);
     let firings = left_after(stage.firings, a.count);
     if a.refusal == 0 {

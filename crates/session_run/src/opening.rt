@@ -16,7 +16,7 @@ ghost use lib.ListN.{length, drop};
 ghost use Rattle.session.specs.Opening.{refusalBytes, headBytes, openedMemory, OpensTo, Refuses, Judges};
 ghost use Rattle.session.specs.Output.{linkCapacity, mostSetBytes};
 ghost use Rattle.session.specs.Passes.{outBytes};
-ghost use Rattle.layout.specs.Layout.{need, sizeOf};
+ghost use Rattle.machine_layout.specs.Layout.{need, sizeOf};
 
 // A refusal is the whole output.
 fn refused(number: u32, row: u32, end: usize, out: &mut [u8]) -> Opened
@@ -50,7 +50,7 @@ pub fn open(first: &[u8], seen: Seen, sets: &[u8], mem: &mut [u8], out: &mut [u8
     if SHEET < seen.length {
         return refused(formula::refusal_number(Refusal::Rows), 0, end, out);
     }
-    let a = start::start(first, CAPACITY, mem);
+    let a = machine_start::start(first, CAPACITY, mem);
     if a.refusal != 0 {
         return refused(a.refusal, a.row, end, out);
     }

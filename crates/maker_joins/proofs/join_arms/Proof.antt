@@ -3,7 +3,7 @@ use Rattle.maker_joins.proofs.join_arms.Statement.{statement}
 use Rattle.maker_joins.proofs.join_arms.Tie as tie
 use Rattle.maker_joins.proofs.join_arms.Reads as reads
 use Rattle.maker_joins.proofs.join_arms.Lts as lts
-use Rattle.layout.proofs.store_operator.Reads as store-operator-reads
+use Rattle.machine_layout.proofs.store_operator.Reads as store-operator-reads
 use Rattle.maker_emit.proofs.records.ic_of.Reads as ic-of-reads
 use Rattle.maker_joins.proofs.both_of.Reads as both-of-reads
 use Rattle.maker_joins.proofs.ic_outputs.Reads as ic-outputs-reads

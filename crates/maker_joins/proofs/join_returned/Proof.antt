@@ -13,7 +13,7 @@ use Prim.Native.Nat.{ℕ, _+_, _*_, _-_, _≤_, _<_}
 use mathlib.Core.Path.{_≡_, refl, sym, ap, _∙_}
 use mathlib.Core.Bool.{Bool, cond}
 use lib.ListN.{length, take, getD, replicate, getD-replicate}
-use Rattle.layout.specs.Layout.{noLink}
+use Rattle.machine_layout.specs.Layout.{noLink}
 use Rattle.maker_laid.specs.Results.{returned-neither, returned-second, returned-first, returned-both}
 use native.Mathlib.Omega.{arith}
 use Rattle.maker_emit.proofs.emit.gate_row.Reads as gate-row-reads

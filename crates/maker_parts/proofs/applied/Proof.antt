@@ -3,17 +3,17 @@ use Rattle.maker_parts.proofs.applied.Statement.{statement}
 use Rattle.maker_parts.proofs.applied.Tie as tie
 use Rattle.maker_parts.proofs.applied.Reads as reads
 use Rattle.maker_parts.proofs.applied.Lts as lts
-use Rattle.layout.proofs.store_operator.Reads as store-operator-reads
+use Rattle.machine_layout.proofs.store_operator.Reads as store-operator-reads
 use Rattle.maker_emit.proofs.records.gate_of.Reads as gate-of-reads
 use Rattle.maker_parts.proofs.second_of.Reads as second-of-reads
 use mathlib.Core.Path.{_≡_, refl, sym, ap, _∙_}
-use Rattle.layout.specs.Record.{placed}
+use Rattle.machine_layout.specs.Record.{placed}
 use Rattle.maker_laid.specs.Emitted.{gateRecord}
 use Rattle.maker_parts.specs.Parts.{operator-encoded}
 use Prim.Native.Nat.{ℕ}
 use lib.ListN.{getD}
 use native.Mathlib.Omega.{arith}
-use Rattle.layout.specs.declared.Operator.{Operator as Record}
+use Rattle.machine_layout.specs.declared.Operator.{Operator as Record}
 
 -- src/lib.rt:155:13  let outs = x.outs; ⏎ let l = x.next.link as u16;
 cast-l : tie.Need-cast-l

@@ -3,10 +3,10 @@ use Rattle.maker_parts.proofs.constant.Statement.{statement}
 use Rattle.maker_parts.proofs.constant.Tie as tie
 use Rattle.maker_parts.proofs.constant.Reads as reads
 use Rattle.maker_parts.proofs.constant.Lts as lts
-use Rattle.layout.proofs.store_operator.Reads as store-operator-reads
+use Rattle.machine_layout.proofs.store_operator.Reads as store-operator-reads
 use Rattle.value.proofs.bytes.to_word.Reads as to-word-reads
 use mathlib.Core.Path.{_≡_, refl, sym, ap, _∙_}
-use Rattle.layout.specs.Record.{placed}
+use Rattle.machine_layout.specs.Record.{placed}
 use Rattle.maker_parts.specs.Parts.{done-constant, constantRecord}
 use Prim.Native.Nat.{ℕ}
 use lib.ListN.{getD}

@@ -8,7 +8,7 @@ use mathlib.Core.Path.{_≡_, refl, sym, ap, _∙_}
 use Prim.Native.Nat.{ℕ, _+_, _*_, _-_, _≤_, _<_}
 use lib.ListN.{length, getD, length-set}
 use Rattle.names.specs.Names.{sizeFrom, bit}
-use Rattle.layout.specs.Layout.{mostLinks}
+use Rattle.machine_layout.specs.Layout.{mostLinks}
 use Rattle.maker_laid.specs.Masked.{namesIn}
 use Rattle.maker_parts.specs.Parts.{Numbered}
 use Rattle.maker_parts.proofs.Numbering.{NumberedTo, numbered-none, numbered-start, numbered-turn, numbered-all, count-turn, one-more}

@@ -31,7 +31,7 @@ use Rattle.maker_rows.proofs.+arm+ended+fors+ifs+lets+pairs+plain+row.L
 use Rattle.sheet_fields.proofs.shape.shape_at.Reads as shape-at-reads
 use Rattle.sheet_fields.proofs.shape.way_at.Reads as way-at-reads
 use Rattle.sheet_fields.proofs.shape.width_at.Reads as width-at-reads
-use Rattle.layout.proofs.store_operator.Reads as store-operator-reads
+use Rattle.machine_layout.proofs.store_operator.Reads as store-operator-reads
 use Rattle.maker_emit.proofs.links.join.Reads as join-reads
 use Rattle.maker_emit.proofs.records.assign.Reads as assign-reads
 use Rattle.maker_emit.proofs.records.copy_of.Reads as copy-of-reads
@@ -59,7 +59,7 @@ use lib.ListN.{length, getD}
 use lib.Bits.{bitAnd, bitOr}
 use mir.Syntax.{w32}
 use mir.Facts.{toZ-pos}
-use Rattle.layout.specs.Record.{placed}
+use Rattle.machine_layout.specs.Record.{placed}
 use Rattle.formula.specs.declared.Shape.the-variants.{Identifier, Whole, Truth, Pair, Operator, Let, If, For, Iter}
 use Rattle.formula.specs.Sheet.{shapeAt, namedIn}
 use Rattle.value.specs.declared.Value.the-variants.{Truth as truth-value, Whole as whole-value}

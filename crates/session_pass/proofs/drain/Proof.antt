@@ -13,8 +13,8 @@ use mathlib.Core.List.{List, [], _∷_, _++_, append-nil}
 use mathlib.Core.Bool.{Bool, true, false}
 use lib.ListN.{length, getD, take, drop, replicate, length-replicate}
 use lib.Seq.{sets}
-use Rattle.layout.specs.Layout.{untakenOf}
-use Rattle.calls.specs.Calls.{Handed, taken, handed}
+use Rattle.machine_layout.specs.Layout.{untakenOf}
+use Rattle.machine_calls.specs.Calls.{Handed, taken, handed}
 use Rattle.text.specs.Printed.{resultLine}
 use Rattle.text.specs.PrintLaws.{line-length}
 use Rattle.session.specs.Passes.{takenFrom, lineBy, Drained, drainedOf}

@@ -1,11 +1,11 @@
 -- The tests, as paths name them:
 --   tie if1  while next < sets.len() { ⏎ if text_read::sets::read_set(sets, next, inputs, &mut set) {
---   tie if2  let a = calls::push(mem, &set[..size]); ⏎ if a.refusal != 0 {
+--   tie if2  let a = machine_calls::push(mem, &set[..size]); ⏎ if a.refusal != 0 {
 use Rattle.session_pass.proofs.feed.Statement.{statement}
 use Rattle.session_pass.proofs.feed.Tie as tie
 use Rattle.session_pass.proofs.feed.Reads as reads
 use Rattle.session_pass.proofs.feed.Lts as lts
-use Rattle.calls.proofs.push.Reads as push-reads
+use Rattle.machine_calls.proofs.push.Reads as push-reads
 use Rattle.session_pass.proofs.blank_set.Reads as blank-set-reads
 use Rattle.text_read.proofs.sets.read_set.Reads as read-set-reads
 use borrow.Author.Needs.{needs}
@@ -16,7 +16,7 @@ use mathlib.Core.List.{List, [], _∷_, _++_}
 use mathlib.Core.Bool.{Bool, true, false}
 use lib.ListN.{length, getD, take, drop, length-drop}
 use lib.Seq.{length-take-le}
-use Rattle.calls.specs.Calls.{Outcome, pushed, outcome}
+use Rattle.machine_calls.specs.Calls.{Outcome, pushed, outcome}
 use Rattle.text.specs.SetLines.{isSetLine, fieldBytes}
 use Rattle.text.specs.SetLineLaws.{set-line-fits}
 use Rattle.session.specs.Waiting.{FeedsTo}
@@ -48,15 +48,15 @@ slice-aggregate-read-set c = search needs
 read-set-requires : tie.Need-read-set-requires Inv-loop μ-loop
 read-set-requires c κs = (omega arith, omega arith, omega (arith, c .before .before .loop .inv .1))
 
--- src/lib.rt:83:38  if text_read::sets::read_set(sets, next, inputs, &mut set) { ⏎ let a = calls::push(mem, &set[..size]);
+-- src/lib.rt:83:38  if text_read::sets::read_set(sets, next, inputs, &mut set) { ⏎ let a = machine_calls::push(mem, &set[..size]);
 array-share-prefix-set : tie.Need-array-share-prefix-set Inv-loop μ-loop
 array-share-prefix-set c = omega (arith, c .before .before .before .read-set .kept .1 .1 .1 .0, c .before .before .before .before .before .before .loop .inv .1)
 
--- src/lib.rt:83:38  if text_read::sets::read_set(sets, next, inputs, &mut set) { ⏎ let a = calls::push(mem, &set[..size]);
+-- src/lib.rt:83:38  if text_read::sets::read_set(sets, next, inputs, &mut set) { ⏎ let a = machine_calls::push(mem, &set[..size]);
 slice-aggregate-push : tie.Need-slice-aggregate-push Inv-loop μ-loop
 slice-aggregate-push c = sym (length-take-le (5 * c .before .before .before .before .before .before .before .before .before .before .before .args .inputs) (c .before .before .before .before .read-set .last .1 .1 .1 .0) (omega (arith, c .before .before .before .before .read-set .kept .1 .1 .1 .0, c .before .before .before .before .before .before .before .loop .inv .1)))
 
--- src/lib.rt:83:17  if text_read::sets::read_set(sets, next, inputs, &mut set) { ⏎ let a = calls::push(mem, &set[..size]);
+-- src/lib.rt:83:17  if text_read::sets::read_set(sets, next, inputs, &mut set) { ⏎ let a = machine_calls::push(mem, &set[..size]);
 push-requires : tie.Need-push-requires Inv-loop μ-loop
 push-requires c κs = search needs
 

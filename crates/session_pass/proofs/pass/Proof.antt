@@ -5,7 +5,7 @@ use Rattle.session_pass.proofs.pass.Statement.{statement}
 use Rattle.session_pass.proofs.pass.Tie as tie
 use Rattle.session_pass.proofs.pass.Reads as reads
 use Rattle.session_pass.proofs.pass.Lts as lts
-use Rattle.calls.proofs.run.Reads as run-reads
+use Rattle.machine_calls.proofs.run.Reads as run-reads
 use Rattle.session_pass.proofs.drain.Reads as drain-reads
 use Rattle.session_pass.proofs.feed.Reads as feed-reads
 use Rattle.session_pass.proofs.left_after.Reads as left-after-reads
@@ -24,11 +24,11 @@ use Rattle.session.specs.StageLaws.{stage-plain, stage-refused}
 feed-requires : tie.Need-feed-requires
 feed-requires c κs = (c .before .before .before .before .pre .0, c .before .before .before .before .pre .1, c .before .before .before .before .pre .3)
 
--- src/lib.rt:110:9  let at = feed(mem, sets, stage.at, inputs); ⏎ let a = calls::run(mem, stage.firings);
+-- src/lib.rt:110:9  let at = feed(mem, sets, stage.at, inputs); ⏎ let a = machine_calls::run(mem, stage.firings);
 run-requires : tie.Need-run-requires
 run-requires c κs = search needs
 
--- src/lib.rt:111:9  let a = calls::run(mem, stage.firings); ⏎ let taken = drain(mem, out);
+-- src/lib.rt:111:9  let a = machine_calls::run(mem, stage.firings); ⏎ let taken = drain(mem, out);
 drain-requires : tie.Need-drain-requires
 drain-requires c κs = search needs
 

@@ -1,11 +1,11 @@
 -- The tests, as paths name them:
---   tie if1  let a = calls::take(mem, &mut result); ⏎ if a.refusal == 0 {
+--   tie if1  let a = machine_calls::take(mem, &mut result); ⏎ if a.refusal == 0 {
 use borrow.Author.Needs.{needs}
 use Rattle.session_pass.proofs.take_line.Statement.{statement}
 use Rattle.session_pass.proofs.take_line.Tie as tie
 use Rattle.session_pass.proofs.take_line.Reads as reads
 use Rattle.session_pass.proofs.take_line.Lts as lts
-use Rattle.calls.proofs.take.Reads as take-reads
+use Rattle.machine_calls.proofs.take.Reads as take-reads
 use Rattle.session_pass.proofs.blank_result.Reads as blank-result-reads
 use Rattle.text_print.proofs.put_results.Reads as put-results-reads
 use native.Mathlib.Omega.{arith}
@@ -15,8 +15,8 @@ use mathlib.Core.List.{List, [], _∷_, _++_}
 use mathlib.Core.Bool.{Bool, true, false}
 use lib.ListN.{length, getD, take, drop, replicate, length-replicate}
 use lib.Seq.{sets}
-use Rattle.layout.specs.Layout.{untakenOf}
-use Rattle.calls.specs.Calls.{Handed, taken, handed}
+use Rattle.machine_layout.specs.Layout.{untakenOf}
+use Rattle.machine_calls.specs.Calls.{Handed, taken, handed}
 use Rattle.text.specs.Printed.{resultLine}
 use Rattle.text.specs.PrintLaws.{line-length}
 use Rattle.session.specs.Passes.{takenFrom, lineBy, Drained, drainedOf}
@@ -26,11 +26,11 @@ use Rattle.session.specs.PassLaws.{take-width, line-handed, line-refused, drain
 blank-result-requires : tie.Need-blank-result-requires
 blank-result-requires c κs = search needs
 
--- src/lib.rt:42:30  let mut result = blank_result(); ⏎ let a = calls::take(mem, &mut result);
+-- src/lib.rt:42:30  let mut result = blank_result(); ⏎ let a = machine_calls::take(mem, &mut result);
 slice-aggregate-take : tie.Need-slice-aggregate-take
 slice-aggregate-take c = search needs
 
--- src/lib.rt:42:9  let mut result = blank_result(); ⏎ let a = calls::take(mem, &mut result);
+-- src/lib.rt:42:9  let mut result = blank_result(); ⏎ let a = machine_calls::take(mem, &mut result);
 take-requires : tie.Need-take-requires
 take-requires c κs = search needs
 

@@ -8,7 +8,7 @@ use Rattle.eval_sheet.proofs.row.evaluate_row.Lts as lts
 use Rattle.eval_cycle.proofs.cycle.expr.Reads as expr-reads
 use Rattle.eval_sheet.proofs.row.conclude.Reads as conclude-reads
 use Rattle.eval_sheet.proofs.row.hold.Reads as hold-reads
-use Rattle.sets.proofs.is_set.Reads as is-set-reads
+use Rattle.value_sets.proofs.is_set.Reads as is-set-reads
 use Rattle.eval_sheet.proofs.row.refuse.Reads as refuse-reads
 use Rattle.sheet_fields.proofs.shape.width_at.Reads as width-at-reads
 use Rattle.names.proofs.count.Reads as count-reads
@@ -23,7 +23,7 @@ use Rattle.meaning.specs.Meaning.{evalE}
 use Rattle.eval_words.specs.Words.{envOf}
 use Rattle.eval_words.specs.Needs.{narrow}
 use Rattle.eval_sheet.specs.Inputs.{Holds}
-use Rattle.sets.specs.Sets.{set-length}
+use Rattle.value_sets.specs.Sets.{set-length}
 use Rattle.eval_sheet.specs.Conclude.{inputs-count, left-within, evaluated-bad, evaluated-good, concluded-short, concluded-left}
 use native.Mathlib.Omega.{arith}
 

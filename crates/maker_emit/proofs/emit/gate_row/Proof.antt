@@ -5,7 +5,7 @@ use Rattle.maker_emit.proofs.emit.gate_row.Statement.{statement}
 use Rattle.maker_emit.proofs.emit.gate_row.Tie as tie
 use Rattle.maker_emit.proofs.emit.gate_row.Reads as reads
 use Rattle.maker_emit.proofs.emit.gate_row.Lts as lts
-use Rattle.layout.proofs.store_operator.Reads as store-operator-reads
+use Rattle.machine_layout.proofs.store_operator.Reads as store-operator-reads
 use Rattle.maker_emit.proofs.records.copy_of.Reads as copy-of-reads
 use Rattle.maker_emit.proofs.records.gate_of.Reads as gate-of-reads
 use Prim.Native.Nat.{_+_, _-_, _*_, _≤_}

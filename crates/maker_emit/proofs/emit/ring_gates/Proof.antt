@@ -3,7 +3,7 @@ use Rattle.maker_emit.proofs.emit.ring_gates.Statement.{statement}
 use Rattle.maker_emit.proofs.emit.ring_gates.Tie as tie
 use Rattle.maker_emit.proofs.emit.ring_gates.Reads as reads
 use Rattle.maker_emit.proofs.emit.ring_gates.Lts as lts
-use Rattle.layout.proofs.store_operator.Reads as store-operator-reads
+use Rattle.machine_layout.proofs.store_operator.Reads as store-operator-reads
 use Rattle.maker_emit.proofs.records.next.Reads as next-reads
 use Rattle.maker_emit.proofs.records.ring_gate.Reads as ring-gate-reads
 use Rattle.names.proofs.has.Reads as has-reads

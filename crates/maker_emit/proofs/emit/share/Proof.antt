@@ -3,7 +3,7 @@ use Rattle.maker_emit.proofs.emit.share.Statement.{statement}
 use Rattle.maker_emit.proofs.emit.share.Tie as tie
 use Rattle.maker_emit.proofs.emit.share.Reads as reads
 use Rattle.maker_emit.proofs.emit.share.Lts as lts
-use Rattle.layout.proofs.store_operator.Reads as store-operator-reads
+use Rattle.machine_layout.proofs.store_operator.Reads as store-operator-reads
 use Rattle.maker_emit.proofs.records.copy_of.Reads as copy-of-reads
 use Rattle.maker_emit.proofs.records.next.Reads as next-reads
 use Prim.Native.Nat.{_+_, _-_, _≤_}

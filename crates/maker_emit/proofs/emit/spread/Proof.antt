@@ -5,7 +5,7 @@ use Rattle.maker_emit.proofs.emit.spread.Statement.{statement}
 use Rattle.maker_emit.proofs.emit.spread.Tie as tie
 use Rattle.maker_emit.proofs.emit.spread.Reads as reads
 use Rattle.maker_emit.proofs.emit.spread.Lts as lts
-use Rattle.layout.proofs.store_operator.Reads as store-operator-reads
+use Rattle.machine_layout.proofs.store_operator.Reads as store-operator-reads
 use Rattle.maker_emit.proofs.records.copy_of.Reads as copy-of-reads
 use Prim.Native.Nat.{_+_, _-_, _*_, _≤_}
 use mathlib.Core.Path.{_≡_, refl, sym, ap, _∙_}

@@ -1,7 +1,7 @@
 -- The tests, as paths name them:
 --   tie if1  let end = sets.len(); ⏎ if !text_read::scan::seen_laid_out(seen) {
 --   tie if2  } ⏎ if SHEET < seen.length {
---   tie if3  let a = start::start(first, CAPACITY, mem); ⏎ if a.refusal != 0 {
+--   tie if3  let a = machine_start::start(first, CAPACITY, mem); ⏎ if a.refusal != 0 {
 --   tie if4  } ⏎ if SET_FILE < end {
 use borrow.Author.Needs.{needs}
 use Rattle.session_run.proofs.opening.open.Statement.{statement}
@@ -11,7 +11,7 @@ use Rattle.session_run.proofs.opening.open.Lts as lts
 use Rattle.formula.proofs.refusal_number.Reads as refusal-number-reads
 use Rattle.session_run.proofs.opening.judge.Reads as judge-reads
 use Rattle.session_run.proofs.opening.refused.Reads as refused-reads
-use Rattle.start.proofs.start.Reads as start-reads
+use Rattle.machine_start.proofs.start.Reads as start-reads
 use Rattle.text_read.proofs.scan.seen_laid_out.Reads as seen-laid-out-reads
 use native.Mathlib.Omega.{arith}
 use Prim.Native.Nat.{ℕ, suc, _+_, _-_, _*_, _≤_, _<_}
@@ -63,7 +63,7 @@ same-length-2 c = search needs
 returns-2 : tie.Need-returns-2
 returns-2 c = let p : Refuses (numberOf Rows) 0 (length (c .before .before .before .before .before .before .before .before .before .before .before .before .before .args .sets .now)) (c .before .before .refused2 .result) (c .before .before .refused2 .last .1 .1 .1 .0) = (rw (c .before .before .before .before .refusal-number2 .ensures) at (c .before .before .refused2 .ensures .0)) in let b = refusal-bounds (numberOf Rows) 0 (length (c .before .before .before .before .before .before .before .before .before .before .before .before .before .args .sets .now)) (c .before .before .refused2 .result) (c .before .before .refused2 .last .1 .1 .1 .0) p in (opens-rows (c .before .before .before .before .before .before .before .before .before .before .before .before .before .args .first .now) (c .before .before .before .before .before .before .before .before .before .before .before .before .before .args .seen) (c .before .before .before .before .before .before .before .before .before .before .before .before .before .args .sets .now) (c .before .before .before .before .before .before .before .before .before .before .before .before .before .args .mem .now) (c .before .before .refused2 .result) (c .before .before .before .before .before .before .before .before .before .before .before .before .before .args .mem .now) (c .before .before .refused2 .last .1 .1 .1 .0) (sym (c .before .before .before .before .before .before .before .before .seen-laid-out .ensures) ∙ not-false (c .before .before .before .before .before .before .before .before .seen-laid-out .result) (c .before .before .before .before .before .before .before .if1 .left)) (c .before .before .before .before .before .if2 .taken) p, (b .0, b .1, b .2, memory-long (c .before .before .before .before .before .before .before .before .before .before .before .before .before .args .first .now) (c .before .before .before .before .before .before .before .before .before .before .before .before .before .args .seen) (c .before .before .before .before .before .before .before .before .before .before .before .before .before .args .mem .now) (sym (c .before .before .before .before .before .before .before .before .seen-laid-out .ensures) ∙ not-false (c .before .before .before .before .before .before .before .before .seen-laid-out .result) (c .before .before .before .before .before .before .before .if1 .left)) (c .before .before .before .before .before .if2 .taken), c .before .before .refused2 .ensures .1))
 
--- src/opening.rt:53:9  } ⏎ let a = start::start(first, CAPACITY, mem);
+-- src/opening.rt:53:9  } ⏎ let a = machine_start::start(first, CAPACITY, mem);
 start-requires : tie.Need-start-requires
 start-requires c κs = search needs
 

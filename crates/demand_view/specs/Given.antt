@@ -1,0 +1,96 @@
+-- What a firing gives and the register it leaves are values in their range, where the tokens it takes and its register are (document 01, "Values and
+-- operators": "a whole number from -2,147,483,648 to 2,147,483,647"). One line a row of the table of rules (network/specs/Rules). Assumes nothing.
+use Prim.Native.Nat.{ℕ}
+use mathlib.Core.Path.{_≡_, subst}
+use mathlib.Core.Bool.{Bool, true, false}
+use mathlib.Core.Option.{Option, none, some}
+use Rattle.value.specs.declared.Value.{Value}
+use Rattle.value.specs.Bytes.{InRange}
+use Rattle.value.proofs.Codes.{apply-in-range}
+use Rattle.network.specs.Values.{err-value, Sense, is-true, is-false, is-neither, sense, one-operand}
+use Rattle.network.specs.Rules.{Kind, constant, copy, operator, T-gate, F-gate, M-gate, E-gate, IC-gate, FM-gate, FS-gate, Register, Firing, takes, gives, never, Input, T-rule, F-rule, M-rule, E-rule, chosen, IC-table, fired, FS-rule, operator-rule, rule}
+use Rattle.network.specs.Decide.{Taken, also, untouched, Decision, with-head, decided, decide}
+use Rattle.network.specs.Firing.{none-is-not-some, some-same}
+use Rattle.demand_view.specs.Stands.{Fine}
+
+abbrev pub Gives-fine : Firing → Type 0
+Gives-fine (takes i k) = (v : Value) → InRange v → Gives-fine (k v)
+Gives-fine (gives a b c g) = Fine a × Fine b × Fine c × Fine g
+Gives-fine never = Unit {0}
+
+module _ (g : Register) (f : Fine g) where
+  T-fine : (s : Sense) → Gives-fine (T-rule g s)
+  T-fine is-true = λ v h. (h, tt, tt, f)
+  T-fine is-false = λ v h. (tt, tt, tt, f)
+  T-fine is-neither = λ v h. (tt, tt, tt, f)
+
+  F-fine : (s : Sense) → Gives-fine (F-rule g s)
+  F-fine is-true = λ v h. (tt, tt, tt, f)
+  F-fine is-false = λ v h. (h, tt, tt, f)
+  F-fine is-neither = λ v h. (tt, tt, tt, f)
+
+  M-fine : (s : Sense) → Gives-fine (M-rule g s)
+  M-fine is-true = λ v h. (h, tt, tt, f)
+  M-fine is-false = λ v h. (h, tt, tt, f)
+  M-fine is-neither = (tt, tt, tt, f)
+
+  E-fine : (s : Sense) → Gives-fine (E-rule g s)
+  E-fine is-true = λ v h. (h, tt, tt, f)
+  E-fine is-false = λ v h. (h, tt, tt, f)
+  E-fine is-neither = (tt, tt, tt, f)
+
+  table-fine : (c s : Sense) → Gives-fine (IC-table g c s)
+  table-fine is-true is-true = (tt, tt, tt, f)
+  table-fine is-true is-false = (tt, tt, tt, f)
+  table-fine is-true is-neither = (tt, tt, tt, f)
+  table-fine is-false is-true = (tt, tt, tt, f)
+  table-fine is-false is-false = (tt, tt, tt, f)
+  table-fine is-false is-neither = (tt, tt, tt, f)
+  table-fine is-neither s = (tt, tt, tt, f)
+
+  IC-fine : (s : Sense) → Gives-fine (chosen s (IC-table g s))
+  IC-fine is-true = λ v h. table-fine is-true (sense v)
+  IC-fine is-false = λ v h. table-fine is-false (sense v)
+  IC-fine is-neither = table-fine is-neither is-neither
+
+  operator-fine : (b : Bool) (code : ℕ) (v : Value) → Gives-fine (operator-rule b code g v)
+  operator-fine true code v = (apply-in-range code v err-value, tt, tt, f)
+  operator-fine false code v = λ w h. (apply-in-range code v w, tt, tt, f)
+
+FS-fine : (r : Value) → InRange r → (s : Sense) → Gives-fine (FS-rule r s)
+FS-fine r f is-true = (f, tt, tt, f)
+FS-fine r f is-false = λ v h. (h, tt, tt, h)
+FS-fine r f is-neither = λ v h. (h, tt, tt, h)
+
+pub rule-fine : (k : Kind) (g : Register) → Fine g → Gives-fine (rule k g)
+rule-fine constant none f = tt
+rule-fine constant (some v) f = λ t h. (f, tt, tt, f)
+rule-fine copy g f = λ v h. (h, h, tt, f)
+rule-fine (operator code) g f = λ v h. operator-fine g f (one-operand code) code v
+rule-fine T-gate g f = λ c h. T-fine g f (sense c)
+rule-fine F-gate g f = λ c h. F-fine g f (sense c)
+rule-fine M-gate g f = λ c h. M-fine g f (sense c)
+rule-fine E-gate g f = λ c h. E-fine g f (sense c)
+rule-fine IC-gate g f = λ c h. IC-fine g f (sense c)
+rule-fine FM-gate none f = λ v h. (h, tt, tt, tt)
+rule-fine FM-gate (some r) f = λ c h. M-fine fired tt (sense c)
+rule-fine FS-gate none f = λ v h. (h, tt, tt, h)
+rule-fine FS-gate (some r) f = λ c h. FS-fine r f (sense c)
+
+abbrev pub Fine-decision : Decision → Type 0
+Fine-decision d = Fine (d .give1) × Fine (d .give2) × Fine (d .give3) × Fine (d .register)
+
+decided-fine : (f : Firing) (t : Taken) (hs : Input → Option Value) (d : Decision) → Gives-fine f → ((i : Input) → Fine (hs i)) → decided t f hs ≡ some d → Fine-decision d
+decided-fine (takes i k) t hs d g h = go (λ v r. decided-fine (k v) (also i t) hs d (g v r) h) (hs i) (h i)
+  where
+    go : ((v : Value) → InRange v → decided (also i t) (k v) hs ≡ some d → Fine-decision d) → (o : Option Value) → Fine o →
+        with-head o (λ v. decided (also i t) (k v) hs) ≡ some d → Fine-decision d
+    go ih none r e = absurd (none-is-not-some d e)
+    go ih (some v) r e = ih v r e
+decided-fine (gives a b c r) t hs d g h =
+    λ e. subst Fine-decision (some-same (record { taken = t; give1 = a; give2 = b; give3 = c; register = r }) d e) g
+decided-fine never t hs d g h = λ e. absurd (none-is-not-some d e)
+
+pub decision-fine : (k : Kind) (g : Register) (hs : Input → Option Value) (d : Decision) → Fine g → ((i : Input) → Fine (hs i)) → decide k g hs ≡ some d →
+    Fine-decision d
+decision-fine k g hs d f h = decided-fine (rule k g) untouched hs d (rule-fine k g f) h

@@ -1,0 +1,177 @@
+-- What a memory in good standing is, and what push and take leave as it was below the links. Assumes nothing.
+use Prim.Native.Nat.{ℕ, zero, suc, _+_, _*_, _≤_, _<_}
+use mathlib.Core.Path.{_≡_, refl, sym, ap, _∙_}
+use mathlib.Core.Bool.{Bool, true, false, _&&_}
+use mathlib.Core.List.{List}
+use native.Mathlib.Omega.{arith}
+use mathlib.Core.Logic.{_≢_}
+use borrow.Author.Tests.{ltb-true, ltb-false, ne-eqb, le-ltb, lt-ltb}
+use lib.Dec.{ltb, eqb}
+use lib.ListN.{length, getD}
+use Rattle.value.specs.Operators.{pick}
+use Rattle.value.specs.Bytes.{wordAt}
+use Rattle.machine_layout.specs.Layout.{number16, nameAt, need, operatorsOf, inputsOf, resultsOf, untakenOf, inputLink, resultLink}
+use Rattle.machine_firing.specs.Links.{removedAt, appendedAt}
+use Rattle.machine_firing.specs.LinkLaws.{length-removed, low-removed, length-appended, low-appended}
+use Rattle.machine_firing.specs.Fire.{ableAt, firedAt}
+use Rattle.machine_valid.specs.Below.{allBelow}
+use Rattle.machine_valid.specs.Valid.{valid}
+use Rattle.machine_runs.specs.Run as Run
+use Rattle.machine_runs.specs.Run.{runs, stillAt}
+use Rattle.formula.specs.declared.Refusal.the-variants.{Memory, Set, Untaken, Full, NotAble, NoResult, Unfinished}
+use Rattle.formula.specs.Refusals.{numberOf}
+use native.Mathlib.Numerals.{add-one}
+use Rattle.value.specs.Bytes.{stored}
+use Rattle.machine_calls.specs.Calls.{Outcome, Handed, outcome, handed, answers, refusal, sizeIn, standing, roomsOk, entered, pushedMemory, pushed, fired, ended, ran, resultReady, emptied, written, resultWord, takenMemory, taken}
+use Rattle.value_sets.specs.Sets.{setOk}
+
+pub standing-good : (m : List ℕ) → standing m ≡ 0 → (need (sizeIn m) ≤ length m) × (valid m ≡ true)
+unfolding standing
+standing-good m e = go (ltb (length m) (need (sizeIn m))) refl (valid m) refl e
+  where
+    go : (a : Bool) → ltb (length m) (need (sizeIn m)) ≡ a → (b : Bool) → valid m ≡ b → _≡_ {A = ℕ} (pick a 11 (pick b 0 31)) 0 →
+        (need (sizeIn m) ≤ length m) × (valid m ≡ true)
+    go true p b q h = absurd (omega arith)
+    go false p true q h = (ltb-false (length m) (need (sizeIn m)) p, q)
+    go false p false q h = absurd (omega arith)
+
+-- names stand below the links
+pub same-names : (m m′ : List ℕ) → ((x : ℕ) → x < 21760 → getD m′ x 0 ≡ getD m x 0) → (at j : ℕ) → at + 2 * j + 1 < 21760 → nameAt m′ at j ≡ nameAt m at j
+unfolding nameAt number16
+same-names m m′ h at j k = rw (h (at + 2 * j) (omega arith), h (at + 2 * j + 1) k) refl
+
+-- what a change of links keeps
+pub record Kept (m m′ : List ℕ) : Type 0 where
+  pub size : length m′ ≡ length m
+  pub low : (x : ℕ) → x < 21760 → getD m′ x 0 ≡ getD m x 0
+
+module _ (m : List ℕ) (size : ℕ) (h : need size ≤ length m) where
+  pub entered-keeps : (s : List ℕ) (j : ℕ) → Kept m (entered j m size s)
+  unfolding entered
+  entered-keeps s zero = record { size = refl; low = λ x k. refl }
+  entered-keeps s (suc j) =
+      let p = entered-keeps s j in
+      let z : need size ≤ length (entered j m size s) = omega (arith, p .size) in
+      record {
+        size = length-appended (entered j m size s) size z (inputLink m j) (wordAt s (5 * j)) ∙ p .size;
+        low = λ x k. low-appended (entered j m size s) size z (inputLink m j) (wordAt s (5 * j)) x k ∙ p .low x k;
+      }
+
+  pub emptied-keeps : (j : ℕ) → Kept m (emptied j m size)
+  unfolding emptied
+  emptied-keeps zero = record { size = refl; low = λ x k. refl }
+  emptied-keeps (suc j) =
+      let p = emptied-keeps j in
+      let z : need size ≤ length (emptied j m size) = omega (arith, p .size) in
+      record {
+        size = length-removed (emptied j m size) size z (resultLink m j) ∙ p .size;
+        low = λ x k. low-removed (emptied j m size) size z (resultLink m j) x k ∙ p .low x k;
+      }
+
+-- one value more
+pub entered-more : (m : List ℕ) (size : ℕ) (s : List ℕ) (j : ℕ) → entered (j + 1) m size s ≡ appendedAt (entered j m size s) size (inputLink m j) (wordAt s (5 * j))
+unfolding entered
+entered-more m size s j = rw (add-one j) refl
+
+pub emptied-more : (m : List ℕ) (size j : ℕ) → emptied (j + 1) m size ≡ removedAt (emptied j m size) size (resultLink m j)
+unfolding emptied
+emptied-more m size j = rw (add-one j) refl
+
+pub written-more : (m : List ℕ) (size k : ℕ) (o : List ℕ) (j : ℕ) → written (j + 1) m size k o ≡ stored (written j m size k o) (5 * j) (resultWord m size k j)
+unfolding written
+written-more m size k o j = rw (add-one j) refl
+
+pub written-none : (m : List ℕ) (size k : ℕ) (o : List ℕ) → o ≡ written 0 m size k o
+unfolding written
+written-none m size k o = refl
+
+pub emptied-none : (m : List ℕ) (size : ℕ) → m ≡ emptied 0 m size
+unfolding emptied
+emptied-none m size = refl
+
+pub entered-none : (m : List ℕ) (size : ℕ) (s : List ℕ) → m ≡ entered 0 m size s
+unfolding entered
+entered-none m size s = refl
+
+-- ---- each call by the tests that it meets, in their order
+
+module _ (m : List ℕ) where
+  pub pushed-refused : (s : List ℕ) → standing m ≢ 0 → pushed m s ≡ outcome (answers (standing m) 0) m
+  unfolding pushed
+  pushed-refused s n = simp (ne-eqb (standing m) 0 n)
+
+  pub fired-refused : (i : ℕ) → standing m ≢ 0 → fired m i ≡ outcome (answers (standing m) 0) m
+  unfolding fired
+  fired-refused i n = simp (ne-eqb (standing m) 0 n)
+
+  pub ran-refused : (b : ℕ) → standing m ≢ 0 → ran m b ≡ outcome (answers (standing m) 0) m
+  unfolding ran
+  ran-refused b n = simp (ne-eqb (standing m) 0 n)
+
+  pub taken-short : (o : List ℕ) → length o < 80 → taken m o ≡ handed (refusal Memory) m o
+  unfolding taken
+  taken-short o l = simp (lt-ltb (length o) 80 l)
+
+  pub taken-refused : (o : List ℕ) → 80 ≤ length o → standing m ≢ 0 → taken m o ≡ handed (answers (standing m) 0) m o
+  unfolding taken
+  taken-refused o l n = simp (le-ltb (length o) 80 l, ne-eqb (standing m) 0 n)
+
+  module _ (st : standing m ≡ 0) where
+    module _ (s : List ℕ) where
+      pub pushed-no-set : setOk (inputsOf m) s ≡ false → pushed m s ≡ outcome (refusal Set) m
+      unfolding pushed
+      pushed-no-set a = rw (st, a) refl
+
+      module _ (a : setOk (inputsOf m) s ≡ true) where
+        pub pushed-untaken : ltb (untakenOf m) 16 ≡ false → pushed m s ≡ outcome (refusal Untaken) m
+        unfolding pushed
+        pushed-untaken b = rw (st, a, b) refl
+
+        pub pushed-full : ltb (untakenOf m) 16 ≡ true → roomsOk m (sizeIn m) (inputsOf m) ≡ false → pushed m s ≡ outcome (refusal Full) m
+        unfolding pushed
+        pushed-full b c = rw (st, a, b, c) refl
+
+        pub pushed-accepted : ltb (untakenOf m) 16 ≡ true → roomsOk m (sizeIn m) (inputsOf m) ≡ true → pushed m s ≡ outcome (answers 0 0) (pushedMemory m s)
+        unfolding pushed
+        pushed-accepted b c = rw (st, a, b, c) refl
+
+    module _ (i : ℕ) where
+      pub fired-absent : ltb i (operatorsOf m) ≡ false → fired m i ≡ outcome (refusal NotAble) m
+      unfolding fired
+      fired-absent a = rw (st, a) refl
+
+      pub fired-idle : ltb i (operatorsOf m) ≡ true → ableAt m (sizeIn m) i ≡ false → fired m i ≡ outcome (refusal NotAble) m
+      unfolding fired
+      fired-idle a b = rw (st, a, b) refl
+
+      pub fired-accepted : ltb i (operatorsOf m) ≡ true → ableAt m (sizeIn m) i ≡ true → fired m i ≡ outcome (answers 0 0) (firedAt m (sizeIn m) i)
+      unfolding fired
+      fired-accepted a b = rw (st, a, b) refl
+
+    pub ran-ended : (b : ℕ) → ran m b ≡ ended (runs (sizeIn m) (operatorsOf m) b m 0) (sizeIn m) (operatorsOf m)
+    unfolding ran
+    ran-ended b = rw st refl
+
+    module _ (o : List ℕ) (l : 80 ≤ length o) where
+      pub taken-none : ltb 0 (untakenOf m) ≡ false → taken m o ≡ handed (refusal NoResult) m o
+      unfolding taken
+      taken-none a = rw (le-ltb (length o) 80 l, st, a) refl
+
+      pub taken-empty : ltb 0 (untakenOf m) ≡ true → allBelow (resultsOf m) (resultReady m (sizeIn m)) ≡ false → taken m o ≡ handed (refusal NoResult) m o
+      unfolding taken
+      taken-empty a b = rw (le-ltb (length o) 80 l, st, a, b) refl
+
+      pub taken-accepted : ltb 0 (untakenOf m) ≡ true → allBelow (resultsOf m) (resultReady m (sizeIn m)) ≡ true →
+          taken m o ≡ handed (answers 0 (resultsOf m)) (takenMemory m) (written 16 m (sizeIn m) (resultsOf m) o)
+      unfolding taken
+      taken-accepted a b = rw (le-ltb (length o) 80 l, st, a, b) refl
+
+    -- a run's answer by what it left
+    module _ (b c : ℕ) (m′ : List ℕ) (e : Run.ran m′ c ≡ runs (sizeIn m) (operatorsOf m) b m 0) where
+      pub ran-still : stillAt m′ (sizeIn m) (operatorsOf m) ≡ true → ran m b ≡ outcome (answers 0 c) m′
+      unfolding ended
+      ran-still t = ran-ended b ∙ rw (← e, t) refl
+
+      pub ran-unfinished : stillAt m′ (sizeIn m) (operatorsOf m) ≡ false → ran m b ≡ outcome (answers (numberOf Unfinished) c) m′
+      unfolding ended
+      ran-unfinished t = ran-ended b ∙ rw (← e, t) refl

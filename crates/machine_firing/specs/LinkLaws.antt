@@ -1,0 +1,138 @@
+-- What a change of one link, or of one register, leaves as it was. Stated once over the change of a link (`onLink` with any function that keeps
+-- the stretch's length); taking and adding a token are two such. Assumes that the memory is as long as a machine needs.
+use Prim.Native.Nat.{ℕ, suc, _+_, _-_, _*_, _≤_, _<_}
+use mathlib.Core.Path.{_≡_, refl, sym, ap, _∙_}
+use mathlib.Core.Logic.{_≢_, _⊎_, inl, inr, ⊎-elim}
+use mathlib.Core.Bool.{Bool, true, false}
+use mathlib.Core.List.{List, [], _∷_, _++_}
+use native.Mathlib.Omega.{arith}
+use native.Mathlib.Decide.{decLt}
+use borrow.Author.Tests.{ltb-true, lt-ltb, le-ltb, eqb-false, leb-true}
+use lib.Dec.{ltb, leb, eqb}
+use lib.ListN.{length, getD, take, drop, set, length-set, length-drop}
+use lib.Seq.{paste, sets, length-paste, drop-set-lt}
+use Rattle.value.specs.Operators.{pick}
+use Rattle.value.specs.Bytes.{wordAt, stored, wordBytes}
+use Rattle.value.proofs.Words.{length-stored, byte-before, byte-after}
+use Rattle.machine_queue.specs.Stretch.{waiting, removed, appended, roomIn}
+use Rattle.machine_layout.specs.Layout.{part, put, need, linkAt}
+use Rattle.machine_layout.specs.Fits.{apart, stretch-fits}
+use Rattle.machine_firing.specs.Parts.{length-put, getD-put-below, part-put-same, part-put-above, part-put-below, part-length}
+use Rattle.machine_firing.specs.Links.{onLink, removedAt, appendedAt}
+
+abbrev pub linkPart : List ℕ → ℕ → ℕ → List ℕ
+linkPart m size l = part m (linkAt size l) size
+
+-- a change that keeps the length
+abbrev pub Keeps : (List ℕ → List ℕ) → Type 0
+Keeps f = (q : List ℕ) → length (f q) ≡ length q
+
+module _ (m : List ℕ) (size : ℕ) (h : need size ≤ length m) (l : ℕ) (f : List ℕ → List ℕ) (kf : Keeps f) where
+  same-size : l < 3105 → length (f (linkPart m size l)) ≡ size
+  same-size lt = let a = stretch-fits size l lt in kf (linkPart m size l) ∙ part-length m (linkAt size l) size (omega arith)
+
+  pub length-on : length (onLink m size l f) ≡ length m
+  length-on = go (ltb l 3105) refl
+    where
+      go : (b : Bool) → ltb l 3105 ≡ b → length (pick b (put m (linkAt size l) size (f (linkPart m size l))) m) ≡ length m
+      go true e =
+          let lt = ltb-true l 3105 e in
+          let a = stretch-fits size l lt in
+          length-put m (linkAt size l) size (f (linkPart m size l)) (omega arith) (same-size lt)
+      go false e = refl
+
+  -- every byte below the links is as it was
+  pub low-on : (at : ℕ) → at < 21760 → getD (onLink m size l f) at 0 ≡ getD m at 0
+  low-on at q = go (ltb l 3105) refl
+    where
+      go : (b : Bool) → ltb l 3105 ≡ b → getD (pick b (put m (linkAt size l) size (f (linkPart m size l))) m) at 0 ≡ getD m at 0
+      go true e =
+          let lt = ltb-true l 3105 e in
+          let a = stretch-fits size l lt in
+          getD-put-below m (linkAt size l) size (f (linkPart m size l)) (omega arith) (same-size lt) at (omega arith)
+      go false e = refl
+
+  pub same-on : l < 3105 → linkPart (onLink m size l f) size l ≡ f (linkPart m size l)
+  same-on lt =
+      let a = stretch-fits size l lt in
+      simp (lt-ltb l 3105 lt) (part-put-same m (linkAt size l) size (f (linkPart m size l)) (omega arith) (same-size lt))
+
+  -- every other link is as it was
+  pub other-on : (k : ℕ) → k ≢ l → linkPart (onLink m size l f) size k ≡ linkPart m size k
+  other-on k ne = go (ltb l 3105) refl
+    where
+      side : (lt : l < 3105) → Dec (k < l) → linkPart (put m (linkAt size l) size (f (linkPart m size l))) size k ≡ linkPart m size k
+      side lt (yes p) =
+          let a = stretch-fits size l lt in
+          let b = apart size k l p in
+          part-put-below m (linkAt size l) size (f (linkPart m size l)) (omega arith) (same-size lt) (linkAt size k) size (omega arith)
+      side lt (no n) =
+          let a = stretch-fits size l lt in
+          let p : l < k = omega arith in
+          let b = apart size l k p in
+          part-put-above m (linkAt size l) size (f (linkPart m size l)) (omega arith) (same-size lt) (linkAt size k) size (omega arith)
+
+      go : (b : Bool) → ltb l 3105 ≡ b → linkPart (pick b (put m (linkAt size l) size (f (linkPart m size l))) m) size k ≡ linkPart m size k
+      go true e = side (ltb-true l 3105 e) (decLt k l)
+      go false e = refl
+
+-- ---- a word stored below the links
+
+pub part-stored : (m : List ℕ) (at w b s : ℕ) → at + 5 ≤ b → part (stored m at w) b s ≡ part m b s
+unfolding stored wordBytes
+part-stored m at w b s h =
+    let h0 : at < b = omega arith in
+    let h1 : suc at < b = omega arith in
+    let h2 : suc (suc at) < b = omega arith in
+    let h3 : suc (suc (suc at)) < b = omega arith in
+    let h4 : suc (suc (suc (suc at))) < b = omega arith in
+    ap (take s) (simp (drop-set-lt, h0, h1, h2, h3, h4))
+
+pub byte-kept : (m : List ℕ) (at w i : ℕ) → ((i < at) ⊎ (at + 5 ≤ i)) → getD (stored m at w) i 0 ≡ getD m i 0
+byte-kept m at w i o = ⊎-elim (λ (x : i < at). byte-before m at w i x) (λ (x : at + 5 ≤ i). byte-after m at w i x) o
+
+-- ---- taking and adding a token keep the length
+
+pick-length : (q x : List ℕ) (b : Bool) → (b ≡ true → length x ≡ length q) → length (pick b x q) ≡ length q
+pick-length q x true h = h refl
+pick-length q x false h = refl
+
+pub keeps-appended : (w : ℕ) → Keeps (λ q. appended q w)
+unfolding appended
+keeps-appended w q =
+    pick-length q (set (stored q (5 * waiting q + 1) w) 0 (waiting q + 1)) (roomIn q)
+    (λ e. length-set (stored q (5 * waiting q + 1) w) 0 (waiting q + 1) ∙ length-stored q (5 * waiting q + 1) w)
+
+pub keeps-removed : Keeps removed
+unfolding removed
+keeps-removed q = go (eqb (waiting q) 0) refl
+  where
+    moved : waiting q ≢ 0 → 5 * waiting q + 1 ≤ length q → length (set (paste q 1 (drop 6 q) (5 * (waiting q - 1))) 0 (waiting q - 1)) ≡ length q
+    moved n h =
+        let d : length (drop 6 q) ≡ length q - 6 = length-drop 6 q in
+        length-set (paste q 1 (drop 6 q) (5 * (waiting q - 1))) 0 (waiting q - 1)
+        ∙ length-paste q 1 (drop 6 q) (5 * (waiting q - 1)) (omega arith) (omega arith)
+
+    go : (b : Bool) → eqb (waiting q) 0 ≡ b →
+        length (pick b q (pick (leb (5 * waiting q + 1) (length q)) (set (paste q 1 (drop 6 q) (5 * (waiting q - 1))) 0 (waiting q - 1)) q)) ≡ length q
+    go true e = refl
+    go false e =
+        pick-length q (set (paste q 1 (drop 6 q) (5 * (waiting q - 1))) 0 (waiting q - 1)) (leb (5 * waiting q + 1) (length q))
+        (λ k. moved (eqb-false (waiting q) 0 e) (leb-true (5 * waiting q + 1) (length q) k))
+
+module _ (m : List ℕ) (size : ℕ) (h : need size ≤ length m) (l : ℕ) where
+  pub length-removed : length (removedAt m size l) ≡ length m
+  unfolding removedAt
+  length-removed = length-on m size h l removed keeps-removed
+
+  pub low-removed : (at : ℕ) → at < 21760 → getD (removedAt m size l) at 0 ≡ getD m at 0
+  unfolding removedAt
+  low-removed = low-on m size h l removed keeps-removed
+
+  pub length-appended : (w : ℕ) → length (appendedAt m size l w) ≡ length m
+  unfolding appendedAt
+  length-appended w = length-on m size h l (λ q. appended q w) (keeps-appended w)
+
+  pub low-appended : (w at : ℕ) → at < 21760 → getD (appendedAt m size l w) at 0 ≡ getD m at 0
+  unfolding appendedAt
+  low-appended w = low-on m size h l (λ q. appended q w) (keeps-appended w)

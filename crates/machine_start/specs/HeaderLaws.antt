@@ -1,0 +1,116 @@
+-- What the header holds once start has written it (layout/specs/Layout), and that it is all that was written there. Assumes of the graph that its figures are
+-- within the header's ranges, and a memory of at least 106 bytes.
+use Prim.Native.Nat.{ℕ, zero, suc, _+_, _*_, _/_, _%_, _≤_, _<_}
+use mathlib.Core.Path.{_≡_, sym, ap, ap₂, _∙_}
+use mathlib.Core.Logic.{inl, inr}
+use mathlib.Core.Bool.{cond}
+use mathlib.Core.List.{List}
+use native.Mathlib.Omega.{arith}
+use lib.ListN.{length, getD}
+use lib.Seq.{length-sets}
+use Rattle.machine_layout.specs.Layout.{capacityByte, operatorsOf, linksOf, inputsOf, resultsOf, untakenOf, noLink, number16, nameAt, triggerOf, inputLink, resultLink}
+use Rattle.graph.specs.Assembly.{upFrom}
+use Rattle.graph.specs.Translation.{Made}
+use Rattle.machine_start.specs.Start.{figureBytes, figured, named, headed}
+use Rattle.machine_start.specs.ReadBack.{row-kept, row-read, length-named, named-kept, named-read, number-kept}
+
+-- Figures that fit the header.
+pub record Fits (g : Made) : Type 0 where
+  pub operators : length (g .operators) ≤ 1024
+  pub links : g .links ≤ 3105
+  pub inputs : g .inputs ≤ 32
+  pub results : length (g .results) ≤ 16
+  pub names : (j : ℕ) → j < length (g .results) → getD (g .results) j 0 < 65536
+
+up-from : (n k j : ℕ) → j < k → getD (upFrom n k) j 0 ≡ n + j
+unfolding upFrom
+up-from n zero j h = absurd (omega arith)
+up-from n (suc k) zero h = omega arith
+up-from n (suc k) (suc j) h = up-from (suc n) k j (omega arith) ∙ omega arith
+
+module _ (g : Made) (fits : Fits g) (capacity : ℕ) (m : List ℕ) (long : 106 ≤ length m) where
+  abbrev trigger : ℕ
+  trigger = cond (g .triggered) (g .inputs) noLink
+
+  abbrev bytes : List ℕ
+  bytes = figureBytes capacity (length (g .operators)) (g .links) (g .inputs) (length (g .results)) trigger
+
+  abbrev figures : List ℕ
+  figures = figured m capacity (length (g .operators)) (g .links) (g .inputs) (length (g .results)) trigger
+
+  abbrev inputted : List ℕ
+  inputted = named (g .inputs) figures 10 (upFrom 0 (g .inputs))
+
+  length-figures : length figures ≡ length m
+  unfolding figured
+  length-figures = length-sets m 0 bytes
+
+  pub length-headed : length (headed g capacity m) ≡ length m
+  unfolding headed
+  length-headed = length-named (length (g .results)) inputted 74 (g .results) ∙ length-named (g .inputs) figures 10 (upFrom 0 (g .inputs)) ∙ length-figures
+
+  -- every byte behind the names is as it was
+  pub headed-kept : (i : ℕ) → 106 ≤ i → getD (headed g capacity m) i 0 ≡ getD m i 0
+  unfolding headed figured figureBytes
+  headed-kept i h =
+      named-kept (length (g .results)) inputted 74 (g .results) i (inr (omega (arith, fits .results)))
+      ∙ named-kept (g .inputs) figures 10 (upFrom 0 (g .inputs)) i (inr (omega (arith, fits .inputs)))
+      ∙ row-kept bytes m 0 i (inr (omega arith))
+
+  -- ---- the figures
+
+  figure-byte : (i : ℕ) → i < 10 → getD (headed g capacity m) i 0 ≡ getD bytes i 0
+  unfolding headed figured figureBytes
+  figure-byte i h =
+      let z : 0 + i ≡ i = omega arith in
+      named-kept (length (g .results)) inputted 74 (g .results) i (inl (omega arith)) ∙ named-kept (g .inputs) figures 10 (upFrom 0 (g .inputs)) i (inl h)
+      ∙ ap (λ (k : ℕ). getD figures k 0) (sym z) ∙ row-read bytes m 0 i (omega arith) (omega arith)
+
+  pair : (x : ℕ) → x % 256 + 256 * (x / 256) ≡ x
+  pair x = omega arith
+
+  pub headed-capacity : capacityByte (headed g capacity m) ≡ capacity
+  unfolding figureBytes
+  headed-capacity = figure-byte 0 (omega arith)
+
+  pub headed-operators : operatorsOf (headed g capacity m) ≡ length (g .operators)
+  unfolding figureBytes number16
+  headed-operators = ap₂ (λ (x y : ℕ). x + 256 * y) (figure-byte 1 (omega arith)) (figure-byte 2 (omega arith)) ∙ pair (length (g .operators))
+
+  pub headed-links : linksOf (headed g capacity m) ≡ g .links
+  unfolding figureBytes number16
+  headed-links = ap₂ (λ (x y : ℕ). x + 256 * y) (figure-byte 3 (omega arith)) (figure-byte 4 (omega arith)) ∙ pair (g .links)
+
+  pub headed-inputs : inputsOf (headed g capacity m) ≡ g .inputs
+  unfolding figureBytes
+  headed-inputs = figure-byte 5 (omega arith)
+
+  pub headed-results : resultsOf (headed g capacity m) ≡ length (g .results)
+  unfolding figureBytes
+  headed-results = figure-byte 6 (omega arith)
+
+  -- no set is untaken
+  pub headed-untaken : untakenOf (headed g capacity m) ≡ 0
+  unfolding figureBytes
+  headed-untaken = figure-byte 7 (omega arith)
+
+  pub headed-trigger : triggerOf (headed g capacity m) ≡ cond (g .triggered) (g .inputs) noLink
+  unfolding figureBytes number16
+  headed-trigger = ap₂ (λ (x y : ℕ). x + 256 * y) (figure-byte 8 (omega arith)) (figure-byte 9 (omega arith)) ∙ pair trigger
+
+  -- ---- the names
+
+  pub headed-input : (j : ℕ) → j < g .inputs → inputLink (headed g capacity m) j ≡ j
+  unfolding headed nameAt
+  headed-input j h =
+      let u : getD (upFrom 0 (g .inputs)) j 0 ≡ j = up-from 0 (g .inputs) j h ∙ omega arith in
+      number-kept inputted (named (length (g .results)) inputted 74 (g .results)) (10 + 2 * j)
+      (named-kept (length (g .results)) inputted 74 (g .results) (10 + 2 * j) (inl (omega (arith, fits .inputs))))
+      (named-kept (length (g .results)) inputted 74 (g .results) (10 + 2 * j + 1) (inl (omega (arith, fits .inputs))))
+      ∙ named-read (g .inputs) figures 10 (upFrom 0 (g .inputs)) (omega (arith, length-figures, fits .inputs)) j h (omega (arith, fits .inputs)) ∙ u
+
+  pub headed-result : (j : ℕ) → j < length (g .results) → resultLink (headed g capacity m) j ≡ getD (g .results) j 0
+  unfolding headed
+  headed-result j h =
+      named-read (length (g .results)) inputted 74 (g .results)
+      (omega (arith, length-named (g .inputs) figures 10 (upFrom 0 (g .inputs)), length-figures, fits .results)) j h (fits .names j h)

@@ -1,0 +1,71 @@
+-- What the header's test says, as inequalities. Assumes nothing.
+use Prim.Native.Nat.{ℕ, _+_, _*_, _≤_, _<_}
+use mathlib.Core.Path.{_≡_, refl, sym, ap, _∙_}
+use mathlib.Core.Bool.{Bool, true, false, _&&_, _||_}
+use mathlib.Core.List.{List}
+use native.Mathlib.Omega.{arith}
+use borrow.Author.Tests.{leb-true, le-leb}
+use lib.Dec.{leb, ltb, eqb}
+use lib.ListN.{length, getD}
+use Rattle.value.specs.Operators.{pick}
+use Rattle.machine_layout.specs.Layout.{capacityByte, operatorsOf, linksOf, inputsOf, resultsOf, untakenOf, noLink, triggerOf, capacityIn, capacityOf, need, sizeOf}
+use Rattle.machine_valid.specs.Below.{and-left, and-right}
+use Rattle.machine_valid.specs.Valid.{figuresOk, valid}
+
+pub record Figures (m : List ℕ) : Type 0 where
+  pub capacity1 : 1 ≤ capacityByte m
+  pub capacity16 : capacityByte m ≤ 16
+  pub operators : operatorsOf m ≤ 1024
+  pub links : linksOf m ≤ 3105
+  pub inputs : inputsOf m ≤ 32
+  pub results1 : 1 ≤ resultsOf m
+  pub results16 : resultsOf m ≤ 16
+  pub untaken : untakenOf m ≤ 16
+  pub trigger : ltb (triggerOf m) (linksOf m) || eqb (triggerOf m) noLink ≡ true
+
+peel : (a b : ℕ) (r : Bool) → leb a b && r ≡ true → (a ≤ b) × (r ≡ true)
+peel a b r e = (leb-true a b (and-left (leb a b) r e), and-right (leb a b) r e)
+
+pub figures-say : (m : List ℕ) → figuresOk m ≡ true → Figures m
+unfolding figuresOk
+figures-say m e =
+    let p1 = peel 1 (capacityByte m) _ e in
+    let p2 = peel (capacityByte m) 16 _ (p1 .1) in
+    let p3 = peel (operatorsOf m) 1024 _ (p2 .1) in
+    let p4 = peel (linksOf m) 3105 _ (p3 .1) in
+    let p5 = peel (inputsOf m) 32 _ (p4 .1) in
+    let p6 = peel 1 (resultsOf m) _ (p5 .1) in
+    let p7 = peel (resultsOf m) 16 _ (p6 .1) in
+    let p8 = peel (untakenOf m) 16 _ (p7 .1) in
+    record {
+      capacity1 = p1 .0;
+      capacity16 = p2 .0;
+      operators = p3 .0;
+      links = p4 .0;
+      inputs = p5 .0;
+      results1 = p6 .0;
+      results16 = p7 .0;
+      untaken = p8 .0;
+      trigger = p8 .1;
+    }
+
+pub valid-figures : (m : List ℕ) → valid m ≡ true → Figures m
+unfolding valid
+valid-figures m e = figures-say m (and-left (figuresOk m) _ e)
+
+-- a stored capacity in range is the one that the need is reckoned by
+pub capacity-is : (m : List ℕ) → Figures m → capacityOf m ≡ capacityByte m
+unfolding capacityIn
+capacity-is m h = simp (le-leb 1 (capacityByte m) (h .capacity1), le-leb (capacityByte m) 16 (h .capacity16))
+
+pub enough : (m : List ℕ) → Figures m → need (sizeOf (capacityOf m)) ≤ length m → need (sizeOf (capacityByte m)) ≤ length m
+enough m f h = rw (capacity-is m f) at h
+
+pub capacity-small : (m : List ℕ) → capacityOf m ≤ 16
+unfolding capacityIn
+capacity-small m = go (leb 1 (capacityByte m)) (leb (capacityByte m) 16) (leb-true (capacityByte m) 16)
+  where
+    go : (a b : Bool) → (b ≡ true → capacityByte m ≤ 16) → pick (a && b) (capacityByte m) 1 ≤ 16
+    go true true h = h refl
+    go true false h = omega arith
+    go false b h = omega arith

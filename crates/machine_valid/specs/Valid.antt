@@ -1,0 +1,82 @@
+-- Refusal 31 of document 01: "a stored figure or token outside its range, or a link named twice by one operator, the inputs or the results".
+-- A memory is valid where neither is so. Only the part that the graph uses is looked at: the operators, links, inputs and results that the
+-- header counts. Two operators may share a link. Assumes nothing.
+use Prim.Native.Nat.{ℕ, _+_, _*_}
+use mathlib.Core.Bool.{Bool, true, false, _&&_, _||_, not}
+use mathlib.Core.List.{List}
+use lib.ListN.{length, getD}
+use lib.Dec.{leb, ltb, eqb}
+use Rattle.value.specs.Operators.{pick}
+use Rattle.value.specs.Bytes.{isSome, valueOf, wordAt}
+use Rattle.machine_queue.specs.Stretch.{waiting}
+use Rattle.machine_layout.specs.Layout.{capacityByte, operatorsOf, linksOf, inputsOf, resultsOf, untakenOf, noLink, nameAt, triggerOf, operatorAt, kindByte, registerAt, sizeOf, linkAt, part}
+use Rattle.machine_layout.specs.Kinds.{hasPort, mayLack}
+use Rattle.machine_valid.specs.Below.{allBelow}
+
+-- ---- the figures of the header
+
+-- capacity 1 to 16; up to 1,024 operators, 3,105 links and 32 inputs; 1 to 16 results; up to 16 sets untaken; a trigger's link or none
+unfoldable pub figuresOk : List ℕ → Bool
+figuresOk m =
+    leb 1 (capacityByte m) && (leb (capacityByte m) 16 && (leb (operatorsOf m) 1024 && (leb (linksOf m) 3105 && (leb (inputsOf m) 32
+    && (leb 1 (resultsOf m) && (leb (resultsOf m) 16 && (leb (untakenOf m) 16 && (ltb (triggerOf m) (linksOf m) || eqb (triggerOf m) noLink))))))))
+
+-- ---- names in a row: each names a link, and none is named twice
+
+-- a name, against one before it in the row: no link, or another
+unfoldable pub unlike : ℕ → ℕ → Bool
+unlike x y = not (eqb x y) || eqb x noLink
+
+unfoldable pub unlikeAt : List ℕ → ℕ → ℕ → ℕ → Bool
+unlikeAt m at p q = unlike (nameAt m at p) (nameAt m at q)
+
+unfoldable pub freshAt : List ℕ → ℕ → ℕ → Bool
+freshAt m at p = allBelow p (unlikeAt m at p)
+
+-- every result names a link, and so does every input; the trigger stands before the inputs and may be none
+unfoldable pub resultOk : List ℕ → ℕ → ℕ → Bool
+resultOk m at p = ltb (nameAt m at p) (linksOf m) && freshAt m at p
+
+unfoldable pub inputOk : List ℕ → ℕ → Bool
+inputOk m p = (ltb (nameAt m 8 p) (linksOf m) || eqb p 0) && freshAt m 8 p
+
+-- ---- operators
+
+-- a port of a kind: a link where the kind has that port; none where it has not, or may lack it
+unfoldable pub portOk : ℕ → ℕ → ℕ → ℕ → Bool
+portOk kind links p x = pick (hasPort kind p) (ltb x links || (mayLack kind p && eqb x noLink)) (eqb x noLink)
+
+unfoldable pub namedOk : List ℕ → ℕ → ℕ → ℕ → Bool
+namedOk m at kind p = portOk kind (linksOf m) p (nameAt m at p) && freshAt m at p
+
+-- a constant holds its value, FM and FS a value or nothing yet (0), every other kind nothing
+unfoldable pub registerOk : ℕ → ℕ → Bool
+registerOk kind w = pick (eqb kind 12) (isSome (valueOf w)) (eqb w 0 || (leb 19 kind && isSome (valueOf w)))
+
+unfoldable pub kindOk : ℕ → Bool
+kindOk kind = leb 1 kind && leb kind 20
+
+unfoldable pub operatorOk : List ℕ → ℕ → Bool
+operatorOk m i =
+    kindOk (kindByte m i)
+    && (allBelow 6 (namedOk m (operatorAt i + 2) (kindByte m i)) && registerOk (kindByte m i) (wordAt m (registerAt i)))
+
+-- ---- links: no more tokens than the capacity, and each token a value
+
+unfoldable pub tokenOk : List ℕ → ℕ → Bool
+tokenOk q j = isSome (valueOf (wordAt q (5 * j + 1)))
+
+unfoldable pub stretchOk : List ℕ → Bool
+stretchOk q = leb (5 * waiting q + 1) (length q) && allBelow (waiting q) (tokenOk q)
+
+unfoldable pub linkOk : List ℕ → ℕ → ℕ → Bool
+linkOk m size l = stretchOk (part m (linkAt size l) size)
+
+-- ---- the whole
+
+unfoldable pub valid : List ℕ → Bool
+valid m =
+    figuresOk m
+    && (allBelow (operatorsOf m) (operatorOk m)
+    && (allBelow (linksOf m) (linkOk m (sizeOf (capacityByte m)))
+    && (allBelow (inputsOf m + 1) (inputOk m) && allBelow (resultsOf m) (resultOk m 74))))

@@ -1,0 +1,73 @@
+-- What the schedule lemma gives to the machine over a fit graph: the bench of pieces/specs/Sets, from which both halves of demand 3 follow
+-- (pieces/specs/Made, Calls), and the load that start leaves. Assumes of the net that it has the graph's operators, that push and take are none
+-- of them, and that source and credit link lie beyond the graph's links and registers and are used by no operator (crate wiring).
+use Prim.Native.Nat.{ℕ, _+_, _≤_, _<_}
+use mathlib.Core.Path.{_≡_}
+use mathlib.Core.Logic.{_≢_, inl, inr}
+use mathlib.Core.Bool.{true}
+use native.Mathlib.Omega.{arith}
+use Rattle.names.specs.Names.{Names}
+use Rattle.network.specs.Net.{Demand, halt}
+use Rattle.theory_pieces.specs.Load.{Load, On}
+use Rattle.theory_pieces.specs.Goes.{any-list}
+use Rattle.theory_pieces.specs.Sets.{Bench}
+use Rattle.graph.specs.Assembly.{Graph, Env, nameCount, rank, total, free, linksOf, operatorsOf}
+use Rattle.graph.specs.Fit.{Fit}
+use Rattle.theory_reference.specs.NameSets.{rank-total, rank-differs}
+use Rattle.theory_reference.specs.Plugged.{nowhere, registers, Has}
+use Rattle.theory_reference.specs.Plan.{Between, Zone, Register, Envs}
+use Rattle.theory_reference.specs.Bystanders.{Unused}
+use Rattle.theory_reference.specs.Marks.{marks, marks-hold, marks-in, each-marked, registers-own, rings-marked}
+use Rattle.theory_reference.specs.WholeGraph.{plan, whole, yields, Idle-load, Ends-apart, fresh-idle, bare-state, whole-neat, whole-serves, inputs-differ, results-differ, source-off-region, credit-off-region}
+
+-- The links 0, 1, .. in the order of the names.
+pub rank-envs : (f : Names) → ((x : ℕ) → f x ≡ true → x < nameCount) → Envs f (rank f) (total f)
+rank-envs f small = record { below = λ x e. rank-total f x e (small x e); differ = λ x y a b e. rank-differs f x y a b e; small = small }
+
+module _ (g : Graph) (ft : Fit g) (n : ℕ) (env : Env) (E : Envs (free g) env n) (fits : n + linksOf g ≤ nowhere) (source credit : ℕ) where
+  -- A link beyond the graph's links and registers.
+  abbrev pub Beyond : ℕ → Type 0
+  Beyond l = (n + linksOf g ≤ l) × (Between registers (n + linksOf g) l → ⊥)
+
+  beyond-zone : (l : ℕ) → Beyond l → Zone (plan g n env source credit) l → ⊥
+  beyond-zone l b (inl o) = omega arith
+  beyond-zone l b (inr p) = let q = E .below (p .0) (p .1) in let z = p .2 in omega arith
+
+  beyond-register : (l : ℕ) → Beyond l → Register (plan g n env source credit) l → ⊥
+  beyond-register l b r = b .1 (omega arith, omega arith)
+
+  pub ends-apart : Beyond source → Beyond credit → source ≢ credit → Ends-apart g n env source credit
+  ends-apart s c ne =
+      record {
+        source-off = beyond-zone source s;
+        source-no-register = beyond-register source s;
+        credit-off = beyond-zone credit c;
+        credit-no-register = beyond-register credit c;
+        source-not-credit = ne;
+      }
+
+  -- Every register of a loop's gate marked, everything else empty.
+  abbrev pub fresh : Load
+  fresh = marks (operatorsOf g n env)
+
+  module _ (A : Ends-apart g n env source credit) where
+    pub fresh-is-idle : Idle-load g n env source credit fresh
+    fresh-is-idle =
+        fresh-idle g n env source credit ft E fits A fresh (marks-in (Between (registers + n) (linksOf g)) (operatorsOf g n env) (registers-own g ft n env))
+        (λ c r k. marks-hold (operatorsOf g n env) bare-state r (rings-marked (λ l. On l fresh) g ft n env (each-marked (λ l. On l fresh) (operatorsOf g n env) (λ l o. o)) c r k))
+
+    pub graph-bench : (net : ℕ → Demand) (push take : ℕ) → Has (any-list net) (operatorsOf g n env) → Unused net source → Unused net credit → net push ≡ halt → net take ≡ halt → push ≢ take →
+        Bench net push take source credit (whole g n env source credit) (yields g n env source credit)
+    graph-bench net push take H us uc np nt ne =
+        record {
+          serves = whole-serves g n env source credit ft E fits A (any-list net) H us uc;
+          neat = whole-neat g n env source credit;
+          push-apart = np;
+          take-apart = nt;
+          push-not-take = ne;
+          source-off = source-off-region g n env source credit ft E fits A;
+          credit-off = credit-off-region g n env source credit ft E fits A;
+          source-not-credit = A .source-not-credit;
+          ins-differ = inputs-differ g n env source credit ft E fits A;
+          outs-differ = results-differ g n env source credit ft E fits A;
+        }
