@@ -24,7 +24,7 @@ use Rattle.graph.specs.Translation.{Made}
 use Rattle.theory_verdicts.specs.Owed.{creditLink}
 use Rattle.theory_verdicts.specs.Running.{places}
 use Rattle.machine_calls.specs.Calls.{outcome, answers, sizeIn, standing, inputRoom, roomsOk, entered, triggered, pushedMemory, pushed}
-use Rattle.value_sets.specs.Sets.{setOk}
+use Rattle.value_sets.specs.Sets.{setOk, IsSet, values-pass}
 use Rattle.machine_calls.specs.CallLaws.{pushed-accepted}
 use Rattle.demand_view.specs.Sound.{Sound}
 use Rattle.demand_view.specs.FireCall.{stands-size}

@@ -6,7 +6,7 @@ use mathlib.Core.Bool.{Bool, true, false, false≢true}
 use mathlib.Core.List.{List}
 use native.Mathlib.Omega.{arith}
 use native.Mathlib.Decide.{ℕ-discrete}
-use borrow.Author.Tests.{ltb-true, ltb-false, not-true}
+use borrow.Author.Tests.{ltb-true, ltb-false, not-true, not-false}
 use lib.Dec.{ltb}
 use Rattle.value.specs.Operators.{pick}
 use Rattle.formula.specs.declared.Refusal.the-variants.{Unfinished}
@@ -66,6 +66,14 @@ still-quiet m size n h j l =
     let F = found m size n 0 in
     let e = ltb-false (leastFrom m size n 0) n (not-true (ltb (leastFrom m size n 0) n) h) in
     F .quiet j (omega arith) (omega arith)
+
+-- Something can fire: an operator is able.
+pub unstill-able : (m : List ℕ) (size n : ℕ) → stillAt m size n ≡ false → (i : ℕ) × (i < n) × (ableAt m size i ≡ true)
+unfolding stillAt least
+unstill-able m size n h =
+    let F = found m size n 0 in
+    let e = ltb-true (leastFrom m size n 0) n (not-false (ltb (leastFrom m size n 0) n) h) in
+    (leastFrom m size n 0, e, F .able (omega arith))
 
 -- ---- a run by its firings
 
