@@ -1,4 +1,4 @@
--- What the calls' bytes have to do with the network's links, call by call: the laws under which demand 3 of the network (verdicts/specs/Verdicts) is
+-- What the calls' bytes have to do with the network's links, call by call: the laws under which demand 3 of the network (theory_verdicts/specs/Verdicts) is
 -- demand 3 of the memory. Each field is one law over every memory in which the machine of the formula x stands. Definitions only; assumes nothing.
 use Prim.Native.Nat.{ℕ, _≤_, _<_}
 use mathlib.Core.Path.{_≡_}

@@ -1,5 +1,5 @@
--- The laws of `CallsAgree`, each from where it is proved: fire and run from crate view, push and take from crate ends, good standing and the sound graph
--- from crate begin. Assumes an accepted sheet and a capacity of 1 to 16.
+-- The laws of `CallsAgree`, each from where it is proved: fire and run from crate demand_view, push and take from crate demand_ends, good standing and the sound graph
+-- from crate demand_begin. Assumes an accepted sheet and a capacity of 1 to 16.
 use Prim.Native.Nat.{ℕ, _≤_}
 use mathlib.Core.Path.{_≡_, sym, ap, _∙_}
 use mathlib.Core.Bool.{true}

@@ -1,6 +1,6 @@
 -- DEMAND 2 ON REAL MEMORY: "each firing does to the links just what his history rules say for the next tokens". After every list of calls from an accepted start,
 -- whatever operator an accepted fire names has fired by Brock's rule (`fire-by-history`), and a run is as many such firings, one after another, as it counts
--- (`run-by-history`). What a firing by his rule is: view/specs/FiredHistory `Fires-in-memory`. Assumes an accepted start and nothing else.
+-- (`run-by-history`). What a firing by his rule is: demand_view/specs/FiredHistory `Fires-in-memory`. Assumes an accepted start and nothing else.
 use Prim.Native.Nat.{ℕ, zero, suc, _≤_, _<_}
 use mathlib.Core.Path.{_≡_, ap, subst, _∙_}
 use mathlib.Core.List.{List, _++_}

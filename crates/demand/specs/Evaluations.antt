@@ -1,4 +1,4 @@
--- Direct evaluation of bytes (meaning/specs/Evaluate `evaluationOf`) beside the abstract machine's verdicts (verdicts/specs/Results `EndsWith`): for an accepted
+-- Direct evaluation of bytes (meaning/specs/Evaluate `evaluationOf`) beside the abstract machine's verdicts (theory_verdicts/specs/Results `EndsWith`): for an accepted
 -- sheet and a set that can be read, a number of rounds is enough if and only if the formula yields values with it, and they are the result set's. Assumes
 -- the verdict Passed.
 use Prim.Native.Nat.{ℕ}

@@ -1,4 +1,4 @@
--- Each call on bytes is none or one call of the abstract machine (verdicts/specs/Running): a refused call is none, an accepted push, fire or take and
+-- Each call on bytes is none or one call of the abstract machine (theory_verdicts/specs/Running): a refused call is none, an accepted push, fire or take and
 -- every run that was lent enough is one; the memory stands afterwards with the links as the abstract call leaves them, the set pushed and the result taken are the
 -- abstract ones in bytes, and 31 is never answered. Assumes the laws of `CallsAgree`.
 use Prim.Native.Nat.{ℕ, zero, suc, _+_, _≤_, _<_}

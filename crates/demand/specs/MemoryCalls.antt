@@ -1,5 +1,5 @@
 -- Lists of calls on real memory (document 01, "Running": "Demand 3 is one claim over every list of these calls"): pushes, fires, runs and takes, each with
--- the bytes and numbers that the firmware lends it. What a call does is calls/specs/Calls (`pushed`, `fired`, `ran`, `taken`), the very definitions with
+-- the bytes and numbers that the firmware lends it. What a call does is machine_calls/specs/Calls (`pushed`, `fired`, `ran`, `taken`), the very definitions with
 -- which the contracts of bench_push, bench_fire, bench_run and bench_take are equations. Definitions only; assumes nothing.
 use Prim.Native.Nat.{ℕ}
 use mathlib.Core.Bool.{Bool, cond}

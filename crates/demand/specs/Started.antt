@@ -1,5 +1,5 @@
--- Where the sheet is accepted, the capacity is one of 1 to 16 and the memory as long as a machine needs, start (start/specs/Start `started`) accepts; what an accepted
--- start says is start/specs/StartLaws `accepted-start`. Assumes nothing.
+-- Where the sheet is accepted, the capacity is one of 1 to 16 and the memory as long as a machine needs, start (machine_start/specs/Start `started`) accepts; what an accepted
+-- start says is machine_start/specs/StartLaws `accepted-start`. Assumes nothing.
 use Prim.Native.Nat.{ℕ, _≤_}
 use mathlib.Core.Path.{_≡_, refl}
 use mathlib.Core.Bool.{true, _&&_}

@@ -1,4 +1,4 @@
--- Each operator of a made graph has the ports and the register of its kind (view/specs/Sound: Formed): for a copy, a gate and the gates of a loop, and
+-- Each operator of a made graph has the ports and the register of its kind (demand_view/specs/Sound: Formed): for a copy, a gate and the gates of a loop, and
 -- from there by induction over the graph language (graph/specs/Assembly). Document 01, refusal 31: "a stored figure .. outside its range". Assumes of a
 -- graph that it is fit and that its operators have codes 1 to 11 and its constants values in range.
 use Prim.Native.Nat.{ℕ, zero, suc, _+_, _≤_, _<_}

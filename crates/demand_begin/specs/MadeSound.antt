@@ -1,4 +1,4 @@
--- The made graph of an accepted sheet is sound (view/specs/Sound): its wiring, its figures and its operators are such as the machine's memory asks.
+-- The made graph of an accepted sheet is sound (demand_view/specs/Sound): its wiring, its figures and its operators are such as the machine's memory asks.
 -- Document 01, refusal 31: "never given for a machine that start made". Assumes nothing but the verdict.
 use Prim.Native.Nat.{ℕ, _+_, _≤_}
 use mathlib.Core.Path.{_≡_, refl, sym, subst}

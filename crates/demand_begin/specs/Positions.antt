@@ -1,4 +1,4 @@
--- Where things stand in a list: operators by their number (view/specs/Sound: Ith) with the links of their ports, and links in lists in which none stands
+-- Where things stand in a list: operators by their number (demand_view/specs/Sound: Ith) with the links of their ports, and links in lists in which none stands
 -- twice. Assumes nothing.
 use Prim.Native.Nat.{ℕ, zero, suc, _<_}
 use mathlib.Core.Path.{_≡_, refl, ap, subst}

@@ -1,5 +1,5 @@
 -- A memory in which a sound graph's machine stands is valid: document 01's refusal 31 is "never given for a machine that start made and nothing but its calls
--- has touched since". One section for each part of valid/specs/Valid. Assumes a sound graph and a capacity of 1 to 16.
+-- has touched since". One section for each part of machine_valid/specs/Valid. Assumes a sound graph and a capacity of 1 to 16.
 use Prim.Native.Nat.{ℕ, zero, suc, _+_, _*_, _≤_, _<_}
 use mathlib.Core.Path.{_≡_, refl, sym, ap, ap₂, _∙_, subst}
 use mathlib.Core.Logic.{_≢_}

@@ -1,4 +1,4 @@
--- What is read from a memory into which the operators of a graph were written (maker_laid/specs/Encode: written; layout/specs/Record: placed): each has its own record and
+-- What is read from a memory into which the operators of a graph were written (maker_laid/specs/Encode: written; machine_layout/specs/Record: placed): each has its own record and
 -- register, and all other bytes are as they were. Assumes at most 1,024 operators and a memory that has room for them.
 use Prim.Native.Nat.{ℕ, zero, suc, _+_, _*_, _/_, _%_, _≤_, _<_}
 use mathlib.Core.Path.{_≡_, refl, sym, ap, ap₂, _∙_, subst}

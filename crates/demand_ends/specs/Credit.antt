@@ -1,4 +1,4 @@
--- The count of untaken sets: byte 7 of the memory (layout/specs/Layout) is the length of the credit link (verdicts/specs/Running). Setting the byte
+-- The count of untaken sets: byte 7 of the memory (machine_layout/specs/Layout) is the length of the credit link (theory_verdicts/specs/Running). Setting the byte
 -- stands with one token more or less on that link, and with nothing else. Document 01, "32 sixteen sets untaken", "35 .. no set untaken". Assumes
 -- the bounds of `Sound`.
 use Prim.Native.Nat.{ℕ, zero, suc, _+_, _≤_, _<_}

@@ -1,4 +1,4 @@
--- Push on the machine's memory (calls/specs/Calls: pushed) is push on the links (verdicts/specs/Running: pushOf): it is accepted when push can be made on
+-- Push on the machine's memory (machine_calls/specs/Calls: pushed) is push on the links (theory_verdicts/specs/Running: pushOf): it is accepted when push can be made on
 -- the links that the memory holds, and then only, and the memory that it leaves holds the links after it. Document 01, "Push gives one value to each
 -- input link, and one trigger if that link exists"; 32 "sixteen sets untaken", 33 "an input link, or the trigger's link where it exists, full".
 -- Assumes a standing machine of a sound graph, at a capacity of 1 to 16, and a set that passes 12.

@@ -1,5 +1,5 @@
--- Push on the links of the network (verdicts/specs/Running: pushOf), unfolded: document 01, "Push gives one value to each input link, and one
--- trigger if that link exists". Input j has link j, the trigger the next (wiring/specs/MadeGraph: pushLinks), so these are different links, and
+-- Push on the links of the network (theory_verdicts/specs/Running: pushOf), unfolded: document 01, "Push gives one value to each input link, and one
+-- trigger if that link exists". Input j has link j, the trigger the next (theory_wiring/specs/MadeGraph: pushLinks), so these are different links, and
 -- push can be made when each has a free place and fewer than sixteen sets are untaken. Assumes of the graph that its links lie below the credit
 -- link.
 use Prim.Native.Nat.{ℕ, zero, suc, _+_, _≤_, _<_}

@@ -1,5 +1,5 @@
 -- A result set as bytes: document 01, "A result set is sixteen values carried whole, with its width; places past the width hold err", five bytes a
--- value (value/specs/Bytes). One definition, and that the bytes which take writes (calls/specs/Calls: written) and the cells of direct evaluation
+-- value (value/specs/Bytes). One definition, and that the bytes which take writes (machine_calls/specs/Calls: written) and the cells of direct evaluation
 -- (meaning/specs/Evaluate: cellsOf) are these. Assumes nothing.
 use Prim.Native.Nat.{ℕ, zero, suc, _+_, _-_, _*_, _≤_, _<_}
 use mathlib.Core.Path.{_≡_, refl, sym, ap, ap₂, _∙_}

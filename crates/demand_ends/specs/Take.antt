@@ -1,4 +1,4 @@
--- Take on the machine's memory (calls/specs/Calls: taken) is take on the links (verdicts/specs/Running: takeOf): it is accepted when take can be made on the
+-- Take on the machine's memory (machine_calls/specs/Calls: taken) is take on the links (theory_verdicts/specs/Running: takeOf): it is accepted when take can be made on the
 -- links that the memory holds, and then only; the memory that it leaves holds the links after it, and the bytes that it writes are the result set of the
 -- values that take hands out there. Document 01, "Take removes one value from each result port"; 35 "a result port empty or no set untaken".
 -- Assumes a standing machine of a sound graph, at a capacity of 1 to 16.

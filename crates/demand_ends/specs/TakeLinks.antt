@@ -1,4 +1,4 @@
--- Take on the links of the network (verdicts/specs/Running: takeOf), unfolded: document 01, "Take removes one value from each result port". The
+-- Take on the links of the network (theory_verdicts/specs/Running: takeOf), unfolded: document 01, "Take removes one value from each result port". The
 -- result links are different, so what take hands out are their heads as they stand before, and take can be made when each has a token and a set is
 -- untaken. Assumes of the graph that its result links are different and lie below the credit link.
 use Prim.Native.Nat.{ℕ, zero, suc, _<_}

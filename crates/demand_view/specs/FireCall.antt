@@ -1,4 +1,4 @@
--- The call fire of the firmware (calls/specs/Calls: `fired`, the contract of `bench_fire`) on a standing memory: an accepted one has fired an operator of the
+-- The call fire of the firmware (machine_calls/specs/Calls: `fired`, the contract of `bench_fire`) on a standing memory: an accepted one has fired an operator of the
 -- graph, and the memory it leaves is explained by Brock's history rule of that operator's kind. Document 01, "Said by how the machine stands": "34 the
 -- operator is absent or not able". Assumes a capacity of 1 to 16.
 use Prim.Native.Nat.{ℕ, _≤_, _<_}

@@ -1,4 +1,4 @@
--- A firing on the bytes of a standing memory is the firing on its links: `fired-stands`. Step by step as machine/specs/Fire's `performed` goes: the tokens
+-- A firing on the bytes of a standing memory is the firing on its links: `fired-stands`. Step by step as machine_firing/specs/Fire's `performed` goes: the tokens
 -- taken, the tokens given, the register. Document 01, "The graph" and "Running". Assumes an operator of the graph that can fire.
 use Prim.Native.Nat.{ℕ, _+_, _<_}
 use mathlib.Core.Path.{_≡_, refl, sym, ap, subst, _∙_}

@@ -1,6 +1,6 @@
 -- What a change of the memory has to keep for a machine to stand there still: its header (the count of untaken sets, byte 7, apart), its operators'
 -- records, and for each register and each link what the links now say. One law, `stands-changed`, for every call; `stands-links` for a change of links
--- alone. Layout of the bytes: layout/specs/Layout. Assumes of the graph the bounds of `Sound`.
+-- alone. Layout of the bytes: machine_layout/specs/Layout. Assumes of the graph the bounds of `Sound`.
 use Prim.Native.Nat.{ℕ, zero, suc, _+_, _*_, _≤_, _<_}
 use mathlib.Core.Path.{_≡_, refl, sym, ap, _∙_}
 use mathlib.Core.Logic.{_≢_}

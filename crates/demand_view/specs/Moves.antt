@@ -1,5 +1,5 @@
 -- A standing memory's links, one at a time: its first token, whether it has room, and the memory after one token was added or taken away
--- (machine/specs/Links), which stands with the links of network/specs/Net's `append` and `pop`. Firing, push and take are made of these.
+-- (machine_firing/specs/Links), which stands with the links of network/specs/Net's `append` and `pop`. Firing, push and take are made of these.
 -- Assumes a link of the graph.
 use Prim.Native.Nat.{ℕ, _+_, _*_, _≤_, _<_}
 use mathlib.Core.Path.{_≡_, refl, sym, subst}

@@ -1,5 +1,5 @@
 -- One operator of a sound graph: its ports' links are links of the graph, none is named twice, and its register link is nobody else's. From
--- wiring/specs/MadeGraph's `WellWired`, in the words that network/specs/Firing and FiringLinks ask for. Assumes that nothing waits nowhere.
+-- theory_wiring/specs/MadeGraph's `WellWired`, in the words that network/specs/Firing and FiringLinks ask for. Assumes that nothing waits nowhere.
 use Prim.Native.Nat.{ℕ, zero, suc, _+_, _<_}
 use mathlib.Core.Path.{_≡_, refl, sym, ap, subst, _∙_}
 use mathlib.Core.Logic.{_≢_, _⊎_, inl, inr}

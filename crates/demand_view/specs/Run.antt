@@ -1,4 +1,4 @@
--- A run on the bytes of a standing memory is the run on its links (verdicts/specs/Running: runSteps): the same firings, the same count, and 36 where the
+-- A run on the bytes of a standing memory is the run on its links (theory_verdicts/specs/Running: runSteps): the same firings, the same count, and 36 where the
 -- links say so. Document 01, "Running": "Run fires the least-numbered able operator, up to a lent number of firings, and gives a count". Assumes a sound
 -- graph and a capacity of at least 1.
 use Prim.Native.Nat.{ℕ, zero, suc, _+_, _≤_, _<_}

@@ -49,7 +49,7 @@ refusal r = answers (numberOf r) 0
 abbrev pub sizeIn : List ℕ → ℕ
 sizeIn m = sizeOf (capacityOf m)
 
--- 11 "lent memory shorter than the call's need"; 31: valid's specs/Valid; 0 where neither
+-- 11 "lent memory shorter than the call's need"; 31: machine_valid's specs/Valid; 0 where neither
 unfoldable pub standing : List ℕ → ℕ
 standing m = pick (ltb (length m) (need (sizeIn m))) (numberOf Memory) (pick (valid m) 0 (numberOf Altered))
 

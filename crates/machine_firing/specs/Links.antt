@@ -1,4 +1,4 @@
--- The links of a memory: each is the stretch at its place (layout's specs/Layout, queue's specs/Stretch). A number from 3105 on is no link:
+-- The links of a memory: each is the stretch at its place (machine_layout's specs/Layout, machine_queue's specs/Stretch). A number from 3105 on is no link:
 -- nothing waits there, there is always room, and nothing happens to it; so each of these holds for all contents of the memory.
 use Prim.Native.Nat.{ℕ}
 use mathlib.Core.Bool.{Bool, true, false}

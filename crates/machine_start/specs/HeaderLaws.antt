@@ -1,4 +1,4 @@
--- What the header holds once start has written it (layout/specs/Layout), and that it is all that was written there. Assumes of the graph that its figures are
+-- What the header holds once start has written it (machine_layout/specs/Layout), and that it is all that was written there. Assumes of the graph that its figures are
 -- within the header's ranges, and a memory of at least 106 bytes.
 use Prim.Native.Nat.{ℕ, zero, suc, _+_, _*_, _/_, _%_, _≤_, _<_}
 use mathlib.Core.Path.{_≡_, sym, ap, ap₂, _∙_}

@@ -1,4 +1,4 @@
-// One operator as a record of memory (layout/specs/Record), and the loops over the names of a mask
+// One operator as a record of memory (machine_layout/specs/Record), and the loops over the names of a mask
 // that need no memory. Document 01, "Forms to follow": "trailing zeros walk the names".
 use machine_layout::COPY;
 use machine_layout::FM;

@@ -1,4 +1,4 @@
--- An if laid out (graph/specs/Translation: arm; yields/specs/Choice: one shape for expressions and bodies): which names its parts share, and the order
+-- An if laid out (graph/specs/Translation: arm; theory_yields/specs/Choice: one shape for expressions and bodies): which names its parts share, and the order
 -- in which its parts are written. Document 01, "The graph": "Any if puts a T gate on each free name of arm b and an F gate on each of arm c".
 -- Assumes of the arms what an admitted formula gives.
 use Prim.Native.Nat.{ℕ, zero, suc, _+_, _-_, _*_, _≤_, _<_}

@@ -1,5 +1,5 @@
 -- An if as the code has written it: the test, the copies for the arms and of the test's output, both arms, and what joins them. One law serves
--- expressions and bodies (yields/specs/Choice). Document 01, "The graph". Assumes of the arms what an admitted formula gives.
+-- expressions and bodies (theory_yields/specs/Choice). Document 01, "The graph". Assumes of the arms what an admitted formula gives.
 use Prim.Native.Nat.{ℕ, zero, suc, _+_, _-_, _*_, _≤_, _<_}
 use mathlib.Core.Path.{_≡_, refl, sym, ap, ap₂, _∙_, subst}
 use mathlib.Core.Bool.{Bool, true, false, cond, not, _&&_, _||_, false≢true}

@@ -1,4 +1,4 @@
--- The operators of a graph (graph/specs/Assembly) as records of the machine's memory (layout/specs/Record), and the memory with the records of a
+-- The operators of a graph (graph/specs/Assembly) as records of the machine's memory (machine_layout/specs/Record), and the memory with the records of a
 -- list written one after another. Document 01, "The graph": "The numbering of operators .. chosen once": an operator's number is its place in
 -- the list. Assumes nothing.
 use Prim.Native.Nat.{ℕ, zero, suc, _+_, _≤_, _<_}

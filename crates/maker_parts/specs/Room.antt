@@ -72,7 +72,7 @@ pub room-forked : (k n m : ℕ) (e mem mem₁ first second : List ℕ) (n₁ m�
 room-forked k n m e mem mem₁ first second n₁ m₁ q f r =
     (omega (arith, r .0, f .operators), omega (arith, r .1, f .links))
 
--- ---- the count of wiring/specs/Counts is the same
+-- ---- the count of theory_wiring/specs/Counts is the same
 
 turned : (s a b p q t : ℕ) → a ≡ p → b ≡ q → s + (a + (t + ((t - 1) + b))) ≡ s + (p + (q + ((t - 1) + t)))
 turned s a b p q t h k = omega arith

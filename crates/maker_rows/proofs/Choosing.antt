@@ -1,5 +1,5 @@
--- What the if of src/lib needs and gives, in both places: the copies for the arms, both arms behind their gates, and the joins (emit/specs/DoneIf).
--- Assumes of a row what emit/specs/Nodes says of it.
+-- What the if of src/lib needs and gives, in both places: the copies for the arms, both arms behind their gates, and the joins (maker_laid/specs/DoneIf).
+-- Assumes of a row what maker_laid/specs/Nodes says of it.
 use Prim.Native.Nat.{ℕ, _+_, _-_, _*_, _≤_, _<_}
 use mathlib.Core.Path.{_≡_, sym, ap, _∙_, subst}
 use mathlib.Core.Bool.{Bool, true, false, _&&_, _||_}

@@ -1,5 +1,5 @@
 -- What the loop of src/lib needs and gives: its start, its body on links of its own, and the ring (maker_laid/specs/DoneFor). Assumes of a row what
--- emit/specs/Nodes says of it.
+-- maker_laid/specs/Nodes says of it.
 use Prim.Native.Nat.{ℕ, suc, _+_, _-_, _*_, _^_, _≤_, _<_}
 use mathlib.Core.Path.{_≡_, refl, sym, ap, _∙_, subst}
 use mathlib.Core.Bool.{true, false, false≢true}

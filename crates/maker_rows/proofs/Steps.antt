@@ -1,5 +1,5 @@
 -- What each function of src/lib needs and gives, by the kind of its row: pairs, lets, bodies that end, and rows of one operator. Assumes of a row
--- what emit/specs/Nodes says of it.
+-- what maker_laid/specs/Nodes says of it.
 use Prim.Native.Nat.{ℕ, _+_, _-_, _*_, _^_, _≤_, _<_}
 use mathlib.Core.Path.{_≡_, refl, sym, ap, _∙_, subst}
 use mathlib.Core.Bool.{Bool, true, false, cond, _&&_, _||_, false≢true}

@@ -1,6 +1,6 @@
 -- What an accepted fire does to the links of any memory that gets neither 11 nor 31 (document 01: "each firing does to the links just what his history rules say
 -- for the next tokens"; 31 "a link named twice by one operator"). The decision is the table's, on the tokens that wait first on the operator's inputs and on its
--- register (gates/specs/Decide, equal to network/specs/Rules). Its inputs lose their first token where it takes one and nothing else, its outputs get at their end
+-- register (machine_gates/specs/Decide, equal to network/specs/Rules). Its inputs lose their first token where it takes one and nothing else, its outputs get at their end
 -- what it gives and nothing else, and every link that the operator does not name keeps its bytes. Two operators may share a link. Assumes nothing of the graph.
 use Prim.Native.Nat.{ℕ, _+_, _≤_, _<_}
 use mathlib.Core.Path.{_≡_, refl, sym, ap, _∙_}

@@ -1,5 +1,5 @@
 -- What the program prints does not depend on what was in the memory that it lends to start: two memories in which one machine stands with the same tokens on its
--- links answer every call alike (view/specs/Stands), and stand so again after it. Assumes an accepted sheet, a capacity of 1 to 16 and sets that pass 12.
+-- links answer every call alike (demand_view/specs/Stands), and stand so again after it. Assumes an accepted sheet, a capacity of 1 to 16 and sets that pass 12.
 use Prim.Native.Nat.{ℕ, zero, suc, _+_, _-_, _≤_, _<_}
 use mathlib.Core.Path.{_≡_, refl, sym, ap, ap₂, subst, _∙_}
 use mathlib.Core.Bool.{Bool, true, false, false≢true}

@@ -1,6 +1,6 @@
 -- The loop of the bench program (document 01, "Program and readings"): "it pushes until refused or out of sets, runs with the firings left, takes until
 -- refused, and repeats until every set is taken. After a run's 36 it takes until refused once more, and 36 prints last with row 0." What each
--- call does is calls/specs/Calls. A set is the bytes that push takes. Assumes nothing.
+-- call does is machine_calls/specs/Calls. A set is the bytes that push takes. Assumes nothing.
 use Prim.Native.Nat.{ℕ, zero, suc, _+_, _-_}
 use mathlib.Core.List.{List, [], _∷_, _++_}
 use lib.ListN.{length, replicate}

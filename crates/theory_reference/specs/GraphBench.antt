@@ -1,5 +1,5 @@
--- What the schedule lemma gives to the machine over a fit graph: the bench of pieces/specs/Sets, from which both halves of demand 3 follow
--- (pieces/specs/Made, Calls), and the load that start leaves. Assumes of the net that it has the graph's operators, that push and take are none
+-- What the schedule lemma gives to the machine over a fit graph: the bench of theory_pieces/specs/Sets, from which both halves of demand 3 follow
+-- (theory_pieces/specs/Made, Calls), and the load that start leaves. Assumes of the net that it has the graph's operators, that push and take are none
 -- of them, and that source and credit link lie beyond the graph's links and registers and are used by no operator (crate wiring).
 use Prim.Native.Nat.{ℕ, _+_, _≤_, _<_}
 use mathlib.Core.Path.{_≡_}

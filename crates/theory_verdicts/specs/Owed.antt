@@ -1,4 +1,4 @@
--- What pieces/specs/Made asks of a graph's maker, met by the made graph of every admitted formula with at most 1,024 operators: the bench of the
+-- What theory_pieces/specs/Made asks of a graph's maker, met by the made graph of every admitted formula with at most 1,024 operators: the bench of the
 -- schedule lemma (crate reference), that firings commute (crate wiring), that the graph yields what direct evaluation yields (crate yields), and
 -- the idle load of the start. A pushed set has one value for each input, rising, and the trigger's behind them where its link exists.
 use Prim.Native.Nat.{ℕ, zero, suc, _+_, _-_, _≤_, _<_}

@@ -1,5 +1,5 @@
 -- Laws of the calls (Running): every step of a list of calls can be made where it is made, every pushed set has a value for each input, and the steps
--- are accepted calls as pieces/specs/Tape has them, with the trigger's value behind each set. Assumes nothing.
+-- are accepted calls as theory_pieces/specs/Tape has them, with the trigger's value behind each set. Assumes nothing.
 use Prim.Native.Nat.{ℕ, zero, suc, _+_}
 use mathlib.Core.Path.{_≡_, refl, ap}
 use mathlib.Core.Bool.{Bool, true, false, cond}
@@ -129,7 +129,7 @@ module _ (x : Exp) (capacity : ℕ) where
       whole-append (stepsOf x capacity c q) (stepsFrom x capacity calls (afterSteps x (stepsOf x capacity c q) q)) (call-whole c q)
       (calls-whole calls (afterSteps x (stepsOf x capacity c q) q))
 
-  -- ---- the steps as accepted calls of pieces/specs/Tape
+  -- ---- the steps as accepted calls of theory_pieces/specs/Tape
 
   abbrev pub triggering : Step → Step
   triggering (pushing v) = pushing (withTrigger (madeOf x .triggered) v)

@@ -1,4 +1,4 @@
--- Counting an if behind its test (yields/specs/Choice): a T gate on each free name of one arm and an F gate on each of the other, as many copies
+-- Counting an if behind its test (theory_yields/specs/Choice): a T gate on each free name of one arm and an F gate on each of the other, as many copies
 -- of the test's output as there are gates, and the copies of the names that test and arms share. Assumes arms over the 33 places, and that what
 -- joins them uses the test's output and the arms' outputs alone.
 use Prim.Native.Nat.{ℕ, suc, _+_, _*_, _-_, _≤_, _<_}

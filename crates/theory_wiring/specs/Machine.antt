@@ -1,6 +1,6 @@
 -- The network of a graph's operators, the i-th of the list under the number i, with push and take beside them (network/specs/Ends): of every link
--- at most one of them takes and at most one puts, so that any two firings commute (network/specs/Commute): the maker's debt of pieces/specs/Wiring,
--- and the bench of the schedule lemma (reference/specs/GraphBench) with this network. Assumes a fit graph whose names have different links below
+-- at most one of them takes and at most one puts, so that any two firings commute (network/specs/Commute): the maker's debt of theory_pieces/specs/Wiring,
+-- and the bench of the schedule lemma (theory_reference/specs/GraphBench) with this network. Assumes a fit graph whose names have different links below
 -- its own, all links below the absent one, and a source and a credit link that are none of them and no register links.
 use Prim.Native.Nat.{ℕ, zero, suc, _+_, _≤_, _<_}
 use mathlib.Core.Path.{_≡_, refl, sym, ap, _∙_, subst}
