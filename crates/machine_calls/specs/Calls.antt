@@ -14,7 +14,7 @@ use Rattle.network.specs.Values.{true-value, err-value}
 use Rattle.formula.specs.declared.Refusal.{Refusal}
 use Rattle.formula.specs.declared.Refusal.the-variants.{Memory, Set, Altered, Untaken, Full, NotAble, NoResult, Unfinished}
 use Rattle.formula.specs.Refusals.{numberOf}
-use Rattle.machine_layout.specs.Layout.{capacityOf, sizeOf, need, operatorsOf, inputsOf, resultsOf, untakenOf, triggerOf, inputLink, resultLink}
+use Rattle.machine_layout.specs.Layout.{mostResults, mostUntaken, untakenAt, capacityOf, sizeOf, need, operatorsOf, inputsOf, resultsOf, untakenOf, triggerOf, inputLink, resultLink}
 use Rattle.machine_firing.specs.Links.{headAt, roomAt, removedAt, appendedAt}
 use Rattle.machine_firing.specs.Fire.{ableAt, firedAt}
 use Rattle.machine_valid.specs.Below.{allBelow}
@@ -73,14 +73,14 @@ triggered m s = appendedAt (entered (inputsOf m) m (sizeIn m) s) (sizeIn m) (tri
 
 -- the memory with one set more untaken
 unfoldable pub pushedMemory : List ℕ → List ℕ → List ℕ
-pushedMemory m s = set (triggered m s) 7 (untakenOf m + 1)
+pushedMemory m s = set (triggered m s) untakenAt (untakenOf m + 1)
 
 -- 11, 31, 12 (sets' specs/Sets), 32, 33
 unfoldable pub pushed : List ℕ → List ℕ → Outcome
 pushed m s =
     pick (eqb (standing m) 0)
     (pick (setOk (inputsOf m) s)
-    (pick (ltb (untakenOf m) 16)
+    (pick (ltb (untakenOf m) mostUntaken)
     (pick (roomsOk m (sizeIn m) (inputsOf m))
     (outcome (answers 0 0) (pushedMemory m s))
     (outcome (refusal Full) m))
@@ -122,6 +122,9 @@ resultReady m size j = not (eqb (headAt m size (resultLink m j)) 0)
 unfoldable pub resultWord : List ℕ → ℕ → ℕ → ℕ → ℕ
 resultWord m size k j = pick (ltb j k) (headAt m size (resultLink m j)) (wordOf err-value)
 
+abbrev pub resultBytes : ℕ
+resultBytes = 80
+
 -- the first j values of the result set written, five bytes each
 unfoldable pub written : ℕ → List ℕ → ℕ → ℕ → List ℕ → List ℕ
 written zero m size k o = o
@@ -133,15 +136,15 @@ emptied zero m size = m
 emptied (suc j) m size = removedAt (emptied j m size) size (resultLink m j)
 
 unfoldable pub takenMemory : List ℕ → List ℕ
-takenMemory m = set (emptied (resultsOf m) m (sizeIn m)) 7 (untakenOf m - 1)
+takenMemory m = set (emptied (resultsOf m) m (sizeIn m)) untakenAt (untakenOf m - 1)
 
 -- 11 also where the result set has no room, 31, 35
 unfoldable pub taken : List ℕ → List ℕ → Handed
 taken m o =
-    pick (ltb (length o) 80)
+    pick (ltb (length o) resultBytes)
     (handed (refusal Memory) m o)
     (pick (eqb (standing m) 0)
     (pick (ltb 0 (untakenOf m) && allBelow (resultsOf m) (resultReady m (sizeIn m)))
-    (handed (answers 0 (resultsOf m)) (takenMemory m) (written 16 m (sizeIn m) (resultsOf m) o))
+    (handed (answers 0 (resultsOf m)) (takenMemory m) (written mostResults m (sizeIn m) (resultsOf m) o))
     (handed (refusal NoResult) m o))
     (handed (answers (standing m) 0) m o))

@@ -1,14 +1,14 @@
-// Push, fire, run and take over byte memory (document 01, "Running" and the refusals), which the
-// firmware's entry points call. The definitions are specs/Calls; each contract is an equation on the
-// answer and on every lent byte, and asks nothing of the caller. Values lie in five bytes each
-// (value's specs/Bytes).
+// Push, fire, run and take over byte memory (document 01, "Running" and the refusals), the firmware's
+// calls of these names. The definitions are specs/Calls; each contract is an equation on the answer
+// and on every lent byte, and asks nothing of the caller. Values lie in five bytes each (value's
+// specs/Bytes).
 use formula::Refusal;
 ghost use mathlib.Core.Path.{_≡_};
 ghost use Prim.Native.Nat.{ℕ, _+_, _*_, _≤_, _<_};
 ghost use lib.ListN.{length};
-ghost use Rattle.machine_layout.specs.Layout.{need};
+ghost use Rattle.machine_layout.specs.Layout.{mostInputs, mostResults, leastSize, mostSize, need};
 ghost use Rattle.machine_valid.specs.Below.{allBelow};
-ghost use Rattle.machine_calls.specs.Calls.{outcome, handed, refusal, standing, roomsOk, entered, resultReady, resultWord, written, emptied, pushed, fired, ran, taken};
+ghost use Rattle.machine_calls.specs.Calls.{outcome, handed, answers, refusal, standing, roomsOk, entered, resultReady, resultWord, resultBytes, written, emptied, pushed, fired, ran, taken};
 
 // A call's answer: document 01's number of a refusal, 0 where accepted; the firings of a run or the
 // width of a taken result set, else 0.
@@ -18,13 +18,19 @@ pub struct Answer {
     pub count: u32,
 }
 
+// The bytes of a result set.
+const RESULT_BYTES: usize = 80;
+
+fn reply(refusal: u32, count: u32) -> Answer
+    ensures { λ a. ⌜ a ≡ answers refusal count ⌝ }
+{
+    Answer { refusal, count }
+}
+
 fn refused(r: Refusal) -> Answer
     ensures { λ a. ⌜ a ≡ refusal r ⌝ }
 {
-    Answer {
-        refusal: formula::refusal_number(r),
-        count: 0,
-    }
+    reply(formula::refusal_number(r), 0)
 }
 
 // 11 or 31, or 0 where the memory stands well.
@@ -43,31 +49,30 @@ fn standing_of(mem: &[u8]) -> u32
 
 // Whether the trigger's link and the k input links have room.
 fn have_room(mem: &[u8], size: usize, k: usize) -> bool
-    requires { ⌜ (6 ≤ size) × (size ≤ 81) × (need size ≤ length (now mem)) × (k ≤ 32) ⌝ }
+    requires { ⌜ (leastSize ≤ size) × (size ≤ mostSize) × (need size ≤ length (now mem)) × (k ≤ mostInputs) ⌝ }
     ensures { λ r. ⌜ r ≡ roomsOk (now (mem .entry)) size k ⌝ }
 {
-    if machine_firing::room_of(mem, size, machine_layout::number_at(mem, 8)) {
-        let mut j = 0;
-        while j < k {
-            if machine_firing::room_of(mem, size, machine_firing::name_at(mem, 10, j)) {
-                j += 1;
-            } else {
-                return false;
-            }
-        }
-        return true;
+    if !machine_firing::room_of(mem, size, machine_layout::trigger(mem)) {
+        return false;
     }
-    false
+    let mut j = 0;
+    while j < k {
+        if !machine_firing::room_of(mem, size, machine_layout::input_link(mem, j)) {
+            return false;
+        }
+        j += 1;
+    }
+    true
 }
 
 // Gives the k values of a set to the input links.
 fn enter(mem: &mut [u8], size: usize, k: usize, set: &[u8])
-    requires { ⌜ (6 ≤ size) × (size ≤ 81) × (need size ≤ length (now mem)) × (k ≤ 32) × (5 * k ≤ length (now set)) ⌝ }
+    requires { ⌜ (leastSize ≤ size) × (size ≤ mostSize) × (need size ≤ length (now mem)) × (k ≤ mostInputs) × (5 * k ≤ length (now set)) ⌝ }
     ensures { λ _. ⌜ now (mem .exit) ≡ entered k (now (mem .entry)) size (now (set .entry)) ⌝ }
 {
     let mut j = 0;
     while j < k {
-        let l = machine_firing::name_at(mem, 10, j);
+        let l = machine_layout::input_link(mem, j);
         let word = value::bytes::load(set, 5 * j);
         machine_firing::append_to(mem, size, l, word);
         j += 1;
@@ -79,33 +84,27 @@ pub fn push(mem: &mut [u8], set: &[u8]) -> Answer
     ensures { λ a. ⌜ outcome a (now (mem .exit)) ≡ pushed (now (mem .entry)) (now (set .entry)) ⌝ }
 {
     let stands = standing_of(mem);
-    if stands == 0 {
-        let k = machine_layout::wide(mem[5]);
-        if value_sets::is_set(set, k) {
-            let untaken = mem[7];
-            if untaken < 16 {
-                let size = 5 * machine_layout::capacity(mem) + 1;
-                if have_room(mem, size, k) {
-                    let trigger = machine_layout::number_at(mem, 8);
-                    enter(mem, size, k, set);
-                    let token = value::bytes::to_word(value::Value::Truth(true));
-                    machine_firing::append_to(mem, size, trigger, token);
-                    mem[7] = untaken + 1;
-                    return Answer {
-                        refusal: 0,
-                        count: 0,
-                    };
-                }
-                return refused(Refusal::Full);
-            }
-            return refused(Refusal::Untaken);
-        }
+    if stands != 0 {
+        return reply(stands, 0);
+    }
+    let inputs = machine_layout::inputs(mem);
+    if !value_sets::is_set(set, inputs) {
         return refused(Refusal::Set);
     }
-    Answer {
-        refusal: stands,
-        count: 0,
+    let untaken = machine_layout::untaken(mem);
+    if machine_layout::UNTAKEN <= untaken {
+        return refused(Refusal::Untaken);
     }
+    let size = machine_layout::stretch_size(machine_layout::capacity(mem));
+    if !have_room(mem, size, inputs) {
+        return refused(Refusal::Full);
+    }
+    let trigger = machine_layout::trigger(mem);
+    enter(mem, size, inputs, set);
+    let token = value::bytes::to_word(value::Value::Truth(true));
+    machine_firing::append_to(mem, size, trigger, token);
+    mem[machine_layout::UNTAKEN_AT] = (untaken + 1) as u8;
+    reply(0, 0)
 }
 
 // Fires one operator, by its number from 0 on.
@@ -113,24 +112,18 @@ pub fn fire(mem: &mut [u8], operator: u32) -> Answer
     ensures { λ a. ⌜ outcome a (now (mem .exit)) ≡ fired (now (mem .entry)) operator ⌝ }
 {
     let stands = standing_of(mem);
-    if stands == 0 {
-        let i = operator as usize;
-        if i < machine_layout::number_at(mem, 1) {
-            let size = 5 * machine_layout::capacity(mem) + 1;
-            if machine_firing::fire_at(mem, size, i) {
-                return Answer {
-                    refusal: 0,
-                    count: 0,
-                };
-            }
-            return refused(Refusal::NotAble);
-        }
+    if stands != 0 {
+        return reply(stands, 0);
+    }
+    let i = operator as usize;
+    if machine_layout::operators(mem) <= i {
         return refused(Refusal::NotAble);
     }
-    Answer {
-        refusal: stands,
-        count: 0,
+    let size = machine_layout::stretch_size(machine_layout::capacity(mem));
+    if machine_firing::fire_at(mem, size, i) {
+        return reply(0, 0);
     }
+    refused(Refusal::NotAble)
 }
 
 // Runs for at most the lent firings.
@@ -138,35 +131,26 @@ pub fn run(mem: &mut [u8], firings: u32) -> Answer
     ensures { λ a. ⌜ outcome a (now (mem .exit)) ≡ ran (now (mem .entry)) firings ⌝ }
 {
     let stands = standing_of(mem);
-    if stands == 0 {
-        let n = machine_layout::number_at(mem, 1);
-        let size = 5 * machine_layout::capacity(mem) + 1;
-        let count = machine_runs::run(mem, size, n, firings);
-        if machine_runs::idle(mem, size, n) {
-            return Answer {
-                refusal: 0,
-                count: count,
-            };
-        }
-        return Answer {
-            refusal: formula::refusal_number(Refusal::Unfinished),
-            count: count,
-        };
+    if stands != 0 {
+        return reply(stands, 0);
     }
-    Answer {
-        refusal: stands,
-        count: 0,
+    let n = machine_layout::operators(mem);
+    let size = machine_layout::stretch_size(machine_layout::capacity(mem));
+    let count = machine_runs::run(mem, size, n, firings);
+    if machine_runs::idle(mem, size, n) {
+        return reply(0, count);
     }
+    reply(formula::refusal_number(Refusal::Unfinished), count)
 }
 
 // Whether a token waits on each of the k result links.
 fn are_ready(mem: &[u8], size: usize, k: usize) -> bool
-    requires { ⌜ (6 ≤ size) × (size ≤ 81) × (need size ≤ length (now mem)) × (k ≤ 16) ⌝ }
+    requires { ⌜ (leastSize ≤ size) × (size ≤ mostSize) × (need size ≤ length (now mem)) × (k ≤ mostResults) ⌝ }
     ensures { λ r. ⌜ r ≡ allBelow k (resultReady (now (mem .entry)) size) ⌝ }
 {
     let mut j = 0;
     while j < k {
-        if machine_firing::head_of(mem, size, machine_firing::name_at(mem, 74, j)) == 0 {
+        if machine_firing::head_of(mem, size, machine_layout::result_link(mem, j)) == 0 {
             return false;
         }
         j += 1;
@@ -176,21 +160,21 @@ fn are_ready(mem: &[u8], size: usize, k: usize) -> bool
 
 // Value j of the result set: err past the width.
 fn result_word(mem: &[u8], size: usize, k: usize, j: usize) -> u64
-    requires { ⌜ (6 ≤ size) × (size ≤ 81) × (need size ≤ length (now mem)) × (k ≤ 16) ⌝ }
+    requires { ⌜ (leastSize ≤ size) × (size ≤ mostSize) × (need size ≤ length (now mem)) × (k ≤ mostResults) ⌝ }
     ensures { λ r. ⌜ r ≡ resultWord (now (mem .entry)) size k j ⌝ }
 {
     if j < k {
-        return machine_firing::head_of(mem, size, machine_firing::name_at(mem, 74, j));
+        return machine_firing::head_of(mem, size, machine_layout::result_link(mem, j));
     }
     value::bytes::to_word(value::Value::Err)
 }
 
 fn write_results(mem: &[u8], size: usize, k: usize, out: &mut [u8])
-    requires { ⌜ (6 ≤ size) × (size ≤ 81) × (need size ≤ length (now mem)) × (k ≤ 16) × (80 ≤ length (now out)) ⌝ }
-    ensures { λ _. ⌜ now (out .exit) ≡ written 16 (now (mem .entry)) size k (now (out .entry)) ⌝ }
+    requires { ⌜ (leastSize ≤ size) × (size ≤ mostSize) × (need size ≤ length (now mem)) × (k ≤ mostResults) × (resultBytes ≤ length (now out)) ⌝ }
+    ensures { λ _. ⌜ now (out .exit) ≡ written mostResults (now (mem .entry)) size k (now (out .entry)) ⌝ }
 {
     let mut j = 0;
-    while j < 16 {
+    while j < machine_layout::RESULTS {
         let word = result_word(mem, size, k, j);
         value::bytes::store(out, 5 * j, word);
         j += 1;
@@ -198,12 +182,12 @@ fn write_results(mem: &[u8], size: usize, k: usize, out: &mut [u8])
 }
 
 fn empty_results(mem: &mut [u8], size: usize, k: usize)
-    requires { ⌜ (6 ≤ size) × (size ≤ 81) × (need size ≤ length (now mem)) × (k ≤ 16) ⌝ }
+    requires { ⌜ (leastSize ≤ size) × (size ≤ mostSize) × (need size ≤ length (now mem)) × (k ≤ mostResults) ⌝ }
     ensures { λ _. ⌜ now (mem .exit) ≡ emptied k (now (mem .entry)) size ⌝ }
 {
     let mut j = 0;
     while j < k {
-        let l = machine_firing::name_at(mem, 74, j);
+        let l = machine_layout::result_link(mem, j);
         machine_firing::remove_from(mem, size, l);
         j += 1;
     }
@@ -213,30 +197,24 @@ fn empty_results(mem: &mut [u8], size: usize, k: usize)
 pub fn take(mem: &mut [u8], out: &mut [u8]) -> Answer
     ensures { λ a. ⌜ handed a (now (mem .exit)) (now (out .exit)) ≡ taken (now (mem .entry)) (now (out .entry)) ⌝ }
 {
-    if out.len() < 80 {
+    if out.len() < RESULT_BYTES {
         return refused(Refusal::Memory);
     }
     let stands = standing_of(mem);
-    if stands == 0 {
-        let untaken = mem[7];
-        if 0 < untaken {
-            let k = machine_layout::wide(mem[6]);
-            let size = 5 * machine_layout::capacity(mem) + 1;
-            if are_ready(mem, size, k) {
-                write_results(mem, size, k, out);
-                empty_results(mem, size, k);
-                mem[7] = untaken - 1;
-                return Answer {
-                    refusal: 0,
-                    count: k as u32,
-                };
-            }
-            return refused(Refusal::NoResult);
-        }
+    if stands != 0 {
+        return reply(stands, 0);
+    }
+    let untaken = machine_layout::untaken(mem);
+    if untaken < 1 {
         return refused(Refusal::NoResult);
     }
-    Answer {
-        refusal: stands,
-        count: 0,
+    let results = machine_layout::results(mem);
+    let size = machine_layout::stretch_size(machine_layout::capacity(mem));
+    if !are_ready(mem, size, results) {
+        return refused(Refusal::NoResult);
     }
+    write_results(mem, size, results, out);
+    empty_results(mem, size, results);
+    mem[machine_layout::UNTAKEN_AT] = (untaken - 1) as u8;
+    reply(0, results as u32)
 }

@@ -2,17 +2,21 @@
 // first tokens of the inputs, a test of the free places that it needs, and the firing itself. "a
 // firing is lent those stretches only, in the middle of the whole": each link's part of memory goes
 // to a queue function. `size` is the length of a stretch, five times the capacity and one. Every
-// equation holds for all contents: a link number from 3105 on is no link.
+// equation holds for all contents: a link number from machine_layout::LINKS on is no
+// link.
 use machine_gates::Decided;
 use value::Decoded;
 ghost use mathlib.Core.Path.{_≡_};
 ghost use Prim.Native.Nat.{ℕ, _+_, _*_, _≤_, _<_};
 ghost use lib.ListN.{length, take, drop};
-ghost use Rattle.machine_layout.specs.Layout.{need, nameAt};
+ghost use Rattle.machine_layout.specs.Layout.{mostOperators, leastSize, mostSize, need};
 ghost use Rattle.machine_firing.specs.Links.{headAt, tokenAt, roomAt, removedAt, appendedAt};
 ghost use Rattle.machine_firing.specs.Fire.{taken, given, wordOr, planned, planAt, readyFor, performed, ableAt, firedAt};
 
-// What a firing takes and gives: links (65535: none), the words that go onto the outputs, and the
+// The number of no link, machine_layout::NO_LINK, among those of links.
+pub const NOWHERE: usize = 65535;
+
+// What a firing takes and gives: links (NOWHERE: none), the words that go onto the outputs, and the
 // register's next word.
 pub struct Plan {
     pub able: bool,
@@ -28,20 +32,12 @@ pub struct Plan {
     pub register: u64,
 }
 
-// Link number p of those that stand in a row from `at` on.
-pub fn name_at(mem: &[u8], at: usize, p: usize) -> usize
-    requires { ⌜ (at + 2 * p + 2 ≤ length (now mem)) × (at < 65536) × (p < 64) ⌝ }
-    ensures { λ r. ⌜ (r ≡ nameAt (now (mem .entry)) at p) × (r < 65536) ⌝ }
-{
-    machine_layout::number_at(mem, at + 2 * p)
-}
-
 // The word of the first token that waits on link l, or 0.
 pub fn head_of(mem: &[u8], size: usize, l: usize) -> u64
-    requires { ⌜ (6 ≤ size) × (size ≤ 81) × (need size ≤ length (now mem)) ⌝ }
+    requires { ⌜ (leastSize ≤ size) × (size ≤ mostSize) × (need size ≤ length (now mem)) ⌝ }
     ensures { λ r. ⌜ (r ≡ headAt (now (mem .entry)) size l) × (r < 1099511627776) ⌝ }
 {
-    if l < 3105 {
+    if l < machine_layout::LINKS {
         let a = machine_layout::link_at(size, l);
         let e = a + size;
         return machine_queue::head(&mem[a..e]);
@@ -50,10 +46,10 @@ pub fn head_of(mem: &[u8], size: usize, l: usize) -> u64
 }
 
 pub fn room_of(mem: &[u8], size: usize, l: usize) -> bool
-    requires { ⌜ (6 ≤ size) × (size ≤ 81) × (need size ≤ length (now mem)) ⌝ }
+    requires { ⌜ (leastSize ≤ size) × (size ≤ mostSize) × (need size ≤ length (now mem)) ⌝ }
     ensures { λ r. ⌜ r ≡ roomAt (now (mem .entry)) size l ⌝ }
 {
-    if l < 3105 {
+    if l < machine_layout::LINKS {
         let a = machine_layout::link_at(size, l);
         let e = a + size;
         return machine_queue::room(&mem[a..e]);
@@ -62,10 +58,10 @@ pub fn room_of(mem: &[u8], size: usize, l: usize) -> bool
 }
 
 pub fn remove_from(mem: &mut [u8], size: usize, l: usize)
-    requires { ⌜ (6 ≤ size) × (size ≤ 81) × (need size ≤ length (now mem)) ⌝ }
+    requires { ⌜ (leastSize ≤ size) × (size ≤ mostSize) × (need size ≤ length (now mem)) ⌝ }
     ensures { λ _. ⌜ now (mem .exit) ≡ removedAt (now (mem .entry)) size l ⌝ }
 {
-    if l < 3105 {
+    if l < machine_layout::LINKS {
         let a = machine_layout::link_at(size, l);
         let e = a + size;
         machine_queue::remove_first(&mut mem[a..e]);
@@ -73,10 +69,10 @@ pub fn remove_from(mem: &mut [u8], size: usize, l: usize)
 }
 
 pub fn append_to(mem: &mut [u8], size: usize, l: usize, word: u64)
-    requires { ⌜ (6 ≤ size) × (size ≤ 81) × (need size ≤ length (now mem)) ⌝ }
+    requires { ⌜ (leastSize ≤ size) × (size ≤ mostSize) × (need size ≤ length (now mem)) ⌝ }
     ensures { λ _. ⌜ now (mem .exit) ≡ appendedAt (now (mem .entry)) size l word ⌝ }
 {
-    if l < 3105 {
+    if l < machine_layout::LINKS {
         let a = machine_layout::link_at(size, l);
         let e = a + size;
         machine_queue::append(&mut mem[a..e], word);
@@ -89,14 +85,14 @@ fn taken_link(takes: bool, l: usize) -> usize
     if takes {
         return l;
     }
-    65535
+    NOWHERE
 }
 
 fn given_link(token: Decoded, l: usize) -> usize
     ensures { λ r. ⌜ r ≡ given token l ⌝ }
 {
     if machine_gates::is_absent(token) {
-        return 65535;
+        return NOWHERE;
     }
     l
 }
@@ -122,12 +118,12 @@ fn with_links(mem: &[u8], at: usize, d: Decided) -> Plan
     let register = d.register;
     Plan {
         able: d.able,
-        in1: taken_link(d.take1, name_at(mem, at, 0)),
-        in2: taken_link(d.take2, name_at(mem, at, 1)),
-        in3: taken_link(d.take3, name_at(mem, at, 2)),
-        out1: given_link(give1, name_at(mem, at, 3)),
-        out2: given_link(give2, name_at(mem, at, 4)),
-        out3: given_link(give3, name_at(mem, at, 5)),
+        in1: taken_link(d.take1, machine_layout::name_at(mem, at, 0)),
+        in2: taken_link(d.take2, machine_layout::name_at(mem, at, 1)),
+        in3: taken_link(d.take3, machine_layout::name_at(mem, at, 2)),
+        out1: given_link(give1, machine_layout::name_at(mem, at, 3)),
+        out2: given_link(give2, machine_layout::name_at(mem, at, 4)),
+        out3: given_link(give3, machine_layout::name_at(mem, at, 5)),
         word1: word_or(give1),
         word2: word_or(give2),
         word3: word_or(give3),
@@ -137,28 +133,40 @@ fn with_links(mem: &[u8], at: usize, d: Decided) -> Plan
 
 // The first token on a link as a value; a word that is no value is no token.
 fn token_of(mem: &[u8], size: usize, l: usize) -> Decoded
-    requires { ⌜ (6 ≤ size) × (size ≤ 81) × (need size ≤ length (now mem)) ⌝ }
+    requires { ⌜ (leastSize ≤ size) × (size ≤ mostSize) × (need size ≤ length (now mem)) ⌝ }
     ensures { λ r. ⌜ r ≡ tokenAt (now (mem .entry)) size l ⌝ }
 {
     value::bytes::from_word(head_of(mem, size, l))
 }
 
 fn plan_of(mem: &[u8], size: usize, i: usize) -> Plan
-    requires { ⌜ (6 ≤ size) × (size ≤ 81) × (need size ≤ length (now mem)) × (i < 1024) ⌝ }
+    requires { ⌜ (leastSize ≤ size) × (size ≤ mostSize) × (need size ≤ length (now mem)) × (i < mostOperators) ⌝ }
     ensures { λ p. ⌜ p ≡ planAt (now (mem .entry)) size i ⌝ }
 {
     let at = machine_layout::operator_at(i);
-    let a = token_of(mem, size, name_at(mem, at + 2, 0));
-    let b = token_of(mem, size, name_at(mem, at + 2, 1));
-    let c = token_of(mem, size, name_at(mem, at + 2, 2));
+    let a = token_of(
+        mem,
+        size,
+        machine_layout::name_at(mem, at + machine_layout::PORTS_AT, 0),
+    );
+    let b = token_of(
+        mem,
+        size,
+        machine_layout::name_at(mem, at + machine_layout::PORTS_AT, 1),
+    );
+    let c = token_of(
+        mem,
+        size,
+        machine_layout::name_at(mem, at + machine_layout::PORTS_AT, 2),
+    );
     let g = value::bytes::from_word(value::bytes::load(mem, machine_layout::register_at(i)));
     let d = machine_gates::decide(mem[at], a, b, c, g);
-    with_links(mem, at + 2, d)
+    with_links(mem, at + machine_layout::PORTS_AT, d)
 }
 
 // "An operator fires only when every token listed waits and each link it emits on has a free place."
 fn ready(mem: &[u8], size: usize, p: Plan) -> bool
-    requires { ⌜ (6 ≤ size) × (size ≤ 81) × (need size ≤ length (now mem)) ⌝ }
+    requires { ⌜ (leastSize ≤ size) × (size ≤ mostSize) × (need size ≤ length (now mem)) ⌝ }
     ensures { λ r. ⌜ r ≡ readyFor (now (mem .entry)) size p ⌝ }
 {
     if p.able {
@@ -172,7 +180,7 @@ fn ready(mem: &[u8], size: usize, p: Plan) -> bool
 }
 
 fn perform(mem: &mut [u8], size: usize, i: usize, p: Plan)
-    requires { ⌜ (6 ≤ size) × (size ≤ 81) × (need size ≤ length (now mem)) × (i < 1024) ⌝ }
+    requires { ⌜ (leastSize ≤ size) × (size ≤ mostSize) × (need size ≤ length (now mem)) × (i < mostOperators) ⌝ }
     ensures { λ _. ⌜ now (mem .exit) ≡ performed (now (mem .entry)) size i p ⌝ }
 {
     remove_from(mem, size, p.in1);
@@ -187,7 +195,7 @@ fn perform(mem: &mut [u8], size: usize, i: usize, p: Plan)
 
 // Whether operator i can fire.
 pub fn able_at(mem: &[u8], size: usize, i: usize) -> bool
-    requires { ⌜ (6 ≤ size) × (size ≤ 81) × (need size ≤ length (now mem)) × (i < 1024) ⌝ }
+    requires { ⌜ (leastSize ≤ size) × (size ≤ mostSize) × (need size ≤ length (now mem)) × (i < mostOperators) ⌝ }
     ensures { λ r. ⌜ r ≡ ableAt (now (mem .entry)) size i ⌝ }
 {
     let p = plan_of(mem, size, i);
@@ -196,7 +204,7 @@ pub fn able_at(mem: &[u8], size: usize, i: usize) -> bool
 
 // Fires operator i if it can, and tells whether it did.
 pub fn fire_at(mem: &mut [u8], size: usize, i: usize) -> bool
-    requires { ⌜ (6 ≤ size) × (size ≤ 81) × (need size ≤ length (now mem)) × (i < 1024) ⌝ }
+    requires { ⌜ (leastSize ≤ size) × (size ≤ mostSize) × (need size ≤ length (now mem)) × (i < mostOperators) ⌝ }
     ensures { λ r. ⌜ (r ≡ ableAt (now (mem .entry)) size i) × (now (mem .exit) ≡ firedAt (now (mem .entry)) size i) ⌝ }
 {
     let p = plan_of(mem, size, i);

@@ -11,20 +11,6 @@ use Rattle.value.specs.Operators.{pick}
 use Rattle.network.specs.Rules.{Kind, constant, copy, operator, T-gate, F-gate, M-gate, E-gate, IC-gate, FM-gate, FS-gate}
 use Prim.Native.Nat.{_≤_}
 
-unfoldable pub kindOf : ℕ → Option Kind
-kindOf b =
-    pick (leb 1 b && leb b 11) (some (operator b))
-    (pick (eqb b 12) (some constant)
-    (pick (eqb b 13) (some copy)
-    (pick (eqb b 14) (some T-gate)
-    (pick (eqb b 15) (some F-gate)
-    (pick (eqb b 16) (some M-gate)
-    (pick (eqb b 17) (some E-gate)
-    (pick (eqb b 18) (some IC-gate)
-    (pick (eqb b 19) (some FM-gate)
-    (pick (eqb b 20) (some FS-gate)
-    none)))))))))
-
 abbrev pub byteOf : Kind → ℕ
 byteOf (operator code) = code
 byteOf constant = 12
@@ -36,6 +22,20 @@ byteOf E-gate = 17
 byteOf IC-gate = 18
 byteOf FM-gate = 19
 byteOf FS-gate = 20
+
+unfoldable pub kindOf : ℕ → Option Kind
+kindOf b =
+    pick (leb 1 b && leb b 11) (some (operator b))
+    (pick (eqb b (byteOf constant)) (some constant)
+    (pick (eqb b (byteOf copy)) (some copy)
+    (pick (eqb b (byteOf T-gate)) (some T-gate)
+    (pick (eqb b (byteOf F-gate)) (some F-gate)
+    (pick (eqb b (byteOf M-gate)) (some M-gate)
+    (pick (eqb b (byteOf E-gate)) (some E-gate)
+    (pick (eqb b (byteOf IC-gate)) (some IC-gate)
+    (pick (eqb b (byteOf FM-gate)) (some FM-gate)
+    (pick (eqb b (byteOf FS-gate)) (some FS-gate)
+    none)))))))))
 
 -- the kinds of a graph: an operator has one of the eleven codes
 abbrev pub Coded : Kind → Type 0
@@ -67,10 +67,11 @@ kind-of-byte FS-gate h = refl
 -- How many inputs and outputs a kind has; they are the first of its three. "10 and 11 take one operand, the rest two"; a constant takes its
 -- trigger; M, IC and FM take from three, T, F, E and FS a control and data; a copy gives two, IC three, the others one.
 unfoldable pub inputsOfKind : ℕ → ℕ
-inputsOfKind b = pick (leb b 9) 2 (pick (leb b 13) 1 (pick (eqb b 16 || (eqb b 18 || eqb b 19)) 3 2))
+inputsOfKind b =
+    pick (leb b 9) 2 (pick (leb b (byteOf copy)) 1 (pick (eqb b (byteOf M-gate) || (eqb b (byteOf IC-gate) || eqb b (byteOf FM-gate))) 3 2))
 
 unfoldable pub outputsOfKind : ℕ → ℕ
-outputsOfKind b = pick (eqb b 13) 2 (pick (eqb b 18) 3 1)
+outputsOfKind b = pick (eqb b (byteOf copy)) 2 (pick (eqb b (byteOf IC-gate)) 3 1)
 
 -- port 0 to 2 an input, 3 to 5 an output
 unfoldable pub hasPort : ℕ → ℕ → Bool
@@ -78,4 +79,4 @@ hasPort b p = pick (ltb p 3) (ltb p (inputsOfKind b)) (ltb (p - 3) (outputsOfKin
 
 -- "An output with no user is not emitted": only the second output of an IC can be without one.
 unfoldable pub mayLack : ℕ → ℕ → Bool
-mayLack b p = eqb b 18 && eqb p 4
+mayLack b p = eqb b (byteOf IC-gate) && eqb p 4

@@ -18,23 +18,50 @@ stored16 m at x = set (set m at (x % 256)) (at + 1) (x / 256)
 
 -- ---- the header: bytes 106 to 255 are free for what later requests store, such as a kind for each input
 
+abbrev pub capacityAt : ℕ
+capacityAt = 0
+
+abbrev pub operatorCountAt : ℕ
+operatorCountAt = 1
+
+abbrev pub linkCountAt : ℕ
+linkCountAt = 3
+
+abbrev pub inputCountAt : ℕ
+inputCountAt = 5
+
+abbrev pub resultCountAt : ℕ
+resultCountAt = 6
+
+abbrev pub untakenAt : ℕ
+untakenAt = 7
+
+abbrev pub triggerAt : ℕ
+triggerAt = 8
+
+abbrev pub inputLinksAt : ℕ
+inputLinksAt = 10
+
+abbrev pub resultLinksAt : ℕ
+resultLinksAt = 74
+
 abbrev pub capacityByte : List ℕ → ℕ
-capacityByte m = getD m 0 0
+capacityByte m = getD m capacityAt 0
 
 abbrev pub operatorsOf : List ℕ → ℕ
-operatorsOf m = number16 m 1
+operatorsOf m = number16 m operatorCountAt
 
 abbrev pub linksOf : List ℕ → ℕ
-linksOf m = number16 m 3
+linksOf m = number16 m linkCountAt
 
 abbrev pub inputsOf : List ℕ → ℕ
-inputsOf m = getD m 5 0
+inputsOf m = getD m inputCountAt 0
 
 abbrev pub resultsOf : List ℕ → ℕ
-resultsOf m = getD m 6 0
+resultsOf m = getD m resultCountAt 0
 
 abbrev pub untakenOf : List ℕ → ℕ
-untakenOf m = getD m 7 0
+untakenOf m = getD m untakenAt 0
 
 -- The number 65535 names no link: a port without one, or no trigger.
 abbrev pub noLink : ℕ
@@ -46,13 +73,26 @@ nameAt m at j = number16 m (at + 2 * j)
 
 -- The trigger's link, up to 32 input links and up to 16 result links; trigger and inputs stand in one row.
 abbrev pub triggerOf : List ℕ → ℕ
-triggerOf m = number16 m 8
+triggerOf m = number16 m triggerAt
 
 abbrev pub inputLink : List ℕ → ℕ → ℕ
-inputLink m j = nameAt m 10 j
+inputLink m j = nameAt m inputLinksAt j
 
 abbrev pub resultLink : List ℕ → ℕ → ℕ
-resultLink m j = nameAt m 74 j
+resultLink m j = nameAt m resultLinksAt j
+
+-- The most places of a link, inputs, results and sets untaken.
+abbrev pub mostCapacity : ℕ
+mostCapacity = 16
+
+abbrev pub mostInputs : ℕ
+mostInputs = 32
+
+abbrev pub mostResults : ℕ
+mostResults = 16
+
+abbrev pub mostUntaken : ℕ
+mostUntaken = 16
 
 -- ---- the parts behind the header: the most operators and links, and where records, registers and links begin
 
@@ -79,9 +119,12 @@ operatorAt i = recordsAt + 16 * i
 abbrev pub kindByte : List ℕ → ℕ → ℕ
 kindByte m i = getD m (operatorAt i) 0
 
+abbrev pub portsAt : ℕ
+portsAt = 2
+
 -- port 0 to 2 an input, 3 to 5 an output
 abbrev pub portOf : List ℕ → ℕ → ℕ → ℕ
-portOf m i p = nameAt m (operatorAt i + 2) p
+portOf m i p = nameAt m (operatorAt i + portsAt) p
 
 abbrev pub registerAt : ℕ → ℕ
 registerAt i = registersAt + 5 * i
@@ -90,6 +133,13 @@ registerAt i = registersAt + 5 * i
 
 abbrev pub sizeOf : ℕ → ℕ
 sizeOf capacity = 5 * capacity + 1
+
+-- the stretch of a link with one place, and with sixteen
+abbrev pub leastSize : ℕ
+leastSize = 6
+
+abbrev pub mostSize : ℕ
+mostSize = 81
 
 abbrev pub linkAt : ℕ → ℕ → ℕ
 linkAt size l = linksAt + l * size
@@ -100,7 +150,7 @@ need size = linksAt + mostLinks * size
 
 -- "the capacity asked or stored (1 where outside 1..16)"
 unfoldable pub capacityIn : ℕ → ℕ
-capacityIn c = pick (leb 1 c && leb c 16) c 1
+capacityIn c = pick (leb 1 c && leb c mostCapacity) c 1
 
 -- a memory without a capacity byte counts as one that holds 0 there
 abbrev pub capacityOf : List ℕ → ℕ

@@ -4,13 +4,42 @@
 ghost use mathlib.Core.Path.{_≡_};
 ghost use Prim.Native.Nat.{ℕ, _+_, _*_, _≤_, _<_};
 ghost use lib.ListN.{length};
-ghost use Rattle.machine_layout.specs.Layout.{mostOperators, mostLinks, linksAt, number16, stored16, operatorAt, registerAt, linkAt, need, sizeOf, capacityOf};
+ghost use Rattle.machine_layout.specs.Layout.{mostOperators, mostLinks, mostCapacity, mostInputs, mostResults, mostSize, recordsAt, linksAt, number16, stored16, nameAt, capacityByte, operatorsOf, linksOf, inputsOf, resultsOf, untakenOf, triggerOf, inputLink, resultLink, operatorAt, registerAt, linkAt, need, sizeOf, capacityOf};
 ghost use Rattle.machine_layout.specs.Record.{recorded, placed};
 
-// The most operators and links of a machine (specs/Layout).
+// The most operators and links of a machine (specs/Layout), the most places of a link, inputs,
+// results and sets untaken.
 pub const OPERATORS: usize = 1024;
 
 pub const LINKS: usize = 3105;
+
+pub const CAPACITY: usize = 16;
+
+pub const INPUTS: usize = 32;
+
+pub const RESULTS: usize = 16;
+
+pub const UNTAKEN: usize = 16;
+
+// Where the header's figures stand: the capacity, the counts of operators, links, inputs and
+// results, the sets untaken, the trigger's link, the input links and the result links.
+pub const CAPACITY_AT: usize = 0;
+
+pub const OPERATOR_COUNT_AT: usize = 1;
+
+pub const LINK_COUNT_AT: usize = 3;
+
+pub const INPUT_COUNT_AT: usize = 5;
+
+pub const RESULT_COUNT_AT: usize = 6;
+
+pub const UNTAKEN_AT: usize = 7;
+
+pub const TRIGGER_AT: usize = 8;
+
+pub const INPUT_LINKS_AT: usize = 10;
+
+pub const RESULT_LINKS_AT: usize = 74;
 
 // Where the operators' records, their registers and the links' stretches begin.
 pub const RECORDS_AT: usize = 256;
@@ -18,6 +47,9 @@ pub const RECORDS_AT: usize = 256;
 pub const REGISTERS_AT: usize = 16640;
 
 pub const LINKS_AT: usize = 21760;
+
+// Where an operator's ports begin in its record.
+pub const PORTS_AT: usize = 2;
 
 // The number that a port without a link, or a machine without a trigger, has for one.
 pub const NO_LINK: u16 = 65535;
@@ -54,7 +86,7 @@ pub struct Operator {
     pub register: u64,
 }
 
-pub fn wide(b: u8) -> usize
+fn byte_of(b: u8) -> usize
     ensures { λ r. ⌜ (r ≡ b) × (r < 256) ⌝ }
 {
     b as usize
@@ -65,7 +97,7 @@ pub fn number_at(mem: &[u8], at: usize) -> usize
     requires { ⌜ at + 2 ≤ length (now mem) ⌝ }
     ensures { λ r. ⌜ (r ≡ number16 (now (mem .entry)) at) × (r < 65536) ⌝ }
 {
-    wide(mem[at]) + 256 * wide(mem[at + 1])
+    byte_of(mem[at]) + 256 * byte_of(mem[at + 1])
 }
 
 pub fn store_number(mem: &mut [u8], at: usize, x: u16)
@@ -92,35 +124,115 @@ pub fn register_at(i: usize) -> usize
 
 // Where the stretch of link l begins; `size` is the length of a stretch.
 pub fn link_at(size: usize, l: usize) -> usize
-    requires { ⌜ (size ≤ 81) × (l < mostLinks) ⌝ }
+    requires { ⌜ (size ≤ mostSize) × (l < mostLinks) ⌝ }
     ensures { λ r. ⌜ (r ≡ linkAt size l) × (r + size ≤ need size) ⌝ }
 {
     LINKS_AT + l * size
 }
 
+// Link number p of those that stand in a row from `at` on.
+pub fn name_at(mem: &[u8], at: usize, p: usize) -> usize
+    requires { ⌜ (at + 2 * p + 2 ≤ length (now mem)) × (at < 65536) × (p < 64) ⌝ }
+    ensures { λ r. ⌜ (r ≡ nameAt (now (mem .entry)) at p) × (r < 65536) ⌝ }
+{
+    number_at(mem, at + 2 * p)
+}
+
+// The header's figures. The capacity as it is stored, in range or not:
+pub fn capacity_stored(mem: &[u8]) -> usize
+    requires { ⌜ recordsAt ≤ length (now mem) ⌝ }
+    ensures { λ r. ⌜ (r ≡ capacityByte (now (mem .entry))) × (r < 256) ⌝ }
+{
+    byte_of(mem[CAPACITY_AT])
+}
+
+pub fn operators(mem: &[u8]) -> usize
+    requires { ⌜ recordsAt ≤ length (now mem) ⌝ }
+    ensures { λ r. ⌜ (r ≡ operatorsOf (now (mem .entry))) × (r < 65536) ⌝ }
+{
+    number_at(mem, OPERATOR_COUNT_AT)
+}
+
+pub fn links(mem: &[u8]) -> usize
+    requires { ⌜ recordsAt ≤ length (now mem) ⌝ }
+    ensures { λ r. ⌜ (r ≡ linksOf (now (mem .entry))) × (r < 65536) ⌝ }
+{
+    number_at(mem, LINK_COUNT_AT)
+}
+
+pub fn inputs(mem: &[u8]) -> usize
+    requires { ⌜ recordsAt ≤ length (now mem) ⌝ }
+    ensures { λ r. ⌜ (r ≡ inputsOf (now (mem .entry))) × (r < 256) ⌝ }
+{
+    byte_of(mem[INPUT_COUNT_AT])
+}
+
+pub fn results(mem: &[u8]) -> usize
+    requires { ⌜ recordsAt ≤ length (now mem) ⌝ }
+    ensures { λ r. ⌜ (r ≡ resultsOf (now (mem .entry))) × (r < 256) ⌝ }
+{
+    byte_of(mem[RESULT_COUNT_AT])
+}
+
+pub fn untaken(mem: &[u8]) -> usize
+    requires { ⌜ recordsAt ≤ length (now mem) ⌝ }
+    ensures { λ r. ⌜ (r ≡ untakenOf (now (mem .entry))) × (r < 256) ⌝ }
+{
+    byte_of(mem[UNTAKEN_AT])
+}
+
+pub fn trigger(mem: &[u8]) -> usize
+    requires { ⌜ recordsAt ≤ length (now mem) ⌝ }
+    ensures { λ r. ⌜ (r ≡ triggerOf (now (mem .entry))) × (r < 65536) ⌝ }
+{
+    number_at(mem, TRIGGER_AT)
+}
+
+pub fn input_link(mem: &[u8], j: usize) -> usize
+    requires { ⌜ (recordsAt ≤ length (now mem)) × (j < mostInputs) ⌝ }
+    ensures { λ r. ⌜ (r ≡ inputLink (now (mem .entry)) j) × (r < 65536) ⌝ }
+{
+    name_at(mem, INPUT_LINKS_AT, j)
+}
+
+pub fn result_link(mem: &[u8], j: usize) -> usize
+    requires { ⌜ (recordsAt ≤ length (now mem)) × (j < mostResults) ⌝ }
+    ensures { λ r. ⌜ (r ≡ resultLink (now (mem .entry)) j) × (r < 65536) ⌝ }
+{
+    name_at(mem, RESULT_LINKS_AT, j)
+}
+
 // The stored capacity, 1 where it is outside 1..16 or not there at all.
 pub fn capacity(mem: &[u8]) -> usize
-    ensures { λ r. ⌜ (r ≡ capacityOf (now (mem .entry))) × (1 ≤ r) × (r ≤ 16) ⌝ }
+    ensures { λ r. ⌜ (r ≡ capacityOf (now (mem .entry))) × (1 ≤ r) × (r ≤ mostCapacity) ⌝ }
 {
     if mem.len() == 0 {
         return 1;
     }
-    let c = wide(mem[0]);
+    let c = byte_of(mem[CAPACITY_AT]);
     if c < 1 {
         return 1;
     }
-    if 16 < c {
+    if CAPACITY < c {
         return 1;
     }
     c
 }
 
+// The length of a stretch: a count and the places of a link.
+pub fn stretch_size(capacity: usize) -> usize
+    requires { ⌜ capacity ≤ mostCapacity ⌝ }
+    ensures { λ r. ⌜ r ≡ sizeOf capacity ⌝ }
+{
+    5 * capacity + 1
+}
+
 // The bytes that a machine needs at a capacity (refusal 11).
 pub fn machine_need(capacity: usize) -> usize
-    requires { ⌜ capacity ≤ 16 ⌝ }
+    requires { ⌜ capacity ≤ mostCapacity ⌝ }
     ensures { λ r. ⌜ r ≡ need (sizeOf capacity) ⌝ }
 {
-    LINKS_AT + LINKS * (5 * capacity + 1)
+    LINKS_AT + LINKS * stretch_size(capacity)
 }
 
 // Writes a record: kind and links, the free bytes 0.

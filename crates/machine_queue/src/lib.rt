@@ -6,13 +6,21 @@
 ghost use mathlib.Core.Path.{_≡_};
 ghost use Prim.Native.Nat.{ℕ, _+_, _-_, _*_, _≤_, _<_};
 ghost use lib.ListN.{length, take, drop};
-ghost use Rattle.machine_queue.specs.Stretch.{headOf, roomIn, appended, removed};
+ghost use Rattle.machine_queue.specs.Stretch.{headOf, roomIn, appended, removed, waiting as waitingIn};
 
 // A count byte as a number.
 fn count_of(b: u8) -> usize
     ensures { λ r. ⌜ (r ≡ b) × (r < 256) ⌝ }
 {
     b as usize
+}
+
+// How many tokens wait.
+pub fn waiting(q: &[u8]) -> usize
+    requires { ⌜ 1 ≤ length (now q) ⌝ }
+    ensures { λ r. ⌜ (r ≡ waitingIn (now (q .entry))) × (r < 256) ⌝ }
+{
+    count_of(q[0])
 }
 
 // The oldest token's word, or 0 where none waits.

@@ -6,7 +6,7 @@ ghost use mathlib.Core.Path.{_≡_};
 ghost use mathlib.Core.Bool.{true};
 ghost use Prim.Native.Nat.{ℕ, _+_, _-_, _*_, _/_, _≤_, _<_};
 ghost use lib.ListN.{length, getD};
-ghost use Rattle.machine_layout.specs.Layout.{mostOperators, mostLinks, registersAt, need};
+ghost use Rattle.machine_layout.specs.Layout.{mostOperators, mostLinks, registersAt, leastSize, mostSize, need};
 ghost use Rattle.machine_runs.specs.Run.{Ran, ran, runs, stillAt};
 ghost use Rattle.machine_runs.specs.Far.{name};
 ghost use Rattle.machine_runs.specs.Users.{Found, Noted, Covers};
@@ -25,7 +25,7 @@ const ALL_MARKS: u64 = 18446744073709551615;
 
 // Scans from the first operator after each firing.
 pub fn run_plain(mem: &mut [u8], size: usize, n: usize, budget: u32) -> u32
-    requires { ⌜ (6 ≤ size) × (size ≤ 81) × (need size ≤ length (now mem)) × (n ≤ mostOperators) ⌝ }
+    requires { ⌜ (leastSize ≤ size) × (size ≤ mostSize) × (need size ≤ length (now mem)) × (n ≤ mostOperators) ⌝ }
     ensures { λ r. ⌜ ran (now (mem .exit)) r ≡ runs size n budget (now (mem .entry)) 0 ⌝ }
 {
     let mut count: u32 = 0;
@@ -57,7 +57,7 @@ fn port_of(mem: &[u8], j: usize, k: usize) -> usize
     ensures { λ r. ⌜ (r ≡ name (now (mem .entry)) j k) × (r < 65536) ⌝ }
 {
     let at = machine_layout::operator_at(j);
-    machine_firing::name_at(mem, at + 2, k)
+    machine_layout::name_at(mem, at + machine_layout::PORTS_AT, k)
 }
 
 // Notes that operator j names link l; false where two others do.
@@ -194,7 +194,7 @@ fn wake(mem: &[u8], users: &[u16], awake: &mut [u64], i: usize) -> usize
 
 // The run, with a mark for each operator that may be able.
 pub fn run(mem: &mut [u8], size: usize, n: usize, budget: u32) -> u32
-    requires { ⌜ (6 ≤ size) × (size ≤ 81) × (need size ≤ length (now mem)) × (n ≤ mostOperators) ⌝ }
+    requires { ⌜ (leastSize ≤ size) × (size ≤ mostSize) × (need size ≤ length (now mem)) × (n ≤ mostOperators) ⌝ }
     ensures { λ r. ⌜ ran (now (mem .exit)) r ≡ runs size n budget (now (mem .entry)) 0 ⌝ }
 {
     let mut users = [machine_layout::NO_LINK; USERS];
@@ -223,7 +223,7 @@ pub fn run(mem: &mut [u8], size: usize, n: usize, budget: u32) -> u32
 
 // Whether nothing can fire (refusal 36 is its opposite, after the lent firings).
 pub fn idle(mem: &[u8], size: usize, n: usize) -> bool
-    requires { ⌜ (6 ≤ size) × (size ≤ 81) × (need size ≤ length (now mem)) × (n ≤ mostOperators) ⌝ }
+    requires { ⌜ (leastSize ≤ size) × (size ≤ mostSize) × (need size ≤ length (now mem)) × (n ≤ mostOperators) ⌝ }
     ensures { λ r. ⌜ r ≡ stillAt (now (mem .entry)) size n ⌝ }
 {
     let mut i = 0;

@@ -8,19 +8,19 @@ use borrow.Author.Tests.{leb-true, le-leb}
 use lib.Dec.{leb, ltb, eqb}
 use lib.ListN.{length, getD}
 use Rattle.value.specs.Operators.{pick}
-use Rattle.machine_layout.specs.Layout.{capacityByte, operatorsOf, linksOf, inputsOf, resultsOf, untakenOf, noLink, triggerOf, capacityIn, capacityOf, need, sizeOf}
+use Rattle.machine_layout.specs.Layout.{mostOperators, mostLinks, mostCapacity, mostInputs, mostResults, mostUntaken, capacityByte, operatorsOf, linksOf, inputsOf, resultsOf, untakenOf, noLink, triggerOf, capacityIn, capacityOf, need, sizeOf}
 use Rattle.machine_valid.specs.Below.{and-left, and-right}
 use Rattle.machine_valid.specs.Valid.{figuresOk, valid}
 
 pub record Figures (m : List ℕ) : Type 0 where
   pub capacity1 : 1 ≤ capacityByte m
-  pub capacity16 : capacityByte m ≤ 16
-  pub operators : operatorsOf m ≤ 1024
-  pub links : linksOf m ≤ 3105
-  pub inputs : inputsOf m ≤ 32
+  pub capacity16 : capacityByte m ≤ mostCapacity
+  pub operators : operatorsOf m ≤ mostOperators
+  pub links : linksOf m ≤ mostLinks
+  pub inputs : inputsOf m ≤ mostInputs
   pub results1 : 1 ≤ resultsOf m
-  pub results16 : resultsOf m ≤ 16
-  pub untaken : untakenOf m ≤ 16
+  pub results16 : resultsOf m ≤ mostResults
+  pub untaken : untakenOf m ≤ mostUntaken
   pub trigger : ltb (triggerOf m) (linksOf m) || eqb (triggerOf m) noLink ≡ true
 
 peel : (a b : ℕ) (r : Bool) → leb a b && r ≡ true → (a ≤ b) × (r ≡ true)

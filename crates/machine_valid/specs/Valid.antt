@@ -9,8 +9,9 @@ use lib.Dec.{leb, ltb, eqb}
 use Rattle.value.specs.Operators.{pick}
 use Rattle.value.specs.Bytes.{isSome, valueOf, wordAt}
 use Rattle.machine_queue.specs.Stretch.{waiting}
-use Rattle.machine_layout.specs.Layout.{capacityByte, operatorsOf, linksOf, inputsOf, resultsOf, untakenOf, noLink, nameAt, triggerOf, operatorAt, kindByte, registerAt, sizeOf, linkAt, part}
-use Rattle.machine_layout.specs.Kinds.{hasPort, mayLack}
+use Rattle.machine_layout.specs.Layout.{mostOperators, mostLinks, mostCapacity, mostInputs, mostResults, mostUntaken, triggerAt, resultLinksAt, portsAt, capacityByte, operatorsOf, linksOf, inputsOf, resultsOf, untakenOf, noLink, nameAt, triggerOf, operatorAt, kindByte, registerAt, sizeOf, linkAt, part}
+use Rattle.network.specs.Rules.{constant, FM-gate, FS-gate}
+use Rattle.machine_layout.specs.Kinds.{byteOf, hasPort, mayLack}
 use Rattle.machine_valid.specs.Below.{allBelow}
 
 -- ---- the figures of the header
@@ -18,8 +19,8 @@ use Rattle.machine_valid.specs.Below.{allBelow}
 -- capacity 1 to 16; up to 1,024 operators, 3,105 links and 32 inputs; 1 to 16 results; up to 16 sets untaken; a trigger's link or none
 unfoldable pub figuresOk : List ℕ → Bool
 figuresOk m =
-    leb 1 (capacityByte m) && (leb (capacityByte m) 16 && (leb (operatorsOf m) 1024 && (leb (linksOf m) 3105 && (leb (inputsOf m) 32
-    && (leb 1 (resultsOf m) && (leb (resultsOf m) 16 && (leb (untakenOf m) 16 && (ltb (triggerOf m) (linksOf m) || eqb (triggerOf m) noLink))))))))
+    leb 1 (capacityByte m) && (leb (capacityByte m) mostCapacity && (leb (operatorsOf m) mostOperators && (leb (linksOf m) mostLinks && (leb (inputsOf m) mostInputs
+    && (leb 1 (resultsOf m) && (leb (resultsOf m) mostResults && (leb (untakenOf m) mostUntaken && (ltb (triggerOf m) (linksOf m) || eqb (triggerOf m) noLink))))))))
 
 -- ---- names in a row: each names a link, and none is named twice
 
@@ -38,7 +39,7 @@ unfoldable pub resultOk : List ℕ → ℕ → ℕ → Bool
 resultOk m at p = ltb (nameAt m at p) (linksOf m) && freshAt m at p
 
 unfoldable pub inputOk : List ℕ → ℕ → Bool
-inputOk m p = (ltb (nameAt m 8 p) (linksOf m) || eqb p 0) && freshAt m 8 p
+inputOk m p = (ltb (nameAt m triggerAt p) (linksOf m) || eqb p 0) && freshAt m triggerAt p
 
 -- ---- operators
 
@@ -51,15 +52,15 @@ namedOk m at kind p = portOk kind (linksOf m) p (nameAt m at p) && freshAt m at 
 
 -- a constant holds its value, FM and FS a value or nothing yet (0), every other kind nothing
 unfoldable pub registerOk : ℕ → ℕ → Bool
-registerOk kind w = pick (eqb kind 12) (isSome (valueOf w)) (eqb w 0 || (leb 19 kind && isSome (valueOf w)))
+registerOk kind w = pick (eqb kind (byteOf constant)) (isSome (valueOf w)) (eqb w 0 || (leb (byteOf FM-gate) kind && isSome (valueOf w)))
 
 unfoldable pub kindOk : ℕ → Bool
-kindOk kind = leb 1 kind && leb kind 20
+kindOk kind = leb 1 kind && leb kind (byteOf FS-gate)
 
 unfoldable pub operatorOk : List ℕ → ℕ → Bool
 operatorOk m i =
     kindOk (kindByte m i)
-    && (allBelow 6 (namedOk m (operatorAt i + 2) (kindByte m i)) && registerOk (kindByte m i) (wordAt m (registerAt i)))
+    && (allBelow 6 (namedOk m (operatorAt i + portsAt) (kindByte m i)) && registerOk (kindByte m i) (wordAt m (registerAt i)))
 
 -- ---- links: no more tokens than the capacity, and each token a value
 
@@ -79,4 +80,4 @@ valid m =
     figuresOk m
     && (allBelow (operatorsOf m) (operatorOk m)
     && (allBelow (linksOf m) (linkOk m (sizeOf (capacityByte m)))
-    && (allBelow (inputsOf m + 1) (inputOk m) && allBelow (resultsOf m) (resultOk m 74))))
+    && (allBelow (inputsOf m + 1) (inputOk m) && allBelow (resultsOf m) (resultOk m resultLinksAt))))

@@ -5,16 +5,23 @@
 ghost use mathlib.Core.Path.{_≡_};
 ghost use Prim.Native.Nat.{ℕ, _+_, _*_, _≤_, _<_};
 ghost use lib.ListN.{length};
-ghost use Rattle.machine_layout.specs.Layout.{need, sizeOf, linksOf, capacityOf, operatorsOf};
+ghost use Rattle.machine_layout.specs.Layout.{mostOperators, mostLinks, mostInputs, mostResults, recordsAt, linksAt, resultLinksAt, leastSize, mostSize, need, sizeOf, capacityOf};
 ghost use Rattle.machine_layout.specs.Kinds.{inputsOfKind, outputsOfKind, hasPort, mayLack};
 ghost use Rattle.machine_valid.specs.Below.{allBelow};
 ghost use Rattle.machine_valid.specs.Valid.{unlike, freshAt, resultOk, inputOk, portOk, namedOk, registerOk, kindOk, operatorOk, stretchOk, linkOk, figuresOk, valid};
+
+// Ports 0 to 2 of an operator are inputs, the others outputs.
+const PORTS: usize = 6;
+
+const FIRST_OUTPUT: usize = 3;
+
+const SECOND_OUTPUT: usize = 4;
 
 fn is_unlike(x: usize, y: usize) -> bool
     ensures { λ r. ⌜ r ≡ unlike x y ⌝ }
 {
     if x == y {
-        return x == 65535;
+        return x == machine_firing::NOWHERE;
     }
     true
 }
@@ -24,10 +31,10 @@ fn is_fresh(mem: &[u8], at: usize, p: usize) -> bool
     requires { ⌜ (at + 2 * p + 2 ≤ length (now mem)) × (at < 65000) × (p < 64) ⌝ }
     ensures { λ r. ⌜ r ≡ freshAt (now (mem .entry)) at p ⌝ }
 {
-    let x = machine_firing::name_at(mem, at, p);
+    let x = machine_layout::name_at(mem, at, p);
     let mut q = 0;
     while q < p {
-        if is_unlike(x, machine_firing::name_at(mem, at, q)) {
+        if is_unlike(x, machine_layout::name_at(mem, at, q)) {
             q += 1;
         } else {
             return false;
@@ -37,18 +44,18 @@ fn is_fresh(mem: &[u8], at: usize, p: usize) -> bool
 }
 
 fn result_ok(mem: &[u8], p: usize) -> bool
-    requires { ⌜ (256 ≤ length (now mem)) × (p < 16) ⌝ }
-    ensures { λ r. ⌜ r ≡ resultOk (now (mem .entry)) 74 p ⌝ }
+    requires { ⌜ (recordsAt ≤ length (now mem)) × (p < mostResults) ⌝ }
+    ensures { λ r. ⌜ r ≡ resultOk (now (mem .entry)) resultLinksAt p ⌝ }
 {
-    if machine_firing::name_at(mem, 74, p) < machine_layout::number_at(mem, 3) {
-        return is_fresh(mem, 74, p);
+    if machine_layout::result_link(mem, p) < machine_layout::links(mem) {
+        return is_fresh(mem, machine_layout::RESULT_LINKS_AT, p);
     }
     false
 }
 
 fn results_ok(mem: &[u8], k: usize) -> bool
-    requires { ⌜ (256 ≤ length (now mem)) × (k ≤ 16) ⌝ }
-    ensures { λ r. ⌜ r ≡ allBelow k (resultOk (now (mem .entry)) 74) ⌝ }
+    requires { ⌜ (recordsAt ≤ length (now mem)) × (k ≤ mostResults) ⌝ }
+    ensures { λ r. ⌜ r ≡ allBelow k (resultOk (now (mem .entry)) resultLinksAt) ⌝ }
 {
     let mut p = 0;
     while p < k {
@@ -63,20 +70,20 @@ fn results_ok(mem: &[u8], k: usize) -> bool
 
 // Name 0 is the trigger's, which may be none.
 fn input_ok(mem: &[u8], p: usize) -> bool
-    requires { ⌜ (256 ≤ length (now mem)) × (p < 33) ⌝ }
+    requires { ⌜ (recordsAt ≤ length (now mem)) × (p ≤ mostInputs) ⌝ }
     ensures { λ r. ⌜ r ≡ inputOk (now (mem .entry)) p ⌝ }
 {
-    if machine_firing::name_at(mem, 8, p) < machine_layout::number_at(mem, 3) {
-        return is_fresh(mem, 8, p);
+    if machine_layout::name_at(mem, machine_layout::TRIGGER_AT, p) < machine_layout::links(mem) {
+        return is_fresh(mem, machine_layout::TRIGGER_AT, p);
     }
     if p == 0 {
-        return is_fresh(mem, 8, p);
+        return is_fresh(mem, machine_layout::TRIGGER_AT, p);
     }
     false
 }
 
 fn inputs_ok(mem: &[u8], k: usize) -> bool
-    requires { ⌜ (256 ≤ length (now mem)) × (k ≤ 33) ⌝ }
+    requires { ⌜ (recordsAt ≤ length (now mem)) × (k ≤ mostInputs + 1) ⌝ }
     ensures { λ r. ⌜ r ≡ allBelow k (inputOk (now (mem .entry))) ⌝ }
 {
     let mut p = 0;
@@ -90,60 +97,47 @@ fn inputs_ok(mem: &[u8], k: usize) -> bool
     true
 }
 
-// How many inputs a kind has.
-fn inputs_of_kind(kind: usize) -> usize
+// How many inputs a kind has (document 01: "10 and 11 take one operand, the rest two").
+fn inputs_of_kind(kind: u8) -> usize
     ensures { λ r. ⌜ r ≡ inputsOfKind kind ⌝ }
 {
-    if kind <= 9 {
-        return 2;
+    match kind {
+        10..=machine_layout::COPY => 1,
+        machine_layout::M | machine_layout::IC | machine_layout::FM => 3,
+        _ => 2,
     }
-    if kind <= 13 {
-        return 1;
-    }
-    if kind == 16 {
-        return 3;
-    }
-    if kind == 18 {
-        return 3;
-    }
-    if kind == 19 {
-        return 3;
-    }
-    2
 }
 
-fn outputs_of_kind(kind: usize) -> usize
+fn outputs_of_kind(kind: u8) -> usize
     ensures { λ r. ⌜ r ≡ outputsOfKind kind ⌝ }
 {
-    if kind == 13 {
-        return 2;
+    match kind {
+        machine_layout::COPY => 2,
+        machine_layout::IC => 3,
+        _ => 1,
     }
-    if kind == 18 {
-        return 3;
-    }
-    1
 }
 
-fn has_port(kind: usize, p: usize) -> bool
+fn has_port(kind: u8, p: usize) -> bool
     ensures { λ r. ⌜ r ≡ hasPort kind p ⌝ }
 {
-    if p < 3 {
+    if p < FIRST_OUTPUT {
         return p < inputs_of_kind(kind);
     }
-    p - 3 < outputs_of_kind(kind)
+    p - FIRST_OUTPUT < outputs_of_kind(kind)
 }
 
 // "An output with no user": IC's second.
-fn may_lack(kind: usize, p: usize) -> bool
+fn may_lack(kind: u8, p: usize) -> bool
     ensures { λ r. ⌜ r ≡ mayLack kind p ⌝ }
 {
-    if kind == 18 {
-        return p == 4;
+    if kind == machine_layout::IC {
+        return p == SECOND_OUTPUT;
     }
     false
 }
 
-fn port_ok(kind: usize, links: usize, p: usize, x: usize) -> bool
+fn port_ok(kind: u8, links: usize, p: usize, x: usize) -> bool
     ensures { λ r. ⌜ r ≡ portOk kind links p x ⌝ }
 {
     if has_port(kind, p) {
@@ -151,31 +145,31 @@ fn port_ok(kind: usize, links: usize, p: usize, x: usize) -> bool
             return true;
         }
         if may_lack(kind, p) {
-            return x == 65535;
+            return x == machine_firing::NOWHERE;
         }
         return false;
     }
-    x == 65535
+    x == machine_firing::NOWHERE
 }
 
-fn named_ok(mem: &[u8], at: usize, kind: usize, p: usize) -> bool
-    requires { ⌜ (at + 12 ≤ length (now mem)) × (5 ≤ at) × (at < 65000) × (p < 6) ⌝ }
+fn named_ok(mem: &[u8], at: usize, kind: u8, p: usize) -> bool
+    requires { ⌜ (at + 12 ≤ length (now mem)) × (recordsAt ≤ at) × (at < 65000) × (p < 6) ⌝ }
     ensures { λ r. ⌜ r ≡ namedOk (now (mem .entry)) at kind p ⌝ }
 {
-    let links = machine_layout::number_at(mem, 3);
-    let x = machine_firing::name_at(mem, at, p);
+    let links = machine_layout::links(mem);
+    let x = machine_layout::name_at(mem, at, p);
     if port_ok(kind, links, p, x) {
         return is_fresh(mem, at, p);
     }
     false
 }
 
-fn names_ok(mem: &[u8], at: usize, kind: usize) -> bool
-    requires { ⌜ (at + 12 ≤ length (now mem)) × (5 ≤ at) × (at < 65000) ⌝ }
+fn names_ok(mem: &[u8], at: usize, kind: u8) -> bool
+    requires { ⌜ (at + 12 ≤ length (now mem)) × (recordsAt ≤ at) × (at < 65000) ⌝ }
     ensures { λ r. ⌜ r ≡ allBelow 6 (namedOk (now (mem .entry)) at kind) ⌝ }
 {
     let mut p = 0;
-    while p < 6 {
+    while p < PORTS {
         if named_ok(mem, at, kind, p) {
             p += 1;
         } else {
@@ -185,47 +179,48 @@ fn names_ok(mem: &[u8], at: usize, kind: usize) -> bool
     true
 }
 
-fn register_ok(kind: usize, word: u64) -> bool
+fn register_ok(kind: u8, word: u64) -> bool
     ensures { λ r. ⌜ r ≡ registerOk kind word ⌝ }
 {
-    if kind == 12 {
+    if kind == machine_layout::CONSTANT {
         return value::bytes::is_value(word);
     }
     if word == 0 {
         return true;
     }
-    if 19 <= kind {
+    if machine_layout::FM <= kind {
         return value::bytes::is_value(word);
     }
     false
 }
 
-fn kind_ok(kind: usize) -> bool
+fn kind_ok(kind: u8) -> bool
     ensures { λ r. ⌜ r ≡ kindOk kind ⌝ }
 {
     if 1 <= kind {
-        return kind <= 20;
+        return kind <= machine_layout::FS;
     }
     false
 }
 
 fn operator_ok(mem: &[u8], i: usize) -> bool
-    requires { ⌜ (21760 ≤ length (now mem)) × (i < 1024) ⌝ }
+    requires { ⌜ (linksAt ≤ length (now mem)) × (i < mostOperators) ⌝ }
     ensures { λ r. ⌜ r ≡ operatorOk (now (mem .entry)) i ⌝ }
 {
     let at = machine_layout::operator_at(i);
-    let kind = machine_layout::wide(mem[at]);
-    if kind_ok(kind) {
-        if names_ok(mem, at + 2, kind) {
-            let word = value::bytes::load(mem, machine_layout::register_at(i));
-            return register_ok(kind, word);
-        }
+    let kind = mem[at];
+    if !kind_ok(kind) {
+        return false;
     }
-    false
+    if !names_ok(mem, at + machine_layout::PORTS_AT, kind) {
+        return false;
+    }
+    let word = value::bytes::load(mem, machine_layout::register_at(i));
+    register_ok(kind, word)
 }
 
 fn operators_ok(mem: &[u8], n: usize) -> bool
-    requires { ⌜ (21760 ≤ length (now mem)) × (n ≤ 1024) ⌝ }
+    requires { ⌜ (linksAt ≤ length (now mem)) × (n ≤ mostOperators) ⌝ }
     ensures { λ r. ⌜ r ≡ allBelow n (operatorOk (now (mem .entry))) ⌝ }
 {
     let mut i = 0;
@@ -240,10 +235,10 @@ fn operators_ok(mem: &[u8], n: usize) -> bool
 }
 
 fn stretch_ok(q: &[u8]) -> bool
-    requires { ⌜ (6 ≤ length (now q)) × (length (now q) ≤ 81) ⌝ }
+    requires { ⌜ (leastSize ≤ length (now q)) × (length (now q) ≤ mostSize) ⌝ }
     ensures { λ r. ⌜ r ≡ stretchOk (now (q .entry)) ⌝ }
 {
-    let n = machine_layout::wide(q[0]);
+    let n = machine_queue::waiting(q);
     if q.len() < 5 * n + 1 {
         return false;
     }
@@ -259,7 +254,7 @@ fn stretch_ok(q: &[u8]) -> bool
 }
 
 fn link_ok(mem: &[u8], size: usize, l: usize) -> bool
-    requires { ⌜ (6 ≤ size) × (size ≤ 81) × (need size ≤ length (now mem)) × (l < 3105) ⌝ }
+    requires { ⌜ (leastSize ≤ size) × (size ≤ mostSize) × (need size ≤ length (now mem)) × (l < mostLinks) ⌝ }
     ensures { λ r. ⌜ r ≡ linkOk (now (mem .entry)) size l ⌝ }
 {
     let a = machine_layout::link_at(size, l);
@@ -268,7 +263,7 @@ fn link_ok(mem: &[u8], size: usize, l: usize) -> bool
 }
 
 fn links_ok(mem: &[u8], size: usize, k: usize) -> bool
-    requires { ⌜ (6 ≤ size) × (size ≤ 81) × (need size ≤ length (now mem)) × (k ≤ 3105) ⌝ }
+    requires { ⌜ (leastSize ≤ size) × (size ≤ mostSize) × (need size ≤ length (now mem)) × (k ≤ mostLinks) ⌝ }
     ensures { λ r. ⌜ r ≡ allBelow k (linkOk (now (mem .entry)) size) ⌝ }
 {
     let mut l = 0;
@@ -283,57 +278,59 @@ fn links_ok(mem: &[u8], size: usize, k: usize) -> bool
 }
 
 fn figures_ok(mem: &[u8]) -> bool
-    requires { ⌜ 256 ≤ length (now mem) ⌝ }
+    requires { ⌜ recordsAt ≤ length (now mem) ⌝ }
     ensures { λ r. ⌜ r ≡ figuresOk (now (mem .entry)) ⌝ }
 {
-    if mem[0] < 1 {
+    let capacity = machine_layout::capacity_stored(mem);
+    if capacity < 1 {
         return false;
     }
-    if 16 < mem[0] {
+    if machine_layout::CAPACITY < capacity {
         return false;
     }
-    if 1024 < machine_layout::number_at(mem, 1) {
+    if machine_layout::OPERATORS < machine_layout::operators(mem) {
         return false;
     }
-    let links = machine_layout::number_at(mem, 3);
-    if 3105 < links {
+    let links = machine_layout::links(mem);
+    if machine_layout::LINKS < links {
         return false;
     }
-    if 32 < mem[5] {
+    if machine_layout::INPUTS < machine_layout::inputs(mem) {
         return false;
     }
-    if mem[6] < 1 {
+    let results = machine_layout::results(mem);
+    if results < 1 {
         return false;
     }
-    if 16 < mem[6] {
+    if machine_layout::RESULTS < results {
         return false;
     }
-    if 16 < mem[7] {
+    if machine_layout::UNTAKEN < machine_layout::untaken(mem) {
         return false;
     }
-    let trigger = machine_layout::number_at(mem, 8);
+    let trigger = machine_layout::trigger(mem);
     if trigger < links {
         return true;
     }
-    trigger == 65535
+    trigger == machine_firing::NOWHERE
 }
 
 pub fn is_valid(mem: &[u8]) -> bool
     requires { ⌜ need (sizeOf (capacityOf (now mem))) ≤ length (now mem) ⌝ }
     ensures { λ r. ⌜ r ≡ valid (now (mem .entry)) ⌝ }
 {
-    if figures_ok(mem) {
-        if operators_ok(mem, machine_layout::number_at(mem, 1)) {
-            if links_ok(
-                mem,
-                5 * machine_layout::wide(mem[0]) + 1,
-                machine_layout::number_at(mem, 3),
-            ) {
-                if inputs_ok(mem, machine_layout::wide(mem[5]) + 1) {
-                    return results_ok(mem, machine_layout::wide(mem[6]));
-                }
-            }
-        }
+    if !figures_ok(mem) {
+        return false;
     }
-    false
+    if !operators_ok(mem, machine_layout::operators(mem)) {
+        return false;
+    }
+    let size = machine_layout::stretch_size(machine_layout::capacity(mem));
+    if !links_ok(mem, size, machine_layout::links(mem)) {
+        return false;
+    }
+    if !inputs_ok(mem, machine_layout::inputs(mem) + 1) {
+        return false;
+    }
+    results_ok(mem, machine_layout::results(mem))
 }

@@ -1,17 +1,21 @@
 -- The tests, as paths name them:
---   tie if1  let stands = standing_of(mem); ⏎ if stands == 0 {
---   tie if2  let i = operator as usize; ⏎ if i < machine_layout::number_at(mem, 1) {
---   tie if3  let size = 5 * machine_layout::capacity(mem) + 1; ⏎ if machine_firing::fire_at(mem, size, i) {
+--   tie if1  let stands = standing_of(mem); ⏎ if stands != 0 {
+--   tie if2  let i = operator as usize; ⏎ if machine_layout::operators(mem) <= i {
+--   tie if3  let size = machine_layout::stretch_size(machine_layout::capacity(mem)); ⏎ if machine_firing::fire_at(mem, size, i) {
+use native.Mathlib.Omega.{arith}
 use borrow.Author.Needs.{needs}
 use Rattle.machine_calls.proofs.fire.Statement.{statement}
 use Rattle.machine_calls.proofs.fire.Tie as tie
 use Rattle.machine_calls.proofs.fire.Reads as reads
 use Rattle.machine_calls.proofs.fire.Lts as lts
 use Rattle.machine_calls.proofs.refused.Reads as refused-reads
+use Rattle.machine_calls.proofs.reply.Reads as reply-reads
 use Rattle.machine_calls.proofs.standing_of.Reads as standing-of-reads
-use Rattle.machine_layout.proofs.capacity.Reads as capacity-reads
-use Rattle.machine_layout.proofs.number_at.Reads as number-at-reads
 use Rattle.machine_firing.proofs.fire_at.Reads as fire-at-reads
+use Rattle.machine_layout.proofs.capacity.Reads as capacity-reads
+use Rattle.machine_layout.proofs.operators.Reads as operators-reads
+use Rattle.machine_layout.proofs.stretch_size.Reads as stretch-size-reads
+use borrow.Author.Tests.{not-true, not-false}
 use Rattle.formula.specs.declared.Refusal.the-variants.{NotAble}
 use mathlib.Core.Path.{_≡_, sym, _∙_, refl, ap}
 use Prim.Native.Nat.{ℕ, _+_, _-_, _*_, _≤_, _<_}
@@ -28,90 +32,115 @@ use mathlib.Core.Logic.{_≢_}
 use lib.Dec.{ltb}
 use Rattle.machine_firing.specs.Fire.{ableAt, firedAt}
 use Rattle.machine_runs.specs.RunLaws.{Quiet}
-use native.Mathlib.Omega.{arith}
 
--- src/lib.rt:131:9  { ⏎ let stands = standing_of(mem);
+-- src/lib.rt:114:9  { ⏎ let stands = standing_of(mem);
 standing-of-requires : tie.Need-standing-of-requires
 standing-of-requires c κs = search needs
 
--- src/lib.rt:134:16  let i = operator as usize; ⏎ if i < machine_layout::number_at(mem, 1) {
-number-at-requires : tie.Need-number-at-requires
-number-at-requires c κs = let st : standing (c .before .before .before .before .before .args .mem .now) ≡ 0 = sym (c .before .before .standing-of .ensures) ∙ c .before .if1 .taken in let g = standing-good (c .before .before .before .before .before .args .mem .now) st in omega (arith, g .0)
+-- src/lib.rt:116:9  if stands != 0 { ⏎ return reply(stands, 0);
+reply-requires : tie.Need-reply-requires
+reply-requires c κs = search needs
 
--- src/lib.rt:135:28  if i < machine_layout::number_at(mem, 1) { ⏎ let size = 5 * machine_layout::capacity(mem) + 1;
-capacity-requires : tie.Need-capacity-requires
-capacity-requires c κs = search needs
-
--- src/lib.rt:135:24  if i < machine_layout::number_at(mem, 1) { ⏎ let size = 5 * machine_layout::capacity(mem) + 1;
-mul-size : tie.Need-mul-size
-mul-size c = search needs
-
--- src/lib.rt:135:24  if i < machine_layout::number_at(mem, 1) { ⏎ let size = 5 * machine_layout::capacity(mem) + 1;
-add-size : tie.Need-add-size
-add-size c = search needs
-
--- src/lib.rt:136:16  let size = 5 * machine_layout::capacity(mem) + 1; ⏎ if machine_firing::fire_at(mem, size, i) {
-fire-at-requires : tie.Need-fire-at-requires
-fire-at-requires c κs = let st : standing (c .before .before .before .before .before .before .before .before .before .before .args .mem .now) ≡ 0 = sym (c .before .before .before .before .before .before .before .standing-of .ensures) ∙ c .before .before .before .before .before .before .if1 .taken in let g = standing-good (c .before .before .before .before .before .before .before .before .before .before .args .mem .now) st in let f = valid-figures (c .before .before .before .before .before .before .before .before .before .before .args .mem .now) (g .1) in (omega (arith, c .before .capacity .ensures .1), omega (arith, c .before .capacity .ensures .2), omega (arith, c .before .capacity .ensures .0, g .0), omega (arith, f .operators, c .before .before .before .before .number-at .ensures .0))
-
--- src/lib.rt:137:17  if machine_firing::fire_at(mem, size, i) { ⏎ return Answer { refusal: 0, count: 0 };
+-- src/lib.rt:116:9  if stands != 0 { ⏎ return reply(stands, 0);
 same-length : tie.Need-same-length
 same-length c = search needs
 
--- src/lib.rt:137:17  if machine_firing::fire_at(mem, size, i) { ⏎ return Answer { refusal: 0, count: 0 };
+-- src/lib.rt:116:9  if stands != 0 { ⏎ return reply(stands, 0);
 returns : tie.Need-returns
-returns c = let st : standing (c .before .before .before .before .before .before .before .before .before .before .before .before .before .before .args .mem .now) ≡ 0 = sym (c .before .before .before .before .before .before .before .before .before .before .before .standing-of .ensures) ∙ c .before .before .before .before .before .before .before .before .before .before .if1 .taken in let a : ltb (c .before .before .before .before .before .before .before .before .before .before .before .before .before .before .args .operator) (operatorsOf (c .before .before .before .before .before .before .before .before .before .before .before .before .before .before .args .mem .now)) ≡ true = lt-ltb (c .before .before .before .before .before .before .before .before .before .before .before .before .before .before .args .operator) (operatorsOf (c .before .before .before .before .before .before .before .before .before .before .before .before .before .before .args .mem .now)) (omega (arith, c .before .before .before .before .before .before .before .before .number-at .ensures .0)) in let b : ableAt (c .before .before .before .before .before .before .before .before .before .before .before .before .before .before .args .mem .now) (sizeIn (c .before .before .before .before .before .before .before .before .before .before .before .before .before .before .args .mem .now)) (c .before .before .before .before .before .before .before .before .before .before .before .before .before .before .args .operator) ≡ true = rw (← (c .before .before .before .before .before .capacity .ensures .0)) (sym (c .before .before .before .fire-at .ensures .0) ∙ c .if3 .taken) in ap (outcome (answers 0 0)) (rw (c .before .before .before .before .before .capacity .ensures .0) at (c .before .before .before .fire-at .ensures .1)) ∙ sym (fired-accepted (c .before .before .before .before .before .before .before .before .before .before .before .before .before .before .args .mem .now) st (c .before .before .before .before .before .before .before .before .before .before .before .before .before .before .args .operator) a b)
+returns c = let n : standing (c .before .before .before .before .before .args .mem .now) ≢ 0 = λ e. c .before .if1 .taken (c .before .before .standing-of .ensures ∙ e) in rw (c .reply .ensures, c .before .before .standing-of .ensures) (sym (fired-refused (c .before .before .before .before .before .args .mem .now) (c .before .before .before .before .before .args .operator) n))
 
--- src/lib.rt:139:13  } ⏎ return refused(Refusal::NotAble);
+-- src/lib.rt:119:8  let i = operator as usize; ⏎ if machine_layout::operators(mem) <= i {
+operators-requires : tie.Need-operators-requires
+operators-requires c κs =
+    let st : standing (c .before .before .before .before .before .args .mem .now) ≡ 0 = sym (c .before .before .standing-of .ensures) ∙ c .before .if1 .left in
+    let g = standing-good (c .before .before .before .before .before .args .mem .now) st in
+    omega (arith, g .0)
+
+-- src/lib.rt:120:9  if machine_layout::operators(mem) <= i { ⏎ return refused(Refusal::NotAble);
 refused-requires : tie.Need-refused-requires
 refused-requires c κs = search needs
 
--- src/lib.rt:139:13  } ⏎ return refused(Refusal::NotAble);
+-- src/lib.rt:120:9  if machine_layout::operators(mem) <= i { ⏎ return refused(Refusal::NotAble);
 same-length-2 : tie.Need-same-length-2
 same-length-2 c = search needs
 
--- src/lib.rt:139:13  } ⏎ return refused(Refusal::NotAble);
+-- src/lib.rt:120:9  if machine_layout::operators(mem) <= i { ⏎ return refused(Refusal::NotAble);
 returns-2 : tie.Need-returns-2
-unfolding firedAt
-returns-2 c = let st : standing (c .before .before .before .before .before .before .before .before .before .before .before .before .before .before .before .args .mem .now) ≡ 0 = sym (c .before .before .before .before .before .before .before .before .before .before .before .before .standing-of .ensures) ∙ c .before .before .before .before .before .before .before .before .before .before .before .if1 .taken in let a : ltb (c .before .before .before .before .before .before .before .before .before .before .before .before .before .before .before .args .operator) (operatorsOf (c .before .before .before .before .before .before .before .before .before .before .before .before .before .before .before .args .mem .now)) ≡ true = lt-ltb (c .before .before .before .before .before .before .before .before .before .before .before .before .before .before .before .args .operator) (operatorsOf (c .before .before .before .before .before .before .before .before .before .before .before .before .before .before .before .args .mem .now)) (omega (arith, c .before .before .before .before .before .before .before .before .before .number-at .ensures .0)) in let b : ableAt (c .before .before .before .before .before .before .before .before .before .before .before .before .before .before .before .args .mem .now) (sizeIn (c .before .before .before .before .before .before .before .before .before .before .before .before .before .before .before .args .mem .now)) (c .before .before .before .before .before .before .before .before .before .before .before .before .before .before .before .args .operator) ≡ false = rw (← (c .before .before .before .before .before .before .capacity .ensures .0)) (sym (c .before .before .before .before .fire-at .ensures .0) ∙ c .before .if3 .left) in rw (c .refused .ensures) (ap (outcome (refusal NotAble)) (rw (c .before .before .before .before .before .before .capacity .ensures .0) at (c .before .before .before .before .fire-at .ensures .1) ∙ simp b) ∙ sym (fired-idle (c .before .before .before .before .before .before .before .before .before .before .before .before .before .before .before .args .mem .now) st (c .before .before .before .before .before .before .before .before .before .before .before .before .before .before .before .args .operator) a b))
+returns-2 c =
+    let st : standing (c .before .before .before .before .before .before .before .before .args .mem .now) ≡ 0 = sym (c .before .before .before .before .before .standing-of .ensures) ∙ c .before .before .before .before .if1 .left in
+    let a : ltb (c .before .before .before .before .before .before .before .before .args .operator) (operatorsOf (c .before .before .before .before .before .before .before .before .args .mem .now)) ≡ false = le-ltb (c .before .before .before .before .before .before .before .before .args .operator) (operatorsOf (c .before .before .before .before .before .before .before .before .args .mem .now)) (omega (arith, c .before .before .operators .ensures .0)) in
+    rw (c .refused .ensures) (sym (fired-absent (c .before .before .before .before .before .before .before .before .args .mem .now) st (c .before .before .before .before .before .before .before .before .args .operator) a))
 
--- src/lib.rt:141:9  } ⏎ return refused(Refusal::NotAble);
-refused-requires-2 : tie.Need-refused-requires-2
-refused-requires-2 c κs = search needs
+-- src/lib.rt:122:45  } ⏎ let size = machine_layout::stretch_size(machine_layout::capacity(mem));
+capacity-requires : tie.Need-capacity-requires
+capacity-requires c κs = search needs
 
--- src/lib.rt:141:9  } ⏎ return refused(Refusal::NotAble);
+-- src/lib.rt:122:9  } ⏎ let size = machine_layout::stretch_size(machine_layout::capacity(mem));
+stretch-size-requires : tie.Need-stretch-size-requires
+stretch-size-requires c κs = search needs
+
+-- src/lib.rt:123:8  let size = machine_layout::stretch_size(machine_layout::capacity(mem)); ⏎ if machine_firing::fire_at(mem, size, i) {
+fire-at-requires : tie.Need-fire-at-requires
+fire-at-requires c κs =
+    let st : standing (c .before .before .before .before .before .before .before .before .before .before .before .args .mem .now) ≡ 0 = sym (c .before .before .before .before .before .before .before .before .standing-of .ensures) ∙ c .before .before .before .before .before .before .before .if1 .left in
+    let g = standing-good (c .before .before .before .before .before .before .before .before .before .before .before .args .mem .now) st in
+    let f = valid-figures (c .before .before .before .before .before .before .before .before .before .before .before .args .mem .now) (g .1) in
+    let s : c .before .stretch-size .result ≡ sizeIn (c .before .before .before .before .before .before .before .before .before .before .before .args .mem .now) = c .before .stretch-size .ensures ∙ ap sizeOf (c .before .before .capacity .ensures .0) in
+    (omega (arith, c .before .stretch-size .ensures, c .before .before .capacity .ensures .1), omega (arith, c .before .stretch-size .ensures, c .before .before .capacity .ensures .2), omega (arith, s, g .0), omega (arith, f .operators, c .before .before .before .before .before .operators .ensures .0))
+
+-- src/lib.rt:124:9  if machine_firing::fire_at(mem, size, i) { ⏎ return reply(0, 0);
+reply-requires-2 : tie.Need-reply-requires-2
+reply-requires-2 c κs = search needs
+
+-- src/lib.rt:124:9  if machine_firing::fire_at(mem, size, i) { ⏎ return reply(0, 0);
 same-length-3 : tie.Need-same-length-3
 same-length-3 c = search needs
 
--- src/lib.rt:141:9  } ⏎ return refused(Refusal::NotAble);
+-- src/lib.rt:124:9  if machine_firing::fire_at(mem, size, i) { ⏎ return reply(0, 0);
 returns-3 : tie.Need-returns-3
-returns-3 c = let st : standing (c .before .before .before .before .before .before .before .before .args .mem .now) ≡ 0 = sym (c .before .before .before .before .before .standing-of .ensures) ∙ c .before .before .before .before .if1 .taken in let a : ltb (c .before .before .before .before .before .before .before .before .args .operator) (operatorsOf (c .before .before .before .before .before .before .before .before .args .mem .now)) ≡ false = le-ltb (c .before .before .before .before .before .before .before .before .args .operator) (operatorsOf (c .before .before .before .before .before .before .before .before .args .mem .now)) (omega (arith, c .before .before .number-at .ensures .0)) in rw (c .refused2 .ensures) (sym (fired-absent (c .before .before .before .before .before .before .before .before .args .mem .now) st (c .before .before .before .before .before .before .before .before .args .operator) a))
+returns-3 c =
+    let st : standing (c .before .before .before .before .before .before .before .before .before .before .before .before .before .before .before .before .args .mem .now) ≡ 0 = sym (c .before .before .before .before .before .before .before .before .before .before .before .before .before .standing-of .ensures) ∙ c .before .before .before .before .before .before .before .before .before .before .before .before .if1 .left in
+    let a : ltb (c .before .before .before .before .before .before .before .before .before .before .before .before .before .before .before .before .args .operator) (operatorsOf (c .before .before .before .before .before .before .before .before .before .before .before .before .before .before .before .before .args .mem .now)) ≡ true = lt-ltb (c .before .before .before .before .before .before .before .before .before .before .before .before .before .before .before .before .args .operator) (operatorsOf (c .before .before .before .before .before .before .before .before .before .before .before .before .before .before .before .before .args .mem .now)) (omega (arith, c .before .before .before .before .before .before .before .before .before .before .operators .ensures .0)) in
+    let s : c .before .before .before .before .before .before .stretch-size .result ≡ sizeIn (c .before .before .before .before .before .before .before .before .before .before .before .before .before .before .before .before .args .mem .now) = c .before .before .before .before .before .before .stretch-size .ensures ∙ ap sizeOf (c .before .before .before .before .before .before .before .capacity .ensures .0) in
+    let b : ableAt (c .before .before .before .before .before .before .before .before .before .before .before .before .before .before .before .before .args .mem .now) (sizeIn (c .before .before .before .before .before .before .before .before .before .before .before .before .before .before .before .before .args .mem .now)) (c .before .before .before .before .before .before .before .before .before .before .before .before .before .before .before .before .args .operator) ≡ true = rw (← s) (sym (c .before .before .before .before .fire-at .ensures .0) ∙ c .before .if3 .taken) in
+    rw (c .reply2 .ensures) (ap (outcome (answers 0 0)) (rw s at (c .before .before .before .before .fire-at .ensures .1)) ∙ sym (fired-accepted (c .before .before .before .before .before .before .before .before .before .before .before .before .before .before .before .before .args .mem .now) st (c .before .before .before .before .before .before .before .before .before .before .before .before .before .before .before .before .args .operator) a b))
 
--- src/lib.rt:128:1  // Fires one operator, by its number from 0 on. ⏎ pub fn fire(mem: &mut [u8], operator: u32) -> Answer
+-- src/lib.rt:126:5  } ⏎ refused(Refusal::NotAble)
+refused-requires-2 : tie.Need-refused-requires-2
+refused-requires-2 c κs = search needs
+
+-- src/lib.rt:111:1  // Fires one operator, by its number from 0 on. ⏎ pub fn fire(mem: &mut [u8], operator: u32) -> Answer
 same-length-4 : tie.Need-same-length-4
 same-length-4 c = search needs
 
--- src/lib.rt:128:1  // Fires one operator, by its number from 0 on. ⏎ pub fn fire(mem: &mut [u8], operator: u32) -> Answer
+-- src/lib.rt:111:1  // Fires one operator, by its number from 0 on. ⏎ pub fn fire(mem: &mut [u8], operator: u32) -> Answer
 returns-4 : tie.Need-returns-4
-returns-4 c = let n : standing (c .before .before .before .before .args .mem .now) ≢ 0 = λ e. c .if1 .left (c .before .standing-of .ensures ∙ e) in rw (c .before .standing-of .ensures) (sym (fired-refused (c .before .before .before .before .args .mem .now) (c .before .before .before .before .args .operator) n))
+unfolding firedAt
+returns-4 c =
+    let st : standing (c .before .before .before .before .before .before .before .before .before .before .before .before .before .before .before .before .args .mem .now) ≡ 0 = sym (c .before .before .before .before .before .before .before .before .before .before .before .before .before .standing-of .ensures) ∙ c .before .before .before .before .before .before .before .before .before .before .before .before .if1 .left in
+    let a : ltb (c .before .before .before .before .before .before .before .before .before .before .before .before .before .before .before .before .args .operator) (operatorsOf (c .before .before .before .before .before .before .before .before .before .before .before .before .before .before .before .before .args .mem .now)) ≡ true = lt-ltb (c .before .before .before .before .before .before .before .before .before .before .before .before .before .before .before .before .args .operator) (operatorsOf (c .before .before .before .before .before .before .before .before .before .before .before .before .before .before .before .before .args .mem .now)) (omega (arith, c .before .before .before .before .before .before .before .before .before .before .operators .ensures .0)) in
+    let s : c .before .before .before .before .before .before .stretch-size .result ≡ sizeIn (c .before .before .before .before .before .before .before .before .before .before .before .before .before .before .before .before .args .mem .now) = c .before .before .before .before .before .before .stretch-size .ensures ∙ ap sizeOf (c .before .before .before .before .before .before .before .capacity .ensures .0) in
+    let b : ableAt (c .before .before .before .before .before .before .before .before .before .before .before .before .before .before .before .before .args .mem .now) (sizeIn (c .before .before .before .before .before .before .before .before .before .before .before .before .before .before .before .before .args .mem .now)) (c .before .before .before .before .before .before .before .before .before .before .before .before .before .before .before .before .args .operator) ≡ false = rw (← s) (sym (c .before .before .before .before .fire-at .ensures .0) ∙ c .before .if3 .left) in
+    rw (c .refused2 .ensures) (ap (outcome (refusal NotAble)) (rw s at (c .before .before .before .before .fire-at .ensures .1) ∙ simp b) ∙ sym (fired-idle (c .before .before .before .before .before .before .before .before .before .before .before .before .before .before .before .before .args .mem .now) st (c .before .before .before .before .before .before .before .before .before .before .before .before .before .before .before .before .args .operator) a b))
 
 pub fire-spec : {M : Type 1} → statement M
 fire-spec =
     tie.close
     (tie.spec
     standing-of-requires
-    number-at-requires
-    capacity-requires
-    mul-size
-    add-size
-    fire-at-requires
+    reply-requires
     same-length
     returns
+    operators-requires
     refused-requires
     same-length-2
     returns-2
-    refused-requires-2
+    capacity-requires
+    stretch-size-requires
+    fire-at-requires
+    reply-requires-2
     same-length-3
     returns-3
+    refused-requires-2
     same-length-4
     returns-4)

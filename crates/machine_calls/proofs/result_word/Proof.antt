@@ -6,7 +6,7 @@ use Rattle.machine_calls.proofs.result_word.Tie as tie
 use Rattle.machine_calls.proofs.result_word.Reads as reads
 use Rattle.machine_calls.proofs.result_word.Lts as lts
 use Rattle.machine_firing.proofs.head_of.Reads as head-of-reads
-use Rattle.machine_firing.proofs.name_at.Reads as name-at-reads
+use Rattle.machine_layout.proofs.result_link.Reads as result-link-reads
 use Rattle.value.proofs.bytes.to_word.Reads as to-word-reads
 use mathlib.Core.Path.{_≡_, sym, _∙_, refl, ap}
 use borrow.Author.Tests.{eq-eqb, ne-eqb, le-leb, lt-leb, lt-ltb, le-ltb}
@@ -14,28 +14,28 @@ use Rattle.machine_calls.specs.Calls.{sizeIn, standing, inputRoom, rooms
 use Rattle.machine_layout.specs.Layout.{need, sizeOf, capacityOf, capacityByte, nameAt, triggerOf, inputLink, resultLink, operatorsOf, inputsOf, resultsOf, untakenOf}
 use Rattle.machine_firing.specs.Links.{headAt, roomAt, removedAt, appendedAt}
 
--- src/lib.rt:193:44  if j < k { ⏎ return machine_firing::head_of(mem, size, machine_firing::name_at(mem, 74, j));
-name-at-requires : tie.Need-name-at-requires
-name-at-requires c κs = search needs
+-- src/lib.rt:167:51  if j < k { ⏎ return machine_firing::head_of(mem, size, machine_layout::result_link(mem, j));
+result-link-requires : tie.Need-result-link-requires
+result-link-requires c κs = search needs
 
--- src/lib.rt:193:9  if j < k { ⏎ return machine_firing::head_of(mem, size, machine_firing::name_at(mem, 74, j));
+-- src/lib.rt:167:9  if j < k { ⏎ return machine_firing::head_of(mem, size, machine_layout::result_link(mem, j));
 head-of-requires : tie.Need-head-of-requires
 head-of-requires c κs = search needs
 
--- src/lib.rt:193:9  if j < k { ⏎ return machine_firing::head_of(mem, size, machine_firing::name_at(mem, 74, j));
+-- src/lib.rt:167:9  if j < k { ⏎ return machine_firing::head_of(mem, size, machine_layout::result_link(mem, j));
 returns : tie.Need-returns
 unfolding resultWord
-returns c = simp (lt-ltb (c .before .before .before .before .args .j) (c .before .before .before .before .args .k) (c .before .before .if1 .taken)) (rw (c .before .name-at .ensures .0) at (c .head-of .ensures .0))
+returns c = simp (lt-ltb (c .before .before .before .before .args .j) (c .before .before .before .before .args .k) (c .before .before .if1 .taken)) (rw (c .before .result-link .ensures .0) at (c .head-of .ensures .0))
 
--- src/lib.rt:195:5  } ⏎ value::bytes::to_word(value::Value::Err)
+-- src/lib.rt:169:5  } ⏎ value::bytes::to_word(value::Value::Err)
 to-word-requires : tie.Need-to-word-requires
 to-word-requires c κs = search needs
 
--- src/lib.rt:188:1  // Value j of the result set: err past the width. ⏎ fn result_word(mem: &[u8], size: usize, k: usize, j: usize) -> u64
+-- src/lib.rt:162:1  // Value j of the result set: err past the width. ⏎ fn result_word(mem: &[u8], size: usize, k: usize, j: usize) -> u64
 returns-2 : tie.Need-returns-2
 unfolding resultWord
 returns-2 c = simp (le-ltb (c .before .before .before .args .j) (c .before .before .before .args .k) (c .before .if1 .left)) (c .to-word .ensures .0)
 
 pub result-word-spec : {M : Type 1} → statement M
 result-word-spec =
-    tie.close (tie.spec name-at-requires head-of-requires returns to-word-requires returns-2)
+    tie.close (tie.spec result-link-requires head-of-requires returns to-word-requires returns-2)

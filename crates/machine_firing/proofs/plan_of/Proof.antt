@@ -6,7 +6,7 @@ use Rattle.machine_firing.proofs.plan_of.Lts as lts
 use Rattle.machine_gates.proofs.decide.Reads as decide-reads
 use Rattle.machine_layout.proofs.operator_at.Reads as operator-at-reads
 use Rattle.machine_layout.proofs.register_at.Reads as register-at-reads
-use Rattle.machine_firing.proofs.name_at.Reads as name-at-reads
+use Rattle.machine_layout.proofs.name_at.Reads as name-at-reads
 use Rattle.machine_firing.proofs.token_of.Reads as token-of-reads
 use Rattle.machine_firing.proofs.with_links.Reads as with-links-reads
 use Rattle.value.proofs.bytes.from_word.Reads as from-word-reads

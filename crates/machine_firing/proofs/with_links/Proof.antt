@@ -4,7 +4,7 @@ use Rattle.machine_firing.proofs.with_links.Tie as tie
 use Rattle.machine_firing.proofs.with_links.Reads as reads
 use Rattle.machine_firing.proofs.with_links.Lts as lts
 use Rattle.machine_firing.proofs.given_link.Reads as given-link-reads
-use Rattle.machine_firing.proofs.name_at.Reads as name-at-reads
+use Rattle.machine_layout.proofs.name_at.Reads as name-at-reads
 use Rattle.machine_firing.proofs.taken_link.Reads as taken-link-reads
 use Rattle.machine_firing.proofs.word_or.Reads as word-or-reads
 use mathlib.Core.Path.{_≡_, sym, _∙_, refl, ap}

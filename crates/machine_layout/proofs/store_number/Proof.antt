@@ -8,31 +8,31 @@ use lib.ListN.{length-set}
 use Rattle.machine_layout.specs.Layout.{stored16}
 use native.Mathlib.Omega.{arith}
 
--- src/lib.rt:41:15  { ⏎ mem[at] = (x % 256) as u8;
+-- src/lib.rt:107:15  { ⏎ mem[at] = (x % 256) as u8;
 cast-mem : tie.Need-cast-mem
 cast-mem c = search needs
 
--- src/lib.rt:41:5  { ⏎ mem[at] = (x % 256) as u8;
+-- src/lib.rt:107:5  { ⏎ mem[at] = (x % 256) as u8;
 slice-write-mem : tie.Need-slice-write-mem
 slice-write-mem c = search needs
 
--- src/lib.rt:42:19  mem[at] = (x % 256) as u8; ⏎ mem[at + 1] = (x / 256) as u8;
+-- src/lib.rt:108:19  mem[at] = (x % 256) as u8; ⏎ mem[at + 1] = (x / 256) as u8;
 cast-mem-2 : tie.Need-cast-mem-2
 cast-mem-2 c = search needs
 
--- src/lib.rt:42:9  mem[at] = (x % 256) as u8; ⏎ mem[at + 1] = (x / 256) as u8;
+-- src/lib.rt:108:9  mem[at] = (x % 256) as u8; ⏎ mem[at + 1] = (x / 256) as u8;
 add-mem : tie.Need-add-mem
 add-mem c = search needs
 
--- src/lib.rt:42:5  mem[at] = (x % 256) as u8; ⏎ mem[at + 1] = (x / 256) as u8;
+-- src/lib.rt:108:5  mem[at] = (x % 256) as u8; ⏎ mem[at + 1] = (x / 256) as u8;
 slice-write-mem-2 : tie.Need-slice-write-mem-2
 slice-write-mem-2 c = simp length-set (omega arith)
 
--- src/lib.rt:37:1  } ⏎ pub fn store_number(mem: &mut [u8], at: usize, x: u16)
+-- src/lib.rt:103:1  } ⏎ pub fn store_number(mem: &mut [u8], at: usize, x: u16)
 same-length : tie.Need-same-length
 same-length c = simp length-set
 
--- src/lib.rt:37:1  } ⏎ pub fn store_number(mem: &mut [u8], at: usize, x: u16)
+-- src/lib.rt:103:1  } ⏎ pub fn store_number(mem: &mut [u8], at: usize, x: u16)
 returns : tie.Need-returns
 unfolding stored16
 returns c = refl

@@ -5,7 +5,7 @@ use Rattle.machine_runs.proofs.port_of.Tie as tie
 use Rattle.machine_runs.proofs.port_of.Reads as reads
 use Rattle.machine_runs.proofs.port_of.Lts as lts
 use Rattle.machine_layout.proofs.operator_at.Reads as operator-at-reads
-use Rattle.machine_firing.proofs.name_at.Reads as name-at-reads
+use Rattle.machine_layout.proofs.name_at.Reads as name-at-reads
 use Rattle.machine_layout.specs.Layout.{operatorAt}
 
 -- src/lib.rt:47:9  { ⏎ let at = machine_layout::operator_at(j);

@@ -1,131 +1,127 @@
 -- The tests, as paths name them:
---   tie if1  { ⏎ if mem[0] < 1 {
---   tie if2  } ⏎ if 16 < mem[0] {
---   tie if3  } ⏎ if 1024 < machine_layout::number_at(mem, 1) {
---   tie if4  let links = machine_layout::number_at(mem, 3); ⏎ if 3105 < links {
---   tie if5  } ⏎ if 32 < mem[5] {
---   tie if6  } ⏎ if mem[6] < 1 {
---   tie if7  } ⏎ if 16 < mem[6] {
---   tie if8  } ⏎ if 16 < mem[7] {
---   tie if9  let trigger = machine_layout::number_at(mem, 8); ⏎ if trigger < links {
+--   tie if1  let capacity = machine_layout::capacity_stored(mem); ⏎ if capacity < 1 {
+--   tie if2  } ⏎ if machine_layout::CAPACITY < capacity {
+--   tie if3  } ⏎ if machine_layout::OPERATORS < machine_layout::operators(mem) {
+--   tie if4  let links = machine_layout::links(mem); ⏎ if machine_layout::LINKS < links {
+--   tie if5  } ⏎ if machine_layout::INPUTS < machine_layout::inputs(mem) {
+--   tie if6  let results = machine_layout::results(mem); ⏎ if results < 1 {
+--   tie if7  } ⏎ if machine_layout::RESULTS < results {
+--   tie if8  } ⏎ if machine_layout::UNTAKEN < machine_layout::untaken(mem) {
+--   tie if9  let trigger = machine_layout::trigger(mem); ⏎ if trigger < links {
 use native.Mathlib.Omega.{arith}
 use borrow.Author.Needs.{needs}
 use Rattle.machine_valid.proofs.figures_ok.Statement.{statement}
 use Rattle.machine_valid.proofs.figures_ok.Tie as tie
 use Rattle.machine_valid.proofs.figures_ok.Reads as reads
 use Rattle.machine_valid.proofs.figures_ok.Lts as lts
-use Rattle.machine_layout.proofs.number_at.Reads as number-at-reads
+use Rattle.machine_layout.proofs.capacity_stored.Reads as capacity-stored-reads
+use Rattle.machine_layout.proofs.inputs.Reads as inputs-reads
+use Rattle.machine_layout.proofs.links.Reads as links-reads
+use Rattle.machine_layout.proofs.operators.Reads as operators-reads
+use Rattle.machine_layout.proofs.results.Reads as results-reads
+use Rattle.machine_layout.proofs.trigger.Reads as trigger-reads
+use Rattle.machine_layout.proofs.untaken.Reads as untaken-reads
 use mathlib.Core.Path.{_≡_, sym, _∙_, refl, ap}
 use borrow.Author.Tests.{eq-eqb, ne-eqb, le-leb, lt-leb, lt-ltb, le-ltb}
 use Rattle.machine_valid.specs.Valid.{unlike, unlikeAt, freshAt, resultOk, inputOk, portOk, namedOk, registerOk, kindOk, operatorOk, tokenOk, stretchOk, linkOk, figuresOk, valid}
 use Rattle.machine_layout.specs.Layout.{capacityByte, operatorsOf, linksOf, inputsOf, resultsOf, untakenOf, noLink, nameAt, triggerOf, operatorAt, kindByte, registerAt, sizeOf, linkAt, part, need, capacityOf}
 
--- src/lib.rt:289:8  { ⏎ if mem[0] < 1 {
-shared-slice-read-if1 : tie.Need-shared-slice-read-if1
-shared-slice-read-if1 c = search needs
+-- src/lib.rt:284:9  { ⏎ let capacity = machine_layout::capacity_stored(mem);
+capacity-stored-requires : tie.Need-capacity-stored-requires
+capacity-stored-requires c κs = search needs
 
--- src/lib.rt:290:9  if mem[0] < 1 { ⏎ return false;
+-- src/lib.rt:286:9  if capacity < 1 { ⏎ return false;
 returns : tie.Need-returns
 unfolding figuresOk
-returns c = simp (lt-leb 1 (capacityByte (c .before .before .before .args .mem .now)) (c .if1 .taken))
+returns c = simp (lt-leb 1 (capacityByte (c .before .before .before .args .mem .now)) (omega (arith, c .before .capacity-stored .ensures .0)))
 
--- src/lib.rt:292:13  } ⏎ if 16 < mem[0] {
-shared-slice-read-if2 : tie.Need-shared-slice-read-if2
-shared-slice-read-if2 c = search needs
-
--- src/lib.rt:293:9  if 16 < mem[0] { ⏎ return false;
+-- src/lib.rt:289:9  if machine_layout::CAPACITY < capacity { ⏎ return false;
 returns-2 : tie.Need-returns-2
 unfolding figuresOk
-returns-2 c = simp (le-leb 1 (capacityByte (c .before .before .before .before .before .args .mem .now)) (c .before .before .if1 .left), lt-leb (capacityByte (c .before .before .before .before .before .args .mem .now)) 16 (c .if2 .taken))
+returns-2 c = simp (le-leb 1 (capacityByte (c .before .before .before .before .args .mem .now)) (omega (arith, c .before .before .capacity-stored .ensures .0)), lt-leb (capacityByte (c .before .before .before .before .args .mem .now)) 16 (omega (arith, c .before .before .capacity-stored .ensures .0)))
 
--- src/lib.rt:295:15  } ⏎ if 1024 < machine_layout::number_at(mem, 1) {
-number-at-requires : tie.Need-number-at-requires
-number-at-requires c κs = search needs
+-- src/lib.rt:291:36  } ⏎ if machine_layout::OPERATORS < machine_layout::operators(mem) {
+operators-requires : tie.Need-operators-requires
+operators-requires c κs = search needs
 
--- src/lib.rt:296:9  if 1024 < machine_layout::number_at(mem, 1) { ⏎ return false;
+-- src/lib.rt:292:9  if machine_layout::OPERATORS < machine_layout::operators(mem) { ⏎ return false;
 returns-3 : tie.Need-returns-3
 unfolding figuresOk
-returns-3 c = simp (le-leb 1 (capacityByte (c .before .before .before .before .before .before .before .args .mem .now)) (c .before .before .before .before .if1 .left), le-leb (capacityByte (c .before .before .before .before .before .before .before .args .mem .now)) 16 (c .before .before .if2 .left), lt-leb (operatorsOf (c .before .before .before .before .before .before .before .args .mem .now)) 1024 (omega (arith, c .before .number-at .ensures .0)))
+returns-3 c = simp (le-leb 1 (capacityByte (c .before .before .before .before .before .before .args .mem .now)) (omega (arith, c .before .before .before .before .capacity-stored .ensures .0)), le-leb (capacityByte (c .before .before .before .before .before .before .args .mem .now)) 16 (omega (arith, c .before .before .before .before .capacity-stored .ensures .0)), lt-leb (operatorsOf (c .before .before .before .before .before .before .args .mem .now)) 1024 (omega (arith, c .before .operators .ensures .0)))
 
--- src/lib.rt:298:9  } ⏎ let links = machine_layout::number_at(mem, 3);
-number-at-requires-2 : tie.Need-number-at-requires-2
-number-at-requires-2 c κs = search needs
+-- src/lib.rt:294:9  } ⏎ let links = machine_layout::links(mem);
+links-requires : tie.Need-links-requires
+links-requires c κs = search needs
 
--- src/lib.rt:300:9  if 3105 < links { ⏎ return false;
+-- src/lib.rt:296:9  if machine_layout::LINKS < links { ⏎ return false;
 returns-4 : tie.Need-returns-4
 unfolding figuresOk
-returns-4 c = simp (le-leb 1 (capacityByte (c .before .before .before .before .before .before .before .before .before .args .mem .now)) (c .before .before .before .before .before .before .if1 .left), le-leb (capacityByte (c .before .before .before .before .before .before .before .before .before .args .mem .now)) 16 (c .before .before .before .before .if2 .left), le-leb (operatorsOf (c .before .before .before .before .before .before .before .before .before .args .mem .now)) 1024 (omega (arith, c .before .before .before .number-at .ensures .0)), lt-leb (linksOf (c .before .before .before .before .before .before .before .before .before .args .mem .now)) 3105 (omega (arith, c .before .number-at2 .ensures .0)))
+returns-4 c = simp (le-leb 1 (capacityByte (c .before .before .before .before .before .before .before .before .args .mem .now)) (omega (arith, c .before .before .before .before .before .before .capacity-stored .ensures .0)), le-leb (capacityByte (c .before .before .before .before .before .before .before .before .args .mem .now)) 16 (omega (arith, c .before .before .before .before .before .before .capacity-stored .ensures .0)), le-leb (operatorsOf (c .before .before .before .before .before .before .before .before .args .mem .now)) 1024 (omega (arith, c .before .before .before .operators .ensures .0)), lt-leb (linksOf (c .before .before .before .before .before .before .before .before .args .mem .now)) 3105 (omega (arith, c .before .links .ensures .0)))
 
--- src/lib.rt:302:13  } ⏎ if 32 < mem[5] {
-shared-slice-read-if5 : tie.Need-shared-slice-read-if5
-shared-slice-read-if5 c = search needs
+-- src/lib.rt:298:33  } ⏎ if machine_layout::INPUTS < machine_layout::inputs(mem) {
+inputs-requires : tie.Need-inputs-requires
+inputs-requires c κs = search needs
 
--- src/lib.rt:303:9  if 32 < mem[5] { ⏎ return false;
+-- src/lib.rt:299:9  if machine_layout::INPUTS < machine_layout::inputs(mem) { ⏎ return false;
 returns-5 : tie.Need-returns-5
 unfolding figuresOk
-returns-5 c = simp (le-leb 1 (capacityByte (c .before .before .before .before .before .before .before .before .before .before .before .args .mem .now)) (c .before .before .before .before .before .before .before .before .if1 .left), le-leb (capacityByte (c .before .before .before .before .before .before .before .before .before .before .before .args .mem .now)) 16 (c .before .before .before .before .before .before .if2 .left), le-leb (operatorsOf (c .before .before .before .before .before .before .before .before .before .before .before .args .mem .now)) 1024 (omega (arith, c .before .before .before .before .before .number-at .ensures .0)), le-leb (linksOf (c .before .before .before .before .before .before .before .before .before .before .before .args .mem .now)) 3105 (omega (arith, c .before .before .before .number-at2 .ensures .0)), lt-leb (inputsOf (c .before .before .before .before .before .before .before .before .before .before .before .args .mem .now)) 32 (c .if5 .taken))
+returns-5 c = simp (le-leb 1 (capacityByte (c .before .before .before .before .before .before .before .before .before .before .args .mem .now)) (omega (arith, c .before .before .before .before .before .before .before .before .capacity-stored .ensures .0)), le-leb (capacityByte (c .before .before .before .before .before .before .before .before .before .before .args .mem .now)) 16 (omega (arith, c .before .before .before .before .before .before .before .before .capacity-stored .ensures .0)), le-leb (operatorsOf (c .before .before .before .before .before .before .before .before .before .before .args .mem .now)) 1024 (omega (arith, c .before .before .before .before .before .operators .ensures .0)), le-leb (linksOf (c .before .before .before .before .before .before .before .before .before .before .args .mem .now)) 3105 (omega (arith, c .before .before .before .links .ensures .0)), lt-leb (inputsOf (c .before .before .before .before .before .before .before .before .before .before .args .mem .now)) 32 (omega (arith, c .before .inputs .ensures .0)))
 
--- src/lib.rt:305:8  } ⏎ if mem[6] < 1 {
-shared-slice-read-if6 : tie.Need-shared-slice-read-if6
-shared-slice-read-if6 c = search needs
+-- src/lib.rt:301:9  } ⏎ let results = machine_layout::results(mem);
+results-requires : tie.Need-results-requires
+results-requires c κs = search needs
 
--- src/lib.rt:306:9  if mem[6] < 1 { ⏎ return false;
+-- src/lib.rt:303:9  if results < 1 { ⏎ return false;
 returns-6 : tie.Need-returns-6
 unfolding figuresOk
-returns-6 c = simp (le-leb 1 (capacityByte (c .before .before .before .before .before .before .before .before .before .before .before .before .before .args .mem .now)) (c .before .before .before .before .before .before .before .before .before .before .if1 .left), le-leb (capacityByte (c .before .before .before .before .before .before .before .before .before .before .before .before .before .args .mem .now)) 16 (c .before .before .before .before .before .before .before .before .if2 .left), le-leb (operatorsOf (c .before .before .before .before .before .before .before .before .before .before .before .before .before .args .mem .now)) 1024 (omega (arith, c .before .before .before .before .before .before .before .number-at .ensures .0)), le-leb (linksOf (c .before .before .before .before .before .before .before .before .before .before .before .before .before .args .mem .now)) 3105 (omega (arith, c .before .before .before .before .before .number-at2 .ensures .0)), le-leb (inputsOf (c .before .before .before .before .before .before .before .before .before .before .before .before .before .args .mem .now)) 32 (c .before .before .if5 .left), lt-leb 1 (resultsOf (c .before .before .before .before .before .before .before .before .before .before .before .before .before .args .mem .now)) (c .if6 .taken))
+returns-6 c = simp (le-leb 1 (capacityByte (c .before .before .before .before .before .before .before .before .before .before .before .before .args .mem .now)) (omega (arith, c .before .before .before .before .before .before .before .before .before .before .capacity-stored .ensures .0)), le-leb (capacityByte (c .before .before .before .before .before .before .before .before .before .before .before .before .args .mem .now)) 16 (omega (arith, c .before .before .before .before .before .before .before .before .before .before .capacity-stored .ensures .0)), le-leb (operatorsOf (c .before .before .before .before .before .before .before .before .before .before .before .before .args .mem .now)) 1024 (omega (arith, c .before .before .before .before .before .before .before .operators .ensures .0)), le-leb (linksOf (c .before .before .before .before .before .before .before .before .before .before .before .before .args .mem .now)) 3105 (omega (arith, c .before .before .before .before .before .links .ensures .0)), le-leb (inputsOf (c .before .before .before .before .before .before .before .before .before .before .before .before .args .mem .now)) 32 (omega (arith, c .before .before .before .inputs .ensures .0)), lt-leb 1 (resultsOf (c .before .before .before .before .before .before .before .before .before .before .before .before .args .mem .now)) (omega (arith, c .before .results .ensures .0)))
 
--- src/lib.rt:308:13  } ⏎ if 16 < mem[6] {
-shared-slice-read-if7 : tie.Need-shared-slice-read-if7
-shared-slice-read-if7 c = search needs
-
--- src/lib.rt:309:9  if 16 < mem[6] { ⏎ return false;
+-- src/lib.rt:306:9  if machine_layout::RESULTS < results { ⏎ return false;
 returns-7 : tie.Need-returns-7
 unfolding figuresOk
-returns-7 c = simp (le-leb 1 (capacityByte (c .before .before .before .before .before .before .before .before .before .before .before .before .before .before .before .args .mem .now)) (c .before .before .before .before .before .before .before .before .before .before .before .before .if1 .left), le-leb (capacityByte (c .before .before .before .before .before .before .before .before .before .before .before .before .before .before .before .args .mem .now)) 16 (c .before .before .before .before .before .before .before .before .before .before .if2 .left), le-leb (operatorsOf (c .before .before .before .before .before .before .before .before .before .before .before .before .before .before .before .args .mem .now)) 1024 (omega (arith, c .before .before .before .before .before .before .before .before .before .number-at .ensures .0)), le-leb (linksOf (c .before .before .before .before .before .before .before .before .before .before .before .before .before .before .before .args .mem .now)) 3105 (omega (arith, c .before .before .before .before .before .before .before .number-at2 .ensures .0)), le-leb (inputsOf (c .before .before .before .before .before .before .before .before .before .before .before .before .before .before .before .args .mem .now)) 32 (c .before .before .before .before .if5 .left), le-leb 1 (resultsOf (c .before .before .before .before .before .before .before .before .before .before .before .before .before .before .before .args .mem .now)) (c .before .before .if6 .left), lt-leb (resultsOf (c .before .before .before .before .before .before .before .before .before .before .before .before .before .before .before .args .mem .now)) 16 (c .if7 .taken))
+returns-7 c = simp (le-leb 1 (capacityByte (c .before .before .before .before .before .before .before .before .before .before .before .before .before .args .mem .now)) (omega (arith, c .before .before .before .before .before .before .before .before .before .before .before .capacity-stored .ensures .0)), le-leb (capacityByte (c .before .before .before .before .before .before .before .before .before .before .before .before .before .args .mem .now)) 16 (omega (arith, c .before .before .before .before .before .before .before .before .before .before .before .capacity-stored .ensures .0)), le-leb (operatorsOf (c .before .before .before .before .before .before .before .before .before .before .before .before .before .args .mem .now)) 1024 (omega (arith, c .before .before .before .before .before .before .before .before .operators .ensures .0)), le-leb (linksOf (c .before .before .before .before .before .before .before .before .before .before .before .before .before .args .mem .now)) 3105 (omega (arith, c .before .before .before .before .before .before .links .ensures .0)), le-leb (inputsOf (c .before .before .before .before .before .before .before .before .before .before .before .before .before .args .mem .now)) 32 (omega (arith, c .before .before .before .before .inputs .ensures .0)), le-leb 1 (resultsOf (c .before .before .before .before .before .before .before .before .before .before .before .before .before .args .mem .now)) (omega (arith, c .before .before .results .ensures .0)), lt-leb (resultsOf (c .before .before .before .before .before .before .before .before .before .before .before .before .before .args .mem .now)) 16 (omega (arith, c .before .before .results .ensures .0)))
 
--- src/lib.rt:311:13  } ⏎ if 16 < mem[7] {
-shared-slice-read-if8 : tie.Need-shared-slice-read-if8
-shared-slice-read-if8 c = search needs
+-- src/lib.rt:308:34  } ⏎ if machine_layout::UNTAKEN < machine_layout::untaken(mem) {
+untaken-requires : tie.Need-untaken-requires
+untaken-requires c κs = search needs
 
--- src/lib.rt:312:9  if 16 < mem[7] { ⏎ return false;
+-- src/lib.rt:309:9  if machine_layout::UNTAKEN < machine_layout::untaken(mem) { ⏎ return false;
 returns-8 : tie.Need-returns-8
 unfolding figuresOk
-returns-8 c = simp (le-leb 1 (capacityByte (c .before .before .before .before .before .before .before .before .before .before .before .before .before .before .before .before .before .args .mem .now)) (c .before .before .before .before .before .before .before .before .before .before .before .before .before .before .if1 .left), le-leb (capacityByte (c .before .before .before .before .before .before .before .before .before .before .before .before .before .before .before .before .before .args .mem .now)) 16 (c .before .before .before .before .before .before .before .before .before .before .before .before .if2 .left), le-leb (operatorsOf (c .before .before .before .before .before .before .before .before .before .before .before .before .before .before .before .before .before .args .mem .now)) 1024 (omega (arith, c .before .before .before .before .before .before .before .before .before .before .before .number-at .ensures .0)), le-leb (linksOf (c .before .before .before .before .before .before .before .before .before .before .before .before .before .before .before .before .before .args .mem .now)) 3105 (omega (arith, c .before .before .before .before .before .before .before .before .before .number-at2 .ensures .0)), le-leb (inputsOf (c .before .before .before .before .before .before .before .before .before .before .before .before .before .before .before .before .before .args .mem .now)) 32 (c .before .before .before .before .before .before .if5 .left), le-leb 1 (resultsOf (c .before .before .before .before .before .before .before .before .before .before .before .before .before .before .before .before .before .args .mem .now)) (c .before .before .before .before .if6 .left), le-leb (resultsOf (c .before .before .before .before .before .before .before .before .before .before .before .before .before .before .before .before .before .args .mem .now)) 16 (c .before .before .if7 .left), lt-leb (untakenOf (c .before .before .before .before .before .before .before .before .before .before .before .before .before .before .before .before .before .args .mem .now)) 16 (c .if8 .taken))
+returns-8 c = simp (le-leb 1 (capacityByte (c .before .before .before .before .before .before .before .before .before .before .before .before .before .before .before .args .mem .now)) (omega (arith, c .before .before .before .before .before .before .before .before .before .before .before .before .before .capacity-stored .ensures .0)), le-leb (capacityByte (c .before .before .before .before .before .before .before .before .before .before .before .before .before .before .before .args .mem .now)) 16 (omega (arith, c .before .before .before .before .before .before .before .before .before .before .before .before .before .capacity-stored .ensures .0)), le-leb (operatorsOf (c .before .before .before .before .before .before .before .before .before .before .before .before .before .before .before .args .mem .now)) 1024 (omega (arith, c .before .before .before .before .before .before .before .before .before .before .operators .ensures .0)), le-leb (linksOf (c .before .before .before .before .before .before .before .before .before .before .before .before .before .before .before .args .mem .now)) 3105 (omega (arith, c .before .before .before .before .before .before .before .before .links .ensures .0)), le-leb (inputsOf (c .before .before .before .before .before .before .before .before .before .before .before .before .before .before .before .args .mem .now)) 32 (omega (arith, c .before .before .before .before .before .before .inputs .ensures .0)), le-leb 1 (resultsOf (c .before .before .before .before .before .before .before .before .before .before .before .before .before .before .before .args .mem .now)) (omega (arith, c .before .before .before .before .results .ensures .0)), le-leb (resultsOf (c .before .before .before .before .before .before .before .before .before .before .before .before .before .before .before .args .mem .now)) 16 (omega (arith, c .before .before .before .before .results .ensures .0)), lt-leb (untakenOf (c .before .before .before .before .before .before .before .before .before .before .before .before .before .before .before .args .mem .now)) 16 (omega (arith, c .before .untaken .ensures .0)))
 
--- src/lib.rt:314:9  } ⏎ let trigger = machine_layout::number_at(mem, 8);
-number-at-requires-3 : tie.Need-number-at-requires-3
-number-at-requires-3 c κs = search needs
+-- src/lib.rt:311:9  } ⏎ let trigger = machine_layout::trigger(mem);
+trigger-requires : tie.Need-trigger-requires
+trigger-requires c κs = search needs
 
--- src/lib.rt:316:9  if trigger < links { ⏎ return true;
+-- src/lib.rt:313:9  if trigger < links { ⏎ return true;
 returns-9 : tie.Need-returns-9
 unfolding figuresOk
-returns-9 c = simp (le-leb 1 (capacityByte (c .before .before .before .before .before .before .before .before .before .before .before .before .before .before .before .before .before .before .before .args .mem .now)) (c .before .before .before .before .before .before .before .before .before .before .before .before .before .before .before .before .if1 .left), le-leb (capacityByte (c .before .before .before .before .before .before .before .before .before .before .before .before .before .before .before .before .before .before .before .args .mem .now)) 16 (c .before .before .before .before .before .before .before .before .before .before .before .before .before .before .if2 .left), le-leb (operatorsOf (c .before .before .before .before .before .before .before .before .before .before .before .before .before .before .before .before .before .before .before .args .mem .now)) 1024 (omega (arith, c .before .before .before .before .before .before .before .before .before .before .before .before .before .number-at .ensures .0)), le-leb (linksOf (c .before .before .before .before .before .before .before .before .before .before .before .before .before .before .before .before .before .before .before .args .mem .now)) 3105 (omega (arith, c .before .before .before .before .before .before .before .before .before .before .before .number-at2 .ensures .0)), le-leb (inputsOf (c .before .before .before .before .before .before .before .before .before .before .before .before .before .before .before .before .before .before .before .args .mem .now)) 32 (c .before .before .before .before .before .before .before .before .if5 .left), le-leb 1 (resultsOf (c .before .before .before .before .before .before .before .before .before .before .before .before .before .before .before .before .before .before .before .args .mem .now)) (c .before .before .before .before .before .before .if6 .left), le-leb (resultsOf (c .before .before .before .before .before .before .before .before .before .before .before .before .before .before .before .before .before .before .before .args .mem .now)) 16 (c .before .before .before .before .if7 .left), le-leb (untakenOf (c .before .before .before .before .before .before .before .before .before .before .before .before .before .before .before .before .before .before .before .args .mem .now)) 16 (c .before .before .if8 .left), lt-ltb (triggerOf (c .before .before .before .before .before .before .before .before .before .before .before .before .before .before .before .before .before .before .before .args .mem .now)) (linksOf (c .before .before .before .before .before .before .before .before .before .before .before .before .before .before .before .before .before .before .before .args .mem .now)) (omega (arith, c .before .before .before .before .before .before .before .before .before .before .before .number-at2 .ensures .0, c .before .number-at3 .ensures .0)))
+returns-9 c = simp (le-leb 1 (capacityByte (c .before .before .before .before .before .before .before .before .before .before .before .before .before .before .before .before .before .args .mem .now)) (omega (arith, c .before .before .before .before .before .before .before .before .before .before .before .before .before .before .before .capacity-stored .ensures .0)), le-leb (capacityByte (c .before .before .before .before .before .before .before .before .before .before .before .before .before .before .before .before .before .args .mem .now)) 16 (omega (arith, c .before .before .before .before .before .before .before .before .before .before .before .before .before .before .before .capacity-stored .ensures .0)), le-leb (operatorsOf (c .before .before .before .before .before .before .before .before .before .before .before .before .before .before .before .before .before .args .mem .now)) 1024 (omega (arith, c .before .before .before .before .before .before .before .before .before .before .before .before .operators .ensures .0)), le-leb (linksOf (c .before .before .before .before .before .before .before .before .before .before .before .before .before .before .before .before .before .args .mem .now)) 3105 (omega (arith, c .before .before .before .before .before .before .before .before .before .before .links .ensures .0)), le-leb (inputsOf (c .before .before .before .before .before .before .before .before .before .before .before .before .before .before .before .before .before .args .mem .now)) 32 (omega (arith, c .before .before .before .before .before .before .before .before .inputs .ensures .0)), le-leb 1 (resultsOf (c .before .before .before .before .before .before .before .before .before .before .before .before .before .before .before .before .before .args .mem .now)) (omega (arith, c .before .before .before .before .before .before .results .ensures .0)), le-leb (resultsOf (c .before .before .before .before .before .before .before .before .before .before .before .before .before .before .before .before .before .args .mem .now)) 16 (omega (arith, c .before .before .before .before .before .before .results .ensures .0)), le-leb (untakenOf (c .before .before .before .before .before .before .before .before .before .before .before .before .before .before .before .before .before .args .mem .now)) 16 (omega (arith, c .before .before .before .untaken .ensures .0)), lt-ltb (triggerOf (c .before .before .before .before .before .before .before .before .before .before .before .before .before .before .before .before .before .args .mem .now)) (linksOf (c .before .before .before .before .before .before .before .before .before .before .before .before .before .before .before .before .before .args .mem .now)) (omega (arith, c .before .before .before .before .before .before .before .before .before .before .links .ensures .0, c .before .trigger .ensures .0)))
 
--- src/lib.rt:285:1  } ⏎ fn figures_ok(mem: &[u8]) -> bool
+-- src/lib.rt:280:1  } ⏎ fn figures_ok(mem: &[u8]) -> bool
 returns-10 : tie.Need-returns-10
 unfolding figuresOk
-returns-10 c = simp (le-leb 1 (capacityByte (c .before .before .before .before .before .before .before .before .before .before .before .before .before .before .before .before .before .before .before .args .mem .now)) (c .before .before .before .before .before .before .before .before .before .before .before .before .before .before .before .before .if1 .left), le-leb (capacityByte (c .before .before .before .before .before .before .before .before .before .before .before .before .before .before .before .before .before .before .before .args .mem .now)) 16 (c .before .before .before .before .before .before .before .before .before .before .before .before .before .before .if2 .left), le-leb (operatorsOf (c .before .before .before .before .before .before .before .before .before .before .before .before .before .before .before .before .before .before .before .args .mem .now)) 1024 (omega (arith, c .before .before .before .before .before .before .before .before .before .before .before .before .before .number-at .ensures .0)), le-leb (linksOf (c .before .before .before .before .before .before .before .before .before .before .before .before .before .before .before .before .before .before .before .args .mem .now)) 3105 (omega (arith, c .before .before .before .before .before .before .before .before .before .before .before .number-at2 .ensures .0)), le-leb (inputsOf (c .before .before .before .before .before .before .before .before .before .before .before .before .before .before .before .before .before .before .before .args .mem .now)) 32 (c .before .before .before .before .before .before .before .before .if5 .left), le-leb 1 (resultsOf (c .before .before .before .before .before .before .before .before .before .before .before .before .before .before .before .before .before .before .before .args .mem .now)) (c .before .before .before .before .before .before .if6 .left), le-leb (resultsOf (c .before .before .before .before .before .before .before .before .before .before .before .before .before .before .before .before .before .before .before .args .mem .now)) 16 (c .before .before .before .before .if7 .left), le-leb (untakenOf (c .before .before .before .before .before .before .before .before .before .before .before .before .before .before .before .before .before .before .before .args .mem .now)) 16 (c .before .before .if8 .left), le-ltb (triggerOf (c .before .before .before .before .before .before .before .before .before .before .before .before .before .before .before .before .before .before .before .args .mem .now)) (linksOf (c .before .before .before .before .before .before .before .before .before .before .before .before .before .before .before .before .before .before .before .args .mem .now)) (omega (arith, c .before .before .before .before .before .before .before .before .before .before .before .number-at2 .ensures .0, c .before .number-at3 .ensures .0))) (rw (c .before .number-at3 .ensures .0) refl)
+returns-10 c = simp (le-leb 1 (capacityByte (c .before .before .before .before .before .before .before .before .before .before .before .before .before .before .before .before .before .args .mem .now)) (omega (arith, c .before .before .before .before .before .before .before .before .before .before .before .before .before .before .before .capacity-stored .ensures .0)), le-leb (capacityByte (c .before .before .before .before .before .before .before .before .before .before .before .before .before .before .before .before .before .args .mem .now)) 16 (omega (arith, c .before .before .before .before .before .before .before .before .before .before .before .before .before .before .before .capacity-stored .ensures .0)), le-leb (operatorsOf (c .before .before .before .before .before .before .before .before .before .before .before .before .before .before .before .before .before .args .mem .now)) 1024 (omega (arith, c .before .before .before .before .before .before .before .before .before .before .before .before .operators .ensures .0)), le-leb (linksOf (c .before .before .before .before .before .before .before .before .before .before .before .before .before .before .before .before .before .args .mem .now)) 3105 (omega (arith, c .before .before .before .before .before .before .before .before .before .before .links .ensures .0)), le-leb (inputsOf (c .before .before .before .before .before .before .before .before .before .before .before .before .before .before .before .before .before .args .mem .now)) 32 (omega (arith, c .before .before .before .before .before .before .before .before .inputs .ensures .0)), le-leb 1 (resultsOf (c .before .before .before .before .before .before .before .before .before .before .before .before .before .before .before .before .before .args .mem .now)) (omega (arith, c .before .before .before .before .before .before .results .ensures .0)), le-leb (resultsOf (c .before .before .before .before .before .before .before .before .before .before .before .before .before .before .before .before .before .args .mem .now)) 16 (omega (arith, c .before .before .before .before .before .before .results .ensures .0)), le-leb (untakenOf (c .before .before .before .before .before .before .before .before .before .before .before .before .before .before .before .before .before .args .mem .now)) 16 (omega (arith, c .before .before .before .untaken .ensures .0)), le-ltb (triggerOf (c .before .before .before .before .before .before .before .before .before .before .before .before .before .before .before .before .before .args .mem .now)) (linksOf (c .before .before .before .before .before .before .before .before .before .before .before .before .before .before .before .before .before .args .mem .now)) (omega (arith, c .before .before .before .before .before .before .before .before .before .before .links .ensures .0, c .before .trigger .ensures .0))) (rw (c .before .trigger .ensures .0) refl)
 
 pub figures-ok-spec : {M : Type 1} → statement M
 figures-ok-spec =
     tie.close
     (tie.spec
-    shared-slice-read-if1
+    capacity-stored-requires
     returns
-    shared-slice-read-if2
     returns-2
-    number-at-requires
+    operators-requires
     returns-3
-    number-at-requires-2
+    links-requires
     returns-4
-    shared-slice-read-if5
+    inputs-requires
     returns-5
-    shared-slice-read-if6
+    results-requires
     returns-6
-    shared-slice-read-if7
     returns-7
-    shared-slice-read-if8
+    untaken-requires
     returns-8
-    number-at-requires-3
+    trigger-requires
     returns-9
     returns-10)

@@ -1,140 +1,162 @@
 -- The tests, as paths name them:
---   tie if1  { ⏎ if figures_ok(mem) {
---   tie if2  if figures_ok(mem) { ⏎ if operators_ok(mem, machine_layout::number_at(mem, 1)) {
---   tie if3  if operators_ok(mem, machine_layout::number_at(mem, 1)) { ⏎ if links_ok(mem, 5 * machine_layout::wide(mem[0]) + 1, machine_layout::number_at(mem, 3)) {
---   tie if4  if links_ok(mem, 5 * machine_layout::wide(mem[0]) + 1, machine_layout::number_at(mem, 3)) { ⏎ if inputs_ok(mem, machine_layout::wide(mem[5]) + 1) {
+--   tie if1  { ⏎ if !figures_ok(mem) {
+--   tie if2  } ⏎ if !operators_ok(mem, machine_layout::operators(mem)) {
+--   tie if3  let size = machine_layout::stretch_size(machine_layout::capacity(mem)); ⏎ if !links_ok(mem, size, machine_layout::links(mem)) {
+--   tie if4  } ⏎ if !inputs_ok(mem, machine_layout::inputs(mem) + 1) {
 use native.Mathlib.Omega.{arith}
 use borrow.Author.Needs.{needs}
 use Rattle.machine_valid.proofs.is_valid.Statement.{statement}
 use Rattle.machine_valid.proofs.is_valid.Tie as tie
 use Rattle.machine_valid.proofs.is_valid.Reads as reads
 use Rattle.machine_valid.proofs.is_valid.Lts as lts
-use Rattle.machine_layout.proofs.number_at.Reads as number-at-reads
-use Rattle.machine_layout.proofs.wide.Reads as wide-reads
+use Rattle.machine_layout.proofs.capacity.Reads as capacity-reads
+use Rattle.machine_layout.proofs.inputs.Reads as inputs-reads
+use Rattle.machine_layout.proofs.links.Reads as links-reads
+use Rattle.machine_layout.proofs.operators.Reads as operators-reads
+use Rattle.machine_layout.proofs.results.Reads as results-reads
+use Rattle.machine_layout.proofs.stretch_size.Reads as stretch-size-reads
 use Rattle.machine_valid.proofs.figures_ok.Reads as figures-ok-reads
 use Rattle.machine_valid.proofs.inputs_ok.Reads as inputs-ok-reads
 use Rattle.machine_valid.proofs.links_ok.Reads as links-ok-reads
 use Rattle.machine_valid.proofs.operators_ok.Reads as operators-ok-reads
 use Rattle.machine_valid.proofs.results_ok.Reads as results-ok-reads
+use borrow.Author.Tests.{not-true, not-false}
 use mathlib.Core.Path.{_≡_, sym, _∙_, refl, ap}
 use Prim.Native.Nat.{ℕ, _+_, _-_, _*_, _≤_, _<_}
 use mathlib.Core.Bool.{Bool, true, false, _&&_, _||_}
 use Rattle.machine_valid.specs.Valid.{unlike, unlikeAt, freshAt, resultOk, inputOk, portOk, namedOk, registerOk, kindOk, operatorOk, tokenOk, stretchOk, linkOk, figuresOk, valid}
 use Rattle.machine_layout.specs.Layout.{capacityByte, operatorsOf, linksOf, inputsOf, resultsOf, untakenOf, noLink, nameAt, triggerOf, operatorAt, kindByte, registerAt, sizeOf, linkAt, part, need, capacityOf}
 use Rattle.machine_valid.specs.Below.{allBelow, below-zero, below-step, below-fail}
-use Rattle.machine_valid.specs.Figures.{Figures, figures-say, enough}
+use Rattle.machine_valid.specs.Figures.{Figures, figures-say, capacity-is}
 
--- src/lib.rt:325:8  { ⏎ if figures_ok(mem) {
+-- src/lib.rt:322:9  { ⏎ if !figures_ok(mem) {
 figures-ok-requires : tie.Need-figures-ok-requires
 figures-ok-requires c κs = search needs
 
--- src/lib.rt:326:30  if figures_ok(mem) { ⏎ if operators_ok(mem, machine_layout::number_at(mem, 1)) {
-number-at-requires : tie.Need-number-at-requires
-number-at-requires c κs = search needs
+-- src/lib.rt:323:9  if !figures_ok(mem) { ⏎ return false;
+returns : tie.Need-returns
+unfolding valid
+returns c =
+    let f : figuresOk (c .before .before .before .args .mem .now) ≡ false = sym (c .before .figures-ok .ensures) ∙ not-true (c .before .figures-ok .result) (c .if1 .taken) in
+    rw f refl
 
--- src/lib.rt:326:12  if figures_ok(mem) { ⏎ if operators_ok(mem, machine_layout::number_at(mem, 1)) {
+-- src/lib.rt:325:27  } ⏎ if !operators_ok(mem, machine_layout::operators(mem)) {
+operators-requires : tie.Need-operators-requires
+operators-requires c κs = search needs
+
+-- src/lib.rt:325:9  } ⏎ if !operators_ok(mem, machine_layout::operators(mem)) {
 operators-ok-requires : tie.Need-operators-ok-requires
-operators-ok-requires c κs = let f : figuresOk (c .before .before .before .before .args .mem .now) ≡ true = sym (c .before .before .figures-ok .ensures) ∙ c .before .if1 .taken in let g = figures-say (c .before .before .before .before .args .mem .now) f in let e = enough (c .before .before .before .before .args .mem .now) g (c .before .before .before .before .pre) in (omega arith, omega (arith, c .number-at .ensures .0))
+operators-ok-requires c κs =
+    let f : figuresOk (c .before .before .before .before .args .mem .now) ≡ true = sym (c .before .before .figures-ok .ensures) ∙ not-false (c .before .before .figures-ok .result) (c .before .if1 .left) in
+    let g = figures-say (c .before .before .before .before .args .mem .now) f in
+    (omega arith, omega (arith, c .operators .ensures .0))
 
--- src/lib.rt:327:47  if operators_ok(mem, machine_layout::number_at(mem, 1)) { ⏎ if links_ok(mem, 5 * machine_layout::wide(mem[0]) + 1, machine_layout::number_at(mem, 3)) {
-shared-slice-read-wide : tie.Need-shared-slice-read-wide
-shared-slice-read-wide c = search needs
+-- src/lib.rt:326:9  if !operators_ok(mem, machine_layout::operators(mem)) { ⏎ return false;
+returns-2 : tie.Need-returns-2
+unfolding valid
+returns-2 c =
+    let f : figuresOk (c .before .before .before .before .before .before .args .mem .now) ≡ true = sym (c .before .before .before .before .figures-ok .ensures) ∙ not-false (c .before .before .before .before .figures-ok .result) (c .before .before .before .if1 .left) in
+    let o : allBelow (operatorsOf (c .before .before .before .before .before .before .args .mem .now)) (operatorOk (c .before .before .before .before .before .before .args .mem .now)) ≡ false = sym (rw (c .before .before .operators .ensures .0) at (c .before .operators-ok .ensures)) ∙ not-true (c .before .operators-ok .result) (c .if2 .taken) in
+    rw (f, o) refl
 
--- src/lib.rt:327:34  if operators_ok(mem, machine_layout::number_at(mem, 1)) { ⏎ if links_ok(mem, 5 * machine_layout::wide(mem[0]) + 1, machine_layout::number_at(mem, 3)) {
-wide-requires : tie.Need-wide-requires
-wide-requires c κs = search needs
+-- src/lib.rt:328:45  } ⏎ let size = machine_layout::stretch_size(machine_layout::capacity(mem));
+capacity-requires : tie.Need-capacity-requires
+capacity-requires c κs = search needs
 
--- src/lib.rt:327:30  if operators_ok(mem, machine_layout::number_at(mem, 1)) { ⏎ if links_ok(mem, 5 * machine_layout::wide(mem[0]) + 1, machine_layout::number_at(mem, 3)) {
-mul-links-ok : tie.Need-mul-links-ok
-mul-links-ok c = search needs
+-- src/lib.rt:328:9  } ⏎ let size = machine_layout::stretch_size(machine_layout::capacity(mem));
+stretch-size-requires : tie.Need-stretch-size-requires
+stretch-size-requires c κs = search needs
 
--- src/lib.rt:327:30  if operators_ok(mem, machine_layout::number_at(mem, 1)) { ⏎ if links_ok(mem, 5 * machine_layout::wide(mem[0]) + 1, machine_layout::number_at(mem, 3)) {
-add-links-ok : tie.Need-add-links-ok
-add-links-ok c = search needs
+-- src/lib.rt:329:29  let size = machine_layout::stretch_size(machine_layout::capacity(mem)); ⏎ if !links_ok(mem, size, machine_layout::links(mem)) {
+links-requires : tie.Need-links-requires
+links-requires c κs = search needs
 
--- src/lib.rt:327:60  if operators_ok(mem, machine_layout::number_at(mem, 1)) { ⏎ if links_ok(mem, 5 * machine_layout::wide(mem[0]) + 1, machine_layout::number_at(mem, 3)) {
-number-at-requires-2 : tie.Need-number-at-requires-2
-number-at-requires-2 c κs = search needs
-
--- src/lib.rt:327:16  if operators_ok(mem, machine_layout::number_at(mem, 1)) { ⏎ if links_ok(mem, 5 * machine_layout::wide(mem[0]) + 1, machine_layout::number_at(mem, 3)) {
+-- src/lib.rt:329:9  let size = machine_layout::stretch_size(machine_layout::capacity(mem)); ⏎ if !links_ok(mem, size, machine_layout::links(mem)) {
 links-ok-requires : tie.Need-links-ok-requires
-links-ok-requires c κs = let f : figuresOk (c .before .before .before .before .before .before .before .before .before .args .mem .now) ≡ true = sym (c .before .before .before .before .before .before .before .figures-ok .ensures) ∙ c .before .before .before .before .before .before .if1 .taken in let g = figures-say (c .before .before .before .before .before .before .before .before .before .args .mem .now) f in let e = enough (c .before .before .before .before .before .before .before .before .before .args .mem .now) g (c .before .before .before .before .before .before .before .before .before .pre) in (omega (arith, c .before .wide .ensures .0), omega (arith, c .before .wide .ensures .0), omega (arith, c .before .wide .ensures .0), omega (arith, c .number-at2 .ensures .0))
+links-ok-requires c κs =
+    let f : figuresOk (c .before .before .before .before .before .before .before .before .before .args .mem .now) ≡ true = sym (c .before .before .before .before .before .before .before .figures-ok .ensures) ∙ not-false (c .before .before .before .before .before .before .before .figures-ok .result) (c .before .before .before .before .before .before .if1 .left) in
+    let g = figures-say (c .before .before .before .before .before .before .before .before .before .args .mem .now) f in
+    (omega (arith, c .before .stretch-size .ensures, c .before .before .capacity .ensures .1), omega (arith, c .before .stretch-size .ensures, c .before .before .capacity .ensures .2), omega (arith, c .before .stretch-size .ensures, c .before .before .capacity .ensures .0), omega (arith, c .links .ensures .0))
 
--- src/lib.rt:328:48  if links_ok(mem, 5 * machine_layout::wide(mem[0]) + 1, machine_layout::number_at(mem, 3)) { ⏎ if inputs_ok(mem, machine_layout::wide(mem[5]) + 1) {
-shared-slice-read-wide-2 : tie.Need-shared-slice-read-wide-2
-shared-slice-read-wide-2 c = search needs
+-- src/lib.rt:330:9  if !links_ok(mem, size, machine_layout::links(mem)) { ⏎ return false;
+returns-3 : tie.Need-returns-3
+unfolding valid
+returns-3 c =
+    let f : figuresOk (c .before .before .before .before .before .before .before .before .before .before .before .args .mem .now) ≡ true = sym (c .before .before .before .before .before .before .before .before .before .figures-ok .ensures) ∙ not-false (c .before .before .before .before .before .before .before .before .before .figures-ok .result) (c .before .before .before .before .before .before .before .before .if1 .left) in
+    let g = figures-say (c .before .before .before .before .before .before .before .before .before .before .before .args .mem .now) f in
+    let o : allBelow (operatorsOf (c .before .before .before .before .before .before .before .before .before .before .before .args .mem .now)) (operatorOk (c .before .before .before .before .before .before .before .before .before .before .before .args .mem .now)) ≡ true = sym (rw (c .before .before .before .before .before .before .before .operators .ensures .0) at (c .before .before .before .before .before .before .operators-ok .ensures)) ∙ not-false (c .before .before .before .before .before .before .operators-ok .result) (c .before .before .before .before .before .if2 .left) in
+    let s : c .before .before .before .stretch-size .result ≡ sizeOf (capacityByte (c .before .before .before .before .before .before .before .before .before .before .before .args .mem .now)) = c .before .before .before .stretch-size .ensures ∙ ap sizeOf (c .before .before .before .before .capacity .ensures .0 ∙ capacity-is (c .before .before .before .before .before .before .before .before .before .before .before .args .mem .now) g) in
+    let l : allBelow (linksOf (c .before .before .before .before .before .before .before .before .before .before .before .args .mem .now)) (linkOk (c .before .before .before .before .before .before .before .before .before .before .before .args .mem .now) (sizeOf (capacityByte (c .before .before .before .before .before .before .before .before .before .before .before .args .mem .now)))) ≡ false = sym (rw (c .before .before .links .ensures .0, s) at (c .before .links-ok .ensures)) ∙ not-true (c .before .links-ok .result) (c .if3 .taken) in
+    rw (f, o, l) refl
 
--- src/lib.rt:328:35  if links_ok(mem, 5 * machine_layout::wide(mem[0]) + 1, machine_layout::number_at(mem, 3)) { ⏎ if inputs_ok(mem, machine_layout::wide(mem[5]) + 1) {
-wide-requires-2 : tie.Need-wide-requires-2
-wide-requires-2 c κs = search needs
+-- src/lib.rt:332:24  } ⏎ if !inputs_ok(mem, machine_layout::inputs(mem) + 1) {
+inputs-requires : tie.Need-inputs-requires
+inputs-requires c κs = search needs
 
--- src/lib.rt:328:35  if links_ok(mem, 5 * machine_layout::wide(mem[0]) + 1, machine_layout::number_at(mem, 3)) { ⏎ if inputs_ok(mem, machine_layout::wide(mem[5]) + 1) {
+-- src/lib.rt:332:24  } ⏎ if !inputs_ok(mem, machine_layout::inputs(mem) + 1) {
 add-inputs-ok : tie.Need-add-inputs-ok
 add-inputs-ok c = search needs
 
--- src/lib.rt:328:20  if links_ok(mem, 5 * machine_layout::wide(mem[0]) + 1, machine_layout::number_at(mem, 3)) { ⏎ if inputs_ok(mem, machine_layout::wide(mem[5]) + 1) {
+-- src/lib.rt:332:9  } ⏎ if !inputs_ok(mem, machine_layout::inputs(mem) + 1) {
 inputs-ok-requires : tie.Need-inputs-ok-requires
-inputs-ok-requires c κs = let f : figuresOk (c .before .before .before .before .before .before .before .before .before .before .before .before .before .args .mem .now) ≡ true = sym (c .before .before .before .before .before .before .before .before .before .before .before .figures-ok .ensures) ∙ c .before .before .before .before .before .before .before .before .before .before .if1 .taken in let g = figures-say (c .before .before .before .before .before .before .before .before .before .before .before .before .before .args .mem .now) f in let e = enough (c .before .before .before .before .before .before .before .before .before .before .before .before .before .args .mem .now) g (c .before .before .before .before .before .before .before .before .before .before .before .before .before .pre) in (omega arith, omega (arith, c .wide2 .ensures .0))
+inputs-ok-requires c κs =
+    let f : figuresOk (c .before .before .before .before .before .before .before .before .before .before .before .before .args .mem .now) ≡ true = sym (c .before .before .before .before .before .before .before .before .before .before .figures-ok .ensures) ∙ not-false (c .before .before .before .before .before .before .before .before .before .before .figures-ok .result) (c .before .before .before .before .before .before .before .before .before .if1 .left) in
+    let g = figures-say (c .before .before .before .before .before .before .before .before .before .before .before .before .args .mem .now) f in
+    (omega arith, omega (arith, c .inputs .ensures .0))
 
--- src/lib.rt:329:57  if inputs_ok(mem, machine_layout::wide(mem[5]) + 1) { ⏎ return results_ok(mem, machine_layout::wide(mem[6]));
-shared-slice-read-wide-3 : tie.Need-shared-slice-read-wide-3
-shared-slice-read-wide-3 c = search needs
-
--- src/lib.rt:329:44  if inputs_ok(mem, machine_layout::wide(mem[5]) + 1) { ⏎ return results_ok(mem, machine_layout::wide(mem[6]));
-wide-requires-3 : tie.Need-wide-requires-3
-wide-requires-3 c κs = search needs
-
--- src/lib.rt:329:21  if inputs_ok(mem, machine_layout::wide(mem[5]) + 1) { ⏎ return results_ok(mem, machine_layout::wide(mem[6]));
-results-ok-requires : tie.Need-results-ok-requires
-results-ok-requires c κs = let f : figuresOk (c .before .before .before .before .before .before .before .before .before .before .before .before .before .before .before .before .before .args .mem .now) ≡ true = sym (c .before .before .before .before .before .before .before .before .before .before .before .before .before .before .before .figures-ok .ensures) ∙ c .before .before .before .before .before .before .before .before .before .before .before .before .before .before .if1 .taken in let g = figures-say (c .before .before .before .before .before .before .before .before .before .before .before .before .before .before .before .before .before .args .mem .now) f in let e = enough (c .before .before .before .before .before .before .before .before .before .before .before .before .before .before .before .before .before .args .mem .now) g (c .before .before .before .before .before .before .before .before .before .before .before .before .before .before .before .before .before .pre) in (omega arith, omega (arith, c .wide3 .ensures .0))
-
--- src/lib.rt:329:21  if inputs_ok(mem, machine_layout::wide(mem[5]) + 1) { ⏎ return results_ok(mem, machine_layout::wide(mem[6]));
-returns : tie.Need-returns
-unfolding valid
-returns c = let f : figuresOk (c .before .before .before .before .before .before .before .before .before .before .before .before .before .before .before .before .before .before .args .mem .now) ≡ true = sym (c .before .before .before .before .before .before .before .before .before .before .before .before .before .before .before .before .figures-ok .ensures) ∙ c .before .before .before .before .before .before .before .before .before .before .before .before .before .before .before .if1 .taken in let o : allBelow (operatorsOf (c .before .before .before .before .before .before .before .before .before .before .before .before .before .before .before .before .before .before .args .mem .now)) (operatorOk (c .before .before .before .before .before .before .before .before .before .before .before .before .before .before .before .before .before .before .args .mem .now)) ≡ true = sym (rw (c .before .before .before .before .before .before .before .before .before .before .before .before .before .before .number-at .ensures .0) at (c .before .before .before .before .before .before .before .before .before .before .before .before .before .operators-ok .ensures)) ∙ c .before .before .before .before .before .before .before .before .before .before .before .before .if2 .taken in let l : allBelow (linksOf (c .before .before .before .before .before .before .before .before .before .before .before .before .before .before .before .before .before .before .args .mem .now)) (linkOk (c .before .before .before .before .before .before .before .before .before .before .before .before .before .before .before .before .before .before .args .mem .now) (sizeOf (capacityByte (c .before .before .before .before .before .before .before .before .before .before .before .before .before .before .before .before .before .before .args .mem .now)))) ≡ true = sym (rw (c .before .before .before .before .before .before .before .before .before .number-at2 .ensures .0, c .before .before .before .before .before .before .before .before .before .before .wide .ensures .0) at (c .before .before .before .before .before .before .before .before .links-ok .ensures)) ∙ c .before .before .before .before .before .before .before .if3 .taken in let n : allBelow (inputsOf (c .before .before .before .before .before .before .before .before .before .before .before .before .before .before .before .before .before .before .args .mem .now) + 1) (inputOk (c .before .before .before .before .before .before .before .before .before .before .before .before .before .before .before .before .before .before .args .mem .now)) ≡ true = sym (rw (c .before .before .before .before .before .wide2 .ensures .0) at (c .before .before .before .before .inputs-ok .ensures)) ∙ c .before .before .before .if4 .taken in rw (f, o, l, n) (rw (c .before .wide3 .ensures .0) at (c .results-ok .ensures))
-
--- src/lib.rt:321:1  } ⏎ pub fn is_valid(mem: &[u8]) -> bool
-returns-2 : tie.Need-returns-2
-unfolding valid
-returns-2 c = let f : figuresOk (c .before .before .before .before .before .before .before .before .before .before .before .before .before .before .before .args .mem .now) ≡ true = sym (c .before .before .before .before .before .before .before .before .before .before .before .before .before .figures-ok .ensures) ∙ c .before .before .before .before .before .before .before .before .before .before .before .before .if1 .taken in let o : allBelow (operatorsOf (c .before .before .before .before .before .before .before .before .before .before .before .before .before .before .before .args .mem .now)) (operatorOk (c .before .before .before .before .before .before .before .before .before .before .before .before .before .before .before .args .mem .now)) ≡ true = sym (rw (c .before .before .before .before .before .before .before .before .before .before .before .number-at .ensures .0) at (c .before .before .before .before .before .before .before .before .before .before .operators-ok .ensures)) ∙ c .before .before .before .before .before .before .before .before .before .if2 .taken in let l : allBelow (linksOf (c .before .before .before .before .before .before .before .before .before .before .before .before .before .before .before .args .mem .now)) (linkOk (c .before .before .before .before .before .before .before .before .before .before .before .before .before .before .before .args .mem .now) (sizeOf (capacityByte (c .before .before .before .before .before .before .before .before .before .before .before .before .before .before .before .args .mem .now)))) ≡ true = sym (rw (c .before .before .before .before .before .before .number-at2 .ensures .0, c .before .before .before .before .before .before .before .wide .ensures .0) at (c .before .before .before .before .before .links-ok .ensures)) ∙ c .before .before .before .before .if3 .taken in let n : allBelow (inputsOf (c .before .before .before .before .before .before .before .before .before .before .before .before .before .before .before .args .mem .now) + 1) (inputOk (c .before .before .before .before .before .before .before .before .before .before .before .before .before .before .before .args .mem .now)) ≡ false = sym (rw (c .before .before .wide2 .ensures .0) at (c .before .inputs-ok .ensures)) ∙ c .if4 .left in rw (f, o, l, n) refl
-
--- src/lib.rt:321:1  } ⏎ pub fn is_valid(mem: &[u8]) -> bool
-returns-3 : tie.Need-returns-3
-unfolding valid
-returns-3 c = let f : figuresOk (c .before .before .before .before .before .before .before .before .before .before .before .args .mem .now) ≡ true = sym (c .before .before .before .before .before .before .before .before .before .figures-ok .ensures) ∙ c .before .before .before .before .before .before .before .before .if1 .taken in let o : allBelow (operatorsOf (c .before .before .before .before .before .before .before .before .before .before .before .args .mem .now)) (operatorOk (c .before .before .before .before .before .before .before .before .before .before .before .args .mem .now)) ≡ true = sym (rw (c .before .before .before .before .before .before .before .number-at .ensures .0) at (c .before .before .before .before .before .before .operators-ok .ensures)) ∙ c .before .before .before .before .before .if2 .taken in let l : allBelow (linksOf (c .before .before .before .before .before .before .before .before .before .before .before .args .mem .now)) (linkOk (c .before .before .before .before .before .before .before .before .before .before .before .args .mem .now) (sizeOf (capacityByte (c .before .before .before .before .before .before .before .before .before .before .before .args .mem .now)))) ≡ false = sym (rw (c .before .before .number-at2 .ensures .0, c .before .before .before .wide .ensures .0) at (c .before .links-ok .ensures)) ∙ c .if3 .left in rw (f, o, l) refl
-
--- src/lib.rt:321:1  } ⏎ pub fn is_valid(mem: &[u8]) -> bool
+-- src/lib.rt:333:9  if !inputs_ok(mem, machine_layout::inputs(mem) + 1) { ⏎ return false;
 returns-4 : tie.Need-returns-4
 unfolding valid
-returns-4 c = let f : figuresOk (c .before .before .before .before .before .before .args .mem .now) ≡ true = sym (c .before .before .before .before .figures-ok .ensures) ∙ c .before .before .before .if1 .taken in let o : allBelow (operatorsOf (c .before .before .before .before .before .before .args .mem .now)) (operatorOk (c .before .before .before .before .before .before .args .mem .now)) ≡ false = sym (rw (c .before .before .number-at .ensures .0) at (c .before .operators-ok .ensures)) ∙ c .if2 .left in rw (f, o) refl
+returns-4 c =
+    let f : figuresOk (c .before .before .before .before .before .before .before .before .before .before .before .before .before .before .args .mem .now) ≡ true = sym (c .before .before .before .before .before .before .before .before .before .before .before .before .figures-ok .ensures) ∙ not-false (c .before .before .before .before .before .before .before .before .before .before .before .before .figures-ok .result) (c .before .before .before .before .before .before .before .before .before .before .before .if1 .left) in
+    let g = figures-say (c .before .before .before .before .before .before .before .before .before .before .before .before .before .before .args .mem .now) f in
+    let o : allBelow (operatorsOf (c .before .before .before .before .before .before .before .before .before .before .before .before .before .before .args .mem .now)) (operatorOk (c .before .before .before .before .before .before .before .before .before .before .before .before .before .before .args .mem .now)) ≡ true = sym (rw (c .before .before .before .before .before .before .before .before .before .before .operators .ensures .0) at (c .before .before .before .before .before .before .before .before .before .operators-ok .ensures)) ∙ not-false (c .before .before .before .before .before .before .before .before .before .operators-ok .result) (c .before .before .before .before .before .before .before .before .if2 .left) in
+    let s : c .before .before .before .before .before .before .stretch-size .result ≡ sizeOf (capacityByte (c .before .before .before .before .before .before .before .before .before .before .before .before .before .before .args .mem .now)) = c .before .before .before .before .before .before .stretch-size .ensures ∙ ap sizeOf (c .before .before .before .before .before .before .before .capacity .ensures .0 ∙ capacity-is (c .before .before .before .before .before .before .before .before .before .before .before .before .before .before .args .mem .now) g) in
+    let l : allBelow (linksOf (c .before .before .before .before .before .before .before .before .before .before .before .before .before .before .args .mem .now)) (linkOk (c .before .before .before .before .before .before .before .before .before .before .before .before .before .before .args .mem .now) (sizeOf (capacityByte (c .before .before .before .before .before .before .before .before .before .before .before .before .before .before .args .mem .now)))) ≡ true = sym (rw (c .before .before .before .before .before .links .ensures .0, s) at (c .before .before .before .before .links-ok .ensures)) ∙ not-false (c .before .before .before .before .links-ok .result) (c .before .before .before .if3 .left) in
+    let n : allBelow (inputsOf (c .before .before .before .before .before .before .before .before .before .before .before .before .before .before .args .mem .now) + 1) (inputOk (c .before .before .before .before .before .before .before .before .before .before .before .before .before .before .args .mem .now)) ≡ false = sym (rw (c .before .before .inputs .ensures .0) at (c .before .inputs-ok .ensures)) ∙ not-true (c .before .inputs-ok .result) (c .if4 .taken) in
+    rw (f, o, l, n) refl
 
--- src/lib.rt:321:1  } ⏎ pub fn is_valid(mem: &[u8]) -> bool
+-- src/lib.rt:335:21  } ⏎ results_ok(mem, machine_layout::results(mem))
+results-requires : tie.Need-results-requires
+results-requires c κs = search needs
+
+-- src/lib.rt:335:5  } ⏎ results_ok(mem, machine_layout::results(mem))
+results-ok-requires : tie.Need-results-ok-requires
+results-ok-requires c κs =
+    let f : figuresOk (c .before .before .before .before .before .before .before .before .before .before .before .before .before .before .before .args .mem .now) ≡ true = sym (c .before .before .before .before .before .before .before .before .before .before .before .before .before .figures-ok .ensures) ∙ not-false (c .before .before .before .before .before .before .before .before .before .before .before .before .before .figures-ok .result) (c .before .before .before .before .before .before .before .before .before .before .before .before .if1 .left) in
+    let g = figures-say (c .before .before .before .before .before .before .before .before .before .before .before .before .before .before .before .args .mem .now) f in
+    (omega arith, omega (arith, c .results .ensures .0))
+
+-- src/lib.rt:318:1  } ⏎ pub fn is_valid(mem: &[u8]) -> bool
 returns-5 : tie.Need-returns-5
 unfolding valid
-returns-5 c = let f : figuresOk (c .before .before .before .args .mem .now) ≡ false = sym (c .before .figures-ok .ensures) ∙ c .if1 .left in rw f refl
+returns-5 c =
+    let f : figuresOk (c .before .before .before .before .before .before .before .before .before .before .before .before .before .before .before .before .args .mem .now) ≡ true = sym (c .before .before .before .before .before .before .before .before .before .before .before .before .before .before .figures-ok .ensures) ∙ not-false (c .before .before .before .before .before .before .before .before .before .before .before .before .before .before .figures-ok .result) (c .before .before .before .before .before .before .before .before .before .before .before .before .before .if1 .left) in
+    let g = figures-say (c .before .before .before .before .before .before .before .before .before .before .before .before .before .before .before .before .args .mem .now) f in
+    let o : allBelow (operatorsOf (c .before .before .before .before .before .before .before .before .before .before .before .before .before .before .before .before .args .mem .now)) (operatorOk (c .before .before .before .before .before .before .before .before .before .before .before .before .before .before .before .before .args .mem .now)) ≡ true = sym (rw (c .before .before .before .before .before .before .before .before .before .before .before .before .operators .ensures .0) at (c .before .before .before .before .before .before .before .before .before .before .before .operators-ok .ensures)) ∙ not-false (c .before .before .before .before .before .before .before .before .before .before .before .operators-ok .result) (c .before .before .before .before .before .before .before .before .before .before .if2 .left) in
+    let s : c .before .before .before .before .before .before .before .before .stretch-size .result ≡ sizeOf (capacityByte (c .before .before .before .before .before .before .before .before .before .before .before .before .before .before .before .before .args .mem .now)) = c .before .before .before .before .before .before .before .before .stretch-size .ensures ∙ ap sizeOf (c .before .before .before .before .before .before .before .before .before .capacity .ensures .0 ∙ capacity-is (c .before .before .before .before .before .before .before .before .before .before .before .before .before .before .before .before .args .mem .now) g) in
+    let l : allBelow (linksOf (c .before .before .before .before .before .before .before .before .before .before .before .before .before .before .before .before .args .mem .now)) (linkOk (c .before .before .before .before .before .before .before .before .before .before .before .before .before .before .before .before .args .mem .now) (sizeOf (capacityByte (c .before .before .before .before .before .before .before .before .before .before .before .before .before .before .before .before .args .mem .now)))) ≡ true = sym (rw (c .before .before .before .before .before .before .before .links .ensures .0, s) at (c .before .before .before .before .before .before .links-ok .ensures)) ∙ not-false (c .before .before .before .before .before .before .links-ok .result) (c .before .before .before .before .before .if3 .left) in
+    let n : allBelow (inputsOf (c .before .before .before .before .before .before .before .before .before .before .before .before .before .before .before .before .args .mem .now) + 1) (inputOk (c .before .before .before .before .before .before .before .before .before .before .before .before .before .before .before .before .args .mem .now)) ≡ true = sym (rw (c .before .before .before .before .inputs .ensures .0) at (c .before .before .before .inputs-ok .ensures)) ∙ not-false (c .before .before .before .inputs-ok .result) (c .before .before .if4 .left) in
+    rw (f, o, l, n) (rw (c .before .results .ensures .0) at (c .results-ok .ensures))
 
 pub is-valid-spec : {M : Type 1} → statement M
 is-valid-spec =
     tie.close
     (tie.spec
     figures-ok-requires
-    number-at-requires
+    returns
+    operators-requires
     operators-ok-requires
-    shared-slice-read-wide
-    wide-requires
-    mul-links-ok
-    add-links-ok
-    number-at-requires-2
+    returns-2
+    capacity-requires
+    stretch-size-requires
+    links-requires
     links-ok-requires
-    shared-slice-read-wide-2
-    wide-requires-2
+    returns-3
+    inputs-requires
     add-inputs-ok
     inputs-ok-requires
-    shared-slice-read-wide-3
-    wide-requires-3
-    results-ok-requires
-    returns
-    returns-2
-    returns-3
     returns-4
+    results-requires
+    results-ok-requires
     returns-5)

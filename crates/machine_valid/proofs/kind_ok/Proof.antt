@@ -8,12 +8,12 @@ use mathlib.Core.Path.{_≡_, sym, _∙_, refl, ap}
 use borrow.Author.Tests.{eq-eqb, ne-eqb, le-leb, lt-leb, lt-ltb, le-ltb}
 use Rattle.machine_valid.specs.Valid.{unlike, unlikeAt, freshAt, resultOk, inputOk, portOk, namedOk, registerOk, kindOk, operatorOk, tokenOk, stretchOk, linkOk, figuresOk, valid}
 
--- src/lib.rt:207:9  if 1 <= kind { ⏎ return kind <= 20;
+-- src/lib.rt:201:9  if 1 <= kind { ⏎ return kind <= machine_layout::FS;
 returns : tie.Need-returns
 unfolding kindOk
 returns c = simp (le-leb 1 (c .before .args .kind) (c .if1 .taken))
 
--- src/lib.rt:203:1  } ⏎ fn kind_ok(kind: usize) -> bool
+-- src/lib.rt:197:1  } ⏎ fn kind_ok(kind: u8) -> bool
 returns-2 : tie.Need-returns-2
 unfolding kindOk
 returns-2 c = simp (lt-leb 1 (c .before .args .kind) (c .if1 .left))

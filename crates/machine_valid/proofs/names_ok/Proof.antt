@@ -1,5 +1,5 @@
 -- The tests, as paths name them:
---   tie if1  while p < 6 { ⏎ if named_ok(mem, at, kind, p) {
+--   tie if1  while p < PORTS { ⏎ if named_ok(mem, at, kind, p) {
 use native.Mathlib.Omega.{arith}
 use borrow.Author.Needs.{needs}
 use Rattle.machine_valid.proofs.names_ok.Statement.{statement}
@@ -19,31 +19,31 @@ Inv-loop mem at kind p₀ p = (p ≤ 6) × (allBelow p (namedOk mem at kind) ≡
 abbrev μ-loop : tie.MeasureT-loop
 μ-loop mem at kind p₀ p = 6 - p
 
--- src/lib.rt:178:5  let mut p = 0; ⏎ while p < 6 {
+-- src/lib.rt:172:5  let mut p = 0; ⏎ while p < PORTS {
 loop-holds : tie.Need-loop-holds Inv-loop μ-loop
 loop-holds c = (omega arith, below-zero (namedOk (c .before .args .mem .now) (c .before .args .at) (c .before .args .kind)))
 
--- src/lib.rt:179:12  while p < 6 { ⏎ if named_ok(mem, at, kind, p) {
+-- src/lib.rt:173:12  while p < PORTS { ⏎ if named_ok(mem, at, kind, p) {
 named-ok-requires : tie.Need-named-ok-requires Inv-loop μ-loop
 named-ok-requires c κs = search needs
 
--- src/lib.rt:180:13  if named_ok(mem, at, kind, p) { ⏎ p += 1;
+-- src/lib.rt:174:13  if named_ok(mem, at, kind, p) { ⏎ p += 1;
 add-p : tie.Need-add-p Inv-loop μ-loop
 add-p c = search needs
 
--- src/lib.rt:178:5  let mut p = 0; ⏎ while p < 6 {
+-- src/lib.rt:172:5  let mut p = 0; ⏎ while p < PORTS {
 loop-less : tie.Need-loop-less Inv-loop μ-loop
 loop-less c = search needs
 
--- src/lib.rt:178:5  let mut p = 0; ⏎ while p < 6 {
+-- src/lib.rt:172:5  let mut p = 0; ⏎ while p < PORTS {
 loop-again : tie.Need-loop-again Inv-loop μ-loop
 loop-again c = (omega arith, below-step (c .before .before .before .loop .p) (namedOk (c .before .before .before .before .before .args .mem .now) (c .before .before .before .before .before .args .at) (c .before .before .before .before .before .args .kind)) (c .before .before .before .loop .inv .1) (sym (c .before .named-ok .ensures) ∙ c .if1 .taken))
 
--- src/lib.rt:182:13  } else { ⏎ return false;
+-- src/lib.rt:176:13  } else { ⏎ return false;
 returns : tie.Need-returns Inv-loop μ-loop
 returns c = sym (below-fail 6 (namedOk (c .before .before .before .before .before .args .mem .now) (c .before .before .before .before .before .args .at) (c .before .before .before .before .before .args .kind)) (c .before .before .before .loop .p) (omega arith) (sym (c .before .named-ok .ensures) ∙ c .if1 .left))
 
--- src/lib.rt:173:1  } ⏎ fn names_ok(mem: &[u8], at: usize, kind: usize) -> bool
+-- src/lib.rt:167:1  } ⏎ fn names_ok(mem: &[u8], at: usize, kind: u8) -> bool
 returns-2 : tie.Need-returns-2 Inv-loop μ-loop
 returns-2 c = let e : c .before .loop .p ≡ 6 = omega arith in sym (rw e at (c .before .loop .inv .1))
 

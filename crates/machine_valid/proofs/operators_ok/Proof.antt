@@ -19,31 +19,31 @@ Inv-loop mem n i₀ i = (i ≤ n) × (allBelow i (operatorOk mem) ≡ true)
 abbrev μ-loop : tie.MeasureT-loop
 μ-loop mem n i₀ i = n - i
 
--- src/lib.rt:232:5  let mut i = 0; ⏎ while i < n {
+-- src/lib.rt:227:5  let mut i = 0; ⏎ while i < n {
 loop-holds : tie.Need-loop-holds Inv-loop μ-loop
 loop-holds c = (omega arith, below-zero (operatorOk (c .before .args .mem .now)))
 
--- src/lib.rt:233:12  while i < n { ⏎ if operator_ok(mem, i) {
+-- src/lib.rt:228:12  while i < n { ⏎ if operator_ok(mem, i) {
 operator-ok-requires : tie.Need-operator-ok-requires Inv-loop μ-loop
 operator-ok-requires c κs = search needs
 
--- src/lib.rt:234:13  if operator_ok(mem, i) { ⏎ i += 1;
+-- src/lib.rt:229:13  if operator_ok(mem, i) { ⏎ i += 1;
 add-i : tie.Need-add-i Inv-loop μ-loop
 add-i c = search needs
 
--- src/lib.rt:232:5  let mut i = 0; ⏎ while i < n {
+-- src/lib.rt:227:5  let mut i = 0; ⏎ while i < n {
 loop-less : tie.Need-loop-less Inv-loop μ-loop
 loop-less c = search needs
 
--- src/lib.rt:232:5  let mut i = 0; ⏎ while i < n {
+-- src/lib.rt:227:5  let mut i = 0; ⏎ while i < n {
 loop-again : tie.Need-loop-again Inv-loop μ-loop
 loop-again c = (omega arith, below-step (c .before .before .before .loop .i) (operatorOk (c .before .before .before .before .before .args .mem .now)) (c .before .before .before .loop .inv .1) (sym (c .before .operator-ok .ensures) ∙ c .if1 .taken))
 
--- src/lib.rt:236:13  } else { ⏎ return false;
+-- src/lib.rt:231:13  } else { ⏎ return false;
 returns : tie.Need-returns Inv-loop μ-loop
 returns c = sym (below-fail (c .before .before .before .before .before .args .n) (operatorOk (c .before .before .before .before .before .args .mem .now)) (c .before .before .before .loop .i) (omega arith) (sym (c .before .operator-ok .ensures) ∙ c .if1 .left))
 
--- src/lib.rt:227:1  } ⏎ fn operators_ok(mem: &[u8], n: usize) -> bool
+-- src/lib.rt:222:1  } ⏎ fn operators_ok(mem: &[u8], n: usize) -> bool
 returns-2 : tie.Need-returns-2 Inv-loop μ-loop
 returns-2 c = let e : c .before .loop .i ≡ (c .before .before .before .args .n) = omega arith in sym (rw e at (c .before .loop .inv .1))
 

@@ -1,5 +1,5 @@
 -- The tests, as paths name them:
---   tie if1  let n = machine_layout::wide(q[0]); ⏎ if q.len() < 5 * n + 1 {
+--   tie if1  let n = machine_queue::waiting(q); ⏎ if q.len() < 5 * n + 1 {
 --   tie if2  while j < n { ⏎ if value::bytes::is_value(value::bytes::load(q, 5 * j + 1)) {
 use native.Mathlib.Omega.{arith}
 use borrow.Author.Needs.{needs}
@@ -7,7 +7,7 @@ use Rattle.machine_valid.proofs.stretch_ok.Statement.{statement}
 use Rattle.machine_valid.proofs.stretch_ok.Tie as tie
 use Rattle.machine_valid.proofs.stretch_ok.Reads as reads
 use Rattle.machine_valid.proofs.stretch_ok.Lts as lts
-use Rattle.machine_layout.proofs.wide.Reads as wide-reads
+use Rattle.machine_queue.proofs.waiting.Reads as waiting-reads
 use Rattle.value.proofs.bytes.is_value.Reads as is-value-reads
 use Rattle.value.proofs.bytes.load.Reads as load-reads
 use mathlib.Core.Path.{_≡_, sym, _∙_, refl, ap}
@@ -25,69 +25,65 @@ Inv-loop q n j₀ j = (j ≤ n) × (allBelow j (tokenOk q) ≡ true)
 abbrev μ-loop : tie.MeasureT-loop
 μ-loop q n j₀ j = n - j
 
--- src/lib.rt:246:26  { ⏎ let n = machine_layout::wide(q[0]);
-shared-slice-read-wide : tie.Need-shared-slice-read-wide Inv-loop μ-loop
-shared-slice-read-wide c = search needs
+-- src/lib.rt:241:9  { ⏎ let n = machine_queue::waiting(q);
+waiting-requires : tie.Need-waiting-requires Inv-loop μ-loop
+waiting-requires c κs = search needs
 
--- src/lib.rt:246:9  { ⏎ let n = machine_layout::wide(q[0]);
-wide-requires : tie.Need-wide-requires Inv-loop μ-loop
-wide-requires c κs = search needs
-
--- src/lib.rt:247:18  let n = machine_layout::wide(q[0]); ⏎ if q.len() < 5 * n + 1 {
+-- src/lib.rt:242:18  let n = machine_queue::waiting(q); ⏎ if q.len() < 5 * n + 1 {
 mul-if1 : tie.Need-mul-if1 Inv-loop μ-loop
 mul-if1 c = search needs
 
--- src/lib.rt:247:18  let n = machine_layout::wide(q[0]); ⏎ if q.len() < 5 * n + 1 {
+-- src/lib.rt:242:18  let n = machine_queue::waiting(q); ⏎ if q.len() < 5 * n + 1 {
 add-if1 : tie.Need-add-if1 Inv-loop μ-loop
 add-if1 c = search needs
 
--- src/lib.rt:248:9  if q.len() < 5 * n + 1 { ⏎ return false;
+-- src/lib.rt:243:9  if q.len() < 5 * n + 1 { ⏎ return false;
 returns : tie.Need-returns Inv-loop μ-loop
 unfolding stretchOk
-returns c = simp (lt-leb (5 * waiting (c .before .before .before .before .args .q .now) + 1) (length (c .before .before .before .before .args .q .now)) (omega (arith, c .before .wide .ensures .0)))
+returns c = simp (lt-leb (5 * waiting (c .before .before .before .args .q .now) + 1) (length (c .before .before .before .args .q .now)) (omega (arith, c .before .waiting .ensures .0)))
 
--- src/lib.rt:251:5  let mut j = 0; ⏎ while j < n {
+-- src/lib.rt:246:5  let mut j = 0; ⏎ while j < n {
 loop-holds : tie.Need-loop-holds Inv-loop μ-loop
-loop-holds c = (omega arith, below-zero (tokenOk (c .before .before .before .before .args .q .now)))
+loop-holds c = (omega arith, below-zero (tokenOk (c .before .before .before .args .q .now)))
 
--- src/lib.rt:252:57  while j < n { ⏎ if value::bytes::is_value(value::bytes::load(q, 5 * j + 1)) {
+-- src/lib.rt:247:57  while j < n { ⏎ if value::bytes::is_value(value::bytes::load(q, 5 * j + 1)) {
 mul-load : tie.Need-mul-load Inv-loop μ-loop
 mul-load c = search needs
 
--- src/lib.rt:252:57  while j < n { ⏎ if value::bytes::is_value(value::bytes::load(q, 5 * j + 1)) {
+-- src/lib.rt:247:57  while j < n { ⏎ if value::bytes::is_value(value::bytes::load(q, 5 * j + 1)) {
 add-load : tie.Need-add-load Inv-loop μ-loop
 add-load c = search needs
 
--- src/lib.rt:252:35  while j < n { ⏎ if value::bytes::is_value(value::bytes::load(q, 5 * j + 1)) {
+-- src/lib.rt:247:35  while j < n { ⏎ if value::bytes::is_value(value::bytes::load(q, 5 * j + 1)) {
 load-requires : tie.Need-load-requires Inv-loop μ-loop
 load-requires c κs = omega arith
 
--- src/lib.rt:252:12  while j < n { ⏎ if value::bytes::is_value(value::bytes::load(q, 5 * j + 1)) {
+-- src/lib.rt:247:12  while j < n { ⏎ if value::bytes::is_value(value::bytes::load(q, 5 * j + 1)) {
 is-value-requires : tie.Need-is-value-requires Inv-loop μ-loop
 is-value-requires c κs = search needs
 
--- src/lib.rt:253:13  if value::bytes::is_value(value::bytes::load(q, 5 * j + 1)) { ⏎ j += 1;
+-- src/lib.rt:248:13  if value::bytes::is_value(value::bytes::load(q, 5 * j + 1)) { ⏎ j += 1;
 add-j : tie.Need-add-j Inv-loop μ-loop
 add-j c = search needs
 
--- src/lib.rt:251:5  let mut j = 0; ⏎ while j < n {
+-- src/lib.rt:246:5  let mut j = 0; ⏎ while j < n {
 loop-less : tie.Need-loop-less Inv-loop μ-loop
 loop-less c = search needs
 
--- src/lib.rt:251:5  let mut j = 0; ⏎ while j < n {
+-- src/lib.rt:246:5  let mut j = 0; ⏎ while j < n {
 loop-again : tie.Need-loop-again Inv-loop μ-loop
 unfolding tokenOk
-loop-again c = (omega arith, below-step (c .before .before .before .before .loop .j) (tokenOk (c .before .before .before .before .before .before .before .before .before .args .q .now)) (c .before .before .before .before .loop .inv .1) (simp (sym (c .before .before .load .ensures .0)) (sym (c .before .is-value .ensures) ∙ c .if2 .taken)))
+loop-again c = (omega arith, below-step (c .before .before .before .before .loop .j) (tokenOk (c .before .before .before .before .before .before .before .before .args .q .now)) (c .before .before .before .before .loop .inv .1) (simp (sym (c .before .before .load .ensures .0)) (sym (c .before .is-value .ensures) ∙ c .if2 .taken)))
 
--- src/lib.rt:255:13  } else { ⏎ return false;
+-- src/lib.rt:250:13  } else { ⏎ return false;
 returns-2 : tie.Need-returns-2 Inv-loop μ-loop
 unfolding tokenOk stretchOk
-returns-2 c = simp (le-leb (5 * waiting (c .before .before .before .before .before .before .before .before .before .args .q .now) + 1) (length (c .before .before .before .before .before .before .before .before .before .args .q .now)) (omega (arith, c .before .before .before .before .before .before .wide .ensures .0)), below-fail (waiting (c .before .before .before .before .before .before .before .before .before .args .q .now)) (tokenOk (c .before .before .before .before .before .before .before .before .before .args .q .now)) (c .before .before .before .before .loop .j) (omega (arith, c .before .before .before .before .before .before .wide .ensures .0)) (simp (sym (c .before .before .load .ensures .0)) (sym (c .before .is-value .ensures) ∙ c .if2 .left)))
+returns-2 c = simp (le-leb (5 * waiting (c .before .before .before .before .before .before .before .before .args .q .now) + 1) (length (c .before .before .before .before .before .before .before .before .args .q .now)) (omega (arith, c .before .before .before .before .before .before .waiting .ensures .0)), below-fail (waiting (c .before .before .before .before .before .before .before .before .args .q .now)) (tokenOk (c .before .before .before .before .before .before .before .before .args .q .now)) (c .before .before .before .before .loop .j) (omega (arith, c .before .before .before .before .before .before .waiting .ensures .0)) (simp (sym (c .before .before .load .ensures .0)) (sym (c .before .is-value .ensures) ∙ c .if2 .left)))
 
--- src/lib.rt:242:1  } ⏎ fn stretch_ok(q: &[u8]) -> bool
+-- src/lib.rt:237:1  } ⏎ fn stretch_ok(q: &[u8]) -> bool
 returns-3 : tie.Need-returns-3 Inv-loop μ-loop
 unfolding stretchOk
-returns-3 c = let e : c .before .loop .j ≡ waiting (c .before .before .before .before .before .before .args .q .now) = omega (arith, c .before .before .before .wide .ensures .0) in simp (le-leb (5 * waiting (c .before .before .before .before .before .before .args .q .now) + 1) (length (c .before .before .before .before .before .before .args .q .now)) (omega (arith, c .before .before .before .wide .ensures .0))) (sym (rw e at (c .before .loop .inv .1)))
+returns-3 c = let e : c .before .loop .j ≡ waiting (c .before .before .before .before .before .args .q .now) = omega (arith, c .before .before .before .waiting .ensures .0) in simp (le-leb (5 * waiting (c .before .before .before .before .before .args .q .now) + 1) (length (c .before .before .before .before .before .args .q .now)) (omega (arith, c .before .before .before .waiting .ensures .0))) (sym (rw e at (c .before .loop .inv .1)))
 
 pub stretch-ok-spec : {M : Type 1} → statement M
 stretch-ok-spec =
@@ -95,8 +91,7 @@ stretch-ok-spec =
     (tie.spec
     Inv-loop
     μ-loop
-    shared-slice-read-wide
-    wide-requires
+    waiting-requires
     mul-if1
     add-if1
     returns
