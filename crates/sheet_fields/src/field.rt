@@ -9,12 +9,18 @@ ghost use lib.Seq.{slice};
 ghost use Rattle.formula.specs.Sheet.{fieldOf, digitsOf, numberIn};
 ghost use Rattle.formula.specs.Tests.{wellFormed};
 ghost use Rattle.formula.specs.declared.Field.the-variants.{Number};
+ghost use Rattle.sheet_fields.specs.Decoding.{notShort};
+
+// A field's characters, the last of which is no space.
+const FIELD_BYTES: usize = 6;
+
+const LAST: usize = 5;
 
 fn digit(b: u8) -> u32
     requires { ⌜ 48 ≤ b ⌝ }
     ensures { λ r. ⌜ r ≡ b - 48 ⌝ }
 {
-    (b - 48) as u32
+    (b - b'0') as u32
 }
 
 // The number `first`, then the digits of s from `from` to `end`.
@@ -26,10 +32,10 @@ fn digits(s: &[u8], from: usize, end: usize, first: u32) -> Field
     let mut i = from;
     while i < end {
         let b = s[i];
-        if b < 48 {
+        if b < b'0' {
             return Field::Malformed;
         }
-        if 57 < b {
+        if b'9' < b {
             return Field::Malformed;
         }
         v = v * 10 + digit(b);
@@ -44,13 +50,13 @@ fn blanks(s: &[u8], at: usize) -> usize
     ensures { λ k. ⌜ (k ≤ 5) × (fieldOf (slice (at + k) (at + 6) (now (s .entry))) ≡ fieldOf (slice at (at + 6) (now (s .entry)))) × (k < 5 → getD (now (s .entry)) (at + k) 0 ≡ 32 → ⊥) ⌝ }
 {
     let mut k = 0;
-    while k < 5 {
-        if s[at + k] != 32 {
+    while k < LAST {
+        if s[at + k] != b' ' {
             return k;
         }
         k += 1;
     }
-    5
+    LAST
 }
 
 // The field whose six characters start at `at`.
@@ -61,19 +67,19 @@ pub fn field_in(s: &[u8], at: usize) -> Field
     let k = blanks(s, at);
     let i = at + k;
     let b = s[i];
-    if b < 48 {
+    if b < b'0' {
         return Field::Malformed;
     }
-    if 57 < b {
+    if b'9' < b {
         return Field::Malformed;
     }
-    if k == 5 {
+    if k == LAST {
         return Field::Number(digit(b));
     }
-    if b == 48 {
+    if b == b'0' {
         return Field::Malformed;
     }
-    digits(s, i + 1, at + 6, digit(b))
+    digits(s, i + 1, at + FIELD_BYTES, digit(b))
 }
 
 // A character as a number of a word.
@@ -91,72 +97,79 @@ fn four(s: &[u8], at: usize) -> u32
     low(s[at]) + 256 * low(s[at + 1]) + 65536 * low(s[at + 2]) + 16777216 * low(s[at + 3])
 }
 
-// The number of a field of one or two digits in two characters, 1000 where it is none.
+// What the quick readings below give where they leave a field to `field_in`; a number that they read is less.
+pub const NOT_SHORT: u32 = 1000;
+
+// The number of a field of one or two digits in two characters, NOT_SHORT where it is none.
 fn two(s: &[u8], at: usize) -> u32
     requires { ⌜ at + 2 ≤ length (now s) ⌝ }
-    ensures { λ v. ⌜ (v < 1000 → fieldOf (slice at (at + 2) (now (s .entry))) ≡ Number v) ⌝ }
+    ensures { λ v. ⌜ (v < notShort → fieldOf (slice at (at + 2) (now (s .entry))) ≡ Number v) ⌝ }
 {
     let c = s[at];
     let d = s[at + 1];
-    if d < 48 {
-        return 1000;
+    if d < b'0' {
+        return NOT_SHORT;
     }
-    if 57 < d {
-        return 1000;
+    if b'9' < d {
+        return NOT_SHORT;
     }
-    if c == 32 {
+    if c == b' ' {
         return digit(d);
     }
-    if c < 49 {
-        return 1000;
+    if c < b'1' {
+        return NOT_SHORT;
     }
-    if 57 < c {
-        return 1000;
+    if b'9' < c {
+        return NOT_SHORT;
     }
     digit(c) * 10 + digit(d)
 }
 
-// The number of three digits, 1000 where they are none or begin with 0.
+// The number of three digits, NOT_SHORT where they are none or begin with 0.
 fn three(s: &[u8], at: usize) -> u32
     requires { ⌜ at + 3 ≤ length (now s) ⌝ }
-    ensures { λ v. ⌜ (v < 1000 → fieldOf (slice at (at + 3) (now (s .entry))) ≡ Number v) ⌝ }
+    ensures { λ v. ⌜ (v < notShort → fieldOf (slice at (at + 3) (now (s .entry))) ≡ Number v) ⌝ }
 {
     let b = s[at];
     let c = s[at + 1];
     let d = s[at + 2];
-    if b < 49 {
-        return 1000;
+    if b < b'1' {
+        return NOT_SHORT;
     }
-    if 57 < b {
-        return 1000;
+    if b'9' < b {
+        return NOT_SHORT;
     }
-    if c < 48 {
-        return 1000;
+    if c < b'0' {
+        return NOT_SHORT;
     }
-    if 57 < c {
-        return 1000;
+    if b'9' < c {
+        return NOT_SHORT;
     }
-    if d < 48 {
-        return 1000;
+    if d < b'0' {
+        return NOT_SHORT;
     }
-    if 57 < d {
-        return 1000;
+    if b'9' < d {
+        return NOT_SHORT;
     }
     (digit(b) * 10 + digit(c)) * 10 + digit(d)
 }
 
-// The number of the field at `at` if it has three digits or fewer, as most have; else 1000. Four
-// spaces are 538,976,288, three in front of a character 2,105,376 and that character's share.
+// Four spaces as one number, and three in front of a character without that character's share.
+const FOUR_SPACES: u32 = 538976288;
+
+const THREE_SPACES: u32 = 2105376;
+
+// The number of the field at `at` if it has three digits or fewer, as most have; else NOT_SHORT.
 pub fn short(s: &[u8], at: usize) -> u32
     requires { ⌜ at + 6 ≤ length (now s) ⌝ }
-    ensures { λ v. ⌜ (v < 1000 → fieldOf (slice at (at + 6) (now (s .entry))) ≡ Number v) ⌝ }
+    ensures { λ v. ⌜ (v < notShort → fieldOf (slice at (at + 6) (now (s .entry))) ≡ Number v) ⌝ }
 {
     let w = four(s, at);
-    if w == 538976288 {
+    if w == FOUR_SPACES {
         return two(s, at + 4);
     }
-    if w != 2105376 + 16777216 * low(s[at + 3]) {
-        return 1000;
+    if w != THREE_SPACES + 16777216 * low(s[at + 3]) {
+        return NOT_SHORT;
     }
     three(s, at + 3)
 }

@@ -6,6 +6,15 @@ ghost use lib.ListN.{length};
 ghost use Rattle.formula.specs.Sheet.{linesOf, rowCount};
 ghost use Rattle.formula.specs.Tests.{laidOut, lowest, endedAt, is-passed, fewRows};
 
+// A row's bytes, its line feed the last, and the most rows.
+pub const ROW_BYTES: usize = 31;
+
+const LINE_FEED_AT: usize = 30;
+
+const LINE_FEED: u8 = 10;
+
+pub const MOST_ROWS: usize = 200;
+
 // Whether each of n rows ends in a line feed.
 fn rows_ended(s: &[u8], n: usize) -> bool
     requires { ⌜ n ≡ rowCount (now s) ⌝ }
@@ -13,7 +22,7 @@ fn rows_ended(s: &[u8], n: usize) -> bool
 {
     let mut i = 0;
     while i < n {
-        if s[31 * i + 30] != 10 {
+        if s[ROW_BYTES * i + LINE_FEED_AT] != LINE_FEED {
             return false;
         }
         i += 1;
@@ -28,15 +37,15 @@ pub fn laid_out(s: &[u8]) -> bool
     if s.len() == 0 {
         return false;
     }
-    if s.len() % 31 != 0 {
+    if s.len() % ROW_BYTES != 0 {
         return false;
     }
-    rows_ended(s, s.len() / 31)
+    rows_ended(s, s.len() / ROW_BYTES)
 }
 
 // Test 2.
 pub fn few_rows(s: &[u8]) -> bool
     ensures { λ b. ⌜ b ≡ fewRows (now (s .entry)) ⌝ }
 {
-    s.len() / 31 <= 200
+    s.len() / ROW_BYTES <= MOST_ROWS
 }

@@ -7,12 +7,15 @@ ghost use lib.ListN.{length, getD};
 ghost use Rattle.formula.specs.Sheet.{field, shapeAt, shapeOf};
 ghost use Rattle.formula.specs.Ways.{wayOf};
 
+// The fields of a row.
+pub const FIELDS: usize = 5;
+
 // Field j of row r, in a table of five fields a row.
-pub fn field_at(t: &[u32], r: usize, j: usize) -> u32
-    requires { ⌜ (1 ≤ r) × (5 * r ≤ length (now t)) × (j < 5) ⌝ }
-    ensures { λ v. ⌜ v ≡ field (now (t .entry)) r j ⌝ }
+pub fn field_at(fields: &[u32], r: usize, j: usize) -> u32
+    requires { ⌜ (1 ≤ r) × (5 * r ≤ length (now fields)) × (j < 5) ⌝ }
+    ensures { λ v. ⌜ v ≡ field (now (fields .entry)) r j ⌝ }
 {
-    t[5 * (r - 1) + j]
+    fields[FIELDS * (r - 1) + j]
 }
 
 // A number of the table as a row's number.
@@ -40,25 +43,25 @@ fn shape_of(kind: u32, a: u32, b: u32, c: u32, d: u32) -> Shape
 }
 
 // Row r by its kind.
-pub fn shape_at(t: &[u32], r: usize) -> Shape
-    requires { ⌜ (1 ≤ r) × (5 * r ≤ length (now t)) ⌝ }
-    ensures { λ s. ⌜ s ≡ shapeAt (now (t .entry)) r ⌝ }
+pub fn shape_at(fields: &[u32], r: usize) -> Shape
+    requires { ⌜ (1 ≤ r) × (5 * r ≤ length (now fields)) ⌝ }
+    ensures { λ s. ⌜ s ≡ shapeAt (now (fields .entry)) r ⌝ }
 {
     shape_of(
-        field_at(t, r, 0),
-        field_at(t, r, 1),
-        field_at(t, r, 2),
-        field_at(t, r, 3),
-        field_at(t, r, 4),
+        field_at(fields, r, 0),
+        field_at(fields, r, 1),
+        field_at(fields, r, 2),
+        field_at(fields, r, 3),
+        field_at(fields, r, 4),
     )
 }
 
 // Row r of a body by what its place asks of it.
-pub fn way_at(t: &[u32], r: usize) -> Way
-    requires { ⌜ (1 ≤ r) × (5 * r ≤ length (now t)) ⌝ }
-    ensures { λ w. ⌜ w ≡ wayOf (shapeAt (now (t .entry)) r) ⌝ }
+pub fn way_at(fields: &[u32], r: usize) -> Way
+    requires { ⌜ (1 ≤ r) × (5 * r ≤ length (now fields)) ⌝ }
+    ensures { λ w. ⌜ w ≡ wayOf (shapeAt (now (fields .entry)) r) ⌝ }
 {
-    match shape_at(t, r) {
+    match shape_at(fields, r) {
         Shape::Identifier(_) => Way::End,
         Shape::Whole(_) => Way::End,
         Shape::Truth(_) => Way::End,

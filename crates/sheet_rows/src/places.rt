@@ -13,53 +13,78 @@ ghost use Rattle.formula.specs.Sheet.{shapeAt, namedIn};
 ghost use Rattle.formula.specs.Places.{bodiesIn, mark, placesOf, inBody};
 ghost use Rattle.formula.specs.Tests.{lowest, namesWell, allBetween, isIter, placedWell};
 ghost use Rattle.formula.specs.declared.Check.the-variants.{Passed};
+ghost use Rattle.sheet_rows.specs.Bodies.{listed};
 
 // Row r is in a body place.
-fn mark_one(p: &mut [bool], r: usize)
-    requires { ⌜ (1 ≤ r) × (r ≤ length (now p)) ⌝ }
-    ensures { λ _. ⌜ now (p .exit) ≡ mark (r ∷ []) (now (p .entry)) ⌝ }
+fn mark_one(places: &mut [bool], r: usize)
+    requires { ⌜ (1 ≤ r) × (r ≤ length (now places)) ⌝ }
+    ensures { λ _. ⌜ now (places .exit) ≡ mark (r ∷ []) (now (places .entry)) ⌝ }
 {
-    p[r - 1] = true;
+    places[r - 1] = true;
 }
 
-// The rows that row r, of shape s, names in body places.
-fn mark_row(p: &mut [bool], s: Shape, r: usize, in_body: bool)
-    requires { ⌜ (r ≤ length (now p)) × (allBetween r (namedIn s) ≡ true) ⌝ }
-    ensures { λ _. ⌜ now (p .exit) ≡ mark (bodiesIn «in_body» s) (now (p .entry)) ⌝ }
+// The rows that a row names in body places.
+pub enum Bodies {
+    None,
+    One(usize),
+    Two(usize, usize),
+}
+
+pub fn bodies_of(s: Shape, in_body: bool) -> Bodies
+    ensures { λ b. ⌜ listed b ≡ bodiesIn «in_body» s ⌝ }
 {
     match s {
-        Shape::Identifier(_) => {}
-        Shape::Whole(_) => {}
-        Shape::Truth(_) => {}
-        Shape::Pair(_, _) => {}
-        Shape::Operator(_, _) => {}
+        Shape::Identifier(_) => Bodies::None,
+        Shape::Whole(_) => Bodies::None,
+        Shape::Truth(_) => Bodies::None,
+        Shape::Pair(_, _) => Bodies::None,
+        Shape::Operator(_, _) => Bodies::None,
         Shape::Let(_, _, _, d) => {
             if in_body {
-                mark_one(p, d);
+                Bodies::One(d)
+            } else {
+                Bodies::None
             }
         }
         Shape::If(_, b, c) => {
             if in_body {
-                mark_one(p, b);
-                mark_one(p, c);
+                Bodies::Two(b, c)
+            } else {
+                Bodies::None
             }
         }
-        Shape::For(_, _, _, d) => {
-            mark_one(p, d);
+        Shape::For(_, _, _, d) => Bodies::One(d),
+        Shape::Iter(_) => Bodies::None,
+    }
+}
+
+// The rows that row r, of shape s, names in body places.
+fn mark_row(places: &mut [bool], s: Shape, r: usize, in_body: bool)
+    requires { ⌜ (r ≤ length (now places)) × (allBetween r (namedIn s) ≡ true) ⌝ }
+    ensures { λ _. ⌜ now (places .exit) ≡ mark (bodiesIn «in_body» s) (now (places .entry)) ⌝ }
+{
+    let bodies = bodies_of(s, in_body);
+    match bodies {
+        Bodies::None => {}
+        Bodies::One(d) => {
+            mark_one(places, d);
         }
-        Shape::Iter(_) => {}
+        Bodies::Two(b, c) => {
+            mark_one(places, b);
+            mark_one(places, c);
+        }
     }
 }
 
 // The places of n rows, in a table that has every row in an expression place.
-pub fn find_places(t: &[u32], n: usize, p: &mut [bool])
-    requires { ⌜ (length (now t) ≡ 5 * n) × (now p ≡ replicate n false) × (lowest n (namesWell (now t)) ≡ Passed) ⌝ }
-    ensures { λ _. ⌜ now (p .exit) ≡ placesOf (now (t .entry)) n ⌝ }
+pub fn find_places(fields: &[u32], n: usize, places: &mut [bool])
+    requires { ⌜ (length (now fields) ≡ 5 * n) × (now places ≡ replicate n false) × (lowest n (namesWell (now fields)) ≡ Passed) ⌝ }
+    ensures { λ _. ⌜ now (places .exit) ≡ placesOf (now (fields .entry)) n ⌝ }
 {
     let mut r = n;
     while 0 < r {
-        let in_body = p[r - 1];
-        mark_row(p, shape_at(t, r), r, in_body);
+        let in_body = places[r - 1];
+        mark_row(places, shape_at(fields, r), r, in_body);
         r -= 1;
     }
 }
@@ -81,14 +106,14 @@ fn placed_well(s: Shape, in_body: bool) -> bool
 }
 
 // Test 7.
-pub fn test_places(t: &[u32], n: usize, p: &[bool]) -> Check
-    requires { ⌜ (length (now t) ≡ 5 * n) × (length (now p) ≡ n) ⌝ }
-    ensures { λ r. ⌜ r ≡ lowest n (placedWell (now (t .entry)) (now (p .entry))) ⌝ }
+pub fn test_places(fields: &[u32], n: usize, places: &[bool]) -> Check
+    requires { ⌜ (length (now fields) ≡ 5 * n) × (length (now places) ≡ n) ⌝ }
+    ensures { λ r. ⌜ r ≡ lowest n (placedWell (now (fields .entry)) (now (places .entry))) ⌝ }
 {
     let mut i = 0;
     while i < n {
         let r = i + 1;
-        if !placed_well(shape_at(t, r), p[i]) {
+        if !placed_well(shape_at(fields, r), places[i]) {
             return Check::Fault(r);
         }
         i += 1;

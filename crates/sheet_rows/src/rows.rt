@@ -1,6 +1,7 @@
 // Tests 4, 5 and 6 of document 01, on the table of fields: ranges, rows named wrongly, rows not named once.
 use formula::Check;
 use formula::Shape;
+use names::TRIGGER;
 use sheet_fields::blank::bytes;
 use sheet_fields::shape::field_at;
 use sheet_fields::shape::shape_at;
@@ -15,6 +16,13 @@ ghost use Rattle.formula.specs.Tests.{lowest, inRange, bindsWell, rangesWell, n
 ghost use Rattle.formula.specs.declared.Check.the-variants.{Passed};
 ghost use Rattle.sheet_rows.specs.Tallies.{tally, tallied};
 
+// The bounds of test 4.
+const LAST_IDENTIFIER: u32 = 31;
+
+const LARGEST_WHOLE: u32 = 999999;
+
+const LAST_OPERATOR: u32 = 11;
+
 // Whether three fields are 0: "Unlisted fields are 0."
 fn none_of(b: u32, c: u32, d: u32) -> bool
     ensures { λ r. ⌜ r ≡ (eqb b 0 && eqb c 0 && eqb d 0) ⌝ }
@@ -28,16 +36,17 @@ fn none_of(b: u32, c: u32, d: u32) -> bool
     d == 0
 }
 
+// The identifiers a to a + b - 1 are at least one, and all lie before the trigger.
 fn binds_well(a: u32, b: u32) -> bool
     ensures { λ r. ⌜ r ≡ bindsWell a b ⌝ }
 {
     if b < 1 {
         return false;
     }
-    if 32 < b {
+    if TRIGGER < b {
         return false;
     }
-    a <= 32 - b
+    a <= TRIGGER - b
 }
 
 // Test 4 of one row's fields.
@@ -45,15 +54,31 @@ fn in_range(kind: u32, a: u32, b: u32, c: u32, d: u32) -> bool
     ensures { λ r. ⌜ r ≡ inRange kind a b c d ⌝ }
 {
     match kind {
-        1 => { if a <= 31 { none_of(b, c, d) } else { false } }
-        2 => { if a <= 999999 { none_of(b, c, d) } else { false } }
+        1 => {
+            if a <= LAST_IDENTIFIER {
+                none_of(b, c, d)
+            } else {
+                false
+            }
+        }
+        2 => {
+            if a <= LARGEST_WHOLE {
+                none_of(b, c, d)
+            } else {
+                false
+            }
+        }
         3 => { if a <= 1 { none_of(b, c, d) } else { false } }
         4 => none_of(0, c, d),
         5 => {
             if a < 1 {
                 return false;
             }
-            if a <= 11 { none_of(0, c, d) } else { false }
+            if a <= LAST_OPERATOR {
+                none_of(0, c, d)
+            } else {
+                false
+            }
         }
         6 => binds_well(a, b),
         7 => d == 0,
@@ -64,19 +89,19 @@ fn in_range(kind: u32, a: u32, b: u32, c: u32, d: u32) -> bool
 }
 
 // Test 4.
-pub fn test_ranges(t: &[u32], n: usize) -> Check
-    requires { ⌜ length (now t) ≡ 5 * n ⌝ }
-    ensures { λ r. ⌜ r ≡ lowest n (rangesWell (now (t .entry))) ⌝ }
+pub fn test_ranges(fields: &[u32], n: usize) -> Check
+    requires { ⌜ length (now fields) ≡ 5 * n ⌝ }
+    ensures { λ r. ⌜ r ≡ lowest n (rangesWell (now (fields .entry))) ⌝ }
 {
     let mut i = 0;
     while i < n {
         let r = i + 1;
         if !in_range(
-            field_at(t, r, 0),
-            field_at(t, r, 1),
-            field_at(t, r, 2),
-            field_at(t, r, 3),
-            field_at(t, r, 4),
+            field_at(fields, r, 0),
+            field_at(fields, r, 1),
+            field_at(fields, r, 2),
+            field_at(fields, r, 3),
+            field_at(fields, r, 4),
         ) {
             return Check::Fault(r);
         }
@@ -118,14 +143,14 @@ fn names_well(s: Shape, r: usize) -> bool
 }
 
 // Test 5.
-pub fn test_naming(t: &[u32], n: usize) -> Check
-    requires { ⌜ length (now t) ≡ 5 * n ⌝ }
-    ensures { λ r. ⌜ r ≡ lowest n (namesWell (now (t .entry))) ⌝ }
+pub fn test_naming(fields: &[u32], n: usize) -> Check
+    requires { ⌜ length (now fields) ≡ 5 * n ⌝ }
+    ensures { λ r. ⌜ r ≡ lowest n (namesWell (now (fields .entry))) ⌝ }
 {
     let mut i = 0;
     while i < n {
         let r = i + 1;
-        if !names_well(shape_at(t, r), r) {
+        if !names_well(shape_at(fields, r), r) {
             return Check::Fault(r);
         }
         i += 1;
@@ -134,73 +159,73 @@ pub fn test_naming(t: &[u32], n: usize) -> Check
 }
 
 // Row r is named once more.
-fn tally_one(l: &mut [u8], r: usize)
-    requires { ⌜ (1 ≤ r) × (r ≤ length (now l)) ⌝ }
-    ensures { λ _. ⌜ now (l .exit) ≡ tally (r ∷ []) (now (l .entry)) ⌝ }
+fn tally_one(times: &mut [u8], r: usize)
+    requires { ⌜ (1 ≤ r) × (r ≤ length (now times)) ⌝ }
+    ensures { λ _. ⌜ now (times .exit) ≡ tally (r ∷ []) (now (times .entry)) ⌝ }
 {
-    if l[r - 1] == 0 {
-        l[r - 1] = 1;
+    if times[r - 1] == 0 {
+        times[r - 1] = 1;
     } else {
-        l[r - 1] = 2;
+        times[r - 1] = 2;
     }
 }
 
 // The rows that row r names are named once more each.
-fn tally_row(l: &mut [u8], s: Shape, r: usize)
-    requires { ⌜ (r ≤ length (now l)) × (allBetween r (namedIn s) ≡ true) ⌝ }
-    ensures { λ _. ⌜ now (l .exit) ≡ tally (namedIn s) (now (l .entry)) ⌝ }
+fn tally_row(times: &mut [u8], s: Shape, r: usize)
+    requires { ⌜ (r ≤ length (now times)) × (allBetween r (namedIn s) ≡ true) ⌝ }
+    ensures { λ _. ⌜ now (times .exit) ≡ tally (namedIn s) (now (times .entry)) ⌝ }
 {
     match s {
         Shape::Identifier(_) => {}
         Shape::Whole(_) => {}
         Shape::Truth(_) => {}
         Shape::Pair(a, b) => {
-            tally_one(l, a);
-            tally_one(l, b);
+            tally_one(times, a);
+            tally_one(times, b);
         }
         Shape::Operator(_, b) => {
-            tally_one(l, b);
+            tally_one(times, b);
         }
         Shape::Let(_, _, c, d) => {
-            tally_one(l, c);
-            tally_one(l, d);
+            tally_one(times, c);
+            tally_one(times, d);
         }
         Shape::If(a, b, c) => {
-            tally_one(l, a);
-            tally_one(l, b);
-            tally_one(l, c);
+            tally_one(times, a);
+            tally_one(times, b);
+            tally_one(times, c);
         }
         Shape::For(_, _, c, d) => {
-            tally_one(l, c);
-            tally_one(l, d);
+            tally_one(times, c);
+            tally_one(times, d);
         }
         Shape::Iter(a) => {
-            tally_one(l, a);
+            tally_one(times, a);
         }
     }
 }
 
 // How often each row is named: 0 never, 1 once, 2 more than once.
-fn tally_all(t: &[u32], n: usize, l: &mut [u8])
-    requires { ⌜ (length (now t) ≡ 5 * n) × (length (now l) ≡ n) × (lowest n (namesWell (now t)) ≡ Passed) ⌝ }
-    ensures { λ _. ⌜ now (l .exit) ≡ tallied (now (t .entry)) n (now (l .entry)) ⌝ }
+fn tally_all(fields: &[u32], n: usize, times: &mut [u8])
+    requires { ⌜ (length (now fields) ≡ 5 * n) × (length (now times) ≡ n) × (lowest n (namesWell (now fields)) ≡ Passed) ⌝ }
+    ensures { λ _. ⌜ now (times .exit) ≡ tallied (now (fields .entry)) n (now (times .entry)) ⌝ }
 {
     let mut i = 0;
     while i < n {
         let r = i + 1;
-        tally_row(l, shape_at(t, r), r);
+        tally_row(times, shape_at(fields, r), r);
         i += 1;
     }
 }
 
-// The lowest of m rows that a tally does not have as named once.
-fn first_unnamed(l: &[u8], m: usize) -> Check
-    requires { ⌜ m ≤ length (now l) ⌝ }
-    ensures { λ r. ⌜ r ≡ lowest m (λ k. eqb (getD (now (l .entry)) (k - 1) 0) 1) ⌝ }
+// The lowest of n rows that a table does not have as named once.
+fn first_unnamed(times: &[u8], n: usize) -> Check
+    requires { ⌜ n ≤ length (now times) ⌝ }
+    ensures { λ r. ⌜ r ≡ lowest n (λ k. eqb (getD (now (times .entry)) (k - 1) 0) 1) ⌝ }
 {
     let mut i = 0;
-    while i < m {
-        if l[i] != 1 {
+    while i < n {
+        if times[i] != 1 {
             return Check::Fault(i + 1);
         }
         i += 1;
@@ -209,11 +234,11 @@ fn first_unnamed(l: &[u8], m: usize) -> Check
 }
 
 // Test 6.
-pub fn test_named(t: &[u32], n: usize) -> Check
-    requires { ⌜ (length (now t) ≡ 5 * n) × (1 ≤ n) × (n ≤ 200) × (lowest n (namesWell (now t)) ≡ Passed) ⌝ }
-    ensures { λ r. ⌜ r ≡ lowest (n - 1) (λ k. namedOnce (allNamed (now (t .entry)) n) k) ⌝ }
+pub fn test_named(fields: &[u32], n: usize) -> Check
+    requires { ⌜ (length (now fields) ≡ 5 * n) × (1 ≤ n) × (n ≤ 200) × (lowest n (namesWell (now fields)) ≡ Passed) ⌝ }
+    ensures { λ r. ⌜ r ≡ lowest (n - 1) (λ k. namedOnce (allNamed (now (fields .entry)) n) k) ⌝ }
 {
     let mut named = bytes();
-    tally_all(t, n, &mut named[..n]);
+    tally_all(fields, n, &mut named[..n]);
     first_unnamed(&named[..n], n - 1)
 }

@@ -1,5 +1,5 @@
 // The byte form of a value (specs/Bytes): five bytes, read and written as one word below 2^40.
-// Tokens in memory and the sets that the firmware lends have this form. Assumes nothing.
+// Tokens in memory and the sets that the firmware lends have this form. Assumes of a place that five bytes lie there.
 use crate::Decoded;
 use crate::Value;
 ghost use mathlib.Core.Path.{_≡_};

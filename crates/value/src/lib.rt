@@ -1,5 +1,5 @@
 // Values and their operators: document 01, "Values and operators". The meaning of each code is
-// specs/Operators; the byte form of a value is the module bytes. Assumes nothing.
+// specs/Operators; the byte form of a value is the module bytes.
 pub mod bytes; // bytes.rt: a value as a tag byte and four bytes
 
 ghost use mathlib.Core.Path.{_≡_};

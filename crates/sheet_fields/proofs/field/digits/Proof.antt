@@ -1,6 +1,6 @@
 -- The tests, as paths name them:
---   tie if1  let b = s[i]; ⏎ if b < 48 {
---   tie if2  } ⏎ if 57 < b {
+--   tie if1  let b = s[i]; ⏎ if b < b'0' {
+--   tie if2  } ⏎ if b'9' < b {
 use Rattle.sheet_fields.proofs.field.digits.Statement.{statement}
 use Rattle.sheet_fields.proofs.field.digits.Tie as tie
 use Rattle.sheet_fields.proofs.field.digits.Reads as reads
@@ -21,47 +21,47 @@ Inv-loop s from end first v₀ i₀ v i = (from ≤ i) × (i ≤ end) × (v < 10
 abbrev μ-loop : tie.MeasureT-loop
 μ-loop s from end first v₀ i₀ v i = end - i
 
--- src/field.rt:26:5  let mut i = from; ⏎ while i < end {
+-- src/field.rt:33:5  let mut i = from; ⏎ while i < end {
 loop-holds : tie.Need-loop-holds Inv-loop μ-loop
 loop-holds c = let e : c .before .args .from - c .before .args .from ≡ 0 = omega arith in (omega arith, omega arith, rw e (omega arith), refl)
 
--- src/field.rt:27:17  while i < end { ⏎ let b = s[i];
+-- src/field.rt:34:17  while i < end { ⏎ let b = s[i];
 shared-slice-read-b : tie.Need-shared-slice-read-b Inv-loop μ-loop
 shared-slice-read-b c = omega arith
 
--- src/field.rt:29:13  if b < 48 { ⏎ return Field::Malformed;
+-- src/field.rt:36:13  if b < b'0' { ⏎ return Field::Malformed;
 returns : tie.Need-returns Inv-loop μ-loop
 returns c = digits-low (c .before .before .before .before .before .args .s .now) (c .before .before .before .loop .i) (c .before .before .before .before .before .args .end) (omega arith) (omega arith) (c .before .before .before .loop .v) (c .if1 .taken) ∙ c .before .before .before .loop .inv .3
 
--- src/field.rt:32:13  if 57 < b { ⏎ return Field::Malformed;
+-- src/field.rt:39:13  if b'9' < b { ⏎ return Field::Malformed;
 returns-2 : tie.Need-returns-2 Inv-loop μ-loop
 returns-2 c = digits-high (c .before .before .before .before .before .before .args .s .now) (c .before .before .before .before .loop .i) (c .before .before .before .before .before .before .args .end) (omega arith) (omega arith) (c .before .before .before .before .loop .v) (c .if2 .taken) ∙ c .before .before .before .before .loop .inv .3
 
--- src/field.rt:34:13  } ⏎ v = v * 10 + digit(b);
+-- src/field.rt:41:13  } ⏎ v = v * 10 + digit(b);
 mul-v : tie.Need-mul-v Inv-loop μ-loop
 mul-v c = omega (arith, small (c .before .before .before .before .loop .v) (c .before .before .before .before .loop .i - c .before .before .before .before .before .before .args .from) (c .before .before .before .before .loop .inv .2) (omega arith))
 
--- src/field.rt:34:22  } ⏎ v = v * 10 + digit(b);
+-- src/field.rt:41:22  } ⏎ v = v * 10 + digit(b);
 digit-requires : tie.Need-digit-requires Inv-loop μ-loop
 digit-requires c κs = omega arith
 
--- src/field.rt:34:13  } ⏎ v = v * 10 + digit(b);
+-- src/field.rt:41:13  } ⏎ v = v * 10 + digit(b);
 add-v : tie.Need-add-v Inv-loop μ-loop
 add-v c = omega (arith, small (c .before .before .before .before .before .loop .v) (c .before .before .before .before .before .loop .i - c .before .before .before .before .before .before .before .args .from) (c .before .before .before .before .before .loop .inv .2) (omega arith), c .digit .ensures, c .before .if2 .left)
 
--- src/field.rt:35:9  v = v * 10 + digit(b); ⏎ i += 1;
+-- src/field.rt:42:9  v = v * 10 + digit(b); ⏎ i += 1;
 add-i : tie.Need-add-i Inv-loop μ-loop
 add-i c = omega arith
 
--- src/field.rt:26:5  let mut i = from; ⏎ while i < end {
+-- src/field.rt:33:5  let mut i = from; ⏎ while i < end {
 loop-less : tie.Need-loop-less Inv-loop μ-loop
 loop-less c = omega arith
 
--- src/field.rt:26:5  let mut i = from; ⏎ while i < end {
+-- src/field.rt:33:5  let mut i = from; ⏎ while i < end {
 loop-again : tie.Need-loop-again Inv-loop μ-loop
 loop-again c = let e : c .before .before .before .before .before .loop .i + 1 - c .before .before .before .before .before .before .before .args .from ≡ c .before .before .before .before .before .loop .i - c .before .before .before .before .before .before .before .args .from + 1 = omega arith in (omega arith, omega arith, rw e (grows (c .before .before .before .before .before .loop .v) (c .digit .result) (c .before .before .before .before .before .loop .i - c .before .before .before .before .before .before .before .args .from) (c .before .before .before .before .before .loop .inv .2) (omega (arith, c .digit .ensures, c .before .if2 .left))), rw (c .digit .ensures) (sym (digits-more (c .before .before .before .before .before .before .before .args .s .now) (c .before .before .before .before .before .loop .i) (c .before .before .before .before .before .before .before .args .end) (omega arith) (omega arith) (c .before .before .before .before .before .loop .v) (c .before .before .if1 .left) (c .before .if2 .left)) ∙ c .before .before .before .before .before .loop .inv .3))
 
--- src/field.rt:20:1  // The number `first`, then the digits of s from `from` to `end`. ⏎ fn digits(s: &[u8], from: usize, end: usize, first: u32) -> Field
+-- src/field.rt:27:1  // The number `first`, then the digits of s from `from` to `end`. ⏎ fn digits(s: &[u8], from: usize, end: usize, first: u32) -> Field
 returns-3 : tie.Need-returns-3 Inv-loop μ-loop
 returns-3 c = let e : c .before .loop .i ≡ c .before .before .before .args .end = omega arith in digits-end (c .before .before .before .args .s .now) (c .before .before .before .args .end) (c .before .loop .v) ∙ (rw e at (c .before .loop .inv .3))
 

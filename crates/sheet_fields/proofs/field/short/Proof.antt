@@ -1,6 +1,6 @@
 -- The tests, as paths name them:
---   tie if1  let w = four(s, at); ⏎ if w == 538976288 {
---   tie if2  } ⏎ if w != 2105376 + 16777216 * low(s[at + 3]) {
+--   tie if1  let w = four(s, at); ⏎ if w == FOUR_SPACES {
+--   tie if2  } ⏎ if w != THREE_SPACES + 16777216 * low(s[at + 3]) {
 use borrow.Author.Needs.{needs}
 use Rattle.sheet_fields.proofs.field.short.Statement.{statement}
 use Rattle.sheet_fields.proofs.field.short.Tie as tie
@@ -16,19 +16,19 @@ use mathlib.Core.Path.{_≡_, _∙_, ap, sym}
 use lib.ListN.{getD}
 use Rattle.sheet_fields.proofs.FieldLaws.{three-spaces, four-spaces, word-of-spaces, word-after-spaces}
 
--- src/field.rt:153:9  { ⏎ let w = four(s, at);
+-- src/field.rt:167:9  { ⏎ let w = four(s, at);
 four-requires : tie.Need-four-requires
 four-requires c κs = search needs
 
--- src/field.rt:155:23  if w == 538976288 { ⏎ return two(s, at + 4);
+-- src/field.rt:169:23  if w == FOUR_SPACES { ⏎ return two(s, at + 4);
 add-two : tie.Need-add-two
 add-two c = search needs
 
--- src/field.rt:155:9  if w == 538976288 { ⏎ return two(s, at + 4);
+-- src/field.rt:169:9  if w == FOUR_SPACES { ⏎ return two(s, at + 4);
 two-requires : tie.Need-two-requires
 two-requires c κs = search needs
 
--- src/field.rt:155:9  if w == 538976288 { ⏎ return two(s, at + 4);
+-- src/field.rt:169:9  if w == FOUR_SPACES { ⏎ return two(s, at + 4);
 returns : tie.Need-returns
 returns c =
     let s = c .before .before .before .before .args .s .now in
@@ -38,39 +38,39 @@ returns c =
     let w = word-of-spaces (getD s i 0) (getD s (i + 1) 0) (getD s (i + 2) 0) (getD s (i + 3) 0) (omega (arith, g i)) (omega (arith, g (i + 1))) (omega (arith, g (i + 2))) (omega (arith, g (i + 3))) (sym (c .before .before .four .ensures) ∙ c .before .if1 .taken) in
     λ h. four-spaces s i (omega arith) (w .0) (w .1) (w .2) (w .3) ∙ (rw e at (c .two .ensures h))
 
--- src/field.rt:157:40  } ⏎ if w != 2105376 + 16777216 * low(s[at + 3]) {
+-- src/field.rt:171:45  } ⏎ if w != THREE_SPACES + 16777216 * low(s[at + 3]) {
 add-low : tie.Need-add-low
 add-low c = search needs
 
--- src/field.rt:157:38  } ⏎ if w != 2105376 + 16777216 * low(s[at + 3]) {
+-- src/field.rt:171:43  } ⏎ if w != THREE_SPACES + 16777216 * low(s[at + 3]) {
 shared-slice-read-low : tie.Need-shared-slice-read-low
 shared-slice-read-low c = search needs
 
--- src/field.rt:157:34  } ⏎ if w != 2105376 + 16777216 * low(s[at + 3]) {
+-- src/field.rt:171:39  } ⏎ if w != THREE_SPACES + 16777216 * low(s[at + 3]) {
 low-requires : tie.Need-low-requires
 low-requires c κs = search needs
 
--- src/field.rt:157:23  } ⏎ if w != 2105376 + 16777216 * low(s[at + 3]) {
+-- src/field.rt:171:28  } ⏎ if w != THREE_SPACES + 16777216 * low(s[at + 3]) {
 mul-if2 : tie.Need-mul-if2
 mul-if2 c = search needs
 
--- src/field.rt:157:13  } ⏎ if w != 2105376 + 16777216 * low(s[at + 3]) {
+-- src/field.rt:171:13  } ⏎ if w != THREE_SPACES + 16777216 * low(s[at + 3]) {
 add-if2 : tie.Need-add-if2
 add-if2 c = search needs
 
--- src/field.rt:158:9  if w != 2105376 + 16777216 * low(s[at + 3]) { ⏎ return 1000;
+-- src/field.rt:172:9  if w != THREE_SPACES + 16777216 * low(s[at + 3]) { ⏎ return NOT_SHORT;
 returns-2 : tie.Need-returns-2
 returns-2 c = λ h. absurd (omega (arith, h))
 
--- src/field.rt:160:14  } ⏎ three(s, at + 3)
+-- src/field.rt:174:14  } ⏎ three(s, at + 3)
 add-three : tie.Need-add-three
 add-three c = search needs
 
--- src/field.rt:160:5  } ⏎ three(s, at + 3)
+-- src/field.rt:174:5  } ⏎ three(s, at + 3)
 three-requires : tie.Need-three-requires
 three-requires c κs = search needs
 
--- src/field.rt:149:1  // The number of the field at `at` if it has three digits or fewer, as most have; else 1000. ⏎ pub fn short(s: &[u8], at: usize) -> u32
+-- src/field.rt:163:1  // The number of the field at `at` if it has three digits or fewer, as most have; else NOT_SHORT. ⏎ pub fn short(s: &[u8], at: usize) -> u32
 returns-3 : tie.Need-returns-3
 returns-3 c =
     let s = c .before .before .before .before .before .before .before .args .s .now in
