@@ -5,12 +5,14 @@ use names::TRIGGER_MASK;
 use names::count;
 use sheet_fields::blank;
 use sheet_fields::shape::shape_at;
+use sheet_fields::shape::width_at;
+use sheet_tables::ends::ITERATES;
+use sheet_tables::ends::end_at;
 use sheet_tables::ends::find_ends;
 use sheet_tables::loops::find_loops;
 use sheet_tables::masks::mask_at;
 use sheet_tables::masks::outside;
 use sheet_tables::masks::plain_mask;
-use sheet_tables::widths::width_at;
 ghost use mathlib.Core.Path.{_≡_};
 ghost use mathlib.Core.Bool.{Bool, cond, _&&_, _||_};
 ghost use Prim.Native.Nat.{ℕ, _+_, _*_, _-_, _≤_, _<_};
@@ -90,22 +92,22 @@ fn for_own(x: u64, y: u64, a: u32, b: u32) -> Own
     simple(g, sharing(x, outside(y, a, b)) + less_one(g))
 }
 
-fn both_iterate(e: u32, f: u32) -> bool
+fn both_iterate(e: u8, f: u8) -> bool
     ensures { λ b. ⌜ b ≡ bothIterate e f ⌝ }
 {
-    if e < 2 {
+    if e < ITERATES {
         return false;
     }
-    2 <= f
+    ITERATES <= f
 }
 
-fn one_returns(e: u32, f: u32) -> bool
+fn one_returns(e: u8, f: u8) -> bool
     ensures { λ b. ⌜ b ≡ oneReturns e f ⌝ }
 {
-    if e != 2 {
+    if e != ITERATES {
         return true;
     }
-    f != 2
+    f != ITERATES
 }
 
 fn when(b: bool, k: u32) -> u32
@@ -115,7 +117,7 @@ fn when(b: bool, k: u32) -> u32
 }
 
 // A body if: v is arm b's iterated width, w the loop's returned width, e and f the arms' ends.
-fn body_if(x: u64, y: u64, z: u64, v: u32, w: u32, e: u32, f: u32) -> Own
+fn body_if(x: u64, y: u64, z: u64, v: u32, w: u32, e: u8, f: u8) -> Own
     requires { ⌜ (v < 256) × (w < 256) ⌝ }
     ensures { λ o. ⌜ (o ≡ bodyIf x y z v w e f) × (Small 1000 o) ⌝ }
 {
@@ -147,7 +149,7 @@ fn plain_own(s: Shape, r: usize, masks: &[u64], returned: &[u8]) -> Own
             mask_at(masks, a),
             mask_at(masks, b),
             mask_at(masks, c),
-            width_at(returned, b),
+            width_at(returned, b) as u32,
         ),
         Shape::For(a, b, c, d) => for_own(mask_at(masks, c), mask_at(masks, d), a, b),
         Shape::Iter(a) => simple(1, sharing(TRIGGER_MASK, mask_at(masks, a))),
@@ -166,7 +168,7 @@ fn ended(o: Own, m: u64) -> Own
     }
 }
 
-// The operators of row r's own, of shape s, in its place; w is the loop's returned width, f has the ends of earlier rows.
+// The operators of row r's own, of shape s, in its place; w is the loop's returned width.
 fn own_of(
     s: Shape,
     r: usize,
@@ -195,10 +197,10 @@ fn own_of(
             mask_at(masks, a),
             mask_at(masks, b),
             mask_at(masks, c),
-            width_at(iterated, b),
+            width_at(iterated, b) as u32,
             w,
-            width_at(ends, b),
-            width_at(ends, c),
+            end_at(ends, b),
+            end_at(ends, c),
         ),
         Shape::For(_, _, _, _) => ended(plain, plain_mask(s, r, masks)),
         Shape::Iter(_) => plain,
@@ -260,7 +262,7 @@ fn count_rows(
             s,
             r,
             places[i],
-            width_at(loops, r),
+            width_at(loops, r) as u32,
             masks,
             returned,
             iterated,

@@ -18,14 +18,14 @@ use Rattle.formula.specs.TreeLaws.{AllBetween, and-true}
 use Rattle.sheet_tables.specs.declared.widths.Widths.{Widths}
 use Rattle.sheet_tables.specs.Nodes.{nodeAt, returnedIn, iteratedIn, Holds}
 use Rattle.sheet_tables.specs.Ready.{Ready}
-use Rattle.sheet_tables.specs.Widths.{widthsBy, wideBy}
+use Rattle.sheet_tables.specs.Widths.{widthsBy, wellBy}
 use Rattle.sheet_tables.proofs.NodeLaws.{nodeBy, Parts, node-at, parts-at}
 
 -- What a table has to say of a node.
 pub record Tells (node : Node) (w : Widths) : Type 0 where
   pub returns : returnedIn node ≡ w .returned
   pub iterates : iteratedIn node ≡ w .iterated
-  pub rules : wideNode node ≡ wideBy w
+  pub rules : wideNode node ≡ wellBy w
 
 module _ (N : ℕ → Node) (E : ℕ → Exp) (B : ℕ → Body) where
   R : ℕ → ℕ
@@ -84,9 +84,9 @@ module _ (t : List ℕ) (n : ℕ) (p : List Bool) (ok : Ready t n p) (i : ℕ) (
         (ok .sound .named .names (i + 1) (omega arith) (omega arith)) (λ k a b. hu .entry k a (omega arith)) (λ k a b. hv .entry k a (omega arith)) in
         subst (λ (w : Widths). Tells (nodeAt t p (i + 1)) w) (sym f) (subst (λ (m : Node). Tells m (widthsBy (inBody p (i + 1)) (λ k. returnedIn (nodeAt t p k)) (λ k. iteratedIn (nodeAt t p k)) (shapeAt t (i + 1)))) (sym e) q)
 
-pub widths-well : (t : List ℕ) (p : List Bool) (r : ℕ) → widthsWell t p r ≡ wideNode (nodeAt t p r)
+pub well-node : (t : List ℕ) (p : List Bool) (r : ℕ) → widthsWell t p r ≡ wideNode (nodeAt t p r)
 unfolding widthsWell
-widths-well t p r = refl
+well-node t p r = refl
 
 -- What the code computes of row i + 1.
 pub row-told : (t : List ℕ) (n : ℕ) (p : List Bool) → Ready t n p → (i : ℕ) → i < n → (J K : List ℕ)
@@ -99,8 +99,8 @@ row-told t n p ok i l J K hj hk s e w d =
     (sym (d ∙ ap (λ j. widthsBy (getD p j false) (λ k. getD J (k - 1) 0) (λ k. getD K (k - 1) 0) s) z ∙ ap (widthsBy (inBody p (i + 1)) (λ k. getD J (k - 1) 0) (λ k. getD K (k - 1) 0)) e))
     (row-widths t n p ok i l J K hj hk)
 
-pub wide-bounds : (w : Widths) → wideBy w ≡ true → (w .iterated ≤ 16) × (w .returned ≤ 16)
-wide-bounds w h =
+pub well-bounds : (w : Widths) → wellBy w ≡ true → (w .iterated ≤ 16) × (w .returned ≤ 16)
+well-bounds w h =
     let both = and-true (leb (w .iterated) 16 && leb (w .returned) 16) (w .fits) h in
     let each = and-true (leb (w .iterated) 16) (leb (w .returned) 16) (both .0) in
     (leb-true (w .iterated) 16 (each .0), leb-true (w .returned) 16 (each .1))

@@ -32,5 +32,5 @@ widthsBy b R I (For a k x y) = widths (R y) 0 (eqb (R x) k && eqb (I y) k && not
 widthsBy b R I (Iter x) = widths 0 (R x) true
 
 -- Test 8 of such widths: "no width above 16", and the kind's rule.
-abbrev pub wideBy : Widths → Bool
-wideBy w = leb (w .iterated) 16 && leb (w .returned) 16 && w .fits
+abbrev pub wellBy : Widths → Bool
+wellBy w = leb (w .iterated) 16 && leb (w .returned) 16 && w .fits

@@ -1,5 +1,5 @@
 // How each row ends (document 01, "The graph": "an arm that ends, behind any lets, in a body if always returns"), from the
-// first row up: 1 returns, 2 iterates, 3 both.
+// first row up.
 use formula::Shape;
 use sheet_fields::shape::shape_at;
 ghost use mathlib.Core.Path.{_≡_};
@@ -12,43 +12,60 @@ ghost use Rattle.sheet_tables.specs.Nodes.{nodeAt, Holds};
 ghost use Rattle.sheet_tables.specs.Ready.{Ready};
 ghost use Rattle.sheet_tables.specs.Ends.{endsIn, endsBy, armsEnd};
 
+// How a row ends (specs/Ends).
+const RETURNS: u8 = 1;
+
+pub const ITERATES: u8 = 2;
+
+const DOES_BOTH: u8 = 3;
+
+pub fn end_at(ends: &[u8], r: usize) -> u8
+    requires { ⌜ (1 ≤ r) × (r ≤ length (now ends)) ⌝ }
+    ensures { λ e. ⌜ e ≡ getD (now (ends .entry)) (r - 1) 0 ⌝ }
+{
+    ends[r - 1]
+}
+
+// An if whose arms end as u and v.
 fn arms_end(u: u8, v: u8) -> u8
     ensures { λ e. ⌜ e ≡ armsEnd u v ⌝ }
 {
-    if 2 <= u {
-        return 3;
+    if ITERATES <= u {
+        return DOES_BOTH;
     }
-    if 2 <= v {
-        return 3;
+    if ITERATES <= v {
+        return DOES_BOTH;
     }
-    1
+    RETURNS
 }
 
-fn ends_of(s: Shape, r: usize, l: &[u8]) -> u8
-    requires { ⌜ (AllBetween r (namedIn s)) × (r ≤ length (now l) + 1) ⌝ }
-    ensures { λ e. ⌜ e ≡ endsBy (λ k. getD (now (l .entry)) (k - 1) 0) s ⌝ }
+// How row r, of shape s, ends, by the ends of earlier rows.
+fn ends_of(s: Shape, r: usize, ends: &[u8]) -> u8
+    requires { ⌜ (AllBetween r (namedIn s)) × (r ≤ length (now ends) + 1) ⌝ }
+    ensures { λ e. ⌜ e ≡ endsBy (λ k. getD (now (ends .entry)) (k - 1) 0) s ⌝ }
 {
     match s {
-        Shape::Identifier(_) => 1,
-        Shape::Whole(_) => 1,
-        Shape::Truth(_) => 1,
-        Shape::Pair(_, _) => 1,
-        Shape::Operator(_, _) => 1,
-        Shape::Let(_, _, _, d) => l[d - 1],
-        Shape::If(_, b, c) => arms_end(l[b - 1], l[c - 1]),
-        Shape::For(_, _, _, _) => 1,
-        Shape::Iter(_) => 2,
+        Shape::Identifier(_) => RETURNS,
+        Shape::Whole(_) => RETURNS,
+        Shape::Truth(_) => RETURNS,
+        Shape::Pair(_, _) => RETURNS,
+        Shape::Operator(_, _) => RETURNS,
+        Shape::Let(_, _, _, d) => end_at(ends, d),
+        Shape::If(_, b, c) => arms_end(end_at(ends, b), end_at(ends, c)),
+        Shape::For(_, _, _, _) => RETURNS,
+        Shape::Iter(_) => ITERATES,
     }
 }
 
-pub fn find_ends(t: &[u32], n: usize, l: &mut [u8])
-    requires { ⌜ (Ready (now t) n (placesOf (now t) n)) × (length (now l) ≡ n) ⌝ }
-    ensures { λ _. ⌜ Holds 0 (now (l .exit)) n (λ k. endsIn (nodeAt (now (t .entry)) (placesOf (now (t .entry)) n) k)) ⌝ }
+// The ends of n rows.
+pub fn find_ends(fields: &[u32], n: usize, ends: &mut [u8])
+    requires { ⌜ (Ready (now fields) n (placesOf (now fields) n)) × (length (now ends) ≡ n) ⌝ }
+    ensures { λ _. ⌜ Holds 0 (now (ends .exit)) n (λ k. endsIn (nodeAt (now (fields .entry)) (placesOf (now (fields .entry)) n) k)) ⌝ }
 {
     let mut i = 0;
     while i < n {
         let r = i + 1;
-        l[i] = ends_of(shape_at(t, r), r, &l[..i]);
+        ends[i] = ends_of(shape_at(fields, r), r, &ends[..i]);
         i += 1;
     }
 }

@@ -1,6 +1,7 @@
 // The free names of each row as a u64 mask, and test 9 of document 01, "a bound identifier not free in row d".
 use formula::Check;
 use formula::Shape;
+use names::TRIGGER_MASK;
 use names::count;
 use names::minus;
 use names::range_mask;
@@ -21,14 +22,11 @@ ghost use Rattle.sheet_tables.specs.Nodes.{nodeAt, freeIn, Holds};
 ghost use Rattle.sheet_tables.specs.Ready.{Ready};
 ghost use Rattle.sheet_tables.specs.Masks.{plainMask, maskBy, boundBy, outside as outsideOf, missing, isReturned, Ranged};
 
-// The trigger, name 32.
-const TRIGGER: u64 = 4294967296;
-
-pub fn mask_at(m: &[u64], r: usize) -> u64
-    requires { ⌜ (1 ≤ r) × (r ≤ length (now m)) ⌝ }
-    ensures { λ v. ⌜ v ≡ getD (now (m .entry)) (r - 1) 0 ⌝ }
+pub fn mask_at(masks: &[u64], r: usize) -> u64
+    requires { ⌜ (1 ≤ r) × (r ≤ length (now masks)) ⌝ }
+    ensures { λ v. ⌜ v ≡ getD (now (masks .entry)) (r - 1) 0 ⌝ }
 {
-    m[r - 1]
+    masks[r - 1]
 }
 
 // The names of m but the identifiers a to a + b - 1.
@@ -40,20 +38,20 @@ pub fn outside(m: u64, a: u32, b: u32) -> u64
 }
 
 // The mask of row r, of shape s, read as an expression.
-pub fn plain_mask(s: Shape, r: usize, m: &[u64]) -> u64
-    requires { ⌜ (AllBetween r (namedIn s)) × (Ranged s) × (r ≤ length (now m) + 1) ⌝ }
-    ensures { λ v. ⌜ v ≡ plainMask (λ k. getD (now (m .entry)) (k - 1) 0) s ⌝ }
+pub fn plain_mask(s: Shape, r: usize, masks: &[u64]) -> u64
+    requires { ⌜ (AllBetween r (namedIn s)) × (Ranged s) × (r ≤ length (now masks) + 1) ⌝ }
+    ensures { λ v. ⌜ v ≡ plainMask (λ k. getD (now (masks .entry)) (k - 1) 0) s ⌝ }
 {
     match s {
         Shape::Identifier(a) => single(a),
-        Shape::Whole(_) => TRIGGER,
-        Shape::Truth(_) => TRIGGER,
-        Shape::Pair(a, b) => mask_at(m, a) | mask_at(m, b),
-        Shape::Operator(_, b) => mask_at(m, b),
-        Shape::Let(a, b, c, d) => mask_at(m, c) | outside(mask_at(m, d), a, b),
-        Shape::If(a, b, c) => mask_at(m, a) | (mask_at(m, b) | mask_at(m, c)),
-        Shape::For(a, b, c, d) => mask_at(m, c) | outside(mask_at(m, d), a, b),
-        Shape::Iter(a) => TRIGGER | mask_at(m, a),
+        Shape::Whole(_) => TRIGGER_MASK,
+        Shape::Truth(_) => TRIGGER_MASK,
+        Shape::Pair(a, b) => mask_at(masks, a) | mask_at(masks, b),
+        Shape::Operator(_, b) => mask_at(masks, b),
+        Shape::Let(a, b, c, d) => mask_at(masks, c) | outside(mask_at(masks, d), a, b),
+        Shape::If(a, b, c) => mask_at(masks, a) | (mask_at(masks, b) | mask_at(masks, c)),
+        Shape::For(a, b, c, d) => mask_at(masks, c) | outside(mask_at(masks, d), a, b),
+        Shape::Iter(a) => TRIGGER_MASK | mask_at(masks, a),
     }
 }
 
@@ -74,16 +72,16 @@ pub fn is_returned(s: Shape) -> bool
     }
 }
 
-fn mask_of(s: Shape, r: usize, in_body: bool, m: &[u64]) -> u64
-    requires { ⌜ (AllBetween r (namedIn s)) × (Ranged s) × (r ≤ length (now m) + 1) ⌝ }
-    ensures { λ v. ⌜ v ≡ maskBy «in_body» (λ k. getD (now (m .entry)) (k - 1) 0) s ⌝ }
+fn mask_of(s: Shape, r: usize, in_body: bool, masks: &[u64]) -> u64
+    requires { ⌜ (AllBetween r (namedIn s)) × (Ranged s) × (r ≤ length (now masks) + 1) ⌝ }
+    ensures { λ v. ⌜ v ≡ maskBy «in_body» (λ k. getD (now (masks .entry)) (k - 1) 0) s ⌝ }
 {
-    let plain = plain_mask(s, r, m);
+    let plain = plain_mask(s, r, masks);
     if !in_body {
         return plain;
     }
     if is_returned(s) {
-        TRIGGER | plain
+        TRIGGER_MASK | plain
     } else {
         plain
     }
@@ -98,9 +96,9 @@ fn covered(m: u64, a: u32, b: u32) -> bool
 }
 
 // Test 9 of row r, of shape s.
-fn bound_well(s: Shape, r: usize, m: &[u64]) -> bool
-    requires { ⌜ (AllBetween r (namedIn s)) × (Ranged s) × (r ≤ length (now m) + 1) ⌝ }
-    ensures { λ b. ⌜ b ≡ boundBy (λ k. getD (now (m .entry)) (k - 1) 0) s ⌝ }
+fn bound_well(s: Shape, r: usize, masks: &[u64]) -> bool
+    requires { ⌜ (AllBetween r (namedIn s)) × (Ranged s) × (r ≤ length (now masks) + 1) ⌝ }
+    ensures { λ b. ⌜ b ≡ boundBy (λ k. getD (now (masks .entry)) (k - 1) 0) s ⌝ }
 {
     match s {
         Shape::Identifier(_) => true,
@@ -108,27 +106,27 @@ fn bound_well(s: Shape, r: usize, m: &[u64]) -> bool
         Shape::Truth(_) => true,
         Shape::Pair(_, _) => true,
         Shape::Operator(_, _) => true,
-        Shape::Let(a, b, _, d) => covered(mask_at(m, d), a, b),
+        Shape::Let(a, b, _, d) => covered(mask_at(masks, d), a, b),
         Shape::If(_, _, _) => true,
-        Shape::For(a, b, _, d) => covered(mask_at(m, d), a, b),
+        Shape::For(a, b, _, d) => covered(mask_at(masks, d), a, b),
         Shape::Iter(_) => true,
     }
 }
 
 // Test 9. The rows before the first fault have their masks in the table.
-pub fn test_bound(t: &[u32], n: usize, p: &[bool], m: &mut [u64]) -> Check
-    requires { ⌜ (Ready (now t) n (now p)) × (length (now m) ≡ n) ⌝ }
-    ensures { λ r. ⌜ (r ≡ lowest n (boundWell (now (t .entry)) (now (p .entry))))
-        × (r ≡ Passed → Holds 0 (now (m .exit)) n (λ k. mask (freeIn (nodeAt (now (t .entry)) (now (p .entry)) k)))) ⌝ }
+pub fn test_bound(fields: &[u32], n: usize, places: &[bool], masks: &mut [u64]) -> Check
+    requires { ⌜ (Ready (now fields) n (now places)) × (length (now masks) ≡ n) ⌝ }
+    ensures { λ r. ⌜ (r ≡ lowest n (boundWell (now (fields .entry)) (now (places .entry))))
+        × (r ≡ Passed → Holds 0 (now (masks .exit)) n (λ k. mask (freeIn (nodeAt (now (fields .entry)) (now (places .entry)) k)))) ⌝ }
 {
     let mut i = 0;
     while i < n {
         let r = i + 1;
-        let s = shape_at(t, r);
-        if !bound_well(s, r, &m[..i]) {
+        let s = shape_at(fields, r);
+        if !bound_well(s, r, &masks[..i]) {
             return Check::Fault(r);
         }
-        m[i] = mask_of(s, r, p[i], &m[..i]);
+        masks[i] = mask_of(s, r, places[i], &masks[..i]);
         i += 1;
     }
     Check::Passed

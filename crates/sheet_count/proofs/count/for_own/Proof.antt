@@ -11,31 +11,31 @@ use Rattle.sheet_tables.proofs.masks.outside.Reads as outside-reads
 use mathlib.Core.Path.{sym, _∙_, ap, refl, subst}
 use native.Mathlib.Omega.{arith}
 
--- src/count.rt:89:9  { ⏎ let g = count(y);
+-- src/count.rt:91:9  { ⏎ let g = count(y);
 count-requires : tie.Need-count-requires
 count-requires c κs = search needs
 
--- src/count.rt:90:26  let g = count(y); ⏎ simple(g, sharing(x, outside(y, a, b)) + less_one(g))
+-- src/count.rt:92:26  let g = count(y); ⏎ simple(g, sharing(x, outside(y, a, b)) + less_one(g))
 outside-requires : tie.Need-outside-requires
 outside-requires c κs = search needs
 
--- src/count.rt:90:15  let g = count(y); ⏎ simple(g, sharing(x, outside(y, a, b)) + less_one(g))
+-- src/count.rt:92:15  let g = count(y); ⏎ simple(g, sharing(x, outside(y, a, b)) + less_one(g))
 sharing-requires : tie.Need-sharing-requires
 sharing-requires c κs = search needs
 
--- src/count.rt:90:46  let g = count(y); ⏎ simple(g, sharing(x, outside(y, a, b)) + less_one(g))
+-- src/count.rt:92:46  let g = count(y); ⏎ simple(g, sharing(x, outside(y, a, b)) + less_one(g))
 less-one-requires : tie.Need-less-one-requires
 less-one-requires c κs = search needs
 
--- src/count.rt:90:15  let g = count(y); ⏎ simple(g, sharing(x, outside(y, a, b)) + less_one(g))
+-- src/count.rt:92:15  let g = count(y); ⏎ simple(g, sharing(x, outside(y, a, b)) + less_one(g))
 add-simple : tie.Need-add-simple
 add-simple c = search needs
 
--- src/count.rt:90:5  let g = count(y); ⏎ simple(g, sharing(x, outside(y, a, b)) + less_one(g))
+-- src/count.rt:92:5  let g = count(y); ⏎ simple(g, sharing(x, outside(y, a, b)) + less_one(g))
 simple-requires : tie.Need-simple-requires
 simple-requires c κs = search needs
 
--- src/count.rt:85:1  } ⏎ fn for_own(x: u64, y: u64, a: u32, b: u32) -> Own
+-- src/count.rt:87:1  } ⏎ fn for_own(x: u64, y: u64, a: u32, b: u32) -> Own
 returns : tie.Need-returns
 returns c = (rw (c .simple .ensures, c .before .before .sharing .ensures .0, c .before .before .before .outside .ensures, c .before .less-one .ensures .0, c .before .before .before .before .count .ensures .0) refl, rw (c .simple .ensures) (record { gates = omega (arith, c .before .before .before .before .count .ensures .1, c .before .before .sharing .ensures .1, c .before .less-one .ensures .1); copies = omega (arith, c .before .before .before .before .count .ensures .1, c .before .before .sharing .ensures .1, c .before .less-one .ensures .1); joins = omega arith }))
 

@@ -11,93 +11,93 @@ use Rattle.formula.specs.Sheet.{namedIn}
 use Rattle.formula.specs.TreeLaws.{AllBetween}
 use Rattle.sheet_tables.specs.Loops.{handed}
 
--- src/loops.rt:20:33  match s { ⏎ Shape::Identifier(_) => w,
+-- src/loops.rt:22:33  match s { ⏎ Shape::Identifier(_) => w,
 enum-told : tie.Need-enum-told
 enum-told c = search needs
 
--- src/loops.rt:21:28  Shape::Identifier(_) => w, ⏎ Shape::Whole(_) => w,
+-- src/loops.rt:23:28  Shape::Identifier(_) => w, ⏎ Shape::Whole(_) => w,
 enum-told-2 : tie.Need-enum-told-2
 enum-told-2 c = search needs
 
--- src/loops.rt:22:28  Shape::Whole(_) => w, ⏎ Shape::Truth(_) => w,
+-- src/loops.rt:24:28  Shape::Whole(_) => w, ⏎ Shape::Truth(_) => w,
 enum-told-3 : tie.Need-enum-told-3
 enum-told-3 c = search needs
 
--- src/loops.rt:23:30  Shape::Truth(_) => w, ⏎ Shape::Pair(_, _) => w,
+-- src/loops.rt:25:30  Shape::Truth(_) => w, ⏎ Shape::Pair(_, _) => w,
 enum-told-4 : tie.Need-enum-told-4
 enum-told-4 c = search needs
 
--- src/loops.rt:24:34  Shape::Pair(_, _) => w, ⏎ Shape::Operator(_, _) => w,
+-- src/loops.rt:26:34  Shape::Pair(_, _) => w, ⏎ Shape::Operator(_, _) => w,
 enum-told-5 : tie.Need-enum-told-5
 enum-told-5 c = search needs
 
--- src/loops.rt:25:35  Shape::Operator(_, _) => w, ⏎ Shape::Let(_, _, _, _) => w,
+-- src/loops.rt:27:35  Shape::Operator(_, _) => w, ⏎ Shape::Let(_, _, _, _) => w,
 enum-told-6 : tie.Need-enum-told-6
 enum-told-6 c = search needs
 
--- src/loops.rt:26:31  Shape::Let(_, _, _, _) => w, ⏎ Shape::If(_, _, _) => w,
+-- src/loops.rt:28:31  Shape::Let(_, _, _, _) => w, ⏎ Shape::If(_, _, _) => w,
 enum-told-7 : tie.Need-enum-told-7
 enum-told-7 c = search needs
 
--- src/loops.rt:27:29  Shape::If(_, _, _) => w, ⏎ Shape::For(_, _, _, d) => ret[d - 1],
+-- src/loops.rt:29:29  Shape::If(_, _, _) => w, ⏎ Shape::For(_, _, _, d) => returned[d - 1],
 enum-known-s : tie.Need-enum-known-s
 enum-known-s c = search needs
 
--- src/loops.rt:27:39  Shape::If(_, _, _) => w, ⏎ Shape::For(_, _, _, d) => ret[d - 1],
+-- src/loops.rt:29:44  Shape::If(_, _, _) => w, ⏎ Shape::For(_, _, _, d) => returned[d - 1],
 sub-result : tie.Need-sub-result
 unfolding namedIn
 sub-result c = let h = subst (λ z. AllBetween (c .before .before .before .args .r) (namedIn z)) (c .before .s .given .1) (c .before .before .before .pre .0) in omega (arith, c .before .before .before .pre .1)
 
--- src/loops.rt:27:35  Shape::If(_, _, _) => w, ⏎ Shape::For(_, _, _, d) => ret[d - 1],
+-- src/loops.rt:29:35  Shape::If(_, _, _) => w, ⏎ Shape::For(_, _, _, d) => returned[d - 1],
 shared-slice-read-result : tie.Need-shared-slice-read-result
 unfolding namedIn
 shared-slice-read-result c = let h = subst (λ z. AllBetween (c .before .before .before .before .args .r) (namedIn z)) (c .before .before .s .given .1) (c .before .before .before .before .pre .0) in omega (arith, c .before .before .before .before .pre .1)
 
--- src/loops.rt:28:27  Shape::For(_, _, _, d) => ret[d - 1], ⏎ Shape::Iter(_) => w,
+-- src/loops.rt:30:27  Shape::For(_, _, _, d) => returned[d - 1], ⏎ Shape::Iter(_) => w,
 enum-told-8 : tie.Need-enum-told-8
 enum-told-8 c = search needs
 
--- src/loops.rt:15:1  ghost use Rattle.sheet_tables.specs.Loops.{handed, fill, loopsOf}; ⏎ fn hand_on(s: Shape, r: usize, w: u8, ret: &[u8]) -> u8
+-- src/loops.rt:17:1  ghost use Rattle.sheet_tables.specs.Loops.{handed, fill, loopsOf}; ⏎ fn hand_on(s: Shape, r: usize, w: u8, returned: &[u8]) -> u8
 returns : tie.Need-returns
 unfolding handed
 returns c = rw (c .enum-told .given .1) refl
 
--- src/loops.rt:15:1  ghost use Rattle.sheet_tables.specs.Loops.{handed, fill, loopsOf}; ⏎ fn hand_on(s: Shape, r: usize, w: u8, ret: &[u8]) -> u8
+-- src/loops.rt:17:1  ghost use Rattle.sheet_tables.specs.Loops.{handed, fill, loopsOf}; ⏎ fn hand_on(s: Shape, r: usize, w: u8, returned: &[u8]) -> u8
 returns-2 : tie.Need-returns-2
 unfolding handed
 returns-2 c = rw (c .enum-told2 .given .1) refl
 
--- src/loops.rt:15:1  ghost use Rattle.sheet_tables.specs.Loops.{handed, fill, loopsOf}; ⏎ fn hand_on(s: Shape, r: usize, w: u8, ret: &[u8]) -> u8
+-- src/loops.rt:17:1  ghost use Rattle.sheet_tables.specs.Loops.{handed, fill, loopsOf}; ⏎ fn hand_on(s: Shape, r: usize, w: u8, returned: &[u8]) -> u8
 returns-3 : tie.Need-returns-3
 unfolding handed
 returns-3 c = rw (c .enum-told3 .given .1) refl
 
--- src/loops.rt:15:1  ghost use Rattle.sheet_tables.specs.Loops.{handed, fill, loopsOf}; ⏎ fn hand_on(s: Shape, r: usize, w: u8, ret: &[u8]) -> u8
+-- src/loops.rt:17:1  ghost use Rattle.sheet_tables.specs.Loops.{handed, fill, loopsOf}; ⏎ fn hand_on(s: Shape, r: usize, w: u8, returned: &[u8]) -> u8
 returns-4 : tie.Need-returns-4
 unfolding handed
 returns-4 c = rw (c .enum-told4 .given .1) refl
 
--- src/loops.rt:15:1  ghost use Rattle.sheet_tables.specs.Loops.{handed, fill, loopsOf}; ⏎ fn hand_on(s: Shape, r: usize, w: u8, ret: &[u8]) -> u8
+-- src/loops.rt:17:1  ghost use Rattle.sheet_tables.specs.Loops.{handed, fill, loopsOf}; ⏎ fn hand_on(s: Shape, r: usize, w: u8, returned: &[u8]) -> u8
 returns-5 : tie.Need-returns-5
 unfolding handed
 returns-5 c = rw (c .enum-told5 .given .1) refl
 
--- src/loops.rt:15:1  ghost use Rattle.sheet_tables.specs.Loops.{handed, fill, loopsOf}; ⏎ fn hand_on(s: Shape, r: usize, w: u8, ret: &[u8]) -> u8
+-- src/loops.rt:17:1  ghost use Rattle.sheet_tables.specs.Loops.{handed, fill, loopsOf}; ⏎ fn hand_on(s: Shape, r: usize, w: u8, returned: &[u8]) -> u8
 returns-6 : tie.Need-returns-6
 unfolding handed
 returns-6 c = rw (c .enum-told6 .given .1) refl
 
--- src/loops.rt:15:1  ghost use Rattle.sheet_tables.specs.Loops.{handed, fill, loopsOf}; ⏎ fn hand_on(s: Shape, r: usize, w: u8, ret: &[u8]) -> u8
+-- src/loops.rt:17:1  ghost use Rattle.sheet_tables.specs.Loops.{handed, fill, loopsOf}; ⏎ fn hand_on(s: Shape, r: usize, w: u8, returned: &[u8]) -> u8
 returns-7 : tie.Need-returns-7
 unfolding handed
 returns-7 c = rw (c .enum-told7 .given .1) refl
 
--- src/loops.rt:15:1  ghost use Rattle.sheet_tables.specs.Loops.{handed, fill, loopsOf}; ⏎ fn hand_on(s: Shape, r: usize, w: u8, ret: &[u8]) -> u8
+-- src/loops.rt:17:1  ghost use Rattle.sheet_tables.specs.Loops.{handed, fill, loopsOf}; ⏎ fn hand_on(s: Shape, r: usize, w: u8, returned: &[u8]) -> u8
 returns-8 : tie.Need-returns-8
 unfolding handed
 returns-8 c = rw (c .before .before .s .given .1) refl
 
--- src/loops.rt:15:1  ghost use Rattle.sheet_tables.specs.Loops.{handed, fill, loopsOf}; ⏎ fn hand_on(s: Shape, r: usize, w: u8, ret: &[u8]) -> u8
+-- src/loops.rt:17:1  ghost use Rattle.sheet_tables.specs.Loops.{handed, fill, loopsOf}; ⏎ fn hand_on(s: Shape, r: usize, w: u8, returned: &[u8]) -> u8
 returns-9 : tie.Need-returns-9
 unfolding handed
 returns-9 c = rw (c .enum-told8 .given .1) refl
