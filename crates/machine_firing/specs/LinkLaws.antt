@@ -1,8 +1,8 @@
 -- What a change of one link, or of one register, leaves as it was. Stated once over the change of a link (`onLink` with any function that keeps
 -- the stretch's length); taking and adding a token are two such. Assumes that the memory is as long as a machine needs.
-use Prim.Native.Nat.{ℕ, suc, _+_, _*_, _≤_, _<_}
+use Prim.Native.Nat.{ℕ, suc, _+_, _≤_, _<_}
 use mathlib.Core.Path.{_≡_, refl, ap, _∙_}
-use mathlib.Core.Logic.{_≢_, _⊎_, inl, inr, ⊎-elim}
+use mathlib.Core.Logic.{_≢_, _⊎_, ⊎-elim}
 use mathlib.Core.Bool.{Bool, true, false}
 use mathlib.Core.List.{List}
 use native.Mathlib.Omega.{arith}
@@ -12,7 +12,7 @@ use lib.Dec.{ltb}
 use lib.ListN.{length, getD, take}
 use lib.Seq.{drop-set-lt}
 use Rattle.value.specs.Operators.{pick}
-use Rattle.value.specs.Bytes.{wordAt, stored, wordBytes}
+use Rattle.value.specs.Bytes.{stored, wordBytes}
 use Rattle.value.proofs.Words.{byte-before, byte-after}
 use Rattle.machine_queue.specs.Stretch.{removed, appended}
 use Rattle.machine_queue.specs.StretchLaws.{appended-length, removed-length}

@@ -1,6 +1,6 @@
 -- An operator that shares no link with the one that fires is as able as before. Assumes that the memory is as long as a machine needs.
 use Prim.Native.Nat.{ℕ, _≤_, _<_}
-use mathlib.Core.Path.{_≡_, refl}
+use mathlib.Core.Path.{_≡_}
 use mathlib.Core.Logic.{_≢_}
 use mathlib.Core.List.{List}
 use native.Mathlib.Omega.{arith}
