@@ -8,7 +8,7 @@ use lib.ListN.{length}
 use Rattle.machine_layout.specs.Layout.{need}
 use Rattle.machine_firing.specs.Fire.{ableAt, firedAt}
 use Rattle.machine_runs.specs.Near.{head-kept, room-kept, able-kept}
-pub use Rattle.machine_runs.specs.Near.{name, low-far, register-far, static-fired}
+pub use Rattle.machine_runs.specs.Near.{name, static-fired}
 
 module _ (m : List ℕ) (size : ℕ) (h : need size ≤ length m) (i : ℕ) (small : i < 1024) (j : ℕ) (jl : j < 1024) (ne : j ≢ i)
     (far : (k k′ : ℕ) → k < 6 → k′ < 6 → name m j k < 3105 → name m j k ≢ name m i k′) where

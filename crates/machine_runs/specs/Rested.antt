@@ -23,7 +23,8 @@ use Rattle.machine_gates.specs.Decide.{optional, heads, idle, told, ruled, deci
 use Rattle.machine_firing.specs.Links.{headAt, tokenAt}
 use Rattle.machine_firing.specs.LinkLaws.{linkPart}
 use Rattle.machine_firing.specs.Fire.{wordOr, planned, registerOf, decisionAt, planAt, readyFor, performed, ableAt, firedAt}
-use Rattle.machine_runs.specs.Near.{name, static-fired, port-fired, register-own}
+use Rattle.machine_runs.specs.Performed.{own-register}
+use Rattle.machine_runs.specs.Near.{name, static-fired, port-fired}
 
 -- ---- the table of rules
 
@@ -168,7 +169,7 @@ module _ (m : List ℕ) (size : ℕ) (h : need size ≤ length m) (i : ℕ) (sma
     where
       go : (x : Decoded) → planAt m size i .register ≡ wordOr x → Reads (optional x) (optional (decoded (valueOf (wordAt (performed m size i (planAt m size i)) (registerAt i)))))
       go (Valid v) e = λ b.
-          let s = register-own m size h i small (planAt m size i) (rw e (word-lt v b)) in
+          let s = own-register m size h i small (planAt m size i) (rw e (word-lt v b)) in
           rw (s ∙ e, value-of-word v b) refl
       go Invalid e = tt
 
