@@ -1,5 +1,8 @@
 pub mod Run
 pub mod RunLaws
+pub mod Performed
+pub mod Near
+pub mod Rested
 pub mod Far
 pub mod Users
 pub mod Words
