@@ -4,18 +4,25 @@
 // is as long as its stored capacity needs.
 ghost use mathlib.Core.Path.{_≡_};
 ghost use Prim.Native.Nat.{ℕ, _+_, _*_, _≤_, _<_};
+ghost use mathlib.Core.List.{[], _∷_};
 ghost use lib.ListN.{length};
-ghost use Rattle.machine_layout.specs.Layout.{mostOperators, mostLinks, mostInputs, mostResults, recordsAt, linksAt, resultLinksAt, leastSize, mostSize, need, sizeOf, capacityOf};
-ghost use Rattle.machine_layout.specs.Kinds.{inputsOfKind, outputsOfKind, hasPort, mayLack};
+ghost use Rattle.machine_layout.specs.Layout.{mostOperators, mostLinks, mostInputs, mostResults, recordsAt, linksAt, resultLinksAt, leastSize, mostSize, need, sizeOf, capacityOf, linksOf, noLink};
 ghost use Rattle.machine_valid.specs.Below.{allBelow};
-ghost use Rattle.machine_valid.specs.Valid.{unlike, freshAt, resultOk, inputOk, portOk, namedOk, registerOk, kindOk, operatorOk, stretchOk, linkOk, figuresOk, valid};
+ghost use Rattle.machine_valid.specs.Valid.{unlike, freshAt, resultOk, inputOk, registerOk, operatorOk, stretchOk, linkOk, figuresOk, valid};
+ghost use Rattle.machine_valid.specs.Ports.{apart, nones, shaped, namesAt, Narrow, wellPorted};
 
-// Ports 0 to 2 of an operator are inputs, the others outputs.
-const PORTS: usize = 6;
+// The ports of an operator in their row: three inputs, three outputs.
+const IN1: usize = 0;
 
-const FIRST_OUTPUT: usize = 3;
+const IN2: usize = 1;
 
-const SECOND_OUTPUT: usize = 4;
+const IN3: usize = 2;
+
+const OUT1: usize = 3;
+
+const OUT2: usize = 4;
+
+const OUT3: usize = 5;
 
 fn is_unlike(x: usize, y: usize) -> bool
     ensures { λ r. ⌜ r ≡ unlike x y ⌝ }
@@ -97,86 +104,198 @@ fn inputs_ok(mem: &[u8], k: usize) -> bool
     true
 }
 
-// How many inputs a kind has (document 01: "10 and 11 take one operand, the rest two").
-fn inputs_of_kind(kind: u8) -> usize
-    ensures { λ r. ⌜ r ≡ inputsOfKind kind ⌝ }
+// The names of an operator's ports.
+pub struct Names {
+    pub in1: usize,
+    pub in2: usize,
+    pub in3: usize,
+    pub out1: usize,
+    pub out2: usize,
+    pub out3: usize,
+}
+
+fn names_at(mem: &[u8], at: usize) -> Names
+    requires { ⌜ (at + 12 ≤ length (now mem)) × (at < 65000) ⌝ }
+    ensures { λ r. ⌜ (r ≡ namesAt (now (mem .entry)) at) × Narrow r ⌝ }
 {
-    match kind {
-        10..=machine_layout::COPY => 1,
-        machine_layout::M | machine_layout::IC | machine_layout::FM => 3,
-        _ => 2,
+    Names {
+        in1: machine_layout::name_at(mem, at, IN1),
+        in2: machine_layout::name_at(mem, at, IN2),
+        in3: machine_layout::name_at(mem, at, IN3),
+        out1: machine_layout::name_at(mem, at, OUT1),
+        out2: machine_layout::name_at(mem, at, OUT2),
+        out3: machine_layout::name_at(mem, at, OUT3),
     }
 }
 
-fn outputs_of_kind(kind: u8) -> usize
-    ensures { λ r. ⌜ r ≡ outputsOfKind kind ⌝ }
+// Whether no name is that of a link: they are figures of two bytes, and no link has the greatest.
+fn are_none(w: usize, x: usize, y: usize, z: usize) -> bool
+    requires { ⌜ (w < 65536) × (x < 65536) × (y < 65536) × (z < 65536) ⌝ }
+    ensures { λ r. ⌜ r ≡ nones (z ∷ y ∷ x ∷ w ∷ []) ⌝ }
 {
-    match kind {
-        machine_layout::COPY => 2,
-        machine_layout::IC => 3,
-        _ => 1,
-    }
+    w + x + y + z == 4 * machine_firing::NOWHERE
 }
 
-fn has_port(kind: u8, p: usize) -> bool
-    ensures { λ r. ⌜ r ≡ hasPort kind p ⌝ }
+// Whether names are those of links, no two the same.
+fn are_two(links: usize, x: usize, y: usize) -> bool
+    ensures { λ r. ⌜ r ≡ apart links (y ∷ x ∷ []) ⌝ }
 {
-    if p < FIRST_OUTPUT {
-        return p < inputs_of_kind(kind);
-    }
-    p - FIRST_OUTPUT < outputs_of_kind(kind)
-}
-
-// "An output with no user": IC's second.
-fn may_lack(kind: u8, p: usize) -> bool
-    ensures { λ r. ⌜ r ≡ mayLack kind p ⌝ }
-{
-    if kind == machine_layout::IC {
-        return p == SECOND_OUTPUT;
-    }
-    false
-}
-
-fn port_ok(kind: u8, links: usize, p: usize, x: usize) -> bool
-    ensures { λ r. ⌜ r ≡ portOk kind links p x ⌝ }
-{
-    if has_port(kind, p) {
-        if x < links {
-            return true;
-        }
-        if may_lack(kind, p) {
-            return x == machine_firing::NOWHERE;
-        }
+    if links <= y {
         return false;
     }
-    x == machine_firing::NOWHERE
+    if y == x {
+        return false;
+    }
+    x < links
 }
 
-fn named_ok(mem: &[u8], at: usize, kind: u8, p: usize) -> bool
-    requires { ⌜ (at + 12 ≤ length (now mem)) × (recordsAt ≤ at) × (at < 65000) × (p < 6) ⌝ }
-    ensures { λ r. ⌜ r ≡ namedOk (now (mem .entry)) at kind p ⌝ }
+fn are_three(links: usize, x: usize, y: usize, z: usize) -> bool
+    ensures { λ r. ⌜ r ≡ apart links (z ∷ y ∷ x ∷ []) ⌝ }
 {
-    let links = machine_layout::links(mem);
-    let x = machine_layout::name_at(mem, at, p);
-    if port_ok(kind, links, p, x) {
-        return is_fresh(mem, at, p);
+    if links <= z {
+        return false;
+    }
+    if z == y {
+        return false;
+    }
+    if z == x {
+        return false;
+    }
+    are_two(links, x, y)
+}
+
+fn are_four(links: usize, w: usize, x: usize, y: usize, z: usize) -> bool
+    ensures { λ r. ⌜ r ≡ apart links (z ∷ y ∷ x ∷ w ∷ []) ⌝ }
+{
+    if links <= z {
+        return false;
+    }
+    if z == y {
+        return false;
+    }
+    if z == x {
+        return false;
+    }
+    if z == w {
+        return false;
+    }
+    are_three(links, w, x, y)
+}
+
+fn are_five(links: usize, v: usize, w: usize, x: usize, y: usize, z: usize) -> bool
+    ensures { λ r. ⌜ r ≡ apart links (z ∷ y ∷ x ∷ w ∷ v ∷ []) ⌝ }
+{
+    if links <= z {
+        return false;
+    }
+    if z == y {
+        return false;
+    }
+    if z == x {
+        return false;
+    }
+    if z == w {
+        return false;
+    }
+    if z == v {
+        return false;
+    }
+    are_four(links, v, w, x, y)
+}
+
+fn are_six(links: usize, u: usize, v: usize, w: usize, x: usize, y: usize, z: usize) -> bool
+    ensures { λ r. ⌜ r ≡ apart links (z ∷ y ∷ x ∷ w ∷ v ∷ u ∷ []) ⌝ }
+{
+    if links <= z {
+        return false;
+    }
+    if z == y {
+        return false;
+    }
+    if z == x {
+        return false;
+    }
+    if z == w {
+        return false;
+    }
+    if z == v {
+        return false;
+    }
+    if z == u {
+        return false;
+    }
+    are_five(links, u, v, w, x, y)
+}
+
+fn two_to_one(links: usize, n: Names) -> bool
+    requires { ⌜ Narrow n ⌝ }
+    ensures { λ r. ⌜ r ≡ shaped links (n .out1 ∷ n .in2 ∷ n .in1 ∷ []) (n .out3 ∷ n .out2 ∷ n .in3 ∷ []) ⌝ }
+{
+    if are_none(machine_firing::NOWHERE, n.in3, n.out2, n.out3) {
+        return are_three(links, n.in1, n.in2, n.out1);
     }
     false
 }
 
-fn names_ok(mem: &[u8], at: usize, kind: u8) -> bool
-    requires { ⌜ (at + 12 ≤ length (now mem)) × (recordsAt ≤ at) × (at < 65000) ⌝ }
-    ensures { λ r. ⌜ r ≡ allBelow 6 (namedOk (now (mem .entry)) at kind) ⌝ }
+fn one_to_one(links: usize, n: Names) -> bool
+    requires { ⌜ Narrow n ⌝ }
+    ensures { λ r. ⌜ r ≡ shaped links (n .out1 ∷ n .in1 ∷ []) (n .out3 ∷ n .out2 ∷ n .in3 ∷ n .in2 ∷ []) ⌝ }
 {
-    let mut p = 0;
-    while p < PORTS {
-        if named_ok(mem, at, kind, p) {
-            p += 1;
-        } else {
-            return false;
-        }
+    if are_none(n.in2, n.in3, n.out2, n.out3) {
+        return are_two(links, n.in1, n.out1);
     }
-    true
+    false
+}
+
+fn one_to_two(links: usize, n: Names) -> bool
+    requires { ⌜ Narrow n ⌝ }
+    ensures { λ r. ⌜ r ≡ shaped links (n .out2 ∷ n .out1 ∷ n .in1 ∷ []) (n .out3 ∷ n .in3 ∷ n .in2 ∷ []) ⌝ }
+{
+    if are_none(machine_firing::NOWHERE, n.in2, n.in3, n.out3) {
+        return are_three(links, n.in1, n.out1, n.out2);
+    }
+    false
+}
+
+fn three_to_one(links: usize, n: Names) -> bool
+    requires { ⌜ Narrow n ⌝ }
+    ensures { λ r. ⌜ r ≡ shaped links (n .out1 ∷ n .in3 ∷ n .in2 ∷ n .in1 ∷ []) (n .out3 ∷ n .out2 ∷ []) ⌝ }
+{
+    if are_none(
+        machine_firing::NOWHERE,
+        machine_firing::NOWHERE,
+        n.out2,
+        n.out3,
+    ) {
+        return are_four(links, n.in1, n.in2, n.in3, n.out1);
+    }
+    false
+}
+
+// IC. "An output with no user": the second.
+fn three_to_three(links: usize, n: Names) -> bool
+    ensures { λ r. ⌜ r ≡ wellPorted 18 links n ⌝ }
+{
+    if n.out2 == machine_firing::NOWHERE {
+        return are_five(links, n.in1, n.in2, n.in3, n.out1, n.out3);
+    }
+    are_six(links, n.in1, n.in2, n.in3, n.out1, n.out2, n.out3)
+}
+
+// Whether a kind's ports name links, no two the same, and the others none; there are no kinds but these.
+fn ports_ok(kind: u8, links: usize, n: Names) -> bool
+    requires { ⌜ Narrow n ⌝ }
+    ensures { λ r. ⌜ r ≡ wellPorted kind links n ⌝ }
+{
+    match kind {
+        1..=9 | machine_layout::T | machine_layout::F | machine_layout::E | machine_layout::FS =>
+            two_to_one(links, n),
+        10..=machine_layout::CONSTANT => one_to_one(links, n),
+        machine_layout::COPY => one_to_two(links, n),
+        machine_layout::M | machine_layout::FM => three_to_one(links, n),
+        machine_layout::IC => three_to_three(links, n),
+        _ => false,
+    }
 }
 
 fn register_ok(kind: u8, word: u64) -> bool
@@ -194,25 +313,14 @@ fn register_ok(kind: u8, word: u64) -> bool
     false
 }
 
-fn kind_ok(kind: u8) -> bool
-    ensures { λ r. ⌜ r ≡ kindOk kind ⌝ }
-{
-    if 1 <= kind {
-        return kind <= machine_layout::FS;
-    }
-    false
-}
-
-fn operator_ok(mem: &[u8], i: usize) -> bool
-    requires { ⌜ (linksAt ≤ length (now mem)) × (i < mostOperators) ⌝ }
+fn operator_ok(mem: &[u8], links: usize, i: usize) -> bool
+    requires { ⌜ (linksAt ≤ length (now mem)) × (i < mostOperators) × (links ≡ linksOf (now mem)) × (links ≤ noLink) ⌝ }
     ensures { λ r. ⌜ r ≡ operatorOk (now (mem .entry)) i ⌝ }
 {
     let at = machine_layout::operator_at(i);
     let kind = mem[at];
-    if !kind_ok(kind) {
-        return false;
-    }
-    if !names_ok(mem, at + machine_layout::PORTS_AT, kind) {
+    let names = names_at(mem, at + machine_layout::PORTS_AT);
+    if !ports_ok(kind, links, names) {
         return false;
     }
     let word = value::bytes::load(mem, machine_layout::register_at(i));
@@ -223,9 +331,10 @@ fn operators_ok(mem: &[u8], n: usize) -> bool
     requires { ⌜ (linksAt ≤ length (now mem)) × (n ≤ mostOperators) ⌝ }
     ensures { λ r. ⌜ r ≡ allBelow n (operatorOk (now (mem .entry))) ⌝ }
 {
+    let links = machine_layout::links(mem);
     let mut i = 0;
     while i < n {
-        if operator_ok(mem, i) {
+        if operator_ok(mem, links, i) {
             i += 1;
         } else {
             return false;
@@ -239,6 +348,9 @@ fn stretch_ok(q: &[u8]) -> bool
     ensures { λ r. ⌜ r ≡ stretchOk (now (q .entry)) ⌝ }
 {
     let n = machine_queue::waiting(q);
+    if n == 0 {
+        return true;
+    }
     if q.len() < 5 * n + 1 {
         return false;
     }
