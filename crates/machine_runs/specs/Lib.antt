@@ -1,6 +1,4 @@
 pub mod Run
 pub mod RunLaws
 pub mod Far
-pub mod Users
-pub mod Words
 pub mod Marks
