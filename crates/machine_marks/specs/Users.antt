@@ -104,6 +104,17 @@ filled-port u u′ m j side k r jl sl kl f h t =
 pub filled-upto : (u m : List ℕ) (a b : ℕ) → a ≡ b → Filled u m a → Filled u m b
 filled-upto u m a b e f = rw e at f
 
+-- the ports of another memory, where they name the same links
+pub filled-same : (u m m′ : List ℕ) (e : ℕ) → e ≤ 6144 → ((j k : ℕ) → j < 1024 → k < 6 → portOf m′ j k ≡ portOf m j k) → Filled u m e → Filled u m′ e
+filled-same u m m′ e h s f = record {
+  inside = λ x k b. let p = at x k in rw p (f .inside x k (rw p at b));
+  user = λ x k b. let p = at x k in rw p (f .user x k (rw p at b));
+  once = λ x y k k′ b q t. let p = at x k in f .once x y k k′ (rw p at b) (sym p ∙ q ∙ at y k′) t;
+}
+  where
+    at : (x : ℕ) → x < e → linkOf m′ x ≡ linkOf m x
+    at x k = s (x / 6) (x % 6) (omega arith) (omega arith)
+
 -- the same by operator and port
 module _ (u m : List ℕ) (n : ℕ) (f : Filled u m (6 * n)) where
   pub user-inside : (j k : ℕ) → j < n → k < 6 → portOf m j k < 3105 → 2 * portOf m j k + k / 3 < length u

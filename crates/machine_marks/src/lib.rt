@@ -72,11 +72,14 @@ pub fn forward(awake: &mut [u64], m: Marks) -> Marks
     m
 }
 
-// The first operator with a mark among those of the block.
+// The first operator with a mark among those of the block, or the number past all where none is held.
 pub fn first_of(m: Marks) -> usize
-    requires { ⌜ (m .here ≢ 0) × (m .block < markWords) ⌝ }
-    ensures { λ r. ⌜ Lowest m r ⌝ }
+    requires { ⌜ m .block < markWords ⌝ }
+    ensures { λ r. ⌜ (r < mostOperators → Lowest m r) × (mostOperators ≤ r → m .here ≡ 0) ⌝ }
 {
+    if m.here == 0 {
+        return machine_layout::OPERATORS;
+    }
     BLOCK * m.block + u64::trailing_zeros(m.here) as usize
 }
 

@@ -1,4 +1,6 @@
 pub mod Run
 pub mod RunLaws
-pub mod Far
+pub mod Performed
+pub mod Near
+pub mod Rested
 pub mod Marks

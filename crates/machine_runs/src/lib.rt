@@ -1,17 +1,19 @@
 // Runs of the machine (document 01, "Running"). The definition is specs/Run: the least-numbered able
 // operator fires, again and again. `run` makes it without looking at every operator after each
-// firing: one that was found not able is passed over until a firing touches a link that it names
+// firing: one that was found not able is passed over until a firing may have made it able
 // (specs/Marks). Assumes that the memory is as long as a machine needs, and nothing of its contents.
 use machine_marks::Marks;
 ghost use mathlib.Core.Path.{_≡_};
-ghost use mathlib.Core.Bool.{true};
+ghost use mathlib.Core.Bool.{false};
 ghost use Prim.Native.Nat.{ℕ, _+_, _-_, _*_, _/_, _≤_, _<_};
 ghost use lib.ListN.{length, getD};
-ghost use Rattle.machine_layout.specs.Layout.{mostOperators, registersAt, leastSize, mostSize, need};
-ghost use Rattle.machine_marks.specs.Held.{held, Stands, Woke};
+ghost use Rattle.machine_layout.specs.Layout.{mostOperators, mostLinks, leastSize, mostSize, need};
+ghost use Rattle.machine_queue.specs.Stretch.{waiting};
+ghost use Rattle.machine_firing.specs.LinkLaws.{linkPart};
+ghost use Rattle.machine_marks.specs.Held.{held, Stands, Lowest, Woke};
 ghost use Rattle.machine_marks.specs.Users.{Filled};
 ghost use Rattle.machine_runs.specs.Run.{Ran, ran, runs, stillAt};
-ghost use Rattle.machine_runs.specs.Marks.{Hits, Woken};
+ghost use Rattle.machine_runs.specs.Marks.{Calm, Hit, Hits, Rests, Woken};
 
 // An operator's first input and its first output, and how many it has of each.
 const INPUTS: usize = 0;
@@ -19,6 +21,11 @@ const INPUTS: usize = 0;
 const OUTPUTS: usize = 3;
 
 const SIDE_PORTS: usize = 3;
+
+// The bytes of a token in a link's stretch, and those of the count and two tokens.
+const TOKEN: usize = 5;
+
+const TWO_FREE: usize = 11;
 
 // The tables' lengths, two places a link, and the most links of the first two.
 const FEW_LINKS: usize = 64;
@@ -52,9 +59,56 @@ pub fn run_plain(mem: &mut [u8], size: usize, n: usize, budget: u32) -> u32
     count
 }
 
-// Marks the users on a side of the three ports of operator i from `first` on.
+// How many tokens wait on link l.
+fn waiting_on(mem: &[u8], size: usize, l: usize) -> usize
+    requires { ⌜ (leastSize ≤ size) × (size ≤ mostSize) × (need size ≤ length (now mem)) × (l < mostLinks) ⌝ }
+    ensures { λ r. ⌜ (r ≡ waiting (linkPart (now (mem .entry)) size l)) × (r < 256) ⌝ }
+{
+    let a = machine_layout::link_at(size, l);
+    let e = a + size;
+    machine_queue::waiting(&mem[a..e])
+}
+
+// Whether a firing may have made the user of link l on a side able: its putter, where fewer than two
+// places are free now; its taker, where one token waits now.
+fn due(mem: &[u8], size: usize, l: usize, side: usize) -> bool
+    requires { ⌜ (leastSize ≤ size) × (size ≤ mostSize) × (need size ≤ length (now mem)) ⌝ }
+    ensures { λ r. ⌜ (r ≡ false → l < mostLinks → Calm (now (mem .entry)) size l side) ⌝ }
+{
+    if machine_layout::LINKS <= l {
+        return false;
+    }
+    let count = waiting_on(mem, size, l);
+    if side == machine_marks::PUTTER {
+        return size < TOKEN * count + TWO_FREE;
+    }
+    count == 1
+}
+
+// Marks the user of link l on a side, where that is due.
+fn wake_user(
+    mem: &[u8],
+    size: usize,
+    users: &[u16],
+    l: usize,
+    side: usize,
+    awake: &mut [u64],
+    m: Marks,
+) -> Marks
+    requires { ⌜ (leastSize ≤ size) × (size ≤ mostSize) × (need size ≤ length (now mem)) × (l < 65536) × (side < 2) × (Stands (now awake) m) ⌝ }
+    ensures { λ r. ⌜ (Woke (now (awake .entry)) m (now (awake .exit)) r) × (Hit (now (users .entry)) (now (mem .entry)) size l side (held (now (awake .exit)) r)) ⌝ }
+{
+    if due(mem, size, l, side) {
+        let u = machine_marks::user_of(users, l, side);
+        return machine_marks::wake(awake, m, u);
+    }
+    m
+}
+
+// Marks the users on a side of the three ports of operator i from `first` on, where that is due.
 fn wake_side(
     mem: &[u8],
+    size: usize,
     users: &[u16],
     i: usize,
     first: usize,
@@ -62,27 +116,62 @@ fn wake_side(
     awake: &mut [u64],
     m: Marks,
 ) -> Marks
-    requires { ⌜ (registersAt ≤ length (now mem)) × (i < mostOperators) × (first ≤ 3) × (side < 2) × (Stands (now awake) m) ⌝ }
-    ensures { λ r. ⌜ (Woke (now (awake .entry)) m (now (awake .exit)) r) × (Hits (now (users .entry)) (now (mem .entry)) i first side 3 (held (now (awake .exit)) r)) ⌝ }
+    requires { ⌜ (leastSize ≤ size) × (size ≤ mostSize) × (need size ≤ length (now mem)) × (i < mostOperators) × (first ≤ 3) × (side < 2) × (Stands (now awake) m) ⌝ }
+    ensures { λ r. ⌜ (Woke (now (awake .entry)) m (now (awake .exit)) r) × (Hits (now (users .entry)) (now (mem .entry)) size i first side 3 (held (now (awake .exit)) r)) ⌝ }
 {
     let mut more = m;
     let mut k = 0;
     while k < SIDE_PORTS {
         let l = machine_marks::port_of(mem, i, first + k);
-        let u = machine_marks::user_of(users, l, side);
-        more = machine_marks::wake(awake, more, u);
+        more = wake_user(mem, size, users, l, side, awake, more);
         k += 1;
     }
     more
 }
 
-// Marks the operators that a firing of i may have made able: who gives to its inputs, who takes from its outputs.
-fn wake(mem: &[u8], users: &[u16], i: usize, awake: &mut [u64], m: Marks) -> Marks
-    requires { ⌜ (registersAt ≤ length (now mem)) × (i < mostOperators) × (Stands (now awake) m) ⌝ }
-    ensures { λ r. ⌜ Woken (now (users .entry)) (now (mem .entry)) i (now (awake .entry)) m (now (awake .exit)) r ⌝ }
+// The marks without that of operator i, which has fired, where nothing waits on its first input: no
+// kind is able then.
+fn rest(mem: &[u8], size: usize, i: usize, m: Marks) -> Marks
+    requires { ⌜ (leastSize ≤ size) × (size ≤ mostSize) × (need size ≤ length (now mem)) × (i < mostOperators) × (i / 64 ≡ m .block) ⌝ }
+    ensures { λ r. ⌜ Rests (now (mem .entry)) size i m r ⌝ }
 {
-    let putters = wake_side(mem, users, i, INPUTS, machine_marks::PUTTER, awake, m);
-    let both = wake_side(mem, users, i, OUTPUTS, machine_marks::TAKER, awake, putters);
+    let l = machine_marks::port_of(mem, i, INPUTS);
+    if machine_layout::LINKS <= l {
+        return m;
+    }
+    if waiting_on(mem, size, l) == 0 {
+        return machine_marks::without(m, i);
+    }
+    m
+}
+
+// The marks after a firing of operator i: who gives to its inputs and who takes from its outputs may
+// be able now, it may not.
+fn wake(mem: &[u8], size: usize, users: &[u16], i: usize, awake: &mut [u64], m: Marks) -> Marks
+    requires { ⌜ (leastSize ≤ size) × (size ≤ mostSize) × (need size ≤ length (now mem)) × (i < mostOperators) × (Stands (now awake) m) × (m .low ≡ m .block) × (Lowest m i) ⌝ }
+    ensures { λ r. ⌜ Woken (now (users .entry)) (now (mem .entry)) size i (now (awake .entry)) m (now (awake .exit)) r ⌝ }
+{
+    let own = rest(mem, size, i, m);
+    let putters = wake_side(
+        mem,
+        size,
+        users,
+        i,
+        INPUTS,
+        machine_marks::PUTTER,
+        awake,
+        own,
+    );
+    let both = wake_side(
+        mem,
+        size,
+        users,
+        i,
+        OUTPUTS,
+        machine_marks::TAKER,
+        awake,
+        putters,
+    );
     machine_marks::backward(awake, both)
 }
 
@@ -97,24 +186,21 @@ fn run_marked(mem: &mut [u8], size: usize, n: usize, budget: u32, users: &[u16])
         block: 0,
         low: 0,
     };
-    let mut count: u32 = 0;
-    while count < budget {
+    let mut fired: u32 = 0;
+    while fired < budget {
         m = machine_marks::forward(&mut awake, m);
-        if m.here == 0 {
-            return count;
-        }
         let i = machine_marks::first_of(m);
         if n <= i {
-            return count;
+            return fired;
         }
         if machine_firing::fire_at(mem, size, i) {
-            count += 1;
-            m = wake(mem, users, i, &mut awake, m);
+            fired += 1;
+            m = wake(mem, size, users, i, &mut awake, m);
         } else {
             m = machine_marks::without(m, i);
         }
     }
-    count
+    fired
 }
 
 // The run over a lent table, all its places free; the plain one where the links do not fit it.
