@@ -3,7 +3,4 @@ pub mod RunLaws
 pub mod Performed
 pub mod Near
 pub mod Rested
-pub mod Far
-pub mod Users
-pub mod Words
 pub mod Marks

@@ -23,32 +23,32 @@ Inv-loop mem size n i₀ i = (i ≤ n) × Quiet mem size i
 abbrev μ-loop : tie.MeasureT-loop
 μ-loop mem size n i₀ i = n - i
 
--- src/lib.rt:184:5  let mut i = 0; ⏎ while i < n {
+-- src/lib.rt:206:5  let mut i = 0; ⏎ while i < n {
 loop-holds : tie.Need-loop-holds Inv-loop μ-loop
 loop-holds c = (omega arith, quiet-none (c .before .args .mem .now) (c .before .args .size))
 
--- src/lib.rt:185:12  while i < n { ⏎ if machine_firing::able_at(mem, size, i) {
+-- src/lib.rt:207:12  while i < n { ⏎ if machine_firing::able_at(mem, size, i) {
 able-at-requires : tie.Need-able-at-requires Inv-loop μ-loop
 able-at-requires c κs = search needs
 
--- src/lib.rt:186:13  if machine_firing::able_at(mem, size, i) { ⏎ return false;
+-- src/lib.rt:208:13  if machine_firing::able_at(mem, size, i) { ⏎ return false;
 returns : tie.Need-returns Inv-loop μ-loop
 unfolding stillAt
 returns c = rw (least-at (c .before .before .before .before .before .args .mem .now) (c .before .before .before .before .before .args .size) (c .before .before .before .before .before .args .n) (c .before .before .before .loop .i) (omega arith) (c .before .before .before .loop .inv .1) (sym (c .before .able-at .ensures) ∙ c .if1 .taken), lt-ltb (c .before .before .before .loop .i) (c .before .before .before .before .before .args .n) (omega arith)) refl
 
--- src/lib.rt:188:9  } ⏎ i += 1;
+-- src/lib.rt:210:9  } ⏎ i += 1;
 add-i : tie.Need-add-i Inv-loop μ-loop
 add-i c = omega arith
 
--- src/lib.rt:184:5  let mut i = 0; ⏎ while i < n {
+-- src/lib.rt:206:5  let mut i = 0; ⏎ while i < n {
 loop-less : tie.Need-loop-less Inv-loop μ-loop
 loop-less c = omega arith
 
--- src/lib.rt:184:5  let mut i = 0; ⏎ while i < n {
+-- src/lib.rt:206:5  let mut i = 0; ⏎ while i < n {
 loop-again : tie.Need-loop-again Inv-loop μ-loop
 loop-again c = (omega arith, quiet-more (c .before .before .before .before .before .args .mem .now) (c .before .before .before .before .before .args .size) (c .before .before .before .loop .i) (c .before .before .before .loop .inv .1) (sym (c .before .able-at .ensures) ∙ c .if1 .left))
 
--- src/lib.rt:179:1  // Whether nothing can fire (refusal 36 is its opposite, after the lent firings). ⏎ pub fn idle(mem: &[u8], size: usize, n: usize) -> bool
+-- src/lib.rt:201:1  // Whether nothing can fire (refusal 36 is its opposite, after the lent firings). ⏎ pub fn idle(mem: &[u8], size: usize, n: usize) -> bool
 returns-2 : tie.Need-returns-2 Inv-loop μ-loop
 unfolding stillAt
 returns-2 c = let e : c .before .loop .i ≡ c .before .before .before .args .n = omega arith in rw (least-none (c .before .before .before .args .mem .now) (c .before .before .before .args .size) (c .before .before .before .args .n) (rw e at (c .before .loop .inv .1)), le-ltb (c .before .before .before .args .n) (c .before .before .before .args .n) (omega arith)) refl

@@ -1,0 +1,73 @@
+use native.Mathlib.Omega.{arith}
+use Rattle.machine_runs.proofs.wake_side.Statement.{statement}
+use Rattle.machine_runs.proofs.wake_side.Tie as tie
+use Rattle.machine_runs.proofs.wake_side.Reads as reads
+use Rattle.machine_runs.proofs.wake_side.Lts as lts
+use Rattle.machine_marks.proofs.port_of.Reads as port-of-reads
+use Rattle.machine_runs.proofs.wake_user.Reads as wake-user-reads
+use Prim.Native.Nat.{_-_, _≤_}
+use mathlib.Core.Path.{_≡_, sym, _∙_}
+use Rattle.machine_marks.specs.Held.{held, Woke, woke-none, woke-then}
+use Rattle.machine_runs.specs.Marks.{Hits, hits-none, hits-more}
+
+abbrev Inv-loop : tie.InvT-loop
+Inv-loop mem size users i first side awake₀ more₀ k₀ awake more k = (k ≤ 3) × (Woke awake₀ more₀ awake more) × (Hits users mem size i first side k (held awake more))
+
+abbrev μ-loop : tie.MeasureT-loop
+μ-loop mem size users i first side awake₀ more₀ k₀ awake more k = 3 - k
+
+-- src/lib.rt:107:5  let mut k = 0; ⏎ while k < SIDE_PORTS {
+loop-holds : tie.Need-loop-holds Inv-loop μ-loop
+loop-holds c = (omega arith, woke-none (c .before .before .before .args .awake .now) (c .before .before .before .args .m) (c .before .before .before .pre .6), hits-none (c .before .before .before .args .users .now) (c .before .before .before .args .mem .now) (c .before .before .before .args .size) (c .before .before .before .args .i) (c .before .before .before .args .first) (c .before .before .before .args .side) (held (c .before .before .before .args .awake .now) (c .before .before .before .args .m)))
+
+-- src/lib.rt:108:48  while k < SIDE_PORTS { ⏎ let l = machine_marks::port_of(mem, i, first + k);
+add-port-of : tie.Need-add-port-of Inv-loop μ-loop
+add-port-of c = omega arith
+
+-- src/lib.rt:108:13  while k < SIDE_PORTS { ⏎ let l = machine_marks::port_of(mem, i, first + k);
+port-of-requires : tie.Need-port-of-requires Inv-loop μ-loop
+port-of-requires c κs = omega arith
+
+-- src/lib.rt:109:9  let l = machine_marks::port_of(mem, i, first + k); ⏎ more = wake_user(mem, size, users, l, side, awake, more);
+wake-user-requires : tie.Need-wake-user-requires Inv-loop μ-loop
+wake-user-requires c κs = (omega arith, omega arith, omega arith, omega arith, omega arith, c .before .before .before .loop .inv .1 .stands)
+
+-- src/lib.rt:110:9  more = wake_user(mem, size, users, l, side, awake, more); ⏎ k += 1;
+add-k : tie.Need-add-k Inv-loop μ-loop
+add-k c = omega arith
+
+-- src/lib.rt:107:5  let mut k = 0; ⏎ while k < SIDE_PORTS {
+loop-less : tie.Need-loop-less Inv-loop μ-loop
+loop-less c = omega arith
+
+-- src/lib.rt:107:5  let mut k = 0; ⏎ while k < SIDE_PORTS {
+loop-again : tie.Need-loop-again Inv-loop μ-loop
+loop-again c = (
+  omega arith,
+  woke-then (c .before .before .before .before .before .before .before .before .before .before .args .awake .now) (c .before .before .before .before .before .before .before .before .before .before .args .m) (c .before .before .before .before .before .before .loop .awake) (c .before .before .before .before .before .before .loop .more) (c .before .before .wake-user .last .1 .1 .1 .1 .1 .0) (c .before .before .wake-user .result) (c .before .before .before .before .before .before .loop .inv .1) (c .before .before .wake-user .ensures .0),
+  hits-more (c .before .before .before .before .before .before .before .before .before .before .args .users .now) (c .before .before .before .before .before .before .before .before .before .before .args .mem .now) (c .before .before .before .before .before .before .before .before .before .before .args .size) (c .before .before .before .before .before .before .before .before .before .before .args .i) (c .before .before .before .before .before .before .before .before .before .before .args .first) (c .before .before .before .before .before .before .before .before .before .before .args .side) (c .before .before .before .before .before .before .loop .k) (c .before .before .before .before .before .before .loop .awake) (c .before .before .before .before .before .before .loop .more) (c .before .before .wake-user .last .1 .1 .1 .1 .1 .0) (c .before .before .wake-user .result) (c .before .before .before .before .port-of .result) (c .before .before .before .before .before .before .loop .inv .2) (c .before .before .wake-user .ensures .0) (c .before .before .before .before .port-of .ensures .0) (c .before .before .wake-user .ensures .1),
+)
+
+-- src/lib.rt:101:1  // Marks the users on a side of the three ports of operator i from `first` on, where that is due. ⏎ fn wake_side(mem: &[u8], size: usize, users: &[u16], i: usize, first: usize, side: usize, awake: &mut [u64], m: Marks) -> Marks
+same-length : tie.Need-same-length Inv-loop μ-loop
+same-length c = c .before .loop .inv .1 .stands .len ∙ sym (c .before .before .before .before .before .pre .6 .len)
+
+-- src/lib.rt:101:1  // Marks the users on a side of the three ports of operator i from `first` on, where that is due. ⏎ fn wake_side(mem: &[u8], size: usize, users: &[u16], i: usize, first: usize, side: usize, awake: &mut [u64], m: Marks) -> Marks
+returns : tie.Need-returns Inv-loop μ-loop
+returns c = let e : c .before .loop .k ≡ 3 = omega arith in (c .before .loop .inv .1, rw e at (c .before .loop .inv .2))
+
+pub wake-side-spec : {M : Type 1} → statement M
+wake-side-spec =
+    tie.close
+    (tie.spec
+    Inv-loop
+    μ-loop
+    loop-holds
+    add-port-of
+    port-of-requires
+    wake-user-requires
+    add-k
+    loop-less
+    loop-again
+    same-length
+    returns)
