@@ -31,9 +31,13 @@ pub record Calm (m : List ℕ) (size l side : ℕ) : Type 0 where
 abbrev pub Hit : List ℕ → List ℕ → ℕ → ℕ → ℕ → List ℕ → Type 0
 Hit u m size l side w = l < 3105 → 2 * l + side < length u → (x : ℕ) → getD u (2 * l + side) 0 ≡ x → x < 1024 → mark w x ≡ 0 → Calm m size l side
 
--- those of the first e ports of i from `first` on
-abbrev pub Hits : List ℕ → List ℕ → ℕ → ℕ → ℕ → ℕ → ℕ → List ℕ → Type 0
-Hits u m size i first side e w = (k : ℕ) → k < e → Hit u m size (name m i (first + k)) side w
+-- the side on which another operator uses the link of port k: an input's putter, an output's taker
+abbrev pub facing : ℕ → ℕ
+facing k = 1 - k / 3
+
+-- those of the first e ports of i
+abbrev pub Hits : List ℕ → List ℕ → ℕ → ℕ → ℕ → List ℕ → Type 0
+Hits u m size i e w = (k : ℕ) → k < e → Hit u m size (name m i k) (facing k) w
 
 pub hit-calm : (u m : List ℕ) (size l side : ℕ) (w : List ℕ) → (l < 3105 → Calm m size l side) → Hit u m size l side w
 hit-calm u m size l side w h lt b x f xl z = h lt
@@ -44,21 +48,17 @@ hit-marked u m size l side w v uv up lt b x f xl z =
     let o : mark w x ≡ 1 = (rw vx at up) xl in
     absurd (omega arith)
 
-pub hits-none : (u m : List ℕ) (size i first side : ℕ) (w : List ℕ) → Hits u m size i first side 0 w
-hits-none u m size i first side w k h = absurd (omega arith)
+pub hits-none : (u m : List ℕ) (size i : ℕ) (w : List ℕ) → Hits u m size i 0 w
+hits-none u m size i w k h = absurd (omega arith)
 
 -- marks that were set stay so
-pub hits-kept : (u m : List ℕ) (size i first side e : ℕ) (w : List ℕ) (a : Marks) (w′ : List ℕ) (r : Marks) → Hits u m size i first side e (held w a) → Woke w a w′ r →
-    Hits u m size i first side e (held w′ r)
-hits-kept u m size i first side e w a w′ r h wk k kl lt b x f xl z = h k kl lt b x f xl (wk .asleep x z)
-
-pub hits-more : (u m : List ℕ) (size i first side e : ℕ) (w : List ℕ) (a : Marks) (w′ : List ℕ) (r : Marks) (l : ℕ) → Hits u m size i first side e (held w a) → Woke w a w′ r →
-    l ≡ name m i (first + e) → Hit u m size l side (held w′ r) → Hits u m size i first side (e + 1) (held w′ r)
-hits-more u m size i first side e w a w′ r l h wk q one k lt = go (ℕ-discrete k e)
+pub hits-more : (u m : List ℕ) (size i e : ℕ) (w : List ℕ) (a : Marks) (w′ : List ℕ) (r : Marks) (l side : ℕ) → Hits u m size i e (held w a) → Woke w a w′ r →
+    l ≡ name m i e → side ≡ facing e → Hit u m size l side (held w′ r) → Hits u m size i (e + 1) (held w′ r)
+hits-more u m size i e w a w′ r l side h wk q s one k lt = go (ℕ-discrete k e)
   where
-    go : Dec (k ≡ e) → Hit u m size (name m i (first + k)) side (held w′ r)
-    go (yes p) = rw (p, sym q) one
-    go (no n) = hits-kept u m size i first side e w a w′ r h wk k (omega arith)
+    go : Dec (k ≡ e) → Hit u m size (name m i k) (facing k) (held w′ r)
+    go (yes p) = rw (p, sym q, sym s) one
+    go (no n) = λ b c x f xl z. h k (omega arith) b c x f xl (wk .asleep x z)
 
 -- i's own mark is as it was, or has gone with the last token of its first input
 abbrev pub Rests : List ℕ → ℕ → ℕ → Marks → Marks → Type 0
@@ -74,8 +74,7 @@ pub record Woken (u m : List ℕ) (size i : ℕ) (w : List ℕ) (a : Marks) (w�
   pub level : r .low ≡ r .block
   pub asleep : (x : ℕ) → x ≢ i → mark (held w′ r) x ≡ 0 → mark (held w a) x ≡ 0
   pub own : mark (held w′ r) i ≡ 0 → (name m i 0 < 3105) × (waiting (linkPart m size (name m i 0)) ≡ 0)
-  pub putters : Hits u m size i 0 1 3 (held w′ r)
-  pub takers : Hits u m size i 3 0 3 (held w′ r)
+  pub hits : Hits u m size i 6 (held w′ r)
 
 module _ (u m : List ℕ) (size i : ℕ) (w : List ℕ) (a : Marks) (s : Stands w a) (level : a .low ≡ a .block) (l : Lowest a i) (a0 : Marks) (rests : Rests m size i a a0) where
   inside : i / 64 < length (held w a)
@@ -89,19 +88,17 @@ module _ (u m : List ℕ) (size i : ℕ) (w : List ℕ) (a : Marks) (s : Stands 
   itself (inl e) z = absurd (let o : mark (held w a) i ≡ 0 = (rw e at z) in omega (arith, first-marked w a s level i l))
   itself (inr g) z = (g .1, g .2)
 
-  pub woken-both : (w1 : List ℕ) (a1 : Marks) (w2 : List ℕ) (a2 : Marks) (w3 : List ℕ) (a3 : Marks) →
-      Woke w a0 w1 a1 → Hits u m size i 0 1 3 (held w1 a1) → Woke w1 a1 w2 a2 → Hits u m size i 3 0 3 (held w2 a2) → Moved w2 a2 w3 a3 → Woken u m size i w a w3 a3
-  woken-both w1 a1 w2 a2 w3 a3 p hp q hq v = record {
+  pub woken-all : (w1 : List ℕ) (a1 : Marks) (w2 : List ℕ) (a2 : Marks) → Woke w a0 w1 a1 → Hits u m size i 6 (held w1 a1) → Moved w1 a1 w2 a2 → Woken u m size i w a w2 a2
+  woken-all w1 a1 w2 a2 p h v = record {
     stands = v .stands;
     level = v .level;
     asleep = λ x n z. others rests x n (back x z);
     own = λ z. itself rests (back i z);
-    putters = rw (v .same) (hits-kept u m size i 0 1 3 w1 a1 w2 a2 hp q);
-    takers = rw (v .same) hq;
+    hits = rw (v .same) h;
   }
     where
-      back : (x : ℕ) → mark (held w3 a3) x ≡ 0 → mark (held w a0) x ≡ 0
-      back x z = p .asleep x (q .asleep x (rw (v .same) at z))
+      back : (x : ℕ) → mark (held w2 a2) x ≡ 0 → mark (held w a0) x ≡ 0
+      back x z = p .asleep x (rw (v .same) at z)
 
 -- what the run's loop keeps of the memory and all marks
 pub record Fast (u m₀ : List ℕ) (size n b : ℕ) (m : List ℕ) (w : List ℕ) (c : ℕ) : Type 0 where
@@ -118,7 +115,7 @@ fast-start u m₀ w size n b nb all fil = record {
 
 -- a firing of i: who is not able afterwards
 module _ (u m : List ℕ) (size n : ℕ) (fits : need size ≤ length m) (nb : n ≤ 1024) (i : ℕ) (lt : i < n) (fil : Filled u m (6 * n)) (w′ : List ℕ)
-    (putters : Hits u (firedAt m size i) size i 0 1 3 w′) (takers : Hits u (firedAt m size i) size i 3 0 3 w′) where
+    (hits : Hits u (firedAt m size i) size i 6 w′) where
   same : (k : ℕ) → k < 6 → name (firedAt m size i) i k ≡ name m i k
   same k kl = port-fired m size fits i (omega arith) i k (omega arith) kl
 
@@ -136,18 +133,18 @@ module _ (u m : List ℕ) (size n : ℕ) (fits : need size ≤ length m) (nb : n
     -- a link that i gives to and j takes from, or the other way round, is calm
     calm-taker : (k k′ : ℕ) → k < 3 → 3 ≤ k′ → k′ < 6 → name m j k < 3105 → name m j k ≡ name m i k′ → waiting (linkPart (firedAt m size i) size (name m j k)) ≢ 1
     calm-taker k k′ kl ka kb b q =
-        let p : 3 + (k′ - 3) ≡ k′ = omega arith in
-        let e : name (firedAt m size i) i (3 + (k′ - 3)) ≡ name m j k = rw p (same k′ kb ∙ sym q) in
+        let e : name (firedAt m size i) i k′ ≡ name m j k = same k′ kb ∙ sym q in
+        let t : facing k′ ≡ 0 = omega arith in
         let s : k / 3 ≡ 0 = omega arith in
-        let c = (rw e at (takers (k′ - 3) (omega arith))) b (rw s at (user-inside u m n fil j k jl (omega arith) b)) j (rw s at (user-found u m n fil j k jl (omega arith) b)) (omega arith) z in
+        let c = (rw (e, t) at (hits k′ kb)) b (rw s at (user-inside u m n fil j k jl (omega arith) b)) j (rw s at (user-found u m n fil j k jl (omega arith) b)) (omega arith) z in
         c .taker refl
 
     calm-putter : (k k′ : ℕ) → 3 ≤ k → k < 6 → k′ < 3 → name m j k < 3105 → name m j k ≡ name m i k′ → 5 * waiting (linkPart (firedAt m size i) size (name m j k)) + 11 ≤ size
     calm-putter k k′ ka kl kb b q =
-        let p : 0 + k′ ≡ k′ = omega arith in
-        let e : name (firedAt m size i) i (0 + k′) ≡ name m j k = rw p (same k′ (omega arith) ∙ sym q) in
+        let e : name (firedAt m size i) i k′ ≡ name m j k = same k′ (omega arith) ∙ sym q in
+        let t : facing k′ ≡ 1 = omega arith in
         let s : k / 3 ≡ 1 = omega arith in
-        let c = (rw e at (putters k′ kb)) b (rw s at (user-inside u m n fil j k jl kl b)) j (rw s at (user-found u m n fil j k jl kl b)) (omega arith) z in
+        let c = (rw (e, t) at (hits k′ (omega arith))) b (rw s at (user-inside u m n fil j k jl kl b)) j (rw s at (user-found u m n fil j k jl kl b)) (omega arith) z in
         c .putter refl
 
     pub able-as-before : ableAt (firedAt m size i) size j ≡ ableAt m size j
@@ -206,4 +203,4 @@ module _ (u m₀ : List ℕ) (size n b : ℕ) (m : List ℕ) (w : List ℕ) (a :
         go : (j : ℕ) → j < n → mark (held w′ r) j ≡ 0 → Dec (j ≡ i) → ableAt (firedAt m size i) size j ≡ false
         go j jl z (yes p) = rw p (own (rw p at z))
         go j jl z (no q) =
-            able-as-before u m size n fits nb i lt (f .filled) (held w′ r) (k .putters) (k .takers) j jl q z ∙ f .rest j jl (k .asleep j q z)
+            able-as-before u m size n fits nb i lt (f .filled) (held w′ r) (k .hits) j jl q z ∙ f .rest j jl (k .asleep j q z)

@@ -13,14 +13,14 @@ ghost use Rattle.machine_firing.specs.LinkLaws.{linkPart};
 ghost use Rattle.machine_marks.specs.Held.{held, Stands, Lowest, Woke};
 ghost use Rattle.machine_marks.specs.Users.{Filled};
 ghost use Rattle.machine_runs.specs.Run.{Ran, ran, runs, stillAt};
-ghost use Rattle.machine_runs.specs.Marks.{Calm, Hit, Hits, Rests, Woken};
+ghost use Rattle.machine_runs.specs.Marks.{Calm, facing, Hit, Hits, Rests, Woken};
 
-// An operator's first input and its first output, and how many it has of each.
-const INPUTS: usize = 0;
+// An operator's ports: inputs, then outputs.
+const FIRST_INPUT: usize = 0;
 
-const OUTPUTS: usize = 3;
+const FIRST_OUTPUT: usize = 3;
 
-const SIDE_PORTS: usize = 3;
+const PORTS: usize = 6;
 
 // The bytes of a token in a link's stretch, and those of the count and two tokens.
 const TOKEN: usize = 5;
@@ -105,24 +105,34 @@ fn wake_user(
     m
 }
 
-// Marks the users on a side of the three ports of operator i from `first` on, where that is due.
-fn wake_side(
+// The side on which another operator uses the link of port k: an input's putter, an output's taker.
+fn facing_side(k: usize) -> usize
+    ensures { λ r. ⌜ (r ≡ facing k) × (r < 2) ⌝ }
+{
+    if k < FIRST_OUTPUT {
+        return machine_marks::PUTTER;
+    }
+    machine_marks::TAKER
+}
+
+// Marks the other users of the links of operator i, where that is due. One call of `wake_user` in a
+// loop keeps the marks out of memory; two such loops cost a call each.
+fn wake_users(
     mem: &[u8],
     size: usize,
     users: &[u16],
     i: usize,
-    first: usize,
-    side: usize,
     awake: &mut [u64],
     m: Marks,
 ) -> Marks
-    requires { ⌜ (leastSize ≤ size) × (size ≤ mostSize) × (need size ≤ length (now mem)) × (i < mostOperators) × (first ≤ 3) × (side < 2) × (Stands (now awake) m) ⌝ }
-    ensures { λ r. ⌜ (Woke (now (awake .entry)) m (now (awake .exit)) r) × (Hits (now (users .entry)) (now (mem .entry)) size i first side 3 (held (now (awake .exit)) r)) ⌝ }
+    requires { ⌜ (leastSize ≤ size) × (size ≤ mostSize) × (need size ≤ length (now mem)) × (i < mostOperators) × (Stands (now awake) m) ⌝ }
+    ensures { λ r. ⌜ (Woke (now (awake .entry)) m (now (awake .exit)) r) × (Hits (now (users .entry)) (now (mem .entry)) size i 6 (held (now (awake .exit)) r)) ⌝ }
 {
     let mut more = m;
     let mut k = 0;
-    while k < SIDE_PORTS {
-        let l = machine_marks::port_of(mem, i, first + k);
+    while k < PORTS {
+        let l = machine_marks::port_of(mem, i, k);
+        let side = facing_side(k);
         more = wake_user(mem, size, users, l, side, awake, more);
         k += 1;
     }
@@ -135,7 +145,7 @@ fn rest(mem: &[u8], size: usize, i: usize, m: Marks) -> Marks
     requires { ⌜ (leastSize ≤ size) × (size ≤ mostSize) × (need size ≤ length (now mem)) × (i < mostOperators) × (i / 64 ≡ m .block) ⌝ }
     ensures { λ r. ⌜ Rests (now (mem .entry)) size i m r ⌝ }
 {
-    let l = machine_marks::port_of(mem, i, INPUTS);
+    let l = machine_marks::port_of(mem, i, FIRST_INPUT);
     if machine_layout::LINKS <= l {
         return m;
     }
@@ -152,27 +162,8 @@ fn wake(mem: &[u8], size: usize, users: &[u16], i: usize, awake: &mut [u64], m: 
     ensures { λ r. ⌜ Woken (now (users .entry)) (now (mem .entry)) size i (now (awake .entry)) m (now (awake .exit)) r ⌝ }
 {
     let own = rest(mem, size, i, m);
-    let putters = wake_side(
-        mem,
-        size,
-        users,
-        i,
-        INPUTS,
-        machine_marks::PUTTER,
-        awake,
-        own,
-    );
-    let both = wake_side(
-        mem,
-        size,
-        users,
-        i,
-        OUTPUTS,
-        machine_marks::TAKER,
-        awake,
-        putters,
-    );
-    machine_marks::backward(awake, both)
+    let all = wake_users(mem, size, users, i, awake, own);
+    machine_marks::backward(awake, all)
 }
 
 // The run, with a mark for each operator that may be able, over a table of the links' users.
