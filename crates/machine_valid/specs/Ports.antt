@@ -1,21 +1,19 @@
 -- What refusal 31's test of an operator's six names, port by port (specs/Valid), comes to: the ports that have a link name links, no two the same,
 -- and the others name none. Assumes nothing.
-use Prim.Native.Nat.{ℕ, zero, suc, _+_, _≤_, _<_}
+use Prim.Native.Nat.{ℕ, zero, suc, _+_, _*_, _≤_, _<_}
 use mathlib.Core.Path.{_≡_, refl, sym, ap, _∙_}
-use mathlib.Core.Bool.{Bool, true, false, _&&_, _||_, not}
+use mathlib.Core.Bool.{Bool, true, false, _&&_, _||_, not, true≢false}
 use mathlib.Core.List.{List, [], _∷_}
 use native.Mathlib.Omega.{arith}
 use mathlib.Core.Logic.{_≢_, _⊎_, inl, inr}
 use borrow.Author.Tests.{eq-eqb, ne-eqb, eqb-true, eqb-false, ltb-true, le-leb, lt-leb}
 use lib.Dec.{ltb, eqb}
-use lib.ListN.{getD}
 use Rattle.value.specs.Operators.{pick}
 use Rattle.value.specs.Bytes.{wordAt}
 use Rattle.machine_layout.specs.Layout.{portsAt, linksOf, noLink, nameAt, operatorAt, kindByte, registerAt}
 use Rattle.machine_layout.specs.Kinds.{inputsOfKind, outputsOfKind, hasPort, mayLack}
 use Rattle.machine_valid.specs.Below.{allBelow, and-left, and-right, below-all}
 use Rattle.machine_valid.specs.Valid.{unlike, unlikeAt, freshAt, portOk, namedOk, registerOk, kindOk, operatorOk}
-use Rattle.machine_valid.specs.declared.Names.{Names}
 
 -- ---- truths
 
@@ -70,19 +68,36 @@ shaped-linked links xs ys h = rw h (sym (and-true (apart links xs)))
 pub shaped-not : (links : ℕ) (xs ys : List ℕ) → nones ys ≡ false → false ≡ shaped links xs ys
 shaped-not links xs ys h = rw h (sym (and-false (apart links xs)))
 
--- four names are none where their sum is the greatest that there is
-pub nones-sum : (w x y z : ℕ) → w < 65536 → x < 65536 → y < 65536 → z < 65536 → eqb (w + x + y + z) 262140 ≡ nones (z ∷ y ∷ x ∷ w ∷ [])
+-- two names are none where their four bytes are all 255
+pub two-names : (x y : ℕ) → x < 65536 → y < 65536 → eqb (x + 65536 * y) 4294967295 ≡ nones (y ∷ x ∷ [])
 unfolding nones
-nones-sum w x y z i j k l = go (eqb z 65535) refl (eqb y 65535) refl (eqb x 65535) refl (eqb w 65535) refl
+two-names x y i j = go (eqb y 65535) refl (eqb x 65535) refl
   where
-    go : (a : Bool) → eqb z 65535 ≡ a → (b : Bool) → eqb y 65535 ≡ b → (c : Bool) → eqb x 65535 ≡ c → (d : Bool) → eqb w 65535 ≡ d
-        → eqb (w + x + y + z) 262140 ≡ a && (b && (c && (d && true)))
-    go true p true q true r true s =
-        eq-eqb (w + x + y + z) 262140 (omega (arith, eqb-true z 65535 p, eqb-true y 65535 q, eqb-true x 65535 r, eqb-true w 65535 s))
-    go true p true q true r false s = ne-eqb (w + x + y + z) 262140 (λ e. eqb-false w 65535 s (omega arith))
-    go true p true q false r d s = ne-eqb (w + x + y + z) 262140 (λ e. eqb-false x 65535 r (omega arith))
-    go true p false q c r d s = ne-eqb (w + x + y + z) 262140 (λ e. eqb-false y 65535 q (omega arith))
-    go false p b q c r d s = ne-eqb (w + x + y + z) 262140 (λ e. eqb-false z 65535 p (omega arith))
+    go : (a : Bool) → eqb y 65535 ≡ a → (b : Bool) → eqb x 65535 ≡ b → eqb (x + 65536 * y) 4294967295 ≡ a && (b && true)
+    go true p true q = eq-eqb (x + 65536 * y) 4294967295 (omega (arith, eqb-true y 65535 p, eqb-true x 65535 q))
+    go true p false q = ne-eqb (x + 65536 * y) 4294967295 (λ e. eqb-false x 65535 q (omega (arith, eqb-true y 65535 p)))
+    go false p b q = ne-eqb (x + 65536 * y) 4294967295 (λ e. eqb-false y 65535 p (omega arith))
+
+pub two-not : (x y : ℕ) (zs : List ℕ) → nones (x ∷ y ∷ []) ≡ false → nones (x ∷ y ∷ zs) ≡ false
+unfolding nones
+two-not x y zs h = go (eqb x 65535) (eqb y 65535) h
+  where
+    go : (a b : Bool) → a && (b && true) ≡ false → a && (b && nones zs) ≡ false
+    go false b h = refl
+    go true false h = refl
+    go true true h = absurd (true≢false h)
+
+pub one-not : (x : ℕ) (ys : List ℕ) → x ≢ noLink → nones (x ∷ ys) ≡ false
+unfolding nones
+one-not x ys n = rw (ne-eqb x 65535 n) refl
+
+pub one-none : (x : ℕ) (ys : List ℕ) → x ≡ noLink → nones (x ∷ ys) ≡ nones ys
+unfolding nones
+one-none x ys e = rw (eq-eqb x 65535 e) refl
+
+pub two-none : (x y : ℕ) (zs : List ℕ) → nones (x ∷ y ∷ []) ≡ true → nones (x ∷ y ∷ zs) ≡ nones zs
+unfolding nones
+two-none x y zs h = rw (and-left (eqb x 65535) (eqb y 65535 && true) h, and-left (eqb y 65535) true (and-right (eqb x 65535) (eqb y 65535 && true) h)) refl
 
 -- ---- the names of an operator, by whether their ports have a link
 
@@ -182,32 +197,14 @@ module _ (m : List ℕ) (at kind : ℕ) where
           (away (nameAt m at n) (linked kind (nameAt m at) n))
           (λ h t. link-fresh n n (let u = ltb-true (nameAt m at n) (linksOf m) t in omega arith) h)
 
--- ---- the same of the names as they are read
-
-abbrev pub portIn : Names → ℕ → ℕ
-portIn n p = getD (n .in1 ∷ n .in2 ∷ n .in3 ∷ n .out1 ∷ n .out2 ∷ n .out3 ∷ []) p 0
-
-abbrev pub namesAt : List ℕ → ℕ → Names
-namesAt m at =
-    record { in1 = nameAt m at 0; in2 = nameAt m at 1; in3 = nameAt m at 2; out1 = nameAt m at 3; out2 = nameAt m at 4; out3 = nameAt m at 5 }
-
--- names are figures of two bytes
-pub record Narrow (n : Names) : Type 0 where
-  pub in1 : n .in1 < 65536
-  pub in2 : n .in2 < 65536
-  pub in3 : n .in3 < 65536
-  pub out1 : n .out1 < 65536
-  pub out2 : n .out2 < 65536
-  pub out3 : n .out3 < 65536
-
 -- a kind of operator, its ports with a link named apart and the others not at all
-unfoldable pub wellPorted : ℕ → ℕ → Names → Bool
-wellPorted kind links n = kindOk kind && shaped links (linked kind (portIn n) 6) (bare kind (portIn n) 6)
+unfoldable pub wellPorted : ℕ → ℕ → (ℕ → ℕ) → Bool
+wellPorted kind links f = kindOk kind && shaped links (linked kind f 6) (bare kind f 6)
 
 pub operator-ported : (m : List ℕ) (i : ℕ) → linksOf m ≤ noLink
     → operatorOk m i
-    ≡ wellPorted (kindByte m i) (linksOf m) (namesAt m (operatorAt i + portsAt)) && registerOk (kindByte m i) (wordAt m (registerAt i))
-unfolding operatorOk wellPorted linked bare
+    ≡ wellPorted (kindByte m i) (linksOf m) (nameAt m (operatorAt i + portsAt)) && registerOk (kindByte m i) (wordAt m (registerAt i))
+unfolding operatorOk wellPorted
 operator-ported m i w =
     rw (named-apart m (operatorAt i + 2) (kindByte m i) w 6)
     (and-assoc (kindOk (kindByte m i)) _ (registerOk (kindByte m i) (wordAt m (registerAt i))))
@@ -272,29 +269,29 @@ pub copies : (kind : ℕ) → kind ≡ 13 → Shape kind 1 2
 unfolding kindOk inputsOfKind outputsOfKind
 copies kind e = rw e (record { known = refl; full = refl; ins = refl; outs = refl })
 
-module _ (kind links : ℕ) (n : Names) where
-  pub two-to-one : Shape kind 2 1 → wellPorted kind links n ≡ shaped links (n .out1 ∷ n .in2 ∷ n .in1 ∷ []) (n .out3 ∷ n .out2 ∷ n .in3 ∷ [])
+module _ (kind links : ℕ) (f : ℕ → ℕ) where
+  pub two-to-one : Shape kind 2 1 → wellPorted kind links f ≡ shaped links (f 3 ∷ f 1 ∷ f 0 ∷ []) (f 5 ∷ f 4 ∷ f 2 ∷ [])
   unfolding wellPorted linked bare lacks hasPort mayLack
   two-to-one s = simp (s .known, s .full, s .ins, s .outs)
 
-  pub one-to-one : Shape kind 1 1 → wellPorted kind links n ≡ shaped links (n .out1 ∷ n .in1 ∷ []) (n .out3 ∷ n .out2 ∷ n .in3 ∷ n .in2 ∷ [])
+  pub one-to-one : Shape kind 1 1 → wellPorted kind links f ≡ shaped links (f 3 ∷ f 0 ∷ []) (f 5 ∷ f 4 ∷ f 2 ∷ f 1 ∷ [])
   unfolding wellPorted linked bare lacks hasPort mayLack
   one-to-one s = simp (s .known, s .full, s .ins, s .outs)
 
-  pub one-to-two : Shape kind 1 2 → wellPorted kind links n ≡ shaped links (n .out2 ∷ n .out1 ∷ n .in1 ∷ []) (n .out3 ∷ n .in3 ∷ n .in2 ∷ [])
+  pub one-to-two : Shape kind 1 2 → wellPorted kind links f ≡ shaped links (f 4 ∷ f 3 ∷ f 0 ∷ []) (f 5 ∷ f 2 ∷ f 1 ∷ [])
   unfolding wellPorted linked bare lacks hasPort mayLack
   one-to-two s = simp (s .known, s .full, s .ins, s .outs)
 
-  pub three-to-one : Shape kind 3 1 → wellPorted kind links n ≡ shaped links (n .out1 ∷ n .in3 ∷ n .in2 ∷ n .in1 ∷ []) (n .out3 ∷ n .out2 ∷ [])
+  pub three-to-one : Shape kind 3 1 → wellPorted kind links f ≡ shaped links (f 3 ∷ f 2 ∷ f 1 ∷ f 0 ∷ []) (f 5 ∷ f 4 ∷ [])
   unfolding wellPorted linked bare lacks hasPort mayLack
   three-to-one s = simp (s .known, s .full, s .ins, s .outs)
 
   -- no kind: 0, and what is past the last
-  pub no-kind : kind < 1 → false ≡ wellPorted kind links n
+  pub no-kind : kind < 1 → false ≡ wellPorted kind links f
   unfolding wellPorted kindOk
   no-kind h = simp (lt-leb 1 kind h)
 
-  pub past-kinds : 16 ≤ kind → ((kind ≡ 16) ⊎ (kind ≡ 19) → ⊥) → ((kind ≡ 17) ⊎ (kind ≡ 20) → ⊥) → kind ≢ 18 → false ≡ wellPorted kind links n
+  pub past-kinds : 16 ≤ kind → ((kind ≡ 16) ⊎ (kind ≡ 19) → ⊥) → ((kind ≡ 17) ⊎ (kind ≡ 20) → ⊥) → kind ≢ 18 → false ≡ wellPorted kind links f
   unfolding wellPorted kindOk
   past-kinds h m c i = simp (le-leb 1 kind (omega arith), lt-leb kind 20 (far (λ e. m (inl e)) (λ e. m (inr e)) (λ e. c (inl e)) (λ e. c (inr e))))
     where
@@ -302,11 +299,11 @@ module _ (kind links : ℕ) (n : Names) where
       far a b c d = omega arith
 
 -- IC, by whether its second output has a link
-module _ (links : ℕ) (n : Names) where
-  pub ic-lacking : n .out2 ≡ noLink → wellPorted 18 links n ≡ apart links (n .out3 ∷ n .out1 ∷ n .in3 ∷ n .in2 ∷ n .in1 ∷ [])
+module _ (links : ℕ) (f : ℕ → ℕ) where
+  pub ic-lacking : f 4 ≡ noLink → wellPorted 18 links f ≡ apart links (f 5 ∷ f 3 ∷ f 2 ∷ f 1 ∷ f 0 ∷ [])
   unfolding wellPorted linked bare lacks nones kindOk apart hasPort outputsOfKind mayLack inputsOfKind
-  ic-lacking e = simp (eq-eqb (n .out2) 65535 e) (and-true (apart links (n .out3 ∷ n .out1 ∷ n .in3 ∷ n .in2 ∷ n .in1 ∷ [])))
+  ic-lacking e = simp (eq-eqb (f 4) 65535 e) (and-true (apart links (f 5 ∷ f 3 ∷ f 2 ∷ f 1 ∷ f 0 ∷ [])))
 
-  pub ic-whole : n .out2 ≢ noLink → wellPorted 18 links n ≡ apart links (n .out3 ∷ n .out2 ∷ n .out1 ∷ n .in3 ∷ n .in2 ∷ n .in1 ∷ [])
+  pub ic-whole : f 4 ≢ noLink → wellPorted 18 links f ≡ apart links (f 5 ∷ f 4 ∷ f 3 ∷ f 2 ∷ f 1 ∷ f 0 ∷ [])
   unfolding wellPorted linked bare lacks nones kindOk apart hasPort outputsOfKind mayLack inputsOfKind
-  ic-whole e = simp (ne-eqb (n .out2) 65535 e) (and-true (apart links (n .out3 ∷ n .out2 ∷ n .out1 ∷ n .in3 ∷ n .in2 ∷ n .in1 ∷ [])))
+  ic-whole e = simp (ne-eqb (f 4) 65535 e) (and-true (apart links (f 5 ∷ f 4 ∷ f 3 ∷ f 2 ∷ f 1 ∷ f 0 ∷ [])))

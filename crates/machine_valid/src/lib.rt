@@ -6,10 +6,10 @@ ghost use mathlib.Core.Path.{_≡_};
 ghost use Prim.Native.Nat.{ℕ, _+_, _*_, _≤_, _<_};
 ghost use mathlib.Core.List.{[], _∷_};
 ghost use lib.ListN.{length};
-ghost use Rattle.machine_layout.specs.Layout.{mostOperators, mostLinks, mostInputs, mostResults, recordsAt, linksAt, resultLinksAt, leastSize, mostSize, need, sizeOf, capacityOf, linksOf, noLink};
+ghost use Rattle.machine_layout.specs.Layout.{mostOperators, mostLinks, mostInputs, mostResults, recordsAt, linksAt, resultLinksAt, leastSize, mostSize, need, sizeOf, capacityOf, linksOf, noLink, nameAt};
 ghost use Rattle.machine_valid.specs.Below.{allBelow};
 ghost use Rattle.machine_valid.specs.Valid.{unlike, freshAt, resultOk, inputOk, registerOk, operatorOk, stretchOk, linkOk, figuresOk, valid};
-ghost use Rattle.machine_valid.specs.Ports.{apart, nones, shaped, namesAt, Narrow, wellPorted};
+ghost use Rattle.machine_valid.specs.Ports.{apart, nones, shaped, wellPorted};
 
 // The ports of an operator in their row: three inputs, three outputs.
 const IN1: usize = 0;
@@ -23,6 +23,9 @@ const OUT1: usize = 3;
 const OUT2: usize = 4;
 
 const OUT3: usize = 5;
+
+// The four bytes of two names that are none.
+const TWO_NONES: usize = 4294967295;
 
 fn is_unlike(x: usize, y: usize) -> bool
     ensures { λ r. ⌜ r ≡ unlike x y ⌝ }
@@ -104,36 +107,14 @@ fn inputs_ok(mem: &[u8], k: usize) -> bool
     true
 }
 
-// The names of an operator's ports.
-pub struct Names {
-    pub in1: usize,
-    pub in2: usize,
-    pub in3: usize,
-    pub out1: usize,
-    pub out2: usize,
-    pub out3: usize,
-}
-
-fn names_at(mem: &[u8], at: usize) -> Names
-    requires { ⌜ (at + 12 ≤ length (now mem)) × (at < 65000) ⌝ }
-    ensures { λ r. ⌜ (r ≡ namesAt (now (mem .entry)) at) × Narrow r ⌝ }
+// Whether names p and p + 1 of a row are none, as one figure of four bytes.
+fn both_none(mem: &[u8], at: usize, p: usize) -> bool
+    requires { ⌜ (at + 2 * p + 4 ≤ length (now mem)) × (at < 65000) × (p < 6) ⌝ }
+    ensures { λ r. ⌜ r ≡ nones (nameAt (now (mem .entry)) at (p + 1) ∷ nameAt (now (mem .entry)) at p ∷ []) ⌝ }
 {
-    Names {
-        in1: machine_layout::name_at(mem, at, IN1),
-        in2: machine_layout::name_at(mem, at, IN2),
-        in3: machine_layout::name_at(mem, at, IN3),
-        out1: machine_layout::name_at(mem, at, OUT1),
-        out2: machine_layout::name_at(mem, at, OUT2),
-        out3: machine_layout::name_at(mem, at, OUT3),
-    }
-}
-
-// Whether no name is that of a link: they are figures of two bytes, and no link has the greatest.
-fn are_none(w: usize, x: usize, y: usize, z: usize) -> bool
-    requires { ⌜ (w < 65536) × (x < 65536) × (y < 65536) × (z < 65536) ⌝ }
-    ensures { λ r. ⌜ r ≡ nones (z ∷ y ∷ x ∷ w ∷ []) ⌝ }
-{
-    w + x + y + z == 4 * machine_firing::NOWHERE
+    let low = machine_layout::name_at(mem, at, p);
+    let high = machine_layout::name_at(mem, at, p + 1);
+    low + 65536 * high == TWO_NONES
 }
 
 // Whether names are those of links, no two the same.
@@ -227,73 +208,104 @@ fn are_six(links: usize, u: usize, v: usize, w: usize, x: usize, y: usize, z: us
     are_five(links, u, v, w, x, y)
 }
 
-fn two_to_one(links: usize, n: Names) -> bool
-    requires { ⌜ Narrow n ⌝ }
-    ensures { λ r. ⌜ r ≡ shaped links (n .out1 ∷ n .in2 ∷ n .in1 ∷ []) (n .out3 ∷ n .out2 ∷ n .in3 ∷ []) ⌝ }
+fn two_to_one(mem: &[u8], links: usize, at: usize) -> bool
+    requires { ⌜ (at + 12 ≤ length (now mem)) × (at < 65000) ⌝ }
+    ensures { λ r. ⌜ r ≡ shaped links (nameAt (now (mem .entry)) at 3 ∷ nameAt (now (mem .entry)) at 1 ∷ nameAt (now (mem .entry)) at 0 ∷ []) (nameAt (now (mem .entry)) at 5 ∷ nameAt (now (mem .entry)) at 4 ∷ nameAt (now (mem .entry)) at 2 ∷ []) ⌝ }
 {
-    if are_none(machine_firing::NOWHERE, n.in3, n.out2, n.out3) {
-        return are_three(links, n.in1, n.in2, n.out1);
+    if !both_none(mem, at, OUT2) {
+        return false;
     }
-    false
+    if machine_layout::name_at(mem, at, IN3) != machine_firing::NOWHERE {
+        return false;
+    }
+    are_three(
+        links,
+        machine_layout::name_at(mem, at, IN1),
+        machine_layout::name_at(mem, at, IN2),
+        machine_layout::name_at(mem, at, OUT1),
+    )
 }
 
-fn one_to_one(links: usize, n: Names) -> bool
-    requires { ⌜ Narrow n ⌝ }
-    ensures { λ r. ⌜ r ≡ shaped links (n .out1 ∷ n .in1 ∷ []) (n .out3 ∷ n .out2 ∷ n .in3 ∷ n .in2 ∷ []) ⌝ }
+fn one_to_one(mem: &[u8], links: usize, at: usize) -> bool
+    requires { ⌜ (at + 12 ≤ length (now mem)) × (at < 65000) ⌝ }
+    ensures { λ r. ⌜ r ≡ shaped links (nameAt (now (mem .entry)) at 3 ∷ nameAt (now (mem .entry)) at 0 ∷ []) (nameAt (now (mem .entry)) at 5 ∷ nameAt (now (mem .entry)) at 4 ∷ nameAt (now (mem .entry)) at 2 ∷ nameAt (now (mem .entry)) at 1 ∷ []) ⌝ }
 {
-    if are_none(n.in2, n.in3, n.out2, n.out3) {
-        return are_two(links, n.in1, n.out1);
+    if !both_none(mem, at, OUT2) {
+        return false;
     }
-    false
+    if !both_none(mem, at, IN2) {
+        return false;
+    }
+    are_two(
+        links,
+        machine_layout::name_at(mem, at, IN1),
+        machine_layout::name_at(mem, at, OUT1),
+    )
 }
 
-fn one_to_two(links: usize, n: Names) -> bool
-    requires { ⌜ Narrow n ⌝ }
-    ensures { λ r. ⌜ r ≡ shaped links (n .out2 ∷ n .out1 ∷ n .in1 ∷ []) (n .out3 ∷ n .in3 ∷ n .in2 ∷ []) ⌝ }
+fn one_to_two(mem: &[u8], links: usize, at: usize) -> bool
+    requires { ⌜ (at + 12 ≤ length (now mem)) × (at < 65000) ⌝ }
+    ensures { λ r. ⌜ r ≡ shaped links (nameAt (now (mem .entry)) at 4 ∷ nameAt (now (mem .entry)) at 3 ∷ nameAt (now (mem .entry)) at 0 ∷ []) (nameAt (now (mem .entry)) at 5 ∷ nameAt (now (mem .entry)) at 2 ∷ nameAt (now (mem .entry)) at 1 ∷ []) ⌝ }
 {
-    if are_none(machine_firing::NOWHERE, n.in2, n.in3, n.out3) {
-        return are_three(links, n.in1, n.out1, n.out2);
+    if machine_layout::name_at(mem, at, OUT3) != machine_firing::NOWHERE {
+        return false;
     }
-    false
+    if !both_none(mem, at, IN2) {
+        return false;
+    }
+    are_three(
+        links,
+        machine_layout::name_at(mem, at, IN1),
+        machine_layout::name_at(mem, at, OUT1),
+        machine_layout::name_at(mem, at, OUT2),
+    )
 }
 
-fn three_to_one(links: usize, n: Names) -> bool
-    requires { ⌜ Narrow n ⌝ }
-    ensures { λ r. ⌜ r ≡ shaped links (n .out1 ∷ n .in3 ∷ n .in2 ∷ n .in1 ∷ []) (n .out3 ∷ n .out2 ∷ []) ⌝ }
+fn three_to_one(mem: &[u8], links: usize, at: usize) -> bool
+    requires { ⌜ (at + 12 ≤ length (now mem)) × (at < 65000) ⌝ }
+    ensures { λ r. ⌜ r ≡ shaped links (nameAt (now (mem .entry)) at 3 ∷ nameAt (now (mem .entry)) at 2 ∷ nameAt (now (mem .entry)) at 1 ∷ nameAt (now (mem .entry)) at 0 ∷ []) (nameAt (now (mem .entry)) at 5 ∷ nameAt (now (mem .entry)) at 4 ∷ []) ⌝ }
 {
-    if are_none(
-        machine_firing::NOWHERE,
-        machine_firing::NOWHERE,
-        n.out2,
-        n.out3,
-    ) {
-        return are_four(links, n.in1, n.in2, n.in3, n.out1);
+    if !both_none(mem, at, OUT2) {
+        return false;
     }
-    false
+    are_four(
+        links,
+        machine_layout::name_at(mem, at, IN1),
+        machine_layout::name_at(mem, at, IN2),
+        machine_layout::name_at(mem, at, IN3),
+        machine_layout::name_at(mem, at, OUT1),
+    )
 }
 
 // IC. "An output with no user": the second.
-fn three_to_three(links: usize, n: Names) -> bool
-    ensures { λ r. ⌜ r ≡ wellPorted 18 links n ⌝ }
+fn three_to_three(mem: &[u8], links: usize, at: usize) -> bool
+    requires { ⌜ (at + 12 ≤ length (now mem)) × (at < 65000) ⌝ }
+    ensures { λ r. ⌜ r ≡ wellPorted 18 links (nameAt (now (mem .entry)) at) ⌝ }
 {
-    if n.out2 == machine_firing::NOWHERE {
-        return are_five(links, n.in1, n.in2, n.in3, n.out1, n.out3);
+    let in1 = machine_layout::name_at(mem, at, IN1);
+    let in2 = machine_layout::name_at(mem, at, IN2);
+    let in3 = machine_layout::name_at(mem, at, IN3);
+    let out1 = machine_layout::name_at(mem, at, OUT1);
+    let out2 = machine_layout::name_at(mem, at, OUT2);
+    let out3 = machine_layout::name_at(mem, at, OUT3);
+    if out2 == machine_firing::NOWHERE {
+        return are_five(links, in1, in2, in3, out1, out3);
     }
-    are_six(links, n.in1, n.in2, n.in3, n.out1, n.out2, n.out3)
+    are_six(links, in1, in2, in3, out1, out2, out3)
 }
 
 // Whether a kind's ports name links, no two the same, and the others none; there are no kinds but these.
-fn ports_ok(kind: u8, links: usize, n: Names) -> bool
-    requires { ⌜ Narrow n ⌝ }
-    ensures { λ r. ⌜ r ≡ wellPorted kind links n ⌝ }
+fn ports_ok(kind: u8, mem: &[u8], links: usize, at: usize) -> bool
+    requires { ⌜ (at + 12 ≤ length (now mem)) × (at < 65000) ⌝ }
+    ensures { λ r. ⌜ r ≡ wellPorted kind links (nameAt (now (mem .entry)) at) ⌝ }
 {
     match kind {
         1..=9 | machine_layout::T | machine_layout::F | machine_layout::E | machine_layout::FS =>
-            two_to_one(links, n),
-        10..=machine_layout::CONSTANT => one_to_one(links, n),
-        machine_layout::COPY => one_to_two(links, n),
-        machine_layout::M | machine_layout::FM => three_to_one(links, n),
-        machine_layout::IC => three_to_three(links, n),
+            two_to_one(mem, links, at),
+        10..=machine_layout::CONSTANT => one_to_one(mem, links, at),
+        machine_layout::COPY => one_to_two(mem, links, at),
+        machine_layout::M | machine_layout::FM => three_to_one(mem, links, at),
+        machine_layout::IC => three_to_three(mem, links, at),
         _ => false,
     }
 }
@@ -319,8 +331,7 @@ fn operator_ok(mem: &[u8], links: usize, i: usize) -> bool
 {
     let at = machine_layout::operator_at(i);
     let kind = mem[at];
-    let names = names_at(mem, at + machine_layout::PORTS_AT);
-    if !ports_ok(kind, links, names) {
+    if !ports_ok(kind, mem, links, at + machine_layout::PORTS_AT) {
         return false;
     }
     let word = value::bytes::load(mem, machine_layout::register_at(i));
