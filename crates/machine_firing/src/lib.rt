@@ -175,14 +175,7 @@ fn give_two(
 }
 
 // Passes the token that waits on an input, and takes from `control`.
-fn pass_data(
-    mem: &mut [u8],
-    size: usize,
-    i: usize,
-    control: usize,
-    port: usize,
-    dry: bool,
-) -> bool
+fn pass_data(mem: &mut [u8], size: usize, i: usize, control: usize, port: usize, dry: bool) -> bool
     requires { ⌜ (leastSize ≤ size) × (size ≤ mostSize) × (need size ≤ length (now mem)) × (i < mostOperators) × (port < 6) ⌝ }
     ensures { λ r. ⌜ Done (now (mem .entry)) (now (mem .exit)) dry r (not (isAbsent (input (now (mem .entry)) size i port)) && roomAt (now (mem .entry)) size (portOf (now (mem .entry)) i 3)) (givenOne (now (mem .entry)) size control (portOf (now (mem .entry)) i port) (portOf (now (mem .entry)) i 3) (wordOr (input (now (mem .entry)) size i port))) ⌝ }
 {

@@ -14,10 +14,9 @@ use Rattle.value.specs.Operators.{pick}
 use Rattle.value.specs.Bytes.{wordAt, stored, decoded, valueOf}
 use Rattle.machine_queue.specs.Stretch.{removed, appended, headOf, roomIn}
 use Rattle.machine_gates.specs.Decide.{isAbsent}
-use Rattle.machine_firing.specs.declared.Plan.{Plan}
 use Rattle.machine_layout.specs.Layout.{need, number16, nameAt, operatorAt, kindByte, portOf, registerAt, linkAt}
 use Rattle.machine_firing.specs.Links.{headAt, tokenAt, roomAt, removedAt, appendedAt}
-use Rattle.machine_firing.specs.Fire.{taken, given, planned, registerOf, decisionAt, planAt, readyFor, performed, ableAt, firedAt}
+use Rattle.machine_firing.specs.Fire.{Plan, taken, given, planned, registerOf, decisionAt, planAt, readyFor, performed, ableAt, firedAt}
 use Rattle.machine_firing.specs.LinkLaws.{linkPart, other-on, part-stored, byte-kept, keeps-appended, keeps-removed, length-removed, low-removed, length-appended, low-appended}
 
 abbrev pub name : List ℕ → ℕ → ℕ → ℕ

@@ -95,9 +95,10 @@ returns-4 c =
     let e : c .before .before .before .before .before .before .before .before .before .before .move-tokens .result ≡ true = not-false _ (c .before .before .before .before .before .before .before .if2 .left) in
     let M = rw (c .before .before .before .before .before .before .before .before .before .before .before .before .before .before .operator-at .ensures) at (c .before .before .before .before .before .before .before .before .before .before .move-tokens .ensures) in
     let f : c .before .before .before .before .before .before .before .before .before .before .move-tokens .last .0 ≡ moved (c .before .before .before .before .before .before .before .before .before .before .before .before .before .before .before .before .args .mem .now) (c .before .before .before .before .before .before .before .before .before .before .before .before .before .before .before .before .args .size) (planAt (c .before .before .before .before .before .before .before .before .before .before .before .before .before .before .before .before .args .mem .now) (c .before .before .before .before .before .before .before .before .before .before .before .before .before .before .before .before .args .size) (c .before .before .before .before .before .before .before .before .before .before .before .before .before .before .before .before .args .i)) = M .0 .1 ∙ rw (c .before .before .before .before .before .before .if3 .left, e) refl in
-    let g : c .before .before .before .before .next-register .result ≡ wordOr (nextRegister (kindByte (c .before .before .before .before .before .before .before .before .before .before .before .before .before .before .before .before .args .mem .now) (c .before .before .before .before .before .before .before .before .before .before .before .before .before .before .before .before .args .i)) (registerOf (c .before .before .before .before .before .before .before .before .before .before .before .before .before .before .before .before .args .mem .now) (c .before .before .before .before .before .before .before .before .before .before .before .before .before .before .before .before .args .i))) = c .before .before .before .before .next-register .ensures ∙ rw (c .before .before .before .before .before .before .before .before .before .before .before .before .before .before .operator-at .ensures, f, moved-register (c .before .before .before .before .before .before .before .before .before .before .before .before .before .before .before .before .args .mem .now) (c .before .before .before .before .before .before .before .before .before .before .before .before .before .before .before .before .args .size) (c .before .before .before .before .before .before .before .before .before .before .before .before .before .before .before .before .pre .2) (planAt (c .before .before .before .before .before .before .before .before .before .before .before .before .before .before .before .before .args .mem .now) (c .before .before .before .before .before .before .before .before .before .before .before .before .before .before .before .before .args .size) (c .before .before .before .before .before .before .before .before .before .before .before .before .before .before .before .before .args .i)) (c .before .before .before .before .before .before .before .before .before .before .before .before .before .before .before .before .args .i) (c .before .before .before .before .before .before .before .before .before .before .before .before .before .before .before .before .pre .3)) refl in
-    (sym e ∙ M .0 .0,
-     rw (c .before .before .before .before .before .before .if3 .left) (c .before .before .set-register .ensures ∙ rw (g, f) (completed (c .before .before .before .before .before .before .before .before .before .before .before .before .before .before .before .before .args .mem .now) (c .before .before .before .before .before .before .before .before .before .before .before .before .before .before .before .before .args .size) (c .before .before .before .before .before .before .before .before .before .before .before .before .before .before .before .before .args .i) (nextRegister (kindByte (c .before .before .before .before .before .before .before .before .before .before .before .before .before .before .before .before .args .mem .now) (c .before .before .before .before .before .before .before .before .before .before .before .before .before .before .before .before .args .i)) (registerOf (c .before .before .before .before .before .before .before .before .before .before .before .before .before .before .before .before .args .mem .now) (c .before .before .before .before .before .before .before .before .before .before .before .before .before .before .before .before .args .i))) (decisionAt (c .before .before .before .before .before .before .before .before .before .before .before .before .before .before .before .before .args .mem .now) (c .before .before .before .before .before .before .before .before .before .before .before .before .before .before .before .before .args .size) (c .before .before .before .before .before .before .before .before .before .before .before .before .before .before .before .before .args .i)) (sym (M .0 .0) ∙ e) (M .1))))
+    let g : c .before .before .before .before .next-register .result ≡ wordOr (nextRegister (kindByte (c .before .before .before .before .before .before .before .before .before .before .before .before .before .before .before .before .args .mem .now) (c .before .before .before .before .before .before .before .before .before .before .before .before .before .before .before .before .args .i)) (registerOf (c .before .before .before .before .before .before .before .before .before .before .before .before .before .before .before .before .args .mem .now) (c .before .before .before .before .before .before .before .before .before .before .before .before .before .before .before .before .args .i))) = c .before .before .before .before .next-register .ensures ∙ rw (c .before .before .before .before .before .before .before .before .before .before .before .before .before .before .operator-at .ensures, f, moved-register (c .before .before .before .before .before .before .before .before .before .before .before .before .before .before .before .before .args .mem .now) (c .before .before .before .before .before .before .before .before .before .before .before .before .before .before .before .before .args .size) (c .before .before .before .before .before .before .before .before .before .before .before .before .before .before .before .before .pre .2) (planAt (c .before .before .before .before .before .before .before .before .before .before .before .before .before .before .before .before .args .mem .now) (c .before .before .before .before .before .before .before .before .before .before .before .before .before .before .before .before .args .size) (c .before .before .before .before .before .before .before .before .before .before .before .before .before .before .before .before .args .i)) (c .before .before .before .before .before .before .before .before .before .before .before .before .before .before .before .before .args .i) (c .before .before .before .before .before .before .before .before .before .before .before .before .before .before .before .before .pre .3)) refl in (
+      sym e ∙ M .0 .0,
+      rw (c .before .before .before .before .before .before .if3 .left) (c .before .before .set-register .ensures ∙ rw (g, f) (completed (c .before .before .before .before .before .before .before .before .before .before .before .before .before .before .before .before .args .mem .now) (c .before .before .before .before .before .before .before .before .before .before .before .before .before .before .before .before .args .size) (c .before .before .before .before .before .before .before .before .before .before .before .before .before .before .before .before .args .i) (nextRegister (kindByte (c .before .before .before .before .before .before .before .before .before .before .before .before .before .before .before .before .args .mem .now) (c .before .before .before .before .before .before .before .before .before .before .before .before .before .before .before .before .args .i)) (registerOf (c .before .before .before .before .before .before .before .before .before .before .before .before .before .before .before .before .args .mem .now) (c .before .before .before .before .before .before .before .before .before .before .before .before .before .before .before .before .args .i))) (decisionAt (c .before .before .before .before .before .before .before .before .before .before .before .before .before .before .before .before .args .mem .now) (c .before .before .before .before .before .before .before .before .before .before .before .before .before .before .before .before .args .size) (c .before .before .before .before .before .before .before .before .before .before .before .before .before .before .before .before .args .i)) (sym (M .0 .0) ∙ e) (M .1))),
+    )
 
 pub fire-or-tell-spec : {M : Type 1} → statement M
 fire-or-tell-spec =

@@ -64,9 +64,10 @@ same-length-3 c = search needs
 returns-3 : tie.Need-returns-3
 unfolding givenOne Done
 returns-3 c =
-    let e : c .before .before .before .before .before .before .before .before .before .before .before .before .before .before .room-of .result ≡ true = not-false _ (c .before .before .before .before .before .before .before .before .before .before .before .before .before .if1 .left) in
-    (sym e ∙ rw (c .before .before .before .before .before .before .before .before .before .before .before .before .before .before .before .before .port-of .ensures) at (c .before .before .before .before .before .before .before .before .before .before .before .before .before .before .room-of .ensures),
-     rw (c .before .before .before .before .before .before .before .before .before .before .before .before .if2 .left) (c .before .before .append-to .ensures ∙ rw (c .before .before .before .before .before .before .before .before .before .before .before .before .before .before .before .before .port-of .ensures, c .before .before .before .before .before .before .remove-from2 .ensures, c .before .before .before .before .before .before .before .before .before .before .remove-from .ensures) refl))
+    let e : c .before .before .before .before .before .before .before .before .before .before .before .before .before .before .room-of .result ≡ true = not-false _ (c .before .before .before .before .before .before .before .before .before .before .before .before .before .if1 .left) in (
+      sym e ∙ rw (c .before .before .before .before .before .before .before .before .before .before .before .before .before .before .before .before .port-of .ensures) at (c .before .before .before .before .before .before .before .before .before .before .before .before .before .before .room-of .ensures),
+      rw (c .before .before .before .before .before .before .before .before .before .before .before .before .if2 .left) (c .before .before .append-to .ensures ∙ rw (c .before .before .before .before .before .before .before .before .before .before .before .before .before .before .before .before .port-of .ensures, c .before .before .before .before .before .before .remove-from2 .ensures, c .before .before .before .before .before .before .before .before .before .before .remove-from .ensures) refl),
+    )
 
 pub give-one-spec : {M : Type 1} → statement M
 give-one-spec =

@@ -93,9 +93,10 @@ returns-4 : tie.Need-returns-4
 unfolding givenTwo Done
 returns-4 c =
     let e : c .before .before .before .before .before .before .before .before .before .before .before .before .before .before .before .before .before .before .before .before .before .before .before .room-of .result ≡ true = not-false _ (c .before .before .before .before .before .before .before .before .before .before .before .before .before .before .before .before .before .before .before .before .before .before .if1 .left) in
-    let f : c .before .before .before .before .before .before .before .before .before .before .before .before .before .before .before .before .before .before .room-of2 .result ≡ true = not-false _ (c .before .before .before .before .before .before .before .before .before .before .before .before .before .before .before .before .before .if2 .left) in
-    (rw (sym (rw (c .before .before .before .before .before .before .before .before .before .before .before .before .before .before .before .before .before .before .before .before .before .before .before .before .before .port-of .ensures) at (c .before .before .before .before .before .before .before .before .before .before .before .before .before .before .before .before .before .before .before .before .before .before .before .room-of .ensures)) ∙ e, sym (rw (c .before .before .before .before .before .before .before .before .before .before .before .before .before .before .before .before .before .before .before .before .port-of2 .ensures) at (c .before .before .before .before .before .before .before .before .before .before .before .before .before .before .before .before .before .before .room-of2 .ensures)) ∙ f) refl,
-     rw (c .before .before .before .before .before .before .before .before .before .before .before .before .before .before .before .before .if3 .left) (c .before .before .append-to2 .ensures ∙ rw (c .before .before .before .before .before .before .append-to .ensures, c .before .before .before .before .before .before .before .before .before .before .before .before .before .before .before .before .before .before .before .before .before .before .before .before .before .port-of .ensures, c .before .before .before .before .before .before .before .before .before .before .before .before .before .before .before .before .before .before .before .before .port-of2 .ensures, c .before .before .before .before .before .before .before .before .before .before .remove-from2 .ensures, c .before .before .before .before .before .before .before .before .before .before .before .before .before .before .remove-from .ensures) refl))
+    let f : c .before .before .before .before .before .before .before .before .before .before .before .before .before .before .before .before .before .before .room-of2 .result ≡ true = not-false _ (c .before .before .before .before .before .before .before .before .before .before .before .before .before .before .before .before .before .if2 .left) in (
+      rw (sym (rw (c .before .before .before .before .before .before .before .before .before .before .before .before .before .before .before .before .before .before .before .before .before .before .before .before .before .port-of .ensures) at (c .before .before .before .before .before .before .before .before .before .before .before .before .before .before .before .before .before .before .before .before .before .before .before .room-of .ensures)) ∙ e, sym (rw (c .before .before .before .before .before .before .before .before .before .before .before .before .before .before .before .before .before .before .before .before .port-of2 .ensures) at (c .before .before .before .before .before .before .before .before .before .before .before .before .before .before .before .before .before .before .room-of2 .ensures)) ∙ f) refl,
+      rw (c .before .before .before .before .before .before .before .before .before .before .before .before .before .before .before .before .if3 .left) (c .before .before .append-to2 .ensures ∙ rw (c .before .before .before .before .before .before .append-to .ensures, c .before .before .before .before .before .before .before .before .before .before .before .before .before .before .before .before .before .before .before .before .before .before .before .before .before .port-of .ensures, c .before .before .before .before .before .before .before .before .before .before .before .before .before .before .before .before .before .before .before .before .port-of2 .ensures, c .before .before .before .before .before .before .before .before .before .before .remove-from2 .ensures, c .before .before .before .before .before .before .before .before .before .before .before .before .before .before .remove-from .ensures) refl),
+    )
 
 pub give-two-spec : {M : Type 1} → statement M
 give-two-spec =
