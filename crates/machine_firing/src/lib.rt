@@ -1,36 +1,38 @@
-// One firing on the machine's memory (document 01, "The graph" and "Running"): a plan made from the
-// first tokens of the inputs, a test of the free places that it needs, and the firing itself. "a
-// firing is lent those stretches only, in the middle of the whole": each link's part of memory goes
-// to a queue function. `size` is the length of a stretch, five times the capacity and one. Every
-// equation holds for all contents: a link number from machine_layout::LINKS on is no
-// link.
-use machine_gates::Decided;
-use value::Decoded;
+// One firing on the machine's memory (document 01, "The graph", "Rules, control first", and
+// "Running"). A gate looks at its control and then at one input after the other, as words, and ends
+// where a token does not wait; data pass through unseen. "a firing is lent those stretches only, in
+// the middle of the whole": each link's part of memory goes to a queue function. `size` is the length
+// of a stretch, five times the capacity and one. A `dry` firing only tells whether the operator
+// could fire. Every equation holds for all contents: a link number from machine_layout::LINKS on is
+// no link.
+use machine_gates::is_absent;
+use machine_gates::is_false;
+use machine_gates::is_neither;
+use machine_gates::is_true;
+use machine_layout::FIRST_INPUT;
+use machine_layout::FIRST_OUTPUT;
+use machine_layout::SECOND_INPUT;
+use machine_layout::SECOND_OUTPUT;
+use machine_layout::THIRD_INPUT;
+use machine_layout::THIRD_OUTPUT;
+use value::bytes::ERR;
+use value::bytes::TRUE;
 ghost use mathlib.Core.Path.{_≡_};
+ghost use mathlib.Core.Bool.{_&&_, not};
+ghost use mathlib.Core.Logic.{_≢_};
 ghost use Prim.Native.Nat.{ℕ, _+_, _*_, _≤_, _<_};
 ghost use lib.ListN.{length, take, drop};
-ghost use Rattle.machine_layout.specs.Layout.{mostOperators, leastSize, mostSize, need};
+ghost use Rattle.value.specs.Bytes.{wordOr, stored};
+ghost use Rattle.machine_layout.specs.Layout.{mostOperators, linksAt, leastSize, mostSize, need, portOf, registerAt};
+ghost use Rattle.machine_gates.specs.Decide.{isAbsent, decideAt};
+ghost use Rattle.machine_gates.specs.Gates.{constantBy, copyBy, unaryBy, binaryBy, tBy, fBy, mBy, eBy, icBy, fmBy, fsBy};
+ghost use Rattle.machine_gates.specs.GateLaws.{Leaves};
 ghost use Rattle.machine_firing.specs.Links.{headAt, tokenAt, roomAt, removedAt, appendedAt};
-ghost use Rattle.machine_firing.specs.Fire.{taken, given, wordOr, planned, planAt, readyFor, performed, ableAt, firedAt};
+ghost use Rattle.machine_firing.specs.Fire.{registerOf, ableAt, firedAt, planAt, performed};
+ghost use Rattle.machine_firing.specs.Moves.{Done, Moves, Fires, takenTwo, givenOne, givenTwo, nextRegister, input, Chosen, MovesAny};
 
 // The number of no link, machine_layout::NO_LINK, among those of links.
 pub const NOWHERE: usize = 65535;
-
-// What a firing takes and gives: links (NOWHERE: none), the words that go onto the outputs, and the
-// register's next word.
-pub struct Plan {
-    pub able: bool,
-    pub in1: usize,
-    pub in2: usize,
-    pub in3: usize,
-    pub out1: usize,
-    pub out2: usize,
-    pub out3: usize,
-    pub word1: u64,
-    pub word2: u64,
-    pub word3: u64,
-    pub register: u64,
-}
 
 // The word of the first token that waits on link l, or 0.
 pub fn head_of(mem: &[u8], size: usize, l: usize) -> u64
@@ -79,127 +81,430 @@ pub fn append_to(mem: &mut [u8], size: usize, l: usize, word: u64)
     }
 }
 
-fn taken_link(takes: bool, l: usize) -> usize
-    ensures { λ r. ⌜ r ≡ taken takes l ⌝ }
+// The link of a port of operator i.
+fn port_of(mem: &[u8], i: usize, port: usize) -> usize
+    requires { ⌜ (linksAt ≤ length (now mem)) × (i < mostOperators) × (port < 6) ⌝ }
+    ensures { λ r. ⌜ r ≡ portOf (now (mem .entry)) i port ⌝ }
 {
-    if takes {
-        return l;
+    let at = machine_layout::operator_at(i);
+    machine_layout::name_at(mem, at + machine_layout::PORTS_AT, port)
+}
+
+// The first token on a link; a word that is no value is no token.
+fn token_of(mem: &[u8], size: usize, l: usize) -> u64
+    requires { ⌜ (leastSize ≤ size) × (size ≤ mostSize) × (need size ≤ length (now mem)) ⌝ }
+    ensures { λ r. ⌜ r ≡ wordOr (tokenAt (now (mem .entry)) size l) ⌝ }
+{
+    value::bytes::token_word(head_of(mem, size, l))
+}
+
+// What operator i remembers.
+fn register_of(mem: &[u8], i: usize) -> u64
+    requires { ⌜ (linksAt ≤ length (now mem)) × (i < mostOperators) ⌝ }
+    ensures { λ r. ⌜ r ≡ wordOr (registerOf (now (mem .entry)) i) ⌝ }
+{
+    value::bytes::token_word(value::bytes::load(mem, machine_layout::register_at(i)))
+}
+
+fn set_register(mem: &mut [u8], i: usize, word: u64)
+    requires { ⌜ (linksAt ≤ length (now mem)) × (i < mostOperators) ⌝ }
+    ensures { λ _. ⌜ now (mem .exit) ≡ stored (now (mem .entry)) (registerAt i) word ⌝ }
+{
+    let at = machine_layout::register_at(i);
+    value::bytes::store(mem, at, word);
+}
+
+// "each link it emits on has a free place": takes from two links (NOWHERE: from none) and gives a
+// token on the first output.
+fn give_one(
+    mem: &mut [u8],
+    size: usize,
+    i: usize,
+    in1: usize,
+    in2: usize,
+    word: u64,
+    dry: bool,
+) -> bool
+    requires { ⌜ (leastSize ≤ size) × (size ≤ mostSize) × (need size ≤ length (now mem)) × (i < mostOperators) ⌝ }
+    ensures { λ r. ⌜ Done (now (mem .entry)) (now (mem .exit)) dry r (roomAt (now (mem .entry)) size (portOf (now (mem .entry)) i 3)) (givenOne (now (mem .entry)) size in1 in2 (portOf (now (mem .entry)) i 3) word) ⌝ }
+{
+    let out = port_of(mem, i, FIRST_OUTPUT);
+    if !room_of(mem, size, out) {
+        return false;
+    }
+    if dry {
+        return true;
+    }
+    remove_from(mem, size, in1);
+    remove_from(mem, size, in2);
+    append_to(mem, size, out, word);
+    true
+}
+
+// The same with a second token on another output.
+fn give_two(
+    mem: &mut [u8],
+    size: usize,
+    i: usize,
+    in1: usize,
+    in2: usize,
+    word: u64,
+    other: usize,
+    token: u64,
+    dry: bool,
+) -> bool
+    requires { ⌜ (leastSize ≤ size) × (size ≤ mostSize) × (need size ≤ length (now mem)) × (i < mostOperators) × (other < 6) ⌝ }
+    ensures { λ r. ⌜ Done (now (mem .entry)) (now (mem .exit)) dry r (roomAt (now (mem .entry)) size (portOf (now (mem .entry)) i 3) && roomAt (now (mem .entry)) size (portOf (now (mem .entry)) i other)) (givenTwo (now (mem .entry)) size in1 in2 (portOf (now (mem .entry)) i 3) word (portOf (now (mem .entry)) i other) token) ⌝ }
+{
+    let out1 = port_of(mem, i, FIRST_OUTPUT);
+    if !room_of(mem, size, out1) {
+        return false;
+    }
+    let out2 = port_of(mem, i, other);
+    if !room_of(mem, size, out2) {
+        return false;
+    }
+    if dry {
+        return true;
+    }
+    remove_from(mem, size, in1);
+    remove_from(mem, size, in2);
+    append_to(mem, size, out1, word);
+    append_to(mem, size, out2, token);
+    true
+}
+
+// Passes the token that waits on an input, and takes from `control`.
+fn pass_data(mem: &mut [u8], size: usize, i: usize, control: usize, port: usize, dry: bool) -> bool
+    requires { ⌜ (leastSize ≤ size) × (size ≤ mostSize) × (need size ≤ length (now mem)) × (i < mostOperators) × (port < 6) ⌝ }
+    ensures { λ r. ⌜ Done (now (mem .entry)) (now (mem .exit)) dry r (not (isAbsent (input (now (mem .entry)) size i port)) && roomAt (now (mem .entry)) size (portOf (now (mem .entry)) i 3)) (givenOne (now (mem .entry)) size control (portOf (now (mem .entry)) i port) (portOf (now (mem .entry)) i 3) (wordOr (input (now (mem .entry)) size i port))) ⌝ }
+{
+    let l = port_of(mem, i, port);
+    let token = token_of(mem, size, l);
+    if is_absent(token) {
+        return false;
+    }
+    give_one(mem, size, i, control, l, token, dry)
+}
+
+// Takes the token that waits on the second input, gives nothing, and takes from `control`.
+fn drop_data(mem: &mut [u8], size: usize, i: usize, control: usize, dry: bool) -> bool
+    requires { ⌜ (leastSize ≤ size) × (size ≤ mostSize) × (need size ≤ length (now mem)) × (i < mostOperators) ⌝ }
+    ensures { λ r. ⌜ Done (now (mem .entry)) (now (mem .exit)) dry r (not (isAbsent (input (now (mem .entry)) size i 1))) (takenTwo (now (mem .entry)) size control (portOf (now (mem .entry)) i 1)) ⌝ }
+{
+    let l = port_of(mem, i, SECOND_INPUT);
+    if is_absent(token_of(mem, size, l)) {
+        return false;
+    }
+    if dry {
+        return true;
+    }
+    remove_from(mem, size, control);
+    remove_from(mem, size, l);
+    true
+}
+
+// "10 and 11 take one operand, the rest two."
+fn unary(mem: &mut [u8], size: usize, i: usize, code: u8, dry: bool) -> bool
+    requires { ⌜ (leastSize ≤ size) × (size ≤ mostSize) × (need size ≤ length (now mem)) × (i < mostOperators) ⌝ }
+    ensures { λ r. ⌜ Moves (now (mem .entry)) (now (mem .exit)) size i dry r (unaryBy code (input (now (mem .entry)) size i 0) (registerOf (now (mem .entry)) i)) ⌝ }
+{
+    let first = port_of(mem, i, FIRST_INPUT);
+    let a = token_of(mem, size, first);
+    if is_absent(a) {
+        return false;
+    }
+    let word = machine_gates::applied_to(code, a, ERR);
+    give_one(mem, size, i, first, NOWHERE, word, dry)
+}
+
+fn binary(mem: &mut [u8], size: usize, i: usize, code: u8, dry: bool) -> bool
+    requires { ⌜ (leastSize ≤ size) × (size ≤ mostSize) × (need size ≤ length (now mem)) × (i < mostOperators) ⌝ }
+    ensures { λ r. ⌜ Moves (now (mem .entry)) (now (mem .exit)) size i dry r (binaryBy code (input (now (mem .entry)) size i 0) (input (now (mem .entry)) size i 1) (registerOf (now (mem .entry)) i)) ⌝ }
+{
+    let first = port_of(mem, i, FIRST_INPUT);
+    let a = token_of(mem, size, first);
+    if is_absent(a) {
+        return false;
+    }
+    let second = port_of(mem, i, SECOND_INPUT);
+    let b = token_of(mem, size, second);
+    if is_absent(b) {
+        return false;
+    }
+    let word = machine_gates::applied_to(code, a, b);
+    give_one(mem, size, i, first, second, word, dry)
+}
+
+// "A constant takes one trigger": its value is its register.
+fn constant(mem: &mut [u8], size: usize, i: usize, dry: bool) -> bool
+    requires { ⌜ (leastSize ≤ size) × (size ≤ mostSize) × (need size ≤ length (now mem)) × (i < mostOperators) ⌝ }
+    ensures { λ r. ⌜ Moves (now (mem .entry)) (now (mem .exit)) size i dry r (constantBy (input (now (mem .entry)) size i 0) (registerOf (now (mem .entry)) i)) ⌝ }
+{
+    let trigger = port_of(mem, i, FIRST_INPUT);
+    if is_absent(token_of(mem, size, trigger)) {
+        return false;
+    }
+    let register = register_of(mem, i);
+    if is_absent(register) {
+        return false;
+    }
+    give_one(mem, size, i, trigger, NOWHERE, register, dry)
+}
+
+fn copy(mem: &mut [u8], size: usize, i: usize, dry: bool) -> bool
+    requires { ⌜ (leastSize ≤ size) × (size ≤ mostSize) × (need size ≤ length (now mem)) × (i < mostOperators) ⌝ }
+    ensures { λ r. ⌜ Moves (now (mem .entry)) (now (mem .exit)) size i dry r (copyBy (input (now (mem .entry)) size i 0) (registerOf (now (mem .entry)) i)) ⌝ }
+{
+    let first = port_of(mem, i, FIRST_INPUT);
+    let token = token_of(mem, size, first);
+    if is_absent(token) {
+        return false;
+    }
+    give_two(
+        mem,
+        size,
+        i,
+        first,
+        NOWHERE,
+        token,
+        SECOND_OUTPUT,
+        token,
+        dry,
+    )
+}
+
+// "takes control and data, passes data on true, nothing otherwise"
+fn t_gate(mem: &mut [u8], size: usize, i: usize, dry: bool) -> bool
+    requires { ⌜ (leastSize ≤ size) × (size ≤ mostSize) × (need size ≤ length (now mem)) × (i < mostOperators) ⌝ }
+    ensures { λ r. ⌜ Moves (now (mem .entry)) (now (mem .exit)) size i dry r (tBy (input (now (mem .entry)) size i 0) (input (now (mem .entry)) size i 1) (registerOf (now (mem .entry)) i)) ⌝ }
+{
+    let first = port_of(mem, i, FIRST_INPUT);
+    let control = token_of(mem, size, first);
+    if is_absent(control) {
+        return false;
+    }
+    if is_true(control) {
+        return pass_data(mem, size, i, first, SECOND_INPUT, dry);
+    }
+    drop_data(mem, size, i, first, dry)
+}
+
+// "F likewise on false."
+fn f_gate(mem: &mut [u8], size: usize, i: usize, dry: bool) -> bool
+    requires { ⌜ (leastSize ≤ size) × (size ≤ mostSize) × (need size ≤ length (now mem)) × (i < mostOperators) ⌝ }
+    ensures { λ r. ⌜ Moves (now (mem .entry)) (now (mem .exit)) size i dry r (fBy (input (now (mem .entry)) size i 0) (input (now (mem .entry)) size i 1) (registerOf (now (mem .entry)) i)) ⌝ }
+{
+    let first = port_of(mem, i, FIRST_INPUT);
+    let control = token_of(mem, size, first);
+    if is_absent(control) {
+        return false;
+    }
+    if is_false(control) {
+        return pass_data(mem, size, i, first, SECOND_INPUT, dry);
+    }
+    drop_data(mem, size, i, first, dry)
+}
+
+// "true takes and passes input 2, false input 3; another control takes only itself, gives err"
+fn m_gate(mem: &mut [u8], size: usize, i: usize, dry: bool) -> bool
+    requires { ⌜ (leastSize ≤ size) × (size ≤ mostSize) × (need size ≤ length (now mem)) × (i < mostOperators) ⌝ }
+    ensures { λ r. ⌜ MovesAny (now (mem .entry)) (now (mem .exit)) size i dry r (mBy (input (now (mem .entry)) size i 0) (input (now (mem .entry)) size i 1) (input (now (mem .entry)) size i 2)) ⌝ }
+{
+    let first = port_of(mem, i, FIRST_INPUT);
+    let control = token_of(mem, size, first);
+    if is_absent(control) {
+        return false;
+    }
+    if is_true(control) {
+        return pass_data(mem, size, i, first, SECOND_INPUT, dry);
+    }
+    if is_false(control) {
+        return pass_data(mem, size, i, first, THIRD_INPUT, dry);
+    }
+    give_one(mem, size, i, first, NOWHERE, ERR, dry)
+}
+
+// "a truth takes and passes the data; another control gives err and takes no data"
+fn e_gate(mem: &mut [u8], size: usize, i: usize, dry: bool) -> bool
+    requires { ⌜ (leastSize ≤ size) × (size ≤ mostSize) × (need size ≤ length (now mem)) × (i < mostOperators) ⌝ }
+    ensures { λ r. ⌜ Moves (now (mem .entry)) (now (mem .exit)) size i dry r (eBy (input (now (mem .entry)) size i 0) (input (now (mem .entry)) size i 1) (registerOf (now (mem .entry)) i)) ⌝ }
+{
+    let first = port_of(mem, i, FIRST_INPUT);
+    let control = token_of(mem, size, first);
+    if is_absent(control) {
+        return false;
+    }
+    if is_neither(control) {
+        return give_one(mem, size, i, first, NOWHERE, ERR, dry);
+    }
+    pass_data(mem, size, i, first, SECOND_INPUT, dry)
+}
+
+// "true takes input 2, false input 3"; another control takes neither.
+fn chosen(control: u64, second: usize, third: usize) -> usize
+    ensures { λ r. ⌜ Chosen control second third r ⌝ }
+{
+    if is_true(control) {
+        return second;
+    }
+    if is_false(control) {
+        return third;
     }
     NOWHERE
 }
 
-fn given_link(token: Decoded, l: usize) -> usize
-    ensures { λ r. ⌜ r ≡ given token l ⌝ }
-{
-    if machine_gates::is_absent(token) {
-        return NOWHERE;
-    }
-    l
-}
-
-// The word of a token, 0 where there is none.
-fn word_or(token: Decoded) -> u64
-    ensures { λ r. ⌜ r ≡ wordOr token ⌝ }
-{
-    let Decoded::Valid(v) = token else {
-        return 0;
-    };
-    value::bytes::to_word(v)
-}
-
-// A decision with the links of the ports that begin at `at`.
-fn with_links(mem: &[u8], at: usize, d: Decided) -> Plan
-    requires { ⌜ (at + 12 ≤ length (now mem)) × (at < 65536) ⌝ }
-    ensures { λ p. ⌜ p ≡ planned (now (mem .entry)) at d ⌝ }
-{
-    let give1 = d.give1;
-    let give2 = d.give2;
-    let give3 = d.give3;
-    let register = d.register;
-    Plan {
-        able: d.able,
-        in1: taken_link(d.take1, machine_layout::name_at(mem, at, 0)),
-        in2: taken_link(d.take2, machine_layout::name_at(mem, at, 1)),
-        in3: taken_link(d.take3, machine_layout::name_at(mem, at, 2)),
-        out1: given_link(give1, machine_layout::name_at(mem, at, 3)),
-        out2: given_link(give2, machine_layout::name_at(mem, at, 4)),
-        out3: given_link(give3, machine_layout::name_at(mem, at, 5)),
-        word1: word_or(give1),
-        word2: word_or(give2),
-        word3: word_or(give3),
-        register: word_or(register),
-    }
-}
-
-// The first token on a link as a value; a word that is no value is no token.
-fn token_of(mem: &[u8], size: usize, l: usize) -> Decoded
-    requires { ⌜ (leastSize ≤ size) × (size ≤ mostSize) × (need size ≤ length (now mem)) ⌝ }
-    ensures { λ r. ⌜ r ≡ tokenAt (now (mem .entry)) size l ⌝ }
-{
-    value::bytes::from_word(head_of(mem, size, l))
-}
-
-fn plan_of(mem: &[u8], size: usize, i: usize) -> Plan
+// Brock's table is machine_gates::ic_row: it gives the graph's iter? and one of the two controls.
+fn ic_gate(mem: &mut [u8], size: usize, i: usize, dry: bool) -> bool
     requires { ⌜ (leastSize ≤ size) × (size ≤ mostSize) × (need size ≤ length (now mem)) × (i < mostOperators) ⌝ }
-    ensures { λ p. ⌜ p ≡ planAt (now (mem .entry)) size i ⌝ }
+    ensures { λ r. ⌜ Moves (now (mem .entry)) (now (mem .exit)) size i dry r (icBy (input (now (mem .entry)) size i 0) (input (now (mem .entry)) size i 1) (input (now (mem .entry)) size i 2) (registerOf (now (mem .entry)) i)) ⌝ }
 {
-    let at = machine_layout::operator_at(i);
-    let a = token_of(
-        mem,
-        size,
-        machine_layout::name_at(mem, at + machine_layout::PORTS_AT, 0),
+    let first = port_of(mem, i, FIRST_INPUT);
+    let second = port_of(mem, i, SECOND_INPUT);
+    let third = port_of(mem, i, THIRD_INPUT);
+    let control = token_of(mem, size, first);
+    let row = machine_gates::ic_row(
+        control,
+        token_of(mem, size, second),
+        token_of(mem, size, third),
     );
-    let b = token_of(
-        mem,
-        size,
-        machine_layout::name_at(mem, at + machine_layout::PORTS_AT, 1),
-    );
-    let c = token_of(
-        mem,
-        size,
-        machine_layout::name_at(mem, at + machine_layout::PORTS_AT, 2),
-    );
-    let g = value::bytes::from_word(value::bytes::load(mem, machine_layout::register_at(i)));
-    let d = machine_gates::decide(mem[at], a, b, c, g);
-    with_links(mem, at + machine_layout::PORTS_AT, d)
-}
-
-// "An operator fires only when every token listed waits and each link it emits on has a free place."
-fn ready(mem: &[u8], size: usize, p: Plan) -> bool
-    requires { ⌜ (leastSize ≤ size) × (size ≤ mostSize) × (need size ≤ length (now mem)) ⌝ }
-    ensures { λ r. ⌜ r ≡ readyFor (now (mem .entry)) size p ⌝ }
-{
-    if p.able {
-        if room_of(mem, size, p.out1) {
-            if room_of(mem, size, p.out2) {
-                return room_of(mem, size, p.out3);
-            }
-        }
+    let iter = row.iter;
+    if is_absent(iter) {
+        return false;
     }
-    false
+    let data = chosen(control, second, third);
+    let again = row.again;
+    if is_absent(again) {
+        let back = row.back;
+        return give_two(mem, size, i, first, data, iter, THIRD_OUTPUT, back, dry);
+    }
+    give_two(mem, size, i, first, data, iter, SECOND_OUTPUT, again, dry)
 }
 
-fn perform(mem: &mut [u8], size: usize, i: usize, p: Plan)
+// "first firing wants only input 3 and passes it; then as M, with control iter?"
+fn fm_gate(mem: &mut [u8], size: usize, i: usize, dry: bool) -> bool
     requires { ⌜ (leastSize ≤ size) × (size ≤ mostSize) × (need size ≤ length (now mem)) × (i < mostOperators) ⌝ }
-    ensures { λ _. ⌜ now (mem .exit) ≡ performed (now (mem .entry)) size i p ⌝ }
+    ensures { λ r. ⌜ Moves (now (mem .entry)) (now (mem .exit)) size i dry r (fmBy (input (now (mem .entry)) size i 0) (input (now (mem .entry)) size i 1) (input (now (mem .entry)) size i 2) (registerOf (now (mem .entry)) i)) ⌝ }
 {
-    remove_from(mem, size, p.in1);
-    remove_from(mem, size, p.in2);
-    remove_from(mem, size, p.in3);
-    append_to(mem, size, p.out1, p.word1);
-    append_to(mem, size, p.out2, p.word2);
-    append_to(mem, size, p.out3, p.word3);
-    let at = machine_layout::register_at(i);
-    value::bytes::store(mem, at, p.register);
+    if is_absent(register_of(mem, i)) {
+        return pass_data(mem, size, i, NOWHERE, THIRD_INPUT, dry);
+    }
+    m_gate(mem, size, i, dry)
+}
+
+// FS "passes and remembers" a token.
+fn remember(
+    mem: &mut [u8],
+    size: usize,
+    i: usize,
+    in1: usize,
+    in2: usize,
+    word: u64,
+    dry: bool,
+) -> bool
+    requires { ⌜ (leastSize ≤ size) × (size ≤ mostSize) × (need size ≤ length (now mem)) × (i < mostOperators) ⌝ }
+    ensures { λ r. ⌜ Done (now (mem .entry)) (now (mem .exit)) dry r (roomAt (now (mem .entry)) size (portOf (now (mem .entry)) i 3)) (stored (givenOne (now (mem .entry)) size in1 in2 (portOf (now (mem .entry)) i 3) word) (registerAt i) word) ⌝ }
+{
+    if !give_one(mem, size, i, in1, in2, word, dry) {
+        return false;
+    }
+    if dry {
+        return true;
+    }
+    set_register(mem, i, word);
+    true
+}
+
+fn remember_data(mem: &mut [u8], size: usize, i: usize, control: usize, dry: bool) -> bool
+    requires { ⌜ (leastSize ≤ size) × (size ≤ mostSize) × (need size ≤ length (now mem)) × (i < mostOperators) ⌝ }
+    ensures { λ r. ⌜ Done (now (mem .entry)) (now (mem .exit)) dry r (not (isAbsent (input (now (mem .entry)) size i 1)) && roomAt (now (mem .entry)) size (portOf (now (mem .entry)) i 3)) (stored (givenOne (now (mem .entry)) size control (portOf (now (mem .entry)) i 1) (portOf (now (mem .entry)) i 3) (wordOr (input (now (mem .entry)) size i 1))) (registerAt i) (wordOr (input (now (mem .entry)) size i 1))) ⌝ }
+{
+    let l = port_of(mem, i, SECOND_INPUT);
+    let token = token_of(mem, size, l);
+    if is_absent(token) {
+        return false;
+    }
+    remember(mem, size, i, control, l, token, dry)
+}
+
+// "first firing (no control), and each on false, passes and remembers the data; true repeats the
+// remembered value, taking none." An iter? that is no truth counts as false.
+fn fs_gate(mem: &mut [u8], size: usize, i: usize, dry: bool) -> bool
+    requires { ⌜ (leastSize ≤ size) × (size ≤ mostSize) × (need size ≤ length (now mem)) × (i < mostOperators) ⌝ }
+    ensures { λ r. ⌜ Fires (now (mem .entry)) (now (mem .exit)) size i dry r (fsBy (input (now (mem .entry)) size i 0) (input (now (mem .entry)) size i 1) (registerOf (now (mem .entry)) i)) ⌝ }
+{
+    let register = register_of(mem, i);
+    if is_absent(register) {
+        return remember_data(mem, size, i, NOWHERE, dry);
+    }
+    let first = port_of(mem, i, FIRST_INPUT);
+    let control = token_of(mem, size, first);
+    if is_absent(control) {
+        return false;
+    }
+    if is_true(control) {
+        return remember(mem, size, i, first, NOWHERE, register, dry);
+    }
+    remember_data(mem, size, i, first, dry)
+}
+
+// Moves the tokens of an operator of any kind but FS, whose register is its own affair.
+fn move_tokens(mem: &mut [u8], size: usize, i: usize, kind: u8, dry: bool) -> bool
+    requires { ⌜ (leastSize ≤ size) × (size ≤ mostSize) × (need size ≤ length (now mem)) × (i < mostOperators) × (kind ≢ 20) ⌝ }
+    ensures { λ r. ⌜ (Moves (now (mem .entry)) (now (mem .exit)) size i dry r (decideAt kind (input (now (mem .entry)) size i 0) (input (now (mem .entry)) size i 1) (input (now (mem .entry)) size i 2) (registerOf (now (mem .entry)) i))) × (Leaves (nextRegister kind (registerOf (now (mem .entry)) i)) (decideAt kind (input (now (mem .entry)) size i 0) (input (now (mem .entry)) size i 1) (input (now (mem .entry)) size i 2) (registerOf (now (mem .entry)) i))) ⌝ }
+{
+    match kind {
+        1..=9 => binary(mem, size, i, kind, dry),
+        10..=11 => unary(mem, size, i, kind, dry),
+        machine_layout::CONSTANT => constant(mem, size, i, dry),
+        machine_layout::COPY => copy(mem, size, i, dry),
+        machine_layout::T => t_gate(mem, size, i, dry),
+        machine_layout::F => f_gate(mem, size, i, dry),
+        machine_layout::M => m_gate(mem, size, i, dry),
+        machine_layout::E => e_gate(mem, size, i, dry),
+        machine_layout::IC => ic_gate(mem, size, i, dry),
+        machine_layout::FM => fm_gate(mem, size, i, dry),
+        _ => false,
+    }
+}
+
+// The register that those kinds leave: FM's tells that it has fired, the others' stays.
+fn next_register(mem: &[u8], i: usize, kind: u8) -> u64
+    requires { ⌜ (linksAt ≤ length (now mem)) × (i < mostOperators) ⌝ }
+    ensures { λ r. ⌜ r ≡ wordOr (nextRegister kind (registerOf (now (mem .entry)) i)) ⌝ }
+{
+    if kind == machine_layout::FM {
+        return TRUE;
+    }
+    register_of(mem, i)
+}
+
+// Fires operator i if it can, unless dry, and tells whether it could.
+fn fire_or_tell(mem: &mut [u8], size: usize, i: usize, dry: bool) -> bool
+    requires { ⌜ (leastSize ≤ size) × (size ≤ mostSize) × (need size ≤ length (now mem)) × (i < mostOperators) ⌝ }
+    ensures { λ r. ⌜ Done (now (mem .entry)) (now (mem .exit)) dry r (ableAt (now (mem .entry)) size i) (performed (now (mem .entry)) size i (planAt (now (mem .entry)) size i)) ⌝ }
+{
+    let kind = mem[machine_layout::operator_at(i)];
+    if kind == machine_layout::FS {
+        return fs_gate(mem, size, i, dry);
+    }
+    if !move_tokens(mem, size, i, kind, dry) {
+        return false;
+    }
+    if dry {
+        return true;
+    }
+    let register = next_register(mem, i, kind);
+    set_register(mem, i, register);
+    true
 }
 
 // Whether operator i can fire.
-pub fn able_at(mem: &[u8], size: usize, i: usize) -> bool
+pub fn able_at(mem: &mut [u8], size: usize, i: usize) -> bool
     requires { ⌜ (leastSize ≤ size) × (size ≤ mostSize) × (need size ≤ length (now mem)) × (i < mostOperators) ⌝ }
-    ensures { λ r. ⌜ r ≡ ableAt (now (mem .entry)) size i ⌝ }
+    ensures { λ r. ⌜ (r ≡ ableAt (now (mem .entry)) size i) × (now (mem .exit) ≡ now (mem .entry)) ⌝ }
 {
-    let p = plan_of(mem, size, i);
-    ready(mem, size, p)
+    fire_or_tell(mem, size, i, true)
 }
 
 // Fires operator i if it can, and tells whether it did.
@@ -207,10 +512,5 @@ pub fn fire_at(mem: &mut [u8], size: usize, i: usize) -> bool
     requires { ⌜ (leastSize ≤ size) × (size ≤ mostSize) × (need size ≤ length (now mem)) × (i < mostOperators) ⌝ }
     ensures { λ r. ⌜ (r ≡ ableAt (now (mem .entry)) size i) × (now (mem .exit) ≡ firedAt (now (mem .entry)) size i) ⌝ }
 {
-    let p = plan_of(mem, size, i);
-    if ready(mem, size, p) {
-        perform(mem, size, i, p);
-        return true;
-    }
-    false
+    fire_or_tell(mem, size, i, false)
 }

@@ -13,7 +13,18 @@ use Rattle.network.specs.Values.{Sense, is-true, is-false, is-neither, sense}
 use Rattle.network.specs.Rules.{Kind, Input, first, second, third}
 use Rattle.network.specs.Decide.{Decision, decide}
 use Rattle.machine_layout.specs.Kinds.{kindOf}
-use Rattle.machine_gates.specs.declared.Decided.{Decided}
+
+-- The decision of a firing: which inputs it takes from, what it gives, which register it leaves. Without `able` a token that the rule wants does
+-- not wait.
+pub record Decided : Type 0 where
+  pub able : Bool
+  pub take1 : Bool
+  pub take2 : Bool
+  pub take3 : Bool
+  pub give1 : Decoded
+  pub give2 : Decoded
+  pub give3 : Decoded
+  pub register : Decoded
 
 abbrev pub optional : Decoded → Option Value
 optional (Valid v) = some v
@@ -31,7 +42,7 @@ does t1 t2 t3 a b c g = record { able = true; take1 = t1; take2 = t2; take3 = t3
 abbrev pub idle : Decided
 idle = record { able = false; take1 = false; take2 = false; take3 = false; give1 = Invalid; give2 = Invalid; give3 = Invalid; register = Invalid }
 
--- the table's decision in the code's words
+-- the table's decision in these words
 abbrev pub told : Option Decision → Decided
 told none = idle
 told (some d) =
@@ -67,6 +78,12 @@ neitherSense is-true = false
 neitherSense is-false = false
 neitherSense is-neither = true
 
+-- "An iter? that is no truth, in altered memory, counts as false."
+abbrev pub falseCounted : Sense → Bool
+falseCounted is-true = false
+falseCounted is-false = true
+falseCounted is-neither = true
+
 abbrev pub isTrue : Decoded → Bool
 isTrue (Valid v) = trueSense (sense v)
 isTrue Invalid = false
@@ -78,6 +95,10 @@ isFalse Invalid = false
 abbrev pub isNeither : Decoded → Bool
 isNeither (Valid v) = neitherSense (sense v)
 isNeither Invalid = false
+
+abbrev pub countsFalse : Decoded → Bool
+countsFalse (Valid v) = falseCounted (sense v)
+countsFalse Invalid = false
 
 pub read-back : (g : Decoded) → decoded (optional g) ≡ g
 read-back (Valid v) = refl

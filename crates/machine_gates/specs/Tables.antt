@@ -17,16 +17,16 @@ use Rattle.network.specs.Values.{true-value, false-value, err-value, Sense, is-
 use Rattle.network.specs.Rules.{Kind, constant, copy, operator, T-gate, F-gate, M-gate, E-gate, IC-gate, FM-gate, FS-gate, Register, first, second, third, T-rule, F-rule, M-rule, E-rule, chosen, IC-table, FS-rule, operator-rule}
 use Rattle.network.specs.Decide.{untouched, also, Decision, decided, decide}
 use Rattle.machine_layout.specs.Kinds.{kindOf}
-use Rattle.machine_gates.specs.declared.Decided.{Decided}
-use Rattle.machine_gates.specs.Decide.{optional, heads, does, idle, told, decideAt, isAbsent, isTrue, isFalse, isNeither, trueSense, falseSense, neitherSense, read-back}
-use Rattle.machine_gates.specs.Gates.{applied, unaryBy, binaryBy, constantBy, copyBy, tBy, fBy, mBy, eBy, icBy, fmBy, fsBy}
+use Rattle.machine_gates.specs.Decide.{Decided, optional, heads, does, idle, told, decideAt, isAbsent, isTrue, isFalse, countsFalse, trueSense, falseSense, neitherSense, falseCounted, read-back}
+use Rattle.machine_gates.specs.Gates.{passing, dropping, unaryBy, binaryBy, constantBy, copyBy, tBy, fBy, mBy, eBy, icBy, fmBy, fsBy}
 
 abbrev says : Kind → Decoded → Decoded → Decoded → Decoded → Decided
 says k a b c g = told (decide k (optional g) (heads a b c))
 
 constant-says : (a b c g : Decoded) → says constant a b c g ≡ constantBy a g
 unfolding constantBy
-constant-says a b c Invalid = refl
+constant-says Invalid b c Invalid = refl
+constant-says (Valid t) b c Invalid = refl
 constant-says Invalid b c (Valid v) = refl
 constant-says (Valid t) b c (Valid v) = refl
 
@@ -53,7 +53,7 @@ T-says (Valid x) b c g = go (sense x) b
   where
     go : (s : Sense) (b : Decoded) →
         told (decided (also first untouched) (T-rule (optional g) s) (heads (Valid x) b c))
-        ≡ pick (isAbsent b) idle (pick (trueSense s) (does true true false b Invalid Invalid g) (does true true false Invalid Invalid Invalid g))
+        ≡ pick (trueSense s) (passing true true false b g) (dropping true true false b g)
     go is-true (Valid v) = rw (read-back g) refl
     go is-true Invalid = refl
     go is-false (Valid v) = rw (read-back g) refl
@@ -68,7 +68,7 @@ F-says (Valid x) b c g = go (sense x) b
   where
     go : (s : Sense) (b : Decoded) →
         told (decided (also first untouched) (F-rule (optional g) s) (heads (Valid x) b c))
-        ≡ pick (isAbsent b) idle (pick (falseSense s) (does true true false b Invalid Invalid g) (does true true false Invalid Invalid Invalid g))
+        ≡ pick (falseSense s) (passing true true false b g) (dropping true true false b g)
     go is-true (Valid v) = rw (read-back g) refl
     go is-true Invalid = refl
     go is-false (Valid v) = rw (read-back g) refl
@@ -79,8 +79,8 @@ F-says (Valid x) b c g = go (sense x) b
 -- M after its control, for M and FM alike
 M-by-sense : (x : Value) (b c g : Decoded) (r : Register) → decoded r ≡ g → (s : Sense) →
     told (decided (also first untouched) (M-rule r s) (heads (Valid x) b c))
-    ≡ pick (trueSense s) (pick (isAbsent b) idle (does true true false b Invalid Invalid g))
-    (pick (falseSense s) (pick (isAbsent c) idle (does true false true c Invalid Invalid g))
+    ≡ pick (trueSense s) (passing true true false b g)
+    (pick (falseSense s) (passing true false true c g)
     (does true false false (Valid err-value) Invalid Invalid g))
 M-by-sense x (Valid v) c g r e is-true = rw e refl
 M-by-sense x Invalid c g r e is-true = refl
@@ -100,7 +100,7 @@ E-says (Valid x) b c g = go (sense x) b
   where
     go : (s : Sense) (b : Decoded) →
         told (decided (also first untouched) (E-rule (optional g) s) (heads (Valid x) b c))
-        ≡ pick (neitherSense s) (does true false false (Valid err-value) Invalid Invalid g) (pick (isAbsent b) idle (does true true false b Invalid Invalid g))
+        ≡ pick (neitherSense s) (does true false false (Valid err-value) Invalid Invalid g) (passing true true false b g)
     go is-true (Valid v) = rw (read-back g) refl
     go is-true Invalid = refl
     go is-false (Valid v) = rw (read-back g) refl
@@ -123,7 +123,7 @@ FS-says (Valid x) b c (Valid r) = go (sense x) b
   where
     go : (s : Sense) (b : Decoded) →
         told (decided (also first untouched) (FS-rule r s) (heads (Valid x) b c))
-        ≡ pick (trueSense s) (does true false false (Valid r) Invalid Invalid (Valid r)) (pick (isAbsent b) idle (does true true false b Invalid Invalid b))
+        ≡ pick (trueSense s) (does true false false (Valid r) Invalid Invalid (Valid r)) (passing true true false b b)
     go is-true b = refl
     go is-false (Valid v) = refl
     go is-false Invalid = refl
@@ -134,8 +134,7 @@ FS-says (Valid x) b c (Valid r) = go (sense x) b
 IC-true : (x y : Value) (c g : Decoded) (s : Sense) →
     told (decided (also second (also first untouched)) (IC-table (optional g) is-true s) (heads (Valid x) (Valid y) c))
     ≡ pick (trueSense s) (does true true false (Valid true-value) (Valid true-value) Invalid g)
-    (pick (falseSense s) (does true true false (Valid false-value) Invalid (Valid true-value) g)
-    (pick (neitherSense s) (does true true false (Valid false-value) Invalid (Valid true-value) g) idle))
+    (pick (falseCounted s) (does true true false (Valid false-value) Invalid (Valid true-value) g) idle)
 IC-true x y c g is-true = rw (read-back g) refl
 IC-true x y c g is-false = rw (read-back g) refl
 IC-true x y c g is-neither = rw (read-back g) refl
@@ -143,8 +142,7 @@ IC-true x y c g is-neither = rw (read-back g) refl
 IC-false : (x z : Value) (b g : Decoded) (s : Sense) →
     told (decided (also third (also first untouched)) (IC-table (optional g) is-false s) (heads (Valid x) b (Valid z)))
     ≡ pick (trueSense s) (does true false true (Valid true-value) (Valid false-value) Invalid g)
-    (pick (falseSense s) (does true false true (Valid false-value) Invalid (Valid false-value) g)
-    (pick (neitherSense s) (does true false true (Valid false-value) Invalid (Valid false-value) g) idle))
+    (pick (falseCounted s) (does true false true (Valid false-value) Invalid (Valid false-value) g) idle)
 IC-false x z b g is-true = rw (read-back g) refl
 IC-false x z b g is-false = rw (read-back g) refl
 IC-false x z b g is-neither = rw (read-back g) refl
@@ -157,13 +155,11 @@ IC-says (Valid x) b c g = go (sense x) b c
     go : (s : Sense) (b c : Decoded) →
         told (decided (also first untouched) (chosen s (IC-table (optional g) s)) (heads (Valid x) b c))
         ≡ pick (trueSense s && isTrue b) (does true true false (Valid true-value) (Valid true-value) Invalid g)
-        (pick (trueSense s && isFalse b) (does true true false (Valid false-value) Invalid (Valid true-value) g)
+        (pick (trueSense s && countsFalse b) (does true true false (Valid false-value) Invalid (Valid true-value) g)
         (pick (falseSense s && isTrue c) (does true false true (Valid true-value) (Valid false-value) Invalid g)
-        (pick (falseSense s && isFalse c) (does true false true (Valid false-value) Invalid (Valid false-value) g)
+        (pick (falseSense s && countsFalse c) (does true false true (Valid false-value) Invalid (Valid false-value) g)
         (pick (neitherSense s) (does true false false (Valid false-value) Invalid (Valid err-value) g)
-        (pick (trueSense s && isNeither b) (does true true false (Valid false-value) Invalid (Valid true-value) g)
-        (pick (falseSense s && isNeither c) (does true false true (Valid false-value) Invalid (Valid false-value) g)
-        idle))))))
+        idle))))
     go is-true Invalid c = refl
     go is-true (Valid y) c = IC-true x y c g (sense y)
     go is-false b Invalid = refl

@@ -16,9 +16,8 @@ use Rattle.value.specs.Bytes.{wordAt, decoded, valueOf}
 use Rattle.machine_queue.specs.Stretch.{waiting, headOf, roomIn}
 use Rattle.machine_gates.specs.Decide.{isAbsent}
 use Rattle.machine_layout.specs.Layout.{need, number16, noLink, nameAt, operatorAt, portOf, registerAt}
-use Rattle.machine_firing.specs.declared.Plan.{Plan}
 use Rattle.machine_firing.specs.Links.{headAt, tokenAt, roomAt}
-use Rattle.machine_firing.specs.Fire.{taken, given, planned, registerOf, decisionAt, planAt, readyFor, performed, ableAt, firedAt}
+use Rattle.machine_firing.specs.Fire.{Plan, taken, given, planned, registerOf, decisionAt, planAt, readyFor, performed, ableAt, firedAt}
 use Rattle.machine_firing.specs.LinkLaws.{linkPart}
 use Rattle.machine_runs.specs.Performed.{Among, Single, low-performed, other-register, head-performed, room-performed}
 

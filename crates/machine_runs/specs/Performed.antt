@@ -14,10 +14,9 @@ use Rattle.machine_queue.specs.Stretch.{waiting, removed, appended, headOf, roo
 use Rattle.machine_queue.specs.StretchLaws.{appended-head, removed-room}
 use Rattle.machine_layout.specs.Layout.{need, registerAt, linkAt}
 use Rattle.machine_layout.specs.Fits.{stretch-fits}
-use Rattle.machine_firing.specs.declared.Plan.{Plan}
 use Rattle.machine_firing.specs.Parts.{part-length}
 use Rattle.machine_firing.specs.Links.{onLink, removedAt, appendedAt}
-use Rattle.machine_firing.specs.Fire.{performed}
+use Rattle.machine_firing.specs.Fire.{Plan, performed}
 use Rattle.machine_firing.specs.LinkLaws.{linkPart, Keeps, length-on, low-on, same-on, other-on, part-stored, byte-kept, keeps-appended, keeps-removed}
 
 -- a link among three, and at most once among them

@@ -224,9 +224,9 @@ pub fn run(mem: &mut [u8], size: usize, n: usize, budget: u32) -> u32
 }
 
 // Whether nothing can fire (refusal 36 is its opposite, after the lent firings).
-pub fn idle(mem: &[u8], size: usize, n: usize) -> bool
+pub fn idle(mem: &mut [u8], size: usize, n: usize) -> bool
     requires { ⌜ (leastSize ≤ size) × (size ≤ mostSize) × (need size ≤ length (now mem)) × (n ≤ mostOperators) ⌝ }
-    ensures { λ r. ⌜ r ≡ stillAt (now (mem .entry)) size n ⌝ }
+    ensures { λ r. ⌜ (r ≡ stillAt (now (mem .entry)) size n) × (now (mem .exit) ≡ now (mem .entry)) ⌝ }
 {
     let mut i = 0;
     while i < n {

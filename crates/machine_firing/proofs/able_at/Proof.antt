@@ -3,23 +3,29 @@ use Rattle.machine_firing.proofs.able_at.Statement.{statement}
 use Rattle.machine_firing.proofs.able_at.Tie as tie
 use Rattle.machine_firing.proofs.able_at.Reads as reads
 use Rattle.machine_firing.proofs.able_at.Lts as lts
-use Rattle.machine_firing.proofs.plan_of.Reads as plan-of-reads
-use Rattle.machine_firing.proofs.ready.Reads as ready-reads
+use Rattle.machine_firing.proofs.fire_or_tell.Reads as fire-or-tell-reads
+use Rattle.machine_firing.specs.Moves.{Done}
 use mathlib.Core.Path.{_≡_, sym, _∙_, refl, ap}
-use Rattle.machine_firing.specs.Fire.{taken, given, wordOr, planned, registerOf, decisionAt, planAt, readyFor, performed, ableAt, firedAt}
+use mathlib.Core.Bool.{Bool, true, false, not, _&&_}
+use Rattle.value.specs.Operators.{pick}
 
--- src/lib.rt:193:9  { ⏎ let p = plan_of(mem, size, i);
-plan-of-requires : tie.Need-plan-of-requires
-plan-of-requires c κs = search needs
+-- a dry firing leaves every byte
+kept : (r : Bool) {A : Type 0} (x m : A) → pick (r && not true) x m ≡ m
+kept true x m = refl
+kept false x m = refl
 
--- src/lib.rt:194:5  let p = plan_of(mem, size, i); ⏎ ready(mem, size, p)
-ready-requires : tie.Need-ready-requires
-ready-requires c κs = search needs
+-- src/lib.rt:514:5  { ⏎ fire_or_tell(mem, size, i, true)
+fire-or-tell-requires : tie.Need-fire-or-tell-requires
+fire-or-tell-requires c κs = search needs
 
--- src/lib.rt:189:1  // Whether operator i can fire. ⏎ pub fn able_at(mem: &[u8], size: usize, i: usize) -> bool
+-- src/lib.rt:510:1  // Whether operator i can fire. ⏎ pub fn able_at(mem: &mut [u8], size: usize, i: usize) -> bool
+same-length : tie.Need-same-length
+same-length c = search needs
+
+-- src/lib.rt:510:1  // Whether operator i can fire. ⏎ pub fn able_at(mem: &mut [u8], size: usize, i: usize) -> bool
 returns : tie.Need-returns
-unfolding ableAt
-returns c = rw (c .before .plan-of .ensures) at (c .ready .ensures)
+unfolding Done
+returns c = (c .before .before .fire-or-tell .ensures .0, c .before .before .fire-or-tell .ensures .1 ∙ kept (c .before .before .fire-or-tell .result) _ _)
 
 pub able-at-spec : {M : Type 1} → statement M
-able-at-spec = tie.close (tie.spec plan-of-requires ready-requires returns)
+able-at-spec = tie.close (tie.spec fire-or-tell-requires same-length returns)

@@ -1,55 +1,31 @@
--- The tests, as paths name them:
---   tie if1  let p = plan_of(mem, size, i); ⏎ if ready(mem, size, p) {
 use borrow.Author.Needs.{needs}
 use Rattle.machine_firing.proofs.fire_at.Statement.{statement}
 use Rattle.machine_firing.proofs.fire_at.Tie as tie
 use Rattle.machine_firing.proofs.fire_at.Reads as reads
 use Rattle.machine_firing.proofs.fire_at.Lts as lts
-use Rattle.machine_firing.proofs.perform.Reads as perform-reads
-use Rattle.machine_firing.proofs.plan_of.Reads as plan-of-reads
-use Rattle.machine_firing.proofs.ready.Reads as ready-reads
+use Rattle.machine_firing.proofs.fire_or_tell.Reads as fire-or-tell-reads
+use Rattle.machine_firing.specs.Moves.{Done}
 use mathlib.Core.Path.{_≡_, sym, _∙_, refl, ap}
-use mathlib.Core.Bool.{true, false}
-use Rattle.machine_firing.specs.Fire.{taken, given, wordOr, planned, registerOf, decisionAt, planAt, readyFor, performed, ableAt, firedAt}
+use mathlib.Core.Bool.{Bool, true, false, not, _&&_}
+use Rattle.value.specs.Operators.{pick}
+use Rattle.machine_firing.specs.Fire.{firedAt}
 
--- src/lib.rt:202:9  { ⏎ let p = plan_of(mem, size, i);
-plan-of-requires : tie.Need-plan-of-requires
-plan-of-requires c κs = search needs
+wet : (r : Bool) {A : Type 0} (x m : A) → pick (r && not false) x m ≡ pick r x m
+wet true x m = refl
+wet false x m = refl
 
--- src/lib.rt:203:8  let p = plan_of(mem, size, i); ⏎ if ready(mem, size, p) {
-ready-requires : tie.Need-ready-requires
-ready-requires c κs = search needs
+-- src/lib.rt:522:5  { ⏎ fire_or_tell(mem, size, i, false)
+fire-or-tell-requires : tie.Need-fire-or-tell-requires
+fire-or-tell-requires c κs = search needs
 
--- src/lib.rt:204:9  if ready(mem, size, p) { ⏎ perform(mem, size, i, p);
-perform-requires : tie.Need-perform-requires
-perform-requires c κs = search needs
-
--- src/lib.rt:205:9  perform(mem, size, i, p); ⏎ return true;
+-- src/lib.rt:518:1  // Fires operator i if it can, and tells whether it did. ⏎ pub fn fire_at(mem: &mut [u8], size: usize, i: usize) -> bool
 same-length : tie.Need-same-length
 same-length c = search needs
 
--- src/lib.rt:205:9  perform(mem, size, i, p); ⏎ return true;
+-- src/lib.rt:518:1  // Fires operator i if it can, and tells whether it did. ⏎ pub fn fire_at(mem: &mut [u8], size: usize, i: usize) -> bool
 returns : tie.Need-returns
-unfolding firedAt ableAt
-returns c = let a : readyFor (c .before .before .before .before .before .before .before .before .before .before .args .mem .now) (c .before .before .before .before .before .before .before .before .before .before .args .size) (planAt (c .before .before .before .before .before .before .before .before .before .before .args .mem .now) (c .before .before .before .before .before .before .before .before .before .before .args .size) (c .before .before .before .before .before .before .before .before .before .before .args .i)) ≡ true = rw (← (c .before .before .before .before .before .before .before .plan-of .ensures)) (sym (c .before .before .before .before .before .ready .ensures) ∙ c .before .before .before .before .if1 .taken) in (sym a, simp a (rw (← (c .before .before .before .before .before .before .before .plan-of .ensures)) (c .before .before .perform .ensures)))
-
--- src/lib.rt:198:1  // Fires operator i if it can, and tells whether it did. ⏎ pub fn fire_at(mem: &mut [u8], size: usize, i: usize) -> bool
-same-length-2 : tie.Need-same-length-2
-same-length-2 c = search needs
-
--- src/lib.rt:198:1  // Fires operator i if it can, and tells whether it did. ⏎ pub fn fire_at(mem: &mut [u8], size: usize, i: usize) -> bool
-returns-2 : tie.Need-returns-2
-unfolding firedAt ableAt
-returns-2 c = let a : readyFor (c .before .before .before .before .before .before .args .mem .now) (c .before .before .before .before .before .before .args .size) (planAt (c .before .before .before .before .before .before .args .mem .now) (c .before .before .before .before .before .before .args .size) (c .before .before .before .before .before .before .args .i)) ≡ false = rw (← (c .before .before .before .plan-of .ensures)) (sym (c .before .ready .ensures) ∙ c .if1 .left) in (sym a, simp a)
+unfolding firedAt Done
+returns c = (c .before .before .fire-or-tell .ensures .0, c .before .before .fire-or-tell .ensures .1 ∙ wet (c .before .before .fire-or-tell .result) _ _ ∙ rw (c .before .before .fire-or-tell .ensures .0) refl)
 
 pub fire-at-spec : {M : Type 1} → statement M
-fire-at-spec =
-    tie.close
-    (tie.spec
-    plan-of-requires
-    ready-requires
-    perform-requires
-    same-length
-    returns
-    same-length-2
-    returns-2)
+fire-at-spec = tie.close (tie.spec fire-or-tell-requires same-length returns)
