@@ -11,7 +11,7 @@ use lib.ListN.{length}
 use Rattle.value.specs.declared.Value.{Value}
 use Rattle.value.specs.declared.Decoded.{Decoded}
 use Rattle.value.specs.declared.Decoded.the-variants.{Valid, Invalid}
-use Rattle.value.specs.Bytes.{InRange, decoded, valueOf, wordAt}
+use Rattle.value.specs.Bytes.{InRange, wordOr, decoded, valueOf, wordAt}
 use Rattle.value.proofs.Words.{value-of-word, value-in-range, no-value, word-lt}
 use Rattle.network.specs.Values.{Sense, is-true, is-false, is-neither, sense}
 use Rattle.network.specs.Rules.{Kind, constant, copy, operator, T-gate, F-gate, M-gate, E-gate, IC-gate, FM-gate, FS-gate, Input, first, second, third, Register, Firing, takes, gives, never, M-rule, fired, FS-rule, rule}
@@ -22,7 +22,7 @@ use Rattle.machine_layout.specs.Kinds.{kindOf}
 use Rattle.machine_gates.specs.Decide.{optional, heads, idle, told, ruled, decideAt}
 use Rattle.machine_firing.specs.Links.{headAt, tokenAt}
 use Rattle.machine_firing.specs.LinkLaws.{linkPart}
-use Rattle.machine_firing.specs.Fire.{wordOr, planned, registerOf, decisionAt, planAt, readyFor, performed, ableAt, firedAt}
+use Rattle.machine_firing.specs.Fire.{planned, registerOf, decisionAt, planAt, readyFor, performed, ableAt, firedAt}
 use Rattle.machine_runs.specs.Performed.{own-register}
 use Rattle.machine_runs.specs.Near.{name, static-fired, port-fired}
 
