@@ -10,10 +10,12 @@ use denote.Enum.Declared.{tagOf}
 use Rattle.value.proofs.Value.{the-type}
 use Rattle.value.specs.declared.Value.{Value}
 use Rattle.value.specs.declared.Value.the-variants.{Whole, Truth, Err}
-use Rattle.network.specs.Values.{Sense, is-true, is-false, is-neither, sense}
+use Rattle.value.specs.declared.Sense.{Sense}
+use Rattle.value.specs.declared.Sense.the-variants.{True, False, Neither}
+use Rattle.value.specs.Senses.{sense}
 use Rattle.machine_gates.specs.Decide.{trueSense, falseSense, neitherSense}
 
-pub no-truth : (v : Value) → OneOf (0 ∷ 2 ∷ []) (tagOf the-type v) → sense v ≡ is-neither
+pub no-truth : (v : Value) → OneOf (0 ∷ 2 ∷ []) (tagOf the-type v) → sense v ≡ Neither
 no-truth (Truth x) h = absurd (⊎-elim (λ (e : _≡_ {A = ℕ} 1 0). omega arith) (λ (e : _≡_ {A = ℕ} 1 2). omega arith) h)
 no-truth (Whole x) h = refl
 no-truth Err h = refl
