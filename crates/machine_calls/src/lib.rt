@@ -170,7 +170,7 @@ fn result_word(mem: &[u8], size: usize, k: usize, j: usize) -> u64
     if j < k {
         return machine_firing::head_of(mem, size, machine_layout::result_link(mem, j));
     }
-    value::bytes::to_word(value::Value::Err)
+    value::bytes::ERR
 }
 
 fn write_results(mem: &[u8], size: usize, k: usize, out: &mut [u8])

@@ -11,7 +11,10 @@ use Rattle.value.specs.declared.Decoded.the-variants.{Valid, Invalid}
 use Rattle.value.specs.Bytes.{wordOf, wordOr}
 use Rattle.value.proofs.Words.{word-pos}
 use Rattle.value.proofs.Tokens.{only-true, only-false}
-use Rattle.network.specs.Values.{true-value, false-value, Sense, is-true, is-false, is-neither, sense, only-one-true, only-one-false}
+use Rattle.value.specs.declared.Sense.{Sense}
+use Rattle.value.specs.declared.Sense.the-variants.{True, False, Neither}
+use Rattle.value.specs.Senses.{sense, only-one-true, only-one-false}
+use Rattle.network.specs.Values.{true-value, false-value}
 use Rattle.machine_gates.specs.Decide.{isAbsent, isTrue, isFalse, isNeither, countsFalse, trueSense, falseSense, neitherSense, falseCounted}
 
 pub absent-word : (t : Decoded) → eqb (wordOr t) 0 ≡ isAbsent t
@@ -24,9 +27,9 @@ true-word (Valid v) = go (eqb (wordOf v) 258) refl (sense v) refl
   where
     go : (b : Bool) → eqb (wordOf v) 258 ≡ b → (s : Sense) → sense v ≡ s → b ≡ trueSense s
     go true e s q = ap trueSense (sym (ap sense (only-true v (eqb-true (wordOf v) 258 e))) ∙ q)
-    go false e is-true q = absurd (eqb-false (wordOf v) 258 e (ap wordOf (only-one-true v q) ∙ refl))
-    go false e is-false q = refl
-    go false e is-neither q = refl
+    go false e True q = absurd (eqb-false (wordOf v) 258 e (ap wordOf (only-one-true v q) ∙ refl))
+    go false e False q = refl
+    go false e Neither q = refl
 true-word Invalid = refl
 
 pub false-word : (t : Decoded) → eqb (wordOr t) 2 ≡ isFalse t
@@ -35,27 +38,27 @@ false-word (Valid v) = go (eqb (wordOf v) 2) refl (sense v) refl
   where
     go : (b : Bool) → eqb (wordOf v) 2 ≡ b → (s : Sense) → sense v ≡ s → b ≡ falseSense s
     go true e s q = ap falseSense (sym (ap sense (only-false v (eqb-true (wordOf v) 2 e))) ∙ q)
-    go false e is-true q = refl
-    go false e is-false q = absurd (eqb-false (wordOf v) 2 e (ap wordOf (only-one-false v q) ∙ refl))
-    go false e is-neither q = refl
+    go false e True q = refl
+    go false e False q = absurd (eqb-false (wordOf v) 2 e (ap wordOf (only-one-false v q) ∙ refl))
+    go false e Neither q = refl
 false-word Invalid = refl
 
 pub else-neither : (t : Decoded) → isAbsent t ≡ false → isTrue t ≡ false → not (isFalse t) ≡ isNeither t
 else-neither (Valid v) p q = go (sense v) q
   where
     go : (s : Sense) → trueSense s ≡ false → not (falseSense s) ≡ neitherSense s
-    go is-true e = e
-    go is-false e = refl
-    go is-neither e = refl
+    go True e = e
+    go False e = refl
+    go Neither e = refl
 else-neither Invalid p q = p
 
 pub else-false : (t : Decoded) → isAbsent t ≡ false → not (isTrue t) ≡ countsFalse t
 else-false (Valid v) p = go (sense v)
   where
     go : (s : Sense) → not (trueSense s) ≡ falseCounted s
-    go is-true = refl
-    go is-false = refl
-    go is-neither = refl
+    go True = refl
+    go False = refl
+    go Neither = refl
 else-false Invalid p = p
 
 pub absent-not : (t : Decoded) → isAbsent t ≡ true → (false ≡ isNeither t) × (false ≡ countsFalse t)
@@ -66,7 +69,7 @@ pub true-not : (t : Decoded) → isTrue t ≡ true → false ≡ isNeither t
 true-not (Valid v) e = go (sense v) e
   where
     go : (s : Sense) → trueSense s ≡ true → false ≡ neitherSense s
-    go is-true e = refl
-    go is-false e = refl
-    go is-neither e = e
+    go True e = refl
+    go False e = refl
+    go Neither e = e
 true-not Invalid e = refl

@@ -9,7 +9,9 @@ use Rattle.value.specs.declared.Value.{Value}
 use Rattle.value.specs.declared.Decoded.{Decoded}
 use Rattle.value.specs.declared.Decoded.the-variants.{Valid, Invalid}
 use Rattle.value.specs.Bytes.{decoded}
-use Rattle.network.specs.Values.{Sense, is-true, is-false, is-neither, sense}
+use Rattle.value.specs.declared.Sense.{Sense}
+use Rattle.value.specs.declared.Sense.the-variants.{True, False, Neither}
+use Rattle.value.specs.Senses.{sense}
 use Rattle.network.specs.Rules.{Kind, Input, first, second, third}
 use Rattle.network.specs.Decide.{Decision, decide}
 use Rattle.machine_layout.specs.Kinds.{kindOf}
@@ -64,25 +66,25 @@ isAbsent (Valid v) = false
 isAbsent Invalid = true
 
 abbrev pub trueSense : Sense → Bool
-trueSense is-true = true
-trueSense is-false = false
-trueSense is-neither = false
+trueSense True = true
+trueSense False = false
+trueSense Neither = false
 
 abbrev pub falseSense : Sense → Bool
-falseSense is-true = false
-falseSense is-false = true
-falseSense is-neither = false
+falseSense True = false
+falseSense False = true
+falseSense Neither = false
 
 abbrev pub neitherSense : Sense → Bool
-neitherSense is-true = false
-neitherSense is-false = false
-neitherSense is-neither = true
+neitherSense True = false
+neitherSense False = false
+neitherSense Neither = true
 
 -- "An iter? that is no truth, in altered memory, counts as false."
 abbrev pub falseCounted : Sense → Bool
-falseCounted is-true = false
-falseCounted is-false = true
-falseCounted is-neither = true
+falseCounted True = false
+falseCounted False = true
+falseCounted Neither = true
 
 abbrev pub isTrue : Decoded → Bool
 isTrue (Valid v) = trueSense (sense v)

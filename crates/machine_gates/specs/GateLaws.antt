@@ -6,7 +6,10 @@ use Rattle.value.specs.declared.Value.{Value}
 use Rattle.value.specs.declared.Decoded.{Decoded}
 use Rattle.value.specs.declared.Decoded.the-variants.{Valid, Invalid}
 use Rattle.value.specs.Operators.{pick}
-use Rattle.network.specs.Values.{true-value, false-value, err-value, Sense, is-true, is-false, is-neither, sense}
+use Rattle.value.specs.declared.Sense.{Sense}
+use Rattle.value.specs.declared.Sense.the-variants.{True, False, Neither}
+use Rattle.value.specs.Senses.{sense}
+use Rattle.network.specs.Values.{true-value, false-value, err-value}
 use Rattle.machine_gates.specs.Decide.{Decided, does, idle, isAbsent, isTrue, isFalse, isNeither, countsFalse, trueSense, falseSense, neitherSense, falseCounted}
 use Rattle.machine_gates.specs.Gates.{applied, unaryBy, binaryBy, constantBy, copyBy, tBy, fBy, mBy, eBy, icBy, fmBy}
 
@@ -97,13 +100,13 @@ IC-row (Valid x) b c g = go (sense x) (isTrue b) (countsFalse b) (isTrue c) (cou
         (pick (falseSense s && t) (does true false true (Valid false-value) Invalid (Valid false-value) g)
         (pick (neitherSense s) (does true false false (Valid false-value) Invalid (Valid err-value) g)
         idle)))))
-    go is-true true q r t = (refl, λ e. refl)
-    go is-true false true r t = (refl, λ e. refl)
-    go is-true false false r t = (refl, λ e. absurd (true≢false e))
-    go is-false p q true t = (refl, λ e. refl)
-    go is-false p q false true = (refl, λ e. refl)
-    go is-false p q false false = (refl, λ e. absurd (true≢false e))
-    go is-neither p q r t = (refl, λ e. refl)
+    go True true q r t = (refl, λ e. refl)
+    go True false true r t = (refl, λ e. refl)
+    go True false false r t = (refl, λ e. absurd (true≢false e))
+    go False p q true t = (refl, λ e. refl)
+    go False p q false true = (refl, λ e. refl)
+    go False p q false false = (refl, λ e. absurd (true≢false e))
+    go Neither p q r t = (refl, λ e. refl)
 
 -- a control chooses one input only
 pub not-both : (a : Decoded) → isTrue a && isFalse a ≡ false
@@ -111,6 +114,6 @@ not-both Invalid = refl
 not-both (Valid x) = go (sense x)
   where
     go : (s : Sense) → trueSense s && falseSense s ≡ false
-    go is-true = refl
-    go is-false = refl
-    go is-neither = refl
+    go True = refl
+    go False = refl
+    go Neither = refl

@@ -13,7 +13,9 @@ use Rattle.value.specs.declared.Decoded.{Decoded}
 use Rattle.value.specs.declared.Decoded.the-variants.{Valid, Invalid}
 use Rattle.value.specs.Bytes.{InRange, wordOr, decoded, valueOf, wordAt}
 use Rattle.value.proofs.Words.{value-of-word, value-in-range, no-value, word-lt}
-use Rattle.network.specs.Values.{Sense, is-true, is-false, is-neither, sense}
+use Rattle.value.specs.declared.Sense.{Sense}
+use Rattle.value.specs.declared.Sense.the-variants.{True, False, Neither}
+use Rattle.value.specs.Senses.{sense}
 use Rattle.network.specs.Rules.{Kind, constant, copy, operator, T-gate, F-gate, M-gate, E-gate, IC-gate, FM-gate, FS-gate, Input, first, second, third, Register, Firing, takes, gives, never, M-rule, fired, FS-rule, rule}
 use Rattle.network.specs.Decide.{Taken, untouched, also, Decision, with-head, decided}
 use Rattle.machine_queue.specs.Stretch.{waiting, headOf}
@@ -68,14 +70,14 @@ constant-waits (some v) = tt
 constant-waits none = tt
 
 M-rests : (s : Sense) → Rests FM-gate (M-rule fired s)
-M-rests is-true = λ v b r q. rw (q tt) tt
-M-rests is-false = λ v b r q. rw (q tt) tt
-M-rests is-neither = λ r q. rw (q tt) tt
+M-rests True = λ v b r q. rw (q tt) tt
+M-rests False = λ v b r q. rw (q tt) tt
+M-rests Neither = λ r q. rw (q tt) tt
 
 FS-rests : (x : Value) → InRange x → (s : Sense) → Rests FS-gate (FS-rule x s)
-FS-rests x h is-true = λ r q. rw (q h) tt
-FS-rests x h is-false = λ v b r q. rw (q b) tt
-FS-rests x h is-neither = λ v b r q. rw (q b) tt
+FS-rests x h True = λ r q. rw (q h) tt
+FS-rests x h False = λ v b r q. rw (q b) tt
+FS-rests x h Neither = λ v b r q. rw (q b) tt
 
 rule-rests : (k : Kind) (g : Register) → Ranged g → Rests k (rule k g)
 rule-rests constant g h = always constant constant-waits (rule constant g)

@@ -5,7 +5,7 @@ use mathlib.Core.Path.{_≡_, refl, ap, _∙_}
 use mathlib.Core.List.{List, [], _∷_, _++_}
 use lib.ListN.{length, getD, replicate}
 use Rattle.value.specs.declared.Value.{Value}
-use Rattle.value.specs.declared.Value.the-variants.{Err}
+use Rattle.value.specs.Senses.{err}
 use Rattle.formula.specs.Tree.{formulaOf}
 use Rattle.formula.specs.Acceptance.{Admissible}
 use Rattle.formula.specs.Widths.{width}
@@ -20,12 +20,12 @@ pub record ResultSet : Type 0 where
   pub places : List Value
 
 abbrev pub resultSet : List Value → ResultSet
-resultSet r = record { width = length r; places = r ++ replicate (16 - length r) Err }
+resultSet r = record { width = length r; places = r ++ replicate (16 - length r) err }
 
 -- A mark is on no result port.
 abbrev pub valueIn : Token → Value
 valueIn (val v) = v
-valueIn mark = Err
+valueIn mark = err
 
 abbrev pub valuesIn : List Token → List Value
 valuesIn [] = []
