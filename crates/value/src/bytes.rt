@@ -18,14 +18,6 @@ pub const FALSE: u64 = 2;
 
 pub const ERR: u64 = 3;
 
-pub const NONE: u64 = 0;
-
-pub const TRUE: u64 = 258;
-
-pub const FALSE: u64 = 2;
-
-pub const ERR: u64 = 3;
-
 // A whole number from its 32 bits, two's complement.
 fn signed_of(bits: u32) -> i32
     ensures { λ r. ⌜ r ≡ toZ w32 bits ⌝ }
