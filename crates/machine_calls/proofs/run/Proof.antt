@@ -92,11 +92,11 @@ same-length-2 c = search needs
 -- src/lib.rt:141:9  if machine_runs::idle(mem, size, n) { ⏎ return reply(0, count);
 returns-2 : tie.Need-returns-2
 returns-2 c =
-    let st : standing (c .before .before .before .before .before .before .before .before .before .before .before .before .before .before .before .before .before .args .mem .now) ≡ 0 = sym (c .before .before .before .before .before .before .before .before .before .before .before .before .before .before .standing-of .ensures) ∙ c .before .before .before .before .before .before .before .before .before .before .before .before .before .if1 .left in
-    let s : c .before .before .before .before .before .before .before .before .stretch-size .result ≡ sizeIn (c .before .before .before .before .before .before .before .before .before .before .before .before .before .before .before .before .before .args .mem .now) = c .before .before .before .before .before .before .before .before .stretch-size .ensures ∙ ap sizeOf (c .before .before .before .before .before .before .before .before .before .capacity .ensures .0) in
-    let e : Run.ran (c .before .before .before .before .before .before .run .last .0) (c .before .before .before .before .before .before .run .result) ≡ runs (sizeIn (c .before .before .before .before .before .before .before .before .before .before .before .before .before .before .before .before .before .args .mem .now)) (operatorsOf (c .before .before .before .before .before .before .before .before .before .before .before .before .before .before .before .before .before .args .mem .now)) (c .before .before .before .before .before .before .before .before .before .before .before .before .before .before .before .before .before .args .firings) (c .before .before .before .before .before .before .before .before .before .before .before .before .before .before .before .before .before .args .mem .now) 0 = rw (c .before .before .before .before .before .before .before .before .before .before .before .operators .ensures .0, s) at (c .before .before .before .before .before .before .run .ensures) in
-    let q : stillAt (c .before .before .before .before .before .before .run .last .0) (sizeIn (c .before .before .before .before .before .before .before .before .before .before .before .before .before .before .before .before .before .args .mem .now)) (operatorsOf (c .before .before .before .before .before .before .before .before .before .before .before .before .before .before .before .before .before .args .mem .now)) ≡ true = rw (← (c .before .before .before .before .before .before .before .before .before .before .before .operators .ensures .0), ← s) (sym (c .before .before .idle .ensures) ∙ c .before .if2 .taken) in
-    rw (c .reply2 .ensures) (sym (ran-still (c .before .before .before .before .before .before .before .before .before .before .before .before .before .before .before .before .before .args .mem .now) st (c .before .before .before .before .before .before .before .before .before .before .before .before .before .before .before .before .before .args .firings) (c .before .before .before .before .before .before .run .result) (c .before .before .before .before .before .before .run .last .0) e q))
+    let st : standing (c .before .before .before .before .before .before .before .before .before .before .before .before .before .before .before .before .before .before .before .args .mem .now) ≡ 0 = sym (c .before .before .before .before .before .before .before .before .before .before .before .before .before .before .before .before .standing-of .ensures) ∙ c .before .before .before .before .before .before .before .before .before .before .before .before .before .before .before .if1 .left in
+    let s : c .before .before .before .before .before .before .before .before .before .before .stretch-size .result ≡ sizeIn (c .before .before .before .before .before .before .before .before .before .before .before .before .before .before .before .before .before .before .before .args .mem .now) = c .before .before .before .before .before .before .before .before .before .before .stretch-size .ensures ∙ ap sizeOf (c .before .before .before .before .before .before .before .before .before .before .before .capacity .ensures .0) in
+    let e : Run.ran (c .before .before .before .before .before .before .before .before .run .last .0) (c .before .before .before .before .before .before .before .before .run .result) ≡ runs (sizeIn (c .before .before .before .before .before .before .before .before .before .before .before .before .before .before .before .before .before .before .before .args .mem .now)) (operatorsOf (c .before .before .before .before .before .before .before .before .before .before .before .before .before .before .before .before .before .before .before .args .mem .now)) (c .before .before .before .before .before .before .before .before .before .before .before .before .before .before .before .before .before .before .before .args .firings) (c .before .before .before .before .before .before .before .before .before .before .before .before .before .before .before .before .before .before .before .args .mem .now) 0 = rw (c .before .before .before .before .before .before .before .before .before .before .before .before .before .operators .ensures .0, s) at (c .before .before .before .before .before .before .before .before .run .ensures) in
+    let q : stillAt (c .before .before .before .before .before .before .before .before .run .last .0) (sizeIn (c .before .before .before .before .before .before .before .before .before .before .before .before .before .before .before .before .before .before .before .args .mem .now)) (operatorsOf (c .before .before .before .before .before .before .before .before .before .before .before .before .before .before .before .before .before .before .before .args .mem .now)) ≡ true = rw (← (c .before .before .before .before .before .before .before .before .before .before .before .before .before .operators .ensures .0), ← s) (sym (c .before .before .before .before .idle .ensures .0) ∙ c .before .if2 .taken) in
+    rw (c .reply2 .ensures, c .before .before .before .before .idle .ensures .1) (sym (ran-still (c .before .before .before .before .before .before .before .before .before .before .before .before .before .before .before .before .before .before .before .args .mem .now) st (c .before .before .before .before .before .before .before .before .before .before .before .before .before .before .before .before .before .before .before .args .firings) (c .before .before .before .before .before .before .before .before .run .result) (c .before .before .before .before .before .before .before .before .run .last .0) e q))
 
 -- src/lib.rt:143:11  } ⏎ reply(formula::refusal_number(Refusal::Unfinished), count)
 refusal-number-requires : tie.Need-refusal-number-requires
@@ -113,11 +113,11 @@ same-length-3 c = search needs
 -- src/lib.rt:130:1  // Runs for at most the lent firings. ⏎ pub fn run(mem: &mut [u8], firings: u32) -> Answer
 returns-3 : tie.Need-returns-3
 returns-3 c =
-    let st : standing (c .before .before .before .before .before .before .before .before .before .before .before .before .before .before .before .before .before .before .args .mem .now) ≡ 0 = sym (c .before .before .before .before .before .before .before .before .before .before .before .before .before .before .before .standing-of .ensures) ∙ c .before .before .before .before .before .before .before .before .before .before .before .before .before .before .if1 .left in
-    let s : c .before .before .before .before .before .before .before .before .before .stretch-size .result ≡ sizeIn (c .before .before .before .before .before .before .before .before .before .before .before .before .before .before .before .before .before .before .args .mem .now) = c .before .before .before .before .before .before .before .before .before .stretch-size .ensures ∙ ap sizeOf (c .before .before .before .before .before .before .before .before .before .before .capacity .ensures .0) in
-    let e : Run.ran (c .before .before .before .before .before .before .before .run .last .0) (c .before .before .before .before .before .before .before .run .result) ≡ runs (sizeIn (c .before .before .before .before .before .before .before .before .before .before .before .before .before .before .before .before .before .before .args .mem .now)) (operatorsOf (c .before .before .before .before .before .before .before .before .before .before .before .before .before .before .before .before .before .before .args .mem .now)) (c .before .before .before .before .before .before .before .before .before .before .before .before .before .before .before .before .before .before .args .firings) (c .before .before .before .before .before .before .before .before .before .before .before .before .before .before .before .before .before .before .args .mem .now) 0 = rw (c .before .before .before .before .before .before .before .before .before .before .before .before .operators .ensures .0, s) at (c .before .before .before .before .before .before .before .run .ensures) in
-    let q : stillAt (c .before .before .before .before .before .before .before .run .last .0) (sizeIn (c .before .before .before .before .before .before .before .before .before .before .before .before .before .before .before .before .before .before .args .mem .now)) (operatorsOf (c .before .before .before .before .before .before .before .before .before .before .before .before .before .before .before .before .before .before .args .mem .now)) ≡ false = rw (← (c .before .before .before .before .before .before .before .before .before .before .before .before .operators .ensures .0), ← s) (sym (c .before .before .before .idle .ensures) ∙ c .before .before .if2 .left) in
-    rw (c .reply3 .ensures, c .before .refusal-number .ensures) (sym (ran-unfinished (c .before .before .before .before .before .before .before .before .before .before .before .before .before .before .before .before .before .before .args .mem .now) st (c .before .before .before .before .before .before .before .before .before .before .before .before .before .before .before .before .before .before .args .firings) (c .before .before .before .before .before .before .before .run .result) (c .before .before .before .before .before .before .before .run .last .0) e q))
+    let st : standing (c .before .before .before .before .before .before .before .before .before .before .before .before .before .before .before .before .before .before .before .before .args .mem .now) ≡ 0 = sym (c .before .before .before .before .before .before .before .before .before .before .before .before .before .before .before .before .before .standing-of .ensures) ∙ c .before .before .before .before .before .before .before .before .before .before .before .before .before .before .before .before .if1 .left in
+    let s : c .before .before .before .before .before .before .before .before .before .before .before .stretch-size .result ≡ sizeIn (c .before .before .before .before .before .before .before .before .before .before .before .before .before .before .before .before .before .before .before .before .args .mem .now) = c .before .before .before .before .before .before .before .before .before .before .before .stretch-size .ensures ∙ ap sizeOf (c .before .before .before .before .before .before .before .before .before .before .before .before .capacity .ensures .0) in
+    let e : Run.ran (c .before .before .before .before .before .before .before .before .before .run .last .0) (c .before .before .before .before .before .before .before .before .before .run .result) ≡ runs (sizeIn (c .before .before .before .before .before .before .before .before .before .before .before .before .before .before .before .before .before .before .before .before .args .mem .now)) (operatorsOf (c .before .before .before .before .before .before .before .before .before .before .before .before .before .before .before .before .before .before .before .before .args .mem .now)) (c .before .before .before .before .before .before .before .before .before .before .before .before .before .before .before .before .before .before .before .before .args .firings) (c .before .before .before .before .before .before .before .before .before .before .before .before .before .before .before .before .before .before .before .before .args .mem .now) 0 = rw (c .before .before .before .before .before .before .before .before .before .before .before .before .before .before .operators .ensures .0, s) at (c .before .before .before .before .before .before .before .before .before .run .ensures) in
+    let q : stillAt (c .before .before .before .before .before .before .before .before .before .run .last .0) (sizeIn (c .before .before .before .before .before .before .before .before .before .before .before .before .before .before .before .before .before .before .before .before .args .mem .now)) (operatorsOf (c .before .before .before .before .before .before .before .before .before .before .before .before .before .before .before .before .before .before .before .before .args .mem .now)) ≡ false = rw (← (c .before .before .before .before .before .before .before .before .before .before .before .before .before .before .operators .ensures .0), ← s) (sym (c .before .before .before .before .before .idle .ensures .0) ∙ c .before .before .if2 .left) in
+    rw (c .reply3 .ensures, c .before .refusal-number .ensures, c .before .before .before .before .before .idle .ensures .1) (sym (ran-unfinished (c .before .before .before .before .before .before .before .before .before .before .before .before .before .before .before .before .before .before .before .before .args .mem .now) st (c .before .before .before .before .before .before .before .before .before .before .before .before .before .before .before .before .before .before .before .before .args .firings) (c .before .before .before .before .before .before .before .before .before .run .result) (c .before .before .before .before .before .before .before .before .before .run .last .0) e q))
 
 pub run-spec : {M : Type 1} → statement M
 run-spec =
