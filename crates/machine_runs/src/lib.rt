@@ -34,7 +34,7 @@ pub fn run_plain(mem: &mut [u8], size: usize, n: usize, budget: u32) -> u32
         if i == n {
             return count;
         }
-        if machine_firing::fire_at(mem, size, i) {
+        if machine_operators::fire_at(mem, size, i) {
             count += 1;
             i = 0;
         } else {
@@ -208,7 +208,7 @@ pub fn run(mem: &mut [u8], size: usize, n: usize, budget: u32) -> u32
             if n <= i {
                 return count;
             }
-            if machine_firing::fire_at(mem, size, i) {
+            if machine_operators::fire_at(mem, size, i) {
                 count += 1;
                 i = wake(mem, &users, &mut awake, i);
             } else {
@@ -228,7 +228,7 @@ pub fn idle(mem: &mut [u8], size: usize, n: usize) -> bool
 {
     let mut i = 0;
     while i < n {
-        if machine_firing::able_at(mem, size, i) {
+        if machine_operators::able_at(mem, size, i) {
             return false;
         }
         i += 1;

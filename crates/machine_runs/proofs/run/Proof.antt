@@ -1,12 +1,12 @@
 -- The tests, as paths name them:
 --   tie if1  let known = fill_users(mem, n, &mut users); ⏎ if known {
 --   tie if2  i = next_mark(&awake, i); ⏎ if n <= i {
---   tie if3  } ⏎ if machine_firing::fire_at(mem, size, i) {
+--   tie if3  } ⏎ if machine_operators::fire_at(mem, size, i) {
 use Rattle.machine_runs.proofs.run.Statement.{statement}
 use Rattle.machine_runs.proofs.run.Tie as tie
 use Rattle.machine_runs.proofs.run.Reads as reads
 use Rattle.machine_runs.proofs.run.Lts as lts
-use Rattle.machine_firing.proofs.fire_at.Reads as fire-at-reads
+use Rattle.machine_operators.proofs.fire_at.Reads as fire-at-reads
 use Rattle.machine_runs.proofs.clear_mark.Reads as clear-mark-reads
 use Rattle.machine_runs.proofs.fill_users.Reads as fill-users-reads
 use Rattle.machine_runs.proofs.next_mark.Reads as next-mark-reads
@@ -67,11 +67,11 @@ returns c =
     let there = fast-skip (c .before .before .before .before .before .before .before .fill-users .last .1 .1 .0) (c .before .before .before .before .before .before .before .before .before .before .before .args .mem .now) (c .before .before .before .before .before .before .before .before .before .before .before .args .size) (c .before .before .before .before .before .before .before .before .before .before .before .args .n) (c .before .before .before .before .before .before .before .before .before .before .before .args .budget) (c .before .before .before .before .loop .mem) (c .before .before .before .before .loop .awake) (c .before .before .before .before .loop .count) (c .before .before .before .before .loop .i) (c .before .before .before .before .loop .inv) (omega arith) (omega (arith, c .before .before .before .before .loop .inv .going .len)) (c .before .before .before .before .before .before .before .before .before .before .before .args .n) (omega (arith, c .before .before .before .before .loop .inv .going .upto, c .before .next-mark .ensures .0)) (omega arith) (λ x l h. c .before .next-mark .ensures .2 x l (omega arith)) in
     going-end (c .before .before .before .before .before .before .before .before .before .before .before .args .mem .now) (c .before .before .before .before .before .before .before .before .before .before .before .args .size) (c .before .before .before .before .before .before .before .before .before .before .before .args .n) (c .before .before .before .before .before .before .before .before .before .before .before .args .budget) (c .before .before .before .before .loop .mem) (c .before .before .before .before .loop .count) (c .before .before .before .before .before .before .before .before .before .before .before .args .n) (there .going) refl
 
--- src/lib.rt:200:16  } ⏎ if machine_firing::fire_at(mem, size, i) {
+-- src/lib.rt:200:16  } ⏎ if machine_operators::fire_at(mem, size, i) {
 fire-at-requires : tie.Need-fire-at-requires Inv-loop μ-loop
 fire-at-requires c κs = omega (arith, c .before .before .before .before .before .loop .inv .going .len)
 
--- src/lib.rt:201:17  if machine_firing::fire_at(mem, size, i) { ⏎ count += 1;
+-- src/lib.rt:201:17  if machine_operators::fire_at(mem, size, i) { ⏎ count += 1;
 add-count : tie.Need-add-count Inv-loop μ-loop
 add-count c = omega arith
 
