@@ -8,8 +8,9 @@ use native.Mathlib.Decide.{ℕ-discrete}
 use lib.IntN.{pos}
 use lib.ListN.{length, replicate}
 use Rattle.value.specs.declared.Value.{Value}
-use Rattle.value.specs.declared.Value.the-variants.{Whole, Truth, Err}
+use Rattle.value.specs.declared.Value.the-variants.{Whole, Truth}
 use Rattle.value.specs.Bytes.{bytesOf}
+use Rattle.value.specs.Senses.{err}
 use Rattle.formula.specs.declared.Verdict.{Verdict}
 use Rattle.formula.specs.declared.Verdict.the-variants.{Passed, Refused}
 use Rattle.formula.specs.declared.Figures.{Figures}
@@ -90,11 +91,11 @@ number n = Whole (pos n)
 
 -- One value after k rounds.
 abbrev one : Value → ℕ → Answer
-one v k = evaluates 0 0 1 k (cell v ∷ replicate 15 (cell Err))
+one v k = evaluates 0 0 1 k (cell v ∷ replicate 15 (cell err))
 
 -- "A refusal's counts and rows are 0 unless stated, its result set has width 0."
 abbrev refusal : ℕ → Answer
-refusal n = evaluates n 0 0 0 (replicate 16 (cell Err))
+refusal n = evaluates n 0 0 0 (replicate 16 (cell err))
 
 abbrev pub threeAndFive : List Value
 threeAndFive = number 3 ∷ number 5 ∷ []
@@ -112,8 +113,8 @@ cases =
     -- "each of the four results"
     ∷ case (evaluation (bytes lesser) threeAndFive 0) (one (number 3) 0)
     ∷ case (evaluation (bytes lesser) (number 7 ∷ number 7 ∷ []) 0) (one (number 7) 0)
-    ∷ case (evaluation (bytes lesser) (Err ∷ number 2 ∷ []) 0) (one Err 0)
-    ∷ case (evaluation (bytes lesser) (Truth true ∷ number 1 ∷ []) 0) (one Err 0)
+    ∷ case (evaluation (bytes lesser) (err ∷ number 2 ∷ []) 0) (one err 0)
+    ∷ case (evaluation (bytes lesser) (Truth true ∷ number 1 ∷ []) 0) (one err 0)
     -- "x + x has 2 operators"
     ∷ case (counted (bytes twice)) (operators 2)
     ∷ case (made (bytes twice)) (operators 2)
@@ -123,10 +124,10 @@ cases =
     ∷ case (evaluation (bytes factorial) (number 5 ∷ []) 4) (refusal 36)
     -- "n = 0 gives 1", "n = E gives E"
     ∷ case (evaluation (bytes factorial) (number 0 ∷ []) 1) (one (number 1) 1)
-    ∷ case (evaluation (bytes factorial) (Err ∷ []) 1) (one Err 1)
+    ∷ case (evaluation (bytes factorial) (err ∷ []) 1) (one err 1)
     -- "n = 12 gives 479,001,600", "n = 13 gives E"
     ∷ case (evaluation (bytes factorial) (number 12 ∷ []) 12) (one (number 479001600) 12)
-    ∷ case (evaluation (bytes factorial) (number 13 ∷ []) 13) (one Err 13)
+    ∷ case (evaluation (bytes factorial) (number 13 ∷ []) 13) (one err 13)
     -- a value too few
     ∷ case (evaluation (bytes lesser) (number 3 ∷ []) 0) (refusal 12)
     -- "iter as the formula: 7", "let x = 1 in 2: 9"

@@ -1,5 +1,5 @@
 -- The laws of `CallsAgree`, each from where it is proved: fire and run from crate demand_view, push and take from crate demand_ends, good standing and the sound graph
--- from crate demand_begin. Assumes an accepted sheet and a capacity of 1 to 16.
+-- from crate demand_begin. Assumes an admissible sheet and a capacity of 1 to 16.
 use Prim.Native.Nat.{ℕ, _≤_}
 use mathlib.Core.Path.{_≡_, sym, ap, _∙_}
 use mathlib.Core.Bool.{true}
@@ -7,9 +7,8 @@ use mathlib.Core.List.{List, _++_}
 use lib.Dec.{ltb}
 use lib.ListN.{length, drop}
 use Rattle.network.specs.Net.{Links, Able}
-use Rattle.formula.specs.declared.Verdict.the-variants.{Passed}
 use Rattle.formula.specs.Tree.{Exp, formulaOf}
-use Rattle.formula.specs.Tests.{verdictOf}
+use Rattle.formula.specs.Acceptance.{Admissible}
 use Rattle.graph.specs.Translation.{madeOf}
 use Rattle.machine_layout.specs.Layout.{sizeOf, resultsOf, untakenOf}
 use Rattle.machine_valid.specs.Below.{allBelow, and-left, and-right, and-both}
@@ -49,7 +48,7 @@ module _ (x : Exp) (S : Sound (madeOf x)) (capacity : ℕ) (low : 1 ≤ capacity
       ap (λ (n : ℕ). written 16 m (sizeOf capacity) n out) (sym (H .results-are)) ∙ take-writes (madeOf x) S capacity low high m q H a out h
       ∙ ap (λ (b : List ℕ). b ++ drop 80 out) (sym (cells-result (resultIn (madeOf x) q)))
 
-pub calls-agree : (s : List ℕ) → verdictOf s ≡ Passed → (capacity : ℕ) → 1 ≤ capacity → capacity ≤ 16 → CallsAgree (formulaOf s) capacity
+pub calls-agree : (s : List ℕ) → Admissible s → (capacity : ℕ) → 1 ≤ capacity → capacity ≤ 16 → CallsAgree (formulaOf s) capacity
 calls-agree s ok capacity low high =
     let x = formulaOf s in
     let S = made-sound s ok in

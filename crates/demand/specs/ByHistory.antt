@@ -84,12 +84,12 @@ module _ (sheet : List ℕ) (capacity : ℕ) (memory : List ℕ) (h : started sh
   begun = accepted-start sheet capacity memory h
 
   agree : CallsAgree (formulaOf sheet) capacity
-  agree = calls-agree sheet (begun .passed) capacity (begun .some) (begun .most)
+  agree = calls-agree sheet (begun .admissible) capacity (begun .some) (begun .most)
 
   -- After the calls the memory holds the machine of the sheet, with some tokens on its links.
   pub machine-stands : (q : Links) × Stands (madeOf (formulaOf sheet)) capacity (memoryAfterAll calls (started sheet capacity memory .mem)) q
   machine-stands =
-      let F = bytes-follow sheet (begun .passed) capacity (begun .some) (begun .most) agree (started sheet capacity memory .mem) (accepted-stands sheet capacity memory h) calls in
+      let F = bytes-follow sheet (begun .admissible) capacity (begun .some) (begun .most) agree (started sheet capacity memory .mem) (accepted-stands sheet capacity memory h) calls in
       (_, F .stands)
 
   module _ (q : Links) (H : Stands graph capacity now q) (lent : ℕ) where

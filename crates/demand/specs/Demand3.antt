@@ -4,9 +4,8 @@
 use Prim.Native.Nat.{ℕ, _≤_}
 use mathlib.Core.Path.{_≡_, subst}
 use mathlib.Core.List.{List, [], _++_, append-nil}
-use Rattle.formula.specs.declared.Verdict.the-variants.{Passed}
 use Rattle.formula.specs.Tree.{formulaOf}
-use Rattle.formula.specs.Tests.{verdictOf}
+use Rattle.formula.specs.Acceptance.{Admissible}
 use Rattle.graph.specs.Translation.{madeOf}
 use Rattle.theory_verdicts.specs.Running.{startOf}
 use Rattle.demand_view.specs.Stands.{Stands}
@@ -20,8 +19,8 @@ use Rattle.machine_start.specs.StartLaws.{accepted-start}
 use Rattle.demand.specs.Agreed.{calls-agree}
 use Rattle.demand.specs.OnMemory.{own-verdicts-of-bytes}
 
--- From any memory in which the machine of an accepted sheet stands as started.
-own-verdicts-from : (sheet : List ℕ) → verdictOf sheet ≡ Passed → (capacity : ℕ) → 1 ≤ capacity → capacity ≤ 16 → (start : List ℕ)
+-- From any memory in which the machine of an admissible sheet stands as started.
+own-verdicts-from : (sheet : List ℕ) → Admissible sheet → (capacity : ℕ) → 1 ≤ capacity → capacity ≤ 16 → (start : List ℕ)
     → Stands (madeOf (formulaOf sheet)) capacity start (startOf (formulaOf sheet)) → (calls : List Call) → OwnVerdicts sheet capacity start calls
 own-verdicts-from sheet ok capacity low high start H calls =
     own-verdicts-of-bytes sheet ok capacity low high (calls-agree sheet ok capacity low high) start H calls
@@ -31,8 +30,8 @@ pub demand-3-behind : (sheet : List ℕ) (capacity : ℕ) (memory : List ℕ) �
     → (rest : List ℕ) (calls : List Call) → OwnVerdicts sheet capacity (started sheet capacity memory .mem ++ rest) calls
 demand-3-behind sheet capacity memory h rest calls =
     let a = accepted-start sheet capacity memory h in
-    own-verdicts-from sheet (a .passed) capacity (a .some) (a .most) (started sheet capacity memory .mem ++ rest)
-    (stands-behind (madeOf (formulaOf sheet)) (made-sound sheet (a .passed)) capacity (started sheet capacity memory .mem) (startOf (formulaOf sheet))
+    own-verdicts-from sheet (a .admissible) capacity (a .some) (a .most) (started sheet capacity memory .mem ++ rest)
+    (stands-behind (madeOf (formulaOf sheet)) (made-sound sheet (a .admissible)) capacity (started sheet capacity memory .mem) (startOf (formulaOf sheet))
     (accepted-stands sheet capacity memory h) rest) calls
 
 -- "Start a machine empty for an accepted sheet, with links holding 1 to 16 tokens. Then the following holds after every list of pushes, single firings, runs and

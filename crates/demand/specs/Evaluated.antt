@@ -10,8 +10,8 @@ use native.Mathlib.Omega.{arith}
 use lib.ListN.{length, getD, drop, take as firstOf, replicate, length-append, length-replicate, length-map}
 use lib.Seq.{take-at}
 use Rattle.value.specs.declared.Value.{Value}
-use Rattle.value.specs.declared.Value.the-variants.{Err}
 use Rattle.value.specs.Bytes.{wordOf, stored}
+use Rattle.value.specs.Senses.{err}
 use Rattle.formula.specs.declared.Verdict.{Verdict}
 use Rattle.formula.specs.declared.Verdict.the-variants.{Passed, Refused}
 use Rattle.formula.specs.Tree.{formulaOf}
@@ -35,8 +35,8 @@ use Rattle.demand.specs.Demand3.{demand-3}
 concluded-sixteen : (rounds : ℕ) (o : Outcome) → concluded rounds o .width ≤ 16 → length (concluded rounds o .cells) ≡ 16
 unfolding concluded cellsOf
 concluded-sixteen rounds (yields vs left) h =
-    length-append (map cell vs) (replicate (16 - length vs) (cell Err))
-    ∙ ap₂ (λ (a b : ℕ). a + b) (length-map vs cell) (length-replicate (16 - length vs) (cell Err))
+    length-append (map cell vs) (replicate (16 - length vs) (cell err))
+    ∙ ap₂ (λ (a b : ℕ). a + b) (length-map vs cell) (length-replicate (16 - length vs) (cell err))
     ∙ omega arith
 concluded-sixteen rounds Outcome.unfinished h = refl
 
@@ -52,16 +52,16 @@ sixteen-cells sheet set rounds = go (verdictOf sheet) (setValues (length (inputs
 
 -- ---- what evaluation writes
 
-written-stored : (cells : List Cell) (o : List ℕ) (j : ℕ) → written j cells o ≡ storedOut j (λ i. wordOf (getD cells i (cell Err) .v)) o
+written-stored : (cells : List Cell) (o : List ℕ) (j : ℕ) → written j cells o ≡ storedOut j (λ i. wordOf (getD cells i (cell err) .v)) o
 unfolding written
 written-stored cells o zero = refl
-written-stored cells o (suc j) = ap (λ (x : List ℕ). stored x (5 * j) (wordOf (getD cells j (cell Err) .v))) (written-stored cells o j)
+written-stored cells o (suc j) = ap (λ (x : List ℕ). stored x (5 * j) (wordOf (getD cells j (cell err) .v))) (written-stored cells o j)
 
 -- The first eighty bytes are the cells', the others are as they were.
 pub written-cells : (cells : List Cell) (o : List ℕ) → length cells ≡ 16 → 80 ≤ length o → written 16 cells o ≡ cellBytes cells ++ drop 80 o
 written-cells cells o n h =
     written-stored cells o 16
-    ∙ ap (λ (j : ℕ). storedOut j (λ i. wordOf (getD cells i (cell Err) .v)) o) (sym n)
+    ∙ ap (λ (j : ℕ). storedOut j (λ i. wordOf (getD cells i (cell err) .v)) o) (sym n)
     ∙ cells-stored cells o (omega arith)
     ∙ ap (λ (j : ℕ). cellBytes cells ++ drop (5 * j) o) n
 

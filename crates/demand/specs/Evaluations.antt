@@ -1,6 +1,6 @@
 -- Direct evaluation of bytes (meaning/specs/Evaluate `evaluationOf`) beside the abstract machine's verdicts (theory_verdicts/specs/Results `EndsWith`): for an accepted
 -- sheet and a set that can be read, a number of rounds is enough if and only if the formula yields values with it, and they are the result set's. Assumes
--- the verdict Passed.
+-- an admissible sheet.
 use Prim.Native.Nat.{ℕ}
 use mathlib.Core.Path.{_≡_, refl, sym, ap, subst, _∙_}
 use mathlib.Core.List.{List}
@@ -11,7 +11,7 @@ use Rattle.formula.specs.declared.Verdict.{Verdict}
 use Rattle.formula.specs.declared.Verdict.the-variants.{Passed, Refused}
 use Rattle.formula.specs.Tree.{formulaOf}
 use Rattle.formula.specs.Free.{freeE, inputsOf}
-use Rattle.formula.specs.Tests.{verdictOf}
+use Rattle.formula.specs.Acceptance.{Admissible, admissible-passed}
 use Rattle.meaning.specs.Meaning.{Outcome, yields, inputsHold, evalE}
 use Rattle.meaning.specs.Evaluate.{cellsOf, concluded, evaluated, evaluationOf}
 use Rattle.value_sets.specs.Sets.{setValues}
@@ -43,11 +43,11 @@ unfolding concluded
 concluded-enough rounds (yields vs left) r e = refl
 concluded-enough rounds Outcome.unfinished r e = absurd (subst Is-some (sym e) tt)
 
-module _ (sheet : List ℕ) (ok : verdictOf sheet ≡ Passed) (set : List ℕ) (v : List Value) (read : setValues (length (inputsOf (formulaOf sheet))) set ≡ some v) where
+module _ (sheet : List ℕ) (ok : Admissible sheet) (set : List ℕ) (v : List Value) (read : setValues (length (inputsOf (formulaOf sheet))) set ≡ some v) where
   evaluation-concludes : (rounds : ℕ)
       → evaluationOf sheet set rounds ≡ concluded rounds (evalE (formulaOf sheet) (inputsHold (freeE (formulaOf sheet)) v) rounds)
   unfolding evaluationOf evaluated
-  evaluation-concludes rounds = rw (ok, read) refl
+  evaluation-concludes rounds = rw (admissible-passed sheet ok, read) refl
 
   -- A number of rounds that is enough yields the formula's values for the set.
   pub enough-yields : (rounds : ℕ) → Enough sheet set rounds

@@ -74,7 +74,7 @@ module _ (sheet : List ℕ) (capacity : ℕ) (memory : List ℕ) (h : started sh
       ends : (j : ℕ) → j ≤ length (resultsTaken calls start) → Ends sheet (getD (setsPushed calls start) j [])
       ends j l =
           let a = accepted-start sheet capacity memory h in
-          ends-when-still sheet (a .passed) capacity (a .some) (a .most) (calls-agree sheet (a .passed) capacity (a .some) (a .most)) start (accepted-stands sheet capacity memory h) calls still j l
+          ends-when-still sheet (a .admissible) capacity (a .some) (a .most) (calls-agree sheet (a .admissible) capacity (a .some) (a .most)) start (accepted-stands sheet capacity memory h) calls still j l
           (omega arith)
 
       ok : answerOf (take lent out) now .refusal ≡ 0

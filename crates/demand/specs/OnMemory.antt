@@ -1,6 +1,6 @@
 -- Demand 3 of the memory from demand 3 of the network (theory_verdicts/specs/Verdicts `demand-3`): a list of calls on bytes is followed by one of abstract calls
 -- (FollowAll), and what direct evaluation of bytes yields are the abstract verdicts (Evaluations). Assumes the laws of `CallsAgree` and a memory in which the
--- machine of an accepted sheet stands as started.
+-- machine of an admissible sheet stands as started.
 use Prim.Native.Nat.{ℕ, zero, suc, _≤_, _<_}
 use mathlib.Core.Path.{_≡_, refl, sym, ap, ap₂, subst, _∙_}
 use mathlib.Core.Logic.{_⊎_, inl, inr}
@@ -16,12 +16,11 @@ use Rattle.value.specs.declared.Value.{Value}
 use Rattle.network.specs.Net.{Token, Links, Able}
 use Rattle.theory_pieces.specs.Sets.{tokens-of}
 use Rattle.theory_pieces.specs.Tape.{Step, firing, taking}
-use Rattle.formula.specs.declared.Verdict.the-variants.{Passed}
 use Rattle.formula.specs.declared.Refusal.the-variants.{NotAble}
 use Rattle.formula.specs.Refusals.{numberOf}
 use Rattle.formula.specs.Tree.{Exp, formulaOf}
 use Rattle.formula.specs.Free.{inputsOf}
-use Rattle.formula.specs.Tests.{verdictOf}
+use Rattle.formula.specs.Acceptance.{Admissible}
 use Rattle.graph.specs.Translation.{madeOf}
 use Rattle.theory_wiring.specs.Machine.{net-past}
 use Rattle.meaning.specs.Evaluate.{evaluationOf}
@@ -72,7 +71,7 @@ made-inputs : (x : Exp) → madeOf x .inputs ≡ length (inputsOf x)
 unfolding madeOf
 made-inputs x = refl
 
-module _ (sheet : List ℕ) (ok : verdictOf sheet ≡ Passed) (capacity : ℕ) (low : 1 ≤ capacity) (high : capacity ≤ 16) (A : CallsAgree (formulaOf sheet) capacity)
+module _ (sheet : List ℕ) (ok : Admissible sheet) (capacity : ℕ) (low : 1 ≤ capacity) (high : capacity ≤ 16) (A : CallsAgree (formulaOf sheet) capacity)
     (start : List ℕ) (H : Stands (madeOf (formulaOf sheet)) capacity start (startOf (formulaOf sheet))) (calls : List Call) where
   abbrev x : Exp
   x = formulaOf sheet

@@ -43,19 +43,19 @@ module _ (sheet : List ℕ) (capacity : ℕ) (memory : List ℕ) (h : started sh
   begun = accepted-start sheet capacity memory h
 
   agree : CallsAgree x capacity
-  agree = calls-agree sheet (begun .passed) capacity (begun .some) (begun .most)
+  agree = calls-agree sheet (begun .admissible) capacity (begun .some) (begun .most)
 
   abbrev followed : Follows x capacity (begun .some) (begun .most) agree (startOf x) now (setsPushed calls start) (resultsTaken calls start)
-  followed = bytes-follow sheet (begun .passed) capacity (begun .some) (begun .most) agree start (accepted-stands sheet capacity memory h) calls
+  followed = bytes-follow sheet (begun .admissible) capacity (begun .some) (begun .most) agree start (accepted-stands sheet capacity memory h) calls
 
   abbrev links : Links
   links = Abstract.standing x capacity (followed .calls)
 
   results-counted : length (resultsTaken calls start) ≡ length (Abstract.taken x capacity (followed .calls))
-  results-counted = as-many-results sheet (begun .passed) capacity (begun .some) (begun .most) agree start (accepted-stands sheet capacity memory h) calls
+  results-counted = as-many-results sheet (begun .admissible) capacity (begun .some) (begun .most) agree start (accepted-stands sheet capacity memory h) calls
 
   sets-counted : length (setsPushed calls start) ≡ length (Abstract.pushed x capacity (followed .calls))
-  sets-counted = as-many-sets sheet (begun .passed) capacity (begun .some) (begun .most) agree start (accepted-stands sheet capacity memory h) calls
+  sets-counted = as-many-sets sheet (begun .admissible) capacity (begun .some) (begun .most) agree start (accepted-stands sheet capacity memory h) calls
 
   -- Neither 11 nor 31 for a call lent the whole memory.
   pub never-short : standing now ≡ 0
@@ -70,8 +70,8 @@ module _ (sheet : List ℕ) (capacity : ℕ) (memory : List ℕ) (h : started sh
   push-accepted-when-still still all lent set long good =
       let L = stands-lent (madeOf x) (agree .sound) capacity now links (followed .stands) lent long in
       let v = set-values (madeOf x .inputs) set (subst (λ (n : ℕ). setOk n set ≡ true) (followed .stands .inputs-are) good) in
-      let can = pushable-when-quiet sheet (begun .passed) capacity (begun .some) (followed .calls)
-      (no-step sheet (begun .passed) capacity (begun .some) (begun .most) agree start (accepted-stands sheet capacity memory h) calls still)
+      let can = pushable-when-quiet sheet (begun .admissible) capacity (begun .some) (followed .calls)
+      (no-step sheet (begun .admissible) capacity (begun .some) (begun .most) agree start (accepted-stands sheet capacity memory h) calls still)
       (omega (arith, results-counted, sets-counted)) (v .0) (v .1 .count) in
       ap (λ o. o .answer .refusal)
       (push-accepted (madeOf x) (agree .sound) capacity (begun .some) (begun .most) (firstOf lent now) links L set (v .0) (v .1) (agree .good (firstOf lent now) links L) can)

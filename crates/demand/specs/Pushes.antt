@@ -163,5 +163,5 @@ pub pushes-from-start : (sheet : List ℕ) (capacity : ℕ) (memory : List ℕ) 
 pushes-from-start sheet capacity memory h set v r lent enough k =
     let a = accepted-start sheet capacity memory h in
     let x = formulaOf sheet in
-    pushes-answered x (made-sound sheet (a .passed)) capacity (a .some) (a .most) set v (values-set (madeOf x .inputs) set v r) lent enough k
+    pushes-answered x (made-sound sheet (a .admissible)) capacity (a .some) (a .most) set v (values-set (madeOf x .inputs) set v r) lent enough k
     (started sheet capacity memory .mem) (startOf x) (accepted-stands sheet capacity memory h)

@@ -12,8 +12,8 @@ use Rattle.formula.specs.Free.{freeE, freeB}
 use Rattle.formula.specs.Widths.{width, returned, iterated}
 use Rattle.formula.specs.Count.{returns, iterates}
 use Rattle.formula.specs.Admitted.{AdmittedE, AdmittedB}
-use Rattle.formula.specs.Tests.{verdictOf, figuresOf}
-use Rattle.formula.specs.declared.Verdict.the-variants.{Passed}
+use Rattle.formula.specs.Tests.{figuresOf}
+use Rattle.formula.specs.Acceptance.{Admissible}
 use Rattle.graph.specs.Assembly.{Graph, wire, Gate, T, F, upFrom, linksOf}
 use Rattle.graph.specs.Translation.{row, gated, arm, merged, excepted, mergeRow, exceptRow, straight, copied, iteratedJoin, returnedJoin, joined, graphE, graphB, portOf, madeOf, testName, returnedName, iteratedName, joinName}
 use Rattle.theory_yields.specs.FitGraphs.{fit-E}
@@ -114,7 +114,7 @@ operators-formed x h = graph-formed (graphE x) (size (freeE x)) (portOf x) (fit-
 
 -- ---- the whole
 
-pub made-sound : (s : List ℕ) → verdictOf s ≡ Passed → Sound (madeOf (formulaOf s))
+pub made-sound : (s : List ℕ) → Admissible s → Sound (madeOf (formulaOf s))
 made-sound s accepted =
     let x : Exp = formulaOf s in
     let h : AdmittedE x = accepted-admitted s accepted in
@@ -131,7 +131,7 @@ made-sound s accepted =
     }
 
 -- Start tells the figures that reading tells.
-pub same-figures : (s : List ℕ) → verdictOf s ≡ Passed
+pub same-figures : (s : List ℕ) → Admissible s
     → (length (madeOf (formulaOf s) .operators) ≡ figuresOf s .operators) × (madeOf (formulaOf s) .inputs ≡ figuresOf s .inputs)
     × (length (madeOf (formulaOf s) .results) ≡ figuresOf s .results)
 unfolding figuresOf madeOf

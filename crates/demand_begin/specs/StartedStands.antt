@@ -11,8 +11,7 @@ use lib.ListN.{length, getD, drop}
 use lib.Seq.{getD-take, getD-drop}
 use Rattle.value.proofs.Words.{word-lt}
 use Rattle.formula.specs.Tree.{formulaOf}
-use Rattle.formula.specs.Tests.{verdictOf}
-use Rattle.formula.specs.declared.Verdict.the-variants.{Passed}
+use Rattle.formula.specs.Acceptance.{Admissible}
 use Rattle.network.specs.Rules.{Kind, constant, copy, operator, T-gate, F-gate, M-gate, E-gate, IC-gate, FM-gate, FS-gate, Register}
 use Rattle.network.specs.Net.{Token, mark, Links}
 use Rattle.network.specs.Fill.{remembering, register-token}
@@ -243,7 +242,7 @@ module _ (g : Made) (S : Sound g) where
         }
 
 -- Start's memory of an accepted sheet holds its machine, empty.
-pub started-stands : (s : List ℕ) → verdictOf s ≡ Passed → (capacity : ℕ) → 1 ≤ capacity → capacity ≤ 16 → (m : List ℕ) → need (sizeOf capacity) ≤ length m
+pub started-stands : (s : List ℕ) → Admissible s → (capacity : ℕ) → 1 ≤ capacity → capacity ≤ 16 → (m : List ℕ) → need (sizeOf capacity) ≤ length m
     → Stands (madeOf (formulaOf s)) capacity (startedMemory (madeOf (formulaOf s)) capacity m) (startOf (formulaOf s))
 unfolding startedMemory
 started-stands s accepted capacity low high m long = stands (madeOf (formulaOf s)) (made-sound s accepted) capacity m long
@@ -254,4 +253,4 @@ pub accepted-stands : (s : List ℕ) (capacity : ℕ) (m : List ℕ) → started
 accepted-stands s capacity m e =
     let a = accepted-start s capacity m e in
     subst (λ (b : Begun). Stands (madeOf (formulaOf s)) capacity (b .mem) (startOf (formulaOf s))) (sym (a .whole))
-    (started-stands s (a .passed) capacity (a .some) (a .most) m (a .long))
+    (started-stands s (a .admissible) capacity (a .some) (a .most) m (a .long))

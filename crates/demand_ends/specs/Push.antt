@@ -13,8 +13,8 @@ use lib.Dec.{ltb}
 use lib.ListN.{length, getD, set, length-append}
 use Rattle.names.specs.Names.{bit}
 use Rattle.value.specs.declared.Value.{Value}
-use Rattle.value.specs.declared.Value.the-variants.{Err}
 use Rattle.value.specs.Bytes.{wordOf}
+use Rattle.value.specs.Senses.{err}
 use Rattle.network.specs.Values.{true-value}
 use Rattle.network.specs.Net.{val, Links, append, append-same, append-other, Able, act}
 use Rattle.machine_layout.specs.Layout.{inputsOf, untakenOf, noLink, triggerOf, sizeOf}
@@ -120,9 +120,9 @@ module _ (g : Made) (S : Sound g) (capacity : ℕ) (low : 1 ≤ capacity) (high 
       unfolding entered
       stands-entered zero h = H
       stands-entered (suc j) h =
-          subst (λ (n : List ℕ). Stands g capacity n (append j (val (getD v j Err)) (given j v q)))
+          subst (λ (n : List ℕ). Stands g capacity n (append j (val (getD v j err)) (given j v q)))
           (ap₂ (λ (l w : ℕ). appendedAt (entered j m size s) size l w) (sym (H .input-links j h)) (sym (I .words j h)))
-          (stands-append g S capacity (entered j m size s) (given j v q) (stands-entered j (omega arith)) j (input-below j h) (getD v j Err)
+          (stands-append g S capacity (entered j m size s) (given j v q) (stands-entered j (omega arith)) j (input-below j h) (getD v j err)
           (rw (given-other j v q j (omega arith)) (room .1 j (omega arith))) (I .ranged j h))
 
       abbrev entering : List ℕ

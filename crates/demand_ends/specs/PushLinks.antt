@@ -14,7 +14,7 @@ use lib.ListN.{length, getD, length-append, List·getD-append}
 use lib.Seq.{getD-at}
 use Rattle.names.specs.Names.{bit}
 use Rattle.value.specs.declared.Value.{Value}
-use Rattle.value.specs.declared.Value.the-variants.{Err}
+use Rattle.value.specs.Senses.{err}
 use Rattle.network.specs.Values.{true-value}
 use Rattle.network.specs.Net.{Token, val, Demand, fire, Links, append, append-other, append-append, Room, Able, appends, act}
 use Rattle.network.specs.Ends.{capacities}
@@ -32,12 +32,12 @@ pushInto g v = fire ((creditLink, val true-value) ∷ onto (pushLinks g) (withTr
 -- The first values of a set given to as many links from a on.
 abbrev givenFrom : ℕ → ℕ → List Value → Links → Links
 givenFrom a zero v q = q
-givenFrom a (suc j) v q = append (a + j) (val (getD v j Err)) (givenFrom a j v q)
+givenFrom a (suc j) v q = append (a + j) (val (getD v j err)) (givenFrom a j v q)
 
 -- The first values of a set given to the links 0, 1, ..
 abbrev pub given : ℕ → List Value → Links → Links
 given zero v q = q
-given (suc j) v q = append j (val (getD v j Err)) (given j v q)
+given (suc j) v q = append j (val (getD v j err)) (given j v q)
 
 -- "one trigger if that link exists"
 abbrev pub cued : Bool → ℕ → Links → Links
@@ -60,7 +60,7 @@ given-first : (a k : ℕ) (u : Value) (v : List Value) (q : Links) → givenFrom
 given-first a zero u v q = let z : a ≡ a + 0 = omega arith in ap (λ (l : ℕ). append l (val u) q) z
 given-first a (suc k) u v q =
     let z : suc a + k ≡ a + suc k = omega arith in
-    ap₂ (λ (l : ℕ) (p : Links). append l (val (getD v k Err)) p) z (given-first a k u v q)
+    ap₂ (λ (l : ℕ) (p : Links). append l (val (getD v k err)) p) z (given-first a k u v q)
 
 appends-given : (a k : ℕ) (v : List Value) (q : Links) → length v ≡ k → appends (onto (upFrom a k) v) q ≡ givenFrom a k v q
 unfolding upFrom
@@ -70,31 +70,31 @@ appends-given a (suc k) (u ∷ v) q e = appends-given (suc a) k v (append a (val
 
 given-from : (k : ℕ) (v : List Value) (q : Links) → givenFrom 0 k v q ≡ given k v q
 given-from zero v q = refl
-given-from (suc k) v q = ap₂ (λ (l : ℕ) (p : Links). append l (val (getD v k Err)) p) (zero-add k) (given-from k v q)
+given-from (suc k) v q = ap₂ (λ (l : ℕ) (p : Links). append l (val (getD v k err)) p) (zero-add k) (given-from k v q)
 
 -- What lies behind the given values makes no difference.
 given-more : (k : ℕ) (v w : List Value) (q : Links) → k ≤ length v → given k (v ++ w) q ≡ given k v q
 given-more zero v w q h = refl
 given-more (suc k) v w q h =
-    ap₂ (λ (u : Value) (p : Links). append k (val u) p) (List·getD-append v w Err k h) (given-more k v w q (omega arith))
+    ap₂ (λ (u : Value) (p : Links). append k (val u) p) (List·getD-append v w err k h) (given-more k v w q (omega arith))
 
 -- A link that is given nothing.
 pub given-other : (k : ℕ) (v : List Value) (q : Links) (l : ℕ) → k ≤ l → given k v q l ≡ q l
 given-other zero v q l h = refl
-given-other (suc k) v q l h = append-other k l (val (getD v k Err)) (given k v q) (λ e. omega arith) ∙ given-other k v q l (omega arith)
+given-other (suc k) v q l h = append-other k l (val (getD v k err)) (given k v q) (λ e. omega arith) ∙ given-other k v q l (omega arith)
 
 given-append : (k : ℕ) (v : List Value) (c : ℕ) (t : Token) (q : Links) → k ≤ c → given k v (append c t q) ≡ append c t (given k v q)
 given-append zero v c t q h = refl
 given-append (suc k) v c t q h =
-    ap (append k (val (getD v k Err))) (given-append k v c t q (omega arith))
-    ∙ append-append k c (val (getD v k Err)) t (given k v q) (λ e. omega arith)
+    ap (append k (val (getD v k err))) (given-append k v c t q (omega arith))
+    ∙ append-append k c (val (getD v k err)) t (given k v q) (λ e. omega arith)
 
 -- The values of a push, the trigger's among them.
 given-cued : (b : Bool) (k : ℕ) (v : List Value) (q : Links) → length v ≡ k → given (k + bit b) (withTrigger b v) q ≡ cued b k (given k v q)
 given-cued true k v q e =
     let z : k + 1 ≡ suc k = omega arith in
     ap (λ (n : ℕ). given n (v ++ (true-value ∷ [])) q) z
-    ∙ ap₂ (λ (u : Value) (p : Links). append k (val u) p) (getD-at v true-value [] Err k e) (given-more k v (true-value ∷ []) q (omega (arith, e)))
+    ∙ ap₂ (λ (u : Value) (p : Links). append k (val u) p) (getD-at v true-value [] err k e) (given-more k v (true-value ∷ []) q (omega (arith, e)))
 given-cued false k v q e = let z : k + 0 ≡ k = omega arith in ap (λ (n : ℕ). given n v q) z
 
 pub cued-other : (b : Bool) (k : ℕ) (q : Links) (l : ℕ) → k < l → cued b k q l ≡ q l

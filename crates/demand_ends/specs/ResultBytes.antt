@@ -11,10 +11,10 @@ use lib.Dec.{ltb}
 use lib.ListN.{length, getD, drop, replicate, length-append, length-replicate, length-drop, List·getD-eq-default}
 use lib.Seq.{take-at, drop-append-add, drop-drop}
 use Rattle.value.specs.declared.Value.{Value}
-use Rattle.value.specs.declared.Value.the-variants.{Err}
 use Rattle.value.specs.Operators.{pick}
 use Rattle.value.specs.Bytes.{wordOf, wordBytes, bytesOf, stored}
 use Rattle.value.proofs.Words.{stored-parts}
+use Rattle.value.specs.Senses.{err}
 use Rattle.machine_layout.specs.Layout.{resultLink}
 use Rattle.machine_firing.specs.Links.{headAt}
 use Rattle.machine_calls.specs.Calls.{resultWord, written}
@@ -48,15 +48,15 @@ length-spelled (v ∷ vs) = length-append (bytesOf v) (spelled vs) ∙ ap₂ (λ
 
 length-places : (r : List Value) → length r ≤ 16 → length (resultSet r .places) ≡ 16
 length-places r h =
-    length-append r (replicate (16 - length r) Err) ∙ ap (λ (n : ℕ). length r + n) (length-replicate (16 - length r) Err) ∙ omega arith
+    length-append r (replicate (16 - length r) err) ∙ ap (λ (n : ℕ). length r + n) (length-replicate (16 - length r) err) ∙ omega arith
 
-errs-at : (n j : ℕ) → getD (replicate n Err) j Err ≡ Err
+errs-at : (n j : ℕ) → getD (replicate n err) j err ≡ err
 errs-at zero j = refl
 errs-at (suc n) zero = refl
 errs-at (suc n) (suc j) = errs-at n j
 
 -- "places past the width hold err"
-pub place-at : (r : List Value) (n j : ℕ) → getD (r ++ replicate n Err) j Err ≡ getD r j Err
+pub place-at : (r : List Value) (n j : ℕ) → getD (r ++ replicate n err) j err ≡ getD r j err
 place-at [] n j = errs-at n j
 place-at (v ∷ r) n zero = refl
 place-at (v ∷ r) n (suc j) = place-at r n j
@@ -83,17 +83,17 @@ cells-spelled : (vs : List Value) → cellBytes (map cell vs) ≡ spelled vs
 cells-spelled [] = refl
 cells-spelled (v ∷ vs) = ap (λ (z : List ℕ). bytesOf v ++ z) (cells-spelled vs)
 
-err-cells-spelled : (n : ℕ) → cellBytes (replicate n (cell Err)) ≡ spelled (replicate n Err)
+err-cells-spelled : (n : ℕ) → cellBytes (replicate n (cell err)) ≡ spelled (replicate n err)
 err-cells-spelled zero = refl
-err-cells-spelled (suc n) = ap (λ (z : List ℕ). bytesOf Err ++ z) (err-cells-spelled n)
+err-cells-spelled (suc n) = ap (λ (z : List ℕ). bytesOf err ++ z) (err-cells-spelled n)
 
 -- The result set of direct evaluation has these bytes.
 pub cells-result : (r : List Value) → cellBytes (cellsOf r) ≡ resultBytes r
 unfolding cellsOf resultBytes
 cells-result r =
-    cell-bytes-append (map cell r) (replicate (16 - length r) (cell Err))
+    cell-bytes-append (map cell r) (replicate (16 - length r) (cell err))
     ∙ ap₂ (λ (a b : List ℕ). a ++ b) (cells-spelled r) (err-cells-spelled (16 - length r))
-    ∙ sym (spelled-append r (replicate (16 - length r) Err))
+    ∙ sym (spelled-append r (replicate (16 - length r) err))
 
 -- ---- words written one after the other
 
@@ -119,12 +119,12 @@ out-first (suc j) f =
     ap (λ (z : List ℕ). z ++ wordBytes (f (suc j))) (out-first j f)
     ∙ append-assoc (wordBytes (f 0)) (wordsOut j (λ i. f (suc i))) (wordBytes (f (suc j)))
 
-spelled-out : (vs : List Value) → spelled vs ≡ wordsOut (length vs) (λ j. wordOf (getD vs j Err))
+spelled-out : (vs : List Value) → spelled vs ≡ wordsOut (length vs) (λ j. wordOf (getD vs j err))
 unfolding bytesOf
 spelled-out [] = refl
 spelled-out (v ∷ vs) =
     ap (λ (z : List ℕ). wordBytes (wordOf v) ++ z) (spelled-out vs)
-    ∙ sym (out-first (length vs) (λ j. wordOf (getD (v ∷ vs) j Err)))
+    ∙ sym (out-first (length vs) (λ j. wordOf (getD (v ∷ vs) j err)))
 
 -- A word stored behind some bytes.
 stored-behind : (a o : List ℕ) (n w : ℕ) → length a ≡ n → n + 5 ≤ length o → stored (a ++ drop n o) n w ≡ (a ++ wordBytes w) ++ drop (n + 5) o
@@ -149,17 +149,17 @@ stored-out f o (suc j) h =
     ∙ ap (λ (n : ℕ). (wordsOut j f ++ wordBytes (f j)) ++ drop n o) z
 
 -- Evaluation's cells stored one after the other have their bytes.
-cells-out : (cs : List Cell) → cellBytes cs ≡ wordsOut (length cs) (λ j. wordOf (getD cs j (cell Err) .v))
+cells-out : (cs : List Cell) → cellBytes cs ≡ wordsOut (length cs) (λ j. wordOf (getD cs j (cell err) .v))
 unfolding bytesOf
 cells-out [] = refl
 cells-out (c ∷ cs) =
     ap (λ (z : List ℕ). wordBytes (wordOf (c .v)) ++ z) (cells-out cs)
-    ∙ sym (out-first (length cs) (λ j. wordOf (getD (c ∷ cs) j (cell Err) .v)))
+    ∙ sym (out-first (length cs) (λ j. wordOf (getD (c ∷ cs) j (cell err) .v)))
 
 pub cells-stored : (cs : List Cell) (o : List ℕ) → 5 * length cs ≤ length o
-    → storedOut (length cs) (λ j. wordOf (getD cs j (cell Err) .v)) o ≡ cellBytes cs ++ drop (5 * length cs) o
+    → storedOut (length cs) (λ j. wordOf (getD cs j (cell err) .v)) o ≡ cellBytes cs ++ drop (5 * length cs) o
 cells-stored cs o h =
-    stored-out (λ j. wordOf (getD cs j (cell Err) .v)) o (length cs) h ∙ ap (λ (z : List ℕ). z ++ drop (5 * length cs) o) (sym (cells-out cs))
+    stored-out (λ j. wordOf (getD cs j (cell err) .v)) o (length cs) h ∙ ap (λ (z : List ℕ). z ++ drop (5 * length cs) o) (sym (cells-out cs))
 
 written-stored : (m : List ℕ) (size k : ℕ) (o : List ℕ) (j : ℕ) → written j m size k o ≡ storedOut j (resultWord m size k) o
 unfolding written
@@ -167,20 +167,20 @@ written-stored m size k o zero = refl
 written-stored m size k o (suc j) = ap (λ (x : List ℕ). stored x (5 * j) (resultWord m size k j)) (written-stored m size k o j)
 
 -- Take writes these bytes where the result ports' heads are the values.
-module _ (m : List ℕ) (size : ℕ) (r : List Value) (heads : (j : ℕ) → j < length r → headAt m size (resultLink m j) ≡ wordOf (getD r j Err)) where
-  word-is : (j : ℕ) → resultWord m size (length r) j ≡ wordOf (getD (resultSet r .places) j Err)
+module _ (m : List ℕ) (size : ℕ) (r : List Value) (heads : (j : ℕ) → j < length r → headAt m size (resultLink m j) ≡ wordOf (getD r j err)) where
+  word-is : (j : ℕ) → resultWord m size (length r) j ≡ wordOf (getD (resultSet r .places) j err)
   unfolding resultWord
   word-is j = go (ltb j (length r)) refl ∙ ap wordOf (sym (place-at r (16 - length r) j))
     where
-      go : (b : Bool) → ltb j (length r) ≡ b → pick b (headAt m size (resultLink m j)) (wordOf Err) ≡ wordOf (getD r j Err)
+      go : (b : Bool) → ltb j (length r) ≡ b → pick b (headAt m size (resultLink m j)) (wordOf err) ≡ wordOf (getD r j err)
       go true e = heads j (ltb-true j (length r) e)
-      go false e = ap wordOf (sym (List·getD-eq-default r Err (ltb-false j (length r) e)))
+      go false e = ap wordOf (sym (List·getD-eq-default r err (ltb-false j (length r) e)))
 
   pub written-result : length r ≤ 16 → (o : List ℕ) → 80 ≤ length o → written 16 m size (length r) o ≡ resultBytes r ++ drop 80 o
   unfolding resultBytes
   written-result few o h =
       written-stored m size (length r) o 16 ∙ stored-out (resultWord m size (length r)) o 16 h
       ∙ ap (λ (z : List ℕ). z ++ drop 80 o)
-      (out-same 16 (resultWord m size (length r)) (λ j. wordOf (getD (resultSet r .places) j Err)) (λ j l. word-is j)
-      ∙ ap (λ (n : ℕ). wordsOut n (λ j. wordOf (getD (resultSet r .places) j Err))) (sym (length-places r few))
+      (out-same 16 (resultWord m size (length r)) (λ j. wordOf (getD (resultSet r .places) j err)) (λ j l. word-is j)
+      ∙ ap (λ (n : ℕ). wordsOut n (λ j. wordOf (getD (resultSet r .places) j err))) (sym (length-places r few))
       ∙ sym (spelled-out (resultSet r .places)))

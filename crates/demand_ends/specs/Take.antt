@@ -12,9 +12,9 @@ use borrow.Author.Tests.{ltb-true, lt-ltb, ne-eqb}
 use lib.Dec.{ltb, eqb}
 use lib.ListN.{length, getD, drop, set}
 use Rattle.value.specs.declared.Value.{Value}
-use Rattle.value.specs.declared.Value.the-variants.{Err}
 use Rattle.value.specs.Bytes.{InRange, wordOf}
 use Rattle.value.proofs.Words.{word-pos}
+use Rattle.value.specs.Senses.{err}
 use Rattle.formula.specs.declared.Refusal.the-variants.{NoResult}
 use Rattle.network.specs.Net.{Token, val, Links, head, tail, pop, pop-same, pop-other, Demand, Able, act, label}
 use Rattle.network.specs.Ends.{take-demand}
@@ -55,7 +55,7 @@ length-values : (ls : List ℕ) (q : Links) → length (valuesIn (headsOf ls q))
 length-values [] q = refl
 length-values (l ∷ ls) q = ap suc (length-values ls q)
 
-value-at : (ls : List ℕ) (q : Links) (j : ℕ) → j < length ls → getD (valuesIn (headsOf ls q)) j Err ≡ valueIn (head (q (getD ls j 0)))
+value-at : (ls : List ℕ) (q : Links) (j : ℕ) → j < length ls → getD (valuesIn (headsOf ls q)) j err ≡ valueIn (head (q (getD ls j 0)))
 value-at [] q j h = absurd (omega arith)
 value-at (l ∷ ls) q zero h = refl
 value-at (l ∷ ls) q (suc j) h = value-at ls q j (omega arith)
@@ -178,11 +178,11 @@ module _ (g : Made) (S : Sound g) (capacity : ℕ) (low : 1 ≤ capacity) (high 
     pub result-width : length (resultIn g q) ≡ length (g .results)
     result-width = ap length labelled ∙ length-values results q
 
-    result-head : (j : ℕ) → j < length results → InRange (getD result j Err) × (headAt m size (resultLink m j) ≡ wordOf (getD result j Err))
+    result-head : (j : ℕ) → j < length results → InRange (getD result j err) × (headAt m size (resultLink m j) ≡ wordOf (getD result j err))
     result-head j h =
         let l = getD results j 0 in
         let p = waiting-value l (result-below j h) (waits .1 l (in-at results j h)) in
-        let e : getD result j Err ≡ p .0 = ap (λ (r : List Value). getD r j Err) labelled ∙ value-at results q j h ∙ ap valueIn (p .2) in
+        let e : getD result j err ≡ p .0 = ap (λ (r : List Value). getD r j err) labelled ∙ value-at results q j h ∙ ap valueIn (p .2) in
         (subst InRange (sym e) (p .1), ap (headAt m size) (H .result-links j h) ∙ p .3 ∙ ap wordOf (sym e))
 
     -- THE BYTES WRITTEN are its sixteen places, and nothing behind them is touched.

@@ -6,7 +6,7 @@ use mathlib.Core.Bool.{true, false}
 use mathlib.Core.List.{List, [], _∷_}
 use mathlib.Core.Option.{Option, none, some}
 use Rattle.value.specs.declared.Value.{Value}
-use Rattle.value.specs.Bytes.{InRange, valueOf, decoded}
+use Rattle.value.specs.Bytes.{InRange, valueOf, decoded, wordOr}
 use Rattle.value.proofs.Words.{value-of-word, no-value}
 use Rattle.network.specs.Rules.{Register, Input, first, second, third}
 use Rattle.network.specs.Net.{Token, Links}
@@ -18,8 +18,7 @@ use Rattle.machine_layout.specs.Kinds.{kindOf, kind-of-byte}
 use Rattle.machine_gates.specs.Decide.{optional, told, decideAt}
 use Rattle.machine_gates.specs.Decide.{heads as heads-read}
 use Rattle.machine_firing.specs.Links.{headAt, tokenAt}
-use Rattle.machine_firing.specs.declared.Plan.{Plan}
-use Rattle.machine_firing.specs.Fire.{taken, given, wordOr, planned, registerOf, decisionAt, planAt}
+use Rattle.machine_firing.specs.Fire.{Plan, taken, given, planned, registerOf, decisionAt, planAt}
 use Rattle.graph.specs.Assembly.{Operator}
 use Rattle.graph.specs.Translation.{Made}
 use Rattle.theory_reference.specs.Plugged.{nowhere, link-of, portsOf}

@@ -10,7 +10,7 @@ use native.Mathlib.Omega.{arith}
 use native.Mathlib.Decide.{ℕ-discrete, decLt}
 use lib.ListN.{length}
 use Rattle.value.specs.declared.Value.{Value}
-use Rattle.value.specs.Bytes.{decoded, wordAt, stored}
+use Rattle.value.specs.Bytes.{decoded, wordOr, wordAt, stored}
 use Rattle.value.proofs.Words.{length-stored, word-stored, word-before, word-after, byte-before, word-lt}
 use Rattle.network.specs.Rules.{Register, first, second, third, rule}
 use Rattle.network.specs.Net.{Links, act, appends}
@@ -21,7 +21,7 @@ use Rattle.network.specs.FiringLinks.{Output, output1, output2, output3, output
 use Rattle.machine_layout.specs.Layout.{registerAt, linkAt, sizeOf}
 use Rattle.machine_firing.specs.Links.{removedAt, appendedAt}
 use Rattle.machine_firing.specs.LinkLaws.{linkPart, part-stored}
-use Rattle.machine_firing.specs.Fire.{taken, given, wordOr, performed, ableAt, firedAt}
+use Rattle.machine_firing.specs.Fire.{taken, given, performed, ableAt, firedAt}
 use Rattle.graph.specs.Assembly.{Operator}
 use Rattle.graph.specs.Translation.{Made}
 use Rattle.theory_reference.specs.Plugged.{nowhere, registers, link-of, portsOf, demandOf}

@@ -7,7 +7,10 @@ use mathlib.Core.Option.{Option, none, some}
 use Rattle.value.specs.declared.Value.{Value}
 use Rattle.value.specs.Bytes.{InRange}
 use Rattle.value.proofs.Codes.{apply-in-range}
-use Rattle.network.specs.Values.{err-value, Sense, is-true, is-false, is-neither, sense, one-operand}
+use Rattle.value.specs.declared.Sense.{Sense}
+use Rattle.value.specs.declared.Sense.the-variants.{True, False, Neither}
+use Rattle.value.specs.Senses.{sense}
+use Rattle.network.specs.Values.{err-value, one-operand}
 use Rattle.network.specs.Rules.{Kind, constant, copy, operator, T-gate, F-gate, M-gate, E-gate, IC-gate, FM-gate, FS-gate, Register, Firing, takes, gives, never, Input, T-rule, F-rule, M-rule, E-rule, chosen, IC-table, fired, FS-rule, operator-rule, rule}
 use Rattle.network.specs.Decide.{Taken, also, untouched, Decision, with-head, decided, decide}
 use Rattle.network.specs.Firing.{none-is-not-some, some-same}
@@ -20,47 +23,47 @@ Gives-fine never = Unit {0}
 
 module _ (g : Register) (f : Fine g) where
   T-fine : (s : Sense) → Gives-fine (T-rule g s)
-  T-fine is-true = λ v h. (h, tt, tt, f)
-  T-fine is-false = λ v h. (tt, tt, tt, f)
-  T-fine is-neither = λ v h. (tt, tt, tt, f)
+  T-fine True = λ v h. (h, tt, tt, f)
+  T-fine False = λ v h. (tt, tt, tt, f)
+  T-fine Neither = λ v h. (tt, tt, tt, f)
 
   F-fine : (s : Sense) → Gives-fine (F-rule g s)
-  F-fine is-true = λ v h. (tt, tt, tt, f)
-  F-fine is-false = λ v h. (h, tt, tt, f)
-  F-fine is-neither = λ v h. (tt, tt, tt, f)
+  F-fine True = λ v h. (tt, tt, tt, f)
+  F-fine False = λ v h. (h, tt, tt, f)
+  F-fine Neither = λ v h. (tt, tt, tt, f)
 
   M-fine : (s : Sense) → Gives-fine (M-rule g s)
-  M-fine is-true = λ v h. (h, tt, tt, f)
-  M-fine is-false = λ v h. (h, tt, tt, f)
-  M-fine is-neither = (tt, tt, tt, f)
+  M-fine True = λ v h. (h, tt, tt, f)
+  M-fine False = λ v h. (h, tt, tt, f)
+  M-fine Neither = (tt, tt, tt, f)
 
   E-fine : (s : Sense) → Gives-fine (E-rule g s)
-  E-fine is-true = λ v h. (h, tt, tt, f)
-  E-fine is-false = λ v h. (h, tt, tt, f)
-  E-fine is-neither = (tt, tt, tt, f)
+  E-fine True = λ v h. (h, tt, tt, f)
+  E-fine False = λ v h. (h, tt, tt, f)
+  E-fine Neither = (tt, tt, tt, f)
 
   table-fine : (c s : Sense) → Gives-fine (IC-table g c s)
-  table-fine is-true is-true = (tt, tt, tt, f)
-  table-fine is-true is-false = (tt, tt, tt, f)
-  table-fine is-true is-neither = (tt, tt, tt, f)
-  table-fine is-false is-true = (tt, tt, tt, f)
-  table-fine is-false is-false = (tt, tt, tt, f)
-  table-fine is-false is-neither = (tt, tt, tt, f)
-  table-fine is-neither s = (tt, tt, tt, f)
+  table-fine True True = (tt, tt, tt, f)
+  table-fine True False = (tt, tt, tt, f)
+  table-fine True Neither = (tt, tt, tt, f)
+  table-fine False True = (tt, tt, tt, f)
+  table-fine False False = (tt, tt, tt, f)
+  table-fine False Neither = (tt, tt, tt, f)
+  table-fine Neither s = (tt, tt, tt, f)
 
   IC-fine : (s : Sense) → Gives-fine (chosen s (IC-table g s))
-  IC-fine is-true = λ v h. table-fine is-true (sense v)
-  IC-fine is-false = λ v h. table-fine is-false (sense v)
-  IC-fine is-neither = table-fine is-neither is-neither
+  IC-fine True = λ v h. table-fine True (sense v)
+  IC-fine False = λ v h. table-fine False (sense v)
+  IC-fine Neither = table-fine Neither Neither
 
   operator-fine : (b : Bool) (code : ℕ) (v : Value) → Gives-fine (operator-rule b code g v)
   operator-fine true code v = (apply-in-range code v err-value, tt, tt, f)
   operator-fine false code v = λ w h. (apply-in-range code v w, tt, tt, f)
 
 FS-fine : (r : Value) → InRange r → (s : Sense) → Gives-fine (FS-rule r s)
-FS-fine r f is-true = (f, tt, tt, f)
-FS-fine r f is-false = λ v h. (h, tt, tt, h)
-FS-fine r f is-neither = λ v h. (h, tt, tt, h)
+FS-fine r f True = (f, tt, tt, f)
+FS-fine r f False = λ v h. (h, tt, tt, h)
+FS-fine r f Neither = λ v h. (h, tt, tt, h)
 
 pub rule-fine : (k : Kind) (g : Register) → Fine g → Gives-fine (rule k g)
 rule-fine constant none f = tt

@@ -7,8 +7,10 @@ use mathlib.Core.List.{List, [], _∷_, _++_}
 use lib.ListN.{length, getD, replicate, length-append, length-replicate}
 use native.Mathlib.Omega.{arith}
 use Rattle.value.specs.declared.Value.{Value}
-use Rattle.value.specs.declared.Value.the-variants.{Err}
 use Rattle.value.specs.Operators.{apply}
+use Rattle.value.specs.declared.Sense.{Sense}
+use Rattle.value.specs.declared.Sense.the-variants.{True, False, Neither}
+use Rattle.value.specs.Senses.{err, sense}
 use Rattle.formula.specs.declared.Shape.{Shape}
 use Rattle.formula.specs.declared.Shape.the-variants.{Identifier, Whole, Truth, Pair, Operator, Let, If, For, Iter}
 use Rattle.formula.specs.Sheet.{shapeAt}
@@ -23,11 +25,9 @@ use Rattle.eval_cycle.specs.declared.Rest.{Rest}
 use Rattle.eval_cycle.specs.declared.Rest.the-variants.{Left, Short}
 use Rattle.eval_cycle.specs.declared.Turn.{Turn}
 use Rattle.eval_cycle.specs.declared.Turn.the-variants.{Again, Back, Short as short}
-use Rattle.eval_words.specs.declared.Choice.{Choice}
-use Rattle.eval_words.specs.declared.Choice.the-variants.{First, Second, Neither, Short as untold}
 use Rattle.eval_words.specs.declared.Single.{Single}
 use Rattle.eval_words.specs.declared.Single.the-variants.{Word, Short as none-left}
-use Rattle.eval_words.specs.Words.{heldOf, envOf, outcomeOf, applying, chosenOf, byChoice, choice-made}
+use Rattle.eval_words.specs.Words.{heldOf, envOf, outcomeOf, applying}
 use Rattle.meaning.specs.Rows.{ExpRow, BodyRow, ExpChildren, BodyChildren, Plain, exp-children, body-children, exp-sound, body-sound, exp-facts, plain-as}
 use Rattle.eval_words.specs.Needs.{W, exp-needs}
 use Rattle.eval_words.specs.Parts.{Operates, Pairs, by-shape}
@@ -108,8 +108,8 @@ tell-append Outcome.unfinished (Left k) vs at b m a e h = absurd h
 tell-append Outcome.unfinished Short vs at b m a e h = tt
 
 -- Values read from an array that held nothing but err.
-pub read : {o : Outcome} {k : ℕ} {b a : List ℕ} (v : Values o k 0 b a) → ((i : ℕ) → envOf b i ≡ Err)
-    → (i : ℕ) → envOf a i ≡ getD (v .values) i Err
+pub read : {o : Outcome} {k : ℕ} {b a : List ℕ} (v : Values o k 0 b a) → ((i : ℕ) → envOf b i ≡ err)
+    → (i : ℕ) → envOf a i ≡ getD (v .values) i err
 read {b = b} v h i = ap (λ (f : Env). f i) (v .held) ∙ bind-list (v .values) (envOf b) h i
 
 -- A loop is the same over an environment that differs in its own identifiers alone.
@@ -187,46 +187,50 @@ module _ (t ws : List ℕ) (r : ℕ) (h : ExpRow t ws r) (env : Env) (left at : 
       q
 
   module _ (a b c : ℕ) (e : shapeAt t r ≡ If a b c) (s : Single) (p : evalE (expOf t a) env left ≡ outcomeOf s) where
-    abbrev arms : Choice → Outcome
-    arms =
-        byChoice Outcome.unfinished (λ l. yields (replicate (width (expOf t b)) Err) l) (λ l. evalE (expOf t b) env l)
-        (λ l. evalE (expOf t c) env l)
-
-    by-choice : evalE (expOf t r) env left ≡ arms (chosenOf s)
+    by-sense : (w l : ℕ) → s ≡ Word w l → (z : Sense) → sense (heldOf w) ≡ z
+        → evalE (expOf t r) env left
+        ≡ branch z (yields (replicate (width (expOf t b)) err) l) (λ _. evalE (expOf t b) env l) (λ _. evalE (expOf t c) env l)
     unfolding evalE expNode
-    by-choice =
+    by-sense w l i z f =
         by-shape t ws r h env left (If a b c) e
+        ∙ then-yields
+        (λ vs m.
+        branch (sense (getD vs 0 err)) (yields (replicate (width (expOf t b)) err) m) (λ _. evalE (expOf t b) env m)
+        (λ _. evalE (expOf t c) env m)
+        )
+        (p ∙ ap outcomeOf i)
         ∙ ap
-        (λ (x : Outcome).
-        then x
-        (λ vs l.
-        branch (getD vs 0 Err) (yields (replicate (width (expOf t b)) Err) l) (λ _. evalE (expOf t b) env l)
-        (λ _. evalE (expOf t c) env l)
-        ))
-        p
-        ∙ choice-made (λ l. yields (replicate (width (expOf t b)) Err) l) (λ l. evalE (expOf t b) env l)
-        (λ l. evalE (expOf t c) env l) s
+        (λ (y : Sense).
+        branch y (yields (replicate (width (expOf t b)) err) l) (λ _. evalE (expOf t b) env l) (λ _. evalE (expOf t c) env l)
+        )
+        f
 
-    pub tell-first : (l : ℕ) (ans : Rest) → chosenOf s ≡ First l → Told (evalE (expOf t b) env l) ans at o o′
-        → Told (evalE (expOf t r) env left) ans at o o′
-    tell-first l ans f q = subst (λ (y : Outcome). Told y ans at o o′) (sym (by-choice ∙ ap arms f)) q
+    module _ (w l : ℕ) (i : s ≡ Word w l) where
+      pub tell-first : (ans : Rest) → sense (heldOf w) ≡ True → Told (evalE (expOf t b) env l) ans at o o′
+          → Told (evalE (expOf t r) env left) ans at o o′
+      unfolding branch
+      tell-first ans f q = subst (λ (y : Outcome). Told y ans at o o′) (sym (by-sense w l i True f)) q
 
-    pub tell-second : (l : ℕ) (ans : Rest) → chosenOf s ≡ Second l → Told (evalE (expOf t c) env l) ans at o o′
-        → Told (evalE (expOf t r) env left) ans at o o′
-    tell-second l ans f q = subst (λ (y : Outcome). Told y ans at o o′) (sym (by-choice ∙ ap arms f)) q
+      pub tell-second : (ans : Rest) → sense (heldOf w) ≡ False → Told (evalE (expOf t c) env l) ans at o o′
+          → Told (evalE (expOf t r) env left) ans at o o′
+      unfolding branch
+      tell-second ans f q = subst (λ (y : Outcome). Told y ans at o o′) (sym (by-sense w l i False f)) q
 
-    -- "An if whose test is no truth gives err for each of its values"
-    pub tell-neither : (l : ℕ) → chosenOf s ≡ Neither l → envOf o′ ≡ bind at (W ws b) (replicate (W ws b) Err) (envOf o)
-        → Told (evalE (expOf t r) env left) (Left l) at o o′
-    tell-neither l f q =
-        let n : W ws b ≡ width (expOf t b) = exp-facts t ws b (exp-children t ws r h (If a b c) e .1 .0) .1 in
-        tell _ (replicate (width (expOf t b)) Err) l at o o′ (by-choice ∙ ap arms f)
-        (subst (λ (k : ℕ). envOf o′ ≡ bind at k (replicate (width (expOf t b)) Err) (envOf o))
-        (sym (length-replicate (width (expOf t b)) Err))
-        (subst (λ (k : ℕ). envOf o′ ≡ bind at k (replicate k Err) (envOf o)) n q))
+      -- "An if whose test is no truth gives err for each of its values"
+      pub tell-neither : sense (heldOf w) ≡ Neither → envOf o′ ≡ bind at (W ws b) (replicate (W ws b) err) (envOf o)
+          → Told (evalE (expOf t r) env left) (Left l) at o o′
+      unfolding branch
+      tell-neither f q =
+          let n : W ws b ≡ width (expOf t b) = exp-facts t ws b (exp-children t ws r h (If a b c) e .1 .0) .1 in
+          tell _ (replicate (width (expOf t b)) err) l at o o′ (by-sense w l i Neither f)
+          (subst (λ (k : ℕ). envOf o′ ≡ bind at k (replicate (width (expOf t b)) err) (envOf o))
+          (sym (length-replicate (width (expOf t b)) err))
+          (subst (λ (k : ℕ). envOf o′ ≡ bind at k (replicate k err) (envOf o)) n q))
 
-    pub tell-untested : chosenOf s ≡ untold → Told (evalE (expOf t r) env left) Short at o o′
-    tell-untested f = tell-short _ at o o′ (by-choice ∙ ap arms f)
+    pub tell-untested : s ≡ none-left → Told (evalE (expOf t r) env left) Short at o o′
+    unfolding evalE expNode
+    tell-untested i =
+        tell-short _ at o o′ (by-shape t ws r h env left (If a b c) e ∙ then-short _ (p ∙ ap outcomeOf i))
 
 -- The part of a row that is evaluated first.
 abbrev FirstPart : Shape → ℕ → Type 0
@@ -262,7 +266,7 @@ tell-stopped t ws r h env left s e k f at i o o′ z z′ p =
 
 -- ---- a row of width one
 
-alone : (vs : List Value) → length vs ≡ 1 → vs ≡ getD vs 0 Err ∷ []
+alone : (vs : List Value) → length vs ≡ 1 → vs ≡ getD vs 0 err ∷ []
 alone [] e = absurd (omega (arith, e))
 alone (v ∷ []) e = refl
 alone (v ∷ (u ∷ us)) e = absurd (omega (arith, e))
@@ -299,7 +303,7 @@ module _ (t ws : List ℕ) (env : Env) (left : ℕ) where
       (by-shape t ws (p .between) (p .paired .row) env left (Pair x y) (p .paired .shape) ∙ then-short _ (e ∙ ap outcomeOf f))
 
   -- Both operands in two lent words.
-  pub single-wide : (r k b : ℕ) → Operates t ws r k b → (z z′ : List ℕ) (w l : ℕ) → ((i : ℕ) → envOf z i ≡ Err)
+  pub single-wide : (r k b : ℕ) → Operates t ws r k b → (z z′ : List ℕ) (w l : ℕ) → ((i : ℕ) → envOf z i ≡ err)
       → Told (evalE (expOf t b) env left) (Left l) 0 z z′ → heldOf w ≡ apply k (heldOf (getD z′ 0 0)) (heldOf (getD z′ 1 0))
       → evalE (expOf t r) env left ≡ outcomeOf (Word w l)
   unfolding envOf
@@ -315,7 +319,7 @@ module _ (t ws : List ℕ) (env : Env) (left : ℕ) where
   single-wide-short r k b p z z′ q = operator-is r k b p ∙ then-short (applying k) (told-short _ 0 z z′ q)
 
   -- A row evaluated to one lent word.
-  pub single-told : (r : ℕ) → ExpRow t ws r → W ws r ≡ 1 → (z z′ : List ℕ) (l : ℕ) → ((i : ℕ) → envOf z i ≡ Err)
+  pub single-told : (r : ℕ) → ExpRow t ws r → W ws r ≡ 1 → (z z′ : List ℕ) (l : ℕ) → ((i : ℕ) → envOf z i ≡ err)
       → Told (evalE (expOf t r) env left) (Left l) 0 z z′ → evalE (expOf t r) env left ≡ outcomeOf (Word (getD z′ 0 0) l)
   unfolding envOf
   single-told r h n z z′ l i p =

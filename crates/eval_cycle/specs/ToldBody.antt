@@ -9,14 +9,16 @@ use lib.ListN.{length, getD, replicate, length-replicate}
 use lib.Seq.{paste}
 use native.Mathlib.Omega.{arith}
 use Rattle.value.specs.declared.Value.{Value}
-use Rattle.value.specs.declared.Value.the-variants.{Err}
+use Rattle.value.specs.declared.Sense.{Sense}
+use Rattle.value.specs.declared.Sense.the-variants.{True, False, Neither}
+use Rattle.value.specs.Senses.{err, sense}
 use Rattle.formula.specs.declared.Shape.{Shape}
 use Rattle.formula.specs.declared.Shape.the-variants.{Identifier, Whole, Truth, Pair, Operator, Let, If, For, Iter}
 use Rattle.formula.specs.Sheet.{shapeAt}
 use Rattle.formula.specs.Tree.{Exp, Body, ret, expNode, bodyNode, expOf, bodyOf}
 use Rattle.formula.specs.TreeLaws.{body-as}
 use Rattle.formula.specs.Widths.{width, returned, iterated}
-use Rattle.meaning.specs.Meaning.{Env, bind, Outcome, yields, Ending, again, returns, then, thenB, after, branch, evalE, evalB}
+use Rattle.meaning.specs.Meaning.{Env, bind, yields, Ending, again, returns, then, thenB, after, branch, evalE, evalB}
 use Rattle.meaning.specs.Binding.{bind-again, bound-among}
 use Rattle.meaning.specs.Rounds.{turns, turns-none, turns-step, WithinB, within-B}
 use Rattle.meaning.specs.WidthLaws.{SizedB, Suits, sized-B}
@@ -24,13 +26,12 @@ use Rattle.eval_cycle.specs.declared.Rest.{Rest}
 use Rattle.eval_cycle.specs.declared.Rest.the-variants.{Left, Short}
 use Rattle.eval_cycle.specs.declared.Turn.{Turn}
 use Rattle.eval_cycle.specs.declared.Turn.the-variants.{Again, Back, Short as short}
-use Rattle.eval_words.specs.declared.Choice.{Choice}
-use Rattle.eval_words.specs.declared.Choice.the-variants.{First, Second, Neither, Short as untold}
 use Rattle.eval_words.specs.declared.Single.{Single}
+use Rattle.eval_words.specs.declared.Single.the-variants.{Word, Short as none-left}
 use Rattle.formula.specs.Ways.{wayOf}
 use Rattle.formula.specs.declared.Way.{Way}
 use Rattle.formula.specs.declared.Way.the-variants.{Iter as iter-way, Let as let-way, If as if-way, End}
-use Rattle.eval_words.specs.Words.{envOf, outcomeOf, chosenOf, byChoice, choice-made-B, paste-binds}
+use Rattle.eval_words.specs.Words.{heldOf, envOf, outcomeOf, paste-binds}
 use Rattle.meaning.specs.Rows.{ExpRow, BodyRow, ExpChildren, BodyChildren, Plain, exp-children, body-children, body-sound, plain-as, ending-row}
 use Rattle.eval_words.specs.Needs.{W, BodyNeeds, body-needs}
 use Rattle.eval_cycle.specs.Told.{Told, ToldB, Values, told-left, told-short, tell, tell-short, tell-short-B, then-short-B, then-yields-B, read, counted}
@@ -130,42 +131,44 @@ module _ (t ws : List ℕ) (r : ℕ) (h : BodyRow t ws r) (w : ℕ) (env : Env) 
         ∙ then-short-B (λ vs l₁. evalB (bodyOf t d) w (bind a b vs env) l₁) (told-short (evalE (expOf t c) env left) i z z′ p))
 
     module _ (a b c : ℕ) (e : shapeAt t r ≡ If a b c) (s : Single) (p : evalE (expOf t a) env left ≡ outcomeOf s) where
-      abbrev arms : Choice → Ending
-      arms =
-          byChoice Ending.unfinished (λ l. returns (replicate w Err) l) (λ l. evalB (bodyOf t b) w env l)
-          (λ l. evalB (bodyOf t c) w env l)
-
-      by-choice : evalB (bodyOf t r) w env left ≡ arms (chosenOf s)
+      by-sense : (v l : ℕ) → s ≡ Word v l → (z : Sense) → sense (heldOf v) ≡ z
+          → evalB (bodyOf t r) w env left
+          ≡ branch z (returns (replicate w err) l) (λ _. evalB (bodyOf t b) w env l) (λ _. evalB (bodyOf t c) w env l)
       unfolding evalE bodyNode
-      by-choice =
+      by-sense v l i z f =
           by-shape (If a b c) e
+          ∙ then-yields-B
+          (λ vs m.
+          branch (sense (getD vs 0 err)) (returns (replicate w err) m) (λ _. evalB (bodyOf t b) w env m)
+          (λ _. evalB (bodyOf t c) w env m)
+          )
+          (p ∙ ap outcomeOf i)
           ∙ ap
-          (λ (x : Outcome).
-          thenB x
-          (λ vs l.
-          branch (getD vs 0 Err) (returns (replicate w Err) l) (λ _. evalB (bodyOf t b) w env l)
-          (λ _. evalB (bodyOf t c) w env l)
-          ))
-          p
-          ∙ choice-made-B (λ l. returns (replicate w Err) l) (λ l. evalB (bodyOf t b) w env l) (λ l. evalB (bodyOf t c) w env l) s
+          (λ (y : Sense). branch y (returns (replicate w err) l) (λ _. evalB (bodyOf t b) w env l) (λ _. evalB (bodyOf t c) w env l))
+          f
 
-      pub tell-first-B : (l : ℕ) (ans : Turn) → chosenOf s ≡ First l → ToldB (evalB (bodyOf t b) w env l) ans o o′
-          → ToldB (evalB (bodyOf t r) w env left) ans o o′
-      tell-first-B l ans f q = subst (λ (y : Ending). ToldB y ans o o′) (sym (by-choice ∙ ap arms f)) q
+      module _ (v l : ℕ) (i : s ≡ Word v l) where
+        pub tell-first-B : (ans : Turn) → sense (heldOf v) ≡ True → ToldB (evalB (bodyOf t b) w env l) ans o o′
+            → ToldB (evalB (bodyOf t r) w env left) ans o o′
+        unfolding branch
+        tell-first-B ans f q = subst (λ (y : Ending). ToldB y ans o o′) (sym (by-sense v l i True f)) q
 
-      pub tell-second-B : (l : ℕ) (ans : Turn) → chosenOf s ≡ Second l → ToldB (evalB (bodyOf t c) w env l) ans o o′
-          → ToldB (evalB (bodyOf t r) w env left) ans o o′
-      tell-second-B l ans f q = subst (λ (y : Ending). ToldB y ans o o′) (sym (by-choice ∙ ap arms f)) q
+        pub tell-second-B : (ans : Turn) → sense (heldOf v) ≡ False → ToldB (evalB (bodyOf t c) w env l) ans o o′
+            → ToldB (evalB (bodyOf t r) w env left) ans o o′
+        unfolding branch
+        tell-second-B ans f q = subst (λ (y : Ending). ToldB y ans o o′) (sym (by-sense v l i False f)) q
 
-      -- "in a body it ends the loop with err for each returned value"
-      pub tell-neither-B : (l : ℕ) → chosenOf s ≡ Neither l → envOf o′ ≡ bind 0 w (replicate w Err) (envOf o)
-          → ToldB (evalB (bodyOf t r) w env left) (Back l) o o′
-      tell-neither-B l f q =
-          tell-back _ (replicate w Err) l o o′ (by-choice ∙ ap arms f)
-          (subst (λ (k : ℕ). envOf o′ ≡ bind 0 k (replicate w Err) (envOf o)) (sym (length-replicate w Err)) q)
+        -- "in a body it ends the loop with err for each returned value"
+        pub tell-neither-B : sense (heldOf v) ≡ Neither → envOf o′ ≡ bind 0 w (replicate w err) (envOf o)
+            → ToldB (evalB (bodyOf t r) w env left) (Back l) o o′
+        unfolding branch
+        tell-neither-B f q =
+            tell-back _ (replicate w err) l o o′ (by-sense v l i Neither f)
+            (subst (λ (k : ℕ). envOf o′ ≡ bind 0 k (replicate w err) (envOf o)) (sym (length-replicate w err)) q)
 
-      pub tell-untested-B : chosenOf s ≡ untold → ToldB (evalB (bodyOf t r) w env left) short o o′
-      tell-untested-B f = tell-short-B _ o o′ (by-choice ∙ ap arms f)
+      pub tell-untested-B : s ≡ none-left → ToldB (evalB (bodyOf t r) w env left) short o o′
+      unfolding evalE bodyNode
+      tell-untested-B i = tell-short-B _ o o′ (by-shape (If a b c) e ∙ then-short-B _ (p ∙ ap outcomeOf i))
 
 -- ---- the rounds of a loop
 
@@ -207,10 +210,10 @@ module _ (n w k : ℕ) (b a : List ℕ) where
   within-again Ending.unfinished m i h = absurd h
 
 held-at : (q q′ : List ℕ) (vs : List Value) (n : ℕ) → envOf q′ ≡ bind 0 n vs (envOf q)
-    → (i : ℕ) → i < n → envOf q′ i ≡ getD vs i Err
+    → (i : ℕ) → i < n → envOf q′ i ≡ getD vs i err
 held-at q q′ vs n e i h =
     let z : i - 0 ≡ i = omega arith in
-    ap (λ (f : Env). f i) e ∙ bound-among 0 n vs (envOf q) i (omega arith) (omega arith) ∙ ap (λ (k : ℕ). getD vs k Err) z
+    ap (λ (f : Env). f i) e ∙ bound-among 0 n vs (envOf q) i (omega arith) (omega arith) ∙ ap (λ (k : ℕ). getD vs k err) z
 
 -- Where the loop stands: what is left of it is the whole loop, and rebinding forgets what the last round bound.
 pub record Turning (y : Body) (a b : ℕ) (z₀ z : List ℕ) (left l : ℕ) : Type 0 where

@@ -5,7 +5,6 @@ use crate::Rest;
 use crate::Turn;
 use crate::turns::again;
 use crate::turns::back;
-use eval_words::Choice;
 use eval_words::Part;
 use eval_words::Single;
 use eval_words::parts::part_at;
@@ -23,6 +22,7 @@ use formula::Way;
 use sheet_fields::shape::shape_at;
 use sheet_fields::shape::way_at;
 use sheet_fields::shape::width_at;
+use value::Sense;
 ghost use mathlib.Core.Path.{_≡_};
 ghost use Prim.Native.Nat.{ℕ, _+_, _*_, _-_, _≤_, _<_};
 ghost use lib.ListN.{length};
@@ -117,14 +117,16 @@ fn by_kind(
                 Rest::Short => Rest::Short,
             }
         }
-        Shape::If(a, b, c) => match chosen(single(t, widths, a, env, left)) {
-            Choice::First(l) => expr(t, widths, b, env, out, at, l),
-            Choice::Second(l) => expr(t, widths, c, env, out, at, l),
-            Choice::Neither(l) => {
-                put_errs(out, at, width_at(widths, b));
-                Rest::Left(l)
-            }
-            Choice::Short => Rest::Short,
+        Shape::If(a, b, c) => match single(t, widths, a, env, left) {
+            Single::Word(w, l) => match chosen(w) {
+                Sense::True => expr(t, widths, b, env, out, at, l),
+                Sense::False => expr(t, widths, c, env, out, at, l),
+                Sense::Neither => {
+                    put_errs(out, at, width_at(widths, b));
+                    Rest::Left(l)
+                }
+            },
+            Single::Short => Rest::Short,
         },
         Shape::For(a, b, c, d) => {
             let w = width_at(widths, r);
@@ -203,14 +205,16 @@ fn body(
                 Rest::Short => Turn::Short,
             }
         }
-        Way::If(a, b, c) => match chosen(single(t, widths, a, env, left)) {
-            Choice::First(l) => body(t, widths, b, w, env, out, l),
-            Choice::Second(l) => body(t, widths, c, w, env, out, l),
-            Choice::Neither(l) => {
-                put_errs(out, 0, w);
-                Turn::Back(l)
-            }
-            Choice::Short => Turn::Short,
+        Way::If(a, b, c) => match single(t, widths, a, env, left) {
+            Single::Word(v, l) => match chosen(v) {
+                Sense::True => body(t, widths, b, w, env, out, l),
+                Sense::False => body(t, widths, c, w, env, out, l),
+                Sense::Neither => {
+                    put_errs(out, 0, w);
+                    Turn::Back(l)
+                }
+            },
+            Single::Short => Turn::Short,
         },
         Way::End => back(expr(t, widths, r, env, out, 0, left)),
     }

@@ -11,7 +11,6 @@ use lib.Seq.{paste, paste-suc, take-all}
 use native.Mathlib.Omega.{arith}
 use native.Mathlib.Numerals.{add-one}
 use Rattle.value.specs.declared.Value.{Value}
-use Rattle.value.specs.declared.Value.the-variants.{Err}
 use Rattle.names.specs.Names.{trigger, one, without, mask, size, below}
 use Rattle.names.proofs.Sets.{mask-without, mask-one, ones-mask, length-members}
 use Rattle.formula.specs.declared.Refusal.the-variants.{Set, Unfinished}

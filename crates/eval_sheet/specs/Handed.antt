@@ -10,9 +10,9 @@ use lib.Dec.{ltb}
 use native.Mathlib.Omega.{arith}
 use native.Mathlib.Numerals.{add-one}
 use borrow.Author.Tests.{lt-ltb, le-ltb}
-use Rattle.value.specs.declared.Value.the-variants.{Err}
 use Rattle.value.specs.Operators.{pick}
 use Rattle.value.specs.Bytes.{wordOf, stored}
+use Rattle.value.specs.Senses.{err}
 use Rattle.formula.specs.declared.Refusal.{Refusal}
 use Rattle.formula.specs.declared.Refusal.the-variants.{Memory}
 use Rattle.formula.specs.declared.Verdict.{Verdict}
@@ -38,7 +38,7 @@ handed a o = record { answer = a; out = o }
 unfoldable pub written : ℕ → List Cell → List ℕ → List ℕ
 unfolding stored wordOf
 written zero cells o = o
-written (suc j) cells o = stored (written j cells o) (5 * j) (wordOf (getD cells j (cell Err) .v))
+written (suc j) cells o = stored (written j cells o) (5 * j) (wordOf (getD cells j (cell err) .v))
 
 -- "A refusal's counts and rows are 0 unless stated": it gives its number and row, and leaves every byte as it was.
 unfoldable pub told : Verdict → Evaluation → List ℕ → Handed
@@ -70,7 +70,7 @@ pub written-more : (cells : List Cell) (o : List ℕ) (j : ℕ) (d : Cell) → j
 unfolding written
 written-more cells o j d h =
     ap (λ (k : ℕ). written k cells o) (add-one j)
-    ∙ ap (λ (c : Cell). stored (written j cells o) (5 * j) (wordOf (c .v))) (entry-any cells j (cell Err) d h)
+    ∙ ap (λ (c : Cell). stored (written j cells o) (5 * j) (wordOf (c .v))) (entry-any cells j (cell err) d h)
 
 module _ (sheet set : List ℕ) (rounds : ℕ) (o : List ℕ) where
   pub handed-short : length o < 80 → handed (answers (numberOf Memory) 0 0 0) o ≡ handedOut sheet set rounds o

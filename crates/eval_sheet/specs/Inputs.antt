@@ -10,9 +10,9 @@ use lib.Seq.{getD-set-same, getD-set-other}
 use borrow.Author.Tests.{ltb-true, ltb-false, ne-eqb, eqb-true, eqb-false}
 use native.Mathlib.Omega.{arith}
 use Rattle.value.specs.declared.Value.{Value}
-use Rattle.value.specs.declared.Value.the-variants.{Err}
 use Rattle.value.specs.Operators.{pick}
 use Rattle.value.specs.Bytes.{wordAt}
+use Rattle.value.specs.Senses.{err}
 use Rattle.names.specs.Names.{Names, trigger, one, without, bit, below, sizeFrom, size, mask, members}
 use Rattle.names.proofs.Sets.{mask-has, below-suc, below-zero, below-mono, below-cong, below-all, length-members}
 use Rattle.formula.specs.Tree.{Exp}
@@ -38,15 +38,15 @@ pub record Holds (set : List ℕ) (n m : ℕ) (env : List ℕ) (k : ℕ) : Type 
 
 -- ---- the values of a set
 
-word-or : (n : ℕ) (set : List ℕ) (vs : List Value) → IsSet n set vs → (i : ℕ) → heldOf (wordOr set n i) ≡ getD vs i Err
+word-or : (n : ℕ) (set : List ℕ) (vs : List Value) → IsSet n set vs → (i : ℕ) → heldOf (wordOr set n i) ≡ getD vs i err
 word-or n set vs s i = go (ltb i n) refl
   where
-    go : (b : Bool) → ltb i n ≡ b → heldOf (pick (ltb i n) (wordAt set (5 * i)) 0) ≡ getD vs i Err
+    go : (b : Bool) → ltb i n ≡ b → heldOf (pick (ltb i n) (wordAt set (5 * i)) 0) ≡ getD vs i err
     go true p =
         let l : i < n = ltb-true i n p in
-        rw p (ap heldOf (s .words i l) ∙ held-word (getD vs i Err) (s .ranged i l))
+        rw p (ap heldOf (s .words i l) ∙ held-word (getD vs i err) (s .ranged i l))
     go false p =
-        rw p (held-zero ∙ sym (List·getD-eq-default vs Err (omega (arith, s .count, ltb-false i n p))))
+        rw p (held-zero ∙ sym (List·getD-eq-default vs err (omega (arith, s .count, ltb-false i n p))))
 
 -- ---- the steps of the code
 
@@ -110,25 +110,25 @@ pub holds-inputs : (x : Exp) (n : ℕ) (set : List ℕ) (vs : List Value) (env :
 unfolding envOf inputsHold
 holds-inputs x n set vs env c h k = fun-ext (λ j. go j (ltb j 32) refl)
   where
-    go : (j : ℕ) (b : Bool) → ltb j 32 ≡ b → heldOf (getD env j 0) ≡ getD vs (below (freeE x) j) Err
+    go : (j : ℕ) (b : Bool) → ltb j 32 ≡ b → heldOf (getD env j 0) ≡ getD vs (below (freeE x) j) err
     go j true p =
         let l : j < 32 = ltb-true j 32 p in
         ap heldOf (k .filled j l)
         ∙ word-or n set vs h (below (setIn (mask (freeE x))) j)
-        ∙ ap (λ (i : ℕ). getD vs i Err)
+        ∙ ap (λ (i : ℕ). getD vs i err)
         (below-cong (setIn (mask (freeE x))) (freeE x) j (λ i m. mask-has (freeE x) i (omega arith)))
     go j false p =
         let l : 32 ≤ j = ltb-false j 32 p in
         ap heldOf (List·getD-eq-default env 0 (omega (arith, k .long)))
         ∙ held-zero
-        ∙ sym (List·getD-eq-default vs Err
+        ∙ sym (List·getD-eq-default vs err
         (omega (arith, h .count, c, below-mono (freeE x) 32 j l)))
 
 -- ---- the result set
 
 pub cells-are : (n : ℕ) (out : List ℕ) (vs : List Value) → length out ≡ n → length vs ≤ n
-    → ((k : ℕ) → heldOf (getD out k 0) ≡ getD vs k Err)
-    → map (λ w. cell (heldOf w)) out ≡ map cell vs ++ replicate (n - length vs) (cell Err)
+    → ((k : ℕ) → heldOf (getD out k 0) ≡ getD vs k err)
+    → map (λ w. cell (heldOf w)) out ≡ map cell vs ++ replicate (n - length vs) (cell err)
 cells-are zero [] [] l m h = refl
 cells-are zero [] (v ∷ vs) l m h = absurd (omega arith)
 cells-are zero (w ∷ out) vs l m h = absurd (omega arith)
@@ -136,7 +136,7 @@ cells-are (suc n) [] vs l m h = absurd (omega arith)
 cells-are (suc n) (w ∷ out) [] l m h =
     let z : suc n - 0 ≡ suc n = omega arith in
     let y : n - 0 ≡ n = omega arith in
-    let rest : map (λ w₁. cell (heldOf w₁)) out ≡ replicate (n - 0) (cell Err) =
+    let rest : map (λ w₁. cell (heldOf w₁)) out ≡ replicate (n - 0) (cell err) =
     cells-are n out [] (omega arith) (omega arith) (λ k. h (suc k))
     in
     rw (z, h 0, rest, y) refl

@@ -19,8 +19,9 @@ use Rattle.formula.specs.Places.{nodeIn, inBody, placesOf}
 use Rattle.formula.specs.PlaceLaws.{last-place}
 use Rattle.formula.specs.Free.{freeE}
 use Rattle.formula.specs.Tests.{verdictOf}
+use Rattle.formula.specs.Acceptance.{Admissible}
 use Rattle.meaning.specs.Rows.{ExpRow, widthIn}
-use Rattle.meaning.specs.Accepted.{passes, accepted, formula-row}
+use Rattle.meaning.specs.Accepted.{accepted, formula-row}
 use Rattle.sheet_tables.specs.Nodes.{returnedIn, freeIn}
 use Rattle.sheet_read.specs.Reading.{Tables, Accepts}
 use Rattle.meaning.specs.declared.Evaluation.{Evaluation}
@@ -40,7 +41,7 @@ taken-long zero l h = omega arith
 taken-long (suc n) [] h = absurd (omega (arith, h))
 taken-long (suc n) (k ∷ l) h = omega (arith, taken-long n l (omega (arith, h)))
 
-module _ (s : List ℕ) (x : Tables) (v : verdictOf s ≡ Passed) (ok : Accepts s x) where
+module _ (s : List ℕ) (x : Tables) (ok : Accepts s x) where
   abbrev widths : List ℕ
   widths = take (rowCount s) (x .returned)
 
@@ -49,10 +50,10 @@ module _ (s : List ℕ) (x : Tables) (v : verdictOf s ≡ Passed) (ok : Accepts 
       ok .tables .returned .entry r l u
       ∙ width-in (inBody (placesOf (fieldsOf s) (rowCount s)) r) (fieldsOf s) r
 
-  formula-at : ExpRow (fieldsOf s) widths (rowCount s)
-  formula-at =
-      formula-row s (passes s v) widths
-      (accepted s (passes s v) widths (let e = ok .tables .returned-size in omega (arith, e)) width-of)
+  formula-at : Admissible s → ExpRow (fieldsOf s) widths (rowCount s)
+  formula-at h =
+      formula-row s h widths
+      (accepted s h widths (let e = ok .tables .returned-size in omega (arith, e)) width-of)
 
   -- The rows are some and few, and the tables have room for them.
   pub rows-some : 1 ≤ x .rows
@@ -68,10 +69,10 @@ module _ (s : List ℕ) (x : Tables) (v : verdictOf s ≡ Passed) (ok : Accepts 
   widths-long = rw (ok .rows) (taken-long (rowCount s) (x .returned) (ok .tables .returned-size))
 
   -- The last row, as the code hands it on.
-  pub row-of : ExpRow (take (5 * x .rows) (x .fields)) (take (x .rows) (x .returned)) (x .rows)
-  row-of =
+  pub row-of : Admissible s → ExpRow (take (5 * x .rows) (x .fields)) (take (x .rows) (x .returned)) (x .rows)
+  row-of h =
       subst (λ (n : ℕ). ExpRow (take (5 * n) (x .fields)) (take n (x .returned)) n) (sym (ok .rows))
-      (subst (λ (t : List ℕ). ExpRow t widths (rowCount s)) (sym (ok .fields)) formula-at)
+      (subst (λ (t : List ℕ). ExpRow t widths (rowCount s)) (sym (ok .fields)) (formula-at h))
 
   formula-is : expOf (take (5 * x .rows) (x .fields)) (x .rows) ≡ expOf (fieldsOf s) (rowCount s)
   formula-is = ap (λ (n : ℕ). expOf (take (5 * n) (x .fields)) n) (ok .rows) ∙ ap (λ (t : List ℕ). expOf t (rowCount s)) (ok .fields)
@@ -88,9 +89,9 @@ module _ (s : List ℕ) (x : Tables) (v : verdictOf s ≡ Passed) (ok : Accepts 
   mask-of = mask-at ∙ ap (λ z. mask (freeE z)) (sym formula-is)
 
   -- An accepted sheet's evaluation.
-  pub accepted-is : (set : List ℕ) (rounds : ℕ) → evaluated (expOf (take (5 * x .rows) (x .fields)) (x .rows)) set rounds ≡ evaluationOf s set rounds
+  pub accepted-is : verdictOf s ≡ Passed → (set : List ℕ) (rounds : ℕ) → evaluated (expOf (take (5 * x .rows) (x .fields)) (x .rows)) set rounds ≡ evaluationOf s set rounds
   unfolding evaluationOf formulaOf
-  accepted-is set rounds =
+  accepted-is v set rounds =
       ap (λ z. evaluated z set rounds) formula-is
       ∙ ap (λ (w : Verdict). afterVerdict w (evaluated (expOf (fieldsOf s) (rowCount s)) set rounds)) (sym v)
 

@@ -14,10 +14,10 @@ use Rattle.formula.specs.Tree.{Exp, identifier, whole, truth, pair, operator, l
 use Rattle.formula.specs.Free.{freeE, inputsOf}
 use Rattle.formula.specs.Widths.{width}
 use Rattle.formula.specs.Tests.{verdictOf}
-use Rattle.formula.specs.Acceptance.{low-row}
+use Rattle.formula.specs.Acceptance.{passed-admissible, low-row}
 use Rattle.meaning.specs.Meaning.{Outcome, yields, inputsHold, evalE}
 use Rattle.meaning.specs.WidthLaws.{SoundE, Sized, sized, wide-16}
-use Rattle.meaning.specs.Accepted.{passes, formula-sound}
+use Rattle.meaning.specs.Accepted.{formula-sound}
 use Rattle.meaning.specs.declared.Evaluation.{Evaluation}
 use Rattle.meaning.specs.Evaluate.{concluded, evaluatedWith, evaluated, afterVerdict, evaluationOf}
 use Rattle.value_sets.specs.Sets.{setValues}
@@ -58,7 +58,7 @@ unfolding evaluationOf
 narrow-width s set rounds = go (verdictOf s) refl
   where
     go : (v : Verdict) → verdictOf s ≡ v → afterVerdict v (evaluated (formulaOf s) set rounds) .width ≤ 16
-    go Passed e = evaluated-narrow (formulaOf s) (formula-sound s (passes s e)) set rounds
+    go Passed e = evaluated-narrow (formulaOf s) (formula-sound s (passed-admissible s e)) set rounds
     go (Refused r row) e = omega arith
 
 concluded-row : (rounds : ℕ) (o : Outcome) → rowIn (concluded rounds o .verdict) ≡ 0

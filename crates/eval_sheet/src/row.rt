@@ -8,7 +8,6 @@ use formula::Verdict;
 use meaning::Cell;
 use meaning::Evaluation;
 use sheet_fields::shape::width_at;
-use value::Value;
 ghost use mathlib.Core.Path.{_≡_};
 ghost use mathlib.Core.List.{map};
 ghost use Prim.Native.Nat.{ℕ, _+_, _*_, _-_, _≤_, _<_};
@@ -25,7 +24,7 @@ ghost use Rattle.eval_sheet.specs.Inputs.{Holds, setIn, wordOr};
 pub fn refuse(r: Refusal, row: usize) -> Evaluation
     ensures { λ e. ⌜ e ≡ refused r row ⌝ }
 {
-    let c = Cell { v: Value::Err };
+    let c = Cell { v: value::err() };
     let cells = [c; 16];
     Evaluation {
         cells,
@@ -76,7 +75,7 @@ fn conclude(out: &[u64], w: usize, used: u32) -> Evaluation
     requires { ⌜ length (now out) ≡ 16 ⌝ }
     ensures { λ e. ⌜ (e .cells ≡ map (λ z. cell (heldOf z)) (now (out .entry))) × (e .width ≡ w) × (e .rounds ≡ used) × (e .verdict ≡ Verdict.Passed) ⌝ }
 {
-    let c = Cell { v: Value::Err };
+    let c = Cell { v: value::err() };
     let mut cells = [c; 16];
     let mut i = 0;
     while i < 16 {

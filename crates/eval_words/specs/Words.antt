@@ -3,7 +3,6 @@
 -- Assumes nothing.
 use Prim.Native.Nat.{ℕ, zero, suc, _+_, _-_, _≤_, _<_}
 use mathlib.Core.Path.{_≡_, refl, sym, ap, _∙_, subst}
-use mathlib.Core.Bool.{Bool, true, false}
 use mathlib.Core.List.{List, [], _∷_, _++_, append-assoc}
 use mathlib.Core.Option.{Option, some, none}
 use lib.Dec.{ltb}
@@ -12,26 +11,24 @@ use lib.Seq.{getD-append-add, getD-set-same, getD-set-other, getD-take, getD-dro
 use borrow.Author.Tests.{ltb-true, ltb-false}
 use native.Mathlib.Omega.{arith}
 use Rattle.value.specs.declared.Value.{Value}
-use Rattle.value.specs.declared.Value.the-variants.{Whole, Truth, Err}
 use Rattle.value.specs.declared.Decoded.{Decoded}
 use Rattle.value.specs.declared.Decoded.the-variants.{Valid, Invalid}
 use Rattle.value.specs.Bytes.{InRange, wordOf, valueOf, decoded}
 use Rattle.value.proofs.Words.{value-of-word}
 use Rattle.value.specs.Operators.{apply}
-use Rattle.meaning.specs.Meaning.{Env, bind, Outcome, yields, Ending, then, thenB, branch}
+use Rattle.value.specs.Senses.{err}
+use Rattle.meaning.specs.Meaning.{Env, bind, Outcome, yields, then}
 use Rattle.meaning.specs.Binding.{bind-is}
-use Rattle.eval_words.specs.declared.Choice.{Choice}
-use Rattle.eval_words.specs.declared.Choice.the-variants.{First, Second, Neither, Short as untold}
 use Rattle.eval_words.specs.declared.Single.{Single}
 use Rattle.eval_words.specs.declared.Single.the-variants.{Word, Short}
 
 abbrev pub orErr : Option Value → Value
 orErr (some v) = v
-orErr none = Err
+orErr none = err
 
 abbrev valueIn : Decoded → Value
 valueIn (Valid v) = v
-valueIn Invalid = Err
+valueIn Invalid = err
 
 abbrev Is-Invalid : Decoded → Type 0
 Is-Invalid (Valid v) = ⊥
@@ -57,24 +54,20 @@ held-valid w v = go (valueOf w)
     go (some u) e = ap valueIn e
     go none e = absurd (subst Is-Invalid e tt)
 
-pub held-invalid : (w : ℕ) → decoded (valueOf w) ≡ Invalid → heldOf w ≡ Err
+pub held-invalid : (w : ℕ) → decoded (valueOf w) ≡ Invalid → heldOf w ≡ err
 unfolding heldOf
 held-invalid w = go (valueOf w)
   where
-    go : (o : Option Value) → decoded o ≡ Invalid → orErr o ≡ Err
+    go : (o : Option Value) → decoded o ≡ Invalid → orErr o ≡ err
     go (some u) e = absurd (subst Is-Invalid (sym e) tt)
     go none e = refl
 
-pub held-err : heldOf 3 ≡ Err
-unfolding heldOf valueOf
-held-err = refl
-
-pub held-zero : heldOf 0 ≡ Err
+pub held-zero : heldOf 0 ≡ err
 unfolding heldOf valueOf
 held-zero = refl
 
 -- An array of zeros holds err everywhere.
-pub zeros-err : (n k : ℕ) → envOf (replicate n 0) k ≡ Err
+pub zeros-err : (n k : ℕ) → envOf (replicate n 0) k ≡ err
 unfolding envOf
 zeros-err zero k = held-zero
 zeros-err (suc n) zero = held-zero
@@ -133,7 +126,7 @@ module _ (l : List ℕ) (at : ℕ) (s : List ℕ) (n : ℕ) (room : at + n ≤ l
       ∙ ap (λ (j : ℕ). getD l j 0) f
 
   -- Words pasted bind as many identifiers.
-  pub paste-binds : (vs : List Value) → ((i : ℕ) → i < n → envOf s i ≡ getD vs i Err)
+  pub paste-binds : (vs : List Value) → ((i : ℕ) → i < n → envOf s i ≡ getD vs i err)
       → envOf (paste l at s n) ≡ bind at n vs (envOf l)
   unfolding envOf
   paste-binds vs h =
@@ -142,12 +135,12 @@ module _ (l : List ℕ) (at : ℕ) (s : List ℕ) (n : ℕ) (room : at + n ≤ l
       (λ k p. ap heldOf (paste-before k p))
       (λ k p. ap heldOf (paste-behind k p))
 
-pub errs-binds : (l : List ℕ) (at n : ℕ) → at + n ≤ length l → n ≤ 16
-    → envOf (paste l at (replicate 16 3) n) ≡ bind at n (replicate n Err) (envOf l)
+pub errs-binds : (l : List ℕ) (at n w : ℕ) → heldOf w ≡ err → at + n ≤ length l → n ≤ 16
+    → envOf (paste l at (replicate 16 w) n) ≡ bind at n (replicate n err) (envOf l)
 unfolding envOf
-errs-binds l at n h i =
-    paste-binds l at (replicate 16 3) n h i (replicate n Err)
-    (λ j p. ap heldOf (getD-replicate 16 j 3 0 (omega arith)) ∙ held-err ∙ sym (getD-replicate n j Err Err p))
+errs-binds l at n w e h i =
+    paste-binds l at (replicate 16 w) n h i (replicate n err)
+    (λ j p. ap heldOf (getD-replicate 16 j w 0 (omega arith)) ∙ e ∙ sym (getD-replicate n j err err p))
 
 -- ---- rows of width one
 
@@ -158,7 +151,7 @@ outcomeOf Short = Outcome.unfinished
 
 -- "every operand .. is evaluated": what an operator makes of its operands' values.
 abbrev pub applying : ℕ → List Value → ℕ → Outcome
-applying code vs left = yields (apply code (getD vs 0 Err) (getD vs 1 Err) ∷ []) left
+applying code vs left = yields (apply code (getD vs 0 err) (getD vs 1 err) ∷ []) left
 
 pub applied-word : (code a w left : ℕ) (s : Single) → s ≡ Word a left → heldOf w ≡ apply code (heldOf a) (heldOf 0)
     → then (outcomeOf s) (applying code) ≡ outcomeOf (Word w left)
@@ -183,46 +176,3 @@ pub applied-to-short : (code a : ℕ) (s : Single) → s ≡ Short
     → then (then (outcomeOf s) (λ vs l. yields (heldOf a ∷ vs) l)) (applying code) ≡ outcomeOf Short
 unfolding then
 applied-to-short code a s e = ap (λ (z : Single). then (then (outcomeOf z) (λ vs l. yields (heldOf a ∷ vs) l)) (applying code)) e
-
--- ---- the test of an if
-
--- Which arm a test's value chooses.
-abbrev pub choiceOf : Value → ℕ → Choice
-choiceOf (Whole z) left = Neither left
-choiceOf (Truth true) left = First left
-choiceOf (Truth false) left = Second left
-choiceOf Err left = Neither left
-
-abbrev pub chosenOf : Single → Choice
-chosenOf (Word w left) = choiceOf (heldOf w) left
-chosenOf Short = untold
-
--- What a choice leads to.
-abbrev pub byChoice : {A : Type 0} → A → (bad first second : ℕ → A) → Choice → A
-byChoice unfinished bad first second (First left) = first left
-byChoice unfinished bad first second (Second left) = second left
-byChoice unfinished bad first second (Neither left) = bad left
-byChoice unfinished bad first second untold = unfinished
-
--- "of an if only the chosen arm"
-branch-choice : {A : Type 0} (unfinished : A) (bad first second : ℕ → A) (v : Value) (left : ℕ)
-    → branch v (bad left) (λ _. first left) (λ _. second left) ≡ byChoice unfinished bad first second (choiceOf v left)
-unfolding branch
-branch-choice u bad first second (Whole z) left = refl
-branch-choice u bad first second (Truth true) left = refl
-branch-choice u bad first second (Truth false) left = refl
-branch-choice u bad first second Err left = refl
-
-pub choice-made : (bad first second : ℕ → Outcome) (s : Single)
-    → then (outcomeOf s) (λ vs l. branch (getD vs 0 Err) (bad l) (λ _. first l) (λ _. second l))
-    ≡ byChoice Outcome.unfinished bad first second (chosenOf s)
-unfolding then
-choice-made bad first second (Word w left) = branch-choice Outcome.unfinished bad first second (heldOf w) left
-choice-made bad first second Short = refl
-
-pub choice-made-B : (bad first second : ℕ → Ending) (s : Single)
-    → thenB (outcomeOf s) (λ vs l. branch (getD vs 0 Err) (bad l) (λ _. first l) (λ _. second l))
-    ≡ byChoice Ending.unfinished bad first second (chosenOf s)
-unfolding thenB
-choice-made-B bad first second (Word w left) = branch-choice Ending.unfinished bad first second (heldOf w) left
-choice-made-B bad first second Short = refl

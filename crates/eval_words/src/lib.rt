@@ -9,15 +9,6 @@ pub enum Single {
     Short,
 }
 
-// Which arm of an if its test chooses, with the rounds left: the first on true, the second on false, neither where the test is
-// no truth.
-pub enum Choice {
-    First(u32),
-    Second(u32),
-    Neither(u32),
-    Short,
-}
-
 // A row of width one: a value, an operator on one row or on two rows of width one, an operator on a row of width two, or a
 // row of another kind.
 pub enum Part {

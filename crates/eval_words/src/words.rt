@@ -1,8 +1,8 @@
 // Values as words in lent arrays (specs/Words): each function that writes says what its array holds afterwards, as a binding of the
 // values it wrote over what the array held before.
-use crate::Choice;
 use crate::Single;
 use value::Decoded;
+use value::Sense;
 use value::Value;
 ghost use mathlib.Core.Path.{_≡_};
 ghost use mathlib.Core.List.{[], _∷_};
@@ -12,8 +12,9 @@ ghost use lib.Dec.{eqb};
 ghost use lib.ListN.{length, replicate};
 ghost use lib.Seq.{paste};
 ghost use Rattle.value.specs.Operators.{apply};
+ghost use Rattle.value.specs.Senses.{err, sense};
 ghost use Rattle.meaning.specs.Meaning.{bind, yields, then};
-ghost use Rattle.eval_words.specs.Words.{heldOf, envOf, outcomeOf, applying, choiceOf, chosenOf};
+ghost use Rattle.eval_words.specs.Words.{heldOf, envOf, outcomeOf, applying};
 
 // The value of a word.
 pub fn held(w: u64) -> Value
@@ -21,7 +22,7 @@ pub fn held(w: u64) -> Value
 {
     match value::bytes::from_word(w) {
         Decoded::Valid(v) => v,
-        Decoded::Invalid => Value::Err,
+        Decoded::Invalid => value::err(),
     }
 }
 
@@ -82,29 +83,11 @@ pub fn truth_word(a: u32) -> u64
     word(Value::Truth(a == 1))
 }
 
-// The arm of an if that its test chooses.
-pub fn chosen(test: Single) -> Choice
-    ensures { λ c. ⌜ c ≡ chosenOf test ⌝ }
+// Which arm of an if the word of its test chooses: the first on true, the second on false.
+pub fn chosen(w: u64) -> Sense
+    ensures { λ s. ⌜ s ≡ sense (heldOf w) ⌝ }
 {
-    match test {
-        Single::Word(w, left) => choose(held(w), left),
-        Single::Short => Choice::Short,
-    }
-}
-
-fn choose(v: Value, left: u32) -> Choice
-    ensures { λ c. ⌜ c ≡ choiceOf v left ⌝ }
-{
-    match v {
-        Value::Truth(b) => {
-            if b {
-                return Choice::First(left);
-            }
-            Choice::Second(left)
-        }
-        Value::Whole(_) => Choice::Neither(left),
-        Value::Err => Choice::Neither(left),
-    }
+    value::sense_of(held(w))
 }
 
 // The first n words of `from`, put into `to` from `at` on.
@@ -122,9 +105,9 @@ pub fn copy(to: &mut [u64], at: usize, from: &[u64], n: usize)
 // Err n times.
 pub fn put_errs(out: &mut [u64], at: usize, n: usize)
     requires { ⌜ (at + n ≤ length (now out)) × (n ≤ 16) ⌝ }
-    ensures { λ _. ⌜ (envOf (now (out .exit)) ≡ bind at n (replicate n Value.Err) (envOf (now (out .entry)))) × (length (now (out .exit)) ≡ length (now (out .entry))) ⌝ }
+    ensures { λ _. ⌜ (envOf (now (out .exit)) ≡ bind at n (replicate n err) (envOf (now (out .entry)))) × (length (now (out .exit)) ≡ length (now (out .entry))) ⌝ }
 {
-    let errs = [3; 16];
+    let errs = [value::bytes::ERR; 16];
     copy(out, at, &errs, n);
 }
 

@@ -255,10 +255,9 @@ pub record Modest (f : Figures) : Type 0 where
   pub inputs : f .inputs ≤ 33
   pub results : f .results ≤ 16
 
-pub modest : (s : List ℕ) → 1 ≤ rowCount s → verdictOf s ≡ passed → Modest (figuresOf s)
+pub modest : (s : List ℕ) → 1 ≤ rowCount s → Admissible s → Modest (figuresOf s)
 unfolding figuresOf operatorsOf formulaOf inputsOf
-modest s h e =
-    let ok = passed-admissible s e in
+modest s h ok =
     let f = without (freeE (expOf (fieldsOf s) (rowCount s))) (one trigger) in
     record {
       rows = ok .few;

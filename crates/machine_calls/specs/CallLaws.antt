@@ -18,6 +18,7 @@ use Rattle.machine_valid.specs.Below.{allBelow}
 use Rattle.machine_valid.specs.Valid.{valid}
 use Rattle.machine_runs.specs.Run as Run
 use Rattle.machine_runs.specs.Run.{runs, stillAt}
+use Rattle.machine_runs.specs.RunLaws.{runs-below}
 use Rattle.formula.specs.declared.Refusal.the-variants.{Memory, Set, Untaken, Full, NotAble, NoResult, Unfinished}
 use Rattle.formula.specs.Refusals.{numberOf}
 use native.Mathlib.Numerals.{add-one}
@@ -175,3 +176,7 @@ module _ (m : List ℕ) where
       pub ran-unfinished : stillAt m′ (sizeIn m) (operatorsOf m) ≡ false → ran m b ≡ outcome (answers (numberOf Unfinished) c) m′
       unfolding ended
       ran-unfinished t = ran-ended b ∙ rw (← e, t) refl
+
+      -- fewer firings than lent: nothing can fire
+      pub ran-early : c < b → ran m b ≡ outcome (answers 0 c) m′
+      ran-early h = ran-still (rw (← e) at (runs-below (sizeIn m) (operatorsOf m) b m 0 (rw (← e) (omega arith))))

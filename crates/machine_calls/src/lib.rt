@@ -120,13 +120,14 @@ pub fn fire(mem: &mut [u8], operator: u32) -> Answer
         return refused(Refusal::NotAble);
     }
     let size = machine_layout::stretch_size(machine_layout::capacity(mem));
-    if machine_firing::fire_at(mem, size, i) {
+    if machine_operators::fire_at(mem, size, i) {
         return reply(0, 0);
     }
     refused(Refusal::NotAble)
 }
 
-// Runs for at most the lent firings.
+// Runs for at most the lent firings. Fewer were made only where nothing could fire, which needs no
+// look at the operators.
 pub fn run(mem: &mut [u8], firings: u32) -> Answer
     ensures { λ a. ⌜ outcome a (now (mem .exit)) ≡ ran (now (mem .entry)) firings ⌝ }
 {
@@ -137,6 +138,9 @@ pub fn run(mem: &mut [u8], firings: u32) -> Answer
     let n = machine_layout::operators(mem);
     let size = machine_layout::stretch_size(machine_layout::capacity(mem));
     let count = machine_runs::run(mem, size, n, firings);
+    if count < firings {
+        return reply(0, count);
+    }
     if machine_runs::idle(mem, size, n) {
         return reply(0, count);
     }
@@ -166,7 +170,7 @@ fn result_word(mem: &[u8], size: usize, k: usize, j: usize) -> u64
     if j < k {
         return machine_firing::head_of(mem, size, machine_layout::result_link(mem, j));
     }
-    value::bytes::to_word(value::Value::Err)
+    value::bytes::ERR
 }
 
 fn write_results(mem: &[u8], size: usize, k: usize, out: &mut [u8])

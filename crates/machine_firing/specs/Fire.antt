@@ -5,14 +5,25 @@ use mathlib.Core.Bool.{Bool, true, false, _&&_}
 use mathlib.Core.List.{List}
 use lib.ListN.{getD}
 use Rattle.value.specs.declared.Decoded.{Decoded}
-use Rattle.value.specs.declared.Decoded.the-variants.{Valid, Invalid}
 use Rattle.value.specs.Operators.{pick}
-use Rattle.value.specs.Bytes.{wordOf, decoded, valueOf, wordAt, stored}
-use Rattle.machine_gates.specs.declared.Decided.{Decided}
-use Rattle.machine_gates.specs.Decide.{isAbsent, decideAt}
+use Rattle.value.specs.Bytes.{decoded, valueOf, wordOr, wordAt, stored}
+use Rattle.machine_gates.specs.Decide.{Decided, isAbsent, decideAt}
 use Rattle.machine_layout.specs.Layout.{noLink, nameAt, operatorAt, kindByte, portOf, registerAt}
 use Rattle.machine_firing.specs.Links.{tokenAt, roomAt, removedAt, appendedAt}
-use Rattle.machine_firing.specs.declared.Plan.{Plan}
+
+-- What a firing takes and gives: links (65535: none), the words that go onto the outputs, and the register's next word.
+pub record Plan : Type 0 where
+  pub able : Bool
+  pub in1 : ℕ
+  pub in2 : ℕ
+  pub in3 : ℕ
+  pub out1 : ℕ
+  pub out2 : ℕ
+  pub out3 : ℕ
+  pub word1 : ℕ
+  pub word2 : ℕ
+  pub word3 : ℕ
+  pub register : ℕ
 
 -- an input's link where it is taken from, an output's where a token goes onto it
 unfoldable pub taken : Bool → ℕ → ℕ
@@ -20,10 +31,6 @@ taken takes l = pick takes l noLink
 
 unfoldable pub given : Decoded → ℕ → ℕ
 given token l = pick (isAbsent token) noLink l
-
-abbrev pub wordOr : Decoded → ℕ
-wordOr (Valid v) = wordOf v
-wordOr Invalid = 0
 
 -- the decision with the links of the ports that begin at a place
 unfoldable pub planned : List ℕ → ℕ → Decided → Plan
@@ -56,14 +63,17 @@ planAt m size i = planned m (operatorAt i + 2) (decisionAt m size i)
 unfoldable pub readyFor : List ℕ → ℕ → Plan → Bool
 readyFor m size p = (p .able) && (roomAt m size (p .out1) && (roomAt m size (p .out2) && roomAt m size (p .out3)))
 
--- the tokens taken, the tokens given, the register
-unfoldable pub performed : List ℕ → ℕ → ℕ → Plan → List ℕ
-performed m size i p =
-    stored
-    (appendedAt (appendedAt (appendedAt
+-- the tokens taken, the tokens given
+unfoldable pub moved : List ℕ → ℕ → Plan → List ℕ
+moved m size p =
+    appendedAt (appendedAt (appendedAt
     (removedAt (removedAt (removedAt m size (p .in1)) size (p .in2)) size (p .in3))
-    size (p .out1) (p .word1)) size (p .out2) (p .word2)) size (p .out3) (p .word3))
-    (registerAt i) (p .register)
+    size (p .out1) (p .word1)) size (p .out2) (p .word2)) size (p .out3) (p .word3)
+
+-- and the register
+unfoldable pub performed : List ℕ → ℕ → ℕ → Plan → List ℕ
+unfolding moved
+performed m size i p = stored (moved m size p) (registerAt i) (p .register)
 
 -- operator i can fire
 unfoldable pub ableAt : List ℕ → ℕ → ℕ → Bool

@@ -1,20 +1,21 @@
 -- What a change of one link, or of one register, leaves as it was. Stated once over the change of a link (`onLink` with any function that keeps
 -- the stretch's length); taking and adding a token are two such. Assumes that the memory is as long as a machine needs.
-use Prim.Native.Nat.{ℕ, suc, _+_, _-_, _*_, _≤_, _<_}
-use mathlib.Core.Path.{_≡_, refl, sym, ap, _∙_}
-use mathlib.Core.Logic.{_≢_, _⊎_, inl, inr, ⊎-elim}
+use Prim.Native.Nat.{ℕ, suc, _+_, _≤_, _<_}
+use mathlib.Core.Path.{_≡_, refl, ap, _∙_}
+use mathlib.Core.Logic.{_≢_, _⊎_, ⊎-elim}
 use mathlib.Core.Bool.{Bool, true, false}
-use mathlib.Core.List.{List, [], _∷_, _++_}
+use mathlib.Core.List.{List}
 use native.Mathlib.Omega.{arith}
 use native.Mathlib.Decide.{decLt}
-use borrow.Author.Tests.{ltb-true, lt-ltb, le-ltb, eqb-false, leb-true}
-use lib.Dec.{ltb, leb, eqb}
-use lib.ListN.{length, getD, take, drop, set, length-set, length-drop}
-use lib.Seq.{paste, sets, length-paste, drop-set-lt}
+use borrow.Author.Tests.{ltb-true, lt-ltb}
+use lib.Dec.{ltb}
+use lib.ListN.{length, getD, take}
+use lib.Seq.{drop-set-lt}
 use Rattle.value.specs.Operators.{pick}
-use Rattle.value.specs.Bytes.{wordAt, stored, wordBytes}
-use Rattle.value.proofs.Words.{length-stored, byte-before, byte-after}
-use Rattle.machine_queue.specs.Stretch.{waiting, removed, appended, roomIn}
+use Rattle.value.specs.Bytes.{stored, wordBytes}
+use Rattle.value.proofs.Words.{byte-before, byte-after}
+use Rattle.machine_queue.specs.Stretch.{removed, appended}
+use Rattle.machine_queue.specs.StretchLaws.{appended-length, removed-length}
 use Rattle.machine_layout.specs.Layout.{part, put, need, linkAt}
 use Rattle.machine_layout.specs.Fits.{apart, stretch-fits}
 use Rattle.machine_firing.specs.Parts.{length-put, getD-put-below, part-put-same, part-put-above, part-put-below, part-length}
@@ -93,32 +94,11 @@ byte-kept m at w i o = ⊎-elim (λ (x : i < at). byte-before m at w i x) (λ (x
 
 -- ---- taking and adding a token keep the length
 
-pick-length : (q x : List ℕ) (b : Bool) → (b ≡ true → length x ≡ length q) → length (pick b x q) ≡ length q
-pick-length q x true h = h refl
-pick-length q x false h = refl
-
 pub keeps-appended : (w : ℕ) → Keeps (λ q. appended q w)
-unfolding appended
-keeps-appended w q =
-    pick-length q (set (stored q (5 * waiting q + 1) w) 0 (waiting q + 1)) (roomIn q)
-    (λ e. length-set (stored q (5 * waiting q + 1) w) 0 (waiting q + 1) ∙ length-stored q (5 * waiting q + 1) w)
+keeps-appended w q = appended-length q w
 
 pub keeps-removed : Keeps removed
-unfolding removed
-keeps-removed q = go (eqb (waiting q) 0) refl
-  where
-    moved : waiting q ≢ 0 → 5 * waiting q + 1 ≤ length q → length (set (paste q 1 (drop 6 q) (5 * (waiting q - 1))) 0 (waiting q - 1)) ≡ length q
-    moved n h =
-        let d : length (drop 6 q) ≡ length q - 6 = length-drop 6 q in
-        length-set (paste q 1 (drop 6 q) (5 * (waiting q - 1))) 0 (waiting q - 1)
-        ∙ length-paste q 1 (drop 6 q) (5 * (waiting q - 1)) (omega arith) (omega arith)
-
-    go : (b : Bool) → eqb (waiting q) 0 ≡ b →
-        length (pick b q (pick (leb (5 * waiting q + 1) (length q)) (set (paste q 1 (drop 6 q) (5 * (waiting q - 1))) 0 (waiting q - 1)) q)) ≡ length q
-    go true e = refl
-    go false e =
-        pick-length q (set (paste q 1 (drop 6 q) (5 * (waiting q - 1))) 0 (waiting q - 1)) (leb (5 * waiting q + 1) (length q))
-        (λ k. moved (eqb-false (waiting q) 0 e) (leb-true (5 * waiting q + 1) (length q) k))
+keeps-removed = removed-length
 
 module _ (m : List ℕ) (size : ℕ) (h : need size ≤ length m) (l : ℕ) where
   pub length-removed : length (removedAt m size l) ≡ length m

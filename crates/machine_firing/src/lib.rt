@@ -1,36 +1,27 @@
-// One firing on the machine's memory (document 01, "The graph" and "Running"): a plan made from the
-// first tokens of the inputs, a test of the free places that it needs, and the firing itself. "a
-// firing is lent those stretches only, in the middle of the whole": each link's part of memory goes
-// to a queue function. `size` is the length of a stretch, five times the capacity and one. Every
-// equation holds for all contents: a link number from machine_layout::LINKS on is no
-// link.
-use machine_gates::Decided;
-use value::Decoded;
+// What a firing does to the machine's memory (document 01, "The graph" and "Running"): tokens looked at,
+// taken and given, as words. "a firing is lent those stretches only, in the middle of the whole":
+// each link's part of memory goes to a queue function. `size` is the length of a stretch, five
+// times the capacity and one. With `dry` nothing is moved: it is only told whether it could be.
+// Every equation holds for all contents: a link number from machine_layout::LINKS on is no link.
+use machine_gates::is_absent;
+use machine_gates::is_false;
+use machine_gates::is_true;
+use machine_layout::FIRST_OUTPUT;
+use machine_layout::SECOND_INPUT;
+use value::bytes::TRUE;
 ghost use mathlib.Core.Path.{_≡_};
+ghost use mathlib.Core.Bool.{_&&_, not};
 ghost use Prim.Native.Nat.{ℕ, _+_, _*_, _≤_, _<_};
 ghost use lib.ListN.{length, take, drop};
-ghost use Rattle.machine_layout.specs.Layout.{mostOperators, leastSize, mostSize, need};
+ghost use Rattle.value.specs.Bytes.{wordOr, stored};
+ghost use Rattle.machine_layout.specs.Layout.{mostOperators, linksAt, leastSize, mostSize, need, portOf, registerAt};
+ghost use Rattle.machine_gates.specs.Decide.{isAbsent};
 ghost use Rattle.machine_firing.specs.Links.{headAt, tokenAt, roomAt, removedAt, appendedAt};
-ghost use Rattle.machine_firing.specs.Fire.{taken, given, wordOr, planned, planAt, readyFor, performed, ableAt, firedAt};
+ghost use Rattle.machine_firing.specs.Fire.{registerOf};
+ghost use Rattle.machine_firing.specs.Moves.{Done, takenTwo, givenOne, givenTwo, nextRegister, input, Chosen};
 
 // The number of no link, machine_layout::NO_LINK, among those of links.
 pub const NOWHERE: usize = 65535;
-
-// What a firing takes and gives: links (NOWHERE: none), the words that go onto the outputs, and the
-// register's next word.
-pub struct Plan {
-    pub able: bool,
-    pub in1: usize,
-    pub in2: usize,
-    pub in3: usize,
-    pub out1: usize,
-    pub out2: usize,
-    pub out3: usize,
-    pub word1: u64,
-    pub word2: u64,
-    pub word3: u64,
-    pub register: u64,
-}
 
 // The word of the first token that waits on link l, or 0.
 pub fn head_of(mem: &[u8], size: usize, l: usize) -> u64
@@ -79,138 +70,191 @@ pub fn append_to(mem: &mut [u8], size: usize, l: usize, word: u64)
     }
 }
 
-fn taken_link(takes: bool, l: usize) -> usize
-    ensures { λ r. ⌜ r ≡ taken takes l ⌝ }
+// The link of a port of operator i.
+pub fn port_of(mem: &[u8], i: usize, port: usize) -> usize
+    requires { ⌜ (linksAt ≤ length (now mem)) × (i < mostOperators) × (port < 6) ⌝ }
+    ensures { λ r. ⌜ r ≡ portOf (now (mem .entry)) i port ⌝ }
 {
-    if takes {
-        return l;
+    let at = machine_layout::operator_at(i);
+    machine_layout::name_at(mem, at + machine_layout::PORTS_AT, port)
+}
+
+// The first token on a link; a word that is no value is no token.
+pub fn token_of(mem: &[u8], size: usize, l: usize) -> u64
+    requires { ⌜ (leastSize ≤ size) × (size ≤ mostSize) × (need size ≤ length (now mem)) ⌝ }
+    ensures { λ r. ⌜ r ≡ wordOr (tokenAt (now (mem .entry)) size l) ⌝ }
+{
+    value::bytes::token_word(head_of(mem, size, l))
+}
+
+// What operator i remembers.
+pub fn register_of(mem: &[u8], i: usize) -> u64
+    requires { ⌜ (linksAt ≤ length (now mem)) × (i < mostOperators) ⌝ }
+    ensures { λ r. ⌜ r ≡ wordOr (registerOf (now (mem .entry)) i) ⌝ }
+{
+    value::bytes::token_word(value::bytes::load(mem, machine_layout::register_at(i)))
+}
+
+pub fn set_register(mem: &mut [u8], i: usize, word: u64)
+    requires { ⌜ (linksAt ≤ length (now mem)) × (i < mostOperators) ⌝ }
+    ensures { λ _. ⌜ now (mem .exit) ≡ stored (now (mem .entry)) (registerAt i) word ⌝ }
+{
+    let at = machine_layout::register_at(i);
+    value::bytes::store(mem, at, word);
+}
+
+// "each link it emits on has a free place": takes from two links (NOWHERE: from none) and gives a
+// token on the first output.
+pub fn give_one(
+    mem: &mut [u8],
+    size: usize,
+    i: usize,
+    in1: usize,
+    in2: usize,
+    word: u64,
+    dry: bool,
+) -> bool
+    requires { ⌜ (leastSize ≤ size) × (size ≤ mostSize) × (need size ≤ length (now mem)) × (i < mostOperators) ⌝ }
+    ensures { λ r. ⌜ Done (now (mem .entry)) (now (mem .exit)) dry r (roomAt (now (mem .entry)) size (portOf (now (mem .entry)) i 3)) (givenOne (now (mem .entry)) size in1 in2 (portOf (now (mem .entry)) i 3) word) ⌝ }
+{
+    let out = port_of(mem, i, FIRST_OUTPUT);
+    if !room_of(mem, size, out) {
+        return false;
+    }
+    if dry {
+        return true;
+    }
+    remove_from(mem, size, in1);
+    remove_from(mem, size, in2);
+    append_to(mem, size, out, word);
+    true
+}
+
+// The same with a second token on another output.
+pub fn give_two(
+    mem: &mut [u8],
+    size: usize,
+    i: usize,
+    in1: usize,
+    in2: usize,
+    word: u64,
+    other: usize,
+    token: u64,
+    dry: bool,
+) -> bool
+    requires { ⌜ (leastSize ≤ size) × (size ≤ mostSize) × (need size ≤ length (now mem)) × (i < mostOperators) × (other < 6) ⌝ }
+    ensures { λ r. ⌜ Done (now (mem .entry)) (now (mem .exit)) dry r (roomAt (now (mem .entry)) size (portOf (now (mem .entry)) i 3) && roomAt (now (mem .entry)) size (portOf (now (mem .entry)) i other)) (givenTwo (now (mem .entry)) size in1 in2 (portOf (now (mem .entry)) i 3) word (portOf (now (mem .entry)) i other) token) ⌝ }
+{
+    let out1 = port_of(mem, i, FIRST_OUTPUT);
+    if !room_of(mem, size, out1) {
+        return false;
+    }
+    let out2 = port_of(mem, i, other);
+    if !room_of(mem, size, out2) {
+        return false;
+    }
+    if dry {
+        return true;
+    }
+    remove_from(mem, size, in1);
+    remove_from(mem, size, in2);
+    append_to(mem, size, out1, word);
+    append_to(mem, size, out2, token);
+    true
+}
+
+// Passes the token that waits on an input, and takes from `control`.
+pub fn pass_data(
+    mem: &mut [u8],
+    size: usize,
+    i: usize,
+    control: usize,
+    port: usize,
+    dry: bool,
+) -> bool
+    requires { ⌜ (leastSize ≤ size) × (size ≤ mostSize) × (need size ≤ length (now mem)) × (i < mostOperators) × (port < 6) ⌝ }
+    ensures { λ r. ⌜ Done (now (mem .entry)) (now (mem .exit)) dry r (not (isAbsent (input (now (mem .entry)) size i port)) && roomAt (now (mem .entry)) size (portOf (now (mem .entry)) i 3)) (givenOne (now (mem .entry)) size control (portOf (now (mem .entry)) i port) (portOf (now (mem .entry)) i 3) (wordOr (input (now (mem .entry)) size i port))) ⌝ }
+{
+    let l = port_of(mem, i, port);
+    let token = token_of(mem, size, l);
+    if is_absent(token) {
+        return false;
+    }
+    give_one(mem, size, i, control, l, token, dry)
+}
+
+// "true takes input 2, false input 3"; another control takes neither.
+pub fn chosen(control: u64, second: usize, third: usize) -> usize
+    ensures { λ r. ⌜ Chosen control second third r ⌝ }
+{
+    if is_true(control) {
+        return second;
+    }
+    if is_false(control) {
+        return third;
     }
     NOWHERE
 }
 
-fn given_link(token: Decoded, l: usize) -> usize
-    ensures { λ r. ⌜ r ≡ given token l ⌝ }
+// Takes the token that waits on the second input, gives nothing, and takes from `control`.
+pub fn drop_data(mem: &mut [u8], size: usize, i: usize, control: usize, dry: bool) -> bool
+    requires { ⌜ (leastSize ≤ size) × (size ≤ mostSize) × (need size ≤ length (now mem)) × (i < mostOperators) ⌝ }
+    ensures { λ r. ⌜ Done (now (mem .entry)) (now (mem .exit)) dry r (not (isAbsent (input (now (mem .entry)) size i 1))) (takenTwo (now (mem .entry)) size control (portOf (now (mem .entry)) i 1)) ⌝ }
 {
-    if machine_gates::is_absent(token) {
-        return NOWHERE;
+    let l = port_of(mem, i, SECOND_INPUT);
+    if is_absent(token_of(mem, size, l)) {
+        return false;
     }
-    l
-}
-
-// The word of a token, 0 where there is none.
-fn word_or(token: Decoded) -> u64
-    ensures { λ r. ⌜ r ≡ wordOr token ⌝ }
-{
-    let Decoded::Valid(v) = token else {
-        return 0;
-    };
-    value::bytes::to_word(v)
-}
-
-// A decision with the links of the ports that begin at `at`.
-fn with_links(mem: &[u8], at: usize, d: Decided) -> Plan
-    requires { ⌜ (at + 12 ≤ length (now mem)) × (at < 65536) ⌝ }
-    ensures { λ p. ⌜ p ≡ planned (now (mem .entry)) at d ⌝ }
-{
-    let give1 = d.give1;
-    let give2 = d.give2;
-    let give3 = d.give3;
-    let register = d.register;
-    Plan {
-        able: d.able,
-        in1: taken_link(d.take1, machine_layout::name_at(mem, at, 0)),
-        in2: taken_link(d.take2, machine_layout::name_at(mem, at, 1)),
-        in3: taken_link(d.take3, machine_layout::name_at(mem, at, 2)),
-        out1: given_link(give1, machine_layout::name_at(mem, at, 3)),
-        out2: given_link(give2, machine_layout::name_at(mem, at, 4)),
-        out3: given_link(give3, machine_layout::name_at(mem, at, 5)),
-        word1: word_or(give1),
-        word2: word_or(give2),
-        word3: word_or(give3),
-        register: word_or(register),
-    }
-}
-
-// The first token on a link as a value; a word that is no value is no token.
-fn token_of(mem: &[u8], size: usize, l: usize) -> Decoded
-    requires { ⌜ (leastSize ≤ size) × (size ≤ mostSize) × (need size ≤ length (now mem)) ⌝ }
-    ensures { λ r. ⌜ r ≡ tokenAt (now (mem .entry)) size l ⌝ }
-{
-    value::bytes::from_word(head_of(mem, size, l))
-}
-
-fn plan_of(mem: &[u8], size: usize, i: usize) -> Plan
-    requires { ⌜ (leastSize ≤ size) × (size ≤ mostSize) × (need size ≤ length (now mem)) × (i < mostOperators) ⌝ }
-    ensures { λ p. ⌜ p ≡ planAt (now (mem .entry)) size i ⌝ }
-{
-    let at = machine_layout::operator_at(i);
-    let a = token_of(
-        mem,
-        size,
-        machine_layout::name_at(mem, at + machine_layout::PORTS_AT, 0),
-    );
-    let b = token_of(
-        mem,
-        size,
-        machine_layout::name_at(mem, at + machine_layout::PORTS_AT, 1),
-    );
-    let c = token_of(
-        mem,
-        size,
-        machine_layout::name_at(mem, at + machine_layout::PORTS_AT, 2),
-    );
-    let g = value::bytes::from_word(value::bytes::load(mem, machine_layout::register_at(i)));
-    let d = machine_gates::decide(mem[at], a, b, c, g);
-    with_links(mem, at + machine_layout::PORTS_AT, d)
-}
-
-// "An operator fires only when every token listed waits and each link it emits on has a free place."
-fn ready(mem: &[u8], size: usize, p: Plan) -> bool
-    requires { ⌜ (leastSize ≤ size) × (size ≤ mostSize) × (need size ≤ length (now mem)) ⌝ }
-    ensures { λ r. ⌜ r ≡ readyFor (now (mem .entry)) size p ⌝ }
-{
-    if p.able {
-        if room_of(mem, size, p.out1) {
-            if room_of(mem, size, p.out2) {
-                return room_of(mem, size, p.out3);
-            }
-        }
-    }
-    false
-}
-
-fn perform(mem: &mut [u8], size: usize, i: usize, p: Plan)
-    requires { ⌜ (leastSize ≤ size) × (size ≤ mostSize) × (need size ≤ length (now mem)) × (i < mostOperators) ⌝ }
-    ensures { λ _. ⌜ now (mem .exit) ≡ performed (now (mem .entry)) size i p ⌝ }
-{
-    remove_from(mem, size, p.in1);
-    remove_from(mem, size, p.in2);
-    remove_from(mem, size, p.in3);
-    append_to(mem, size, p.out1, p.word1);
-    append_to(mem, size, p.out2, p.word2);
-    append_to(mem, size, p.out3, p.word3);
-    let at = machine_layout::register_at(i);
-    value::bytes::store(mem, at, p.register);
-}
-
-// Whether operator i can fire.
-pub fn able_at(mem: &[u8], size: usize, i: usize) -> bool
-    requires { ⌜ (leastSize ≤ size) × (size ≤ mostSize) × (need size ≤ length (now mem)) × (i < mostOperators) ⌝ }
-    ensures { λ r. ⌜ r ≡ ableAt (now (mem .entry)) size i ⌝ }
-{
-    let p = plan_of(mem, size, i);
-    ready(mem, size, p)
-}
-
-// Fires operator i if it can, and tells whether it did.
-pub fn fire_at(mem: &mut [u8], size: usize, i: usize) -> bool
-    requires { ⌜ (leastSize ≤ size) × (size ≤ mostSize) × (need size ≤ length (now mem)) × (i < mostOperators) ⌝ }
-    ensures { λ r. ⌜ (r ≡ ableAt (now (mem .entry)) size i) × (now (mem .exit) ≡ firedAt (now (mem .entry)) size i) ⌝ }
-{
-    let p = plan_of(mem, size, i);
-    if ready(mem, size, p) {
-        perform(mem, size, i, p);
+    if dry {
         return true;
     }
-    false
+    remove_from(mem, size, control);
+    remove_from(mem, size, l);
+    true
+}
+
+// FS "passes and remembers" a token.
+pub fn remember(
+    mem: &mut [u8],
+    size: usize,
+    i: usize,
+    in1: usize,
+    in2: usize,
+    word: u64,
+    dry: bool,
+) -> bool
+    requires { ⌜ (leastSize ≤ size) × (size ≤ mostSize) × (need size ≤ length (now mem)) × (i < mostOperators) ⌝ }
+    ensures { λ r. ⌜ Done (now (mem .entry)) (now (mem .exit)) dry r (roomAt (now (mem .entry)) size (portOf (now (mem .entry)) i 3)) (stored (givenOne (now (mem .entry)) size in1 in2 (portOf (now (mem .entry)) i 3) word) (registerAt i) word) ⌝ }
+{
+    if !give_one(mem, size, i, in1, in2, word, dry) {
+        return false;
+    }
+    if dry {
+        return true;
+    }
+    set_register(mem, i, word);
+    true
+}
+
+pub fn remember_data(mem: &mut [u8], size: usize, i: usize, control: usize, dry: bool) -> bool
+    requires { ⌜ (leastSize ≤ size) × (size ≤ mostSize) × (need size ≤ length (now mem)) × (i < mostOperators) ⌝ }
+    ensures { λ r. ⌜ Done (now (mem .entry)) (now (mem .exit)) dry r (not (isAbsent (input (now (mem .entry)) size i 1)) && roomAt (now (mem .entry)) size (portOf (now (mem .entry)) i 3)) (stored (givenOne (now (mem .entry)) size control (portOf (now (mem .entry)) i 1) (portOf (now (mem .entry)) i 3) (wordOr (input (now (mem .entry)) size i 1))) (registerAt i) (wordOr (input (now (mem .entry)) size i 1))) ⌝ }
+{
+    let l = port_of(mem, i, SECOND_INPUT);
+    let token = token_of(mem, size, l);
+    if is_absent(token) {
+        return false;
+    }
+    remember(mem, size, i, control, l, token, dry)
+}
+
+// The register that those kinds leave: FM's tells that it has fired, the others' stays.
+pub fn next_register(mem: &[u8], i: usize, kind: u8) -> u64
+    requires { ⌜ (linksAt ≤ length (now mem)) × (i < mostOperators) ⌝ }
+    ensures { λ r. ⌜ r ≡ wordOr (nextRegister kind (registerOf (now (mem .entry)) i)) ⌝ }
+{
+    if kind == machine_layout::FM {
+        return TRUE;
+    }
+    register_of(mem, i)
 }

@@ -9,11 +9,24 @@ use Rattle.value.specs.declared.Value.{Value}
 use Rattle.value.specs.declared.Decoded.{Decoded}
 use Rattle.value.specs.declared.Decoded.the-variants.{Valid, Invalid}
 use Rattle.value.specs.Bytes.{decoded}
-use Rattle.network.specs.Values.{Sense, is-true, is-false, is-neither, sense}
+use Rattle.value.specs.declared.Sense.{Sense}
+use Rattle.value.specs.declared.Sense.the-variants.{True, False, Neither}
+use Rattle.value.specs.Senses.{sense}
 use Rattle.network.specs.Rules.{Kind, Input, first, second, third}
 use Rattle.network.specs.Decide.{Decision, decide}
 use Rattle.machine_layout.specs.Kinds.{kindOf}
-use Rattle.machine_gates.specs.declared.Decided.{Decided}
+
+-- The decision of a firing: which inputs it takes from, what it gives, which register it leaves. Without `able` a token that the rule wants does
+-- not wait.
+pub record Decided : Type 0 where
+  pub able : Bool
+  pub take1 : Bool
+  pub take2 : Bool
+  pub take3 : Bool
+  pub give1 : Decoded
+  pub give2 : Decoded
+  pub give3 : Decoded
+  pub register : Decoded
 
 abbrev pub optional : Decoded → Option Value
 optional (Valid v) = some v
@@ -31,7 +44,7 @@ does t1 t2 t3 a b c g = record { able = true; take1 = t1; take2 = t2; take3 = t3
 abbrev pub idle : Decided
 idle = record { able = false; take1 = false; take2 = false; take3 = false; give1 = Invalid; give2 = Invalid; give3 = Invalid; register = Invalid }
 
--- the table's decision in the code's words
+-- the table's decision in these words
 abbrev pub told : Option Decision → Decided
 told none = idle
 told (some d) =
@@ -53,19 +66,25 @@ isAbsent (Valid v) = false
 isAbsent Invalid = true
 
 abbrev pub trueSense : Sense → Bool
-trueSense is-true = true
-trueSense is-false = false
-trueSense is-neither = false
+trueSense True = true
+trueSense False = false
+trueSense Neither = false
 
 abbrev pub falseSense : Sense → Bool
-falseSense is-true = false
-falseSense is-false = true
-falseSense is-neither = false
+falseSense True = false
+falseSense False = true
+falseSense Neither = false
 
 abbrev pub neitherSense : Sense → Bool
-neitherSense is-true = false
-neitherSense is-false = false
-neitherSense is-neither = true
+neitherSense True = false
+neitherSense False = false
+neitherSense Neither = true
+
+-- "An iter? that is no truth, in altered memory, counts as false."
+abbrev pub falseCounted : Sense → Bool
+falseCounted True = false
+falseCounted False = true
+falseCounted Neither = true
 
 abbrev pub isTrue : Decoded → Bool
 isTrue (Valid v) = trueSense (sense v)
@@ -78,6 +97,10 @@ isFalse Invalid = false
 abbrev pub isNeither : Decoded → Bool
 isNeither (Valid v) = neitherSense (sense v)
 isNeither Invalid = false
+
+abbrev pub countsFalse : Decoded → Bool
+countsFalse (Valid v) = falseCounted (sense v)
+countsFalse Invalid = false
 
 pub read-back : (g : Decoded) → decoded (optional g) ≡ g
 read-back (Valid v) = refl

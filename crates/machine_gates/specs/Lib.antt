@@ -1,3 +1,5 @@
 pub mod Decide
 pub mod Gates
 pub mod Tables
+pub mod GateLaws
+pub mod Words

@@ -13,20 +13,23 @@ use Rattle.value.specs.declared.Decoded.{Decoded}
 use Rattle.value.specs.declared.Decoded.the-variants.{Valid, Invalid}
 use Rattle.value.specs.Operators.{pick}
 use Rattle.value.specs.Bytes.{decoded}
-use Rattle.network.specs.Values.{true-value, false-value, err-value, Sense, is-true, is-false, is-neither, sense, one-operand, apply}
+use Rattle.value.specs.declared.Sense.{Sense}
+use Rattle.value.specs.declared.Sense.the-variants.{True, False, Neither}
+use Rattle.value.specs.Senses.{sense}
+use Rattle.network.specs.Values.{true-value, false-value, err-value, one-operand, apply}
 use Rattle.network.specs.Rules.{Kind, constant, copy, operator, T-gate, F-gate, M-gate, E-gate, IC-gate, FM-gate, FS-gate, Register, first, second, third, T-rule, F-rule, M-rule, E-rule, chosen, IC-table, FS-rule, operator-rule}
 use Rattle.network.specs.Decide.{untouched, also, Decision, decided, decide}
 use Rattle.machine_layout.specs.Kinds.{kindOf}
-use Rattle.machine_gates.specs.declared.Decided.{Decided}
-use Rattle.machine_gates.specs.Decide.{optional, heads, does, idle, told, decideAt, isAbsent, isTrue, isFalse, isNeither, trueSense, falseSense, neitherSense, read-back}
-use Rattle.machine_gates.specs.Gates.{applied, unaryBy, binaryBy, constantBy, copyBy, tBy, fBy, mBy, eBy, icBy, fmBy, fsBy}
+use Rattle.machine_gates.specs.Decide.{Decided, optional, heads, does, idle, told, decideAt, isAbsent, isTrue, isFalse, countsFalse, trueSense, falseSense, neitherSense, falseCounted, read-back}
+use Rattle.machine_gates.specs.Gates.{passing, dropping, unaryBy, binaryBy, constantBy, copyBy, tBy, fBy, mBy, eBy, icBy, fmBy, fsBy}
 
 abbrev says : Kind → Decoded → Decoded → Decoded → Decoded → Decided
 says k a b c g = told (decide k (optional g) (heads a b c))
 
 constant-says : (a b c g : Decoded) → says constant a b c g ≡ constantBy a g
 unfolding constantBy
-constant-says a b c Invalid = refl
+constant-says Invalid b c Invalid = refl
+constant-says (Valid t) b c Invalid = refl
 constant-says Invalid b c (Valid v) = refl
 constant-says (Valid t) b c (Valid v) = refl
 
@@ -53,13 +56,13 @@ T-says (Valid x) b c g = go (sense x) b
   where
     go : (s : Sense) (b : Decoded) →
         told (decided (also first untouched) (T-rule (optional g) s) (heads (Valid x) b c))
-        ≡ pick (isAbsent b) idle (pick (trueSense s) (does true true false b Invalid Invalid g) (does true true false Invalid Invalid Invalid g))
-    go is-true (Valid v) = rw (read-back g) refl
-    go is-true Invalid = refl
-    go is-false (Valid v) = rw (read-back g) refl
-    go is-false Invalid = refl
-    go is-neither (Valid v) = rw (read-back g) refl
-    go is-neither Invalid = refl
+        ≡ pick (trueSense s) (passing true true false b g) (dropping true true false b g)
+    go True (Valid v) = rw (read-back g) refl
+    go True Invalid = refl
+    go False (Valid v) = rw (read-back g) refl
+    go False Invalid = refl
+    go Neither (Valid v) = rw (read-back g) refl
+    go Neither Invalid = refl
 
 F-says : (a b c g : Decoded) → says F-gate a b c g ≡ fBy a b g
 unfolding fBy
@@ -68,25 +71,25 @@ F-says (Valid x) b c g = go (sense x) b
   where
     go : (s : Sense) (b : Decoded) →
         told (decided (also first untouched) (F-rule (optional g) s) (heads (Valid x) b c))
-        ≡ pick (isAbsent b) idle (pick (falseSense s) (does true true false b Invalid Invalid g) (does true true false Invalid Invalid Invalid g))
-    go is-true (Valid v) = rw (read-back g) refl
-    go is-true Invalid = refl
-    go is-false (Valid v) = rw (read-back g) refl
-    go is-false Invalid = refl
-    go is-neither (Valid v) = rw (read-back g) refl
-    go is-neither Invalid = refl
+        ≡ pick (falseSense s) (passing true true false b g) (dropping true true false b g)
+    go True (Valid v) = rw (read-back g) refl
+    go True Invalid = refl
+    go False (Valid v) = rw (read-back g) refl
+    go False Invalid = refl
+    go Neither (Valid v) = rw (read-back g) refl
+    go Neither Invalid = refl
 
 -- M after its control, for M and FM alike
 M-by-sense : (x : Value) (b c g : Decoded) (r : Register) → decoded r ≡ g → (s : Sense) →
     told (decided (also first untouched) (M-rule r s) (heads (Valid x) b c))
-    ≡ pick (trueSense s) (pick (isAbsent b) idle (does true true false b Invalid Invalid g))
-    (pick (falseSense s) (pick (isAbsent c) idle (does true false true c Invalid Invalid g))
+    ≡ pick (trueSense s) (passing true true false b g)
+    (pick (falseSense s) (passing true false true c g)
     (does true false false (Valid err-value) Invalid Invalid g))
-M-by-sense x (Valid v) c g r e is-true = rw e refl
-M-by-sense x Invalid c g r e is-true = refl
-M-by-sense x b (Valid v) g r e is-false = rw e refl
-M-by-sense x b Invalid g r e is-false = refl
-M-by-sense x b c g r e is-neither = rw e refl
+M-by-sense x (Valid v) c g r e True = rw e refl
+M-by-sense x Invalid c g r e True = refl
+M-by-sense x b (Valid v) g r e False = rw e refl
+M-by-sense x b Invalid g r e False = refl
+M-by-sense x b c g r e Neither = rw e refl
 
 M-says : (a b c g : Decoded) → says M-gate a b c g ≡ mBy a b c g
 unfolding mBy
@@ -100,12 +103,12 @@ E-says (Valid x) b c g = go (sense x) b
   where
     go : (s : Sense) (b : Decoded) →
         told (decided (also first untouched) (E-rule (optional g) s) (heads (Valid x) b c))
-        ≡ pick (neitherSense s) (does true false false (Valid err-value) Invalid Invalid g) (pick (isAbsent b) idle (does true true false b Invalid Invalid g))
-    go is-true (Valid v) = rw (read-back g) refl
-    go is-true Invalid = refl
-    go is-false (Valid v) = rw (read-back g) refl
-    go is-false Invalid = refl
-    go is-neither b = rw (read-back g) refl
+        ≡ pick (neitherSense s) (does true false false (Valid err-value) Invalid Invalid g) (passing true true false b g)
+    go True (Valid v) = rw (read-back g) refl
+    go True Invalid = refl
+    go False (Valid v) = rw (read-back g) refl
+    go False Invalid = refl
+    go Neither b = rw (read-back g) refl
 
 FM-says : (a b c g : Decoded) → says FM-gate a b c g ≡ fmBy a b c g
 unfolding fmBy
@@ -123,31 +126,29 @@ FS-says (Valid x) b c (Valid r) = go (sense x) b
   where
     go : (s : Sense) (b : Decoded) →
         told (decided (also first untouched) (FS-rule r s) (heads (Valid x) b c))
-        ≡ pick (trueSense s) (does true false false (Valid r) Invalid Invalid (Valid r)) (pick (isAbsent b) idle (does true true false b Invalid Invalid b))
-    go is-true b = refl
-    go is-false (Valid v) = refl
-    go is-false Invalid = refl
-    go is-neither (Valid v) = refl
-    go is-neither Invalid = refl
+        ≡ pick (trueSense s) (does true false false (Valid r) Invalid Invalid (Valid r)) (passing true true false b b)
+    go True b = refl
+    go False (Valid v) = refl
+    go False Invalid = refl
+    go Neither (Valid v) = refl
+    go Neither Invalid = refl
 
 -- IC after its control: the chosen input decides the row
 IC-true : (x y : Value) (c g : Decoded) (s : Sense) →
-    told (decided (also second (also first untouched)) (IC-table (optional g) is-true s) (heads (Valid x) (Valid y) c))
+    told (decided (also second (also first untouched)) (IC-table (optional g) True s) (heads (Valid x) (Valid y) c))
     ≡ pick (trueSense s) (does true true false (Valid true-value) (Valid true-value) Invalid g)
-    (pick (falseSense s) (does true true false (Valid false-value) Invalid (Valid true-value) g)
-    (pick (neitherSense s) (does true true false (Valid false-value) Invalid (Valid true-value) g) idle))
-IC-true x y c g is-true = rw (read-back g) refl
-IC-true x y c g is-false = rw (read-back g) refl
-IC-true x y c g is-neither = rw (read-back g) refl
+    (pick (falseCounted s) (does true true false (Valid false-value) Invalid (Valid true-value) g) idle)
+IC-true x y c g True = rw (read-back g) refl
+IC-true x y c g False = rw (read-back g) refl
+IC-true x y c g Neither = rw (read-back g) refl
 
 IC-false : (x z : Value) (b g : Decoded) (s : Sense) →
-    told (decided (also third (also first untouched)) (IC-table (optional g) is-false s) (heads (Valid x) b (Valid z)))
+    told (decided (also third (also first untouched)) (IC-table (optional g) False s) (heads (Valid x) b (Valid z)))
     ≡ pick (trueSense s) (does true false true (Valid true-value) (Valid false-value) Invalid g)
-    (pick (falseSense s) (does true false true (Valid false-value) Invalid (Valid false-value) g)
-    (pick (neitherSense s) (does true false true (Valid false-value) Invalid (Valid false-value) g) idle))
-IC-false x z b g is-true = rw (read-back g) refl
-IC-false x z b g is-false = rw (read-back g) refl
-IC-false x z b g is-neither = rw (read-back g) refl
+    (pick (falseCounted s) (does true false true (Valid false-value) Invalid (Valid false-value) g) idle)
+IC-false x z b g True = rw (read-back g) refl
+IC-false x z b g False = rw (read-back g) refl
+IC-false x z b g Neither = rw (read-back g) refl
 
 IC-says : (a b c g : Decoded) → says IC-gate a b c g ≡ icBy a b c g
 unfolding icBy
@@ -157,18 +158,16 @@ IC-says (Valid x) b c g = go (sense x) b c
     go : (s : Sense) (b c : Decoded) →
         told (decided (also first untouched) (chosen s (IC-table (optional g) s)) (heads (Valid x) b c))
         ≡ pick (trueSense s && isTrue b) (does true true false (Valid true-value) (Valid true-value) Invalid g)
-        (pick (trueSense s && isFalse b) (does true true false (Valid false-value) Invalid (Valid true-value) g)
+        (pick (trueSense s && countsFalse b) (does true true false (Valid false-value) Invalid (Valid true-value) g)
         (pick (falseSense s && isTrue c) (does true false true (Valid true-value) (Valid false-value) Invalid g)
-        (pick (falseSense s && isFalse c) (does true false true (Valid false-value) Invalid (Valid false-value) g)
+        (pick (falseSense s && countsFalse c) (does true false true (Valid false-value) Invalid (Valid false-value) g)
         (pick (neitherSense s) (does true false false (Valid false-value) Invalid (Valid err-value) g)
-        (pick (trueSense s && isNeither b) (does true true false (Valid false-value) Invalid (Valid true-value) g)
-        (pick (falseSense s && isNeither c) (does true false true (Valid false-value) Invalid (Valid false-value) g)
-        idle))))))
-    go is-true Invalid c = refl
-    go is-true (Valid y) c = IC-true x y c g (sense y)
-    go is-false b Invalid = refl
-    go is-false b (Valid z) = IC-false x z b g (sense z)
-    go is-neither b c = rw (read-back g) refl
+        idle))))
+    go True Invalid c = refl
+    go True (Valid y) c = IC-true x y c g (sense y)
+    go False b Invalid = refl
+    go False b (Valid z) = IC-false x z b g (sense z)
+    go Neither b c = rw (read-back g) refl
 
 -- ---- the decision by the kind's byte
 

@@ -51,6 +51,19 @@ pub const LINKS_AT: usize = 21760;
 // Where an operator's ports begin in its record.
 pub const PORTS_AT: usize = 2;
 
+// The ports in their order there.
+pub const FIRST_INPUT: usize = 0;
+
+pub const SECOND_INPUT: usize = 1;
+
+pub const THIRD_INPUT: usize = 2;
+
+pub const FIRST_OUTPUT: usize = 3;
+
+pub const SECOND_OUTPUT: usize = 4;
+
+pub const THIRD_OUTPUT: usize = 5;
+
 // The number that a port without a link, or a machine without a trigger, has for one.
 pub const NO_LINK: u16 = 65535;
 

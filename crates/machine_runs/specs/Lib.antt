@@ -1,6 +1,6 @@
 pub mod Run
 pub mod RunLaws
-pub mod Far
-pub mod Users
-pub mod Words
+pub mod Performed
+pub mod Near
+pub mod Rested
 pub mod Marks

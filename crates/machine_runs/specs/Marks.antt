@@ -1,149 +1,206 @@
--- The marks of a run: an operator without a mark is not able, so it need not be looked at again; a firing marks those that name one of its
--- links. Assumes that the memory is as long as a machine needs.
-use Prim.Native.Nat.{ℕ, zero, suc, _+_, _-_, _*_, _/_, _%_, _≤_, _<_}
+-- The marks of a run: an operator without a mark is not able, so it need not be looked at again. A firing marks those that give to its inputs where
+-- fewer than two places are free now, and those that take from its outputs where one token waits now (specs/Near); its own mark goes where nothing
+-- waits on its first input (specs/Rested). Assumes that the memory is as long as a machine needs.
+use Prim.Native.Nat.{ℕ, _+_, _-_, _*_, _/_, _%_, _≤_, _<_}
 use mathlib.Core.Path.{_≡_, refl, sym, ap, _∙_}
 use mathlib.Core.Logic.{_≢_, _⊎_, inl, inr}
 use mathlib.Core.Bool.{Bool, true, false}
 use mathlib.Core.List.{List}
 use native.Mathlib.Omega.{arith}
 use native.Mathlib.Decide.{ℕ-discrete, decLt}
-use lib.ListN.{length, getD}
-use Rattle.machine_layout.specs.Layout.{nameAt, number16, operatorAt, need}
+use lib.ListN.{length, getD, length-set}
+use Rattle.machine_queue.specs.Stretch.{waiting}
+use Rattle.machine_layout.specs.Layout.{need}
+use Rattle.machine_firing.specs.LinkLaws.{linkPart}
 use Rattle.machine_firing.specs.Fire.{ableAt, firedAt}
-use Rattle.machine_runs.specs.Run.{Ran, ran, runs}
-use Rattle.machine_runs.specs.RunLaws.{Quiet, Going, going-start, going-fire, going-next, fired-idle}
-use Rattle.machine_runs.specs.Far.{name, able-far, static-fired}
-use Rattle.machine_runs.specs.Users.{Found, Covers, covered}
-use Rattle.machine_runs.specs.Words.{mark, woken, slept, None, length-woken, length-slept, mark-woken, mark-woken-other, mark-slept-other}
+use Rattle.machine_marks.specs.declared.Marks.{Marks}
+use Rattle.machine_marks.specs.Words.{mark, slept, mark-slept-other}
+use Rattle.machine_marks.specs.Held.{held, Bare, Stands, Lowest, Cleared, Woke, Moved, first-marked, none-below, stands-cleared, held-cleared}
+use Rattle.machine_marks.specs.Users.{Filled, filled-same, user-inside, user-found, once-named}
+use Rattle.machine_runs.specs.Run.{ran, runs}
+use Rattle.machine_runs.specs.RunLaws.{Going, going-start, going-fire, going-end, quiet-none, fired-idle}
+use Rattle.machine_runs.specs.Near.{name, Once, port-fired, able-kept, head-kept, room-kept}
+use Rattle.machine_runs.specs.Rested.{rested}
 
-abbrev pub Awake : List ℕ → ℕ → ℕ → Type 0
-Awake w low x = (mark w x ≡ 1) × (low ≤ x)
+-- a firing has made no user of link l on a side able: its putter (side 1) had a place before, its taker (side 0) the same first token
+pub record Calm (m : List ℕ) (size l side : ℕ) : Type 0 where
+  pub putter : side ≡ 1 → 5 * waiting (linkPart m size l) + 11 ≤ size
+  pub taker : side ≡ 0 → waiting (linkPart m size l) ≢ 1
 
-pub record Woke (w : List ℕ) (low : ℕ) (w′ : List ℕ) (r : ℕ) : Type 0 where
-  pub keeps : (x : ℕ) → Awake w low x → Awake w′ r x
-  pub asleep : (x : ℕ) → mark w′ x ≡ 0 → mark w x ≡ 0
-  pub less : r ≤ low
-  pub len : length w′ ≡ length w
+-- the user of link l on a side is marked, unless the link is calm
+abbrev pub Hit : List ℕ → List ℕ → ℕ → ℕ → ℕ → List ℕ → Type 0
+Hit u m size l side w = l < 3105 → 2 * l + side < length u → (x : ℕ) → getD u (2 * l + side) 0 ≡ x → x < 1024 → mark w x ≡ 0 → Calm m size l side
 
-pub woke-none : (w : List ℕ) (low : ℕ) → Woke w low w low
-woke-none w low = record { keeps = λ x a. a; asleep = λ x a. a; less = omega arith; len = refl }
+-- the side on which another operator uses the link of port k: an input's putter, an output's taker
+abbrev pub facing : ℕ → ℕ
+facing k = 1 - k / 3
 
-pub woke-then : (w : List ℕ) (a : ℕ) (w′ : List ℕ) (b : ℕ) (w″ : List ℕ) (c : ℕ) → Woke w a w′ b → Woke w′ b w″ c → Woke w a w″ c
-woke-then w a w′ b w″ c p q = record { keeps = λ x y. q .keeps x (p .keeps x y); asleep = λ x y. p .asleep x (q .asleep x y); less = (let s = p .less in let t = q .less in omega arith); len = q .len ∙ p .len }
+-- those of the first e ports of i
+abbrev pub Hits : List ℕ → List ℕ → ℕ → ℕ → ℕ → List ℕ → Type 0
+Hits u m size i e w = (k : ℕ) → k < e → Hit u m size (name m i k) (facing k) w
 
-pub woke-one : (w : List ℕ) (low u r : ℕ) → u / 64 < length w → r ≤ low → r ≤ u → Woke w low (woken w u) r
-woke-one w low u r h a b = record {
-  keeps = λ x y. (one x (y .0) (ℕ-discrete x u), (let z = y .1 in omega arith));
-  asleep = λ x y. zero! x y (ℕ-discrete x u);
-  less = a;
-  len = length-woken w u;
-}
+pub hit-calm : (u m : List ℕ) (size l side : ℕ) (w : List ℕ) → (l < 3105 → Calm m size l side) → Hit u m size l side w
+hit-calm u m size l side w h lt b x f xl z = h lt
+
+pub hit-marked : (u m : List ℕ) (size l side : ℕ) (w : List ℕ) (v : ℕ) → (2 * l + side < length u → v ≡ getD u (2 * l + side) 0) → (v < 1024 → mark w v ≡ 1) → Hit u m size l side w
+hit-marked u m size l side w v uv up lt b x f xl z =
+    let vx : v ≡ x = uv b ∙ f in
+    let o : mark w x ≡ 1 = (rw vx at up) xl in
+    absurd (omega arith)
+
+pub hits-none : (u m : List ℕ) (size i : ℕ) (w : List ℕ) → Hits u m size i 0 w
+hits-none u m size i w k h = absurd (omega arith)
+
+-- marks that were set stay so
+pub hits-more : (u m : List ℕ) (size i e : ℕ) (w : List ℕ) (a : Marks) (w′ : List ℕ) (r : Marks) (l side : ℕ) → Hits u m size i e (held w a) → Woke w a w′ r →
+    l ≡ name m i e → side ≡ facing e → Hit u m size l side (held w′ r) → Hits u m size i (e + 1) (held w′ r)
+hits-more u m size i e w a w′ r l side h wk q s one k lt = go (ℕ-discrete k e)
   where
-    one : (x : ℕ) → mark w x ≡ 1 → Dec (x ≡ u) → mark (woken w u) x ≡ 1
-    one x e (yes p) = rw p (mark-woken w u h)
-    one x e (no n) = mark-woken-other w u h x n ∙ e
+    go : Dec (k ≡ e) → Hit u m size (name m i k) (facing k) (held w′ r)
+    go (yes p) = rw (p, sym q, sym s) one
+    go (no n) = λ b c x f xl z. h k (omega arith) b c x f xl (wk .asleep x z)
 
-    zero! : (x : ℕ) → mark (woken w u) x ≡ 0 → Dec (x ≡ u) → mark w x ≡ 0
-    zero! x e (yes p) = absurd (let s : mark (woken w u) x ≡ 1 = (rw p (mark-woken w u h)) in omega arith)
-    zero! x e (no n) = sym (mark-woken-other w u h x n) ∙ e
+-- i's own mark is as it was, or has gone with the last token of its first input
+abbrev pub Rests : List ℕ → ℕ → ℕ → Marks → Marks → Type 0
+Rests m size i a r = (r ≡ a) ⊎ ((Cleared a i r) × (name m i 0 < 3105) × (waiting (linkPart m size (name m i 0)) ≡ 0))
 
--- what a firing of i must wake
-abbrev pub Hits : List ℕ → List ℕ → ℕ → ℕ → List ℕ → ℕ → Type 0
-Hits u m i e w r = (k x : ℕ) → k < e → x < 1024 → name m i k < 3105 → Found u (name m i k) x → Awake w r x
+pub rests-stands : (m : List ℕ) (size i : ℕ) (w : List ℕ) (a r : Marks) → Stands w a → Lowest a i → Rests m size i a r → Stands w r
+rests-stands m size i w a r s l (inl e) = rw e s
+rests-stands m size i w a r s l (inr g) = stands-cleared w a s i l r (g .0)
 
-pub hits-none : (u m : List ℕ) (i : ℕ) (w : List ℕ) (r : ℕ) → Hits u m i 0 w r
-hits-none u m i w r k x h = absurd (omega arith)
+-- what a firing of i must mark
+pub record Woken (u m : List ℕ) (size i : ℕ) (w : List ℕ) (a : Marks) (w′ : List ℕ) (r : Marks) : Type 0 where
+  pub stands : Stands w′ r
+  pub level : r .low ≡ r .block
+  pub asleep : (x : ℕ) → x ≢ i → mark (held w′ r) x ≡ 0 → mark (held w a) x ≡ 0
+  pub own : mark (held w′ r) i ≡ 0 → (name m i 0 < 3105) × (waiting (linkPart m size (name m i 0)) ≡ 0)
+  pub hits : Hits u m size i 6 (held w′ r)
 
-pub hits-more : (u m : List ℕ) (i k : ℕ) (w : List ℕ) (low : ℕ) (w′ : List ℕ) (r l : ℕ) → Hits u m i k w low → Woke w low w′ r → l ≡ name m i k →
-    ((x : ℕ) → x < 1024 → l < 3105 → Found u l x → Awake w′ r x) → Hits u m i (k + 1) w′ r
-hits-more u m i k w low w′ r l h wk e a y x lt xl b f = go (ℕ-discrete y k)
-  where
-    go : Dec (y ≡ k) → Awake w′ r x
-    go (yes p) = (rw (e, sym p) at (a x xl)) b f
-    go (no n) = wk .keeps x (h y x (omega arith) xl b f)
+module _ (u m : List ℕ) (size i : ℕ) (w : List ℕ) (a : Marks) (s : Stands w a) (level : a .low ≡ a .block) (l : Lowest a i) (a0 : Marks) (rests : Rests m size i a a0) where
+  inside : i / 64 < length (held w a)
+  inside = omega (arith, length-set w (a .block) (a .here), s .len, s .inside, l .block)
 
-pub record Fast (u m₀ : List ℕ) (size n b : ℕ) (m : List ℕ) (w : List ℕ) (c i : ℕ) : Type 0 where
-  pub going : Going m₀ size n b m c i
+  others : Rests m size i a a0 → (x : ℕ) → x ≢ i → mark (held w a0) x ≡ 0 → mark (held w a) x ≡ 0
+  others (inl e) x n z = (rw e at z)
+  others (inr g) x n z = sym (mark-slept-other (held w a) i inside x n) ∙ (rw (held-cleared w a s i l a0 (g .0)) at z)
+
+  itself : Rests m size i a a0 → mark (held w a0) i ≡ 0 → (name m i 0 < 3105) × (waiting (linkPart m size (name m i 0)) ≡ 0)
+  itself (inl e) z = absurd (let o : mark (held w a) i ≡ 0 = (rw e at z) in omega (arith, first-marked w a s level i l))
+  itself (inr g) z = (g .1, g .2)
+
+  pub woken-all : (w1 : List ℕ) (a1 : Marks) (w2 : List ℕ) (a2 : Marks) → Woke w a0 w1 a1 → Hits u m size i 6 (held w1 a1) → Moved w1 a1 w2 a2 → Woken u m size i w a w2 a2
+  woken-all w1 a1 w2 a2 p h v = record {
+    stands = v .stands;
+    level = v .level;
+    asleep = λ x n z. others rests x n (back x z);
+    own = λ z. itself rests (back i z);
+    hits = rw (v .same) h;
+  }
+    where
+      back : (x : ℕ) → mark (held w2 a2) x ≡ 0 → mark (held w a0) x ≡ 0
+      back x z = p .asleep x (rw (v .same) at z)
+
+-- what the run's loop keeps of the memory and all marks
+pub record Fast (u m₀ : List ℕ) (size n b : ℕ) (m : List ℕ) (w : List ℕ) (c : ℕ) : Type 0 where
+  pub going : Going m₀ size n b m c 0
   pub rest : (j : ℕ) → j < n → mark w j ≡ 0 → ableAt m size j ≡ false
-  pub static : (at : ℕ) → at < 16640 → getD m at 0 ≡ getD m₀ at 0
-  pub wide : length w ≡ 16
+  pub filled : Filled u m (6 * n)
 
-same-name : (m m₀ : List ℕ) → ((at : ℕ) → at < 16640 → getD m at 0 ≡ getD m₀ at 0) → (j k : ℕ) → j < 1024 → k < 6 → name m j k ≡ name m₀ j k
-unfolding nameAt number16
-same-name m m₀ s j k a b = rw (s (operatorAt j + 2 + 2 * k) (omega arith), s (operatorAt j + 2 + 2 * k + 1) (omega arith)) refl
-
-pub fast-start : (u m₀ w : List ℕ) (size n b : ℕ) → n ≤ 1024 → length w ≡ 16 → ((j : ℕ) → j < 1024 → mark w j ≡ 1) → Fast u m₀ size n b m₀ w 0 0
-fast-start u m₀ w size n b nb h a = record {
+pub fast-start : (u m₀ w : List ℕ) (size n b : ℕ) → n ≤ 1024 → ((j : ℕ) → j < 1024 → mark w j ≡ 1) → Filled u m₀ (6 * n) → Fast u m₀ size n b m₀ w 0
+fast-start u m₀ w size n b nb all fil = record {
   going = going-start m₀ size n b;
-  rest = λ j lt e. absurd (let z = a j (omega arith) in omega arith);
-  static = λ at k. refl;
-  wide = h;
+  rest = λ j k z. absurd (let o = all j (omega arith) in omega arith);
+  filled = fil;
 }
 
-module _ (u m₀ : List ℕ) (size n b : ℕ) (m w : List ℕ) (c i : ℕ) (f : Fast u m₀ size n b m w c i) (nb : n ≤ 1024) (h : need size ≤ length m) where
-  -- sleeping operators are passed over
-  pub fast-skip : (r : ℕ) → i ≤ r → r ≤ n → None w i r → Fast u m₀ size n b m w c r
-  fast-skip r ir rn e =
+-- a firing of i: who is not able afterwards
+module _ (u m : List ℕ) (size n : ℕ) (fits : need size ≤ length m) (nb : n ≤ 1024) (i : ℕ) (lt : i < n) (fil : Filled u m (6 * n)) (w′ : List ℕ)
+    (hits : Hits u (firedAt m size i) size i 6 w′) where
+  same : (k : ℕ) → k < 6 → name (firedAt m size i) i k ≡ name m i k
+  same k kl = port-fired m size fits i (omega arith) i k (omega arith) kl
+
+  -- i names no link twice on a side
+  once : (first l : ℕ) → first % 3 ≡ 0 → first < 6 → l < 3105 → Once m i first (first + 3) l
+  once first l t fl b k k′ ka kk kb p q =
+      let o = once-named u m n fil i k i k′ lt (omega arith) lt (omega arith) (rw p at b) (sym p ∙ q) (omega arith) in
+      omega arith
+
+  module _ (j : ℕ) (jl : j < n) (ne : j ≢ i) (z : mark w′ j ≡ 0) where
+    -- j and i share no link on one side
+    apart : (k k′ : ℕ) → k < 6 → k′ < 6 → k / 3 ≡ k′ / 3 → name m j k < 3105 → name m j k ≢ name m i k′
+    apart k k′ kl kl′ e b q = let o = once-named u m n fil j k i k′ jl kl lt kl′ b q e in ne (omega arith)
+
+    -- a link that i gives to and j takes from, or the other way round, is calm
+    calm-taker : (k k′ : ℕ) → k < 3 → 3 ≤ k′ → k′ < 6 → name m j k < 3105 → name m j k ≡ name m i k′ → waiting (linkPart (firedAt m size i) size (name m j k)) ≢ 1
+    calm-taker k k′ kl ka kb b q =
+        let e : name (firedAt m size i) i k′ ≡ name m j k = same k′ kb ∙ sym q in
+        let t : facing k′ ≡ 0 = omega arith in
+        let s : k / 3 ≡ 0 = omega arith in
+        let c = (rw (e, t) at (hits k′ kb)) b (rw s at (user-inside u m n fil j k jl (omega arith) b)) j (rw s at (user-found u m n fil j k jl (omega arith) b)) (omega arith) z in
+        c .taker refl
+
+    calm-putter : (k k′ : ℕ) → 3 ≤ k → k < 6 → k′ < 3 → name m j k < 3105 → name m j k ≡ name m i k′ → 5 * waiting (linkPart (firedAt m size i) size (name m j k)) + 11 ≤ size
+    calm-putter k k′ ka kl kb b q =
+        let e : name (firedAt m size i) i k′ ≡ name m j k = same k′ (omega arith) ∙ sym q in
+        let t : facing k′ ≡ 1 = omega arith in
+        let s : k / 3 ≡ 1 = omega arith in
+        let c = (rw (e, t) at (hits k′ (omega arith))) b (rw s at (user-inside u m n fil j k jl kl b)) j (rw s at (user-found u m n fil j k jl kl b)) (omega arith) z in
+        c .putter refl
+
+    pub able-as-before : ableAt (firedAt m size i) size j ≡ ableAt m size j
+    able-as-before =
+        able-kept m size fits i (omega arith) j (omega arith) ne
+        (λ k kl b. head-kept m size fits i (omega arith) (name m j k) b (λ k′ kl′. apart k k′ (omega arith) (omega arith) (omega arith) b) (once 3 (name m j k) refl (omega arith) b) (λ k′ ka kb q. calm-taker k k′ kl ka kb b q))
+        (λ k ka kl b. room-kept m size fits i (omega arith) (name m j k) b (λ k′ ka′ kl′. apart k k′ kl kl′ (omega arith) b) (once 0 (name m j k) refl (omega arith) b) (λ k′ kb q. calm-putter k k′ ka kl kb b q))
+
+module _ (u m₀ : List ℕ) (size n b : ℕ) (m : List ℕ) (w : List ℕ) (a : Marks) (c : ℕ) (f : Fast u m₀ size n b m (held w a) c) (nb : n ≤ 1024) where
+  -- the first operator with a mark is as far as the plain run would have come
+  going-first : (i : ℕ) → i ≤ n → ((x : ℕ) → x < i → mark (held w a) x ≡ 0) → Going m₀ size n b m c i
+  going-first i h none =
       let g = f .going in
-      record {
-        going = record { done = g .done; upto = rn; quiet = λ j k. go j k (decLt j i); same = g .same; len = g .len };
-        rest = f .rest;
-        static = f .static;
-        wide = f .wide;
-      }
+      record { done = g .done; upto = h; quiet = λ j k. f .rest j (omega arith) (none j k); same = g .same; len = g .len }
+
+  pub fast-moved : (w′ : List ℕ) (r : Marks) → Moved w a w′ r → Fast u m₀ size n b m (held w′ r) c
+  fast-moved w′ r v = rw (v .same) f
+
+  -- nothing has a mark below n
+  pub fast-end : (s : Stands w a) (level : a .low ≡ a .block) (i : ℕ) → n ≤ i → (i < 1024 → Lowest a i) → (1024 ≤ i → Bare (held w a)) → ran m c ≡ runs size n b m₀ 0
+  fast-end s level i h first bare = going-end m₀ size n b m c n (going-first n (omega arith) (go (decLt i 1024))) refl
     where
-      go : (j : ℕ) → j < r → Dec (j < i) → ableAt m size j ≡ false
-      go j k (yes l) = f .going .quiet j l
-      go j k (no l) = f .rest j (omega arith) (e j (omega arith) k)
+      go : Dec (i < 1024) → (x : ℕ) → x < n → mark (held w a) x ≡ 0
+      go (yes k) x l = none-below w a s level i (first k) x (omega arith)
+      go (no k) x l = bare (omega arith) x (omega arith)
 
-  -- one that was not able is put to sleep
-  pub fast-next : i < n → ableAt m size i ≡ false → Fast u m₀ size n b (firedAt m size i) (slept w i) c (i + 1)
-  fast-next lt e =
-      let g = going-next m₀ size n b m c i (f .going) lt e in
-      record {
-        going = g;
-        rest = λ j k z. rw (fired-idle m size i e) (go j k z (ℕ-discrete j i));
-        static = λ at k. rw (fired-idle m size i e) (f .static at k);
-        wide = length-slept w i ∙ f .wide;
-      }
-    where
-      go : (j : ℕ) → j < n → mark (slept w i) j ≡ 0 → Dec (j ≡ i) → ableAt m size j ≡ false
-      go j k z (yes p) = rw p e
-      go j k z (no q) = f .rest j k (sym (mark-slept-other w i (omega (arith, f .wide)) j q) ∙ z)
+  module _ (s : Stands w a) (level : a .low ≡ a .block) (i : ℕ) (l : Lowest a i) where
+    -- one that was not able is put to sleep
+    pub fast-next : ableAt m size i ≡ false → (r : Marks) → Cleared a i r → Fast u m₀ size n b (firedAt m size i) (held w r) c
+    fast-next e r k =
+        rw (fired-idle m size i e, held-cleared w a s i l r k)
+        (record { going = f .going; rest = λ j jl z. go j jl z (ℕ-discrete j i); filled = f .filled })
+      where
+        wide : i / 64 < length (held w a)
+        wide = omega (arith, length-set w (a .block) (a .here), s .len, s .inside, l .block)
 
-  -- a firing
-  module _ (cov : Covers u m₀ (6 * n)) (w′ : List ℕ) (r : ℕ) (wk : Woke w i w′ r) (hits : Hits u (firedAt m size i) i 6 w′ r) (lt : i < n) (up : mark w i ≢ 0) where
-    m′ : List ℕ
-    m′ = firedAt m size i
+        go : (j : ℕ) → j < n → mark (slept (held w a) i) j ≡ 0 → Dec (j ≡ i) → ableAt m size j ≡ false
+        go j jl z (yes p) = rw p e
+        go j jl z (no q) = f .rest j jl (sym (mark-slept-other (held w a) i wide j q) ∙ z)
 
-    static′ : (at : ℕ) → at < 16640 → getD (firedAt m size i) at 0 ≡ getD m₀ at 0
-    static′ at k = static-fired m size h i (omega arith) at k ∙ f .static at k
-
-    -- one that is not awake shares no link with i
-    lonely : (j : ℕ) → j < n → (Awake w′ r j → ⊥) → (k k′ : ℕ) → k < 6 → k′ < 6 → name m j k < 3105 → name m j k ≢ name m i k′
-    lonely j jl na k k′ kl kl′ b e =
-        let a1 = same-name m m₀ (f .static) j k (omega arith) kl in
-        let a2 = same-name m m₀ (f .static) i k′ (omega arith) kl′ in
-        let a3 = same-name (firedAt m size i) m₀ static′ i k′ (omega arith) kl′ in
-        let q : name (firedAt m size i) i k′ ≡ name m₀ j k = a3 ∙ sym a2 ∙ sym e ∙ a1 in
-        let b0 : name m₀ j k < 3105 = (rw a1 at b) in
-        na (hits k′ j kl′ (omega arith) (rw q b0) (rw q (covered u m₀ n cov j k jl kl b0)))
-
-    stays : (j : ℕ) → j < n → j ≢ i → (Awake w′ r j → ⊥) → ableAt m size j ≡ false → ableAt (firedAt m size i) size j ≡ false
-    stays j jl ne na e = able-far m size h i (omega arith) j (omega arith) ne (lonely j jl na) ∙ e
-
-    quiet′ : Quiet (firedAt m size i) size r
-    quiet′ j jr = let a = wk .less in stays j (omega arith) (omega arith) (λ y. let z = y .1 in omega arith) (f .going .quiet j (omega arith))
-
-    rest′ : (j : ℕ) → j < n → mark w′ j ≡ 0 → ableAt (firedAt m size i) size j ≡ false
-    rest′ j jl z =
-        let s = wk .asleep j z in
-        stays j jl (λ p. up (rw p at s)) (λ y. let o = y .0 in omega arith) (f .rest j jl s)
-
-    pub fast-fire : c < b → ableAt m size i ≡ true → length (firedAt m size i) ≡ length m → Fast u m₀ size n b (firedAt m size i) w′ (c + 1) r
-    fast-fire cb e l = record {
-      going = (let a = wk .less in going-fire m₀ size n b m c i (f .going) r (omega arith) cb lt e l quiet′);
-      rest = rest′;
-      static = static′;
-      wide = wk .len ∙ f .wide;
+    -- a firing
+    pub fast-fire : need size ≤ length m → i < n → (w′ : List ℕ) (r : Marks) → Woken u (firedAt m size i) size i w a w′ r → c < b → ableAt m size i ≡ true →
+        length (firedAt m size i) ≡ length m → Fast u m₀ size n b (firedAt m size i) (held w′ r) (c + 1)
+    fast-fire fits lt w′ r k cb e len = record {
+      going = going-fire m₀ size n b m c i (going-first i (omega arith) (none-below w a s level i l)) 0 (omega arith) cb lt e len (quiet-none (firedAt m size i) size);
+      rest = λ j jl z. go j jl z (ℕ-discrete j i);
+      filled = filled-same u m (firedAt m size i) (6 * n) (omega arith) (λ j k jl kl. port-fired m size fits i (omega arith) j k jl kl) (f .filled);
     }
+      where
+        own : mark (held w′ r) i ≡ 0 → ableAt (firedAt m size i) size i ≡ false
+        own z =
+            let o = k .own z in
+            let p = port-fired m size fits i (omega arith) i 0 (omega arith) (omega arith) in
+            rested m size fits i (omega arith) e (rw p at (o .0)) (rw p at (o .1))
+
+        go : (j : ℕ) → j < n → mark (held w′ r) j ≡ 0 → Dec (j ≡ i) → ableAt (firedAt m size i) size j ≡ false
+        go j jl z (yes p) = rw p (own (rw p at z))
+        go j jl z (no q) =
+            able-as-before u m size n fits nb i lt (f .filled) (held w′ r) (k .hits) j jl q z ∙ f .rest j jl (k .asleep j q z)

@@ -10,7 +10,7 @@ use lib.Dec.{ltb}
 use lib.ListN.{length}
 use Rattle.value.specs.Operators.{pick}
 use Rattle.machine_firing.specs.Fire.{ableAt, firedAt}
-use Rattle.machine_runs.specs.Run.{leastFrom, least, Ran, ran, runs}
+use Rattle.machine_runs.specs.Run.{leastFrom, least, Ran, ran, runs, stillAt}
 
 -- nothing below i is able
 abbrev pub Quiet : List ℕ → ℕ → ℕ → Type 0
@@ -105,3 +105,16 @@ module _ (m₀ : List ℕ) (size n b : ℕ) (m : List ℕ) (c i : ℕ) (g : Goin
 
   pub going-full : b ≤ c → ran m c ≡ runs size n b m₀ 0
   going-full h = let d = g .done in let z : b - c ≡ 0 = omega arith in sym (runs-zero size n m c) ∙ ap (λ (x : ℕ). runs size n x m c) (sym z) ∙ g .same
+
+-- "It is below the number only when nothing can fire": a run that made fewer firings than it was lent left nothing able
+pub runs-below : (size n b : ℕ) (m : List ℕ) (c : ℕ) → runs size n b m c .count < c + b → stillAt (runs size n b m c .mem) size n ≡ true
+unfolding runs stillAt
+runs-below size n zero m c h = absurd (omega arith)
+runs-below size n (suc b) m c h = go (ltb (least m size n) n) refl (runs-below size n b (firedAt m size (least m size n)) (c + 1)) h
+  where
+    go : (t : Bool) → ltb (least m size n) n ≡ t
+        → (runs size n b (firedAt m size (least m size n)) (c + 1) .count < c + 1 + b → stillAt (runs size n b (firedAt m size (least m size n)) (c + 1) .mem) size n ≡ true)
+        → pick t (runs size n b (firedAt m size (least m size n)) (c + 1)) (ran m c) .count < c + suc b
+        → stillAt (pick t (runs size n b (firedAt m size (least m size n)) (c + 1)) (ran m c) .mem) size n ≡ true
+    go true e I h = I (omega arith)
+    go false e I h = rw e refl

@@ -1,27 +1,42 @@
 // Runs of the machine (document 01, "Running"). The definition is specs/Run: the least-numbered able
 // operator fires, again and again. `run` makes it without looking at every operator after each
-// firing: one that was found not able is passed over until a firing touches a link that it names
+// firing: one that was found not able is passed over until a firing may have made it able
 // (specs/Marks). Assumes that the memory is as long as a machine needs, and nothing of its contents.
+use machine_marks::Marks;
 ghost use mathlib.Core.Path.{_≡_};
-ghost use mathlib.Core.Bool.{true};
+ghost use mathlib.Core.Bool.{false};
 ghost use Prim.Native.Nat.{ℕ, _+_, _-_, _*_, _/_, _≤_, _<_};
 ghost use lib.ListN.{length, getD};
-ghost use Rattle.machine_layout.specs.Layout.{mostOperators, mostLinks, registersAt, leastSize, mostSize, need};
+ghost use Rattle.machine_layout.specs.Layout.{mostOperators, mostLinks, leastSize, mostSize, need};
+ghost use Rattle.machine_queue.specs.Stretch.{waiting};
+ghost use Rattle.machine_firing.specs.LinkLaws.{linkPart};
+ghost use Rattle.machine_marks.specs.Held.{held, Stands, Lowest, Woke};
+ghost use Rattle.machine_marks.specs.Users.{Filled};
 ghost use Rattle.machine_runs.specs.Run.{Ran, ran, runs, stillAt};
-ghost use Rattle.machine_runs.specs.Far.{name};
-ghost use Rattle.machine_runs.specs.Users.{Found, Noted, Covers};
-ghost use Rattle.machine_runs.specs.Words.{markWords, mark, woken, slept, None};
-ghost use Rattle.machine_runs.specs.Marks.{Awake, Woke, Hits};
+ghost use Rattle.machine_runs.specs.Marks.{Calm, facing, Hit, Hits, Rests, Woken};
 
-// Two places a link for the operators that name it, and the number of none.
+// An operator's ports: inputs, then outputs.
+const FIRST_INPUT: usize = 0;
+
+const FIRST_OUTPUT: usize = 3;
+
+const PORTS: usize = 6;
+
+// The bytes of a token in a link's stretch, and those of the count and two tokens.
+const TOKEN: usize = 5;
+
+const TWO_FREE: usize = 11;
+
+// The tables' lengths, two places a link, and the most links of the first two.
+const FEW_LINKS: usize = 64;
+
+const FEW_USERS: usize = 128;
+
+const MORE_LINKS: usize = 512;
+
+const MORE_USERS: usize = 1024;
+
 const USERS: usize = 6210;
-
-const NO_USER: usize = 65535;
-
-// A mark for each operator, 64 in a word; and a word with all of them.
-const MARK_WORDS: usize = 16;
-
-const ALL_MARKS: u64 = 18446744073709551615;
 
 // Scans from the first operator after each firing.
 pub fn run_plain(mem: &mut [u8], size: usize, n: usize, budget: u32) -> u32
@@ -34,7 +49,7 @@ pub fn run_plain(mem: &mut [u8], size: usize, n: usize, budget: u32) -> u32
         if i == n {
             return count;
         }
-        if machine_firing::fire_at(mem, size, i) {
+        if machine_operators::fire_at(mem, size, i) {
             count += 1;
             i = 0;
         } else {
@@ -44,191 +59,178 @@ pub fn run_plain(mem: &mut [u8], size: usize, n: usize, budget: u32) -> u32
     count
 }
 
-// A user's number; that of no user is past every operator.
-fn user_of(x: u16) -> usize
-    ensures { λ r. ⌜ (r ≡ x) × (r < 65536) ⌝ }
+// How many tokens wait on link l.
+fn waiting_on(mem: &[u8], size: usize, l: usize) -> usize
+    requires { ⌜ (leastSize ≤ size) × (size ≤ mostSize) × (need size ≤ length (now mem)) × (l < mostLinks) ⌝ }
+    ensures { λ r. ⌜ (r ≡ waiting (linkPart (now (mem .entry)) size l)) × (r < 256) ⌝ }
 {
-    x as usize
+    let a = machine_layout::link_at(size, l);
+    let e = a + size;
+    machine_queue::waiting(&mem[a..e])
 }
 
-// The link of port k of operator j: 0 to 2 an input, 3 to 5 an output.
-fn port_of(mem: &[u8], j: usize, k: usize) -> usize
-    requires { ⌜ (registersAt ≤ length (now mem)) × (j < mostOperators) × (k < 6) ⌝ }
-    ensures { λ r. ⌜ (r ≡ name (now (mem .entry)) j k) × (r < 65536) ⌝ }
-{
-    let at = machine_layout::operator_at(j);
-    machine_layout::name_at(mem, at + machine_layout::PORTS_AT, k)
-}
-
-// Notes that operator j names link l; false where two others do.
-fn note(users: &mut [u16], l: usize, j: usize) -> bool
-    requires { ⌜ (2 * mostLinks ≤ length (now users)) × (j < mostOperators) ⌝ }
-    ensures { λ r. ⌜ Noted (now (users .entry)) (now (users .exit)) l j r ⌝ }
+// Whether a firing may have made the user of link l on a side able: its putter, where fewer than two
+// places are free now; its taker, where one token waits now.
+fn due(mem: &[u8], size: usize, l: usize, side: usize) -> bool
+    requires { ⌜ (leastSize ≤ size) × (size ≤ mostSize) × (need size ≤ length (now mem)) ⌝ }
+    ensures { λ r. ⌜ (r ≡ false → l < mostLinks → Calm (now (mem .entry)) size l side) ⌝ }
 {
     if machine_layout::LINKS <= l {
-        return true;
+        return false;
     }
-    let a = 2 * l;
-    let x = user_of(users[a]);
-    if x == NO_USER {
-        users[a] = j as u16;
-        return true;
+    let count = waiting_on(mem, size, l);
+    if side == machine_marks::PUTTER {
+        return size < TOKEN * count + TWO_FREE;
     }
-    if x == j {
-        return true;
-    }
-    let e = a + 1;
-    let y = user_of(users[e]);
-    if y == NO_USER {
-        users[e] = j as u16;
-        return true;
-    }
-    if y == j {
-        return true;
-    }
-    false
+    count == 1
 }
 
-// Notes every name of the n operators; false where some link has a third user.
-fn fill_users(mem: &[u8], n: usize, users: &mut [u16]) -> bool
-    requires { ⌜ (registersAt ≤ length (now mem)) × (n ≤ mostOperators) × (2 * mostLinks ≤ length (now users)) ⌝ }
-    ensures { λ r. ⌜ (r ≡ true → Covers (now (users .exit)) (now (mem .entry)) (6 * n)) ⌝ }
+// Marks the user of link l on a side, where that is due.
+fn wake_user(
+    mem: &[u8],
+    size: usize,
+    users: &[u16],
+    l: usize,
+    side: usize,
+    awake: &mut [u64],
+    m: Marks,
+) -> Marks
+    requires { ⌜ (leastSize ≤ size) × (size ≤ mostSize) × (need size ≤ length (now mem)) × (l < 65536) × (side < 2) × (Stands (now awake) m) ⌝ }
+    ensures { λ r. ⌜ (Woke (now (awake .entry)) m (now (awake .exit)) r) × (Hit (now (users .entry)) (now (mem .entry)) size l side (held (now (awake .exit)) r)) ⌝ }
 {
-    let end = 6 * n;
-    let mut e = 0;
-    while e < end {
-        let j = e / 6;
-        let k = e % 6;
-        let l = port_of(mem, j, k);
-        if note(users, l, j) {
-            e += 1;
-        } else {
-            return false;
-        }
+    if due(mem, size, l, side) {
+        let u = machine_marks::user_of(users, l, side);
+        return machine_marks::wake(awake, m, u);
     }
-    true
+    m
 }
 
-// Marks operator u. A mark that is there is not written anew: most are, and a write would hold up the next read.
-fn set_mark(awake: &mut [u64], u: usize)
-    requires { ⌜ (markWords ≤ length (now awake)) × (u < mostOperators) ⌝ }
-    ensures { λ _. ⌜ now (awake .exit) ≡ woken (now (awake .entry)) u ⌝ }
+// The side on which another operator uses the link of port k: an input's putter, an output's taker.
+fn facing_side(k: usize) -> usize
+    ensures { λ r. ⌜ (r ≡ facing k) × (r < 2) ⌝ }
 {
-    let at = u / 64;
-    let word = awake[at];
-    if (word >> (u % 64)) % 2 == 0 {
-        awake[at] = word | (1u64 << (u % 64));
+    if k < FIRST_OUTPUT {
+        return machine_marks::PUTTER;
     }
+    machine_marks::TAKER
 }
 
-// Takes the mark of operator u away.
-fn clear_mark(awake: &mut [u64], u: usize)
-    requires { ⌜ (markWords ≤ length (now awake)) × (u < mostOperators) ⌝ }
-    ensures { λ _. ⌜ now (awake .exit) ≡ slept (now (awake .entry)) u ⌝ }
+// Marks the other users of the links of operator i, where that is due. One call of `wake_user` in a
+// loop keeps the marks out of memory; two such loops cost a call each.
+fn wake_users(
+    mem: &[u8],
+    size: usize,
+    users: &[u16],
+    i: usize,
+    awake: &mut [u64],
+    m: Marks,
+) -> Marks
+    requires { ⌜ (leastSize ≤ size) × (size ≤ mostSize) × (need size ≤ length (now mem)) × (i < mostOperators) × (Stands (now awake) m) ⌝ }
+    ensures { λ r. ⌜ (Woke (now (awake .entry)) m (now (awake .exit)) r) × (Hits (now (users .entry)) (now (mem .entry)) size i 6 (held (now (awake .exit)) r)) ⌝ }
 {
-    let at = u / 64;
-    awake[at] = awake[at] & !(1u64 << (u % 64));
-}
-
-// The first marked operator from i on, or machine_layout::OPERATORS.
-fn next_mark(awake: &[u64], i: usize) -> usize
-    requires { ⌜ (markWords ≤ length (now awake)) × (i ≤ mostOperators) ⌝ }
-    ensures { λ r. ⌜ (i ≤ r) × (r ≤ mostOperators) × (None (now (awake .entry)) i r) × (r < mostOperators → mark (now (awake .entry)) r ≡ 1) ⌝ }
-{
-    let mut j = i;
-    while j < machine_layout::OPERATORS {
-        let rest = awake[j / 64] >> (j % 64);
-        if rest != 0 {
-            return j + u64::trailing_zeros(rest) as usize;
-        }
-        j = 64 * (j / 64 + 1);
-    }
-    machine_layout::OPERATORS
-}
-
-// Marks operator u, and tells the lesser of u and low.
-fn wake_one(awake: &mut [u64], u: usize, low: usize) -> usize
-    requires { ⌜ markWords ≤ length (now awake) ⌝ }
-    ensures { λ r. ⌜ (Woke (now (awake .entry)) low (now (awake .exit)) r) × (u < mostOperators → Awake (now (awake .exit)) r u) ⌝ }
-{
-    if u < machine_layout::OPERATORS {
-        set_mark(awake, u);
-        if u < low {
-            return u;
-        }
-        return low;
-    }
-    low
-}
-
-// Marks the operators that name link l.
-fn wake_link(users: &[u16], awake: &mut [u64], l: usize, low: usize) -> usize
-    requires { ⌜ (markWords ≤ length (now awake)) × (2 * mostLinks ≤ length (now users)) ⌝ }
-    ensures { λ r. ⌜ (Woke (now (awake .entry)) low (now (awake .exit)) r) × ((x : ℕ) → x < mostOperators → l < mostLinks → Found (now (users .entry)) l x → Awake (now (awake .exit)) r x) ⌝ }
-{
-    if l < machine_layout::LINKS {
-        let a = 2 * l;
-        let e = a + 1;
-        let x = user_of(users[a]);
-        let y = user_of(users[e]);
-        let first = wake_one(awake, x, low);
-        return wake_one(awake, y, first);
-    }
-    low
-}
-
-// Marks the operators that name a link of operator i, and tells the least number among them and i.
-fn wake(mem: &[u8], users: &[u16], awake: &mut [u64], i: usize) -> usize
-    requires { ⌜ (registersAt ≤ length (now mem)) × (markWords ≤ length (now awake)) × (2 * mostLinks ≤ length (now users)) × (i < mostOperators) ⌝ }
-    ensures { λ r. ⌜ (Woke (now (awake .entry)) i (now (awake .exit)) r) × Hits (now (users .entry)) (now (mem .entry)) i 6 (now (awake .exit)) r ⌝ }
-{
-    let mut low = i;
+    let mut more = m;
     let mut k = 0;
-    while k < 6 {
-        let l = port_of(mem, i, k);
-        low = wake_link(users, awake, l, low);
+    while k < PORTS {
+        let l = machine_marks::port_of(mem, i, k);
+        let side = facing_side(k);
+        more = wake_user(mem, size, users, l, side, awake, more);
         k += 1;
     }
-    low
+    more
 }
 
-// The run, with a mark for each operator that may be able.
-pub fn run(mem: &mut [u8], size: usize, n: usize, budget: u32) -> u32
+// The marks without that of operator i, which has fired, where nothing waits on its first input: no
+// kind is able then.
+fn rest(mem: &[u8], size: usize, i: usize, m: Marks) -> Marks
+    requires { ⌜ (leastSize ≤ size) × (size ≤ mostSize) × (need size ≤ length (now mem)) × (i < mostOperators) × (i / 64 ≡ m .block) ⌝ }
+    ensures { λ r. ⌜ Rests (now (mem .entry)) size i m r ⌝ }
+{
+    let l = machine_marks::port_of(mem, i, FIRST_INPUT);
+    if machine_layout::LINKS <= l {
+        return m;
+    }
+    if waiting_on(mem, size, l) == 0 {
+        return machine_marks::without(m, i);
+    }
+    m
+}
+
+// The marks after a firing of operator i: who gives to its inputs and who takes from its outputs may
+// be able now, it may not.
+fn wake(mem: &[u8], size: usize, users: &[u16], i: usize, awake: &mut [u64], m: Marks) -> Marks
+    requires { ⌜ (leastSize ≤ size) × (size ≤ mostSize) × (need size ≤ length (now mem)) × (i < mostOperators) × (Stands (now awake) m) × (m .low ≡ m .block) × (Lowest m i) ⌝ }
+    ensures { λ r. ⌜ Woken (now (users .entry)) (now (mem .entry)) size i (now (awake .entry)) m (now (awake .exit)) r ⌝ }
+{
+    let own = rest(mem, size, i, m);
+    let all = wake_users(mem, size, users, i, awake, own);
+    machine_marks::backward(awake, all)
+}
+
+// The run, with a mark for each operator that may be able, over a table of the links' users.
+fn run_marked(mem: &mut [u8], size: usize, n: usize, budget: u32, users: &[u16]) -> u32
+    requires { ⌜ (leastSize ≤ size) × (size ≤ mostSize) × (need size ≤ length (now mem)) × (n ≤ mostOperators) × (Filled (now users) (now mem) (6 * n)) ⌝ }
+    ensures { λ r. ⌜ ran (now (mem .exit)) r ≡ runs size n budget (now (mem .entry)) 0 ⌝ }
+{
+    let mut awake = [machine_marks::ALL_MARKS; machine_marks::MARK_WORDS];
+    let mut m = Marks {
+        here: machine_marks::ALL_MARKS,
+        block: 0,
+        low: 0,
+    };
+    let mut fired: u32 = 0;
+    while fired < budget {
+        m = machine_marks::forward(&mut awake, m);
+        let i = machine_marks::first_of(m);
+        if n <= i {
+            return fired;
+        }
+        if machine_operators::fire_at(mem, size, i) {
+            fired += 1;
+            m = wake(mem, size, users, i, &mut awake, m);
+        } else {
+            m = machine_marks::without(m, i);
+        }
+    }
+    fired
+}
+
+// The run over a lent table, all its places free; the plain one where the links do not fit it.
+fn run_over(mem: &mut [u8], size: usize, n: usize, budget: u32, users: &mut [u16]) -> u32
     requires { ⌜ (leastSize ≤ size) × (size ≤ mostSize) × (need size ≤ length (now mem)) × (n ≤ mostOperators) ⌝ }
     ensures { λ r. ⌜ ran (now (mem .exit)) r ≡ runs size n budget (now (mem .entry)) 0 ⌝ }
 {
-    let mut users = [machine_layout::NO_LINK; USERS];
-    let known = fill_users(mem, n, &mut users);
-    if known {
-        let mut awake = [ALL_MARKS; MARK_WORDS];
-        let mut count: u32 = 0;
-        let mut i: usize = 0;
-        while count < budget {
-            i = next_mark(&awake, i);
-            if n <= i {
-                return count;
-            }
-            if machine_firing::fire_at(mem, size, i) {
-                count += 1;
-                i = wake(mem, &users, &mut awake, i);
-            } else {
-                clear_mark(&mut awake, i);
-                i += 1;
-            }
-        }
-        return count;
+    if machine_marks::fill_users(mem, n, users) {
+        return run_marked(mem, size, n, budget, users);
     }
     run_plain(mem, size, n, budget)
 }
 
-// Whether nothing can fire (refusal 36 is its opposite, after the lent firings).
-pub fn idle(mem: &[u8], size: usize, n: usize) -> bool
+// The run. Its table is as long as the stored number of links asks, in three steps: a blank one costs time.
+pub fn run(mem: &mut [u8], size: usize, n: usize, budget: u32) -> u32
     requires { ⌜ (leastSize ≤ size) × (size ≤ mostSize) × (need size ≤ length (now mem)) × (n ≤ mostOperators) ⌝ }
-    ensures { λ r. ⌜ r ≡ stillAt (now (mem .entry)) size n ⌝ }
+    ensures { λ r. ⌜ ran (now (mem .exit)) r ≡ runs size n budget (now (mem .entry)) 0 ⌝ }
+{
+    let links = machine_layout::links(mem);
+    if links <= FEW_LINKS {
+        let mut few = [machine_layout::NO_LINK; FEW_USERS];
+        return run_over(mem, size, n, budget, &mut few);
+    }
+    if links <= MORE_LINKS {
+        let mut more = [machine_layout::NO_LINK; MORE_USERS];
+        return run_over(mem, size, n, budget, &mut more);
+    }
+    let mut all = [machine_layout::NO_LINK; USERS];
+    run_over(mem, size, n, budget, &mut all)
+}
+
+// Whether nothing can fire (refusal 36 is its opposite, after the lent firings).
+pub fn idle(mem: &mut [u8], size: usize, n: usize) -> bool
+    requires { ⌜ (leastSize ≤ size) × (size ≤ mostSize) × (need size ≤ length (now mem)) × (n ≤ mostOperators) ⌝ }
+    ensures { λ r. ⌜ (r ≡ stillAt (now (mem .entry)) size n) × (now (mem .exit) ≡ now (mem .entry)) ⌝ }
 {
     let mut i = 0;
     while i < n {
-        if machine_firing::able_at(mem, size, i) {
+        if machine_operators::able_at(mem, size, i) {
             return false;
         }
         i += 1;

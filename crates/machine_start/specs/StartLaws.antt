@@ -15,6 +15,7 @@ use Rattle.formula.specs.declared.Verdict.the-variants.{Passed, Refused}
 use Rattle.formula.specs.Refusals.{numberOf}
 use Rattle.formula.specs.Tree.{Exp, formulaOf}
 use Rattle.formula.specs.Tests.{verdictOf}
+use Rattle.formula.specs.Acceptance.{Admissible, passed-admissible}
 use Rattle.machine_layout.specs.Layout.{stored16, sizeOf, linkAt, need, capacityIn}
 use Rattle.graph.specs.Translation.{madeOf}
 use Rattle.machine_start.specs.Start.{begun, refusal, accepted, figureBytes, figured, named, emptied, startedMemory, byVerdict, started}
@@ -111,6 +112,7 @@ pub record AcceptedStart (s : List ℕ) (c : ℕ) (m : List ℕ) : Type 0 where
   pub some : 1 ≤ c
   pub most : c ≤ 16
   pub passed : verdictOf s ≡ Passed
+  pub admissible : Admissible s
   pub whole : started s c m ≡ begun (accepted (madeOf (formulaOf s))) (startedMemory (madeOf (formulaOf s)) c m)
 
 -- "11 comes before all", "14 .. after 11, before 1": an answer without a refusal is one of an accepted sheet, a capacity of 1 to 16 and enough memory.
@@ -134,5 +136,6 @@ accepted-start s c m e = go (ltb (length m) (need (sizeOf (capacityIn c)))) refl
           some = low;
           most = high;
           passed = w;
+          admissible = passed-admissible s w;
           whole = started-read s c m enough low high ∙ verdict-passed (verdictOf s) (formulaOf s) c m w;
         }

@@ -1,3 +1,4 @@
 pub mod Below
 pub mod Valid
 pub mod Figures
+pub mod Ports

@@ -4,18 +4,28 @@
 // is as long as its stored capacity needs.
 ghost use mathlib.Core.Path.{_≡_};
 ghost use Prim.Native.Nat.{ℕ, _+_, _*_, _≤_, _<_};
+ghost use mathlib.Core.List.{[], _∷_};
 ghost use lib.ListN.{length};
-ghost use Rattle.machine_layout.specs.Layout.{mostOperators, mostLinks, mostInputs, mostResults, recordsAt, linksAt, resultLinksAt, leastSize, mostSize, need, sizeOf, capacityOf};
-ghost use Rattle.machine_layout.specs.Kinds.{inputsOfKind, outputsOfKind, hasPort, mayLack};
+ghost use Rattle.machine_layout.specs.Layout.{mostOperators, mostLinks, mostInputs, mostResults, recordsAt, linksAt, resultLinksAt, leastSize, mostSize, need, sizeOf, capacityOf, linksOf, noLink, nameAt};
 ghost use Rattle.machine_valid.specs.Below.{allBelow};
-ghost use Rattle.machine_valid.specs.Valid.{unlike, freshAt, resultOk, inputOk, portOk, namedOk, registerOk, kindOk, operatorOk, stretchOk, linkOk, figuresOk, valid};
+ghost use Rattle.machine_valid.specs.Valid.{unlike, freshAt, resultOk, inputOk, registerOk, operatorOk, stretchOk, linkOk, figuresOk, valid};
+ghost use Rattle.machine_valid.specs.Ports.{apart, nones, shaped, wellPorted};
 
-// Ports 0 to 2 of an operator are inputs, the others outputs.
-const PORTS: usize = 6;
+// The ports of an operator in their row: three inputs, three outputs.
+const IN1: usize = 0;
 
-const FIRST_OUTPUT: usize = 3;
+const IN2: usize = 1;
 
-const SECOND_OUTPUT: usize = 4;
+const IN3: usize = 2;
+
+const OUT1: usize = 3;
+
+const OUT2: usize = 4;
+
+const OUT3: usize = 5;
+
+// The four bytes of two names that are none.
+const TWO_NONES: usize = 4294967295;
 
 fn is_unlike(x: usize, y: usize) -> bool
     ensures { λ r. ⌜ r ≡ unlike x y ⌝ }
@@ -97,86 +107,207 @@ fn inputs_ok(mem: &[u8], k: usize) -> bool
     true
 }
 
-// How many inputs a kind has (document 01: "10 and 11 take one operand, the rest two").
-fn inputs_of_kind(kind: u8) -> usize
-    ensures { λ r. ⌜ r ≡ inputsOfKind kind ⌝ }
+// Whether names p and p + 1 of a row are none, as one figure of four bytes.
+fn both_none(mem: &[u8], at: usize, p: usize) -> bool
+    requires { ⌜ (at + 2 * p + 4 ≤ length (now mem)) × (at < 65000) × (p < 6) ⌝ }
+    ensures { λ r. ⌜ r ≡ nones (nameAt (now (mem .entry)) at (p + 1) ∷ nameAt (now (mem .entry)) at p ∷ []) ⌝ }
 {
-    match kind {
-        10..=machine_layout::COPY => 1,
-        machine_layout::M | machine_layout::IC | machine_layout::FM => 3,
-        _ => 2,
-    }
+    let low = machine_layout::name_at(mem, at, p);
+    let high = machine_layout::name_at(mem, at, p + 1);
+    low + 65536 * high == TWO_NONES
 }
 
-fn outputs_of_kind(kind: u8) -> usize
-    ensures { λ r. ⌜ r ≡ outputsOfKind kind ⌝ }
+// Whether names are those of links, no two the same.
+fn are_two(links: usize, x: usize, y: usize) -> bool
+    ensures { λ r. ⌜ r ≡ apart links (y ∷ x ∷ []) ⌝ }
 {
-    match kind {
-        machine_layout::COPY => 2,
-        machine_layout::IC => 3,
-        _ => 1,
-    }
-}
-
-fn has_port(kind: u8, p: usize) -> bool
-    ensures { λ r. ⌜ r ≡ hasPort kind p ⌝ }
-{
-    if p < FIRST_OUTPUT {
-        return p < inputs_of_kind(kind);
-    }
-    p - FIRST_OUTPUT < outputs_of_kind(kind)
-}
-
-// "An output with no user": IC's second.
-fn may_lack(kind: u8, p: usize) -> bool
-    ensures { λ r. ⌜ r ≡ mayLack kind p ⌝ }
-{
-    if kind == machine_layout::IC {
-        return p == SECOND_OUTPUT;
-    }
-    false
-}
-
-fn port_ok(kind: u8, links: usize, p: usize, x: usize) -> bool
-    ensures { λ r. ⌜ r ≡ portOk kind links p x ⌝ }
-{
-    if has_port(kind, p) {
-        if x < links {
-            return true;
-        }
-        if may_lack(kind, p) {
-            return x == machine_firing::NOWHERE;
-        }
+    if links <= y {
         return false;
     }
-    x == machine_firing::NOWHERE
+    if y == x {
+        return false;
+    }
+    x < links
 }
 
-fn named_ok(mem: &[u8], at: usize, kind: u8, p: usize) -> bool
-    requires { ⌜ (at + 12 ≤ length (now mem)) × (recordsAt ≤ at) × (at < 65000) × (p < 6) ⌝ }
-    ensures { λ r. ⌜ r ≡ namedOk (now (mem .entry)) at kind p ⌝ }
+fn are_three(links: usize, x: usize, y: usize, z: usize) -> bool
+    ensures { λ r. ⌜ r ≡ apart links (z ∷ y ∷ x ∷ []) ⌝ }
 {
-    let links = machine_layout::links(mem);
-    let x = machine_layout::name_at(mem, at, p);
-    if port_ok(kind, links, p, x) {
-        return is_fresh(mem, at, p);
+    if links <= z {
+        return false;
     }
-    false
+    if z == y {
+        return false;
+    }
+    if z == x {
+        return false;
+    }
+    are_two(links, x, y)
 }
 
-fn names_ok(mem: &[u8], at: usize, kind: u8) -> bool
-    requires { ⌜ (at + 12 ≤ length (now mem)) × (recordsAt ≤ at) × (at < 65000) ⌝ }
-    ensures { λ r. ⌜ r ≡ allBelow 6 (namedOk (now (mem .entry)) at kind) ⌝ }
+fn are_four(links: usize, w: usize, x: usize, y: usize, z: usize) -> bool
+    ensures { λ r. ⌜ r ≡ apart links (z ∷ y ∷ x ∷ w ∷ []) ⌝ }
 {
-    let mut p = 0;
-    while p < PORTS {
-        if named_ok(mem, at, kind, p) {
-            p += 1;
-        } else {
-            return false;
-        }
+    if links <= z {
+        return false;
     }
-    true
+    if z == y {
+        return false;
+    }
+    if z == x {
+        return false;
+    }
+    if z == w {
+        return false;
+    }
+    are_three(links, w, x, y)
+}
+
+fn are_five(links: usize, v: usize, w: usize, x: usize, y: usize, z: usize) -> bool
+    ensures { λ r. ⌜ r ≡ apart links (z ∷ y ∷ x ∷ w ∷ v ∷ []) ⌝ }
+{
+    if links <= z {
+        return false;
+    }
+    if z == y {
+        return false;
+    }
+    if z == x {
+        return false;
+    }
+    if z == w {
+        return false;
+    }
+    if z == v {
+        return false;
+    }
+    are_four(links, v, w, x, y)
+}
+
+fn are_six(links: usize, u: usize, v: usize, w: usize, x: usize, y: usize, z: usize) -> bool
+    ensures { λ r. ⌜ r ≡ apart links (z ∷ y ∷ x ∷ w ∷ v ∷ u ∷ []) ⌝ }
+{
+    if links <= z {
+        return false;
+    }
+    if z == y {
+        return false;
+    }
+    if z == x {
+        return false;
+    }
+    if z == w {
+        return false;
+    }
+    if z == v {
+        return false;
+    }
+    if z == u {
+        return false;
+    }
+    are_five(links, u, v, w, x, y)
+}
+
+fn two_to_one(mem: &[u8], links: usize, at: usize) -> bool
+    requires { ⌜ (at + 12 ≤ length (now mem)) × (at < 65000) ⌝ }
+    ensures { λ r. ⌜ r ≡ shaped links (nameAt (now (mem .entry)) at 3 ∷ nameAt (now (mem .entry)) at 1 ∷ nameAt (now (mem .entry)) at 0 ∷ []) (nameAt (now (mem .entry)) at 5 ∷ nameAt (now (mem .entry)) at 4 ∷ nameAt (now (mem .entry)) at 2 ∷ []) ⌝ }
+{
+    if !both_none(mem, at, OUT2) {
+        return false;
+    }
+    if machine_layout::name_at(mem, at, IN3) != machine_firing::NOWHERE {
+        return false;
+    }
+    are_three(
+        links,
+        machine_layout::name_at(mem, at, IN1),
+        machine_layout::name_at(mem, at, IN2),
+        machine_layout::name_at(mem, at, OUT1),
+    )
+}
+
+fn one_to_one(mem: &[u8], links: usize, at: usize) -> bool
+    requires { ⌜ (at + 12 ≤ length (now mem)) × (at < 65000) ⌝ }
+    ensures { λ r. ⌜ r ≡ shaped links (nameAt (now (mem .entry)) at 3 ∷ nameAt (now (mem .entry)) at 0 ∷ []) (nameAt (now (mem .entry)) at 5 ∷ nameAt (now (mem .entry)) at 4 ∷ nameAt (now (mem .entry)) at 2 ∷ nameAt (now (mem .entry)) at 1 ∷ []) ⌝ }
+{
+    if !both_none(mem, at, OUT2) {
+        return false;
+    }
+    if !both_none(mem, at, IN2) {
+        return false;
+    }
+    are_two(
+        links,
+        machine_layout::name_at(mem, at, IN1),
+        machine_layout::name_at(mem, at, OUT1),
+    )
+}
+
+fn one_to_two(mem: &[u8], links: usize, at: usize) -> bool
+    requires { ⌜ (at + 12 ≤ length (now mem)) × (at < 65000) ⌝ }
+    ensures { λ r. ⌜ r ≡ shaped links (nameAt (now (mem .entry)) at 4 ∷ nameAt (now (mem .entry)) at 3 ∷ nameAt (now (mem .entry)) at 0 ∷ []) (nameAt (now (mem .entry)) at 5 ∷ nameAt (now (mem .entry)) at 2 ∷ nameAt (now (mem .entry)) at 1 ∷ []) ⌝ }
+{
+    if machine_layout::name_at(mem, at, OUT3) != machine_firing::NOWHERE {
+        return false;
+    }
+    if !both_none(mem, at, IN2) {
+        return false;
+    }
+    are_three(
+        links,
+        machine_layout::name_at(mem, at, IN1),
+        machine_layout::name_at(mem, at, OUT1),
+        machine_layout::name_at(mem, at, OUT2),
+    )
+}
+
+fn three_to_one(mem: &[u8], links: usize, at: usize) -> bool
+    requires { ⌜ (at + 12 ≤ length (now mem)) × (at < 65000) ⌝ }
+    ensures { λ r. ⌜ r ≡ shaped links (nameAt (now (mem .entry)) at 3 ∷ nameAt (now (mem .entry)) at 2 ∷ nameAt (now (mem .entry)) at 1 ∷ nameAt (now (mem .entry)) at 0 ∷ []) (nameAt (now (mem .entry)) at 5 ∷ nameAt (now (mem .entry)) at 4 ∷ []) ⌝ }
+{
+    if !both_none(mem, at, OUT2) {
+        return false;
+    }
+    are_four(
+        links,
+        machine_layout::name_at(mem, at, IN1),
+        machine_layout::name_at(mem, at, IN2),
+        machine_layout::name_at(mem, at, IN3),
+        machine_layout::name_at(mem, at, OUT1),
+    )
+}
+
+// IC. "An output with no user": the second.
+fn three_to_three(mem: &[u8], links: usize, at: usize) -> bool
+    requires { ⌜ (at + 12 ≤ length (now mem)) × (at < 65000) ⌝ }
+    ensures { λ r. ⌜ r ≡ wellPorted 18 links (nameAt (now (mem .entry)) at) ⌝ }
+{
+    let in1 = machine_layout::name_at(mem, at, IN1);
+    let in2 = machine_layout::name_at(mem, at, IN2);
+    let in3 = machine_layout::name_at(mem, at, IN3);
+    let out1 = machine_layout::name_at(mem, at, OUT1);
+    let out2 = machine_layout::name_at(mem, at, OUT2);
+    let out3 = machine_layout::name_at(mem, at, OUT3);
+    if out2 == machine_firing::NOWHERE {
+        return are_five(links, in1, in2, in3, out1, out3);
+    }
+    are_six(links, in1, in2, in3, out1, out2, out3)
+}
+
+// Whether a kind's ports name links, no two the same, and the others none; there are no kinds but these.
+fn ports_ok(kind: u8, mem: &[u8], links: usize, at: usize) -> bool
+    requires { ⌜ (at + 12 ≤ length (now mem)) × (at < 65000) ⌝ }
+    ensures { λ r. ⌜ r ≡ wellPorted kind links (nameAt (now (mem .entry)) at) ⌝ }
+{
+    match kind {
+        1..=9 | machine_layout::T | machine_layout::F | machine_layout::E | machine_layout::FS =>
+            two_to_one(mem, links, at),
+        10..=machine_layout::CONSTANT => one_to_one(mem, links, at),
+        machine_layout::COPY => one_to_two(mem, links, at),
+        machine_layout::M | machine_layout::FM => three_to_one(mem, links, at),
+        machine_layout::IC => three_to_three(mem, links, at),
+        _ => false,
+    }
 }
 
 fn register_ok(kind: u8, word: u64) -> bool
@@ -194,25 +325,13 @@ fn register_ok(kind: u8, word: u64) -> bool
     false
 }
 
-fn kind_ok(kind: u8) -> bool
-    ensures { λ r. ⌜ r ≡ kindOk kind ⌝ }
-{
-    if 1 <= kind {
-        return kind <= machine_layout::FS;
-    }
-    false
-}
-
-fn operator_ok(mem: &[u8], i: usize) -> bool
-    requires { ⌜ (linksAt ≤ length (now mem)) × (i < mostOperators) ⌝ }
+fn operator_ok(mem: &[u8], links: usize, i: usize) -> bool
+    requires { ⌜ (linksAt ≤ length (now mem)) × (i < mostOperators) × (links ≡ linksOf (now mem)) × (links ≤ noLink) ⌝ }
     ensures { λ r. ⌜ r ≡ operatorOk (now (mem .entry)) i ⌝ }
 {
     let at = machine_layout::operator_at(i);
     let kind = mem[at];
-    if !kind_ok(kind) {
-        return false;
-    }
-    if !names_ok(mem, at + machine_layout::PORTS_AT, kind) {
+    if !ports_ok(kind, mem, links, at + machine_layout::PORTS_AT) {
         return false;
     }
     let word = value::bytes::load(mem, machine_layout::register_at(i));
@@ -223,9 +342,10 @@ fn operators_ok(mem: &[u8], n: usize) -> bool
     requires { ⌜ (linksAt ≤ length (now mem)) × (n ≤ mostOperators) ⌝ }
     ensures { λ r. ⌜ r ≡ allBelow n (operatorOk (now (mem .entry))) ⌝ }
 {
+    let links = machine_layout::links(mem);
     let mut i = 0;
     while i < n {
-        if operator_ok(mem, i) {
+        if operator_ok(mem, links, i) {
             i += 1;
         } else {
             return false;
@@ -239,6 +359,9 @@ fn stretch_ok(q: &[u8]) -> bool
     ensures { λ r. ⌜ r ≡ stretchOk (now (q .entry)) ⌝ }
 {
     let n = machine_queue::waiting(q);
+    if n == 0 {
+        return true;
+    }
     if q.len() < 5 * n + 1 {
         return false;
     }

@@ -1,5 +1,5 @@
--- The tables that reading an accepted sheet gives (sheet_read/specs/Reading: Told) are such that the maker can work on them, and the formula that it makes
--- the graph of is the sheet's. Document 01: "the last is the formula"; tests 1 to 10. Assumes that the sheet was accepted.
+-- The tables that reading an accepted sheet gives (sheet_read/specs/Reading: Accepts) are such that the maker can work on them, and the formula that it makes
+-- the graph of is the sheet's. Document 01: "the last is the formula"; tests 1 to 10. Assumes an admissible sheet.
 use Prim.Native.Nat.{ℕ, _+_, _-_, _*_, _≤_, _<_}
 use mathlib.Core.Path.{_≡_, refl, sym, ap, ap₂, _∙_, subst}
 use mathlib.Core.Bool.{Bool, true, false}
@@ -9,17 +9,16 @@ use native.Mathlib.Omega.{arith}
 use Rattle.names.specs.Names.{mask}
 use Rattle.formula.specs.declared.Shape.{Shape}
 use Rattle.formula.specs.declared.Shape.the-variants.{Identifier, Whole, Truth, Pair, Operator, Let, If, For, Iter}
-use Rattle.formula.specs.declared.Verdict.the-variants.{Passed as passed}
 use Rattle.formula.specs.Sheet.{rowCount, fieldsOf, shapeAt}
 use Rattle.formula.specs.Tree.{expOf, bodyOf, formulaOf}
 use Rattle.formula.specs.Places.{nodeIn, inBody, placesOf}
 use Rattle.formula.specs.PlaceLaws.{last-place}
 use Rattle.formula.specs.Widths.{returned}
-use Rattle.formula.specs.Tests.{verdictOf}
+use Rattle.formula.specs.Acceptance.{Admissible}
 use Rattle.meaning.specs.Rows.{Placed, widthIn, Accepted}
-use Rattle.meaning.specs.Accepted.{passes, accepted}
+use Rattle.meaning.specs.Accepted.{accepted}
 use Rattle.sheet_tables.specs.Nodes.{returnedIn, freeIn as freeOf}
-use Rattle.sheet_read.specs.Reading.{Tables, Accepts, Told}
+use Rattle.sheet_read.specs.Reading.{Tables, Accepts}
 use Rattle.theory_verdicts.specs.Admitting.{accepted-admitted}
 use Rattle.theory_verdicts.specs.Verdicts.{accepted-graph}
 use Rattle.maker_laid.specs.Nodes.{Kids, Read, freeIn}
@@ -36,13 +35,15 @@ placed-kids P b (If x y z) h = h
 placed-kids P b (For a k x y) h = h
 placed-kids P b (Iter x) h = h
 
-module _ (s : List ℕ) (x : Tables) (told : Told s x) (well : x .verdict ≡ passed) where
-  accepts : Accepts s x
-  accepts = told .accepts well
+module _ (s : List ℕ) (x : Tables) (accepts : Accepts s x) where
+  same-fields : take (5 * x .rows) (x .fields) ≡ fieldsOf s
+  same-fields = ap (λ (k : ℕ). take (5 * k) (x .fields)) (accepts .rows) ∙ accepts .fields
 
-  verdict : verdictOf s ≡ passed
-  verdict = sym (told .verdict) ∙ well
+  pub accepted-formula : expOf (take (5 * x .rows) (x .fields)) (x .rows) ≡ formulaOf s
+  unfolding formulaOf
+  accepted-formula = ap₂ expOf same-fields (accepts .rows)
 
+module _ (s : List ℕ) (x : Tables) (accepts : Accepts s x) (ok : Admissible s) where
   abbrev t : List ℕ
   t = fieldsOf s
 
@@ -80,7 +81,7 @@ module _ (s : List ℕ) (x : Tables) (told : Told s x) (well : x .verdict ≡ pa
 
   rows-accepted : Accepted t widths n
   rows-accepted =
-      accepted s (passes s verdict) widths (omega (arith, widths-long))
+      accepted s ok widths (omega (arith, widths-long))
       (λ r l u. accepts .tables .returned .entry r l u ∙ width-of (place r) r)
 
   read : Read t masks widths
@@ -105,19 +106,12 @@ module _ (s : List ℕ) (x : Tables) (told : Told s x) (well : x .verdict ≡ pa
         rows = refl;
         some = accepts .some;
         place = last-place t n (rows-accepted .named) (accepts .some);
-        admitted = accepted-admitted s verdict;
-        few = accepted-graph s verdict .0;
-        low = accepted-graph s verdict .1;
+        admitted = accepted-admitted s ok;
+        few = accepted-graph s ok .0;
+        low = accepted-graph s ok .1;
       }
-
-  same-fields : take (5 * x .rows) (x .fields) ≡ fieldsOf s
-  same-fields = ap (λ (k : ℕ). take (5 * k) (x .fields)) (accepts .rows) ∙ accepts .fields
-
-  pub accepted-formula : expOf (take (5 * x .rows) (x .fields)) (x .rows) ≡ formulaOf s
-  unfolding formulaOf
-  accepted-formula = ap₂ expOf same-fields (accepts .rows)
 
   pub accepted-makeable : Makeable (take (5 * x .rows) (x .fields)) (x .rows) (take (x .rows) (x .masks)) (take (x .rows) (x .returned))
   accepted-makeable =
       subst (λ (k : ℕ). Makeable (take (5 * x .rows) (x .fields)) k (take k (x .masks)) (take k (x .returned))) (sym (accepts .rows))
-      (subst (λ (f : List ℕ). Makeable f (rowCount s) masks widths) (sym same-fields) sheet-makeable)
+      (subst (λ (f : List ℕ). Makeable f (rowCount s) masks widths) (sym (same-fields s x accepts)) sheet-makeable)

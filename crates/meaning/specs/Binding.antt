@@ -10,7 +10,7 @@ use lib.Seq.{getD-append-add}
 use borrow.Author.Tests.{leb-true, leb-false, ltb-true, ltb-false, le-leb, lt-leb, lt-ltb, le-ltb}
 use native.Mathlib.Omega.{arith}
 use Rattle.value.specs.declared.Value.{Value}
-use Rattle.value.specs.declared.Value.the-variants.{Err}
+use Rattle.value.specs.Senses.{err}
 use Rattle.meaning.specs.Meaning.{Env, bind}
 
 -- Where identifier k stands to the identifiers a to a+b-1.
@@ -28,7 +28,7 @@ side a b k = go (leb a k) refl (ltb k (a + b)) refl
     go true p false q = behind (leb-true a k p) (ltb-false k (a + b) q)
 
 module _ (a b : ℕ) (vs : List Value) (env : Env) (k : ℕ) where
-  pub bound-among : a ≤ k → k < a + b → bind a b vs env k ≡ getD vs (k - a) Err
+  pub bound-among : a ≤ k → k < a + b → bind a b vs env k ≡ getD vs (k - a) err
   unfolding bind
   bound-among p q = simp (le-leb a k p, lt-ltb k (a + b) q)
 
@@ -44,7 +44,7 @@ module _ (a b : ℕ) (vs : List Value) (env : Env) (k : ℕ) where
 
 -- An environment is a binding if it holds the values there, and is as it was elsewhere.
 pub bind-is : (a b : ℕ) (vs : List Value) (env f : Env)
-    → ((k : ℕ) → a ≤ k → k < a + b → f k ≡ getD vs (k - a) Err)
+    → ((k : ℕ) → a ≤ k → k < a + b → f k ≡ getD vs (k - a) err)
     → ((k : ℕ) → k < a → f k ≡ env k)
     → ((k : ℕ) → a + b ≤ k → f k ≡ env k)
     → f ≡ bind a b vs env
@@ -66,21 +66,21 @@ bind-append a vs ws env =
     )
   where
     inside : (k : ℕ) → a ≤ k → k < a + (length vs + length ws)
-        → bind (a + length vs) (length ws) ws (bind a (length vs) vs env) k ≡ getD (vs ++ ws) (k - a) Err
+        → bind (a + length vs) (length ws) ws (bind a (length vs) vs env) k ≡ getD (vs ++ ws) (k - a) err
     inside k h i = go (side a (length vs) k)
       where
         go : Side a (length vs) k
-            → bind (a + length vs) (length ws) ws (bind a (length vs) vs env) k ≡ getD (vs ++ ws) (k - a) Err
+            → bind (a + length vs) (length ws) ws (bind a (length vs) vs env) k ≡ getD (vs ++ ws) (k - a) err
         go (before p) = absurd (omega arith)
         go (among p q) =
             bound-before (a + length vs) (length ws) ws _ k q
             ∙ bound-among a (length vs) vs env k p q
-            ∙ sym (List·getD-append vs ws Err (k - a) (omega arith))
+            ∙ sym (List·getD-append vs ws err (k - a) (omega arith))
         go (behind p q) =
             let e : k - a ≡ length vs + (k - (a + length vs)) = omega arith in
             bound-among (a + length vs) (length ws) ws _ k q (omega arith)
-            ∙ sym (getD-append-add vs ws (k - (a + length vs)) Err)
-            ∙ ap (λ (j : ℕ). getD (vs ++ ws) j Err) (sym e)
+            ∙ sym (getD-append-add vs ws (k - (a + length vs)) err)
+            ∙ ap (λ (j : ℕ). getD (vs ++ ws) j err) (sym e)
 
 -- Bound again, the former values are gone.
 pub bind-again : (a b : ℕ) (vs ws : List Value) (env : Env) → bind a b ws (bind a b vs env) ≡ bind a b ws env
@@ -90,14 +90,14 @@ bind-again a b vs ws env =
     (λ k h. bound-behind a b ws (bind a b vs env) k h ∙ bound-behind a b vs env k h)
 
 -- All of a list's values from 0 on, where there was nothing but err.
-pub bind-list : (vs : List Value) (env : Env) → ((k : ℕ) → env k ≡ Err)
-    → (k : ℕ) → bind 0 (length vs) vs env k ≡ getD vs k Err
+pub bind-list : (vs : List Value) (env : Env) → ((k : ℕ) → env k ≡ err)
+    → (k : ℕ) → bind 0 (length vs) vs env k ≡ getD vs k err
 bind-list vs env h k = go (side 0 (length vs) k)
   where
-    go : Side 0 (length vs) k → bind 0 (length vs) vs env k ≡ getD vs k Err
+    go : Side 0 (length vs) k → bind 0 (length vs) vs env k ≡ getD vs k err
     go (before p) = absurd (omega arith)
     go (among p q) =
         let e : k - 0 ≡ k = omega arith in
-        bound-among 0 (length vs) vs env k p q ∙ ap (λ (j : ℕ). getD vs j Err) e
+        bound-among 0 (length vs) vs env k p q ∙ ap (λ (j : ℕ). getD vs j err) e
     go (behind p q) =
-        bound-behind 0 (length vs) vs env k q ∙ h k ∙ sym (List·getD-eq-default vs Err (omega arith))
+        bound-behind 0 (length vs) vs env k q ∙ h k ∙ sym (List·getD-eq-default vs err (omega arith))

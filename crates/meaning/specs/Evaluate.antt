@@ -6,7 +6,7 @@ use mathlib.Core.List.{List, _++_, map}
 use mathlib.Core.Option.{Option, some, none}
 use lib.ListN.{length, replicate}
 use Rattle.value.specs.declared.Value.{Value}
-use Rattle.value.specs.declared.Value.the-variants.{Err}
+use Rattle.value.specs.Senses.{err}
 use Rattle.value_sets.specs.Sets.{setValues}
 use Rattle.formula.specs.declared.Refusal.{Refusal}
 use Rattle.formula.specs.declared.Refusal.the-variants.{Set, Unfinished}
@@ -24,11 +24,11 @@ cell v = record { v = v }
 
 -- Sixteen cells, err past the values.
 unfoldable pub cellsOf : List Value → List Cell
-cellsOf vs = map cell vs ++ replicate (16 - length vs) (cell Err)
+cellsOf vs = map cell vs ++ replicate (16 - length vs) (cell err)
 
 -- "A refusal's counts and rows are 0 unless stated, its result set has width 0."
 abbrev pub refused : Refusal → ℕ → Evaluation
-refused r row = record { cells = replicate 16 (cell Err); width = 0; rounds = 0; verdict = Refused r row }
+refused r row = record { cells = replicate 16 (cell err); width = 0; rounds = 0; verdict = Refused r row }
 
 -- 36 "evaluation: more rounds needed than lent"; else the rounds used are told.
 unfoldable pub concluded : ℕ → Outcome → Evaluation

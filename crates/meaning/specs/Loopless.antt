@@ -1,13 +1,13 @@
 -- A formula without for: its evaluation ends, and no round is used. Assumes nothing.
 use Prim.Native.Nat.{ℕ}
 use mathlib.Core.Path.{_≡_, refl, _∙_, ap}
-use mathlib.Core.Bool.{true, false}
 use mathlib.Core.List.{List, [], _∷_, _++_}
 use lib.ListN.{getD}
 use Rattle.value.specs.declared.Value.{Value}
-use Rattle.value.specs.declared.Value.the-variants.{Whole, Truth, Err}
+use Rattle.value.specs.Senses.{err, sense}
 use Rattle.formula.specs.Tree.{Exp, identifier, whole, truth, pair, operator, letE, ifE, forE}
-use Rattle.meaning.specs.Meaning.{Env, bind, Outcome, yields, then, branch, evalE}
+use Rattle.meaning.specs.Meaning.{Env, bind, Outcome, yields, then, evalE}
+use Rattle.meaning.specs.Rounds.{branch-holds}
 
 abbrev pub Loopless : Exp → Type 0
 Loopless (identifier a) = Unit {0}
@@ -27,13 +27,6 @@ then-left : (o : Outcome) (k : List Value → ℕ → Outcome) (left : ℕ) → 
 unfolding then
 then-left o k left (vs, e) h = let r = h vs in (r .0, ap (λ z. then z k) e ∙ r .1)
 
-branch-left : (v : Value) (bad : Outcome) (f g : Unit {0} → Outcome) (left : ℕ) → Whole-left bad left → Whole-left (f tt) left → Whole-left (g tt) left → Whole-left (branch v bad f g) left
-unfolding branch
-branch-left (Whole z) bad f g left b p q = b
-branch-left (Truth true) bad f g left b p q = p
-branch-left (Truth false) bad f g left b p q = q
-branch-left Err bad f g left b p q = b
-
 pub loopless-ends : (x : Exp) → Loopless x → (env : Env) (left : ℕ) → Whole-left (evalE x env left) left
 unfolding evalE
 loopless-ends (identifier a) h env left = (env a ∷ [], refl)
@@ -47,5 +40,5 @@ loopless-ends (letE a b x y) h env left =
     then-left (evalE x env left) _ left (loopless-ends x (h .0) env left) (λ vs. loopless-ends y (h .1) (bind a b vs env) left)
 loopless-ends (ifE t x y) h env left =
     then-left (evalE t env left) _ left (loopless-ends t (h .0) env left)
-    (λ vs. branch-left (getD vs 0 Err) _ (λ _. evalE x env left) (λ _. evalE y env left) left (_, refl) (loopless-ends x (h .1) env left) (loopless-ends y (h .2) env left))
+    (λ vs. branch-holds (λ o. Whole-left o left) (sense (getD vs 0 err)) _ (λ _. evalE x env left) (λ _. evalE y env left) (_, refl) (loopless-ends x (h .1) env left) (loopless-ends y (h .2) env left))
 loopless-ends (forE a b x y) h env left = absurd h

@@ -1,13 +1,16 @@
 -- Document 01, "The meaning": direct evaluation of a formula's tree in an environment, with rounds. "A round is one entry
 -- into a loop body." Evaluation is lent a number of rounds and tells those left, or is unfinished where more are needed.
 use Prim.Native.Nat.{ℕ, zero, suc, _-_}
-use mathlib.Core.Bool.{true, false, cond}
+use mathlib.Core.Bool.{cond}
 use mathlib.Core.List.{List, [], _∷_, _++_}
 use lib.ListN.{getD, replicate}
 use lib.IntN.{pos}
 use lib.Dec.{eqb}
 use Rattle.value.specs.declared.Value.{Value}
-use Rattle.value.specs.declared.Value.the-variants.{Whole, Truth, Err}
+use Rattle.value.specs.declared.Value.the-variants.{Whole, Truth}
+use Rattle.value.specs.declared.Sense.{Sense}
+use Rattle.value.specs.declared.Sense.the-variants.{True, False, Neither}
+use Rattle.value.specs.Senses.{err, sense}
 use Rattle.value.specs.Operators.{apply}
 use Rattle.names.specs.Names.{Names, range, below, sizeFrom}
 use Rattle.formula.specs.Tree.{Exp, identifier, whole, truth, pair, operator, letE, ifE, forE, Body, ret, iter, letB, ifB}
@@ -19,12 +22,12 @@ Env = ℕ → Value
 
 -- Identifiers a to a+b-1 bound to values, the first to a.
 unfoldable pub bind : ℕ → ℕ → List Value → Env → Env
-bind a b vs env k = cond (range a b k) (getD vs (k - a) Err) (env k)
+bind a b vs env k = cond (range a b k) (getD vs (k - a) err) (env k)
 
 -- The inputs, rising, hold a set's values in their order.
 unfoldable pub inputsHold : Names → List Value → Env
 unfolding below sizeFrom
-inputsHold f vs k = getD vs (below f k) Err
+inputsHold f vs k = getD vs (below f k) err
 
 -- What an expression yields, with the rounds left; or more rounds are needed than were lent.
 pub data Outcome : Type 0 where
@@ -66,11 +69,10 @@ loop (suc bound) round rebind env left =
     enter left λ l. after (round env l) λ vs l′. loop bound round rebind (rebind vs) l′
 
 -- "of an if only the chosen arm"; the first argument of type A is what a test that is no truth gives.
-unfoldable pub branch : {A : Type 0} → Value → A → (Unit {0} → A) → (Unit {0} → A) → A
-branch (Whole z) bad f g = bad
-branch (Truth true) bad f g = f tt
-branch (Truth false) bad f g = g tt
-branch Err bad f g = bad
+unfoldable pub branch : {A : Type 0} → Sense → A → (Unit {0} → A) → (Unit {0} → A) → A
+branch True bad f g = f tt
+branch False bad f g = g tt
+branch Neither bad f g = bad
 
 -- "every operand and every row c of a let or for is evaluated, used or not; of an if only the chosen arm. .. An if whose test
 -- is no truth gives err for each of its values; in a body it ends the loop with err for each returned value." A body is
@@ -85,11 +87,11 @@ unfoldable mutual
   evalE (pair x y) env left =
       then (evalE x env left) λ vs l. then (evalE y env l) λ ws l′. yields (vs ++ ws) l′
   evalE (operator k x) env left =
-      then (evalE x env left) λ vs l. yields (apply k (getD vs 0 Err) (getD vs 1 Err) ∷ []) l
+      then (evalE x env left) λ vs l. yields (apply k (getD vs 0 err) (getD vs 1 err) ∷ []) l
   evalE (letE a b x y) env left = then (evalE x env left) λ vs l. evalE y (bind a b vs env) l
   evalE (ifE t x y) env left =
       then (evalE t env left) λ vs l.
-      branch (getD vs 0 Err) (yields (replicate (width x) Err) l) (λ _. evalE x env l) (λ _. evalE y env l)
+      branch (sense (getD vs 0 err)) (yields (replicate (width x) err) l) (λ _. evalE x env l) (λ _. evalE y env l)
   evalE (forE a b x y) env left =
       then (evalE x env left) λ vs l.
       loop l (λ e m. evalB y (returned y) e m) (λ ws. bind a b ws env) (bind a b vs env) l
@@ -100,4 +102,4 @@ unfoldable mutual
   evalB (letB a b x y) w env left = thenB (evalE x env left) λ vs l. evalB y w (bind a b vs env) l
   evalB (ifB t x y) w env left =
       thenB (evalE t env left) λ vs l.
-      branch (getD vs 0 Err) (returns (replicate w Err) l) (λ _. evalB x w env l) (λ _. evalB y w env l)
+      branch (sense (getD vs 0 err)) (returns (replicate w err) l) (λ _. evalB x w env l) (λ _. evalB y w env l)

@@ -11,7 +11,9 @@ use native.Mathlib.Nat.{suc-add, le-of-suc-le-suc}
 use lib.Dec.{leb}
 use borrow.Author.Tests.{leb-true, leb-false}
 use Rattle.value.specs.declared.Value.{Value}
-use Rattle.value.specs.declared.Value.the-variants.{Whole, Truth, Err}
+use Rattle.value.specs.declared.Sense.{Sense}
+use Rattle.value.specs.declared.Sense.the-variants.{True, False, Neither}
+use Rattle.value.specs.Senses.{err, sense}
 use Rattle.formula.specs.Tree.{Exp, identifier, whole, truth, pair, operator, letE, ifE, forE, Body, ret, iter, letB, ifB}
 use Rattle.formula.specs.Widths.{returned}
 use Rattle.meaning.specs.Meaning.{Env, bind, Outcome, yields, Ending, again, returns, then, thenB, after, enter, loop, branch, evalE, evalB}
@@ -66,21 +68,13 @@ loop-within round rebind h (suc f) env (suc m) =
     (after-within m (round env m) (λ vs l′. loop f round rebind (rebind vs) l′) (h env m)
     (λ vs l′. loop-within round rebind h f (rebind vs) l′))
 
-branch-within : (n : ℕ) (v : Value) (e : Outcome) (f g : Unit {0} → Outcome)
-    → Within n e → Within n (f tt) → Within n (g tt) → Within n (branch v e f g)
+-- What holds of each way that a branch may go holds of the branch.
+pub branch-holds : {A : Type 0} (P : A → Type 0) (s : Sense) (bad : A) (f g : Unit {0} → A)
+    → P bad → P (f tt) → P (g tt) → P (branch s bad f g)
 unfolding branch
-branch-within n (Whole z) e f g p q r = p
-branch-within n (Truth true) e f g p q r = q
-branch-within n (Truth false) e f g p q r = r
-branch-within n Err e f g p q r = p
-
-branch-within-B : (n : ℕ) (v : Value) (e : Ending) (f g : Unit {0} → Ending)
-    → WithinB n e → WithinB n (f tt) → WithinB n (g tt) → WithinB n (branch v e f g)
-unfolding branch
-branch-within-B n (Whole z) e f g p q r = p
-branch-within-B n (Truth true) e f g p q r = q
-branch-within-B n (Truth false) e f g p q r = r
-branch-within-B n Err e f g p q r = p
+branch-holds P True bad f g p q r = q
+branch-holds P False bad f g p q r = r
+branch-holds P Neither bad f g p q r = p
 
 mutual
   unfolding evalE then thenB loop branch
@@ -98,7 +92,7 @@ mutual
   within (ifE t x y) env l =
       then-within l (evalE t env l) _ (within t env l)
       (λ vs l₁.
-      branch-within l₁ (getD vs 0 Err) _ (λ _. evalE x env l₁) (λ _. evalE y env l₁) (omega arith) (within x env l₁)
+      branch-holds (Within l₁) (sense (getD vs 0 err)) _ (λ _. evalE x env l₁) (λ _. evalE y env l₁) (omega arith) (within x env l₁)
       (within y env l₁)
       )
   within (forE a b x y) env l =
@@ -116,7 +110,7 @@ mutual
   within-B (ifB t x y) w env l =
       then-within-B l (evalE t env l) _ (within t env l)
       (λ vs l₁.
-      branch-within-B l₁ (getD vs 0 Err) _ (λ _. evalB x w env l₁) (λ _. evalB y w env l₁) (omega arith)
+      branch-holds (WithinB l₁) (sense (getD vs 0 err)) _ (λ _. evalB x w env l₁) (λ _. evalB y w env l₁) (omega arith)
       (within-B x w env l₁) (within-B y w env l₁)
       )
 
@@ -225,23 +219,13 @@ loop-more k round rebind q (suc f) (suc f′) p env (suc m) h =
     (after-more k (round env m) (round env (m + k)) _ _ (q env m)
     (λ vs l e. loop-more k round rebind q f f′ (le-of-suc-le-suc p) (rebind vs) l e) h)
 
-branch-more : (k : ℕ) (v : Value) (e e′ : Outcome) (f f′ g g′ : Unit {0} → Outcome)
-    → e′ ≡ extra k e → (Finished (f tt) → f′ tt ≡ extra k (f tt)) → (Finished (g tt) → g′ tt ≡ extra k (g tt))
-    → Finished (branch v e f g) → branch v e′ f′ g′ ≡ extra k (branch v e f g)
+branch-more : {A : Type 0} (Done : A → Type 0) (more : A → A) (s : Sense) (e e′ : A) (f f′ g g′ : Unit {0} → A)
+    → e′ ≡ more e → (Done (f tt) → f′ tt ≡ more (f tt)) → (Done (g tt) → g′ tt ≡ more (g tt))
+    → Done (branch s e f g) → branch s e′ f′ g′ ≡ more (branch s e f g)
 unfolding branch
-branch-more k (Whole z) e e′ f f′ g g′ p q r h = p
-branch-more k (Truth true) e e′ f f′ g g′ p q r h = q h
-branch-more k (Truth false) e e′ f f′ g g′ p q r h = r h
-branch-more k Err e e′ f f′ g g′ p q r h = p
-
-branch-more-B : (k : ℕ) (v : Value) (e e′ : Ending) (f f′ g g′ : Unit {0} → Ending)
-    → e′ ≡ extraB k e → (FinishedB (f tt) → f′ tt ≡ extraB k (f tt)) → (FinishedB (g tt) → g′ tt ≡ extraB k (g tt))
-    → FinishedB (branch v e f g) → branch v e′ f′ g′ ≡ extraB k (branch v e f g)
-unfolding branch
-branch-more-B k (Whole z) e e′ f f′ g g′ p q r h = p
-branch-more-B k (Truth true) e e′ f f′ g g′ p q r h = q h
-branch-more-B k (Truth false) e e′ f f′ g g′ p q r h = r h
-branch-more-B k Err e e′ f f′ g g′ p q r h = p
+branch-more Done more True e e′ f f′ g g′ p q r h = q h
+branch-more Done more False e e′ f f′ g g′ p q r h = r h
+branch-more Done more Neither e e′ f f′ g g′ p q r h = p
 
 mutual
   unfolding evalE extra extraB then thenB
@@ -266,7 +250,7 @@ mutual
   more-rounds (ifE t x y) k env l h =
       then-more k (evalE t env l) (evalE t env (l + k)) _ (λ e. more-rounds t k env l e)
       (λ vs l₁ h₁.
-      branch-more k (getD vs 0 Err) _ _ _ _ _ _ refl (λ e. more-rounds x k env l₁ e) (λ e. more-rounds y k env l₁ e) h₁
+      branch-more Finished (extra k) (sense (getD vs 0 err)) _ _ _ _ _ _ refl (λ e. more-rounds x k env l₁ e) (λ e. more-rounds y k env l₁ e) h₁
       )
       h
   more-rounds (forE a b x y) k env l h =
@@ -289,7 +273,7 @@ mutual
   more-rounds-B (ifB t x y) k w env l h =
       then-more-B k (evalE t env l) (evalE t env (l + k)) _ (λ e. more-rounds t k env l e)
       (λ vs l₁ h₁.
-      branch-more-B k (getD vs 0 Err) _ _ _ _ _ _ refl (λ e. more-rounds-B x k w env l₁ e)
+      branch-more FinishedB (extraB k) (sense (getD vs 0 err)) _ _ _ _ _ _ refl (λ e. more-rounds-B x k w env l₁ e)
       (λ e. more-rounds-B y k w env l₁ e) h₁
       )
       h

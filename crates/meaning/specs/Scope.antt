@@ -8,7 +8,7 @@ use lib.Dec.{eqb}
 use lib.ListN.{getD, replicate}
 use borrow.Author.Tests.{eq-eqb}
 use Rattle.value.specs.declared.Value.{Value}
-use Rattle.value.specs.declared.Value.the-variants.{Err}
+use Rattle.value.specs.Senses.{err, sense}
 use Rattle.value.specs.Operators.{apply}
 use Rattle.names.specs.Names.{Names, trigger, one, union, without, range}
 use Rattle.formula.specs.Tree.{Exp, identifier, whole, truth, pair, operator, letE, ifE, forE, Body, ret, iter, letB, ifB}
@@ -45,7 +45,7 @@ agree-bound f a b vs e e′ h k i = go (range a b k) (λ n. h k (out (f k) (rang
     out true true s t = sym t
     out false q s t = s
 
-    go : (r : Bool) → (r ≡ false → e k ≡ e′ k) → cond r (getD vs (k - a) Err) (e k) ≡ cond r (getD vs (k - a) Err) (e′ k)
+    go : (r : Bool) → (r ≡ false → e k ≡ e′ k) → cond r (getD vs (k - a) err) (e k) ≡ cond r (getD vs (k - a) err) (e′ k)
     go true n = refl
     go false n = n refl
 
@@ -69,13 +69,13 @@ mutual
       then (scope-E x e e′ (agree-left (freeE x) (freeE y) e e′ h) left i)
       (λ vs l. then (scope-E y e e′ (agree-right (freeE x) (freeE y) e e′ h) l i) (λ ws m. yields (vs ++ ws) m))
   scope-E (operator k x) e e′ h left = λ i.
-      then (scope-E x e e′ h left i) (λ vs l. yields (apply k (getD vs 0 Err) (getD vs 1 Err) ∷ []) l)
+      then (scope-E x e e′ h left i) (λ vs l. yields (apply k (getD vs 0 err) (getD vs 1 err) ∷ []) l)
   scope-E (letE a b x y) e e′ h left = λ i.
       then (scope-E x e e′ (agree-left (freeE x) (without (freeE y) (range a b)) e e′ h) left i)
       (λ vs l. scope-E y (bind a b vs e) (bind a b vs e′) (agree-bound (freeE y) a b vs e e′ (agree-right (freeE x) (without (freeE y) (range a b)) e e′ h)) l i)
   scope-E (ifE t x y) e e′ h left = λ i.
       then (scope-E t e e′ (agree-left (freeE t) (union (freeE x) (freeE y)) e e′ h) left i)
-      (λ vs l. branch (getD vs 0 Err) (yields (replicate (width x) Err) l)
+      (λ vs l. branch (sense (getD vs 0 err)) (yields (replicate (width x) err) l)
       (λ _. scope-E x e e′ (agree-left (freeE x) (freeE y) e e′ (agree-right (freeE t) (union (freeE x) (freeE y)) e e′ h)) l i)
       (λ _. scope-E y e e′ (agree-right (freeE x) (freeE y) e e′ (agree-right (freeE t) (union (freeE x) (freeE y)) e e′ h)) l i))
   scope-E (forE a b x y) e e′ h left = λ i.
@@ -96,6 +96,6 @@ mutual
       (λ vs l. scope-B y w (bind a b vs e) (bind a b vs e′) (agree-bound (freeB y) a b vs e e′ (agree-right (freeE x) (without (freeB y) (range a b)) e e′ h)) l i)
   scope-B (ifB t x y) w e e′ h left = λ i.
       thenB (scope-E t e e′ (agree-left (freeE t) (union (freeB x) (freeB y)) e e′ h) left i)
-      (λ vs l. branch (getD vs 0 Err) (returns (replicate w Err) l)
+      (λ vs l. branch (sense (getD vs 0 err)) (returns (replicate w err) l)
       (λ _. scope-B x w e e′ (agree-left (freeB x) (freeB y) e e′ (agree-right (freeE t) (union (freeB x) (freeB y)) e e′ h)) l i)
       (λ _. scope-B y w e e′ (agree-right (freeB x) (freeB y) e e′ (agree-right (freeE t) (union (freeB x) (freeB y)) e e′ h)) l i))

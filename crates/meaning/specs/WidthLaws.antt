@@ -3,20 +3,21 @@
 -- Assumes that every node of the tree passes test 8.
 use Prim.Native.Nat.{ℕ, zero, suc, _+_, _≤_}
 use mathlib.Core.Path.{_≡_, refl, sym, _∙_}
-use mathlib.Core.Bool.{true, false, not, _&&_, false≢true}
+use mathlib.Core.Bool.{true, not, _&&_, false≢true}
 use mathlib.Core.List.{List, _++_}
 use lib.Dec.{eqb, leb}
 use lib.ListN.{length, getD, length-replicate, length-append}
 use borrow.Author.Tests.{leb-true, eqb-true, ne-eqb}
 use native.Mathlib.Omega.{arith}
 use Rattle.value.specs.declared.Value.{Value}
-use Rattle.value.specs.declared.Value.the-variants.{Whole, Truth, Err}
+use Rattle.value.specs.Senses.{err, sense}
 use Rattle.value.specs.Operators.{operands}
 use Rattle.formula.specs.Tree.{Exp, identifier, whole, truth, pair, operator, letE, ifE, forE, Body, ret, iter, letB, ifB}
 use Rattle.formula.specs.Widths.{width, returned, iterated, either, agree, fittingE, fittingB, wideE, wideB}
 use Rattle.formula.specs.TreeLaws.{and-true}
 use Rattle.formula.specs.Admitted.{AdmittedE, AdmittedB}
-use Rattle.meaning.specs.Meaning.{Env, bind, Outcome, yields, Ending, again, returns, then, thenB, after, enter, loop, branch, evalE, evalB}
+use Rattle.meaning.specs.Meaning.{Env, bind, Outcome, yields, Ending, again, returns, then, thenB, after, enter, loop, evalE, evalB}
+use Rattle.meaning.specs.Rounds.{branch-holds}
 
 -- ---- what test 8 says of a node, as equations
 
@@ -187,22 +188,6 @@ loop-sized n w round rebind h (suc f) env (suc m) =
     after-sized n w (round env m) (λ vs l′. loop f round rebind (rebind vs) l′) (h env m)
     (λ vs l′. loop-sized n w round rebind h f (rebind vs) l′)
 
-branch-sized : (n : ℕ) (v : Value) (e : Outcome) (f g : Unit {0} → Outcome)
-    → Sized n e → Sized n (f tt) → Sized n (g tt) → Sized n (branch v e f g)
-unfolding branch
-branch-sized n (Whole z) e f g p q r = p
-branch-sized n (Truth true) e f g p q r = q
-branch-sized n (Truth false) e f g p q r = r
-branch-sized n Err e f g p q r = p
-
-branch-sized-B : (n w : ℕ) (v : Value) (e : Ending) (f g : Unit {0} → Ending)
-    → SizedB n w e → SizedB n w (f tt) → SizedB n w (g tt) → SizedB n w (branch v e f g)
-unfolding branch
-branch-sized-B n w (Whole z) e f g p q r = p
-branch-sized-B n w (Truth true) e f g p q r = q
-branch-sized-B n w (Truth false) e f g p q r = r
-branch-sized-B n w Err e f g p q r = p
-
 -- An arm's iterated values are as many as the two arms'.
 arm-sized : (n m w : ℕ) (o : Ending) → Suits n m → SizedB n w o → SizedB m w o
 arm-sized n m w (again vs l) s h = (h .0 ∙ s (h .1), omega (arith, h .1, s (h .1)))
@@ -230,7 +215,7 @@ mutual
   sized (ifE t x y) s env l =
       then-sized (width t) (width x) (evalE t env l) _ (sized t (s .1) env l)
       (λ vs l₁ h.
-      branch-sized (width x) (getD vs 0 Err) _ (λ _. evalE x env l₁) (λ _. evalE y env l₁) (length-replicate (width x) Err)
+      branch-holds (Sized (width x)) (sense (getD vs 0 err)) _ (λ _. evalE x env l₁) (λ _. evalE y env l₁) (length-replicate (width x) err)
       (sized x (s .2) env l₁)
       (rw (if-fits t x y (s .0) .1) (sized y (s .3) env l₁))
       )
@@ -260,8 +245,8 @@ mutual
       in
       then-sized-B (width t) (either (iterated x) (iterated y)) w (evalE t env l) _ (sized t (s .1) env l)
       (λ vs l₁ h.
-      branch-sized-B (either (iterated x) (iterated y)) w (getD vs 0 Err) _ (λ _. evalB x w env l₁) (λ _. evalB y w env l₁)
-      (length-replicate w Err)
+      branch-holds (SizedB (either (iterated x) (iterated y)) w) (sense (getD vs 0 err)) _ (λ _. evalB x w env l₁) (λ _. evalB y w env l₁)
+      (length-replicate w err)
       (arm-sized (iterated x) _ w (evalB x w env l₁) (on .0) (sized-B x (s .2) w (back .0) env l₁))
       (arm-sized (iterated y) _ w (evalB y w env l₁) (on .1) (sized-B y (s .3) w (back .1) env l₁))
       )

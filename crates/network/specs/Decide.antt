@@ -7,7 +7,10 @@ use mathlib.Core.Bool.{Bool, true, false}
 use mathlib.Core.List.{[], _∷_}
 use mathlib.Core.Option.{Option, none, some}
 use Rattle.value.specs.declared.Value.{Value}
-use Rattle.network.specs.Values.{Sense, is-true, is-false, is-neither, sense, one-operand}
+use Rattle.value.specs.declared.Sense.{Sense}
+use Rattle.value.specs.declared.Sense.the-variants.{True, False, Neither}
+use Rattle.value.specs.Senses.{sense}
+use Rattle.network.specs.Values.{one-operand}
 use Rattle.network.specs.Rules.{Kind, constant, copy, operator, T-gate, F-gate, M-gate, E-gate, IC-gate, FM-gate, FS-gate, Register, Firing, takes, gives, never, Input, first, second, third, T-rule, F-rule, M-rule, E-rule, chosen, IC-table, fired, FS-rule, operator-rule, rule}
 use Rattle.network.specs.Histories.{History}
 use Rattle.network.specs.HistoryLaw.{Outcome, outcome}
@@ -62,43 +65,43 @@ abbrev after-control : Taken
 after-control = also first untouched
 
 T-once : (g : Register) (s : Sense) → Once after-control (T-rule g s)
-T-once g is-true = (refl, λ v. tt)
-T-once g is-false = (refl, λ v. tt)
-T-once g is-neither = (refl, λ v. tt)
+T-once g True = (refl, λ v. tt)
+T-once g False = (refl, λ v. tt)
+T-once g Neither = (refl, λ v. tt)
 
 F-once : (g : Register) (s : Sense) → Once after-control (F-rule g s)
-F-once g is-true = (refl, λ v. tt)
-F-once g is-false = (refl, λ v. tt)
-F-once g is-neither = (refl, λ v. tt)
+F-once g True = (refl, λ v. tt)
+F-once g False = (refl, λ v. tt)
+F-once g Neither = (refl, λ v. tt)
 
 M-once : (g : Register) (s : Sense) → Once after-control (M-rule g s)
-M-once g is-true = (refl, λ v. tt)
-M-once g is-false = (refl, λ v. tt)
-M-once g is-neither = tt
+M-once g True = (refl, λ v. tt)
+M-once g False = (refl, λ v. tt)
+M-once g Neither = tt
 
 E-once : (g : Register) (s : Sense) → Once after-control (E-rule g s)
-E-once g is-true = (refl, λ v. tt)
-E-once g is-false = (refl, λ v. tt)
-E-once g is-neither = tt
+E-once g True = (refl, λ v. tt)
+E-once g False = (refl, λ v. tt)
+E-once g Neither = tt
 
 table-once : (t : Taken) (g : Register) (c s : Sense) → Once t (IC-table g c s)
-table-once t g is-true is-true = tt
-table-once t g is-true is-false = tt
-table-once t g is-true is-neither = tt
-table-once t g is-false is-true = tt
-table-once t g is-false is-false = tt
-table-once t g is-false is-neither = tt
-table-once t g is-neither s = tt
+table-once t g True True = tt
+table-once t g True False = tt
+table-once t g True Neither = tt
+table-once t g False True = tt
+table-once t g False False = tt
+table-once t g False Neither = tt
+table-once t g Neither s = tt
 
 IC-once : (g : Register) (s : Sense) → Once after-control (chosen s (IC-table g s))
-IC-once g is-true = (refl, λ v. table-once (also second after-control) g is-true (sense v))
-IC-once g is-false = (refl, λ v. table-once (also third after-control) g is-false (sense v))
-IC-once g is-neither = tt
+IC-once g True = (refl, λ v. table-once (also second after-control) g True (sense v))
+IC-once g False = (refl, λ v. table-once (also third after-control) g False (sense v))
+IC-once g Neither = tt
 
 FS-once : (r : Value) (s : Sense) → Once after-control (FS-rule r s)
-FS-once r is-true = tt
-FS-once r is-false = (refl, λ v. tt)
-FS-once r is-neither = (refl, λ v. tt)
+FS-once r True = tt
+FS-once r False = (refl, λ v. tt)
+FS-once r Neither = (refl, λ v. tt)
 
 operator-once : (b : Bool) (code : ℕ) (g : Register) (v : Value) → Once after-control (operator-rule b code g v)
 operator-once true code g v = tt

@@ -8,7 +8,10 @@ use mathlib.Core.Bool.{Bool, true, false, false≢true}
 use mathlib.Core.List.{List, [], _∷_, _++_}
 use mathlib.Core.Option.{Option, none, some}
 use Rattle.value.specs.declared.Value.{Value}
-use Rattle.network.specs.Values.{err-value, Sense, is-true, is-false, is-neither, sense, one-operand}
+use Rattle.value.specs.declared.Sense.{Sense}
+use Rattle.value.specs.declared.Sense.the-variants.{True, False, Neither}
+use Rattle.value.specs.Senses.{sense}
+use Rattle.network.specs.Values.{err-value, one-operand}
 use Rattle.network.specs.Rules.{Kind, constant, copy, operator, T-gate, F-gate, M-gate, E-gate, IC-gate, FM-gate, FS-gate, Register, Firing, takes, gives, never, Input, first, second, third, T-rule, F-rule, M-rule, E-rule, chosen, IC-table, operator-rule, rule}
 use Rattle.network.specs.Net.{Token, val, mark, Demand, ask, fire, halt}
 
@@ -89,39 +92,39 @@ module _ (g : Register) where
   Keeps f = Gives (λ h. h ≡ g) f
 
   T-keeps : (s : Sense) → Keeps (T-rule g s)
-  T-keeps is-true = λ v. refl
-  T-keeps is-false = λ v. refl
-  T-keeps is-neither = λ v. refl
+  T-keeps True = λ v. refl
+  T-keeps False = λ v. refl
+  T-keeps Neither = λ v. refl
 
   F-keeps : (s : Sense) → Keeps (F-rule g s)
-  F-keeps is-true = λ v. refl
-  F-keeps is-false = λ v. refl
-  F-keeps is-neither = λ v. refl
+  F-keeps True = λ v. refl
+  F-keeps False = λ v. refl
+  F-keeps Neither = λ v. refl
 
   M-keeps : (s : Sense) → Keeps (M-rule g s)
-  M-keeps is-true = λ v. refl
-  M-keeps is-false = λ v. refl
-  M-keeps is-neither = refl
+  M-keeps True = λ v. refl
+  M-keeps False = λ v. refl
+  M-keeps Neither = refl
 
   E-keeps : (s : Sense) → Keeps (E-rule g s)
-  E-keeps is-true = λ v. refl
-  E-keeps is-false = λ v. refl
-  E-keeps is-neither = refl
+  E-keeps True = λ v. refl
+  E-keeps False = λ v. refl
+  E-keeps Neither = refl
 
-  IC-true-keeps : (s : Sense) → Keeps (IC-table g is-true s)
-  IC-true-keeps is-true = refl
-  IC-true-keeps is-false = refl
-  IC-true-keeps is-neither = refl
+  IC-true-keeps : (s : Sense) → Keeps (IC-table g True s)
+  IC-true-keeps True = refl
+  IC-true-keeps False = refl
+  IC-true-keeps Neither = refl
 
-  IC-false-keeps : (s : Sense) → Keeps (IC-table g is-false s)
-  IC-false-keeps is-true = refl
-  IC-false-keeps is-false = refl
-  IC-false-keeps is-neither = refl
+  IC-false-keeps : (s : Sense) → Keeps (IC-table g False s)
+  IC-false-keeps True = refl
+  IC-false-keeps False = refl
+  IC-false-keeps Neither = refl
 
   IC-keeps : (s : Sense) → Keeps (chosen s (IC-table g s))
-  IC-keeps is-true = λ v. IC-true-keeps (sense v)
-  IC-keeps is-false = λ v. IC-false-keeps (sense v)
-  IC-keeps is-neither = refl
+  IC-keeps True = λ v. IC-true-keeps (sense v)
+  IC-keeps False = λ v. IC-false-keeps (sense v)
+  IC-keeps Neither = refl
 
   operator-keeps : (b : Bool) (code : ℕ) (v : Value) → Keeps (operator-rule b code g v)
   operator-keeps true code v = refl

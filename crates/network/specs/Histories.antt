@@ -8,7 +8,10 @@ use mathlib.Core.Bool.{Bool, true, false}
 use mathlib.Core.List.{List, [], _∷_}
 use mathlib.Core.Option.{Option, none, some}
 use Rattle.value.specs.declared.Value.{Value}
-use Rattle.network.specs.Values.{true-value, false-value, err-value, Sense, is-true, is-false, is-neither, sense, one-operand, apply}
+use Rattle.value.specs.declared.Sense.{Sense}
+use Rattle.value.specs.declared.Sense.the-variants.{True, False, Neither}
+use Rattle.value.specs.Senses.{sense}
+use Rattle.network.specs.Values.{true-value, false-value, err-value, one-operand, apply}
 use Rattle.network.specs.Rules.{Kind, constant, copy, operator, T-gate, F-gate, M-gate, E-gate, IC-gate, FM-gate, FS-gate, Register}
 
 abbrev pub History : Type 0
@@ -60,26 +63,26 @@ copy-history xs = record { out1 = xs; out2 = xs; out3 = [] }
 abbrev pub T-history : List Sense → History → History
 T-history [] ys = []
 T-history (x ∷ xs) [] = []
-T-history (is-true ∷ xs) (y ∷ ys) = y ∷ T-history xs ys
-T-history (is-false ∷ xs) (y ∷ ys) = T-history xs ys
-T-history (is-neither ∷ xs) (y ∷ ys) = T-history xs ys
+T-history (True ∷ xs) (y ∷ ys) = y ∷ T-history xs ys
+T-history (False ∷ xs) (y ∷ ys) = T-history xs ys
+T-history (Neither ∷ xs) (y ∷ ys) = T-history xs ys
 
 -- O[F gate], continuing as F (his `T gate` is a misprint)
 abbrev pub F-history : List Sense → History → History
 F-history [] ys = []
 F-history (x ∷ xs) [] = []
-F-history (is-false ∷ xs) (y ∷ ys) = y ∷ F-history xs ys
-F-history (is-true ∷ xs) (y ∷ ys) = F-history xs ys
-F-history (is-neither ∷ xs) (y ∷ ys) = F-history xs ys
+F-history (False ∷ xs) (y ∷ ys) = y ∷ F-history xs ys
+F-history (True ∷ xs) (y ∷ ys) = F-history xs ys
+F-history (Neither ∷ xs) (y ∷ ys) = F-history xs ys
 
 -- O[M gate]
 abbrev pub M-history : List Sense → History → History → History
 M-history [] ys zs = []
-M-history (is-true ∷ xs) [] zs = []
-M-history (is-true ∷ xs) (y ∷ ys) zs = y ∷ M-history xs ys zs
-M-history (is-false ∷ xs) ys [] = []
-M-history (is-false ∷ xs) ys (z ∷ zs) = z ∷ M-history xs ys zs
-M-history (is-neither ∷ xs) ys zs = err-value ∷ M-history xs ys zs
+M-history (True ∷ xs) [] zs = []
+M-history (True ∷ xs) (y ∷ ys) zs = y ∷ M-history xs ys zs
+M-history (False ∷ xs) ys [] = []
+M-history (False ∷ xs) ys (z ∷ zs) = z ∷ M-history xs ys zs
+M-history (Neither ∷ xs) ys zs = err-value ∷ M-history xs ys zs
 
 -- O[FM gate], continuing as M: "a M gate with a built-in initial false control value"
 abbrev pub FM-history : List Sense → History → History → History
@@ -89,11 +92,11 @@ FM-history xs ys (z ∷ zs) = z ∷ M-history xs ys zs
 -- S_z, with document 01's "An iter? that is no truth .. counts as false", and O[FS gate]
 abbrev pub S-history : Value → List Sense → History → History
 S-history z [] ys = []
-S-history z (is-true ∷ xs) ys = z ∷ S-history z xs ys
-S-history z (is-false ∷ xs) [] = []
-S-history z (is-false ∷ xs) (y ∷ ys) = y ∷ S-history y xs ys
-S-history z (is-neither ∷ xs) [] = []
-S-history z (is-neither ∷ xs) (y ∷ ys) = y ∷ S-history y xs ys
+S-history z (True ∷ xs) ys = z ∷ S-history z xs ys
+S-history z (False ∷ xs) [] = []
+S-history z (False ∷ xs) (y ∷ ys) = y ∷ S-history y xs ys
+S-history z (Neither ∷ xs) [] = []
+S-history z (Neither ∷ xs) (y ∷ ys) = y ∷ S-history y xs ys
 
 abbrev pub FS-history : List Sense → History → History
 FS-history xs [] = []
@@ -103,24 +106,24 @@ FS-history xs (y ∷ ys) = y ∷ S-history y xs ys
 -- as document 02 later asks.
 abbrev pub IC-history : List Sense → List Sense → List Sense → Outputs
 IC-history [] ys zs = silence
-IC-history (is-true ∷ xs) [] zs = silence
-IC-history (is-true ∷ xs) (is-true ∷ ys) zs = followed (some true-value) (some true-value) none (IC-history xs ys zs)
-IC-history (is-true ∷ xs) (is-false ∷ ys) zs = followed (some false-value) none (some true-value) (IC-history xs ys zs)
-IC-history (is-false ∷ xs) ys [] = silence
-IC-history (is-false ∷ xs) ys (is-true ∷ zs) = followed (some true-value) (some false-value) none (IC-history xs ys zs)
-IC-history (is-false ∷ xs) ys (is-false ∷ zs) = followed (some false-value) none (some false-value) (IC-history xs ys zs)
-IC-history (is-neither ∷ xs) ys zs = followed (some false-value) none (some err-value) (IC-history xs ys zs)
-IC-history (is-true ∷ xs) (is-neither ∷ ys) zs = followed (some false-value) none (some true-value) (IC-history xs ys zs)
-IC-history (is-false ∷ xs) ys (is-neither ∷ zs) = followed (some false-value) none (some false-value) (IC-history xs ys zs)
+IC-history (True ∷ xs) [] zs = silence
+IC-history (True ∷ xs) (True ∷ ys) zs = followed (some true-value) (some true-value) none (IC-history xs ys zs)
+IC-history (True ∷ xs) (False ∷ ys) zs = followed (some false-value) none (some true-value) (IC-history xs ys zs)
+IC-history (False ∷ xs) ys [] = silence
+IC-history (False ∷ xs) ys (True ∷ zs) = followed (some true-value) (some false-value) none (IC-history xs ys zs)
+IC-history (False ∷ xs) ys (False ∷ zs) = followed (some false-value) none (some false-value) (IC-history xs ys zs)
+IC-history (Neither ∷ xs) ys zs = followed (some false-value) none (some err-value) (IC-history xs ys zs)
+IC-history (True ∷ xs) (Neither ∷ ys) zs = followed (some false-value) none (some true-value) (IC-history xs ys zs)
+IC-history (False ∷ xs) ys (Neither ∷ zs) = followed (some false-value) none (some false-value) (IC-history xs ys zs)
 
 -- O[E gate], with the err of a bad control that his last line lacks
 abbrev pub E-history : List Sense → History → History
 E-history [] ys = []
-E-history (is-true ∷ xs) [] = []
-E-history (is-false ∷ xs) [] = []
-E-history (is-true ∷ xs) (y ∷ ys) = y ∷ E-history xs ys
-E-history (is-false ∷ xs) (y ∷ ys) = y ∷ E-history xs ys
-E-history (is-neither ∷ xs) ys = err-value ∷ E-history xs ys
+E-history (True ∷ xs) [] = []
+E-history (False ∷ xs) [] = []
+E-history (True ∷ xs) (y ∷ ys) = y ∷ E-history xs ys
+E-history (False ∷ xs) (y ∷ ys) = y ∷ E-history xs ys
+E-history (Neither ∷ xs) ys = err-value ∷ E-history xs ys
 
 abbrev pub operator-history : Bool → ℕ → History → History → History
 operator-history true code xs ys = unary-history (λ x. apply code x err-value) xs

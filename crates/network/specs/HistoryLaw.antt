@@ -8,7 +8,10 @@ use mathlib.Core.Bool.{Bool, true, false}
 use mathlib.Core.List.{[], _∷_}
 use mathlib.Core.Option.{Option, none, some}
 use Rattle.value.specs.declared.Value.{Value}
-use Rattle.network.specs.Values.{err-value, Sense, is-true, is-false, is-neither, sense, one-operand, apply}
+use Rattle.value.specs.declared.Sense.{Sense}
+use Rattle.value.specs.declared.Sense.the-variants.{True, False, Neither}
+use Rattle.value.specs.Senses.{sense}
+use Rattle.network.specs.Values.{err-value, one-operand, apply}
 use Rattle.network.specs.Rules.{Kind, constant, copy, operator, T-gate, F-gate, M-gate, E-gate, IC-gate, FM-gate, FS-gate, Register, Firing, takes, gives, never, first, second, third, T-rule, F-rule, M-rule, E-rule, chosen, IC-table, fired, FS-rule, operator-rule, rule}
 use Rattle.network.specs.Histories.{History, senses, Outputs, silence, followed, only, operator-history, T-history, F-history, M-history, S-history, IC-history, E-history, history}
 
@@ -42,61 +45,61 @@ continued k (some o) =
 
 M-law : (k : Kind) (g : Register) → ((xs ys zs : History) → history k g xs ys zs ≡ only (M-history (senses xs) ys zs)) →
     (s : Sense) (xs ys zs : History) → only (M-history (s ∷ senses xs) ys zs) ≡ continued k (outcome (M-rule g s) xs ys zs)
-M-law k g h is-true xs [] zs = refl
-M-law k g h is-true xs (y ∷ ys) zs = ap (followed (some y) none none) (sym (h xs ys zs))
-M-law k g h is-false xs ys [] = refl
-M-law k g h is-false xs ys (z ∷ zs) = ap (followed (some z) none none) (sym (h xs ys zs))
-M-law k g h is-neither xs ys zs = ap (followed (some err-value) none none) (sym (h xs ys zs))
+M-law k g h True xs [] zs = refl
+M-law k g h True xs (y ∷ ys) zs = ap (followed (some y) none none) (sym (h xs ys zs))
+M-law k g h False xs ys [] = refl
+M-law k g h False xs ys (z ∷ zs) = ap (followed (some z) none none) (sym (h xs ys zs))
+M-law k g h Neither xs ys zs = ap (followed (some err-value) none none) (sym (h xs ys zs))
 
 T-law : (g : Register) (s : Sense) (xs ys zs : History) → only (T-history (s ∷ senses xs) ys) ≡ continued T-gate (outcome (T-rule g s) xs ys zs)
-T-law g is-true xs [] zs = refl
-T-law g is-false xs [] zs = refl
-T-law g is-neither xs [] zs = refl
-T-law g is-true xs (y ∷ ys) zs = refl
-T-law g is-false xs (y ∷ ys) zs = refl
-T-law g is-neither xs (y ∷ ys) zs = refl
+T-law g True xs [] zs = refl
+T-law g False xs [] zs = refl
+T-law g Neither xs [] zs = refl
+T-law g True xs (y ∷ ys) zs = refl
+T-law g False xs (y ∷ ys) zs = refl
+T-law g Neither xs (y ∷ ys) zs = refl
 
 F-law : (g : Register) (s : Sense) (xs ys zs : History) → only (F-history (s ∷ senses xs) ys) ≡ continued F-gate (outcome (F-rule g s) xs ys zs)
-F-law g is-true xs [] zs = refl
-F-law g is-false xs [] zs = refl
-F-law g is-neither xs [] zs = refl
-F-law g is-true xs (y ∷ ys) zs = refl
-F-law g is-false xs (y ∷ ys) zs = refl
-F-law g is-neither xs (y ∷ ys) zs = refl
+F-law g True xs [] zs = refl
+F-law g False xs [] zs = refl
+F-law g Neither xs [] zs = refl
+F-law g True xs (y ∷ ys) zs = refl
+F-law g False xs (y ∷ ys) zs = refl
+F-law g Neither xs (y ∷ ys) zs = refl
 
 E-law : (g : Register) (s : Sense) (xs ys zs : History) → only (E-history (s ∷ senses xs) ys) ≡ continued E-gate (outcome (E-rule g s) xs ys zs)
-E-law g is-true xs [] zs = refl
-E-law g is-true xs (y ∷ ys) zs = refl
-E-law g is-false xs [] zs = refl
-E-law g is-false xs (y ∷ ys) zs = refl
-E-law g is-neither xs ys zs = refl
+E-law g True xs [] zs = refl
+E-law g True xs (y ∷ ys) zs = refl
+E-law g False xs [] zs = refl
+E-law g False xs (y ∷ ys) zs = refl
+E-law g Neither xs ys zs = refl
 
 IC-true-law : (g : Register) (s : Sense) (xs ys zs : History) →
-    IC-history (is-true ∷ senses xs) (s ∷ senses ys) (senses zs) ≡ continued IC-gate (outcome (IC-table g is-true s) xs ys zs)
-IC-true-law g is-true xs ys zs = refl
-IC-true-law g is-false xs ys zs = refl
-IC-true-law g is-neither xs ys zs = refl
+    IC-history (True ∷ senses xs) (s ∷ senses ys) (senses zs) ≡ continued IC-gate (outcome (IC-table g True s) xs ys zs)
+IC-true-law g True xs ys zs = refl
+IC-true-law g False xs ys zs = refl
+IC-true-law g Neither xs ys zs = refl
 
 IC-false-law : (g : Register) (s : Sense) (xs ys zs : History) →
-    IC-history (is-false ∷ senses xs) (senses ys) (s ∷ senses zs) ≡ continued IC-gate (outcome (IC-table g is-false s) xs ys zs)
-IC-false-law g is-true xs ys zs = refl
-IC-false-law g is-false xs ys zs = refl
-IC-false-law g is-neither xs ys zs = refl
+    IC-history (False ∷ senses xs) (senses ys) (s ∷ senses zs) ≡ continued IC-gate (outcome (IC-table g False s) xs ys zs)
+IC-false-law g True xs ys zs = refl
+IC-false-law g False xs ys zs = refl
+IC-false-law g Neither xs ys zs = refl
 
 IC-law : (g : Register) (s : Sense) (xs ys zs : History) →
     IC-history (s ∷ senses xs) (senses ys) (senses zs) ≡ continued IC-gate (outcome (chosen s (IC-table g s)) xs ys zs)
-IC-law g is-true xs [] zs = refl
-IC-law g is-true xs (y ∷ ys) zs = IC-true-law g (sense y) xs ys zs
-IC-law g is-false xs ys [] = refl
-IC-law g is-false xs ys (z ∷ zs) = IC-false-law g (sense z) xs ys zs
-IC-law g is-neither xs ys zs = refl
+IC-law g True xs [] zs = refl
+IC-law g True xs (y ∷ ys) zs = IC-true-law g (sense y) xs ys zs
+IC-law g False xs ys [] = refl
+IC-law g False xs ys (z ∷ zs) = IC-false-law g (sense z) xs ys zs
+IC-law g Neither xs ys zs = refl
 
 FS-law : (r : Value) (s : Sense) (xs ys zs : History) → only (S-history r (s ∷ senses xs) ys) ≡ continued FS-gate (outcome (FS-rule r s) xs ys zs)
-FS-law r is-true xs ys zs = refl
-FS-law r is-false xs [] zs = refl
-FS-law r is-false xs (y ∷ ys) zs = refl
-FS-law r is-neither xs [] zs = refl
-FS-law r is-neither xs (y ∷ ys) zs = refl
+FS-law r True xs ys zs = refl
+FS-law r False xs [] zs = refl
+FS-law r False xs (y ∷ ys) zs = refl
+FS-law r Neither xs [] zs = refl
+FS-law r Neither xs (y ∷ ys) zs = refl
 
 operator-law : (code : ℕ) (g : Register) (b : Bool) → one-operand code ≡ b → (x : Value) (xs ys zs : History) →
     only (operator-history b code (x ∷ xs) ys) ≡ continued (operator code) (outcome (operator-rule b code g x) xs ys zs)

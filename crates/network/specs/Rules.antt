@@ -7,7 +7,10 @@ use Prim.Native.Nat.{ℕ}
 use mathlib.Core.Bool.{Bool, true, false}
 use mathlib.Core.Option.{Option, none, some}
 use Rattle.value.specs.declared.Value.{Value}
-use Rattle.network.specs.Values.{true-value, false-value, err-value, Sense, is-true, is-false, is-neither, sense, one-operand, apply}
+use Rattle.value.specs.declared.Sense.{Sense}
+use Rattle.value.specs.declared.Sense.the-variants.{True, False, Neither}
+use Rattle.value.specs.Senses.{sense}
+use Rattle.network.specs.Values.{true-value, false-value, err-value, one-operand, apply}
 
 -- "A constant takes one trigger", "two-way copies", the operators of the codes, and the gates.
 pub data Kind : Type 0 where
@@ -37,45 +40,45 @@ drops g = gives none none none g
 -- What each gate does by what its control is: true, false, neither.
 -- T: "takes control and data, passes data on true, nothing otherwise".
 abbrev pub T-rule : Register → Sense → Firing
-T-rule g is-true = takes second (λ v. passes v g)
-T-rule g is-false = takes second (λ v. drops g)
-T-rule g is-neither = takes second (λ v. drops g)
+T-rule g True = takes second (λ v. passes v g)
+T-rule g False = takes second (λ v. drops g)
+T-rule g Neither = takes second (λ v. drops g)
 
 -- "F likewise on false."
 abbrev pub F-rule : Register → Sense → Firing
-F-rule g is-true = takes second (λ v. drops g)
-F-rule g is-false = takes second (λ v. passes v g)
-F-rule g is-neither = takes second (λ v. drops g)
+F-rule g True = takes second (λ v. drops g)
+F-rule g False = takes second (λ v. passes v g)
+F-rule g Neither = takes second (λ v. drops g)
 
 -- M: "true takes and passes input 2, false input 3; another control takes only itself, gives err".
 abbrev pub M-rule : Register → Sense → Firing
-M-rule g is-true = takes second (λ v. passes v g)
-M-rule g is-false = takes third (λ v. passes v g)
-M-rule g is-neither = passes err-value g
+M-rule g True = takes second (λ v. passes v g)
+M-rule g False = takes third (λ v. passes v g)
+M-rule g Neither = passes err-value g
 
 -- E: "a truth takes and passes the data; another control gives err and takes no data".
 abbrev pub E-rule : Register → Sense → Firing
-E-rule g is-true = takes second (λ v. passes v g)
-E-rule g is-false = takes second (λ v. passes v g)
-E-rule g is-neither = passes err-value g
+E-rule g True = takes second (λ v. passes v g)
+E-rule g False = takes second (λ v. passes v g)
+E-rule g Neither = passes err-value g
 
 -- IC: "true takes input 2, false input 3"; another control takes neither.
 abbrev pub chosen : Sense → (Sense → Firing) → Firing
-chosen is-true k = takes second (λ v. k (sense v))
-chosen is-false k = takes third (λ v. k (sense v))
-chosen is-neither k = k is-neither
+chosen True k = takes second (λ v. k (sense v))
+chosen False k = takes third (λ v. k (sense v))
+chosen Neither k = k Neither
 
 -- Brock's table of the IC gate (section 2.4), row by row: the control and the chosen iter?; the graph's iter?, the I and the R control.
 -- The last two rows are in neither his table nor document 01: a chosen input that is no truth, met in altered memory only, is read as false,
 -- as document 02 later asks.
 abbrev pub IC-table : Register → Sense → Sense → Firing
-IC-table g is-true is-true = gives (some true-value) (some true-value) none g
-IC-table g is-true is-false = gives (some false-value) none (some true-value) g
-IC-table g is-false is-true = gives (some true-value) (some false-value) none g
-IC-table g is-false is-false = gives (some false-value) none (some false-value) g
-IC-table g is-neither i = gives (some false-value) none (some err-value) g
-IC-table g is-true is-neither = gives (some false-value) none (some true-value) g
-IC-table g is-false is-neither = gives (some false-value) none (some false-value) g
+IC-table g True True = gives (some true-value) (some true-value) none g
+IC-table g True False = gives (some false-value) none (some true-value) g
+IC-table g False True = gives (some true-value) (some false-value) none g
+IC-table g False False = gives (some false-value) none (some false-value) g
+IC-table g Neither i = gives (some false-value) none (some err-value) g
+IC-table g True Neither = gives (some false-value) none (some true-value) g
+IC-table g False Neither = gives (some false-value) none (some false-value) g
 
 -- The register of an FM that has fired: which value it is matters to nobody.
 abbrev pub fired : Register
@@ -84,9 +87,9 @@ fired = some true-value
 -- FS after its first firing, with the remembered value: "each on false, passes and remembers the data; true repeats the remembered value,
 -- taking none. An iter? that is no truth, in altered memory, counts as false."
 abbrev pub FS-rule : Value → Sense → Firing
-FS-rule r is-true = passes r (some r)
-FS-rule r is-false = takes second (λ v. passes v (some v))
-FS-rule r is-neither = takes second (λ v. passes v (some v))
+FS-rule r True = passes r (some r)
+FS-rule r False = takes second (λ v. passes v (some v))
+FS-rule r Neither = takes second (λ v. passes v (some v))
 
 abbrev pub operator-rule : Bool → ℕ → Register → Value → Firing
 operator-rule true code g a = passes (apply code a err-value) g

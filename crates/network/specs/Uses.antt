@@ -9,7 +9,10 @@ use mathlib.Core.Option.{Option, none, some}
 use lib.Dec.{leb}
 use native.Mathlib.Decide.{ℕ-discrete}
 use Rattle.value.specs.declared.Value.{Value}
-use Rattle.network.specs.Values.{true-value, Sense, is-true, is-false, is-neither, sense, one-operand}
+use Rattle.value.specs.declared.Sense.{Sense}
+use Rattle.value.specs.declared.Sense.the-variants.{True, False, Neither}
+use Rattle.value.specs.Senses.{sense}
+use Rattle.network.specs.Values.{true-value, one-operand}
 use Rattle.network.specs.Rules.{Kind, constant, copy, operator, T-gate, F-gate, M-gate, E-gate, IC-gate, FM-gate, FS-gate, Register, Firing, takes, gives, never, Input, first, second, third, T-rule, F-rule, M-rule, E-rule, chosen, IC-table, fired, FS-rule, operator-rule, rule}
 use Rattle.network.specs.Net.{Token, val, Demand, ask, fire}
 use Rattle.network.specs.Wired.{Emits-in, Uses, free-of}
@@ -46,43 +49,43 @@ Within n (gives a b c g) = Unit {0}
 Within n never = Unit {0}
 
 T-within : (g : Register) (s : Sense) → Within 2 (T-rule g s)
-T-within g is-true = (refl, λ v. tt)
-T-within g is-false = (refl, λ v. tt)
-T-within g is-neither = (refl, λ v. tt)
+T-within g True = (refl, λ v. tt)
+T-within g False = (refl, λ v. tt)
+T-within g Neither = (refl, λ v. tt)
 
 F-within : (g : Register) (s : Sense) → Within 2 (F-rule g s)
-F-within g is-true = (refl, λ v. tt)
-F-within g is-false = (refl, λ v. tt)
-F-within g is-neither = (refl, λ v. tt)
+F-within g True = (refl, λ v. tt)
+F-within g False = (refl, λ v. tt)
+F-within g Neither = (refl, λ v. tt)
 
 M-within : (g : Register) (s : Sense) → Within 3 (M-rule g s)
-M-within g is-true = (refl, λ v. tt)
-M-within g is-false = (refl, λ v. tt)
-M-within g is-neither = tt
+M-within g True = (refl, λ v. tt)
+M-within g False = (refl, λ v. tt)
+M-within g Neither = tt
 
 E-within : (g : Register) (s : Sense) → Within 2 (E-rule g s)
-E-within g is-true = (refl, λ v. tt)
-E-within g is-false = (refl, λ v. tt)
-E-within g is-neither = tt
+E-within g True = (refl, λ v. tt)
+E-within g False = (refl, λ v. tt)
+E-within g Neither = tt
 
 table-within : (g : Register) (c s : Sense) → Within 3 (IC-table g c s)
-table-within g is-true is-true = tt
-table-within g is-true is-false = tt
-table-within g is-true is-neither = tt
-table-within g is-false is-true = tt
-table-within g is-false is-false = tt
-table-within g is-false is-neither = tt
-table-within g is-neither s = tt
+table-within g True True = tt
+table-within g True False = tt
+table-within g True Neither = tt
+table-within g False True = tt
+table-within g False False = tt
+table-within g False Neither = tt
+table-within g Neither s = tt
 
 IC-within : (g : Register) (s : Sense) → Within 3 (chosen s (IC-table g s))
-IC-within g is-true = (refl, λ v. table-within g is-true (sense v))
-IC-within g is-false = (refl, λ v. table-within g is-false (sense v))
-IC-within g is-neither = tt
+IC-within g True = (refl, λ v. table-within g True (sense v))
+IC-within g False = (refl, λ v. table-within g False (sense v))
+IC-within g Neither = tt
 
 FS-within : (r : Value) (s : Sense) → Within 2 (FS-rule r s)
-FS-within r is-true = tt
-FS-within r is-false = (refl, λ v. tt)
-FS-within r is-neither = (refl, λ v. tt)
+FS-within r True = tt
+FS-within r False = (refl, λ v. tt)
+FS-within r Neither = (refl, λ v. tt)
 
 operator-within : (b : Bool) (code : ℕ) (g : Register) → Within (operand-inputs b) (takes first (operator-rule b code g))
 operator-within true code g = (refl, λ v. tt)

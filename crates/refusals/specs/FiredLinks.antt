@@ -13,15 +13,14 @@ use borrow.Author.Tests.{eqb-true, eqb-false, ltb-true}
 use lib.Dec.{eqb, ltb}
 use lib.ListN.{length}
 use Rattle.value.specs.Operators.{pick}
-use Rattle.value.specs.Bytes.{wordAt, stored}
+use Rattle.value.specs.Bytes.{wordOr, wordAt, stored}
 use Rattle.machine_queue.specs.Stretch.{appended, removed}
 use Rattle.formula.specs.declared.Refusal.the-variants.{NotAble}
 use Rattle.machine_layout.specs.Layout.{capacityByte, operatorsOf, linksOf, inputsOf, resultsOf, noLink, nameAt, operatorAt, kindByte, portOf, registerAt, sizeOf, linkAt, need}
-use Rattle.machine_gates.specs.declared.Decided.{Decided}
-use Rattle.machine_gates.specs.Decide.{isAbsent}
+use Rattle.machine_gates.specs.Decide.{Decided, isAbsent}
 use Rattle.machine_firing.specs.Links.{onLink, removedAt, appendedAt}
 use Rattle.machine_firing.specs.LinkLaws.{linkPart, Keeps, keeps-removed, keeps-appended, length-on, same-on, other-on, part-stored}
-use Rattle.machine_firing.specs.Fire.{taken, given, wordOr, planned, decisionAt, planAt, readyFor, performed, ableAt, firedAt}
+use Rattle.machine_firing.specs.Fire.{taken, given, planned, decisionAt, planAt, readyFor, performed, ableAt, firedAt}
 use Rattle.machine_valid.specs.Below.{allBelow, and-left, and-right, below-at}
 use Rattle.machine_valid.specs.Valid.{figuresOk, unlike, unlikeAt, freshAt, resultOk, inputOk, namedOk, portOk, kindOk, registerOk, operatorOk, linkOk, valid}
 use Rattle.machine_valid.specs.Figures.{valid-figures}

@@ -14,7 +14,7 @@ use Rattle.formula.specs.Refusals.{numberOf}
 use Rattle.machine_layout.specs.Layout.{operatorsOf}
 use Rattle.machine_firing.specs.Fire.{ableAt, firedAt}
 use Rattle.machine_runs.specs.Run.{leastFrom, least, Ran, runs, stillAt}
-use Rattle.machine_runs.specs.RunLaws.{Quiet, runs-step, runs-end, runs-zero}
+use Rattle.machine_runs.specs.RunLaws.{Quiet, runs-step, runs-end, runs-zero, runs-below}
 use Rattle.machine_calls.specs.Calls.{sizeIn, standing, ended, ran}
 use Rattle.machine_calls.specs.CallLaws.{ran-ended}
 
@@ -82,11 +82,10 @@ pub record Counted (size n b : ℕ) (m : List ℕ) (r : Ran) (c : ℕ) : Type 0 
   pub counts : r .count ≡ c + made
   pub lent : made ≤ b
   pub between : Firings size n made m (r .mem)
-  pub below : made < b → stillAt (r .mem) size n ≡ true
 
 counted : (size n b : ℕ) (m : List ℕ) (c : ℕ) → Counted size n b m (runs size n b m c) c
-unfolding runs least stillAt
-counted size n zero m c = record { made = 0; counts = omega arith; lent = omega arith; between = refl; below = λ h. absurd (omega arith) }
+unfolding runs least
+counted size n zero m c = record { made = 0; counts = omega arith; lent = omega arith; between = refl }
 counted size n (suc b) m c = go (ltb (least m size n) n) refl (counted size n b (firedAt m size (least m size n)) (c + 1))
   where
     go : (t : Bool) → ltb (least m size n) n ≡ t
@@ -100,9 +99,8 @@ counted size n (suc b) m c = go (ltb (least m size n) n) refl (counted size n b 
           counts = omega (arith, I .counts);
           lent = omega (arith, I .lent);
           between = (leastFrom m size n 0, l, F .able (omega arith), λ j h. F .quiet j (omega arith) h, I .between);
-          below = λ h. I .below (omega arith);
         }
-    go false e I = record { made = 0; counts = omega arith; lent = omega arith; between = refl; below = λ h. rw e refl }
+    go false e I = record { made = 0; counts = omega arith; lent = omega arith; between = refl }
 
 only : (size n b k : ℕ) (m m′ : List ℕ) (c : ℕ) → k ≤ b → Firings size n k m m′ → (k < b → stillAt m′ size n ≡ true)
     → runs size n b m c ≡ record { mem = m′; count = c + k }
@@ -156,6 +154,9 @@ module _ (m : List ℕ) (firings : ℕ) (st : standing m ≡ 0) where
       C : Counted (sizeIn m) (operatorsOf m) firings m R 0
       C = counted (sizeIn m) (operatorsOf m) firings m 0
 
+      early : R .count < firings → stillAt (R .mem) (sizeIn m) (operatorsOf m) ≡ true
+      early h = runs-below (sizeIn m) (operatorsOf m) firings m 0 (omega arith)
+
       go : (b : Bool) → stillAt (R .mem) (sizeIn m) (operatorsOf m) ≡ b → RunCounts m firings
       go b e =
           let i = run-is b e in
@@ -164,7 +165,7 @@ module _ (m : List ℕ) (firings : ℕ) (st : standing m ≡ 0) where
           record {
             lent = omega (arith, z, C .lent);
             between = rw (z, i .1) (C .between);
-            below = λ h. ap (λ (x : List ℕ). stillAt x (sizeIn m) (operatorsOf m)) (i .1) ∙ C .below (omega (arith, z));
+            below = λ h. ap (λ (x : List ℕ). stillAt x (sizeIn m) (operatorsOf m)) (i .1) ∙ early (omega (arith, i .0));
             unfinished = λ h. full b e s (sym (i .2) ∙ h) (ℕ-discrete (ran m firings .answer .count) firings) z;
             accepted = λ h. done b s (sym (i .2) ∙ h);
           }
@@ -174,7 +175,7 @@ module _ (m : List ℕ) (firings : ℕ) (st : standing m ≡ 0) where
               → (ran m firings .answer .count ≡ firings) × (stillAt (ran m firings .mem) (sizeIn m) (operatorsOf m) ≡ false)
           full true e s h d z = absurd (omega arith)
           full false e s h (yes p) z = (p, s)
-          full false e s h (no q) z = absurd (false≢true (sym e ∙ C .below (omega (arith, z, C .lent))))
+          full false e s h (no q) z = absurd (false≢true (sym e ∙ early (omega (arith, z, C .counts, C .lent))))
 
           done : (b : Bool) → stillAt (ran m firings .mem) (sizeIn m) (operatorsOf m) ≡ b → _≡_ {A = ℕ} (pick b 0 36) 0
               → stillAt (ran m firings .mem) (sizeIn m) (operatorsOf m) ≡ true

@@ -222,13 +222,13 @@ module _ (first : List ℕ) (x : Seen) (file m : List ℕ) (r : Opened) (m′ ou
       answers = q ∙ accepts .whole
 
       inputs-are : a .inputs ≡ figuresOf first .inputs
-      inputs-are = ap (λ (b : Begun). b .answer .inputs) answers ∙ same-figures first (accepts .passed) .1
+      inputs-are = ap (λ (b : Begun). b .answer .inputs) answers ∙ same-figures first (accepts .admissible) .1
 
       results-are : a .results ≡ figuresOf first .results
-      results-are = ap (λ (b : Begun). b .answer .results) answers ∙ same-figures first (accepts .passed) .2
+      results-are = ap (λ (b : Begun). b .answer .results) answers ∙ same-figures first (accepts .admissible) .2
 
       pub inputs-few : a .inputs ≤ 32
-      inputs-few = subst (λ (n : ℕ). n ≤ 32) (sym (ap (λ (b : Begun). b .answer .inputs) answers)) (made-sound first (accepts .passed) .few-inputs)
+      inputs-few = subst (λ (n : ℕ). n ≤ 32) (sym (ap (λ (b : Begun). b .answer .inputs) answers)) (made-sound first (accepts .admissible) .few-inputs)
 
       pub opens-long : mostSetBytes < length file → Refuses (numberOf SetFile) 0 (length file) r out → OpensTo first x file r m′ out
       unfolding benchOutput outputIn outputBy

@@ -15,6 +15,7 @@ use Rattle.formula.specs.declared.Verdict.the-variants.{Passed, Refused}
 use Rattle.formula.specs.Refusals.{numberOf}
 use Rattle.formula.specs.Tree.{formulaOf}
 use Rattle.formula.specs.Tests.{verdictOf, figuresOf}
+use Rattle.formula.specs.Acceptance.{Admissible, passed-admissible}
 use Rattle.graph.specs.Translation.{madeOf}
 use Rattle.machine_layout.specs.Layout.{need, sizeOf}
 use Rattle.machine_start.specs.Start.{started}
@@ -43,18 +44,21 @@ unfolding blankMemory
 blank-long = omega (arith, length-replicate {A = ℕ} (need (sizeOf linkCapacity)) 0)
 
 module _ (formula : List ℕ) (ok : verdictOf formula ≡ Passed) where
+  admissible : Admissible formula
+  admissible = passed-admissible formula ok
+
   -- The file's sets are sets of the graph's inputs.
   pub whole-here : (file : List ℕ) (ss : List (List ℕ)) → setsOf (figuresOf formula .inputs) file ≡ sets ss → EachWhole (madeOf (formulaOf formula) .inputs) ss
   unfolding setsOf
   whole-here file ss e =
-      subst (λ (n : ℕ). EachWhole n ss) (sym (same-figures formula ok .1)) (sets-whole (figuresOf formula .inputs) 1 (linesOf file) ss e)
+      subst (λ (n : ℕ). EachWhole n ss) (sym (same-figures formula admissible .1)) (sets-whole (figuresOf formula .inputs) 1 (linesOf file) ss e)
 
   pub starts : (m : List ℕ) → need (sizeOf linkCapacity) ≤ length m → started formula linkCapacity m .answer .refusal ≡ 0
   starts m h = start-accepts formula linkCapacity m ok low high h
 
   -- A machine started in any memory is the same machine.
   started-alike : (m m′ : List ℕ) → need (sizeOf linkCapacity) ≤ length m → need (sizeOf linkCapacity) ≤ length m′
-      → Alike (formulaOf formula) (made-sound formula ok) linkCapacity low high (started formula linkCapacity m .mem) (started formula linkCapacity m′ .mem)
+      → Alike (formulaOf formula) (made-sound formula admissible) linkCapacity low high (started formula linkCapacity m .mem) (started formula linkCapacity m′ .mem)
   started-alike m m′ h h′ =
       record {
         links = startOf (formulaOf formula);
@@ -68,7 +72,7 @@ module _ (formula : List ℕ) (ok : verdictOf formula ≡ Passed) where
   same-judged m m′ file h h′ (badLine i) e = refl
   same-judged m m′ file h h′ (sets ss) e =
       ap (λ (z : List ℕ). headLine (figuresOf formula .inputs) (figuresOf formula .results) (length ss) ++ z)
-      (same-passes (formulaOf formula) (made-sound formula ok) linkCapacity low high (length ss + allFirings) (length ss) ss (whole-here file ss e)
+      (same-passes (formulaOf formula) (made-sound formula admissible) linkCapacity low high (length ss + allFirings) (length ss) ss (whole-here file ss e)
       (started formula linkCapacity m .mem) (started formula linkCapacity m′ .mem) allFirings (started-alike m m′ h h′))
 
   -- Before the first call of the loop.

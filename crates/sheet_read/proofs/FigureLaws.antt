@@ -66,8 +66,8 @@ module _ (s : List ℕ) (x : Tables) (ok : Accepts s x) where
 
 pub answer-modest : (s : List ℕ) (f : Figures) → readingOf s ≡ Accepted f → Modest f
 answer-modest s f h =
-    let p = accepted-passed s f h in
-    subst (λ (g : Figures). Modest g) (sym (accepted-figures s f h)) (modest s (some-rows s (passed-admissible s p .laid)) p)
+    let ok = passed-admissible s (accepted-passed s f h) in
+    subst (λ (g : Figures). Modest g) (sym (accepted-figures s f h)) (modest s (some-rows s (ok .laid)) ok)
 
 pub answer-low : (s : List ℕ) (r : Refusal) (row : ℕ) → readingOf s ≡ Rejected r row → row ≤ 200
 answer-low s r row h = low-row s r row (rejected-refused s r row h)

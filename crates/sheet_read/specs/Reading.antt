@@ -1,7 +1,7 @@
 -- What reading gives: the tests in their order as the passes make them, the tables of an accepted sheet, and the answer for
 -- the firmware (document 01, "Said by what was handed in", 1 to 10).
 use Prim.Native.Nat.{ℕ, zero, suc, _+_, _*_, _-_, _≤_}
-use mathlib.Core.Path.{_≡_}
+use mathlib.Core.Path.{_≡_, sym, _∙_}
 use mathlib.Core.Bool.{Bool}
 use mathlib.Core.List.{List}
 use lib.ListN.{take, length}
@@ -16,6 +16,7 @@ use Rattle.formula.specs.Refusals.{numberOf}
 use Rattle.formula.specs.Sheet.{rowCount, linesOf, fieldsOf}
 use Rattle.formula.specs.Places.{placesOf}
 use Rattle.formula.specs.Tests.{afterCheck, whole, lowest, laidOut, fewRows, fieldsWell, rangesWell, namesWell, namedOnce, allNamed, placedWell, widthsWell, boundWell, operatorsOf, verdictOf}
+use Rattle.formula.specs.Acceptance.{Admissible, passed-admissible}
 use Rattle.sheet_read.specs.declared.read.ReadAnswer.{ReadAnswer}
 use Rattle.sheet_read.specs.declared.read.Tested.{Tested}
 use Rattle.sheet_read.specs.declared.read.Tested.the-variants.{Refused, Passed}
@@ -97,6 +98,10 @@ pub record Accepts (s : List ℕ) (x : Tables) : Type 0 where
 pub record Told (s : List ℕ) (x : Tables) : Type 0 where
   pub verdict : x .verdict ≡ verdictOf s
   pub accepts : x .verdict ≡ passed → Accepts s x
+
+-- Where the tests told that they passed, the sheet is admissible.
+pub told-admissible : (s : List ℕ) (x : Tables) → Told s x → x .verdict ≡ passed → Admissible s
+told-admissible s x told well = passed-admissible s (sym (told .verdict) ∙ well)
 
 -- The answer for the firmware: refusal 0 for an accepted sheet, else document 01's number; figures 0 on refusal.
 abbrev pub answerOf : Reading → ReadAnswer

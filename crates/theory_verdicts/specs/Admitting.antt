@@ -1,6 +1,6 @@
 -- The formula of an accepted sheet is an admitted tree (formula/specs/Admitted): at every node the ranges of test 4, the widths of test 8 and the
 -- bound identifiers of test 9, and its graph has at most 1,024 operators (test 10). Document 01, "Said by what was handed in", 4 to 10.
--- Rests on the laws of rows and places; assumes nothing but the verdict.
+-- Rests on the laws of rows and places; assumes nothing but an admissible sheet.
 use Prim.Native.Nat.{ℕ, zero, suc, _+_, _-_, _≤_, _<_}
 use mathlib.Core.Path.{_≡_, refl, sym, ap, subst, _∙_}
 use mathlib.Core.Bool.{Bool, true, false, not, cond, _&&_, _||_, false≢true}
@@ -12,7 +12,6 @@ use native.Mathlib.Omega.{arith}
 use native.Mathlib.Decide.{decLe}
 use Rattle.formula.specs.declared.Shape.{Shape}
 use Rattle.formula.specs.declared.Shape.the-variants.{Identifier, Whole, Truth, Pair, Operator, Let, If, For, Iter}
-use Rattle.formula.specs.declared.Verdict.the-variants.{Passed as passed}
 use Rattle.formula.specs.Sheet.{rowCount, fieldsOf, field, shapeOf, shapeAt, namedIn}
 use Rattle.formula.specs.Tree.{Exp, Body, ret, expNode, bodyNode, expOf, bodyOf, formulaOf}
 use Rattle.formula.specs.TreeLaws.{AllBetween, Named, and-true, exp-as, body-as, between-as}
@@ -21,12 +20,12 @@ use Rattle.formula.specs.PlaceLaws.{last-place}
 use Rattle.formula.specs.Widths.{wideB}
 use Rattle.formula.specs.Free.{boundE, boundB}
 use Rattle.formula.specs.Count.{countE}
-use Rattle.formula.specs.Tests.{inRange, rangesWell, placedWell, isIter, wideNode, widthsWell, boundNode, boundWell, operatorsOf, verdictOf}
-use Rattle.formula.specs.TestLaws.{passed-each}
+use Rattle.formula.specs.Tests.{inRange, rangesWell, placedWell, isIter, wideNode, widthsWell, boundNode, boundWell, operatorsOf}
+use Rattle.formula.specs.Acceptance.{Admissible}
 use Rattle.formula.specs.Admitted.{Binds, FineE, FineB, AdmittedE, AdmittedB}
 use Rattle.meaning.specs.WidthLaws.{ret-fits}
 use Rattle.meaning.specs.Rows.{Placed, Plain, Accepted, widthIn, plain-as}
-use Rattle.meaning.specs.Accepted.{passes, accepted}
+use Rattle.meaning.specs.Accepted.{accepted}
 
 -- ---- test 4 by a row's shape
 
@@ -237,14 +236,14 @@ table-at r zero i f h = absurd (omega arith)
 table-at r (suc k) zero f h = ap f (omega arith)
 table-at r (suc k) (suc i) f h = table-at (suc r) k i f (omega arith) ∙ ap f (omega arith)
 
-module _ (s : List ℕ) (h : verdictOf s ≡ passed) where
+module _ (s : List ℕ) (h : Admissible s) where
   widths-of : ℕ → ℕ
   widths-of r = widthIn (inBody (placesOf (fieldsOf s) (rowCount s)) r) (fieldsOf s) r
 
   rows : Accepted (fieldsOf s) (tableFrom 1 (rowCount s) widths-of) (rowCount s)
   unfolding widths-of
   rows =
-      accepted s (passes s h) (tableFrom 1 (rowCount s) widths-of) (let e = length-table 1 (rowCount s) widths-of in omega arith)
+      accepted s h (tableFrom 1 (rowCount s) widths-of) (let e = length-table 1 (rowCount s) widths-of in omega arith)
       (λ r l u. table-at 1 (rowCount s) (r - 1) widths-of (omega arith) ∙ ap widths-of (omega arith))
 
   checked-rows : Checked (fieldsOf s) (rowCount s)
@@ -255,10 +254,10 @@ module _ (s : List ℕ) (h : verdictOf s ≡ passed) where
         placed = rows .placed;
         iters = rows .iters;
         wide = rows .wide;
-        bound = λ r l u. passed-each (rowCount s) _ (passes s h .bound) r l u;
+        bound = h .bound;
       }
 
-  -- "A formula sheet is accepted if and only if document 01's rules admit it": what the verdict gives.
+  -- "A formula sheet is accepted if and only if document 01's rules admit it": what the tests give.
   pub accepted-admitted : AdmittedE (formulaOf s)
   unfolding formulaOf expOf
   accepted-admitted = go (rowCount s) checked-rows (decLe 1 (rowCount s))
@@ -271,4 +270,4 @@ module _ (s : List ℕ) (h : verdictOf s ≡ passed) where
   -- 10 "over 1,024 operators" is refused.
   pub accepted-operators : countE (formulaOf s) .operators ≤ 1024
   unfolding formulaOf operatorsOf
-  accepted-operators = leb-true (countE (expOf (fieldsOf s) (rowCount s)) .operators) 1024 (passes s h .operators)
+  accepted-operators = h .operators

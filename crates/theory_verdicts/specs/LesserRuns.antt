@@ -5,8 +5,9 @@ use mathlib.Core.List.{List, [], _∷_}
 use native.Mathlib.Decide.{decLt, ℕ-discrete}
 use lib.IntN.{pos}
 use Rattle.value.specs.declared.Value.{Value}
-use Rattle.value.specs.declared.Value.the-variants.{Whole, Err}
+use Rattle.value.specs.declared.Value.the-variants.{Whole}
 use Rattle.value.specs.Operators.{apply}
+use Rattle.value.specs.Senses.{err}
 use Rattle.network.specs.Net.{val, pop, append}
 use Rattle.network.specs.Ends.{capacities}
 use Rattle.graph.specs.Translation.{madeOf}
@@ -18,7 +19,7 @@ abbrev firstSet : List Value
 firstSet = Whole (pos 3) ∷ Whole (pos 5) ∷ []
 
 abbrev secondSet : List Value
-secondSet = Err ∷ Whole (pos 2) ∷ []
+secondSet = err ∷ Whole (pos 2) ∷ []
 
 abbrev pub mixedCalls : List Call
 mixedCalls =
@@ -40,6 +41,6 @@ pub lesser-pushed : pushed lesserOfTwo 1 mixedCalls ≡ firstSet ∷ secondSet �
 unfolding stepsFrom madeOf decAble both decLt marks decRoom capacities ℕ-discrete append pop apply
 lesser-pushed = refl
 
-pub lesser-taken : taken lesserOfTwo 1 mixedCalls ≡ (val (Whole (pos 3)) ∷ []) ∷ (val Err ∷ []) ∷ []
+pub lesser-taken : taken lesserOfTwo 1 mixedCalls ≡ (val (Whole (pos 3)) ∷ []) ∷ (val err ∷ []) ∷ []
 unfolding stepsFrom madeOf decAble both decLt marks decRoom capacities ℕ-discrete append pop apply
 lesser-taken = refl

@@ -10,7 +10,7 @@ use lib.ListN.{length, getD, take}
 use borrow.Author.Tests.{eq-eqb, ne-eqb}
 use native.Mathlib.Omega.{arith}
 use Rattle.value.specs.declared.Value.{Value}
-use Rattle.value.specs.declared.Value.the-variants.{Err}
+use Rattle.value.specs.Senses.{err}
 use Rattle.names.specs.Names.{Names, trigger, later, bit, put, size, sizeFrom, membersFrom, below}
 use Rattle.names.proofs.Counts.{sizeFrom-cong, sizeFrom-suc, sizeFrom-mono}
 use Rattle.formula.specs.Tree.{Exp}
@@ -67,7 +67,7 @@ some-present : (vs : List Value) → some-of vs ≡ present vs
 some-present [] = refl
 some-present (v ∷ vs) = ap {B = List (Option Value)} (λ r. some v ∷ r) (some-present vs)
 
-getD-take : (m i : ℕ) (vs : List Value) → i < m → getD (take m vs) i Err ≡ getD vs i Err
+getD-take : (m i : ℕ) (vs : List Value) → i < m → getD (take m vs) i err ≡ getD vs i err
 getD-take zero i vs h = absurd (omega arith)
 getD-take (suc m) i [] h = refl
 getD-take (suc m) zero (v ∷ vs) h = refl
@@ -170,7 +170,7 @@ module _ (x : Exp) (h : AdmittedE x) where
     long : length v ≡ length (inputsOf x) + bit (freeE x trigger)
     long = fits-length (pieceOf .ins) v fits ∙ input-count
 
-    at-rank : (k : ℕ) → k < nameCount → freeE x k ≡ true → sizeFrom k (freeE x) < length v → ρ k ≡ some (getD v (sizeFrom k (freeE x)) Err)
+    at-rank : (k : ℕ) → k < nameCount → freeE x k ≡ true → sizeFrom k (freeE x) < length v → ρ k ≡ some (getD v (sizeFrom k (freeE x)) err)
     unfolding listed
     at-rank k l e i =
         let many : sizeFrom k (free (graphE x)) < length (present v) = omega (arith, same-rank k, length-present v) in
@@ -189,7 +189,7 @@ module _ (x : Exp) (h : AdmittedE x) where
           at-rank k (omega arith) e (omega (arith, i, long)) ∙ ap some (sym (getD-take (length (inputsOf x)) (sizeFrom k (freeE x)) v i)),
       λ e.
           let one-more : bit (freeE x trigger) ≡ 1 = ap bit e in
-          (getD v (sizeFrom 32 (freeE x)) Err, at-rank trigger (omega arith) e (omega (arith, trigger-rank, long, one-more))),
+          (getD v (sizeFrom 32 (freeE x)) err, at-rank trigger (omega arith) e (omega (arith, trigger-rank, long, one-more))),
     )
 
     pub result-fits : (rounds : ℕ) (r : List Value) → evaluation rounds v ≡ some r

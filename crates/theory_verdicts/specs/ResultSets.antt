@@ -5,10 +5,9 @@ use mathlib.Core.Path.{_≡_, refl, ap, _∙_}
 use mathlib.Core.List.{List, [], _∷_, _++_}
 use lib.ListN.{length, getD, replicate}
 use Rattle.value.specs.declared.Value.{Value}
-use Rattle.value.specs.declared.Value.the-variants.{Err}
-use Rattle.formula.specs.declared.Verdict.the-variants.{Passed as passed}
+use Rattle.value.specs.Senses.{err}
 use Rattle.formula.specs.Tree.{formulaOf}
-use Rattle.formula.specs.Tests.{verdictOf}
+use Rattle.formula.specs.Acceptance.{Admissible}
 use Rattle.formula.specs.Widths.{width}
 use Rattle.network.specs.Net.{Token, val, mark}
 use Rattle.theory_pieces.specs.Sets.{tokens-of}
@@ -21,12 +20,12 @@ pub record ResultSet : Type 0 where
   pub places : List Value
 
 abbrev pub resultSet : List Value → ResultSet
-resultSet r = record { width = length r; places = r ++ replicate (16 - length r) Err }
+resultSet r = record { width = length r; places = r ++ replicate (16 - length r) err }
 
 -- A mark is on no result port.
 abbrev pub valueIn : Token → Value
 valueIn (val v) = v
-valueIn mark = Err
+valueIn mark = err
 
 abbrev pub valuesIn : List Token → List Value
 valuesIn [] = []
@@ -37,7 +36,7 @@ values-of-tokens [] = refl
 values-of-tokens (v ∷ r) = ap {B = List Value} (λ w. v ∷ w) (values-of-tokens r)
 
 -- The k-th result set taken is that of the k-th set pushed, in width and all sixteen places.
-pub own-result-set : (s : List ℕ) → verdictOf s ≡ passed → (capacity : ℕ) → 1 ≤ capacity → capacity ≤ 16 → (calls : List Call)
+pub own-result-set : (s : List ℕ) → Admissible s → (capacity : ℕ) → 1 ≤ capacity → capacity ≤ 16 → (calls : List Call)
     → (k : ℕ) → k < length (taken (formulaOf s) capacity calls)
     → ((j : ℕ) → j ≤ k → (r : List Value) × EndsWith (formulaOf s) (getD (pushed (formulaOf s) capacity calls) j []) r)
     → (r : List Value) → EndsWith (formulaOf s) (getD (pushed (formulaOf s) capacity calls) k []) r

@@ -1,6 +1,6 @@
 -- Demand 3 on the abstract machine: "A beacon's verdict comes from its own readings and nobody else's." For every accepted sheet, every capacity
 -- from 1 on and every list of calls (Running), both halves; and that a push is accepted when nothing can fire and every set is taken. Rests on the residual and the pieces (theory_pieces/specs/Calls), on what the maker owes (Owed) and on
--- the laws of the calls. Assumes the verdict Passed and one place a link, nothing else.
+-- the laws of the calls. Assumes an admissible sheet and one place a link, nothing else.
 use Prim.Native.Nat.{ℕ, zero, suc, _+_, _≤_, _<_}
 use mathlib.Core.Path.{_≡_, refl, sym, ap, subst, _∙_}
 use mathlib.Core.Logic.{_⊎_, inl, inr}
@@ -9,13 +9,12 @@ use lib.ListN.{length, getD, take}
 use native.Mathlib.Omega.{arith}
 use Rattle.value.specs.declared.Value.{Value}
 use Rattle.names.specs.Names.{bit}
-use Rattle.formula.specs.declared.Verdict.the-variants.{Passed as passed}
 use Rattle.formula.specs.Tree.{Exp, formulaOf}
 use Rattle.formula.specs.Free.{inputsOf}
 use Rattle.formula.specs.Widths.{width}
 use Rattle.formula.specs.Count.{countE}
 use Rattle.formula.specs.Admitted.{AdmittedE}
-use Rattle.formula.specs.Tests.{verdictOf}
+use Rattle.formula.specs.Acceptance.{Admissible}
 use Rattle.network.specs.Values.{true-value}
 use Rattle.network.specs.Net.{Token, val, Demand, fire, Links, Able}
 use Rattle.network.specs.Ends.{take-demand, capacities-one}
@@ -220,7 +219,7 @@ tokens-at (suc k) (t ∷ tss) (r ∷ rss) l e = tokens-at k tss rss (omega arith
 
 -- ---- demand 3
 
-module _ (s : List ℕ) (accepted : verdictOf s ≡ passed) (capacity : ℕ) (room : 1 ≤ capacity) (calls : List Call) where
+module _ (s : List ℕ) (accepted : Admissible s) (capacity : ℕ) (room : 1 ≤ capacity) (calls : List Call) where
   abbrev x : Exp
   x = formulaOf s
 
@@ -286,7 +285,7 @@ module _ (s : List ℕ) (accepted : verdictOf s ≡ passed) (capacity : ℕ) (ro
 
 -- "A beacon's verdict comes from its own readings and nobody else's. Start a machine empty for an accepted sheet, with links holding 1 to 16 tokens. Then
 -- the following holds after every list of pushes, single firings, runs and takes, in any order, with any sets and numbers, refused calls included".
-pub demand-3 : (s : List ℕ) → verdictOf s ≡ passed → (capacity : ℕ) → 1 ≤ capacity → capacity ≤ 16 → (calls : List Call) → OwnVerdicts (formulaOf s) capacity calls
+pub demand-3 : (s : List ℕ) → Admissible s → (capacity : ℕ) → 1 ≤ capacity → capacity ≤ 16 → (calls : List Call) → OwnVerdicts (formulaOf s) capacity calls
 demand-3 s accepted capacity room most calls =
     record {
       own = own-verdict s accepted capacity room calls;
@@ -295,12 +294,12 @@ demand-3 s accepted capacity room most calls =
     }
 
 -- The made graph of an accepted sheet is small enough for the machine's numbers.
-pub accepted-graph : (s : List ℕ) → verdictOf s ≡ passed → (length (madeOf (formulaOf s) .operators) ≤ 1024) × (madeOf (formulaOf s) .links ≤ 3105)
+pub accepted-graph : (s : List ℕ) → Admissible s → (length (madeOf (formulaOf s) .operators) ≤ 1024) × (madeOf (formulaOf s) .links ≤ 3105)
 accepted-graph s accepted = (
   subst (λ (m : ℕ). m ≤ 1024) (sym (made-operators (formulaOf s) (accepted-admitted s accepted))) (accepted-operators s accepted),
   made-links-bound (formulaOf s) (accepted-admitted s accepted) (accepted-operators s accepted),
 )
 
 -- "the result taken equals its result set in width": what evaluation yields has the formula's width.
-pub verdict-width : (s : List ℕ) → verdictOf s ≡ passed → (v r : List Value) → EndsWith (formulaOf s) v r → length r ≡ width (formulaOf s)
+pub verdict-width : (s : List ℕ) → Admissible s → (v r : List Value) → EndsWith (formulaOf s) v r → length r ≡ width (formulaOf s)
 verdict-width s accepted v r e = result-width (formulaOf s) (accepted-admitted s accepted) v r e

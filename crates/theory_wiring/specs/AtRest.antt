@@ -10,7 +10,8 @@ use mathlib.Core.Option.{Option, none, some}
 use lib.ListN.{length}
 use native.Mathlib.Omega.{arith}
 use Rattle.value.specs.declared.Value.{Value}
-use Rattle.network.specs.Values.{false-value, sense, one-operand}
+use Rattle.value.specs.Senses.{sense}
+use Rattle.network.specs.Values.{false-value, one-operand}
 use Rattle.network.specs.Rules.{Kind, constant, copy, operator, T-gate, F-gate, M-gate, E-gate, IC-gate, FM-gate, FS-gate, Register, rule, M-rule, FS-rule, fired, first as input₁, second as input₂, third as input₃}
 use Rattle.network.specs.Net.{Token, val, mark, Links, head, pop, pop-other, Able}
 use Rattle.network.specs.Fill.{Ports, remembering, fill, wire, kept, value-of, register-of}

@@ -8,14 +8,17 @@ use mathlib.Core.Option.{Option, none, some}
 use lib.ListN.{length, getD, replicate}
 use native.Mathlib.Omega.{arith}
 use Rattle.value.specs.declared.Value.{Value}
-use Rattle.value.specs.declared.Value.the-variants.{Whole, Truth, Err}
-use Rattle.network.specs.Values.{true-value, false-value, is-neither, sense}
+use Rattle.value.specs.declared.Sense.{Sense}
+use Rattle.value.specs.declared.Sense.the-variants.{True, False, Neither}
+use Rattle.value.specs.Senses.{err, sense, only-one-true, only-one-false}
+use Rattle.network.specs.Values.{true-value, false-value}
 use Rattle.formula.specs.Tree.{Exp, Body, ret, iter, letB, ifB}
 use Rattle.formula.specs.Widths.{iterated}
 use Rattle.formula.specs.Free.{freeB}
 use Rattle.formula.specs.Count.{returns as returnsAlways, iterates}
 use Rattle.formula.specs.Admitted.{AdmittedB}
 use Rattle.meaning.specs.Meaning.{Env, bind, Outcome, yields, Ending, again, returns, thenB, branch, evalE, evalB}
+use Rattle.meaning.specs.Rounds.{branch-holds}
 use Rattle.meaning.specs.WidthLaws.{SizedB}
 use Rattle.graph.specs.Assembly.{Graph}
 use Rattle.graph.specs.Yields.{Values, absent, present, bound, YieldsIn}
@@ -61,14 +64,6 @@ second-ends t x y (again vs l) h = or-right (iterates x) (iterates y) h
 second-ends t x y (returns vs l) h = refl
 second-ends t x y Ending.unfinished h = tt
 
-branch-ends : (y : Body) (v : Value) (e : Ending) (f g : Unit {0} → Ending) → EndsAs y e → EndsAs y (f tt) → EndsAs y (g tt)
-    → EndsAs y (branch v e f g)
-unfolding branch
-branch-ends y (Whole z) e f g p q r = p
-branch-ends y (Truth true) e f g p q r = q
-branch-ends y (Truth false) e f g p q r = r
-branch-ends y Err e f g p q r = p
-
 pub ends-as : (y : Body) (w : ℕ) (env : Env) (l : ℕ) → EndsAs y (evalB y w env l)
 unfolding evalB iterates returnsAlways
 ends-as (ret x) w env l = then-ends (ret x) (evalE x env l) _ (λ vs m. refl)
@@ -79,7 +74,7 @@ ends-as (letB a b x y) w env l =
 ends-as (ifB t x y) w env l =
     then-ends (ifB t x y) (evalE t env l) _
     (λ vs m.
-    branch-ends (ifB t x y) (getD vs 0 Err) _ (λ _. evalB x w env m) (λ _. evalB y w env m) refl
+    branch-holds (EndsAs (ifB t x y)) (sense (getD vs 0 err)) _ (λ _. evalB x w env m) (λ _. evalB y w env m) refl
     (first-ends t x y (evalB x w env m) (ends-as x w env m)) (second-ends t x y (evalB y w env m) (ends-as y w env m))
     )
 
@@ -178,23 +173,26 @@ module _ (w : ℕ) (t : Exp) (x y : Body) (adm : AdmittedB (ifB t x y)) (r : Ret
         chosen-false-stops (armNames true w x) (freeB x) (graphB w x) (armNames false w y) (freeB y) (graphB w y) (joined w x y) body-arms cut ρ false-value e every-x
         every-y refl l p
 
-    pub if-neither : (v : Value) → ρ testName ≡ some v → sense v ≡ is-neither → MeetsB K w (YieldsIn cut body-behind ρ) l (returns (replicate w Err) l)
+    pub if-neither : (v : Value) → ρ testName ≡ some v → sense v ≡ Neither → MeetsB K w (YieldsIn cut body-behind ρ) l (returns (replicate w err) l)
     if-neither v e s =
         let z : 0 ≡ l - l = omega arith in
-        subst (λ n. YieldsIn cut body-behind ρ n (some (some false-value ∷ (absent K ++ present (replicate w Err))))) z
+        subst (λ n. YieldsIn cut body-behind ρ n (some (some false-value ∷ (absent K ++ present (replicate w err))))) z
         (chosen-neither (armNames true w x) (freeB x) (graphB w x) (armNames false w y) (freeB y) (graphB w y) (joined w x y) body-arms cut ρ v e every-x every-y s
-        (some false-value ∷ (absent K ++ present (replicate w Err)))
+        (some false-value ∷ (absent K ++ present (replicate w err)))
         (neither-arm cut w t x y adm nx ny _ (iteratedOutputs x) (returnedOutputs w x) (iteratedOutputs y) (returnedOutputs w y) v (test-still ρ _ _ ∙ e) s
         (first-quiet _) (given-nothing false w y _ ny)))
 
     pub body-if : (v : Value) → ρ testName ≡ some v → SizedB (iterated x) w (evalB x w env l) → SizedB (iterated y) w (evalB y w env l)
         → ((σ : Values) → Holds (freeB x) env σ → MeetsB (iteratedOutputs x) (returnedOutputs w x) (YieldsIn cut (graphB w x) σ) l (evalB x w env l))
         → ((σ : Values) → Holds (freeB y) env σ → MeetsB (iteratedOutputs y) (returnedOutputs w y) (YieldsIn cut (graphB w y) σ) l (evalB y w env l))
-        → MeetsB K w (YieldsIn cut body-behind ρ) l (branch v (returns (replicate w Err) l) (λ _. evalB x w env l) (λ _. evalB y w env l))
+        → MeetsB K w (YieldsIn cut body-behind ρ) l (branch (sense v) (returns (replicate w err) l) (λ _. evalB x w env l) (λ _. evalB y w env l))
     unfolding branch
-    body-if (Whole z) e sx sy p q = if-neither (Whole z) e refl
-    body-if (Truth true) e sx sy p q = if-true e (evalB x w env l) sx (ends-as x w env l) (p ρ hx)
-    body-if (Truth false) e sx sy p q =
-        if-false e (evalB y w env l) sy (ends-as y w env l)
-        (q (passed ρ) (passed-holds env ρ hy))
-    body-if Err e sx sy p q = if-neither Err e refl
+    body-if v e sx sy p q = go (sense v) refl
+      where
+        go : (s : Sense) → sense v ≡ s
+            → MeetsB K w (YieldsIn cut body-behind ρ) l (branch s (returns (replicate w err) l) (λ _. evalB x w env l) (λ _. evalB y w env l))
+        go True i = if-true (e ∙ ap some (only-one-true v i)) (evalB x w env l) sx (ends-as x w env l) (p ρ hx)
+        go False i =
+            if-false (e ∙ ap some (only-one-false v i)) (evalB y w env l) sy (ends-as y w env l)
+            (q (passed ρ) (passed-holds env ρ hy))
+        go Neither i = if-neither v e i

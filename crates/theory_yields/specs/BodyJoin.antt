@@ -10,8 +10,9 @@ use lib.Dec.{eqb}
 use borrow.Author.Tests.{ne-eqb, eq-eqb}
 use native.Mathlib.Omega.{arith}
 use Rattle.value.specs.declared.Value.{Value}
-use Rattle.value.specs.declared.Value.the-variants.{Err}
-use Rattle.network.specs.Values.{true-value, false-value, err-value, is-neither, sense}
+use Rattle.value.specs.declared.Sense.the-variants.{Neither}
+use Rattle.value.specs.Senses.{err, sense}
+use Rattle.network.specs.Values.{true-value, false-value, err-value}
 use Rattle.formula.specs.Tree.{Exp, Body, ifB}
 use Rattle.formula.specs.Widths.{iterated}
 use Rattle.formula.specs.Count.{returns, iterates}
@@ -254,12 +255,12 @@ module _ (cut : Option ℕ) (w : ℕ) (t : Exp) (x y : Body) (adm : AdmittedB (i
       (n ∙ sym (returned-outputs w y i)) gy))
 
   -- "in a body it ends the loop with err for each returned value"
-  pub neither-arm : (k l m n : ℕ) (v : Value) → ρ testName ≡ some v → sense v ≡ is-neither
+  pub neither-arm : (k l m n : ℕ) (v : Value) → ρ testName ≡ some v → sense v ≡ Neither
       → Given true w x ρ none (absent k) (absent l) → Given false w y ρ none (absent m) (absent n)
-      → YieldsIn cut (joined w x y) ρ 0 (some (some false-value ∷ (absent (iteratedOutputs (ifB t x y)) ++ present (replicate w Err))))
+      → YieldsIn cut (joined w x y) ρ 0 (some (some false-value ∷ (absent (iteratedOutputs (ifB t x y)) ++ present (replicate w err))))
   unfolding returnedOutputs
   neither-arm k l m n v e s gx gy =
-      joined-yields (some false-value) none (some err-value) (absent (iteratedOutputs (ifB t x y))) (present (replicate w Err))
+      joined-yields (some false-value) none (some err-value) (absent (iteratedOutputs (ifB t x y))) (present (replicate w err))
       (at-IC (some v) none none (joinOutputs (iterates x && iterates y) (some false-value) none (some err-value)) e (gx .iter?) (gy .iter?)
       (IC-err (iterates x && iterates y) v s))
       (results-rest (some false-value) none (some err-value) none none k m (absent l) (absent n) gx gy refl)

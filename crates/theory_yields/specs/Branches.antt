@@ -10,8 +10,10 @@ use lib.Dec.{ltb}
 use borrow.Author.Tests.{ltb-true, ltb-false}
 use native.Mathlib.Omega.{arith}
 use Rattle.value.specs.declared.Value.{Value}
+use Rattle.value.specs.declared.Sense.{Sense}
+use Rattle.value.specs.declared.Sense.the-variants.{True, False, Neither}
+use Rattle.value.specs.Senses.{sense}
 use Rattle.names.specs.Names.{Names, members}
-use Rattle.network.specs.Values.{Sense, is-true, is-false, is-neither, sense}
 use Rattle.graph.specs.Assembly.{Graph, bind, Gate, T, F, free}
 use Rattle.graph.specs.Yields.{Values, Answer, absent, bound, outputCount, YieldsIn, Sequel, Fires}
 use Rattle.graph.specs.Fit.{Fit}
@@ -58,21 +60,21 @@ module _ (ρ : Values) (c : Value) (at-test : ρ testName ≡ some c) where
       → Fires G (ρ testName ∷ ρ k ∷ []) (w ∷ [])
   here G k v w e h = rw (at-test, e) h
 
-  T-through : (f : Names) → AllAt f ρ → sense c ≡ is-true → (k : ℕ) → f k ≡ true → Fires T (ρ testName ∷ ρ k ∷ []) (ρ k ∷ [])
+  T-through : (f : Names) → AllAt f ρ → sense c ≡ True → (k : ℕ) → f k ≡ true → Fires T (ρ testName ∷ ρ k ∷ []) (ρ k ∷ [])
   T-through f a s k h =
       let v = a k h in
       subst (λ (w : Option Value). Fires T (ρ testName ∷ ρ k ∷ []) (w ∷ [])) (sym (v .1)) (here T k (v .0) (some (v .0)) (v .1) (T-passes c (v .0) s))
 
-  F-through : (f : Names) → AllAt f ρ → sense c ≡ is-false → (k : ℕ) → f k ≡ true → Fires F (ρ testName ∷ ρ k ∷ []) (ρ k ∷ [])
+  F-through : (f : Names) → AllAt f ρ → sense c ≡ False → (k : ℕ) → f k ≡ true → Fires F (ρ testName ∷ ρ k ∷ []) (ρ k ∷ [])
   F-through f a s k h =
       let v = a k h in
       subst (λ (w : Option Value). Fires F (ρ testName ∷ ρ k ∷ []) (w ∷ [])) (sym (v .1)) (here F k (v .0) (some (v .0)) (v .1) (F-passes c (v .0) s))
 
-  T-away : (f : Names) → AllAt f ρ → (s : Sense) → sense c ≡ s → (s ≡ is-true → ⊥) → (k : ℕ) → f k ≡ true
+  T-away : (f : Names) → AllAt f ρ → (s : Sense) → sense c ≡ s → (s ≡ True → ⊥) → (k : ℕ) → f k ≡ true
       → Fires T (ρ testName ∷ ρ k ∷ []) (none ∷ [])
   T-away f a s e n k h = let v = a k h in here T k (v .0) none (v .1) (T-drops c (v .0) s e n)
 
-  F-away : (f : Names) → AllAt f ρ → (s : Sense) → sense c ≡ s → (s ≡ is-false → ⊥) → (k : ℕ) → f k ≡ true
+  F-away : (f : Names) → AllAt f ρ → (s : Sense) → sense c ≡ s → (s ≡ False → ⊥) → (k : ℕ) → f k ≡ true
       → Fires F (ρ testName ∷ ρ k ∷ []) (none ∷ [])
   F-away f a s e n k h = let v = a k h in here F k (v .0) none (v .1) (F-drops c (v .0) s e n)
 
@@ -97,50 +99,50 @@ module _ (ns : List ℕ) (f : Names) (a : Graph) (ms : List ℕ) (g : Names) (b 
             go true e = omega (arith, ltb-true k 33 e)
             go false e = absurd (false≢true (sym (A .small-g k (ltb-false k 33 e)) ∙ h))
 
-    first-absorbs : (s : Sense) → sense c ≡ s → (s ≡ is-true → ⊥) → YieldsIn cut (arm T f a) ρ 0 (some (absent (length ns)))
+    first-absorbs : (s : Sense) → sense c ≡ s → (s ≡ True → ⊥) → YieldsIn cut (arm T f a) ρ 0 (some (absent (length ns)))
     first-absorbs s e n =
         subst (λ m. YieldsIn cut (arm T f a) ρ 0 (some (absent m))) (A .count-a)
         (arm-absorbs cut T f a ρ (A .small-f) (A .has-f) (A .fit-a) (T-away ρ c at-test f all-f s e n))
 
-    second-absorbs : (xs : List (Option Value)) (s : Sense) → sense c ≡ s → (s ≡ is-false → ⊥)
+    second-absorbs : (xs : List (Option Value)) (s : Sense) → sense c ≡ s → (s ≡ False → ⊥)
         → YieldsIn cut (arm F g b) (bound ns xs ρ) 0 (some (absent (length ms)))
     second-absorbs xs s e n =
         subst (λ m. YieldsIn cut (arm F g b) (bound ns xs ρ) 0 (some (absent m))) (A .count-b)
         (arm-absorbs cut F g b (bound ns xs ρ) (A .small-g) (A .has-g) (A .fit-b) (F-away (bound ns xs ρ) c (still-test xs) g (still-all xs) s e n))
 
-    pub chosen-true : sense c ≡ is-true → (n : ℕ) (xs zs : List (Option Value)) → YieldsIn cut a ρ n (some xs)
+    pub chosen-true : sense c ≡ True → (n : ℕ) (xs zs : List (Option Value)) → YieldsIn cut a ρ n (some xs)
         → YieldsIn cut j (bound ms (absent (length ms)) (bound ns xs ρ)) 0 (some zs) → YieldsIn cut behind ρ n (some zs)
     chosen-true e n xs zs p q =
         in-turn cut ns (arm T f a) (bind ms (arm F g b) j) ρ n 0 n xs (some zs) (omega arith)
         (arm-passes cut T f a ρ n (some xs) (A .small-f) (T-through ρ c at-test f all-f e) p)
         (in-turn cut ms (arm F g b) j (bound ns xs ρ) 0 0 0 (absent (length ms)) (some zs) refl
-        (second-absorbs xs is-true e (differ is-true is-false (λ z. omega arith))) q)
+        (second-absorbs xs True e (differ True False (λ z. omega arith))) q)
 
-    pub chosen-true-stops : sense c ≡ is-true → (n : ℕ) → YieldsIn cut a ρ n none → YieldsIn cut behind ρ n none
+    pub chosen-true-stops : sense c ≡ True → (n : ℕ) → YieldsIn cut a ρ n none → YieldsIn cut behind ρ n none
     chosen-true-stops e n p = Sequel.stops n (arm-passes cut T f a ρ n none (A .small-f) (T-through ρ c at-test f all-f e) p)
 
-    pub chosen-false : sense c ≡ is-false → (n : ℕ) (ys zs : List (Option Value)) → YieldsIn cut b (bound ns (absent (length ns)) ρ) n (some ys)
+    pub chosen-false : sense c ≡ False → (n : ℕ) (ys zs : List (Option Value)) → YieldsIn cut b (bound ns (absent (length ns)) ρ) n (some ys)
         → YieldsIn cut j (bound ms ys (bound ns (absent (length ns)) ρ)) 0 (some zs) → YieldsIn cut behind ρ n (some zs)
     chosen-false e n ys zs p q =
         in-turn cut ns (arm T f a) (bind ms (arm F g b) j) ρ 0 n n (absent (length ns)) (some zs) (omega arith)
-        (first-absorbs is-false e (differ is-false is-true (λ z. omega arith)))
+        (first-absorbs False e (differ False True (λ z. omega arith)))
         (in-turn cut ms (arm F g b) j (bound ns (absent (length ns)) ρ) n 0 n ys (some zs) (omega arith)
         (arm-passes cut F g b (bound ns (absent (length ns)) ρ) n (some ys) (A .small-g)
         (F-through (bound ns (absent (length ns)) ρ) c (still-test (absent (length ns))) g (still-all (absent (length ns))) e) p)
         q)
 
-    pub chosen-false-stops : sense c ≡ is-false → (n : ℕ) → YieldsIn cut b (bound ns (absent (length ns)) ρ) n none → YieldsIn cut behind ρ n none
+    pub chosen-false-stops : sense c ≡ False → (n : ℕ) → YieldsIn cut b (bound ns (absent (length ns)) ρ) n none → YieldsIn cut behind ρ n none
     chosen-false-stops e n p =
         in-turn cut ns (arm T f a) (bind ms (arm F g b) j) ρ 0 n n (absent (length ns)) none (omega arith)
-        (first-absorbs is-false e (differ is-false is-true (λ z. omega arith)))
+        (first-absorbs False e (differ False True (λ z. omega arith)))
         (Sequel.stops n
         (arm-passes cut F g b (bound ns (absent (length ns)) ρ) n none (A .small-g)
         (F-through (bound ns (absent (length ns)) ρ) c (still-test (absent (length ns))) g (still-all (absent (length ns))) e) p))
 
-    pub chosen-neither : sense c ≡ is-neither → (zs : List (Option Value))
+    pub chosen-neither : sense c ≡ Neither → (zs : List (Option Value))
         → YieldsIn cut j (bound ms (absent (length ms)) (bound ns (absent (length ns)) ρ)) 0 (some zs) → YieldsIn cut behind ρ 0 (some zs)
     chosen-neither e zs q =
         in-turn cut ns (arm T f a) (bind ms (arm F g b) j) ρ 0 0 0 (absent (length ns)) (some zs) refl
-        (first-absorbs is-neither e (differ is-neither is-true (λ z. omega arith)))
+        (first-absorbs Neither e (differ Neither True (λ z. omega arith)))
         (in-turn cut ms (arm F g b) j (bound ns (absent (length ns)) ρ) 0 0 0 (absent (length ms)) (some zs) refl
-        (second-absorbs (absent (length ns)) is-neither e (differ is-neither is-false (λ z. omega arith))) q)
+        (second-absorbs (absent (length ns)) Neither e (differ Neither False (λ z. omega arith))) q)

@@ -12,10 +12,13 @@ use lib.IntN.{pos}
 use borrow.Author.Tests.{eq-eqb}
 use native.Mathlib.Omega.{arith}
 use Rattle.value.specs.declared.Value.{Value}
-use Rattle.value.specs.declared.Value.the-variants.{Whole, Truth, Err}
+use Rattle.value.specs.declared.Value.the-variants.{Whole, Truth}
 use Rattle.value.specs.Operators.{apply}
+use Rattle.value.specs.declared.Sense.{Sense}
+use Rattle.value.specs.declared.Sense.the-variants.{True, False, Neither}
+use Rattle.value.specs.Senses.{err, sense, only-one-true, only-one-false}
 use Rattle.names.specs.Names.{trigger, one, union, without, range}
-use Rattle.network.specs.Values.{true-value, false-value, err-value, is-neither, sense}
+use Rattle.network.specs.Values.{true-value, false-value, err-value}
 use Rattle.formula.specs.Tree.{Exp, identifier, whole, truth, pair, operator, letE, ifE, forE, Body, ret, iter, letB, ifB}
 use Rattle.formula.specs.Widths.{width, returned, iterated}
 use Rattle.formula.specs.Free.{freeE, freeB}
@@ -75,7 +78,7 @@ module _ (N : ℕ) where
 
   -- A body whose first test counts as err returns errs.
   abbrev pub Overridden : ℕ → Body → Values → Type 0
-  Overridden w y ρ = (c : ℕ) × YieldsBy (cut-loops N) (graphB w y) true ρ c (some (some false-value ∷ (absent (iteratedOutputs y) ++ present (replicate w Err))))
+  Overridden w y ρ = (c : ℕ) × YieldsBy (cut-loops N) (graphB w y) true ρ c (some (some false-value ∷ (absent (iteratedOutputs y) ++ present (replicate w err))))
 
   -- ---- an if, behind its test
 
@@ -83,29 +86,28 @@ module _ (N : ℕ) where
     exp-ends : (v : Value) → ρ testName ≡ some v → width x ≡ width y
         → ((σ : Values) → Holds (freeE x) env σ → Ends (graphE x) σ (width x)) → ((σ : Values) → Holds (freeE y) env σ → Ends (graphE y) σ (width y))
         → Ends (exp-behind t x y adm) ρ (width x)
-    exp-ends v e s p q = go v e
+    exp-ends v e s p q = go (sense v) refl
       where
-        errs : (v : Value) → ρ testName ≡ some v → sense v ≡ is-neither → Ends (exp-behind t x y adm) ρ (width x)
-        errs v e n = (
-          replicate (width x) Err,
-          length-replicate (width x) Err,
-          (0, some-used (YieldsIn (some N) (exp-behind t x y adm) ρ) 0 (some (present (replicate (width x) Err))) (Exps.if-neither t x y adm (some N) env ρ hx hy 0 v e n)),
+        errs : sense v ≡ Neither → Ends (exp-behind t x y adm) ρ (width x)
+        errs n = (
+          replicate (width x) err,
+          length-replicate (width x) err,
+          (0, some-used (YieldsIn (some N) (exp-behind t x y adm) ρ) 0 (some (present (replicate (width x) err))) (Exps.if-neither t x y adm (some N) env ρ hx hy 0 v e n)),
         )
 
-        go : (v : Value) → ρ testName ≡ some v → Ends (exp-behind t x y adm) ρ (width x)
-        go (Whole z) e = errs (Whole z) e refl
-        go Err e = errs Err e refl
-        go (Truth true) e =
+        go : (z : Sense) → sense v ≡ z → Ends (exp-behind t x y adm) ρ (width x)
+        go Neither n = errs n
+        go True n =
             let r = p ρ hx in (
               r .0,
               r .1,
               (
                 r .2 .0,
                 some-used (YieldsIn (some N) (exp-behind t x y adm) ρ) (r .2 .0) (some (present (r .0)))
-                    (Exps.if-true t x y adm (some N) env ρ hx hy (r .2 .0) e (yields (r .0) 0) (r .1) (all-used (YieldsIn (some N) (graphE x) ρ) (r .2 .0) (some (present (r .0))) (r .2 .1))),
+                    (Exps.if-true t x y adm (some N) env ρ hx hy (r .2 .0) (e ∙ ap some (only-one-true v n)) (yields (r .0) 0) (r .1) (all-used (YieldsIn (some N) (graphE x) ρ) (r .2 .0) (some (present (r .0))) (r .2 .1))),
               ),
             )
-        go (Truth false) e =
+        go False n =
             let σ : Values = Exps.passed t x y adm ρ in
             let r = q σ (Exps.passed-holds t x y adm env ρ hy) in (
               r .0,
@@ -113,7 +115,7 @@ module _ (N : ℕ) where
               (
                 r .2 .0,
                 some-used (YieldsIn (some N) (exp-behind t x y adm) ρ) (r .2 .0) (some (present (r .0)))
-                    (Exps.if-false t x y adm (some N) env ρ hx hy (r .2 .0) e (yields (r .0) 0) (r .1 ∙ sym s) (all-used (YieldsIn (some N) (graphE y) σ) (r .2 .0) (some (present (r .0))) (r .2 .1))),
+                    (Exps.if-false t x y adm (some N) env ρ hx hy (r .2 .0) (e ∙ ap some (only-one-false v n)) (yields (r .0) 0) (r .1 ∙ sym s) (all-used (YieldsIn (some N) (graphE y) σ) (r .2 .0) (some (present (r .0))) (r .2 .1))),
               ),
             )
 
@@ -129,16 +131,13 @@ module _ (N : ℕ) where
         ⊎ ((vs : List Value) × (length vs ≡ w) × ((c : ℕ) × Behind c (some (some false-value ∷ (absent (iteratedOutputs (ifB t x y)) ++ present vs)))))
 
     module _ (env : Env) (hx : Holds (freeB x) env ρ) (hy : Holds (freeB y) env ρ) where
-      errs : (v : Value) → ρ testName ≡ some v → sense v ≡ is-neither → Behind 0 (some (some false-value ∷ (absent (iteratedOutputs (ifB t x y)) ++ present (replicate w Err))))
+      errs : (v : Value) → ρ testName ≡ some v → sense v ≡ Neither → Behind 0 (some (some false-value ∷ (absent (iteratedOutputs (ifB t x y)) ++ present (replicate w err))))
       errs v e n = some-used Behind 0 _ (Bodies.if-neither w t x y adm r (some N) env ρ hx hy 0 v e n)
 
       body-ends : (v : Value) → ρ testName ≡ some v → ((σ : Values) → Holds (freeB x) env σ → EndsBody w x σ) → ((σ : Values) → Holds (freeB y) env σ → EndsBody w y σ) → Chosen
       unfolding iterates
-      body-ends v e p q = go v e
+      body-ends v e p q = go (sense v) refl
         where
-          no-truth : (v : Value) → ρ testName ≡ some v → sense v ≡ is-neither → Chosen
-          no-truth v e n = inr (replicate w Err, length-replicate w Err, (0, errs v e n))
-
           of-x : ρ testName ≡ some true-value → EndsBody w x ρ → Chosen
           of-x e (inl (vs, n, k, i, (c, z))) =
               let m : iterated (ifB t x y) ≡ iterated x = iterated-first t x y adm i in
@@ -165,11 +164,10 @@ module _ (N : ℕ) where
           of-y e (inr (vs, n, i, (c, z))) =
               inr (vs, n, (c, some-used Behind c _ (Bodies.if-false w t x y adm r (some N) env ρ hx hy c e (returns vs 0) n i (all-used (YieldsIn (some N) (graphB w y) (Bodies.passed w t x y adm r ρ)) c _ z))))
 
-          go : (v : Value) → ρ testName ≡ some v → Chosen
-          go (Whole z) e = no-truth (Whole z) e refl
-          go Err e = no-truth Err e refl
-          go (Truth true) e = of-x e (p ρ hx)
-          go (Truth false) e = of-y e (q (Bodies.passed w t x y adm r ρ) (Bodies.passed-holds w t x y adm r env ρ hy))
+          go : (z : Sense) → sense v ≡ z → Chosen
+          go Neither n = inr (replicate w err, length-replicate w err, (0, errs v e n))
+          go True n = of-x (e ∙ ap some (only-one-true v n)) (p ρ hx)
+          go False n = of-y (e ∙ ap some (only-one-false v n)) (q (Bodies.passed w t x y adm r ρ) (Bodies.passed-holds w t x y adm r env ρ hy))
 
   -- ---- a body's let and a body's if, behind what comes first
 
@@ -205,10 +203,10 @@ module _ (N : ℕ) where
     at-last : (i : ℕ) (us : List Value) → N ≤ i → length us ≡ b → Spun i us
     at-last i us le n =
         let o = over us n in (
-          replicate w Err,
-          length-replicate w Err,
-          Cut-spins.cuts i us (o .0) (present (replicate w Err)) le
-              (subst (λ k. Last us (o .0) (some (some false-value ∷ (absent k ++ present (replicate w Err))))) many (o .1)),
+          replicate w err,
+          length-replicate w err,
+          Cut-spins.cuts i us (o .0) (present (replicate w err)) le
+              (subst (λ k. Last us (o .0) (some (some false-value ∷ (absent k ++ present (replicate w err))))) many (o .1)),
         )
 
     one-round : (i : ℕ) (us : List Value) → EndsBody w y (bound (upFrom a b) (present us) ρ) → ((vs : List Value) → length vs ≡ b → Spun (suc i) vs) → Spun i us
@@ -248,7 +246,7 @@ module _ (N : ℕ) where
         )
     ends-E (operator k x) adm env ρ h =
         let p = ends-E x (adm .2) env ρ h in (
-          apply k (getD (p .0) 0 Err) (getD (p .0) 1 Err) ∷ [],
+          apply k (getD (p .0) 0 err) (getD (p .0) 1 err) ∷ [],
           refl,
           (p .2 .0, Gated.ends (p .2 .0) (present (p .0)) _ (p .2 .1) (operator-fires k (p .0) (p .1 ∙ operator-fits k x (adm .0 .0)))),
         )
@@ -265,7 +263,7 @@ module _ (N : ℕ) where
         let q = exp-ends t x y adm env σ
         (holds-beside (freeE x) env ρ (testName ∷ []) (present (p .0)) from-test (left-part (freeE x) (freeE y) env ρ arms))
         (holds-beside (freeE y) env ρ (testName ∷ []) (present (p .0)) from-test (right-part (freeE x) (freeE y) env ρ arms))
-        (getD (p .0) 0 Err) (test-value (p .0) ρ (p .1 ∙ f .0)) (f .1) (λ τ g. ends-E x (adm .2) env τ g) (λ τ g. ends-E y (adm .3) env τ g) in
+        (getD (p .0) 0 err) (test-value (p .0) ρ (p .1 ∙ f .0)) (f .1) (λ τ g. ends-E x (adm .2) env τ g) (λ τ g. ends-E y (adm .3) env τ g) in
         (q .0, q .1, (p .2 .0 + q .2 .0, in-turn (some N) (testName ∷ []) (graphE t) (exp-behind t x y adm) ρ (p .2 .0) (q .2 .0) (p .2 .0 + q .2 .0) (present (p .0)) (some (present (q .0))) refl (p .2 .1) (q .2 .1)))
     ends-E (forE a b x y) adm env ρ h =
         let f = for-fits a b x y (adm .0 .0) in
@@ -315,7 +313,7 @@ module _ (N : ℕ) where
         (body-ends w t x y adm r σ env
         (holds-beside (freeB x) env ρ (testName ∷ []) (present (p .0)) from-test (left-part (freeB x) (freeB y) env ρ arms))
         (holds-beside (freeB y) env ρ (testName ∷ []) (present (p .0)) from-test (right-part (freeB x) (freeB y) env ρ arms))
-        (getD (p .0) 0 Err) (test-value (p .0) ρ (p .1 ∙ f .0)) (λ τ g. ends-B w x (adm .2) (s .0) env τ g) (λ τ g. ends-B w y (adm .3) (s .1) env τ g))
+        (getD (p .0) 0 err) (test-value (p .0) ρ (p .1 ∙ f .0)) (λ τ g. ends-B w x (adm .2) (s .0) env τ g) (λ τ g. ends-B w y (adm .3) (s .1) env τ g))
 
     -- A body with iterated and with returned values is lets around an if.
     pub over-B : (w : ℕ) (y : Body) → AdmittedB y → Returning w y → 1 ≤ iterated y → 1 ≤ returned y → (env : Env) (ρ : Values) → Holds (freeB y) env ρ → Overridden w y ρ

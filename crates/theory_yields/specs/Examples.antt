@@ -7,7 +7,8 @@ use mathlib.Core.Option.{none, some}
 use lib.IntN.{pos}
 use native.Mathlib.Omega.{arith}
 use Rattle.value.specs.declared.Value.{Value}
-use Rattle.value.specs.declared.Value.the-variants.{Whole, Err}
+use Rattle.value.specs.declared.Value.the-variants.{Whole}
+use Rattle.value.specs.Senses.{err}
 use Rattle.formula.specs.Tree.{Exp, identifier, whole, pair, operator, forE, ret, iter, ifB}
 use Rattle.formula.specs.Widths.{wideE, wideB}
 use Rattle.formula.specs.Free.{freeE, boundE, boundB}
@@ -82,11 +83,11 @@ pub too-few-rounds : Yields (graphE factorial) (all (Whole (pos 5))) 4 none
 unfolding evalE
 too-few-rounds = unfinished-agrees factorial admitted (λ k. Whole (pos 5)) (all (Whole (pos 5))) (held factorial (Whole (pos 5))) 4 refl
 
-pub err-in : Yields (graphE factorial) (all Err) 1 (some (some Err ∷ []))
+pub err-in : Yields (graphE factorial) (all err) 1 (some (some err ∷ []))
 unfolding evalE
-err-in = values-agree factorial admitted (λ k. Err) (all Err) (held factorial Err) 1 (Err ∷ []) 0 refl
+err-in = values-agree factorial admitted (λ k. err) (all err) (held factorial err) 1 (err ∷ []) 0 refl
 
-pub errs-of-two-iters : Yields (graphE two-iters) (all (Whole (pos 5))) 1 (some (some Err ∷ []))
+pub errs-of-two-iters : Yields (graphE two-iters) (all (Whole (pos 5))) 1 (some (some err ∷ []))
 unfolding evalE
 errs-of-two-iters =
-    values-agree two-iters two-iters-admitted (λ k. Whole (pos 5)) (all (Whole (pos 5))) (held two-iters (Whole (pos 5))) 1 (Err ∷ []) 0 refl
+    values-agree two-iters two-iters-admitted (λ k. Whole (pos 5)) (all (Whole (pos 5))) (held two-iters (Whole (pos 5))) 1 (err ∷ []) 0 refl

@@ -9,7 +9,10 @@ use lib.ListN.{length, getD}
 use native.Mathlib.Omega.{arith}
 use Rattle.value.specs.declared.Value.{Value}
 use Rattle.value.specs.Operators.{operands, pick}
-use Rattle.network.specs.Values.{true-value, false-value, err-value, Sense, is-true, is-false, is-neither, sense, one-operand, apply}
+use Rattle.value.specs.declared.Sense.{Sense}
+use Rattle.value.specs.declared.Sense.the-variants.{True, False, Neither}
+use Rattle.value.specs.Senses.{sense}
+use Rattle.network.specs.Values.{true-value, false-value, err-value, one-operand, apply}
 use Rattle.network.specs.Rules.{IC-gate, Input, first, second, third, Firing, T-rule, F-rule, M-rule, E-rule, chosen, IC-table}
 use Rattle.network.specs.Decide.{Decision, decide, decided, also, untouched}
 use Rattle.graph.specs.Assembly.{const, oper, T, F, M, E, IC, gateOutputs}
@@ -65,47 +68,47 @@ operator-fires k vs n = go (one-operand k) refl vs n
 
 -- ---- T and F
 
-pub T-passes : (c v : Value) → sense c ≡ is-true → Fires T (some c ∷ some v ∷ []) (some v ∷ [])
+pub T-passes : (c v : Value) → sense c ≡ True → Fires T (some c ∷ some v ∷ []) (some v ∷ [])
 T-passes c v e =
     fires T (some c ∷ some v ∷ []) (decision true true false (some v) none none none) (ap (by-control (T-rule none) (some c ∷ some v ∷ [])) e)
     (record { control = refl; data2 = refl; data3 = refl })
 
-pub T-drops : (c v : Value) (s : Sense) → sense c ≡ s → (s ≡ is-true → ⊥) → Fires T (some c ∷ some v ∷ []) (none ∷ [])
-T-drops c v is-true e n = absurd (n refl)
-T-drops c v is-false e n =
+pub T-drops : (c v : Value) (s : Sense) → sense c ≡ s → (s ≡ True → ⊥) → Fires T (some c ∷ some v ∷ []) (none ∷ [])
+T-drops c v True e n = absurd (n refl)
+T-drops c v False e n =
     fires T (some c ∷ some v ∷ []) (decision true true false none none none none) (ap (by-control (T-rule none) (some c ∷ some v ∷ [])) e)
     (record { control = refl; data2 = refl; data3 = refl })
-T-drops c v is-neither e n =
+T-drops c v Neither e n =
     fires T (some c ∷ some v ∷ []) (decision true true false none none none none) (ap (by-control (T-rule none) (some c ∷ some v ∷ [])) e)
     (record { control = refl; data2 = refl; data3 = refl })
 
-pub F-passes : (c v : Value) → sense c ≡ is-false → Fires F (some c ∷ some v ∷ []) (some v ∷ [])
+pub F-passes : (c v : Value) → sense c ≡ False → Fires F (some c ∷ some v ∷ []) (some v ∷ [])
 F-passes c v e =
     fires F (some c ∷ some v ∷ []) (decision true true false (some v) none none none) (ap (by-control (F-rule none) (some c ∷ some v ∷ [])) e)
     (record { control = refl; data2 = refl; data3 = refl })
 
-pub F-drops : (c v : Value) (s : Sense) → sense c ≡ s → (s ≡ is-false → ⊥) → Fires F (some c ∷ some v ∷ []) (none ∷ [])
-F-drops c v is-false e n = absurd (n refl)
-F-drops c v is-true e n =
+pub F-drops : (c v : Value) (s : Sense) → sense c ≡ s → (s ≡ False → ⊥) → Fires F (some c ∷ some v ∷ []) (none ∷ [])
+F-drops c v False e n = absurd (n refl)
+F-drops c v True e n =
     fires F (some c ∷ some v ∷ []) (decision true true false none none none none) (ap (by-control (F-rule none) (some c ∷ some v ∷ [])) e)
     (record { control = refl; data2 = refl; data3 = refl })
-F-drops c v is-neither e n =
+F-drops c v Neither e n =
     fires F (some c ∷ some v ∷ []) (decision true true false none none none none) (ap (by-control (F-rule none) (some c ∷ some v ∷ [])) e)
     (record { control = refl; data2 = refl; data3 = refl })
 
 -- ---- M and E
 
-pub M-second : (c v : Value) → sense c ≡ is-true → Fires M (some c ∷ some v ∷ none ∷ []) (some v ∷ [])
+pub M-second : (c v : Value) → sense c ≡ True → Fires M (some c ∷ some v ∷ none ∷ []) (some v ∷ [])
 M-second c v e =
     fires M (some c ∷ some v ∷ none ∷ []) (decision true true false (some v) none none none) (ap (by-control (M-rule none) (some c ∷ some v ∷ none ∷ [])) e)
     (record { control = refl; data2 = refl; data3 = refl })
 
-pub M-third : (c v : Value) → sense c ≡ is-false → Fires M (some c ∷ none ∷ some v ∷ []) (some v ∷ [])
+pub M-third : (c v : Value) → sense c ≡ False → Fires M (some c ∷ none ∷ some v ∷ []) (some v ∷ [])
 M-third c v e =
     fires M (some c ∷ none ∷ some v ∷ []) (decision true false true (some v) none none none) (ap (by-control (M-rule none) (some c ∷ none ∷ some v ∷ [])) e)
     (record { control = refl; data2 = refl; data3 = refl })
 
-pub M-err : (c : Value) → sense c ≡ is-neither → Fires M (some c ∷ none ∷ none ∷ []) (some err-value ∷ [])
+pub M-err : (c : Value) → sense c ≡ Neither → Fires M (some c ∷ none ∷ none ∷ []) (some err-value ∷ [])
 M-err c e =
     fires M (some c ∷ none ∷ none ∷ []) (decision true false false (some err-value) none none none) (ap (by-control (M-rule none) (some c ∷ none ∷ none ∷ [])) e)
     (record { control = refl; data2 = refl; data3 = refl })
@@ -114,16 +117,16 @@ pub M-rests : Fires M (none ∷ none ∷ none ∷ []) (none ∷ [])
 unfolding gateOutputs
 M-rests = rests M 3
 
-pub E-passes : (c v : Value) (s : Sense) → sense c ≡ s → (s ≡ is-neither → ⊥) → Fires E (some c ∷ some v ∷ []) (some v ∷ [])
-E-passes c v is-neither e n = absurd (n refl)
-E-passes c v is-true e n =
+pub E-passes : (c v : Value) (s : Sense) → sense c ≡ s → (s ≡ Neither → ⊥) → Fires E (some c ∷ some v ∷ []) (some v ∷ [])
+E-passes c v Neither e n = absurd (n refl)
+E-passes c v True e n =
     fires E (some c ∷ some v ∷ []) (decision true true false (some v) none none none) (ap (by-control (E-rule none) (some c ∷ some v ∷ [])) e)
     (record { control = refl; data2 = refl; data3 = refl })
-E-passes c v is-false e n =
+E-passes c v False e n =
     fires E (some c ∷ some v ∷ []) (decision true true false (some v) none none none) (ap (by-control (E-rule none) (some c ∷ some v ∷ [])) e)
     (record { control = refl; data2 = refl; data3 = refl })
 
-pub E-err : (c : Value) → sense c ≡ is-neither → Fires E (some c ∷ none ∷ []) (some err-value ∷ [])
+pub E-err : (c : Value) → sense c ≡ Neither → Fires E (some c ∷ none ∷ []) (some err-value ∷ [])
 E-err c e =
     fires E (some c ∷ none ∷ []) (decision true false false (some err-value) none none none) (ap (by-control (E-rule none) (some c ∷ none ∷ [])) e)
     (record { control = refl; data2 = refl; data3 = refl })
@@ -144,35 +147,35 @@ IC-fires : (both : Bool) (vs : List (Option Value)) (d : Decision) → decide IC
 IC-fires true vs d e t = fires (IC true) vs d e t
 IC-fires false vs d e t = fires (IC false) vs d e t
 
-pub IC-true-true : (both : Bool) (c i : Value) → sense c ≡ is-true → sense i ≡ is-true
+pub IC-true-true : (both : Bool) (c i : Value) → sense c ≡ True → sense i ≡ True
     → Fires (IC both) (some c ∷ some i ∷ none ∷ []) (joinOutputs both (some true-value) (some true-value) none)
 IC-true-true both c i e d =
     IC-fires both (some c ∷ some i ∷ none ∷ []) (decision true true false (some true-value) (some true-value) none none)
-    (ap (by-control IC-rule (some c ∷ some i ∷ none ∷ [])) e ∙ ap (by-chosen second is-true (some c ∷ some i ∷ none ∷ [])) d)
+    (ap (by-control IC-rule (some c ∷ some i ∷ none ∷ [])) e ∙ ap (by-chosen second True (some c ∷ some i ∷ none ∷ [])) d)
     (record { control = refl; data2 = refl; data3 = refl })
 
-pub IC-true-false : (both : Bool) (c i : Value) → sense c ≡ is-true → sense i ≡ is-false
+pub IC-true-false : (both : Bool) (c i : Value) → sense c ≡ True → sense i ≡ False
     → Fires (IC both) (some c ∷ some i ∷ none ∷ []) (joinOutputs both (some false-value) none (some true-value))
 IC-true-false both c i e d =
     IC-fires both (some c ∷ some i ∷ none ∷ []) (decision true true false (some false-value) none (some true-value) none)
-    (ap (by-control IC-rule (some c ∷ some i ∷ none ∷ [])) e ∙ ap (by-chosen second is-true (some c ∷ some i ∷ none ∷ [])) d)
+    (ap (by-control IC-rule (some c ∷ some i ∷ none ∷ [])) e ∙ ap (by-chosen second True (some c ∷ some i ∷ none ∷ [])) d)
     (record { control = refl; data2 = refl; data3 = refl })
 
-pub IC-false-true : (both : Bool) (c i : Value) → sense c ≡ is-false → sense i ≡ is-true
+pub IC-false-true : (both : Bool) (c i : Value) → sense c ≡ False → sense i ≡ True
     → Fires (IC both) (some c ∷ none ∷ some i ∷ []) (joinOutputs both (some true-value) (some false-value) none)
 IC-false-true both c i e d =
     IC-fires both (some c ∷ none ∷ some i ∷ []) (decision true false true (some true-value) (some false-value) none none)
-    (ap (by-control IC-rule (some c ∷ none ∷ some i ∷ [])) e ∙ ap (by-chosen third is-false (some c ∷ none ∷ some i ∷ [])) d)
+    (ap (by-control IC-rule (some c ∷ none ∷ some i ∷ [])) e ∙ ap (by-chosen third False (some c ∷ none ∷ some i ∷ [])) d)
     (record { control = refl; data2 = refl; data3 = refl })
 
-pub IC-false-false : (both : Bool) (c i : Value) → sense c ≡ is-false → sense i ≡ is-false
+pub IC-false-false : (both : Bool) (c i : Value) → sense c ≡ False → sense i ≡ False
     → Fires (IC both) (some c ∷ none ∷ some i ∷ []) (joinOutputs both (some false-value) none (some false-value))
 IC-false-false both c i e d =
     IC-fires both (some c ∷ none ∷ some i ∷ []) (decision true false true (some false-value) none (some false-value) none)
-    (ap (by-control IC-rule (some c ∷ none ∷ some i ∷ [])) e ∙ ap (by-chosen third is-false (some c ∷ none ∷ some i ∷ [])) d)
+    (ap (by-control IC-rule (some c ∷ none ∷ some i ∷ [])) e ∙ ap (by-chosen third False (some c ∷ none ∷ some i ∷ [])) d)
     (record { control = refl; data2 = refl; data3 = refl })
 
-pub IC-err : (both : Bool) (c : Value) → sense c ≡ is-neither
+pub IC-err : (both : Bool) (c : Value) → sense c ≡ Neither
     → Fires (IC both) (some c ∷ none ∷ none ∷ []) (joinOutputs both (some false-value) none (some err-value))
 IC-err both c e =
     IC-fires both (some c ∷ none ∷ none ∷ []) (decision true false false (some false-value) none (some err-value) none)
@@ -181,9 +184,9 @@ IC-err both c e =
 -- ---- the three senses are different
 
 abbrev pub place : Sense → ℕ
-place is-true = 0
-place is-false = 1
-place is-neither = 2
+place True = 0
+place False = 1
+place Neither = 2
 
 pub differ : (s t : Sense) → (place s ≡ place t → ⊥) → s ≡ t → ⊥
 differ s t n e = n (ap place e)

@@ -1,15 +1,17 @@
 -- An if behind its test meets its evaluation (document 01: "of an if only the chosen arm"; "An if whose test is no truth gives err for each of its
 -- values; in a body it ends the loop with err for each returned value"), where each arm meets its own. Expressions first, then bodies.
 use Prim.Native.Nat.{ℕ, _+_, _-_, _≤_}
-use mathlib.Core.Path.{_≡_, refl, _∙_, subst}
+use mathlib.Core.Path.{_≡_, refl, ap, _∙_, subst}
 use mathlib.Core.Bool.{true, false}
 use mathlib.Core.List.{List}
 use mathlib.Core.Option.{Option, some}
 use lib.ListN.{length, replicate}
 use native.Mathlib.Omega.{arith}
 use Rattle.value.specs.declared.Value.{Value}
-use Rattle.value.specs.declared.Value.the-variants.{Whole, Truth, Err}
-use Rattle.network.specs.Values.{true-value, false-value, is-neither, sense}
+use Rattle.value.specs.declared.Sense.{Sense}
+use Rattle.value.specs.declared.Sense.the-variants.{True, False, Neither}
+use Rattle.value.specs.Senses.{err, sense, only-one-true, only-one-false}
+use Rattle.network.specs.Values.{true-value, false-value}
 use Rattle.formula.specs.Tree.{Exp, ifE}
 use Rattle.formula.specs.Widths.{width}
 use Rattle.formula.specs.Free.{freeE}
@@ -112,23 +114,26 @@ module _ (t x y : Exp) (adm : AdmittedE (ifE t x y)) where
         chosen-false-stops (upFrom 51 (width x)) (freeE x) (graphE x) (upFrom 84 (width x)) (freeE y) (graphE y) (mergeRow testName returnedName (width x)) exp-arms
         cut ρ false-value e every-x every-y refl l p
 
-    pub if-neither : (v : Value) → ρ testName ≡ some v → sense v ≡ is-neither → Meets (YieldsIn cut exp-behind ρ) l (yields (replicate (width x) Err) l)
+    pub if-neither : (v : Value) → ρ testName ≡ some v → sense v ≡ Neither → Meets (YieldsIn cut exp-behind ρ) l (yields (replicate (width x) err) l)
     if-neither v e s =
         let z : 0 ≡ l - l = omega arith in
-        subst (λ n. YieldsIn cut exp-behind ρ n (some (present (replicate (width x) Err)))) z
+        subst (λ n. YieldsIn cut exp-behind ρ n (some (present (replicate (width x) err)))) z
         (chosen-neither (upFrom 51 (width x)) (freeE x) (graphE x) (upFrom 84 (width x)) (freeE y) (graphE y) (mergeRow testName returnedName (width x)) exp-arms
-        cut ρ v e every-x every-y s (present (replicate (width x) Err))
+        cut ρ v e every-x every-y s (present (replicate (width x) err))
         (merge-err cut _ testName returnedName (width x) v (test-still (width x) small ρ _ _ ∙ e) s (first-empty (width x) small ρ _)
         (second-empty (width x) small ρ _)))
 
     pub exp-if : (v : Value) → ρ testName ≡ some v → Sized (width x) (evalE x env l) → Sized (width x) (evalE y env l)
         → ((σ : Values) → Holds (freeE x) env σ → Meets (YieldsIn cut (graphE x) σ) l (evalE x env l))
         → ((σ : Values) → Holds (freeE y) env σ → Meets (YieldsIn cut (graphE y) σ) l (evalE y env l))
-        → Meets (YieldsIn cut exp-behind ρ) l (branch v (yields (replicate (width x) Err) l) (λ _. evalE x env l) (λ _. evalE y env l))
+        → Meets (YieldsIn cut exp-behind ρ) l (branch (sense v) (yields (replicate (width x) err) l) (λ _. evalE x env l) (λ _. evalE y env l))
     unfolding branch
-    exp-if (Whole z) e sx sy p q = if-neither (Whole z) e refl
-    exp-if (Truth true) e sx sy p q = if-true e (evalE x env l) sx (p ρ hx)
-    exp-if (Truth false) e sx sy p q =
-        if-false e (evalE y env l) sy
-        (q (passed ρ) (passed-holds env ρ hy))
-    exp-if Err e sx sy p q = if-neither Err e refl
+    exp-if v e sx sy p q = go (sense v) refl
+      where
+        go : (s : Sense) → sense v ≡ s
+            → Meets (YieldsIn cut exp-behind ρ) l (branch s (yields (replicate (width x) err) l) (λ _. evalE x env l) (λ _. evalE y env l))
+        go True i = if-true (e ∙ ap some (only-one-true v i)) (evalE x env l) sx (p ρ hx)
+        go False i =
+            if-false (e ∙ ap some (only-one-false v i)) (evalE y env l) sy
+            (q (passed ρ) (passed-holds env ρ hy))
+        go Neither i = if-neither v e i

@@ -9,8 +9,10 @@ use mathlib.Core.Option.{Option, none, some}
 use lib.ListN.{length, getD, replicate, length-replicate, getD-replicate}
 use native.Mathlib.Omega.{arith}
 use Rattle.value.specs.declared.Value.{Value}
-use Rattle.value.specs.declared.Value.the-variants.{Err}
-use Rattle.network.specs.Values.{true-value, false-value, err-value, Sense, is-true, is-false, is-neither, sense}
+use Rattle.value.specs.declared.Sense.{Sense}
+use Rattle.value.specs.declared.Sense.the-variants.{True, False, Neither}
+use Rattle.value.specs.Senses.{err, sense}
+use Rattle.network.specs.Values.{true-value, false-value, err-value}
 use Rattle.graph.specs.Yields.{Values, absent, present, YieldsIn}
 use Rattle.graph.specs.Translation.{iteratedName, returnedName, joinName, mergeRow, exceptRow, straight}
 use Rattle.theory_yields.specs.Gates.{M-second, M-third, M-err, M-rests, E-passes, E-err, E-rests, differ}
@@ -20,41 +22,41 @@ use Rattle.theory_yields.specs.Rows.{merge-yields, except-yields, straig
 
 -- The names from s on have the values of a list, or none.
 abbrev pub Hold : Values → ℕ → List Value → Type 0
-Hold ρ s vs = (i : ℕ) → i < length vs → ρ (s + i) ≡ some (getD vs i Err)
+Hold ρ s vs = (i : ℕ) → i < length vs → ρ (s + i) ≡ some (getD vs i err)
 
 abbrev pub Empty : Values → ℕ → ℕ → Type 0
 Empty ρ s w = (i : ℕ) → i < w → ρ (s + i) ≡ none
 
-errs-at : (w i : ℕ) → i < w → getD (present (replicate w Err)) i none ≡ some err-value
-errs-at w i l = ap (λ (vs : List (Option Value)). getD vs i none) (present-replicate w Err) ∙ getD-replicate w i (some Err) none l
+errs-at : (w i : ℕ) → i < w → getD (present (replicate w err)) i none ≡ some err-value
+errs-at w i l = ap (λ (vs : List (Option Value)). getD vs i none) (present-replicate w err) ∙ getD-replicate w i (some err) none l
 
-length-errs : (w : ℕ) → length (present (replicate w Err)) ≡ w
-length-errs w = length-present (replicate w Err) ∙ length-replicate w Err
+length-errs : (w : ℕ) → length (present (replicate w err)) ≡ w
+length-errs w = length-present (replicate w err) ∙ length-replicate w err
 
 module _ (cut : Option ℕ) (ρ : Values) (c : ℕ) where
   -- ---- a row of M
 
   module _ (s : Bool → ℕ) (w : ℕ) where
-    pub merge-second : (v : Value) (vs : List Value) → ρ c ≡ some v → sense v ≡ is-true → length vs ≡ w → Hold ρ (s true) vs → Empty ρ (s false) w
+    pub merge-second : (v : Value) (vs : List Value) → ρ c ≡ some v → sense v ≡ True → length vs ≡ w → Hold ρ (s true) vs → Empty ρ (s false) w
         → YieldsIn cut (mergeRow c s w) ρ 0 (some (present vs))
     merge-second v vs e t n p q =
         merge-yields cut ρ c s w (present vs) (length-present vs ∙ n)
         (λ i l.
-        rw (present-at vs i (omega arith), e, p i (omega arith), q i l) (M-second v (getD vs i Err) t)
+        rw (present-at vs i (omega arith), e, p i (omega arith), q i l) (M-second v (getD vs i err) t)
         )
 
-    pub merge-third : (v : Value) (vs : List Value) → ρ c ≡ some v → sense v ≡ is-false → length vs ≡ w → Empty ρ (s true) w → Hold ρ (s false) vs
+    pub merge-third : (v : Value) (vs : List Value) → ρ c ≡ some v → sense v ≡ False → length vs ≡ w → Empty ρ (s true) w → Hold ρ (s false) vs
         → YieldsIn cut (mergeRow c s w) ρ 0 (some (present vs))
     merge-third v vs e t n p q =
         merge-yields cut ρ c s w (present vs) (length-present vs ∙ n)
         (λ i l.
-        rw (present-at vs i (omega arith), e, p i l, q i (omega arith)) (M-third v (getD vs i Err) t)
+        rw (present-at vs i (omega arith), e, p i l, q i (omega arith)) (M-third v (getD vs i err) t)
         )
 
-    pub merge-err : (v : Value) → ρ c ≡ some v → sense v ≡ is-neither → Empty ρ (s true) w → Empty ρ (s false) w
-        → YieldsIn cut (mergeRow c s w) ρ 0 (some (present (replicate w Err)))
+    pub merge-err : (v : Value) → ρ c ≡ some v → sense v ≡ Neither → Empty ρ (s true) w → Empty ρ (s false) w
+        → YieldsIn cut (mergeRow c s w) ρ 0 (some (present (replicate w err)))
     merge-err v e t p q =
-        merge-yields cut ρ c s w (present (replicate w Err)) (length-errs w)
+        merge-yields cut ρ c s w (present (replicate w err)) (length-errs w)
         (λ i l. rw (errs-at w i l, e, p i l, q i l) (M-err v t))
 
     pub merge-rests : ρ c ≡ none → Empty ρ (s true) w → Empty ρ (s false) w → YieldsIn cut (mergeRow c s w) ρ 0 (some (absent w))
@@ -64,16 +66,16 @@ module _ (cut : Option ℕ) (ρ : Values) (c : ℕ) where
   -- ---- a row of E
 
   module _ (s w : ℕ) where
-    pub except-passes : (v : Value) (t : Sense) (vs : List Value) → ρ c ≡ some v → sense v ≡ t → (t ≡ is-neither → ⊥) → length vs ≡ w → Hold ρ s vs
+    pub except-passes : (v : Value) (t : Sense) (vs : List Value) → ρ c ≡ some v → sense v ≡ t → (t ≡ Neither → ⊥) → length vs ≡ w → Hold ρ s vs
         → YieldsIn cut (exceptRow c s w) ρ 0 (some (present vs))
     except-passes v t vs e d k n p =
         except-yields cut ρ c s w (present vs) (length-present vs ∙ n)
-        (λ i l. rw (present-at vs i (omega arith), e, p i (omega arith)) (E-passes v (getD vs i Err) t d k))
+        (λ i l. rw (present-at vs i (omega arith), e, p i (omega arith)) (E-passes v (getD vs i err) t d k))
 
-    pub except-err : (v : Value) → ρ c ≡ some v → sense v ≡ is-neither → Empty ρ s w
-        → YieldsIn cut (exceptRow c s w) ρ 0 (some (present (replicate w Err)))
+    pub except-err : (v : Value) → ρ c ≡ some v → sense v ≡ Neither → Empty ρ s w
+        → YieldsIn cut (exceptRow c s w) ρ 0 (some (present (replicate w err)))
     except-err v e t p =
-        except-yields cut ρ c s w (present (replicate w Err)) (length-errs w) (λ i l. rw (errs-at w i l, e, p i l) (E-err v t))
+        except-yields cut ρ c s w (present (replicate w err)) (length-errs w) (λ i l. rw (errs-at w i l, e, p i l) (E-err v t))
 
     pub except-rests : ρ c ≡ none → Empty ρ s w → YieldsIn cut (exceptRow c s w) ρ 0 (some (absent w))
     except-rests e p =
@@ -129,24 +131,24 @@ module _ (cut : Option ℕ) (ρ : Values) where
 
   -- "a bad test makes it emit errs"
   pub joinR-errs : (b c : Bool) (w : ℕ) → ρ (joinName + 2) ≡ some err-value → Empty ρ (returnedName true) (cond b w 0)
-      → Empty ρ (returnedName false) (cond c w 0) → YieldsIn cut (joinR b c w) ρ 0 (some (present (replicate w Err)))
+      → Empty ρ (returnedName false) (cond c w 0) → YieldsIn cut (joinR b c w) ρ 0 (some (present (replicate w err)))
   joinR-errs true true w e p q = merge-err cut ρ (joinName + 2) returnedName w err-value e refl p q
   joinR-errs true false w e p q = except-err cut ρ (joinName + 2) (returnedName true) w err-value e refl p
   joinR-errs false true w e p q = except-err cut ρ (joinName + 2) (returnedName false) w err-value e refl q
   joinR-errs false false w e p q =
-      copied-yields cut ρ (joinName + 2) w (present (replicate w Err)) (length-errs w) (λ i l. e ∙ sym (errs-at w i l))
+      copied-yields cut ρ (joinName + 2) w (present (replicate w err)) (length-errs w) (λ i l. e ∙ sym (errs-at w i l))
 
   pub joinR-takes-first : (b c : Bool) (w : ℕ) (vs : List Value) → b ≡ true → ρ (joinName + 2) ≡ some true-value → length vs ≡ w
       → Hold ρ (returnedName true) vs → Empty ρ (returnedName false) (cond c w 0) → YieldsIn cut (joinR b c w) ρ 0 (some (present vs))
   joinR-takes-first false c w vs t e k p q = absurd (false≢true t)
   joinR-takes-first true true w vs t e k p q = merge-second cut ρ (joinName + 2) returnedName w true-value vs e refl k p q
   joinR-takes-first true false w vs t e k p q =
-      except-passes cut ρ (joinName + 2) (returnedName true) w true-value is-true vs e refl (differ is-true is-neither (λ n. omega arith)) k p
+      except-passes cut ρ (joinName + 2) (returnedName true) w true-value True vs e refl (differ True Neither (λ n. omega arith)) k p
 
   pub joinR-takes-second : (b c : Bool) (w : ℕ) (vs : List Value) → c ≡ true → ρ (joinName + 2) ≡ some false-value → length vs ≡ w
       → Empty ρ (returnedName true) (cond b w 0) → Hold ρ (returnedName false) vs → YieldsIn cut (joinR b c w) ρ 0 (some (present vs))
   joinR-takes-second true true w vs t e k p q = merge-third cut ρ (joinName + 2) returnedName w false-value vs e refl k p q
   joinR-takes-second false true w vs t e k p q =
-      except-passes cut ρ (joinName + 2) (returnedName false) w false-value is-false vs e refl (differ is-false is-neither (λ n. omega arith)) k q
+      except-passes cut ρ (joinName + 2) (returnedName false) w false-value False vs e refl (differ False Neither (λ n. omega arith)) k q
   joinR-takes-second true false w vs t e k p q = absurd (false≢true t)
   joinR-takes-second false false w vs t e k p q = absurd (false≢true t)

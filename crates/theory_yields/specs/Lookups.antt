@@ -10,7 +10,7 @@ use lib.Dec.{eqb}
 use borrow.Author.Tests.{eqb-true, eq-eqb, ne-eqb}
 use native.Mathlib.Omega.{arith}
 use Rattle.value.specs.declared.Value.{Value}
-use Rattle.value.specs.declared.Value.the-variants.{Err}
+use Rattle.value.specs.Senses.{err}
 use Rattle.graph.specs.Assembly.{memberOf, upFrom}
 use Rattle.graph.specs.Yields.{Values, absent, present, bound}
 use Rattle.theory_yields.specs.Naming.{or-true, or-neither, or-left, or-right}
@@ -25,7 +25,7 @@ pub present-append : (vs ws : List Value) → present (vs ++ ws) ≡ present vs 
 present-append [] ws = refl
 present-append (v ∷ vs) ws = ap {B = List (Option Value)} (λ r. some v ∷ r) (present-append vs ws)
 
-pub present-at : (vs : List Value) (i : ℕ) → i < length vs → getD (present vs) i none ≡ some (getD vs i Err)
+pub present-at : (vs : List Value) (i : ℕ) → i < length vs → getD (present vs) i none ≡ some (getD vs i err)
 present-at [] i h = absurd (omega arith)
 present-at (v ∷ vs) zero h = refl
 present-at (v ∷ vs) (suc i) h = present-at vs i (omega arith)

@@ -12,7 +12,8 @@ use lib.IntN.{pos}
 use borrow.Author.Tests.{eq-eqb, ne-eqb}
 use native.Mathlib.Omega.{arith}
 use Rattle.value.specs.declared.Value.{Value}
-use Rattle.value.specs.declared.Value.the-variants.{Whole, Truth, Err}
+use Rattle.value.specs.declared.Value.the-variants.{Whole, Truth}
+use Rattle.value.specs.Senses.{err, sense}
 use Rattle.value.specs.Operators.{apply}
 use Rattle.names.specs.Names.{Names, trigger, one, union, without, range}
 use Rattle.network.specs.Values.{true-value}
@@ -21,8 +22,8 @@ use Rattle.formula.specs.Widths.{width, returned, iterated}
 use Rattle.formula.specs.Free.{freeE, freeB}
 use Rattle.formula.specs.Count.{returns as returnsAlways, iterates}
 use Rattle.formula.specs.Admitted.{AdmittedE, AdmittedB}
-use Rattle.meaning.specs.Meaning.{Env, bind, Outcome, yields, Ending, again, returns, thenB, branch, evalE, evalB}
-use Rattle.meaning.specs.Rounds.{Within, WithinB, within, within-B, turns}
+use Rattle.meaning.specs.Meaning.{Env, bind, Outcome, yields, again, returns, thenB, evalE, evalB}
+use Rattle.meaning.specs.Rounds.{Within, WithinB, branch-holds, within, within-B, turns}
 use Rattle.meaning.specs.WidthLaws.{Sized, SizedB, sized, sized-B, operator-fits, let-fits, if-fits, for-fits, let-fits-B, if-fits-B}
 use Rattle.graph.specs.Assembly.{Graph, beside, const, oper, memberOf, upFrom, free}
 use Rattle.graph.specs.Yields.{Values, present, bound, Yields, YieldsIn, Gated, Fires}
@@ -91,7 +92,7 @@ right-part f g env ρ h = holds-part g (union f g) env ρ (λ k e. or-right (f k
 
 -- ---- the value of a test
 
-pub test-value : (vs : List Value) (ρ : Values) → length vs ≡ 1 → bound (testName ∷ []) (present vs) ρ testName ≡ some (getD vs 0 Err)
+pub test-value : (vs : List Value) (ρ : Values) → length vs ≡ 1 → bound (testName ∷ []) (present vs) ρ testName ≡ some (getD vs 0 err)
 unfolding bound
 test-value [] ρ n = absurd (omega arith)
 test-value (v ∷ vs) ρ n = refl
@@ -99,24 +100,6 @@ test-value (v ∷ vs) ρ n = refl
 pub from-test : From 33 (testName ∷ [])
 unfolding memberOf
 from-test k l = or-false (eqb testName k) false (ne-eqb testName k (λ e. omega arith)) refl
-
--- ---- the rounds left by a branch
-
-branch-within : (n : ℕ) (v : Value) (e : Outcome) (f g : Unit {0} → Outcome) → Within n e → Within n (f tt) → Within n (g tt)
-    → Within n (branch v e f g)
-unfolding branch
-branch-within n (Whole z) e f g p q r = p
-branch-within n (Truth true) e f g p q r = q
-branch-within n (Truth false) e f g p q r = r
-branch-within n Err e f g p q r = p
-
-branch-within-B : (n : ℕ) (v : Value) (e : Ending) (f g : Unit {0} → Ending) → WithinB n e → WithinB n (f tt) → WithinB n (g tt)
-    → WithinB n (branch v e f g)
-unfolding branch
-branch-within-B n (Whole z) e f g p q r = p
-branch-within-B n (Truth true) e f g p q r = q
-branch-within-B n (Truth false) e f g p q r = r
-branch-within-B n Err e f g p q r = p
 
 -- The names of a loop's body that are not its own have values.
 pub others-held : (a b : ℕ) (y : Body) (env : Env) (ρ : Values) → AdmittedB y → Holds (without (freeB y) (range a b)) env ρ → (k : ℕ) →
@@ -141,7 +124,7 @@ mutual
       (meets-E x (adm .1) env ρ (left-part (freeE x) (freeE y) env ρ h) lent) (λ l. within y env l)
       (λ l. meets-E y (adm .2) env ρ (right-part (freeE x) (freeE y) env ρ h) l)
   meets-E (operator k x) adm env ρ h lent =
-      gate-meets (oper k) (graphE x) ρ lent (width x) (evalE x env lent) (λ vs. apply k (getD vs 0 Err) (getD vs 1 Err))
+      gate-meets (oper k) (graphE x) ρ lent (width x) (evalE x env lent) (λ vs. apply k (getD vs 0 err) (getD vs 1 err))
       (sized x (sound-E x (adm .2)) env lent) (meets-E x (adm .2) env ρ h lent)
       (λ vs n. operator-fires k vs (n ∙ operator-fits k x (adm .0 .0)))
   meets-E (letE a b x y) adm env ρ h lent =
@@ -158,14 +141,14 @@ mutual
       let f = if-fits t x y (adm .0 .0) in
       then-meets (testName ∷ []) (graphE t) (exp-behind t x y adm) ρ lent (width t) (evalE t env lent) _ (within t env lent)
       (sized t (sound-E t (adm .1)) env lent) (meets-E t (adm .1) env ρ (left-part (freeE t) (union (freeE x) (freeE y)) env ρ h) lent)
-      (λ vs l. branch-within l (getD vs 0 Err) _ (λ _. evalE x env l) (λ _. evalE y env l) (omega arith) (within x env l) (within y env l))
+      (λ vs l. branch-holds (Within l) (sense (getD vs 0 err)) _ (λ _. evalE x env l) (λ _. evalE y env l) (omega arith) (within x env l) (within y env l))
       (λ vs l n.
       exp-if t x y adm none env (bound (testName ∷ []) (present vs) ρ)
       (holds-beside (freeE x) env ρ (testName ∷ []) (present vs) from-test
       (left-part (freeE x) (freeE y) env ρ (right-part (freeE t) (union (freeE x) (freeE y)) env ρ h)))
       (holds-beside (freeE y) env ρ (testName ∷ []) (present vs) from-test
       (right-part (freeE x) (freeE y) env ρ (right-part (freeE t) (union (freeE x) (freeE y)) env ρ h)))
-      l (getD vs 0 Err) (test-value vs ρ (n ∙ f .0)) (sized x (sound-E x (adm .2)) env l)
+      l (getD vs 0 err) (test-value vs ρ (n ∙ f .0)) (sized x (sound-E x (adm .2)) env l)
       (subst (λ k. Sized k (evalE y env l)) (sym (f .1)) (sized y (sound-E y (adm .3)) env l)) (λ σ g. meets-E x (adm .2) env σ g l)
       (λ σ g. meets-E y (adm .3) env σ g l)
       )
@@ -218,14 +201,14 @@ mutual
       then-meets-B (testName ∷ []) (graphE t) (body-behind w t x y adm r) ρ lent (iteratedOutputs (ifB t x y)) w (width t) (evalE t env lent) _
       (within t env lent) (sized t (sound-E t (adm .1)) env lent)
       (meets-E t (adm .1) env ρ (left-part (freeE t) (union (freeB x) (freeB y)) env ρ h) lent)
-      (λ vs l. branch-within-B l (getD vs 0 Err) _ (λ _. evalB x w env l) (λ _. evalB y w env l) (omega arith) (within-B x w env l) (within-B y w env l))
+      (λ vs l. branch-holds (WithinB l) (sense (getD vs 0 err)) _ (λ _. evalB x w env l) (λ _. evalB y w env l) (omega arith) (within-B x w env l) (within-B y w env l))
       (λ vs l n.
       body-if w t x y adm r none env (bound (testName ∷ []) (present vs) ρ)
       (holds-beside (freeB x) env ρ (testName ∷ []) (present vs) from-test
       (left-part (freeB x) (freeB y) env ρ (right-part (freeE t) (union (freeB x) (freeB y)) env ρ h)))
       (holds-beside (freeB y) env ρ (testName ∷ []) (present vs) from-test
       (right-part (freeB x) (freeB y) env ρ (right-part (freeE t) (union (freeB x) (freeB y)) env ρ h)))
-      l (getD vs 0 Err) (test-value vs ρ (n ∙ f .0)) (sized-B x (sound-B x (adm .2)) w (s .0 .suits) env l)
+      l (getD vs 0 err) (test-value vs ρ (n ∙ f .0)) (sized-B x (sound-B x (adm .2)) w (s .0 .suits) env l)
       (sized-B y (sound-B y (adm .3)) w (s .1 .suits) env l) (λ σ g. meets-B w x (adm .2) (s .0) env σ g l)
       (λ σ g. meets-B w y (adm .3) (s .1) env σ g l)
       )

@@ -69,6 +69,11 @@ abbrev pub decoded : Option Value → Decoded
 decoded (some v) = Valid v
 decoded none = Invalid
 
+-- the word of a token, 0 where there is none
+abbrev pub wordOr : Decoded → ℕ
+wordOr (Valid v) = wordOf v
+wordOr Invalid = 0
+
 unfoldable pub wordBytes : ℕ → List ℕ
 wordBytes w = w % 256 ∷ w / 256 % 256 ∷ w / 65536 % 256 ∷ w / 16777216 % 256 ∷ w / 4294967296 % 256 ∷ []
 

@@ -7,7 +7,16 @@ ghost use Prim.Native.Nat.{ℕ, _+_, _*_, _≤_, _<_};
 ghost use lib.ListN.{length};
 ghost use mir.Syntax.{w32};
 ghost use mir.Val.{toZ, ofZ};
-ghost use Rattle.value.specs.Bytes.{InRange, wordOf, valueOf, decoded, isSome, wordAt, stored, wholeOf, truthOf, errOf};
+ghost use Rattle.value.specs.Bytes.{InRange, wordOf, valueOf, decoded, isSome, wordOr, wordAt, stored, wholeOf, truthOf, errOf};
+
+// The words of no token, true, false and the plain err.
+pub const NONE: u64 = 0;
+
+pub const TRUE: u64 = 258;
+
+pub const FALSE: u64 = 2;
+
+pub const ERR: u64 = 3;
 
 // A whole number from its 32 bits, two's complement.
 fn signed_of(bits: u32) -> i32
@@ -101,6 +110,16 @@ pub fn is_value(w: u64) -> bool
         3 => bits == 0,
         _ => false,
     }
+}
+
+// A word that was read, where it is a value's; that of no token where it is none.
+pub fn token_word(w: u64) -> u64
+    ensures { λ r. ⌜ r ≡ wordOr (decoded (valueOf w)) ⌝ }
+{
+    if is_value(w) {
+        return w;
+    }
+    NONE
 }
 
 fn wide(b: u8) -> u64

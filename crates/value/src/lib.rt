@@ -6,6 +6,7 @@ ghost use mathlib.Core.Path.{_≡_};
 ghost use Prim.Native.Nat.{ℕ, _+_, _*_, _≤_, _<_};
 ghost use lib.IntN.{pos, negsuc, _+ℤ_, _-ℤ_, _*ℤ_};
 ghost use Rattle.value.specs.Operators.{fitOf, addOf, subtractOf, multiplyOf, divideOf, remainderOf, lessOf, equalOf, andOf, orOf, negateOf, apply};
+ghost use Rattle.value.specs.Senses.{sense, err};
 
 // "A value is a whole number .., a truth, or err."
 pub enum Value {
@@ -14,10 +15,39 @@ pub enum Value {
     Err,
 }
 
+// What a value is as a control or a test.
+pub enum Sense {
+    True,
+    False,
+    Neither,
+}
+
 // What a word of the byte form is: a value, or none.
 pub enum Decoded {
     Valid(Value),
     Invalid,
+}
+
+pub fn sense_of(v: Value) -> Sense
+    ensures { λ r. ⌜ r ≡ sense v ⌝ }
+{
+    match v {
+        Value::Whole(_) => Sense::Neither,
+        Value::Truth(b) => {
+            if b {
+                return Sense::True;
+            }
+            Sense::False
+        }
+        Value::Err => Sense::Neither,
+    }
+}
+
+// The plain err, which all but operators give.
+pub fn err() -> Value
+    ensures { λ r. ⌜ r ≡ err ⌝ }
+{
+    Value::Err
 }
 
 // The whole number z, or err outside the range.

@@ -10,10 +10,10 @@ use lib.ListN.{length, getD}
 use borrow.Author.Tests.{eq-eqb, ne-eqb, eqb-true}
 use native.Mathlib.Omega.{arith}
 use Rattle.value.specs.declared.Value.{Value}
-use Rattle.value.specs.declared.Value.the-variants.{Err}
 use Rattle.value.specs.Operators.{pick}
 use Rattle.value.specs.Bytes.{InRange, isSome, valueOf, wordOf, wordAt}
 use Rattle.value.proofs.Words.{word-of-value, value-in-range}
+use Rattle.value.specs.Senses.{err}
 
 abbrev pub consed : Value → Option (List Value) → Option (List Value)
 consed v (some vs) = some (v ∷ vs)
@@ -96,8 +96,8 @@ module _ (n : ℕ) (set : List ℕ) where
 -- The values of n fields from a place on: each field holds its value's word.
 pub record Fields (n at : ℕ) (s : List ℕ) (v : List Value) : Type 0 where
   pub count : length v ≡ n
-  pub ranged : (j : ℕ) → j < n → InRange (getD v j Err)
-  pub words : (j : ℕ) → j < n → wordAt s (at + 5 * j) ≡ wordOf (getD v j Err)
+  pub ranged : (j : ℕ) → j < n → InRange (getD v j err)
+  pub words : (j : ℕ) → j < n → wordAt s (at + 5 * j) ≡ wordOf (getD v j err)
 
 fields-none : (at : ℕ) (s : List ℕ) → Fields 0 at s []
 fields-none at s = record { count = refl; ranged = λ j l. absurd (omega arith); words = λ j l. absurd (omega arith) }
@@ -105,11 +105,11 @@ fields-none at s = record { count = refl; ranged = λ j l. absurd (omega arith);
 fields-more : (n at : ℕ) (s : List ℕ) (v : Value) (vs : List Value) → valueOf (wordAt s at) ≡ some v → Fields n (at + 5) s vs → Fields (suc n) at s (v ∷ vs)
 fields-more n at s v vs e f = record { count = ap suc (f .count); ranged = ranged; words = words }
   where
-    ranged : (j : ℕ) → j < suc n → InRange (getD (v ∷ vs) j Err)
+    ranged : (j : ℕ) → j < suc n → InRange (getD (v ∷ vs) j err)
     ranged zero l = value-in-range (wordAt s at) v e
     ranged (suc j) l = f .ranged j (omega arith)
 
-    words : (j : ℕ) → j < suc n → wordAt s (at + 5 * j) ≡ wordOf (getD (v ∷ vs) j Err)
+    words : (j : ℕ) → j < suc n → wordAt s (at + 5 * j) ≡ wordOf (getD (v ∷ vs) j err)
     words zero l = let z : at + 5 * 0 ≡ at = omega arith in ap (wordAt s) z ∙ word-of-value (wordAt s at) v e
     words (suc j) l = let z : at + 5 * suc j ≡ at + 5 + 5 * j = omega arith in ap (wordAt s) z ∙ f .words j (omega arith)
 
@@ -130,8 +130,8 @@ read-fields (suc n) at s v h =
 pub record IsSet (k : ℕ) (s : List ℕ) (v : List Value) : Type 0 where
   pub values : setValues k s ≡ some v
   pub count : length v ≡ k
-  pub ranged : (j : ℕ) → j < k → InRange (getD v j Err)
-  pub words : (j : ℕ) → j < k → wordAt s (5 * j) ≡ wordOf (getD v j Err)
+  pub ranged : (j : ℕ) → j < k → InRange (getD v j err)
+  pub words : (j : ℕ) → j < k → wordAt s (5 * j) ≡ wordOf (getD v j err)
 
 module _ (k : ℕ) (s : List ℕ) where
   -- What is read is read of a set of that many bytes.

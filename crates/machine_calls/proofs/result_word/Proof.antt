@@ -7,9 +7,9 @@ use Rattle.machine_calls.proofs.result_word.Reads as reads
 use Rattle.machine_calls.proofs.result_word.Lts as lts
 use Rattle.machine_firing.proofs.head_of.Reads as head-of-reads
 use Rattle.machine_layout.proofs.result_link.Reads as result-link-reads
-use Rattle.value.proofs.bytes.to_word.Reads as to-word-reads
 use mathlib.Core.Path.{_≡_, sym, _∙_, refl, ap}
 use borrow.Author.Tests.{eq-eqb, ne-eqb, le-leb, lt-leb, lt-ltb, le-ltb}
+use Rattle.value.specs.Senses.{word-of-err}
 use Rattle.machine_calls.specs.Calls.{sizeIn, standing, inputRoom, roomsOk, entered, pushedMemory, pushed, fired, ended, ran, resultReady, resultWord, written, emptied, takenMemory, taken, outcome, handed, refusal, answers}
 use Rattle.machine_layout.specs.Layout.{need, sizeOf, capacityOf, capacityByte, nameAt, triggerOf, inputLink, resultLink, operatorsOf, inputsOf, resultsOf, untakenOf}
 use Rattle.machine_firing.specs.Links.{headAt, roomAt, removedAt, appendedAt}
@@ -27,15 +27,10 @@ returns : tie.Need-returns
 unfolding resultWord
 returns c = simp (lt-ltb (c .before .before .before .before .args .j) (c .before .before .before .before .args .k) (c .before .before .if1 .taken)) (rw (c .before .result-link .ensures .0) at (c .head-of .ensures .0))
 
--- src/lib.rt:169:5  } ⏎ value::bytes::to_word(value::Value::Err)
-to-word-requires : tie.Need-to-word-requires
-to-word-requires c κs = search needs
-
 -- src/lib.rt:162:1  // Value j of the result set: err past the width. ⏎ fn result_word(mem: &[u8], size: usize, k: usize, j: usize) -> u64
 returns-2 : tie.Need-returns-2
 unfolding resultWord
-returns-2 c = simp (le-ltb (c .before .before .before .args .j) (c .before .before .before .args .k) (c .before .if1 .left)) (c .to-word .ensures .0)
+returns-2 c = simp (le-ltb (c .before .before .args .j) (c .before .before .args .k) (c .if1 .left)) (sym word-of-err)
 
 pub result-word-spec : {M : Type 1} → statement M
-result-word-spec =
-    tie.close (tie.spec result-link-requires head-of-requires returns to-word-requires returns-2)
+result-word-spec = tie.close (tie.spec result-link-requires head-of-requires returns returns-2)

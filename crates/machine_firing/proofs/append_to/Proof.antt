@@ -1,5 +1,6 @@
 -- The tests, as paths name them:
---   tie if1  { ⏎ if l < 3105 {
+--   tie if1  { ⏎ if l < machine_layout::LINKS {
+use native.Mathlib.Omega.{arith}
 use borrow.Author.Needs.{needs}
 use Rattle.machine_firing.proofs.append_to.Statement.{statement}
 use Rattle.machine_firing.proofs.append_to.Tie as tie
@@ -12,42 +13,41 @@ use Prim.Native.Nat.{ℕ, _+_, _-_, _*_}
 use borrow.Author.Tests.{lt-ltb, le-ltb}
 use Rattle.machine_firing.specs.Links.{headAt, tokenAt, roomAt, removedAt, appendedAt}
 use lib.Seq.{drop-drop}
-use native.Mathlib.Omega.{arith}
 
--- src/lib.rt:80:13  if l < 3105 { ⏎ let a = machine_layout::link_at(size, l);
+-- src/lib.rt:78:13  if l < machine_layout::LINKS { ⏎ let a = machine_layout::link_at(size, l);
 link-at-requires : tie.Need-link-at-requires
 link-at-requires c κs = search needs
 
--- src/lib.rt:81:17  let a = machine_layout::link_at(size, l); ⏎ let e = a + size;
+-- src/lib.rt:79:17  let a = machine_layout::link_at(size, l); ⏎ let e = a + size;
 add-e : tie.Need-add-e
 add-e c = search needs
 
--- src/lib.rt:82:23  let e = a + size; ⏎ machine_queue::append(&mut mem[a..e], word);
+-- src/lib.rt:80:31  let e = a + size; ⏎ machine_queue::append(&mut mem[a..e], word);
 sub-append : tie.Need-sub-append
 sub-append c = search needs
 
--- src/lib.rt:82:23  let e = a + size; ⏎ machine_queue::append(&mut mem[a..e], word);
+-- src/lib.rt:80:31  let e = a + size; ⏎ machine_queue::append(&mut mem[a..e], word);
 part-append-start : tie.Need-part-append-start
 part-append-start c = search needs
 
--- src/lib.rt:82:23  let e = a + size; ⏎ machine_queue::append(&mut mem[a..e], word);
+-- src/lib.rt:80:31  let e = a + size; ⏎ machine_queue::append(&mut mem[a..e], word);
 part-append-end : tie.Need-part-append-end
 part-append-end c = search needs
 
--- src/lib.rt:82:9  let e = a + size; ⏎ machine_queue::append(&mut mem[a..e], word);
+-- src/lib.rt:80:9  let e = a + size; ⏎ machine_queue::append(&mut mem[a..e], word);
 append-requires : tie.Need-append-requires
 append-requires c κs = search needs
 
--- src/lib.rt:75:1  } ⏎ pub fn append_to(mem: &mut [u8], size: usize, l: usize, word: u64)
+-- src/lib.rt:73:1  } ⏎ pub fn append_to(mem: &mut [u8], size: usize, l: usize, word: u64)
 same-length : tie.Need-same-length
 same-length c = search needs
 
--- src/lib.rt:75:1  } ⏎ pub fn append_to(mem: &mut [u8], size: usize, l: usize, word: u64)
+-- src/lib.rt:73:1  } ⏎ pub fn append_to(mem: &mut [u8], size: usize, l: usize, word: u64)
 returns : tie.Need-returns
 unfolding appendedAt
 returns c = let k : c .before .before .before .before .link-at .result + c .before .before .before .before .before .before .before .args .size - c .before .before .before .before .link-at .result ≡ c .before .before .before .before .before .before .before .args .size = omega arith in simp (lt-ltb (c .before .before .before .before .before .before .before .args .l) 3105 (c .before .before .before .before .before .if1 .taken)) (rw (k, drop-drop (c .before .before .before .before .before .before .before .args .size) (c .before .before .before .before .link-at .result) (c .before .before .before .before .before .before .before .args .mem .now), rw k at (c .before .before .append .ensures), c .before .before .before .before .link-at .ensures .0) refl)
 
--- src/lib.rt:75:1  } ⏎ pub fn append_to(mem: &mut [u8], size: usize, l: usize, word: u64)
+-- src/lib.rt:73:1  } ⏎ pub fn append_to(mem: &mut [u8], size: usize, l: usize, word: u64)
 returns-2 : tie.Need-returns-2
 unfolding appendedAt
 returns-2 c = simp (le-ltb (c .before .before .args .l) 3105 (c .if1 .left))

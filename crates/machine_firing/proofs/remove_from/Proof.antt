@@ -1,5 +1,6 @@
 -- The tests, as paths name them:
---   tie if1  { ⏎ if l < 3105 {
+--   tie if1  { ⏎ if l < machine_layout::LINKS {
+use native.Mathlib.Omega.{arith}
 use borrow.Author.Needs.{needs}
 use Rattle.machine_firing.proofs.remove_from.Statement.{statement}
 use Rattle.machine_firing.proofs.remove_from.Tie as tie
@@ -12,42 +13,41 @@ use Prim.Native.Nat.{ℕ, _+_, _-_, _*_}
 use borrow.Author.Tests.{lt-ltb, le-ltb}
 use Rattle.machine_firing.specs.Links.{headAt, tokenAt, roomAt, removedAt, appendedAt}
 use lib.Seq.{drop-drop}
-use native.Mathlib.Omega.{arith}
 
--- src/lib.rt:69:13  if l < 3105 { ⏎ let a = machine_layout::link_at(size, l);
+-- src/lib.rt:67:13  if l < machine_layout::LINKS { ⏎ let a = machine_layout::link_at(size, l);
 link-at-requires : tie.Need-link-at-requires
 link-at-requires c κs = search needs
 
--- src/lib.rt:70:17  let a = machine_layout::link_at(size, l); ⏎ let e = a + size;
+-- src/lib.rt:68:17  let a = machine_layout::link_at(size, l); ⏎ let e = a + size;
 add-e : tie.Need-add-e
 add-e c = search needs
 
--- src/lib.rt:71:29  let e = a + size; ⏎ machine_queue::remove_first(&mut mem[a..e]);
+-- src/lib.rt:69:37  let e = a + size; ⏎ machine_queue::remove_first(&mut mem[a..e]);
 sub-remove-first : tie.Need-sub-remove-first
 sub-remove-first c = search needs
 
--- src/lib.rt:71:29  let e = a + size; ⏎ machine_queue::remove_first(&mut mem[a..e]);
+-- src/lib.rt:69:37  let e = a + size; ⏎ machine_queue::remove_first(&mut mem[a..e]);
 part-remove-first-start : tie.Need-part-remove-first-start
 part-remove-first-start c = search needs
 
--- src/lib.rt:71:29  let e = a + size; ⏎ machine_queue::remove_first(&mut mem[a..e]);
+-- src/lib.rt:69:37  let e = a + size; ⏎ machine_queue::remove_first(&mut mem[a..e]);
 part-remove-first-end : tie.Need-part-remove-first-end
 part-remove-first-end c = search needs
 
--- src/lib.rt:71:9  let e = a + size; ⏎ machine_queue::remove_first(&mut mem[a..e]);
+-- src/lib.rt:69:9  let e = a + size; ⏎ machine_queue::remove_first(&mut mem[a..e]);
 remove-first-requires : tie.Need-remove-first-requires
 remove-first-requires c κs = search needs
 
--- src/lib.rt:64:1  } ⏎ pub fn remove_from(mem: &mut [u8], size: usize, l: usize)
+-- src/lib.rt:62:1  } ⏎ pub fn remove_from(mem: &mut [u8], size: usize, l: usize)
 same-length : tie.Need-same-length
 same-length c = search needs
 
--- src/lib.rt:64:1  } ⏎ pub fn remove_from(mem: &mut [u8], size: usize, l: usize)
+-- src/lib.rt:62:1  } ⏎ pub fn remove_from(mem: &mut [u8], size: usize, l: usize)
 returns : tie.Need-returns
 unfolding removedAt
 returns c = let k : c .before .before .before .before .link-at .result + c .before .before .before .before .before .before .before .args .size - c .before .before .before .before .link-at .result ≡ c .before .before .before .before .before .before .before .args .size = omega arith in simp (lt-ltb (c .before .before .before .before .before .before .before .args .l) 3105 (c .before .before .before .before .before .if1 .taken)) (rw (k, drop-drop (c .before .before .before .before .before .before .before .args .size) (c .before .before .before .before .link-at .result) (c .before .before .before .before .before .before .before .args .mem .now), rw k at (c .before .before .remove-first .ensures), c .before .before .before .before .link-at .ensures .0) refl)
 
--- src/lib.rt:64:1  } ⏎ pub fn remove_from(mem: &mut [u8], size: usize, l: usize)
+-- src/lib.rt:62:1  } ⏎ pub fn remove_from(mem: &mut [u8], size: usize, l: usize)
 returns-2 : tie.Need-returns-2
 unfolding removedAt
 returns-2 c = simp (le-ltb (c .before .before .args .l) 3105 (c .if1 .left))

@@ -1,34 +1,43 @@
+-- The tests, as paths name them:
+--   tie if1  { ⏎ if is_absent(token) {
+--   tie if2  } ⏎ if is_true(token) {
 use borrow.Author.Needs.{needs}
 use Rattle.machine_gates.proofs.is_neither.Statement.{statement}
 use Rattle.machine_gates.proofs.is_neither.Tie as tie
 use Rattle.machine_gates.proofs.is_neither.Reads as reads
 use Rattle.machine_gates.proofs.is_neither.Lts as lts
-use mathlib.Core.Path.{_≡_, sym, _∙_, refl}
-use Rattle.machine_gates.proofs.Senses.{no-truth, truth-true, truth-false, truth-neither}
+use Rattle.machine_gates.proofs.is_absent.Reads as is-absent-reads
+use Rattle.machine_gates.proofs.is_false.Reads as is-false-reads
+use Rattle.machine_gates.proofs.is_true.Reads as is-true-reads
+use mathlib.Core.Path.{_≡_, sym, _∙_, ap}
+use mathlib.Core.Bool.{not}
+use Rattle.machine_gates.proofs.Senses.{else-neither, absent-not, true-not}
 
--- src/lib.rt:62:24  { ⏎ let Decoded::Valid(v) = head else {
-enum-known-head : tie.Need-enum-known-head
-enum-known-head c = search needs
+-- src/lib.rt:41:8  { ⏎ if is_absent(token) {
+is-absent-requires : tie.Need-is-absent-requires
+is-absent-requires c κs = search needs
 
--- src/lib.rt:63:9  let Decoded::Valid(v) = head else { ⏎ return false;
-enum-told : tie.Need-enum-told
-enum-told c = search needs
-
--- src/lib.rt:63:9  let Decoded::Valid(v) = head else { ⏎ return false;
+-- src/lib.rt:42:9  if is_absent(token) { ⏎ return false;
 returns : tie.Need-returns
-returns c = search needs
+returns c = λ t e. absent-not t (sym (c .before .is-absent .ensures t e) ∙ c .if1 .taken) .0
 
-enum-told-2 : tie.Need-enum-told-2
-enum-told-2 c = search needs
+-- src/lib.rt:44:8  } ⏎ if is_true(token) {
+is-true-requires : tie.Need-is-true-requires
+is-true-requires c κs = search needs
 
--- src/lib.rt:66:9  let Value::Truth(_) = v else { ⏎ return true;
+-- src/lib.rt:45:9  if is_true(token) { ⏎ return false;
 returns-2 : tie.Need-returns-2
-returns-2 c = rw (c .before .before .head .given .1, no-truth (c .before .before .head .given .0 .0) (c .match2 .keys2)) refl
+returns-2 c = λ t e. true-not t (sym (c .before .is-true .ensures t e) ∙ c .if2 .taken)
 
--- src/lib.rt:59:1  // Whether a token is there and is no truth. ⏎ fn is_neither(head: Decoded) -> bool
+-- src/lib.rt:47:6  } ⏎ !is_false(token)
+is-false-requires : tie.Need-is-false-requires
+is-false-requires c κs = search needs
+
+-- src/lib.rt:38:1  // Whether a token is there and is no truth. ⏎ pub fn is_neither(token: u64) -> bool
 returns-3 : tie.Need-returns-3
-returns-3 c = rw (c .before .before .before .head .given .1, c .enum-told2 .given .1) (truth-neither (c .enum-told2 .given .0 .0))
+returns-3 c = λ t e. ap not (c .is-false .ensures t e) ∙ else-neither t (sym (c .before .before .before .before .is-absent .ensures t e) ∙ c .before .before .before .if1 .left) (sym (c .before .before .is-true .ensures t e) ∙ c .before .if2 .left)
 
 pub is-neither-spec : {M : Type 1} → statement M
 is-neither-spec =
-    tie.close (tie.spec enum-known-head enum-told returns enum-told-2 returns-2 returns-3)
+    tie.close
+    (tie.spec is-absent-requires returns is-true-requires returns-2 is-false-requires returns-3)

@@ -1,10 +1,10 @@
 -- The tests, as paths name them:
---   tie if1  while i < n { ⏎ if machine_firing::able_at(mem, size, i) {
+--   tie if1  while i < n { ⏎ if machine_operators::able_at(mem, size, i) {
 use Rattle.machine_runs.proofs.idle.Statement.{statement}
 use Rattle.machine_runs.proofs.idle.Tie as tie
 use Rattle.machine_runs.proofs.idle.Reads as reads
 use Rattle.machine_runs.proofs.idle.Lts as lts
-use Rattle.machine_firing.proofs.able_at.Reads as able-at-reads
+use Rattle.machine_operators.proofs.able_at.Reads as able-at-reads
 use borrow.Author.Needs.{needs}
 use native.Mathlib.Omega.{arith}
 use Prim.Native.Nat.{ℕ, _+_, _-_, _*_, _≤_, _<_}
@@ -18,40 +18,48 @@ use Rattle.machine_runs.specs.RunLaws.{Quiet, quiet-none, quiet-more, le
 use borrow.Author.Tests.{lt-ltb, le-ltb}
 
 abbrev Inv-loop : tie.InvT-loop
-Inv-loop mem size n i₀ i = (i ≤ n) × Quiet mem size i
+Inv-loop mem₀ size n i₀ mem i = (i ≤ n) × (mem ≡ mem₀) × Quiet mem₀ size i
 
 abbrev μ-loop : tie.MeasureT-loop
-μ-loop mem size n i₀ i = n - i
+μ-loop mem₀ size n i₀ mem i = n - i
 
--- src/lib.rt:184:5  let mut i = 0; ⏎ while i < n {
+-- src/lib.rt:232:5  let mut i = 0; ⏎ while i < n {
 loop-holds : tie.Need-loop-holds Inv-loop μ-loop
-loop-holds c = (omega arith, quiet-none (c .before .args .mem .now) (c .before .args .size))
+loop-holds c = (omega arith, refl, quiet-none (c .before .args .mem .now) (c .before .args .size))
 
--- src/lib.rt:185:12  while i < n { ⏎ if machine_firing::able_at(mem, size, i) {
+-- src/lib.rt:233:12  while i < n { ⏎ if machine_operators::able_at(mem, size, i) {
 able-at-requires : tie.Need-able-at-requires Inv-loop μ-loop
-able-at-requires c κs = search needs
+able-at-requires c κs = let l : length (c .before .before .loop .mem) ≡ length (c .before .before .before .before .args .mem .now) = ap length (c .before .before .loop .inv .1) in (omega arith, omega arith, omega arith, omega arith)
 
--- src/lib.rt:186:13  if machine_firing::able_at(mem, size, i) { ⏎ return false;
+-- src/lib.rt:234:13  if machine_operators::able_at(mem, size, i) { ⏎ return false;
+same-length : tie.Need-same-length Inv-loop μ-loop
+same-length c = search needs
+
+-- src/lib.rt:234:13  if machine_operators::able_at(mem, size, i) { ⏎ return false;
 returns : tie.Need-returns Inv-loop μ-loop
 unfolding stillAt
-returns c = rw (least-at (c .before .before .before .before .before .args .mem .now) (c .before .before .before .before .before .args .size) (c .before .before .before .before .before .args .n) (c .before .before .before .loop .i) (omega arith) (c .before .before .before .loop .inv .1) (sym (c .before .able-at .ensures) ∙ c .if1 .taken), lt-ltb (c .before .before .before .loop .i) (c .before .before .before .before .before .args .n) (omega arith)) refl
+returns c = (rw (least-at (c .before .before .before .before .before .before .before .before .args .mem .now) (c .before .before .before .before .before .before .before .before .args .size) (c .before .before .before .before .before .before .before .before .args .n) (c .before .before .before .before .before .before .loop .i) (omega arith) (c .before .before .before .before .before .before .loop .inv .2) (sym (rw (c .before .before .before .before .before .before .loop .inv .1) at (c .before .before .before .able-at .ensures .0)) ∙ c .if1 .taken), lt-ltb (c .before .before .before .before .before .before .loop .i) (c .before .before .before .before .before .before .before .before .args .n) (omega arith)) refl, c .before .before .before .able-at .ensures .1 ∙ c .before .before .before .before .before .before .loop .inv .1)
 
--- src/lib.rt:188:9  } ⏎ i += 1;
+-- src/lib.rt:236:9  } ⏎ i += 1;
 add-i : tie.Need-add-i Inv-loop μ-loop
 add-i c = omega arith
 
--- src/lib.rt:184:5  let mut i = 0; ⏎ while i < n {
+-- src/lib.rt:232:5  let mut i = 0; ⏎ while i < n {
 loop-less : tie.Need-loop-less Inv-loop μ-loop
 loop-less c = omega arith
 
--- src/lib.rt:184:5  let mut i = 0; ⏎ while i < n {
+-- src/lib.rt:232:5  let mut i = 0; ⏎ while i < n {
 loop-again : tie.Need-loop-again Inv-loop μ-loop
-loop-again c = (omega arith, quiet-more (c .before .before .before .before .before .args .mem .now) (c .before .before .before .before .before .args .size) (c .before .before .before .loop .i) (c .before .before .before .loop .inv .1) (sym (c .before .able-at .ensures) ∙ c .if1 .left))
+loop-again c = (omega arith, c .before .before .before .able-at .ensures .1 ∙ c .before .before .before .before .before .before .loop .inv .1, quiet-more (c .before .before .before .before .before .before .before .before .args .mem .now) (c .before .before .before .before .before .before .before .before .args .size) (c .before .before .before .before .before .before .loop .i) (c .before .before .before .before .before .before .loop .inv .2) (sym (rw (c .before .before .before .before .before .before .loop .inv .1) at (c .before .before .before .able-at .ensures .0)) ∙ c .if1 .left))
 
--- src/lib.rt:179:1  // Whether nothing can fire (refusal 36 is its opposite, after the lent firings). ⏎ pub fn idle(mem: &[u8], size: usize, n: usize) -> bool
+-- src/lib.rt:227:1  // Whether nothing can fire (refusal 36 is its opposite, after the lent firings). ⏎ pub fn idle(mem: &mut [u8], size: usize, n: usize) -> bool
+same-length-2 : tie.Need-same-length-2 Inv-loop μ-loop
+same-length-2 c = search needs
+
+-- src/lib.rt:227:1  // Whether nothing can fire (refusal 36 is its opposite, after the lent firings). ⏎ pub fn idle(mem: &mut [u8], size: usize, n: usize) -> bool
 returns-2 : tie.Need-returns-2 Inv-loop μ-loop
 unfolding stillAt
-returns-2 c = let e : c .before .loop .i ≡ c .before .before .before .args .n = omega arith in rw (least-none (c .before .before .before .args .mem .now) (c .before .before .before .args .size) (c .before .before .before .args .n) (rw e at (c .before .loop .inv .1)), le-ltb (c .before .before .before .args .n) (c .before .before .before .args .n) (omega arith)) refl
+returns-2 c = let e : c .before .loop .i ≡ c .before .before .before .args .n = omega arith in (rw (least-none (c .before .before .before .args .mem .now) (c .before .before .before .args .size) (c .before .before .before .args .n) (rw e at (c .before .loop .inv .2)), le-ltb (c .before .before .before .args .n) (c .before .before .before .args .n) (omega arith)) refl, c .before .loop .inv .1)
 
 pub idle-spec : {M : Type 1} → statement M
 idle-spec =
@@ -61,8 +69,10 @@ idle-spec =
     μ-loop
     loop-holds
     able-at-requires
+    same-length
     returns
     add-i
     loop-less
     loop-again
+    same-length-2
     returns-2)

@@ -102,7 +102,7 @@ single-at t = and 3 single-kinds.ps (is 3 single-kinds.ps μ-single t) single.Pr
 abbrev single-below : ℕ → In 3 single-kinds.ps
 single-below t = and 3 single-kinds.ps (falls 3 single-kinds.ps _<_ μ-single t) single.Pre
 
--- src/cycle.rt:197:11  { ⏎ match way_at(t, r) {
+-- src/cycle.rt:199:11  { ⏎ match way_at(t, r) {
 body-way-at-requires : (t : ℕ) → body-lts.Need-way-at-requires (
   way-at-reads.Asked,
   way-at-reads.Learnt,
@@ -127,7 +127,7 @@ body-way-at-requires : (t : ℕ) → body-lts.Need-way-at-requires (
 ) (body-at t) body.Post
 body-way-at-requires t c κs = search needs
 
--- src/cycle.rt:198:19  match way_at(t, r) { ⏎ Way::Iter(a) => again(expr(t, widths, a, env, out, 0, left)),
+-- src/cycle.rt:200:19  match way_at(t, r) { ⏎ Way::Iter(a) => again(expr(t, widths, a, env, out, 0, left)),
 body-enum-known-a : (t : ℕ) → body-lts.Need-enum-known-a (
   way-at-reads.Asked,
   way-at-reads.Learnt,
@@ -152,7 +152,7 @@ body-enum-known-a : (t : ℕ) → body-lts.Need-enum-known-a (
 ) (body-at t) body.Post
 body-enum-known-a t c = search needs
 
--- src/cycle.rt:198:31  match way_at(t, r) { ⏎ Way::Iter(a) => again(expr(t, widths, a, env, out, 0, left)),
+-- src/cycle.rt:200:31  match way_at(t, r) { ⏎ Way::Iter(a) => again(expr(t, widths, a, env, out, 0, left)),
 body-expr-requires : (t : ℕ) → body-lts.Need-expr-requires (
   way-at-reads.Asked,
   way-at-reads.Learnt,
@@ -177,7 +177,7 @@ body-expr-requires : (t : ℕ) → body-lts.Need-expr-requires (
 ) (body-at t) body.Post
 body-expr-requires t c κs = let k : BodyChildren (c .before .before .before .before .before .before .before .before .args .t .now) (c .before .before .before .before .before .before .before .before .args .widths .now) (c .before .before .before .before .before .before .before .before .args .r) (Iter (c .before .before .a .given .0 .0)) = body-children (c .before .before .before .before .before .before .before .before .args .t .now) (c .before .before .before .before .before .before .before .before .args .widths .now) (c .before .before .before .before .before .before .before .before .args .r) (c .before .before .before .before .before .before .before .before .pre .1 .0) (Iter (c .before .before .a .given .0 .0)) (shaped-as (shapeAt (c .before .before .before .before .before .before .before .before .args .t .now) (c .before .before .before .before .before .before .before .before .args .r)) (iter-way (c .before .before .a .given .0 .0)) (sym (c .before .before .a .given .1) ∙ c .before .before .before .before .way-at .ensures)) in let f : BodyNeeds (c .before .before .before .before .before .before .before .before .args .t .now) (c .before .before .before .before .before .before .before .before .args .widths .now) (c .before .before .before .before .before .before .before .before .args .r) (Iter (c .before .before .a .given .0 .0)) = body-needs (c .before .before .before .before .before .before .before .before .args .t .now) (c .before .before .before .before .before .before .before .before .args .widths .now) (c .before .before .before .before .before .before .before .before .args .r) (c .before .before .before .before .before .before .before .before .pre .1 .0) (Iter (c .before .before .a .given .0 .0)) (shaped-as (shapeAt (c .before .before .before .before .before .before .before .before .args .t .now) (c .before .before .before .before .before .before .before .before .args .r)) (iter-way (c .before .before .a .given .0 .0)) (sym (c .before .before .a .given .1) ∙ c .before .before .before .before .way-at .ensures)) in (omega (arith, k .1), (k .0, c .before .before .before .before .before .before .before .before .pre .1 .3, omega (arith, f, c .before .before .before .before .before .before .before .before .pre .1 .4)))
 
--- src/cycle.rt:198:25  match way_at(t, r) { ⏎ Way::Iter(a) => again(expr(t, widths, a, env, out, 0, left)),
+-- src/cycle.rt:200:25  match way_at(t, r) { ⏎ Way::Iter(a) => again(expr(t, widths, a, env, out, 0, left)),
 body-again-requires : (t : ℕ) → body-lts.Need-again-requires (
   way-at-reads.Asked,
   way-at-reads.Learnt,
@@ -202,7 +202,7 @@ body-again-requires : (t : ℕ) → body-lts.Need-again-requires (
 ) (body-at t) body.Post
 body-again-requires t c κs = search needs
 
--- src/cycle.rt:199:18  Way::Iter(a) => again(expr(t, widths, a, env, out, 0, left)), ⏎ Way::Let(a, _, c, d) => {
+-- src/cycle.rt:201:18  Way::Iter(a) => again(expr(t, widths, a, env, out, 0, left)), ⏎ Way::Let(a, _, c, d) => {
 body-enum-known-a-2 : (t : ℕ) → body-lts.Need-enum-known-a-2 (
   way-at-reads.Asked,
   way-at-reads.Learnt,
@@ -227,7 +227,7 @@ body-enum-known-a-2 : (t : ℕ) → body-lts.Need-enum-known-a-2 (
 ) (body-at t) body.Post
 body-enum-known-a-2 t c = search needs
 
--- src/cycle.rt:200:29  Way::Let(a, _, c, d) => { ⏎ let mut inner = copied(env);
+-- src/cycle.rt:202:29  Way::Let(a, _, c, d) => { ⏎ let mut inner = copied(env);
 body-copied-requires : (t : ℕ) → body-lts.Need-copied-requires (
   way-at-reads.Asked,
   way-at-reads.Learnt,
@@ -252,7 +252,7 @@ body-copied-requires : (t : ℕ) → body-lts.Need-copied-requires (
 ) (body-at t) body.Post
 body-copied-requires t c κs = search needs
 
--- src/cycle.rt:201:43  let mut inner = copied(env); ⏎ match expr(t, widths, c, env, &mut inner, wide(a), left) {
+-- src/cycle.rt:203:43  let mut inner = copied(env); ⏎ match expr(t, widths, c, env, &mut inner, wide(a), left) {
 body-slice-aggregate-expr : (t : ℕ) → body-lts.Need-slice-aggregate-expr (
   way-at-reads.Asked,
   way-at-reads.Learnt,
@@ -277,7 +277,7 @@ body-slice-aggregate-expr : (t : ℕ) → body-lts.Need-slice-aggregate-expr (
 ) (body-at t) body.Post
 body-slice-aggregate-expr t c = search needs
 
--- src/cycle.rt:201:55  let mut inner = copied(env); ⏎ match expr(t, widths, c, env, &mut inner, wide(a), left) {
+-- src/cycle.rt:203:55  let mut inner = copied(env); ⏎ match expr(t, widths, c, env, &mut inner, wide(a), left) {
 body-wide-requires : (t : ℕ) → body-lts.Need-wide-requires (
   way-at-reads.Asked,
   way-at-reads.Learnt,
@@ -302,7 +302,7 @@ body-wide-requires : (t : ℕ) → body-lts.Need-wide-requires (
 ) (body-at t) body.Post
 body-wide-requires t c κs = search needs
 
--- src/cycle.rt:201:19  let mut inner = copied(env); ⏎ match expr(t, widths, c, env, &mut inner, wide(a), left) {
+-- src/cycle.rt:203:19  let mut inner = copied(env); ⏎ match expr(t, widths, c, env, &mut inner, wide(a), left) {
 body-expr-requires-2 : (t : ℕ) → body-lts.Need-expr-requires-2 (
   way-at-reads.Asked,
   way-at-reads.Learnt,
@@ -327,7 +327,7 @@ body-expr-requires-2 : (t : ℕ) → body-lts.Need-expr-requires-2 (
 ) (body-at t) body.Post
 body-expr-requires-2 t c κs = let k : BodyChildren (c .before .before .before .before .before .before .before .before .before .before .args .t .now) (c .before .before .before .before .before .before .before .before .before .before .args .widths .now) (c .before .before .before .before .before .before .before .before .before .before .args .r) (Let (c .before .before .before .before .a2 .given .0 .0) (c .before .before .before .before .a2 .given .0 .1 .0) (c .before .before .before .before .a2 .given .0 .1 .1 .0) (c .before .before .before .before .a2 .given .0 .1 .1 .1 .0)) = body-children (c .before .before .before .before .before .before .before .before .before .before .args .t .now) (c .before .before .before .before .before .before .before .before .before .before .args .widths .now) (c .before .before .before .before .before .before .before .before .before .before .args .r) (c .before .before .before .before .before .before .before .before .before .before .pre .1 .0) (Let (c .before .before .before .before .a2 .given .0 .0) (c .before .before .before .before .a2 .given .0 .1 .0) (c .before .before .before .before .a2 .given .0 .1 .1 .0) (c .before .before .before .before .a2 .given .0 .1 .1 .1 .0)) (shaped-as (shapeAt (c .before .before .before .before .before .before .before .before .before .before .args .t .now) (c .before .before .before .before .before .before .before .before .before .before .args .r)) (let-way (c .before .before .before .before .a2 .given .0 .0) (c .before .before .before .before .a2 .given .0 .1 .0) (c .before .before .before .before .a2 .given .0 .1 .1 .0) (c .before .before .before .before .a2 .given .0 .1 .1 .1 .0)) (sym (c .before .before .before .before .a2 .given .1) ∙ c .before .before .before .before .before .before .way-at .ensures)) in let f : BodyNeeds (c .before .before .before .before .before .before .before .before .before .before .args .t .now) (c .before .before .before .before .before .before .before .before .before .before .args .widths .now) (c .before .before .before .before .before .before .before .before .before .before .args .r) (Let (c .before .before .before .before .a2 .given .0 .0) (c .before .before .before .before .a2 .given .0 .1 .0) (c .before .before .before .before .a2 .given .0 .1 .1 .0) (c .before .before .before .before .a2 .given .0 .1 .1 .1 .0)) = body-needs (c .before .before .before .before .before .before .before .before .before .before .args .t .now) (c .before .before .before .before .before .before .before .before .before .before .args .widths .now) (c .before .before .before .before .before .before .before .before .before .before .args .r) (c .before .before .before .before .before .before .before .before .before .before .pre .1 .0) (Let (c .before .before .before .before .a2 .given .0 .0) (c .before .before .before .before .a2 .given .0 .1 .0) (c .before .before .before .before .a2 .given .0 .1 .1 .0) (c .before .before .before .before .a2 .given .0 .1 .1 .1 .0)) (shaped-as (shapeAt (c .before .before .before .before .before .before .before .before .before .before .args .t .now) (c .before .before .before .before .before .before .before .before .before .before .args .r)) (let-way (c .before .before .before .before .a2 .given .0 .0) (c .before .before .before .before .a2 .given .0 .1 .0) (c .before .before .before .before .a2 .given .0 .1 .1 .0) (c .before .before .before .before .a2 .given .0 .1 .1 .1 .0)) (sym (c .before .before .before .before .a2 .given .1) ∙ c .before .before .before .before .before .before .way-at .ensures)) in (omega (arith, k .0 .1), (k .0 .0, c .before .before .before .before .before .before .before .before .before .before .pre .1 .3, omega (arith, f .0, f .1, c .wide .ensures, ap length (c .before .before .copied .ensures), c .before .before .before .before .before .before .before .before .before .before .pre .1 .3)))
 
--- src/cycle.rt:202:28  match expr(t, widths, c, env, &mut inner, wide(a), left) { ⏎ Rest::Left(l) => body(t, widths, d, w, &inner, out, l),
+-- src/cycle.rt:204:28  match expr(t, widths, c, env, &mut inner, wide(a), left) { ⏎ Rest::Left(l) => body(t, widths, d, w, &inner, out, l),
 body-enum-known-l : (t : ℕ) → body-lts.Need-enum-known-l (
   way-at-reads.Asked,
   way-at-reads.Learnt,
@@ -352,7 +352,7 @@ body-enum-known-l : (t : ℕ) → body-lts.Need-enum-known-l (
 ) (body-at t) body.Post
 body-enum-known-l t c = search needs
 
--- src/cycle.rt:202:34  match expr(t, widths, c, env, &mut inner, wide(a), left) { ⏎ Rest::Left(l) => body(t, widths, d, w, &inner, out, l),
+-- src/cycle.rt:204:34  match expr(t, widths, c, env, &mut inner, wide(a), left) { ⏎ Rest::Left(l) => body(t, widths, d, w, &inner, out, l),
 body-body-requires : (t : ℕ) → body-lts.Need-body-requires (
   way-at-reads.Asked,
   way-at-reads.Learnt,
@@ -377,7 +377,7 @@ body-body-requires : (t : ℕ) → body-lts.Need-body-requires (
 ) (body-at t) body.Post
 body-body-requires t c κs = let k : BodyChildren (c .before .before .before .before .before .before .before .before .before .before .before .before .before .before .before .before .before .args .t .now) (c .before .before .before .before .before .before .before .before .before .before .before .before .before .before .before .before .before .args .widths .now) (c .before .before .before .before .before .before .before .before .before .before .before .before .before .before .before .before .before .args .r) (Let (c .before .before .before .before .before .before .before .before .before .before .before .a2 .given .0 .0) (c .before .before .before .before .before .before .before .before .before .before .before .a2 .given .0 .1 .0) (c .before .before .before .before .before .before .before .before .before .before .before .a2 .given .0 .1 .1 .0) (c .before .before .before .before .before .before .before .before .before .before .before .a2 .given .0 .1 .1 .1 .0)) = body-children (c .before .before .before .before .before .before .before .before .before .before .before .before .before .before .before .before .before .args .t .now) (c .before .before .before .before .before .before .before .before .before .before .before .before .before .before .before .before .before .args .widths .now) (c .before .before .before .before .before .before .before .before .before .before .before .before .before .before .before .before .before .args .r) (c .before .before .before .before .before .before .before .before .before .before .before .before .before .before .before .before .before .pre .1 .0) (Let (c .before .before .before .before .before .before .before .before .before .before .before .a2 .given .0 .0) (c .before .before .before .before .before .before .before .before .before .before .before .a2 .given .0 .1 .0) (c .before .before .before .before .before .before .before .before .before .before .before .a2 .given .0 .1 .1 .0) (c .before .before .before .before .before .before .before .before .before .before .before .a2 .given .0 .1 .1 .1 .0)) (shaped-as (shapeAt (c .before .before .before .before .before .before .before .before .before .before .before .before .before .before .before .before .before .args .t .now) (c .before .before .before .before .before .before .before .before .before .before .before .before .before .before .before .before .before .args .r)) (let-way (c .before .before .before .before .before .before .before .before .before .before .before .a2 .given .0 .0) (c .before .before .before .before .before .before .before .before .before .before .before .a2 .given .0 .1 .0) (c .before .before .before .before .before .before .before .before .before .before .before .a2 .given .0 .1 .1 .0) (c .before .before .before .before .before .before .before .before .before .before .before .a2 .given .0 .1 .1 .1 .0)) (sym (c .before .before .before .before .before .before .before .before .before .before .before .a2 .given .1) ∙ c .before .before .before .before .before .before .before .before .before .before .before .before .before .way-at .ensures)) in let f : BodyNeeds (c .before .before .before .before .before .before .before .before .before .before .before .before .before .before .before .before .before .args .t .now) (c .before .before .before .before .before .before .before .before .before .before .before .before .before .before .before .before .before .args .widths .now) (c .before .before .before .before .before .before .before .before .before .before .before .before .before .before .before .before .before .args .r) (Let (c .before .before .before .before .before .before .before .before .before .before .before .a2 .given .0 .0) (c .before .before .before .before .before .before .before .before .before .before .before .a2 .given .0 .1 .0) (c .before .before .before .before .before .before .before .before .before .before .before .a2 .given .0 .1 .1 .0) (c .before .before .before .before .before .before .before .before .before .before .before .a2 .given .0 .1 .1 .1 .0)) = body-needs (c .before .before .before .before .before .before .before .before .before .before .before .before .before .before .before .before .before .args .t .now) (c .before .before .before .before .before .before .before .before .before .before .before .before .before .before .before .before .before .args .widths .now) (c .before .before .before .before .before .before .before .before .before .before .before .before .before .before .before .before .before .args .r) (c .before .before .before .before .before .before .before .before .before .before .before .before .before .before .before .before .before .pre .1 .0) (Let (c .before .before .before .before .before .before .before .before .before .before .before .a2 .given .0 .0) (c .before .before .before .before .before .before .before .before .before .before .before .a2 .given .0 .1 .0) (c .before .before .before .before .before .before .before .before .before .before .before .a2 .given .0 .1 .1 .0) (c .before .before .before .before .before .before .before .before .before .before .before .a2 .given .0 .1 .1 .1 .0)) (shaped-as (shapeAt (c .before .before .before .before .before .before .before .before .before .before .before .before .before .before .before .before .before .args .t .now) (c .before .before .before .before .before .before .before .before .before .before .before .before .before .before .before .before .before .args .r)) (let-way (c .before .before .before .before .before .before .before .before .before .before .before .a2 .given .0 .0) (c .before .before .before .before .before .before .before .before .before .before .before .a2 .given .0 .1 .0) (c .before .before .before .before .before .before .before .before .before .before .before .a2 .given .0 .1 .1 .0) (c .before .before .before .before .before .before .before .before .before .before .before .a2 .given .0 .1 .1 .1 .0)) (sym (c .before .before .before .before .before .before .before .before .before .before .before .a2 .given .1) ∙ c .before .before .before .before .before .before .before .before .before .before .before .before .before .way-at .ensures)) in (omega (arith, k .1 .1), (k .1 .0, rw (f .2) (c .before .before .before .before .before .before .before .before .before .before .before .before .before .before .before .before .before .pre .1 .1), c .before .before .before .before .before .before .before .before .before .before .before .before .before .before .before .before .before .pre .1 .2, c .before .before .before .before .before .before .expr2 .ensures .1 ∙ ap length (c .before .before .before .before .before .before .before .before .before .copied .ensures) ∙ c .before .before .before .before .before .before .before .before .before .before .before .before .before .before .before .before .before .pre .1 .3, c .before .before .before .before .before .before .before .before .before .before .before .before .before .before .before .before .before .pre .1 .4))
 
--- src/cycle.rt:203:32  Rest::Left(l) => body(t, widths, d, w, &inner, out, l), ⏎ Rest::Short => Turn::Short,
+-- src/cycle.rt:205:32  Rest::Left(l) => body(t, widths, d, w, &inner, out, l), ⏎ Rest::Short => Turn::Short,
 body-enum-told : (t : ℕ) → body-lts.Need-enum-told (
   way-at-reads.Asked,
   way-at-reads.Learnt,
@@ -402,7 +402,7 @@ body-enum-told : (t : ℕ) → body-lts.Need-enum-told (
 ) (body-at t) body.Post
 body-enum-told t c = search needs
 
--- src/cycle.rt:206:17  } ⏎ Way::If(a, b, c) => match chosen(single(t, widths, a, env, left)) {
+-- src/cycle.rt:208:17  } ⏎ Way::If(a, b, c) => match single(t, widths, a, env, left) {
 body-enum-known-a-3 : (t : ℕ) → body-lts.Need-enum-known-a-3 (
   way-at-reads.Asked,
   way-at-reads.Learnt,
@@ -427,7 +427,7 @@ body-enum-known-a-3 : (t : ℕ) → body-lts.Need-enum-known-a-3 (
 ) (body-at t) body.Post
 body-enum-known-a-3 t c = search needs
 
--- src/cycle.rt:206:42  } ⏎ Way::If(a, b, c) => match chosen(single(t, widths, a, env, left)) {
+-- src/cycle.rt:208:35  } ⏎ Way::If(a, b, c) => match single(t, widths, a, env, left) {
 body-single-requires : (t : ℕ) → body-lts.Need-single-requires (
   way-at-reads.Asked,
   way-at-reads.Learnt,
@@ -452,7 +452,32 @@ body-single-requires : (t : ℕ) → body-lts.Need-single-requires (
 ) (body-at t) body.Post
 body-single-requires t c κs = let k : BodyChildren (c .before .before .before .before .before .before .before .args .t .now) (c .before .before .before .before .before .before .before .args .widths .now) (c .before .before .before .before .before .before .before .args .r) (If (c .before .a3 .given .0 .0) (c .before .a3 .given .0 .1 .0) (c .before .a3 .given .0 .1 .1 .0)) = body-children (c .before .before .before .before .before .before .before .args .t .now) (c .before .before .before .before .before .before .before .args .widths .now) (c .before .before .before .before .before .before .before .args .r) (c .before .before .before .before .before .before .before .pre .1 .0) (If (c .before .a3 .given .0 .0) (c .before .a3 .given .0 .1 .0) (c .before .a3 .given .0 .1 .1 .0)) (shaped-as (shapeAt (c .before .before .before .before .before .before .before .args .t .now) (c .before .before .before .before .before .before .before .args .r)) (if-way (c .before .a3 .given .0 .0) (c .before .a3 .given .0 .1 .0) (c .before .a3 .given .0 .1 .1 .0)) (sym (c .before .a3 .given .1) ∙ c .before .before .before .way-at .ensures)) in let f : BodyNeeds (c .before .before .before .before .before .before .before .args .t .now) (c .before .before .before .before .before .before .before .args .widths .now) (c .before .before .before .before .before .before .before .args .r) (If (c .before .a3 .given .0 .0) (c .before .a3 .given .0 .1 .0) (c .before .a3 .given .0 .1 .1 .0)) = body-needs (c .before .before .before .before .before .before .before .args .t .now) (c .before .before .before .before .before .before .before .args .widths .now) (c .before .before .before .before .before .before .before .args .r) (c .before .before .before .before .before .before .before .pre .1 .0) (If (c .before .a3 .given .0 .0) (c .before .a3 .given .0 .1 .0) (c .before .a3 .given .0 .1 .1 .0)) (shaped-as (shapeAt (c .before .before .before .before .before .before .before .args .t .now) (c .before .before .before .before .before .before .before .args .r)) (if-way (c .before .a3 .given .0 .0) (c .before .a3 .given .0 .1 .0) (c .before .a3 .given .0 .1 .1 .0)) (sym (c .before .a3 .given .1) ∙ c .before .before .before .way-at .ensures)) in (omega (arith, k .0 .1), (k .0 .0, c .before .before .before .before .before .before .before .pre .1 .3, f .0))
 
--- src/cycle.rt:206:35  } ⏎ Way::If(a, b, c) => match chosen(single(t, widths, a, env, left)) {
+-- src/cycle.rt:209:26  Way::If(a, b, c) => match single(t, widths, a, env, left) { ⏎ Single::Word(v, l) => match chosen(v) {
+body-enum-known-v : (t : ℕ) → body-lts.Need-enum-known-v (
+  way-at-reads.Asked,
+  way-at-reads.Learnt,
+  expr-below t,
+  expr.Post,
+  again-reads.Asked,
+  again-reads.Learnt,
+  copied-reads.Asked,
+  copied-reads.Learnt,
+  wide-reads.Asked,
+  wide-reads.Learnt,
+  body-below t,
+  body.Post,
+  single-below t,
+  single.Post,
+  chosen-reads.Asked,
+  chosen-reads.Learnt,
+  put-errs-reads.Asked,
+  put-errs-reads.Learnt,
+  back-reads.Asked,
+  back-reads.Learnt,
+) (body-at t) body.Post
+body-enum-known-v t c = search needs
+
+-- src/cycle.rt:209:41  Way::If(a, b, c) => match single(t, widths, a, env, left) { ⏎ Single::Word(v, l) => match chosen(v) {
 body-chosen-requires : (t : ℕ) → body-lts.Need-chosen-requires (
   way-at-reads.Asked,
   way-at-reads.Learnt,
@@ -477,157 +502,7 @@ body-chosen-requires : (t : ℕ) → body-lts.Need-chosen-requires (
 ) (body-at t) body.Post
 body-chosen-requires t c κs = search needs
 
--- src/cycle.rt:207:27  Way::If(a, b, c) => match chosen(single(t, widths, a, env, left)) { ⏎ Choice::First(l) => body(t, widths, b, w, env, out, l),
-body-enum-known-l-2 : (t : ℕ) → body-lts.Need-enum-known-l-2 (
-  way-at-reads.Asked,
-  way-at-reads.Learnt,
-  expr-below t,
-  expr.Post,
-  again-reads.Asked,
-  again-reads.Learnt,
-  copied-reads.Asked,
-  copied-reads.Learnt,
-  wide-reads.Asked,
-  wide-reads.Learnt,
-  body-below t,
-  body.Post,
-  single-below t,
-  single.Post,
-  chosen-reads.Asked,
-  chosen-reads.Learnt,
-  put-errs-reads.Asked,
-  put-errs-reads.Learnt,
-  back-reads.Asked,
-  back-reads.Learnt,
-) (body-at t) body.Post
-body-enum-known-l-2 t c = search needs
-
--- src/cycle.rt:207:33  Way::If(a, b, c) => match chosen(single(t, widths, a, env, left)) { ⏎ Choice::First(l) => body(t, widths, b, w, env, out, l),
-body-body-requires-2 : (t : ℕ) → body-lts.Need-body-requires-2 (
-  way-at-reads.Asked,
-  way-at-reads.Learnt,
-  expr-below t,
-  expr.Post,
-  again-reads.Asked,
-  again-reads.Learnt,
-  copied-reads.Asked,
-  copied-reads.Learnt,
-  wide-reads.Asked,
-  wide-reads.Learnt,
-  body-below t,
-  body.Post,
-  single-below t,
-  single.Post,
-  chosen-reads.Asked,
-  chosen-reads.Learnt,
-  put-errs-reads.Asked,
-  put-errs-reads.Learnt,
-  back-reads.Asked,
-  back-reads.Learnt,
-) (body-at t) body.Post
-body-body-requires-2 t c κs = let k : BodyChildren (c .before .before .before .before .before .before .before .before .before .before .before .before .before .args .t .now) (c .before .before .before .before .before .before .before .before .before .before .before .before .before .args .widths .now) (c .before .before .before .before .before .before .before .before .before .before .before .before .before .args .r) (If (c .before .before .before .before .before .before .before .a3 .given .0 .0) (c .before .before .before .before .before .before .before .a3 .given .0 .1 .0) (c .before .before .before .before .before .before .before .a3 .given .0 .1 .1 .0)) = body-children (c .before .before .before .before .before .before .before .before .before .before .before .before .before .args .t .now) (c .before .before .before .before .before .before .before .before .before .before .before .before .before .args .widths .now) (c .before .before .before .before .before .before .before .before .before .before .before .before .before .args .r) (c .before .before .before .before .before .before .before .before .before .before .before .before .before .pre .1 .0) (If (c .before .before .before .before .before .before .before .a3 .given .0 .0) (c .before .before .before .before .before .before .before .a3 .given .0 .1 .0) (c .before .before .before .before .before .before .before .a3 .given .0 .1 .1 .0)) (shaped-as (shapeAt (c .before .before .before .before .before .before .before .before .before .before .before .before .before .args .t .now) (c .before .before .before .before .before .before .before .before .before .before .before .before .before .args .r)) (if-way (c .before .before .before .before .before .before .before .a3 .given .0 .0) (c .before .before .before .before .before .before .before .a3 .given .0 .1 .0) (c .before .before .before .before .before .before .before .a3 .given .0 .1 .1 .0)) (sym (c .before .before .before .before .before .before .before .a3 .given .1) ∙ c .before .before .before .before .before .before .before .before .before .way-at .ensures)) in let f : BodyNeeds (c .before .before .before .before .before .before .before .before .before .before .before .before .before .args .t .now) (c .before .before .before .before .before .before .before .before .before .before .before .before .before .args .widths .now) (c .before .before .before .before .before .before .before .before .before .before .before .before .before .args .r) (If (c .before .before .before .before .before .before .before .a3 .given .0 .0) (c .before .before .before .before .before .before .before .a3 .given .0 .1 .0) (c .before .before .before .before .before .before .before .a3 .given .0 .1 .1 .0)) = body-needs (c .before .before .before .before .before .before .before .before .before .before .before .before .before .args .t .now) (c .before .before .before .before .before .before .before .before .before .before .before .before .before .args .widths .now) (c .before .before .before .before .before .before .before .before .before .before .before .before .before .args .r) (c .before .before .before .before .before .before .before .before .before .before .before .before .before .pre .1 .0) (If (c .before .before .before .before .before .before .before .a3 .given .0 .0) (c .before .before .before .before .before .before .before .a3 .given .0 .1 .0) (c .before .before .before .before .before .before .before .a3 .given .0 .1 .1 .0)) (shaped-as (shapeAt (c .before .before .before .before .before .before .before .before .before .before .before .before .before .args .t .now) (c .before .before .before .before .before .before .before .before .before .before .before .before .before .args .r)) (if-way (c .before .before .before .before .before .before .before .a3 .given .0 .0) (c .before .before .before .before .before .before .before .a3 .given .0 .1 .0) (c .before .before .before .before .before .before .before .a3 .given .0 .1 .1 .0)) (sym (c .before .before .before .before .before .before .before .a3 .given .1) ∙ c .before .before .before .before .before .before .before .before .before .way-at .ensures)) in (omega (arith, k .1 .1), (k .1 .0, f .1 (c .before .before .before .before .before .before .before .before .before .before .before .before .before .args .w) (c .before .before .before .before .before .before .before .before .before .before .before .before .before .pre .1 .1) .0, c .before .before .before .before .before .before .before .before .before .before .before .before .before .pre .1 .2, c .before .before .before .before .before .before .before .before .before .before .before .before .before .pre .1 .3, c .before .before .before .before .before .before .before .before .before .before .before .before .before .pre .1 .4))
-
--- src/cycle.rt:208:28  Choice::First(l) => body(t, widths, b, w, env, out, l), ⏎ Choice::Second(l) => body(t, widths, c, w, env, out, l),
-body-enum-known-l-3 : (t : ℕ) → body-lts.Need-enum-known-l-3 (
-  way-at-reads.Asked,
-  way-at-reads.Learnt,
-  expr-below t,
-  expr.Post,
-  again-reads.Asked,
-  again-reads.Learnt,
-  copied-reads.Asked,
-  copied-reads.Learnt,
-  wide-reads.Asked,
-  wide-reads.Learnt,
-  body-below t,
-  body.Post,
-  single-below t,
-  single.Post,
-  chosen-reads.Asked,
-  chosen-reads.Learnt,
-  put-errs-reads.Asked,
-  put-errs-reads.Learnt,
-  back-reads.Asked,
-  back-reads.Learnt,
-) (body-at t) body.Post
-body-enum-known-l-3 t c = search needs
-
--- src/cycle.rt:208:34  Choice::First(l) => body(t, widths, b, w, env, out, l), ⏎ Choice::Second(l) => body(t, widths, c, w, env, out, l),
-body-body-requires-3 : (t : ℕ) → body-lts.Need-body-requires-3 (
-  way-at-reads.Asked,
-  way-at-reads.Learnt,
-  expr-below t,
-  expr.Post,
-  again-reads.Asked,
-  again-reads.Learnt,
-  copied-reads.Asked,
-  copied-reads.Learnt,
-  wide-reads.Asked,
-  wide-reads.Learnt,
-  body-below t,
-  body.Post,
-  single-below t,
-  single.Post,
-  chosen-reads.Asked,
-  chosen-reads.Learnt,
-  put-errs-reads.Asked,
-  put-errs-reads.Learnt,
-  back-reads.Asked,
-  back-reads.Learnt,
-) (body-at t) body.Post
-body-body-requires-3 t c κs = let k : BodyChildren (c .before .before .before .before .before .before .before .before .before .before .before .before .before .args .t .now) (c .before .before .before .before .before .before .before .before .before .before .before .before .before .args .widths .now) (c .before .before .before .before .before .before .before .before .before .before .before .before .before .args .r) (If (c .before .before .before .before .before .before .before .a3 .given .0 .0) (c .before .before .before .before .before .before .before .a3 .given .0 .1 .0) (c .before .before .before .before .before .before .before .a3 .given .0 .1 .1 .0)) = body-children (c .before .before .before .before .before .before .before .before .before .before .before .before .before .args .t .now) (c .before .before .before .before .before .before .before .before .before .before .before .before .before .args .widths .now) (c .before .before .before .before .before .before .before .before .before .before .before .before .before .args .r) (c .before .before .before .before .before .before .before .before .before .before .before .before .before .pre .1 .0) (If (c .before .before .before .before .before .before .before .a3 .given .0 .0) (c .before .before .before .before .before .before .before .a3 .given .0 .1 .0) (c .before .before .before .before .before .before .before .a3 .given .0 .1 .1 .0)) (shaped-as (shapeAt (c .before .before .before .before .before .before .before .before .before .before .before .before .before .args .t .now) (c .before .before .before .before .before .before .before .before .before .before .before .before .before .args .r)) (if-way (c .before .before .before .before .before .before .before .a3 .given .0 .0) (c .before .before .before .before .before .before .before .a3 .given .0 .1 .0) (c .before .before .before .before .before .before .before .a3 .given .0 .1 .1 .0)) (sym (c .before .before .before .before .before .before .before .a3 .given .1) ∙ c .before .before .before .before .before .before .before .before .before .way-at .ensures)) in let f : BodyNeeds (c .before .before .before .before .before .before .before .before .before .before .before .before .before .args .t .now) (c .before .before .before .before .before .before .before .before .before .before .before .before .before .args .widths .now) (c .before .before .before .before .before .before .before .before .before .before .before .before .before .args .r) (If (c .before .before .before .before .before .before .before .a3 .given .0 .0) (c .before .before .before .before .before .before .before .a3 .given .0 .1 .0) (c .before .before .before .before .before .before .before .a3 .given .0 .1 .1 .0)) = body-needs (c .before .before .before .before .before .before .before .before .before .before .before .before .before .args .t .now) (c .before .before .before .before .before .before .before .before .before .before .before .before .before .args .widths .now) (c .before .before .before .before .before .before .before .before .before .before .before .before .before .args .r) (c .before .before .before .before .before .before .before .before .before .before .before .before .before .pre .1 .0) (If (c .before .before .before .before .before .before .before .a3 .given .0 .0) (c .before .before .before .before .before .before .before .a3 .given .0 .1 .0) (c .before .before .before .before .before .before .before .a3 .given .0 .1 .1 .0)) (shaped-as (shapeAt (c .before .before .before .before .before .before .before .before .before .before .before .before .before .args .t .now) (c .before .before .before .before .before .before .before .before .before .before .before .before .before .args .r)) (if-way (c .before .before .before .before .before .before .before .a3 .given .0 .0) (c .before .before .before .before .before .before .before .a3 .given .0 .1 .0) (c .before .before .before .before .before .before .before .a3 .given .0 .1 .1 .0)) (sym (c .before .before .before .before .before .before .before .a3 .given .1) ∙ c .before .before .before .before .before .before .before .before .before .way-at .ensures)) in (omega (arith, k .2 .1), (k .2 .0, f .1 (c .before .before .before .before .before .before .before .before .before .before .before .before .before .args .w) (c .before .before .before .before .before .before .before .before .before .before .before .before .before .pre .1 .1) .1, c .before .before .before .before .before .before .before .before .before .before .before .before .before .pre .1 .2, c .before .before .before .before .before .before .before .before .before .before .before .before .before .pre .1 .3, c .before .before .before .before .before .before .before .before .before .before .before .before .before .pre .1 .4))
-
--- src/cycle.rt:209:29  Choice::Second(l) => body(t, widths, c, w, env, out, l), ⏎ Choice::Neither(l) => {
-body-enum-known-l-4 : (t : ℕ) → body-lts.Need-enum-known-l-4 (
-  way-at-reads.Asked,
-  way-at-reads.Learnt,
-  expr-below t,
-  expr.Post,
-  again-reads.Asked,
-  again-reads.Learnt,
-  copied-reads.Asked,
-  copied-reads.Learnt,
-  wide-reads.Asked,
-  wide-reads.Learnt,
-  body-below t,
-  body.Post,
-  single-below t,
-  single.Post,
-  chosen-reads.Asked,
-  chosen-reads.Learnt,
-  put-errs-reads.Asked,
-  put-errs-reads.Learnt,
-  back-reads.Asked,
-  back-reads.Learnt,
-) (body-at t) body.Post
-body-enum-known-l-4 t c = search needs
-
--- src/cycle.rt:210:17  Choice::Neither(l) => { ⏎ put_errs(out, 0, w);
-body-put-errs-requires : (t : ℕ) → body-lts.Need-put-errs-requires (
-  way-at-reads.Asked,
-  way-at-reads.Learnt,
-  expr-below t,
-  expr.Post,
-  again-reads.Asked,
-  again-reads.Learnt,
-  copied-reads.Asked,
-  copied-reads.Learnt,
-  wide-reads.Asked,
-  wide-reads.Learnt,
-  body-below t,
-  body.Post,
-  single-below t,
-  single.Post,
-  chosen-reads.Asked,
-  chosen-reads.Learnt,
-  put-errs-reads.Asked,
-  put-errs-reads.Learnt,
-  back-reads.Asked,
-  back-reads.Learnt,
-) (body-at t) body.Post
-body-put-errs-requires t c κs = search needs
-
--- src/cycle.rt:213:30  } ⏎ Choice::Short => Turn::Short,
+-- src/cycle.rt:210:59  Single::Word(v, l) => match chosen(v) { ⏎ Sense::True => body(t, widths, b, w, env, out, l),
 body-enum-told-2 : (t : ℕ) → body-lts.Need-enum-told-2 (
   way-at-reads.Asked,
   way-at-reads.Learnt,
@@ -652,7 +527,32 @@ body-enum-told-2 : (t : ℕ) → body-lts.Need-enum-told-2 (
 ) (body-at t) body.Post
 body-enum-told-2 t c = search needs
 
--- src/cycle.rt:215:50  }, ⏎ Way::End => back(expr(t, widths, r, env, out, 0, left)),
+-- src/cycle.rt:210:32  Single::Word(v, l) => match chosen(v) { ⏎ Sense::True => body(t, widths, b, w, env, out, l),
+body-body-requires-2 : (t : ℕ) → body-lts.Need-body-requires-2 (
+  way-at-reads.Asked,
+  way-at-reads.Learnt,
+  expr-below t,
+  expr.Post,
+  again-reads.Asked,
+  again-reads.Learnt,
+  copied-reads.Asked,
+  copied-reads.Learnt,
+  wide-reads.Asked,
+  wide-reads.Learnt,
+  body-below t,
+  body.Post,
+  single-below t,
+  single.Post,
+  chosen-reads.Asked,
+  chosen-reads.Learnt,
+  put-errs-reads.Asked,
+  put-errs-reads.Learnt,
+  back-reads.Asked,
+  back-reads.Learnt,
+) (body-at t) body.Post
+body-body-requires-2 t c κs = let k : BodyChildren (c .before .before .before .before .before .before .before .before .before .before .before .before .before .before .before .args .t .now) (c .before .before .before .before .before .before .before .before .before .before .before .before .before .before .before .args .widths .now) (c .before .before .before .before .before .before .before .before .before .before .before .before .before .before .before .args .r) (If (c .before .before .before .before .before .before .before .before .before .a3 .given .0 .0) (c .before .before .before .before .before .before .before .before .before .a3 .given .0 .1 .0) (c .before .before .before .before .before .before .before .before .before .a3 .given .0 .1 .1 .0)) = body-children (c .before .before .before .before .before .before .before .before .before .before .before .before .before .before .before .args .t .now) (c .before .before .before .before .before .before .before .before .before .before .before .before .before .before .before .args .widths .now) (c .before .before .before .before .before .before .before .before .before .before .before .before .before .before .before .args .r) (c .before .before .before .before .before .before .before .before .before .before .before .before .before .before .before .pre .1 .0) (If (c .before .before .before .before .before .before .before .before .before .a3 .given .0 .0) (c .before .before .before .before .before .before .before .before .before .a3 .given .0 .1 .0) (c .before .before .before .before .before .before .before .before .before .a3 .given .0 .1 .1 .0)) (shaped-as (shapeAt (c .before .before .before .before .before .before .before .before .before .before .before .before .before .before .before .args .t .now) (c .before .before .before .before .before .before .before .before .before .before .before .before .before .before .before .args .r)) (if-way (c .before .before .before .before .before .before .before .before .before .a3 .given .0 .0) (c .before .before .before .before .before .before .before .before .before .a3 .given .0 .1 .0) (c .before .before .before .before .before .before .before .before .before .a3 .given .0 .1 .1 .0)) (sym (c .before .before .before .before .before .before .before .before .before .a3 .given .1) ∙ c .before .before .before .before .before .before .before .before .before .before .before .way-at .ensures)) in let f : BodyNeeds (c .before .before .before .before .before .before .before .before .before .before .before .before .before .before .before .args .t .now) (c .before .before .before .before .before .before .before .before .before .before .before .before .before .before .before .args .widths .now) (c .before .before .before .before .before .before .before .before .before .before .before .before .before .before .before .args .r) (If (c .before .before .before .before .before .before .before .before .before .a3 .given .0 .0) (c .before .before .before .before .before .before .before .before .before .a3 .given .0 .1 .0) (c .before .before .before .before .before .before .before .before .before .a3 .given .0 .1 .1 .0)) = body-needs (c .before .before .before .before .before .before .before .before .before .before .before .before .before .before .before .args .t .now) (c .before .before .before .before .before .before .before .before .before .before .before .before .before .before .before .args .widths .now) (c .before .before .before .before .before .before .before .before .before .before .before .before .before .before .before .args .r) (c .before .before .before .before .before .before .before .before .before .before .before .before .before .before .before .pre .1 .0) (If (c .before .before .before .before .before .before .before .before .before .a3 .given .0 .0) (c .before .before .before .before .before .before .before .before .before .a3 .given .0 .1 .0) (c .before .before .before .before .before .before .before .before .before .a3 .given .0 .1 .1 .0)) (shaped-as (shapeAt (c .before .before .before .before .before .before .before .before .before .before .before .before .before .before .before .args .t .now) (c .before .before .before .before .before .before .before .before .before .before .before .before .before .before .before .args .r)) (if-way (c .before .before .before .before .before .before .before .before .before .a3 .given .0 .0) (c .before .before .before .before .before .before .before .before .before .a3 .given .0 .1 .0) (c .before .before .before .before .before .before .before .before .before .a3 .given .0 .1 .1 .0)) (sym (c .before .before .before .before .before .before .before .before .before .a3 .given .1) ∙ c .before .before .before .before .before .before .before .before .before .before .before .way-at .ensures)) in (omega (arith, k .1 .1), (k .1 .0, f .1 (c .before .before .before .before .before .before .before .before .before .before .before .before .before .before .before .args .w) (c .before .before .before .before .before .before .before .before .before .before .before .before .before .before .before .pre .1 .1) .0, c .before .before .before .before .before .before .before .before .before .before .before .before .before .before .before .pre .1 .2, c .before .before .before .before .before .before .before .before .before .before .before .before .before .before .before .pre .1 .3, c .before .before .before .before .before .before .before .before .before .before .before .before .before .before .before .pre .1 .4))
+
+-- src/cycle.rt:211:60  Sense::True => body(t, widths, b, w, env, out, l), ⏎ Sense::False => body(t, widths, c, w, env, out, l),
 body-enum-told-3 : (t : ℕ) → body-lts.Need-enum-told-3 (
   way-at-reads.Asked,
   way-at-reads.Learnt,
@@ -677,7 +577,132 @@ body-enum-told-3 : (t : ℕ) → body-lts.Need-enum-told-3 (
 ) (body-at t) body.Post
 body-enum-told-3 t c = search needs
 
--- src/cycle.rt:215:26  }, ⏎ Way::End => back(expr(t, widths, r, env, out, 0, left)),
+-- src/cycle.rt:211:33  Sense::True => body(t, widths, b, w, env, out, l), ⏎ Sense::False => body(t, widths, c, w, env, out, l),
+body-body-requires-3 : (t : ℕ) → body-lts.Need-body-requires-3 (
+  way-at-reads.Asked,
+  way-at-reads.Learnt,
+  expr-below t,
+  expr.Post,
+  again-reads.Asked,
+  again-reads.Learnt,
+  copied-reads.Asked,
+  copied-reads.Learnt,
+  wide-reads.Asked,
+  wide-reads.Learnt,
+  body-below t,
+  body.Post,
+  single-below t,
+  single.Post,
+  chosen-reads.Asked,
+  chosen-reads.Learnt,
+  put-errs-reads.Asked,
+  put-errs-reads.Learnt,
+  back-reads.Asked,
+  back-reads.Learnt,
+) (body-at t) body.Post
+body-body-requires-3 t c κs = let k : BodyChildren (c .before .before .before .before .before .before .before .before .before .before .before .before .before .before .before .args .t .now) (c .before .before .before .before .before .before .before .before .before .before .before .before .before .before .before .args .widths .now) (c .before .before .before .before .before .before .before .before .before .before .before .before .before .before .before .args .r) (If (c .before .before .before .before .before .before .before .before .before .a3 .given .0 .0) (c .before .before .before .before .before .before .before .before .before .a3 .given .0 .1 .0) (c .before .before .before .before .before .before .before .before .before .a3 .given .0 .1 .1 .0)) = body-children (c .before .before .before .before .before .before .before .before .before .before .before .before .before .before .before .args .t .now) (c .before .before .before .before .before .before .before .before .before .before .before .before .before .before .before .args .widths .now) (c .before .before .before .before .before .before .before .before .before .before .before .before .before .before .before .args .r) (c .before .before .before .before .before .before .before .before .before .before .before .before .before .before .before .pre .1 .0) (If (c .before .before .before .before .before .before .before .before .before .a3 .given .0 .0) (c .before .before .before .before .before .before .before .before .before .a3 .given .0 .1 .0) (c .before .before .before .before .before .before .before .before .before .a3 .given .0 .1 .1 .0)) (shaped-as (shapeAt (c .before .before .before .before .before .before .before .before .before .before .before .before .before .before .before .args .t .now) (c .before .before .before .before .before .before .before .before .before .before .before .before .before .before .before .args .r)) (if-way (c .before .before .before .before .before .before .before .before .before .a3 .given .0 .0) (c .before .before .before .before .before .before .before .before .before .a3 .given .0 .1 .0) (c .before .before .before .before .before .before .before .before .before .a3 .given .0 .1 .1 .0)) (sym (c .before .before .before .before .before .before .before .before .before .a3 .given .1) ∙ c .before .before .before .before .before .before .before .before .before .before .before .way-at .ensures)) in let f : BodyNeeds (c .before .before .before .before .before .before .before .before .before .before .before .before .before .before .before .args .t .now) (c .before .before .before .before .before .before .before .before .before .before .before .before .before .before .before .args .widths .now) (c .before .before .before .before .before .before .before .before .before .before .before .before .before .before .before .args .r) (If (c .before .before .before .before .before .before .before .before .before .a3 .given .0 .0) (c .before .before .before .before .before .before .before .before .before .a3 .given .0 .1 .0) (c .before .before .before .before .before .before .before .before .before .a3 .given .0 .1 .1 .0)) = body-needs (c .before .before .before .before .before .before .before .before .before .before .before .before .before .before .before .args .t .now) (c .before .before .before .before .before .before .before .before .before .before .before .before .before .before .before .args .widths .now) (c .before .before .before .before .before .before .before .before .before .before .before .before .before .before .before .args .r) (c .before .before .before .before .before .before .before .before .before .before .before .before .before .before .before .pre .1 .0) (If (c .before .before .before .before .before .before .before .before .before .a3 .given .0 .0) (c .before .before .before .before .before .before .before .before .before .a3 .given .0 .1 .0) (c .before .before .before .before .before .before .before .before .before .a3 .given .0 .1 .1 .0)) (shaped-as (shapeAt (c .before .before .before .before .before .before .before .before .before .before .before .before .before .before .before .args .t .now) (c .before .before .before .before .before .before .before .before .before .before .before .before .before .before .before .args .r)) (if-way (c .before .before .before .before .before .before .before .before .before .a3 .given .0 .0) (c .before .before .before .before .before .before .before .before .before .a3 .given .0 .1 .0) (c .before .before .before .before .before .before .before .before .before .a3 .given .0 .1 .1 .0)) (sym (c .before .before .before .before .before .before .before .before .before .a3 .given .1) ∙ c .before .before .before .before .before .before .before .before .before .before .before .way-at .ensures)) in (omega (arith, k .2 .1), (k .2 .0, f .1 (c .before .before .before .before .before .before .before .before .before .before .before .before .before .before .before .args .w) (c .before .before .before .before .before .before .before .before .before .before .before .before .before .before .before .pre .1 .1) .1, c .before .before .before .before .before .before .before .before .before .before .before .before .before .before .before .pre .1 .2, c .before .before .before .before .before .before .before .before .before .before .before .before .before .before .before .pre .1 .3, c .before .before .before .before .before .before .before .before .before .before .before .before .before .before .before .pre .1 .4))
+
+-- src/cycle.rt:213:30  Sense::Neither => { ⏎ put_errs(out, 0, w);
+body-enum-told-4 : (t : ℕ) → body-lts.Need-enum-told-4 (
+  way-at-reads.Asked,
+  way-at-reads.Learnt,
+  expr-below t,
+  expr.Post,
+  again-reads.Asked,
+  again-reads.Learnt,
+  copied-reads.Asked,
+  copied-reads.Learnt,
+  wide-reads.Asked,
+  wide-reads.Learnt,
+  body-below t,
+  body.Post,
+  single-below t,
+  single.Post,
+  chosen-reads.Asked,
+  chosen-reads.Learnt,
+  put-errs-reads.Asked,
+  put-errs-reads.Learnt,
+  back-reads.Asked,
+  back-reads.Learnt,
+) (body-at t) body.Post
+body-enum-told-4 t c = search needs
+
+-- src/cycle.rt:213:21  Sense::Neither => { ⏎ put_errs(out, 0, w);
+body-put-errs-requires : (t : ℕ) → body-lts.Need-put-errs-requires (
+  way-at-reads.Asked,
+  way-at-reads.Learnt,
+  expr-below t,
+  expr.Post,
+  again-reads.Asked,
+  again-reads.Learnt,
+  copied-reads.Asked,
+  copied-reads.Learnt,
+  wide-reads.Asked,
+  wide-reads.Learnt,
+  body-below t,
+  body.Post,
+  single-below t,
+  single.Post,
+  chosen-reads.Asked,
+  chosen-reads.Learnt,
+  put-errs-reads.Asked,
+  put-errs-reads.Learnt,
+  back-reads.Asked,
+  back-reads.Learnt,
+) (body-at t) body.Post
+body-put-errs-requires t c κs = search needs
+
+-- src/cycle.rt:217:30  }, ⏎ Single::Short => Turn::Short,
+body-enum-told-5 : (t : ℕ) → body-lts.Need-enum-told-5 (
+  way-at-reads.Asked,
+  way-at-reads.Learnt,
+  expr-below t,
+  expr.Post,
+  again-reads.Asked,
+  again-reads.Learnt,
+  copied-reads.Asked,
+  copied-reads.Learnt,
+  wide-reads.Asked,
+  wide-reads.Learnt,
+  body-below t,
+  body.Post,
+  single-below t,
+  single.Post,
+  chosen-reads.Asked,
+  chosen-reads.Learnt,
+  put-errs-reads.Asked,
+  put-errs-reads.Learnt,
+  back-reads.Asked,
+  back-reads.Learnt,
+) (body-at t) body.Post
+body-enum-told-5 t c = search needs
+
+-- src/cycle.rt:219:50  }, ⏎ Way::End => back(expr(t, widths, r, env, out, 0, left)),
+body-enum-told-6 : (t : ℕ) → body-lts.Need-enum-told-6 (
+  way-at-reads.Asked,
+  way-at-reads.Learnt,
+  expr-below t,
+  expr.Post,
+  again-reads.Asked,
+  again-reads.Learnt,
+  copied-reads.Asked,
+  copied-reads.Learnt,
+  wide-reads.Asked,
+  wide-reads.Learnt,
+  body-below t,
+  body.Post,
+  single-below t,
+  single.Post,
+  chosen-reads.Asked,
+  chosen-reads.Learnt,
+  put-errs-reads.Asked,
+  put-errs-reads.Learnt,
+  back-reads.Asked,
+  back-reads.Learnt,
+) (body-at t) body.Post
+body-enum-told-6 t c = search needs
+
+-- src/cycle.rt:219:26  }, ⏎ Way::End => back(expr(t, widths, r, env, out, 0, left)),
 body-expr-requires-3 : (t : ℕ) → body-lts.Need-expr-requires-3 (
   way-at-reads.Asked,
   way-at-reads.Learnt,
@@ -700,9 +725,9 @@ body-expr-requires-3 : (t : ℕ) → body-lts.Need-expr-requires-3 (
   back-reads.Asked,
   back-reads.Learnt,
 ) (body-at t) body.Post
-body-expr-requires-3 t c κs = (omega arith, ((ending-row (c .before .before .before .before .before .before .before .args .t .now) (c .before .before .before .before .before .before .before .args .widths .now) (c .before .before .before .before .before .before .before .args .r) (c .before .before .before .before .before .before .before .pre .1 .0) (shaped-as (shapeAt (c .before .before .before .before .before .before .before .args .t .now) (c .before .before .before .before .before .before .before .args .r)) End (sym (c .before .enum-told3 .given .1) ∙ c .before .before .before .way-at .ensures))), c .before .before .before .before .before .before .before .pre .1 .3, omega (arith, narrow (c .before .before .before .before .before .before .before .args .t .now) (c .before .before .before .before .before .before .before .args .widths .now) (c .before .before .before .before .before .before .before .args .r) (ending-row (c .before .before .before .before .before .before .before .args .t .now) (c .before .before .before .before .before .before .before .args .widths .now) (c .before .before .before .before .before .before .before .args .r) (c .before .before .before .before .before .before .before .pre .1 .0) (shaped-as (shapeAt (c .before .before .before .before .before .before .before .args .t .now) (c .before .before .before .before .before .before .before .args .r)) End (sym (c .before .enum-told3 .given .1) ∙ c .before .before .before .way-at .ensures))), c .before .before .before .before .before .before .before .pre .1 .4)))
+body-expr-requires-3 t c κs = (omega arith, ((ending-row (c .before .before .before .before .before .before .before .args .t .now) (c .before .before .before .before .before .before .before .args .widths .now) (c .before .before .before .before .before .before .before .args .r) (c .before .before .before .before .before .before .before .pre .1 .0) (shaped-as (shapeAt (c .before .before .before .before .before .before .before .args .t .now) (c .before .before .before .before .before .before .before .args .r)) End (sym (c .before .enum-told6 .given .1) ∙ c .before .before .before .way-at .ensures))), c .before .before .before .before .before .before .before .pre .1 .3, omega (arith, narrow (c .before .before .before .before .before .before .before .args .t .now) (c .before .before .before .before .before .before .before .args .widths .now) (c .before .before .before .before .before .before .before .args .r) (ending-row (c .before .before .before .before .before .before .before .args .t .now) (c .before .before .before .before .before .before .before .args .widths .now) (c .before .before .before .before .before .before .before .args .r) (c .before .before .before .before .before .before .before .pre .1 .0) (shaped-as (shapeAt (c .before .before .before .before .before .before .before .args .t .now) (c .before .before .before .before .before .before .before .args .r)) End (sym (c .before .enum-told6 .given .1) ∙ c .before .before .before .way-at .ensures))), c .before .before .before .before .before .before .before .pre .1 .4)))
 
--- src/cycle.rt:215:21  }, ⏎ Way::End => back(expr(t, widths, r, env, out, 0, left)),
+-- src/cycle.rt:219:21  }, ⏎ Way::End => back(expr(t, widths, r, env, out, 0, left)),
 body-back-requires : (t : ℕ) → body-lts.Need-back-requires (
   way-at-reads.Asked,
   way-at-reads.Learnt,
@@ -727,7 +752,7 @@ body-back-requires : (t : ℕ) → body-lts.Need-back-requires (
 ) (body-at t) body.Post
 body-back-requires t c κs = search needs
 
--- src/cycle.rt:185:1  // `out`. ⏎ fn body(
+-- src/cycle.rt:187:1  // `out`. ⏎ fn body(
 body-same-length : (t : ℕ) → body-lts.Need-same-length (
   way-at-reads.Asked,
   way-at-reads.Learnt,
@@ -752,7 +777,7 @@ body-same-length : (t : ℕ) → body-lts.Need-same-length (
 ) (body-at t) body.Post
 body-same-length t c = search needs
 
--- src/cycle.rt:185:1  // `out`. ⏎ fn body(
+-- src/cycle.rt:187:1  // `out`. ⏎ fn body(
 body-returns : (t : ℕ) → body-lts.Need-returns (
   way-at-reads.Asked,
   way-at-reads.Learnt,
@@ -777,7 +802,7 @@ body-returns : (t : ℕ) → body-lts.Need-returns (
 ) (body-at t) body.Post
 body-returns t c = (subst (λ (z : Turn). ToldB (evalB (bodyOf (c .before .before .before .before .before .before .before .before .before .before .before .before .args .t .now) (c .before .before .before .before .before .before .before .before .before .before .before .before .args .r)) (c .before .before .before .before .before .before .before .before .before .before .before .before .args .w) (envOf (c .before .before .before .before .before .before .before .before .before .before .before .before .args .env .now)) (c .before .before .before .before .before .before .before .before .before .before .before .before .args .left)) z (c .before .before .before .before .before .before .before .before .before .before .before .before .args .out .now) (c .before .before .before .expr .last .1 .1 .1 .1 .0)) (sym (c .again .ensures)) (tell-iter (c .before .before .before .before .before .before .before .before .before .before .before .before .args .t .now) (c .before .before .before .before .before .before .before .before .before .before .before .before .args .widths .now) (c .before .before .before .before .before .before .before .before .before .before .before .before .args .r) (c .before .before .before .before .before .before .before .before .before .before .before .before .pre .1 .0) (c .before .before .before .before .before .before .before .before .before .before .before .before .args .w) (envOf (c .before .before .before .before .before .before .before .before .before .before .before .before .args .env .now)) (c .before .before .before .before .before .before .before .before .before .before .before .before .args .left) (c .before .before .before .before .before .before .before .before .before .before .before .before .args .out .now) (c .before .before .before .expr .last .1 .1 .1 .1 .0) (c .before .before .before .before .before .before .a .given .0 .0) (shaped-as (shapeAt (c .before .before .before .before .before .before .before .before .before .before .before .before .args .t .now) (c .before .before .before .before .before .before .before .before .before .before .before .before .args .r)) (iter-way (c .before .before .before .before .before .before .a .given .0 .0)) (sym (c .before .before .before .before .before .before .a .given .1) ∙ c .before .before .before .before .before .before .before .before .way-at .ensures)) (c .before .before .before .expr .result) (c .before .before .before .expr .ensures .0)), c .before .before .before .expr .ensures .1)
 
--- src/cycle.rt:185:1  // `out`. ⏎ fn body(
+-- src/cycle.rt:187:1  // `out`. ⏎ fn body(
 body-same-length-2 : (t : ℕ) → body-lts.Need-same-length-2 (
   way-at-reads.Asked,
   way-at-reads.Learnt,
@@ -802,7 +827,7 @@ body-same-length-2 : (t : ℕ) → body-lts.Need-same-length-2 (
 ) (body-at t) body.Post
 body-same-length-2 t c = search needs
 
--- src/cycle.rt:185:1  // `out`. ⏎ fn body(
+-- src/cycle.rt:187:1  // `out`. ⏎ fn body(
 body-returns-2 : (t : ℕ) → body-lts.Need-returns-2 (
   way-at-reads.Asked,
   way-at-reads.Learnt,
@@ -827,7 +852,7 @@ body-returns-2 : (t : ℕ) → body-lts.Need-returns-2 (
 ) (body-at t) body.Post
 body-returns-2 t c = (tell-let-B (c .before .before .before .before .before .before .before .before .before .before .before .before .before .before .before .before .before .before .before .before .args .t .now) (c .before .before .before .before .before .before .before .before .before .before .before .before .before .before .before .before .before .before .before .before .args .widths .now) (c .before .before .before .before .before .before .before .before .before .before .before .before .before .before .before .before .before .before .before .before .args .r) (c .before .before .before .before .before .before .before .before .before .before .before .before .before .before .before .before .before .before .before .before .pre .1 .0) (c .before .before .before .before .before .before .before .before .before .before .before .before .before .before .before .before .before .before .before .before .args .w) (envOf (c .before .before .before .before .before .before .before .before .before .before .before .before .before .before .before .before .before .before .before .before .args .env .now)) (c .before .before .before .before .before .before .before .before .before .before .before .before .before .before .before .before .before .before .before .before .args .left) (c .before .before .before .before .before .before .before .before .before .before .before .before .before .before .before .before .before .before .before .before .args .out .now) (c .before .before .body .last .1 .1 .1 .1 .1 .0) (c .before .before .before .before .before .before .before .before .before .before .before .before .before .before .a2 .given .0 .0) (c .before .before .before .before .before .before .before .before .before .before .before .before .before .before .a2 .given .0 .1 .0) (c .before .before .before .before .before .before .before .before .before .before .before .before .before .before .a2 .given .0 .1 .1 .0) (c .before .before .before .before .before .before .before .before .before .before .before .before .before .before .a2 .given .0 .1 .1 .1 .0) (shaped-as (shapeAt (c .before .before .before .before .before .before .before .before .before .before .before .before .before .before .before .before .before .before .before .before .args .t .now) (c .before .before .before .before .before .before .before .before .before .before .before .before .before .before .before .before .before .before .before .before .args .r)) (let-way (c .before .before .before .before .before .before .before .before .before .before .before .before .before .before .a2 .given .0 .0) (c .before .before .before .before .before .before .before .before .before .before .before .before .before .before .a2 .given .0 .1 .0) (c .before .before .before .before .before .before .before .before .before .before .before .before .before .before .a2 .given .0 .1 .1 .0) (c .before .before .before .before .before .before .before .before .before .before .before .before .before .before .a2 .given .0 .1 .1 .1 .0)) (sym (c .before .before .before .before .before .before .before .before .before .before .before .before .before .before .a2 .given .1) ∙ c .before .before .before .before .before .before .before .before .before .before .before .before .before .before .before .before .way-at .ensures)) (c .before .before .before .before .before .before .before .before .before .before .before .before .copied .result) (c .before .before .before .before .before .before .before .before .before .expr2 .last .1 .1 .1 .1 .0) (c .before .before .before .before .before .before .l .given .0 .0) (c .before .before .body .result) (ap envOf (c .before .before .before .before .before .before .before .before .before .before .before .before .copied .ensures)) (rw (c .before .before .before .before .before .before .before .before .before .before .wide .ensures, c .before .before .before .before .before .before .l .given .1) at (c .before .before .before .before .before .before .before .before .before .expr2 .ensures .0)) (c .before .before .body .ensures .0), c .before .before .body .ensures .1)
 
--- src/cycle.rt:185:1  // `out`. ⏎ fn body(
+-- src/cycle.rt:187:1  // `out`. ⏎ fn body(
 body-returns-3 : (t : ℕ) → body-lts.Need-returns-3 (
   way-at-reads.Asked,
   way-at-reads.Learnt,
@@ -852,7 +877,7 @@ body-returns-3 : (t : ℕ) → body-lts.Need-returns-3 (
 ) (body-at t) body.Post
 body-returns-3 t c = (tell-let-B-short (c .before .before .before .before .before .before .before .before .before .before .before .before .before .before .args .t .now) (c .before .before .before .before .before .before .before .before .before .before .before .before .before .before .args .widths .now) (c .before .before .before .before .before .before .before .before .before .before .before .before .before .before .args .r) (c .before .before .before .before .before .before .before .before .before .before .before .before .before .before .pre .1 .0) (c .before .before .before .before .before .before .before .before .before .before .before .before .before .before .args .w) (envOf (c .before .before .before .before .before .before .before .before .before .before .before .before .before .before .args .env .now)) (c .before .before .before .before .before .before .before .before .before .before .before .before .before .before .args .left) (c .before .before .before .before .before .before .before .before .before .before .before .before .before .before .args .out .now) (c .before .before .before .before .before .before .before .before .before .before .before .before .before .before .args .out .now) (c .before .before .before .before .before .before .before .before .a2 .given .0 .0) (c .before .before .before .before .before .before .before .before .a2 .given .0 .1 .0) (c .before .before .before .before .before .before .before .before .a2 .given .0 .1 .1 .0) (c .before .before .before .before .before .before .before .before .a2 .given .0 .1 .1 .1 .0) (shaped-as (shapeAt (c .before .before .before .before .before .before .before .before .before .before .before .before .before .before .args .t .now) (c .before .before .before .before .before .before .before .before .before .before .before .before .before .before .args .r)) (let-way (c .before .before .before .before .before .before .before .before .a2 .given .0 .0) (c .before .before .before .before .before .before .before .before .a2 .given .0 .1 .0) (c .before .before .before .before .before .before .before .before .a2 .given .0 .1 .1 .0) (c .before .before .before .before .before .before .before .before .a2 .given .0 .1 .1 .1 .0)) (sym (c .before .before .before .before .before .before .before .before .a2 .given .1) ∙ c .before .before .before .before .before .before .before .before .before .before .way-at .ensures)) (c .before .before .before .before .wide .result) (c .before .before .before .before .before .before .copied .result) (c .before .before .before .expr2 .last .1 .1 .1 .1 .0) (rw (c .enum-told .given .1) at (c .before .before .before .expr2 .ensures .0)), refl)
 
--- src/cycle.rt:185:1  // `out`. ⏎ fn body(
+-- src/cycle.rt:187:1  // `out`. ⏎ fn body(
 body-same-length-3 : (t : ℕ) → body-lts.Need-same-length-3 (
   way-at-reads.Asked,
   way-at-reads.Learnt,
@@ -877,7 +902,7 @@ body-same-length-3 : (t : ℕ) → body-lts.Need-same-length-3 (
 ) (body-at t) body.Post
 body-same-length-3 t c = search needs
 
--- src/cycle.rt:185:1  // `out`. ⏎ fn body(
+-- src/cycle.rt:187:1  // `out`. ⏎ fn body(
 body-returns-4 : (t : ℕ) → body-lts.Need-returns-4 (
   way-at-reads.Asked,
   way-at-reads.Learnt,
@@ -900,9 +925,9 @@ body-returns-4 : (t : ℕ) → body-lts.Need-returns-4 (
   back-reads.Asked,
   back-reads.Learnt,
 ) (body-at t) body.Post
-body-returns-4 t c = (tell-first-B (c .before .before .before .before .before .before .before .before .before .before .before .before .before .before .before .before .args .t .now) (c .before .before .before .before .before .before .before .before .before .before .before .before .before .before .before .before .args .widths .now) (c .before .before .before .before .before .before .before .before .before .before .before .before .before .before .before .before .args .r) (c .before .before .before .before .before .before .before .before .before .before .before .before .before .before .before .before .pre .1 .0) (c .before .before .before .before .before .before .before .before .before .before .before .before .before .before .before .before .args .w) (envOf (c .before .before .before .before .before .before .before .before .before .before .before .before .before .before .before .before .args .env .now)) (c .before .before .before .before .before .before .before .before .before .before .before .before .before .before .before .before .args .left) (c .before .before .before .before .before .before .before .before .before .before .before .before .before .before .before .before .args .out .now) (c .before .before .body2 .last .1 .1 .1 .1 .1 .0) (c .before .before .before .before .before .before .before .before .before .before .a3 .given .0 .0) (c .before .before .before .before .before .before .before .before .before .before .a3 .given .0 .1 .0) (c .before .before .before .before .before .before .before .before .before .before .a3 .given .0 .1 .1 .0) (shaped-as (shapeAt (c .before .before .before .before .before .before .before .before .before .before .before .before .before .before .before .before .args .t .now) (c .before .before .before .before .before .before .before .before .before .before .before .before .before .before .before .before .args .r)) (if-way (c .before .before .before .before .before .before .before .before .before .before .a3 .given .0 .0) (c .before .before .before .before .before .before .before .before .before .before .a3 .given .0 .1 .0) (c .before .before .before .before .before .before .before .before .before .before .a3 .given .0 .1 .1 .0)) (sym (c .before .before .before .before .before .before .before .before .before .before .a3 .given .1) ∙ c .before .before .before .before .before .before .before .before .before .before .before .before .way-at .ensures)) (c .before .before .before .before .before .before .before .before .single .result) (c .before .before .before .before .before .before .before .before .single .ensures) (c .before .before .before .before .before .l2 .given .0 .0) (c .before .before .body2 .result) (sym (c .before .before .before .before .before .before .before .chosen .ensures) ∙ c .before .before .before .before .before .l2 .given .1) (c .before .before .body2 .ensures .0), c .before .before .body2 .ensures .1)
+body-returns-4 t c = (tell-first-B (c .before .before .before .before .before .before .before .before .before .before .before .before .before .before .before .before .before .before .args .t .now) (c .before .before .before .before .before .before .before .before .before .before .before .before .before .before .before .before .before .before .args .widths .now) (c .before .before .before .before .before .before .before .before .before .before .before .before .before .before .before .before .before .before .args .r) (c .before .before .before .before .before .before .before .before .before .before .before .before .before .before .before .before .before .before .pre .1 .0) (c .before .before .before .before .before .before .before .before .before .before .before .before .before .before .before .before .before .before .args .w) (envOf (c .before .before .before .before .before .before .before .before .before .before .before .before .before .before .before .before .before .before .args .env .now)) (c .before .before .before .before .before .before .before .before .before .before .before .before .before .before .before .before .before .before .args .left) (c .before .before .before .before .before .before .before .before .before .before .before .before .before .before .before .before .before .before .args .out .now) (c .before .before .body2 .last .1 .1 .1 .1 .1 .0) (c .before .before .before .before .before .before .before .before .before .before .before .before .a3 .given .0 .0) (c .before .before .before .before .before .before .before .before .before .before .before .before .a3 .given .0 .1 .0) (c .before .before .before .before .before .before .before .before .before .before .before .before .a3 .given .0 .1 .1 .0) (shaped-as (shapeAt (c .before .before .before .before .before .before .before .before .before .before .before .before .before .before .before .before .before .before .args .t .now) (c .before .before .before .before .before .before .before .before .before .before .before .before .before .before .before .before .before .before .args .r)) (if-way (c .before .before .before .before .before .before .before .before .before .before .before .before .a3 .given .0 .0) (c .before .before .before .before .before .before .before .before .before .before .before .before .a3 .given .0 .1 .0) (c .before .before .before .before .before .before .before .before .before .before .before .before .a3 .given .0 .1 .1 .0)) (sym (c .before .before .before .before .before .before .before .before .before .before .before .before .a3 .given .1) ∙ c .before .before .before .before .before .before .before .before .before .before .before .before .before .before .way-at .ensures)) (c .before .before .before .before .before .before .before .before .before .before .single .result) (c .before .before .before .before .before .before .before .before .before .before .single .ensures) (c .before .before .before .before .before .before .before .before .v .given .0 .0) (c .before .before .before .before .before .before .before .before .v .given .0 .1 .0) (c .before .before .before .before .before .before .before .before .v .given .1) (c .before .before .body2 .result) (sym (c .before .before .before .before .before .before .chosen .ensures) ∙ c .before .before .before .before .enum-told2 .given .1) (c .before .before .body2 .ensures .0), c .before .before .body2 .ensures .1)
 
--- src/cycle.rt:185:1  // `out`. ⏎ fn body(
+-- src/cycle.rt:187:1  // `out`. ⏎ fn body(
 body-same-length-4 : (t : ℕ) → body-lts.Need-same-length-4 (
   way-at-reads.Asked,
   way-at-reads.Learnt,
@@ -927,7 +952,7 @@ body-same-length-4 : (t : ℕ) → body-lts.Need-same-length-4 (
 ) (body-at t) body.Post
 body-same-length-4 t c = search needs
 
--- src/cycle.rt:185:1  // `out`. ⏎ fn body(
+-- src/cycle.rt:187:1  // `out`. ⏎ fn body(
 body-returns-5 : (t : ℕ) → body-lts.Need-returns-5 (
   way-at-reads.Asked,
   way-at-reads.Learnt,
@@ -950,9 +975,9 @@ body-returns-5 : (t : ℕ) → body-lts.Need-returns-5 (
   back-reads.Asked,
   back-reads.Learnt,
 ) (body-at t) body.Post
-body-returns-5 t c = (tell-second-B (c .before .before .before .before .before .before .before .before .before .before .before .before .before .before .before .before .args .t .now) (c .before .before .before .before .before .before .before .before .before .before .before .before .before .before .before .before .args .widths .now) (c .before .before .before .before .before .before .before .before .before .before .before .before .before .before .before .before .args .r) (c .before .before .before .before .before .before .before .before .before .before .before .before .before .before .before .before .pre .1 .0) (c .before .before .before .before .before .before .before .before .before .before .before .before .before .before .before .before .args .w) (envOf (c .before .before .before .before .before .before .before .before .before .before .before .before .before .before .before .before .args .env .now)) (c .before .before .before .before .before .before .before .before .before .before .before .before .before .before .before .before .args .left) (c .before .before .before .before .before .before .before .before .before .before .before .before .before .before .before .before .args .out .now) (c .before .before .body3 .last .1 .1 .1 .1 .1 .0) (c .before .before .before .before .before .before .before .before .before .before .a3 .given .0 .0) (c .before .before .before .before .before .before .before .before .before .before .a3 .given .0 .1 .0) (c .before .before .before .before .before .before .before .before .before .before .a3 .given .0 .1 .1 .0) (shaped-as (shapeAt (c .before .before .before .before .before .before .before .before .before .before .before .before .before .before .before .before .args .t .now) (c .before .before .before .before .before .before .before .before .before .before .before .before .before .before .before .before .args .r)) (if-way (c .before .before .before .before .before .before .before .before .before .before .a3 .given .0 .0) (c .before .before .before .before .before .before .before .before .before .before .a3 .given .0 .1 .0) (c .before .before .before .before .before .before .before .before .before .before .a3 .given .0 .1 .1 .0)) (sym (c .before .before .before .before .before .before .before .before .before .before .a3 .given .1) ∙ c .before .before .before .before .before .before .before .before .before .before .before .before .way-at .ensures)) (c .before .before .before .before .before .before .before .before .single .result) (c .before .before .before .before .before .before .before .before .single .ensures) (c .before .before .before .before .before .l3 .given .0 .0) (c .before .before .body3 .result) (sym (c .before .before .before .before .before .before .before .chosen .ensures) ∙ c .before .before .before .before .before .l3 .given .1) (c .before .before .body3 .ensures .0), c .before .before .body3 .ensures .1)
+body-returns-5 t c = (tell-second-B (c .before .before .before .before .before .before .before .before .before .before .before .before .before .before .before .before .before .before .args .t .now) (c .before .before .before .before .before .before .before .before .before .before .before .before .before .before .before .before .before .before .args .widths .now) (c .before .before .before .before .before .before .before .before .before .before .before .before .before .before .before .before .before .before .args .r) (c .before .before .before .before .before .before .before .before .before .before .before .before .before .before .before .before .before .before .pre .1 .0) (c .before .before .before .before .before .before .before .before .before .before .before .before .before .before .before .before .before .before .args .w) (envOf (c .before .before .before .before .before .before .before .before .before .before .before .before .before .before .before .before .before .before .args .env .now)) (c .before .before .before .before .before .before .before .before .before .before .before .before .before .before .before .before .before .before .args .left) (c .before .before .before .before .before .before .before .before .before .before .before .before .before .before .before .before .before .before .args .out .now) (c .before .before .body3 .last .1 .1 .1 .1 .1 .0) (c .before .before .before .before .before .before .before .before .before .before .before .before .a3 .given .0 .0) (c .before .before .before .before .before .before .before .before .before .before .before .before .a3 .given .0 .1 .0) (c .before .before .before .before .before .before .before .before .before .before .before .before .a3 .given .0 .1 .1 .0) (shaped-as (shapeAt (c .before .before .before .before .before .before .before .before .before .before .before .before .before .before .before .before .before .before .args .t .now) (c .before .before .before .before .before .before .before .before .before .before .before .before .before .before .before .before .before .before .args .r)) (if-way (c .before .before .before .before .before .before .before .before .before .before .before .before .a3 .given .0 .0) (c .before .before .before .before .before .before .before .before .before .before .before .before .a3 .given .0 .1 .0) (c .before .before .before .before .before .before .before .before .before .before .before .before .a3 .given .0 .1 .1 .0)) (sym (c .before .before .before .before .before .before .before .before .before .before .before .before .a3 .given .1) ∙ c .before .before .before .before .before .before .before .before .before .before .before .before .before .before .way-at .ensures)) (c .before .before .before .before .before .before .before .before .before .before .single .result) (c .before .before .before .before .before .before .before .before .before .before .single .ensures) (c .before .before .before .before .before .before .before .before .v .given .0 .0) (c .before .before .before .before .before .before .before .before .v .given .0 .1 .0) (c .before .before .before .before .before .before .before .before .v .given .1) (c .before .before .body3 .result) (sym (c .before .before .before .before .before .before .chosen .ensures) ∙ c .before .before .before .before .enum-told3 .given .1) (c .before .before .body3 .ensures .0), c .before .before .body3 .ensures .1)
 
--- src/cycle.rt:185:1  // `out`. ⏎ fn body(
+-- src/cycle.rt:187:1  // `out`. ⏎ fn body(
 body-same-length-5 : (t : ℕ) → body-lts.Need-same-length-5 (
   way-at-reads.Asked,
   way-at-reads.Learnt,
@@ -977,7 +1002,7 @@ body-same-length-5 : (t : ℕ) → body-lts.Need-same-length-5 (
 ) (body-at t) body.Post
 body-same-length-5 t c = search needs
 
--- src/cycle.rt:185:1  // `out`. ⏎ fn body(
+-- src/cycle.rt:187:1  // `out`. ⏎ fn body(
 body-returns-6 : (t : ℕ) → body-lts.Need-returns-6 (
   way-at-reads.Asked,
   way-at-reads.Learnt,
@@ -1000,9 +1025,9 @@ body-returns-6 : (t : ℕ) → body-lts.Need-returns-6 (
   back-reads.Asked,
   back-reads.Learnt,
 ) (body-at t) body.Post
-body-returns-6 t c = (tell-neither-B (c .before .before .before .before .before .before .before .before .before .before .before .before .before .before .before .before .args .t .now) (c .before .before .before .before .before .before .before .before .before .before .before .before .before .before .before .before .args .widths .now) (c .before .before .before .before .before .before .before .before .before .before .before .before .before .before .before .before .args .r) (c .before .before .before .before .before .before .before .before .before .before .before .before .before .before .before .before .pre .1 .0) (c .before .before .before .before .before .before .before .before .before .before .before .before .before .before .before .before .args .w) (envOf (c .before .before .before .before .before .before .before .before .before .before .before .before .before .before .before .before .args .env .now)) (c .before .before .before .before .before .before .before .before .before .before .before .before .before .before .before .before .args .left) (c .before .before .before .before .before .before .before .before .before .before .before .before .before .before .before .before .args .out .now) (c .before .before .put-errs .last .0) (c .before .before .before .before .before .before .before .before .before .before .a3 .given .0 .0) (c .before .before .before .before .before .before .before .before .before .before .a3 .given .0 .1 .0) (c .before .before .before .before .before .before .before .before .before .before .a3 .given .0 .1 .1 .0) (shaped-as (shapeAt (c .before .before .before .before .before .before .before .before .before .before .before .before .before .before .before .before .args .t .now) (c .before .before .before .before .before .before .before .before .before .before .before .before .before .before .before .before .args .r)) (if-way (c .before .before .before .before .before .before .before .before .before .before .a3 .given .0 .0) (c .before .before .before .before .before .before .before .before .before .before .a3 .given .0 .1 .0) (c .before .before .before .before .before .before .before .before .before .before .a3 .given .0 .1 .1 .0)) (sym (c .before .before .before .before .before .before .before .before .before .before .a3 .given .1) ∙ c .before .before .before .before .before .before .before .before .before .before .before .before .way-at .ensures)) (c .before .before .before .before .before .before .before .before .single .result) (c .before .before .before .before .before .before .before .before .single .ensures) (c .before .before .before .before .before .l4 .given .0 .0) (sym (c .before .before .before .before .before .before .before .chosen .ensures) ∙ c .before .before .before .before .before .l4 .given .1) (c .before .before .put-errs .ensures .0), c .before .before .put-errs .ensures .1)
+body-returns-6 t c = (tell-neither-B (c .before .before .before .before .before .before .before .before .before .before .before .before .before .before .before .before .before .before .args .t .now) (c .before .before .before .before .before .before .before .before .before .before .before .before .before .before .before .before .before .before .args .widths .now) (c .before .before .before .before .before .before .before .before .before .before .before .before .before .before .before .before .before .before .args .r) (c .before .before .before .before .before .before .before .before .before .before .before .before .before .before .before .before .before .before .pre .1 .0) (c .before .before .before .before .before .before .before .before .before .before .before .before .before .before .before .before .before .before .args .w) (envOf (c .before .before .before .before .before .before .before .before .before .before .before .before .before .before .before .before .before .before .args .env .now)) (c .before .before .before .before .before .before .before .before .before .before .before .before .before .before .before .before .before .before .args .left) (c .before .before .before .before .before .before .before .before .before .before .before .before .before .before .before .before .before .before .args .out .now) (c .before .before .put-errs .last .0) (c .before .before .before .before .before .before .before .before .before .before .before .before .a3 .given .0 .0) (c .before .before .before .before .before .before .before .before .before .before .before .before .a3 .given .0 .1 .0) (c .before .before .before .before .before .before .before .before .before .before .before .before .a3 .given .0 .1 .1 .0) (shaped-as (shapeAt (c .before .before .before .before .before .before .before .before .before .before .before .before .before .before .before .before .before .before .args .t .now) (c .before .before .before .before .before .before .before .before .before .before .before .before .before .before .before .before .before .before .args .r)) (if-way (c .before .before .before .before .before .before .before .before .before .before .before .before .a3 .given .0 .0) (c .before .before .before .before .before .before .before .before .before .before .before .before .a3 .given .0 .1 .0) (c .before .before .before .before .before .before .before .before .before .before .before .before .a3 .given .0 .1 .1 .0)) (sym (c .before .before .before .before .before .before .before .before .before .before .before .before .a3 .given .1) ∙ c .before .before .before .before .before .before .before .before .before .before .before .before .before .before .way-at .ensures)) (c .before .before .before .before .before .before .before .before .before .before .single .result) (c .before .before .before .before .before .before .before .before .before .before .single .ensures) (c .before .before .before .before .before .before .before .before .v .given .0 .0) (c .before .before .before .before .before .before .before .before .v .given .0 .1 .0) (c .before .before .before .before .before .before .before .before .v .given .1) (sym (c .before .before .before .before .before .before .chosen .ensures) ∙ c .before .before .before .before .enum-told4 .given .1) (c .before .before .put-errs .ensures .0), c .before .before .put-errs .ensures .1)
 
--- src/cycle.rt:185:1  // `out`. ⏎ fn body(
+-- src/cycle.rt:187:1  // `out`. ⏎ fn body(
 body-returns-7 : (t : ℕ) → body-lts.Need-returns-7 (
   way-at-reads.Asked,
   way-at-reads.Learnt,
@@ -1025,9 +1050,9 @@ body-returns-7 : (t : ℕ) → body-lts.Need-returns-7 (
   back-reads.Asked,
   back-reads.Learnt,
 ) (body-at t) body.Post
-body-returns-7 t c = (tell-untested-B (c .before .before .before .before .before .before .before .before .before .before .before .args .t .now) (c .before .before .before .before .before .before .before .before .before .before .before .args .widths .now) (c .before .before .before .before .before .before .before .before .before .before .before .args .r) (c .before .before .before .before .before .before .before .before .before .before .before .pre .1 .0) (c .before .before .before .before .before .before .before .before .before .before .before .args .w) (envOf (c .before .before .before .before .before .before .before .before .before .before .before .args .env .now)) (c .before .before .before .before .before .before .before .before .before .before .before .args .left) (c .before .before .before .before .before .before .before .before .before .before .before .args .out .now) (c .before .before .before .before .before .before .before .before .before .before .before .args .out .now) (c .before .before .before .before .before .a3 .given .0 .0) (c .before .before .before .before .before .a3 .given .0 .1 .0) (c .before .before .before .before .before .a3 .given .0 .1 .1 .0) (shaped-as (shapeAt (c .before .before .before .before .before .before .before .before .before .before .before .args .t .now) (c .before .before .before .before .before .before .before .before .before .before .before .args .r)) (if-way (c .before .before .before .before .before .a3 .given .0 .0) (c .before .before .before .before .before .a3 .given .0 .1 .0) (c .before .before .before .before .before .a3 .given .0 .1 .1 .0)) (sym (c .before .before .before .before .before .a3 .given .1) ∙ c .before .before .before .before .before .before .before .way-at .ensures)) (c .before .before .before .single .result) (c .before .before .before .single .ensures) (sym (c .before .before .chosen .ensures) ∙ c .enum-told2 .given .1), refl)
+body-returns-7 t c = (tell-untested-B (c .before .before .before .before .before .before .before .before .before .before .args .t .now) (c .before .before .before .before .before .before .before .before .before .before .args .widths .now) (c .before .before .before .before .before .before .before .before .before .before .args .r) (c .before .before .before .before .before .before .before .before .before .before .pre .1 .0) (c .before .before .before .before .before .before .before .before .before .before .args .w) (envOf (c .before .before .before .before .before .before .before .before .before .before .args .env .now)) (c .before .before .before .before .before .before .before .before .before .before .args .left) (c .before .before .before .before .before .before .before .before .before .before .args .out .now) (c .before .before .before .before .before .before .before .before .before .before .args .out .now) (c .before .before .before .before .a3 .given .0 .0) (c .before .before .before .before .a3 .given .0 .1 .0) (c .before .before .before .before .a3 .given .0 .1 .1 .0) (shaped-as (shapeAt (c .before .before .before .before .before .before .before .before .before .before .args .t .now) (c .before .before .before .before .before .before .before .before .before .before .args .r)) (if-way (c .before .before .before .before .a3 .given .0 .0) (c .before .before .before .before .a3 .given .0 .1 .0) (c .before .before .before .before .a3 .given .0 .1 .1 .0)) (sym (c .before .before .before .before .a3 .given .1) ∙ c .before .before .before .before .before .before .way-at .ensures)) (c .before .before .single .result) (c .before .before .single .ensures) (c .enum-told5 .given .1), refl)
 
--- src/cycle.rt:185:1  // `out`. ⏎ fn body(
+-- src/cycle.rt:187:1  // `out`. ⏎ fn body(
 body-same-length-6 : (t : ℕ) → body-lts.Need-same-length-6 (
   way-at-reads.Asked,
   way-at-reads.Learnt,
@@ -1052,7 +1077,7 @@ body-same-length-6 : (t : ℕ) → body-lts.Need-same-length-6 (
 ) (body-at t) body.Post
 body-same-length-6 t c = search needs
 
--- src/cycle.rt:185:1  // `out`. ⏎ fn body(
+-- src/cycle.rt:187:1  // `out`. ⏎ fn body(
 body-returns-8 : (t : ℕ) → body-lts.Need-returns-8 (
   way-at-reads.Asked,
   way-at-reads.Learnt,
@@ -1075,7 +1100,7 @@ body-returns-8 : (t : ℕ) → body-lts.Need-returns-8 (
   back-reads.Asked,
   back-reads.Learnt,
 ) (body-at t) body.Post
-body-returns-8 t c = (subst (λ (z : Turn). ToldB (evalB (bodyOf (c .before .before .before .before .before .before .before .before .before .before .before .args .t .now) (c .before .before .before .before .before .before .before .before .before .before .before .args .r)) (c .before .before .before .before .before .before .before .before .before .before .before .args .w) (envOf (c .before .before .before .before .before .before .before .before .before .before .before .args .env .now)) (c .before .before .before .before .before .before .before .before .before .before .before .args .left)) z (c .before .before .before .before .before .before .before .before .before .before .before .args .out .now) (c .before .before .before .expr3 .last .1 .1 .1 .1 .0)) (sym (c .back .ensures)) (tell-ending (c .before .before .before .before .before .before .before .before .before .before .before .args .t .now) (c .before .before .before .before .before .before .before .before .before .before .before .args .widths .now) (c .before .before .before .before .before .before .before .before .before .before .before .args .r) (c .before .before .before .before .before .before .before .before .before .before .before .pre .1 .0) (c .before .before .before .before .before .before .before .before .before .before .before .args .w) (envOf (c .before .before .before .before .before .before .before .before .before .before .before .args .env .now)) (c .before .before .before .before .before .before .before .before .before .before .before .args .left) (c .before .before .before .before .before .before .before .before .before .before .before .args .out .now) (c .before .before .before .expr3 .last .1 .1 .1 .1 .0) (shaped-as (shapeAt (c .before .before .before .before .before .before .before .before .before .before .before .args .t .now) (c .before .before .before .before .before .before .before .before .before .before .before .args .r)) End (sym (c .before .before .before .before .before .enum-told3 .given .1) ∙ c .before .before .before .before .before .before .before .way-at .ensures)) (c .before .before .before .expr3 .result) (c .before .before .before .expr3 .ensures .0)), c .before .before .before .expr3 .ensures .1)
+body-returns-8 t c = (subst (λ (z : Turn). ToldB (evalB (bodyOf (c .before .before .before .before .before .before .before .before .before .before .before .args .t .now) (c .before .before .before .before .before .before .before .before .before .before .before .args .r)) (c .before .before .before .before .before .before .before .before .before .before .before .args .w) (envOf (c .before .before .before .before .before .before .before .before .before .before .before .args .env .now)) (c .before .before .before .before .before .before .before .before .before .before .before .args .left)) z (c .before .before .before .before .before .before .before .before .before .before .before .args .out .now) (c .before .before .before .expr3 .last .1 .1 .1 .1 .0)) (sym (c .back .ensures)) (tell-ending (c .before .before .before .before .before .before .before .before .before .before .before .args .t .now) (c .before .before .before .before .before .before .before .before .before .before .before .args .widths .now) (c .before .before .before .before .before .before .before .before .before .before .before .args .r) (c .before .before .before .before .before .before .before .before .before .before .before .pre .1 .0) (c .before .before .before .before .before .before .before .before .before .before .before .args .w) (envOf (c .before .before .before .before .before .before .before .before .before .before .before .args .env .now)) (c .before .before .before .before .before .before .before .before .before .before .before .args .left) (c .before .before .before .before .before .before .before .before .before .before .before .args .out .now) (c .before .before .before .expr3 .last .1 .1 .1 .1 .0) (shaped-as (shapeAt (c .before .before .before .before .before .before .before .before .before .before .before .args .t .now) (c .before .before .before .before .before .before .before .before .before .before .before .args .r)) End (sym (c .before .before .before .before .before .enum-told6 .given .1) ∙ c .before .before .before .before .before .before .before .way-at .ensures)) (c .before .before .before .expr3 .result) (c .before .before .before .expr3 .ensures .0)), c .before .before .before .expr3 .ensures .1)
 
 -- src/cycle.rt:108:11  { ⏎ match shape_at(t, r) {
 by-kind-shape-at-requires : (t : ℕ) → by-kind-lts.Need-shape-at-requires (
@@ -1445,7 +1470,7 @@ by-kind-enum-told-2 : (t : ℕ) → by-kind-lts.Need-enum-told-2 (
 ) (by-kind-at t) by-kind.Post
 by-kind-enum-told-2 t c = search needs
 
--- src/cycle.rt:120:19  } ⏎ Shape::If(a, b, c) => match chosen(single(t, widths, a, env, left)) {
+-- src/cycle.rt:120:19  } ⏎ Shape::If(a, b, c) => match single(t, widths, a, env, left) {
 by-kind-enum-known-a-3 : (t : ℕ) → by-kind-lts.Need-enum-known-a-3 (
   shape-at-reads.Asked,
   shape-at-reads.Learnt,
@@ -1468,7 +1493,7 @@ by-kind-enum-known-a-3 : (t : ℕ) → by-kind-lts.Need-enum-known-a-3 (
 ) (by-kind-at t) by-kind.Post
 by-kind-enum-known-a-3 t c = search needs
 
--- src/cycle.rt:120:44  } ⏎ Shape::If(a, b, c) => match chosen(single(t, widths, a, env, left)) {
+-- src/cycle.rt:120:37  } ⏎ Shape::If(a, b, c) => match single(t, widths, a, env, left) {
 by-kind-single-requires : (t : ℕ) → by-kind-lts.Need-single-requires (
   shape-at-reads.Asked,
   shape-at-reads.Learnt,
@@ -1491,7 +1516,30 @@ by-kind-single-requires : (t : ℕ) → by-kind-lts.Need-single-requires (
 ) (by-kind-at t) by-kind.Post
 by-kind-single-requires t c κs = let k : ExpChildren (c .before .before .before .before .before .before .before .args .t .now) (c .before .before .before .before .before .before .before .args .widths .now) (c .before .before .before .before .before .before .before .args .r) (If (c .before .a3 .given .0 .0) (c .before .a3 .given .0 .1 .0) (c .before .a3 .given .0 .1 .1 .0)) = exp-children (c .before .before .before .before .before .before .before .args .t .now) (c .before .before .before .before .before .before .before .args .widths .now) (c .before .before .before .before .before .before .before .args .r) (c .before .before .before .before .before .before .before .pre .1 .0) (If (c .before .a3 .given .0 .0) (c .before .a3 .given .0 .1 .0) (c .before .a3 .given .0 .1 .1 .0)) (sym (c .before .before .before .shape-at .ensures) ∙ c .before .a3 .given .1) in let f : ExpNeeds (c .before .before .before .before .before .before .before .args .t .now) (c .before .before .before .before .before .before .before .args .widths .now) (c .before .before .before .before .before .before .before .args .r) (If (c .before .a3 .given .0 .0) (c .before .a3 .given .0 .1 .0) (c .before .a3 .given .0 .1 .1 .0)) = exp-needs (c .before .before .before .before .before .before .before .args .t .now) (c .before .before .before .before .before .before .before .args .widths .now) (c .before .before .before .before .before .before .before .args .r) (c .before .before .before .before .before .before .before .pre .1 .0) (If (c .before .a3 .given .0 .0) (c .before .a3 .given .0 .1 .0) (c .before .a3 .given .0 .1 .1 .0)) (sym (c .before .before .before .shape-at .ensures) ∙ c .before .a3 .given .1) in (omega (arith, k .0 .1), (k .0 .0, c .before .before .before .before .before .before .before .pre .1 .1, f .0))
 
--- src/cycle.rt:120:37  } ⏎ Shape::If(a, b, c) => match chosen(single(t, widths, a, env, left)) {
+-- src/cycle.rt:121:26  Shape::If(a, b, c) => match single(t, widths, a, env, left) { ⏎ Single::Word(w, l) => match chosen(w) {
+by-kind-enum-known-w : (t : ℕ) → by-kind-lts.Need-enum-known-w (
+  shape-at-reads.Asked,
+  shape-at-reads.Learnt,
+  expr-below t,
+  expr.Post,
+  width-at-reads.Asked,
+  width-at-reads.Learnt,
+  copied-reads.Asked,
+  copied-reads.Learnt,
+  wide-reads.Asked,
+  wide-reads.Learnt,
+  single-below t,
+  single.Post,
+  chosen-reads.Asked,
+  chosen-reads.Learnt,
+  put-errs-reads.Asked,
+  put-errs-reads.Learnt,
+  rounds-below t,
+  rounds.Post,
+) (by-kind-at t) by-kind.Post
+by-kind-enum-known-w t c = search needs
+
+-- src/cycle.rt:121:41  Shape::If(a, b, c) => match single(t, widths, a, env, left) { ⏎ Single::Word(w, l) => match chosen(w) {
 by-kind-chosen-requires : (t : ℕ) → by-kind-lts.Need-chosen-requires (
   shape-at-reads.Asked,
   shape-at-reads.Learnt,
@@ -1514,168 +1562,7 @@ by-kind-chosen-requires : (t : ℕ) → by-kind-lts.Need-chosen-requires (
 ) (by-kind-at t) by-kind.Post
 by-kind-chosen-requires t c κs = search needs
 
--- src/cycle.rt:121:27  Shape::If(a, b, c) => match chosen(single(t, widths, a, env, left)) { ⏎ Choice::First(l) => expr(t, widths, b, env, out, at, l),
-by-kind-enum-known-l-3 : (t : ℕ) → by-kind-lts.Need-enum-known-l-3 (
-  shape-at-reads.Asked,
-  shape-at-reads.Learnt,
-  expr-below t,
-  expr.Post,
-  width-at-reads.Asked,
-  width-at-reads.Learnt,
-  copied-reads.Asked,
-  copied-reads.Learnt,
-  wide-reads.Asked,
-  wide-reads.Learnt,
-  single-below t,
-  single.Post,
-  chosen-reads.Asked,
-  chosen-reads.Learnt,
-  put-errs-reads.Asked,
-  put-errs-reads.Learnt,
-  rounds-below t,
-  rounds.Post,
-) (by-kind-at t) by-kind.Post
-by-kind-enum-known-l-3 t c = search needs
-
--- src/cycle.rt:121:33  Shape::If(a, b, c) => match chosen(single(t, widths, a, env, left)) { ⏎ Choice::First(l) => expr(t, widths, b, env, out, at, l),
-by-kind-expr-requires-5 : (t : ℕ) → by-kind-lts.Need-expr-requires-5 (
-  shape-at-reads.Asked,
-  shape-at-reads.Learnt,
-  expr-below t,
-  expr.Post,
-  width-at-reads.Asked,
-  width-at-reads.Learnt,
-  copied-reads.Asked,
-  copied-reads.Learnt,
-  wide-reads.Asked,
-  wide-reads.Learnt,
-  single-below t,
-  single.Post,
-  chosen-reads.Asked,
-  chosen-reads.Learnt,
-  put-errs-reads.Asked,
-  put-errs-reads.Learnt,
-  rounds-below t,
-  rounds.Post,
-) (by-kind-at t) by-kind.Post
-by-kind-expr-requires-5 t c κs = let k : ExpChildren (c .before .before .before .before .before .before .before .before .before .before .before .before .before .args .t .now) (c .before .before .before .before .before .before .before .before .before .before .before .before .before .args .widths .now) (c .before .before .before .before .before .before .before .before .before .before .before .before .before .args .r) (If (c .before .before .before .before .before .before .before .a3 .given .0 .0) (c .before .before .before .before .before .before .before .a3 .given .0 .1 .0) (c .before .before .before .before .before .before .before .a3 .given .0 .1 .1 .0)) = exp-children (c .before .before .before .before .before .before .before .before .before .before .before .before .before .args .t .now) (c .before .before .before .before .before .before .before .before .before .before .before .before .before .args .widths .now) (c .before .before .before .before .before .before .before .before .before .before .before .before .before .args .r) (c .before .before .before .before .before .before .before .before .before .before .before .before .before .pre .1 .0) (If (c .before .before .before .before .before .before .before .a3 .given .0 .0) (c .before .before .before .before .before .before .before .a3 .given .0 .1 .0) (c .before .before .before .before .before .before .before .a3 .given .0 .1 .1 .0)) (sym (c .before .before .before .before .before .before .before .before .before .shape-at .ensures) ∙ c .before .before .before .before .before .before .before .a3 .given .1) in let f : ExpNeeds (c .before .before .before .before .before .before .before .before .before .before .before .before .before .args .t .now) (c .before .before .before .before .before .before .before .before .before .before .before .before .before .args .widths .now) (c .before .before .before .before .before .before .before .before .before .before .before .before .before .args .r) (If (c .before .before .before .before .before .before .before .a3 .given .0 .0) (c .before .before .before .before .before .before .before .a3 .given .0 .1 .0) (c .before .before .before .before .before .before .before .a3 .given .0 .1 .1 .0)) = exp-needs (c .before .before .before .before .before .before .before .before .before .before .before .before .before .args .t .now) (c .before .before .before .before .before .before .before .before .before .before .before .before .before .args .widths .now) (c .before .before .before .before .before .before .before .before .before .before .before .before .before .args .r) (c .before .before .before .before .before .before .before .before .before .before .before .before .before .pre .1 .0) (If (c .before .before .before .before .before .before .before .a3 .given .0 .0) (c .before .before .before .before .before .before .before .a3 .given .0 .1 .0) (c .before .before .before .before .before .before .before .a3 .given .0 .1 .1 .0)) (sym (c .before .before .before .before .before .before .before .before .before .shape-at .ensures) ∙ c .before .before .before .before .before .before .before .a3 .given .1) in (omega (arith, k .1 .1), (k .1 .0, c .before .before .before .before .before .before .before .before .before .before .before .before .before .pre .1 .1, omega (arith, f .1, c .before .before .before .before .before .before .before .before .before .before .before .before .before .pre .1 .2)))
-
--- src/cycle.rt:122:28  Choice::First(l) => expr(t, widths, b, env, out, at, l), ⏎ Choice::Second(l) => expr(t, widths, c, env, out, at, l),
-by-kind-enum-known-l-4 : (t : ℕ) → by-kind-lts.Need-enum-known-l-4 (
-  shape-at-reads.Asked,
-  shape-at-reads.Learnt,
-  expr-below t,
-  expr.Post,
-  width-at-reads.Asked,
-  width-at-reads.Learnt,
-  copied-reads.Asked,
-  copied-reads.Learnt,
-  wide-reads.Asked,
-  wide-reads.Learnt,
-  single-below t,
-  single.Post,
-  chosen-reads.Asked,
-  chosen-reads.Learnt,
-  put-errs-reads.Asked,
-  put-errs-reads.Learnt,
-  rounds-below t,
-  rounds.Post,
-) (by-kind-at t) by-kind.Post
-by-kind-enum-known-l-4 t c = search needs
-
--- src/cycle.rt:122:34  Choice::First(l) => expr(t, widths, b, env, out, at, l), ⏎ Choice::Second(l) => expr(t, widths, c, env, out, at, l),
-by-kind-expr-requires-6 : (t : ℕ) → by-kind-lts.Need-expr-requires-6 (
-  shape-at-reads.Asked,
-  shape-at-reads.Learnt,
-  expr-below t,
-  expr.Post,
-  width-at-reads.Asked,
-  width-at-reads.Learnt,
-  copied-reads.Asked,
-  copied-reads.Learnt,
-  wide-reads.Asked,
-  wide-reads.Learnt,
-  single-below t,
-  single.Post,
-  chosen-reads.Asked,
-  chosen-reads.Learnt,
-  put-errs-reads.Asked,
-  put-errs-reads.Learnt,
-  rounds-below t,
-  rounds.Post,
-) (by-kind-at t) by-kind.Post
-by-kind-expr-requires-6 t c κs = let k : ExpChildren (c .before .before .before .before .before .before .before .before .before .before .before .before .before .args .t .now) (c .before .before .before .before .before .before .before .before .before .before .before .before .before .args .widths .now) (c .before .before .before .before .before .before .before .before .before .before .before .before .before .args .r) (If (c .before .before .before .before .before .before .before .a3 .given .0 .0) (c .before .before .before .before .before .before .before .a3 .given .0 .1 .0) (c .before .before .before .before .before .before .before .a3 .given .0 .1 .1 .0)) = exp-children (c .before .before .before .before .before .before .before .before .before .before .before .before .before .args .t .now) (c .before .before .before .before .before .before .before .before .before .before .before .before .before .args .widths .now) (c .before .before .before .before .before .before .before .before .before .before .before .before .before .args .r) (c .before .before .before .before .before .before .before .before .before .before .before .before .before .pre .1 .0) (If (c .before .before .before .before .before .before .before .a3 .given .0 .0) (c .before .before .before .before .before .before .before .a3 .given .0 .1 .0) (c .before .before .before .before .before .before .before .a3 .given .0 .1 .1 .0)) (sym (c .before .before .before .before .before .before .before .before .before .shape-at .ensures) ∙ c .before .before .before .before .before .before .before .a3 .given .1) in let f : ExpNeeds (c .before .before .before .before .before .before .before .before .before .before .before .before .before .args .t .now) (c .before .before .before .before .before .before .before .before .before .before .before .before .before .args .widths .now) (c .before .before .before .before .before .before .before .before .before .before .before .before .before .args .r) (If (c .before .before .before .before .before .before .before .a3 .given .0 .0) (c .before .before .before .before .before .before .before .a3 .given .0 .1 .0) (c .before .before .before .before .before .before .before .a3 .given .0 .1 .1 .0)) = exp-needs (c .before .before .before .before .before .before .before .before .before .before .before .before .before .args .t .now) (c .before .before .before .before .before .before .before .before .before .before .before .before .before .args .widths .now) (c .before .before .before .before .before .before .before .before .before .before .before .before .before .args .r) (c .before .before .before .before .before .before .before .before .before .before .before .before .before .pre .1 .0) (If (c .before .before .before .before .before .before .before .a3 .given .0 .0) (c .before .before .before .before .before .before .before .a3 .given .0 .1 .0) (c .before .before .before .before .before .before .before .a3 .given .0 .1 .1 .0)) (sym (c .before .before .before .before .before .before .before .before .before .shape-at .ensures) ∙ c .before .before .before .before .before .before .before .a3 .given .1) in (omega (arith, k .2 .1), (k .2 .0, c .before .before .before .before .before .before .before .before .before .before .before .before .before .pre .1 .1, omega (arith, f .2, c .before .before .before .before .before .before .before .before .before .before .before .before .before .pre .1 .2)))
-
--- src/cycle.rt:123:29  Choice::Second(l) => expr(t, widths, c, env, out, at, l), ⏎ Choice::Neither(l) => {
-by-kind-enum-known-l-5 : (t : ℕ) → by-kind-lts.Need-enum-known-l-5 (
-  shape-at-reads.Asked,
-  shape-at-reads.Learnt,
-  expr-below t,
-  expr.Post,
-  width-at-reads.Asked,
-  width-at-reads.Learnt,
-  copied-reads.Asked,
-  copied-reads.Learnt,
-  wide-reads.Asked,
-  wide-reads.Learnt,
-  single-below t,
-  single.Post,
-  chosen-reads.Asked,
-  chosen-reads.Learnt,
-  put-errs-reads.Asked,
-  put-errs-reads.Learnt,
-  rounds-below t,
-  rounds.Post,
-) (by-kind-at t) by-kind.Post
-by-kind-enum-known-l-5 t c = search needs
-
--- src/cycle.rt:124:35  Choice::Neither(l) => { ⏎ put_errs(out, at, width_at(widths, b));
-by-kind-width-at-requires-2 : (t : ℕ) → by-kind-lts.Need-width-at-requires-2 (
-  shape-at-reads.Asked,
-  shape-at-reads.Learnt,
-  expr-below t,
-  expr.Post,
-  width-at-reads.Asked,
-  width-at-reads.Learnt,
-  copied-reads.Asked,
-  copied-reads.Learnt,
-  wide-reads.Asked,
-  wide-reads.Learnt,
-  single-below t,
-  single.Post,
-  chosen-reads.Asked,
-  chosen-reads.Learnt,
-  put-errs-reads.Asked,
-  put-errs-reads.Learnt,
-  rounds-below t,
-  rounds.Post,
-) (by-kind-at t) by-kind.Post
-by-kind-width-at-requires-2 t c κs = let k : ExpChildren (c .before .before .before .before .before .before .before .before .before .before .before .before .before .args .t .now) (c .before .before .before .before .before .before .before .before .before .before .before .before .before .args .widths .now) (c .before .before .before .before .before .before .before .before .before .before .before .before .before .args .r) (If (c .before .before .before .before .before .before .before .a3 .given .0 .0) (c .before .before .before .before .before .before .before .a3 .given .0 .1 .0) (c .before .before .before .before .before .before .before .a3 .given .0 .1 .1 .0)) = exp-children (c .before .before .before .before .before .before .before .before .before .before .before .before .before .args .t .now) (c .before .before .before .before .before .before .before .before .before .before .before .before .before .args .widths .now) (c .before .before .before .before .before .before .before .before .before .before .before .before .before .args .r) (c .before .before .before .before .before .before .before .before .before .before .before .before .before .pre .1 .0) (If (c .before .before .before .before .before .before .before .a3 .given .0 .0) (c .before .before .before .before .before .before .before .a3 .given .0 .1 .0) (c .before .before .before .before .before .before .before .a3 .given .0 .1 .1 .0)) (sym (c .before .before .before .before .before .before .before .before .before .shape-at .ensures) ∙ c .before .before .before .before .before .before .before .a3 .given .1) in (k .1 .0 .low, omega (arith, k .1 .0 .high, k .1 .0 .accepted .table))
-
--- src/cycle.rt:124:17  Choice::Neither(l) => { ⏎ put_errs(out, at, width_at(widths, b));
-by-kind-put-errs-requires : (t : ℕ) → by-kind-lts.Need-put-errs-requires (
-  shape-at-reads.Asked,
-  shape-at-reads.Learnt,
-  expr-below t,
-  expr.Post,
-  width-at-reads.Asked,
-  width-at-reads.Learnt,
-  copied-reads.Asked,
-  copied-reads.Learnt,
-  wide-reads.Asked,
-  wide-reads.Learnt,
-  single-below t,
-  single.Post,
-  chosen-reads.Asked,
-  chosen-reads.Learnt,
-  put-errs-reads.Asked,
-  put-errs-reads.Learnt,
-  rounds-below t,
-  rounds.Post,
-) (by-kind-at t) by-kind.Post
-by-kind-put-errs-requires t c κs = let k : ExpChildren (c .before .before .before .before .before .before .before .before .before .before .before .before .before .before .args .t .now) (c .before .before .before .before .before .before .before .before .before .before .before .before .before .before .args .widths .now) (c .before .before .before .before .before .before .before .before .before .before .before .before .before .before .args .r) (If (c .before .before .before .before .before .before .before .before .a3 .given .0 .0) (c .before .before .before .before .before .before .before .before .a3 .given .0 .1 .0) (c .before .before .before .before .before .before .before .before .a3 .given .0 .1 .1 .0)) = exp-children (c .before .before .before .before .before .before .before .before .before .before .before .before .before .before .args .t .now) (c .before .before .before .before .before .before .before .before .before .before .before .before .before .before .args .widths .now) (c .before .before .before .before .before .before .before .before .before .before .before .before .before .before .args .r) (c .before .before .before .before .before .before .before .before .before .before .before .before .before .before .pre .1 .0) (If (c .before .before .before .before .before .before .before .before .a3 .given .0 .0) (c .before .before .before .before .before .before .before .before .a3 .given .0 .1 .0) (c .before .before .before .before .before .before .before .before .a3 .given .0 .1 .1 .0)) (sym (c .before .before .before .before .before .before .before .before .before .before .shape-at .ensures) ∙ c .before .before .before .before .before .before .before .before .a3 .given .1) in let f : ExpNeeds (c .before .before .before .before .before .before .before .before .before .before .before .before .before .before .args .t .now) (c .before .before .before .before .before .before .before .before .before .before .before .before .before .before .args .widths .now) (c .before .before .before .before .before .before .before .before .before .before .before .before .before .before .args .r) (If (c .before .before .before .before .before .before .before .before .a3 .given .0 .0) (c .before .before .before .before .before .before .before .before .a3 .given .0 .1 .0) (c .before .before .before .before .before .before .before .before .a3 .given .0 .1 .1 .0)) = exp-needs (c .before .before .before .before .before .before .before .before .before .before .before .before .before .before .args .t .now) (c .before .before .before .before .before .before .before .before .before .before .before .before .before .before .args .widths .now) (c .before .before .before .before .before .before .before .before .before .before .before .before .before .before .args .r) (c .before .before .before .before .before .before .before .before .before .before .before .before .before .before .pre .1 .0) (If (c .before .before .before .before .before .before .before .before .a3 .given .0 .0) (c .before .before .before .before .before .before .before .before .a3 .given .0 .1 .0) (c .before .before .before .before .before .before .before .before .a3 .given .0 .1 .1 .0)) (sym (c .before .before .before .before .before .before .before .before .before .before .shape-at .ensures) ∙ c .before .before .before .before .before .before .before .before .a3 .given .1) in (omega (arith, f .1, c .before .before .before .before .before .before .before .before .before .before .before .before .before .before .pre .1 .2, c .width-at2 .ensures .0), omega (arith, narrow (c .before .before .before .before .before .before .before .before .before .before .before .before .before .before .args .t .now) (c .before .before .before .before .before .before .before .before .before .before .before .before .before .before .args .widths .now) (c .before .before .before .before .before .before .before .before .a3 .given .0 .1 .0) (k .1 .0), c .width-at2 .ensures .0))
-
--- src/cycle.rt:127:30  } ⏎ Choice::Short => Rest::Short,
+-- src/cycle.rt:122:56  Single::Word(w, l) => match chosen(w) { ⏎ Sense::True => expr(t, widths, b, env, out, at, l),
 by-kind-enum-told-3 : (t : ℕ) → by-kind-lts.Need-enum-told-3 (
   shape-at-reads.Asked,
   shape-at-reads.Learnt,
@@ -1698,8 +1585,8 @@ by-kind-enum-told-3 : (t : ℕ) → by-kind-lts.Need-enum-told-3 (
 ) (by-kind-at t) by-kind.Post
 by-kind-enum-told-3 t c = search needs
 
--- src/cycle.rt:129:20  }, ⏎ Shape::For(a, b, c, d) => {
-by-kind-enum-known-a-4 : (t : ℕ) → by-kind-lts.Need-enum-known-a-4 (
+-- src/cycle.rt:122:32  Single::Word(w, l) => match chosen(w) { ⏎ Sense::True => expr(t, widths, b, env, out, at, l),
+by-kind-expr-requires-5 : (t : ℕ) → by-kind-lts.Need-expr-requires-5 (
   shape-at-reads.Asked,
   shape-at-reads.Learnt,
   expr-below t,
@@ -1719,216 +1606,9 @@ by-kind-enum-known-a-4 : (t : ℕ) → by-kind-lts.Need-enum-known-a-4 (
   rounds-below t,
   rounds.Post,
 ) (by-kind-at t) by-kind.Post
-by-kind-enum-known-a-4 t c = search needs
+by-kind-expr-requires-5 t c κs = let k : ExpChildren (c .before .before .before .before .before .before .before .before .before .before .before .before .before .before .before .args .t .now) (c .before .before .before .before .before .before .before .before .before .before .before .before .before .before .before .args .widths .now) (c .before .before .before .before .before .before .before .before .before .before .before .before .before .before .before .args .r) (If (c .before .before .before .before .before .before .before .before .before .a3 .given .0 .0) (c .before .before .before .before .before .before .before .before .before .a3 .given .0 .1 .0) (c .before .before .before .before .before .before .before .before .before .a3 .given .0 .1 .1 .0)) = exp-children (c .before .before .before .before .before .before .before .before .before .before .before .before .before .before .before .args .t .now) (c .before .before .before .before .before .before .before .before .before .before .before .before .before .before .before .args .widths .now) (c .before .before .before .before .before .before .before .before .before .before .before .before .before .before .before .args .r) (c .before .before .before .before .before .before .before .before .before .before .before .before .before .before .before .pre .1 .0) (If (c .before .before .before .before .before .before .before .before .before .a3 .given .0 .0) (c .before .before .before .before .before .before .before .before .before .a3 .given .0 .1 .0) (c .before .before .before .before .before .before .before .before .before .a3 .given .0 .1 .1 .0)) (sym (c .before .before .before .before .before .before .before .before .before .before .before .shape-at .ensures) ∙ c .before .before .before .before .before .before .before .before .before .a3 .given .1) in let f : ExpNeeds (c .before .before .before .before .before .before .before .before .before .before .before .before .before .before .before .args .t .now) (c .before .before .before .before .before .before .before .before .before .before .before .before .before .before .before .args .widths .now) (c .before .before .before .before .before .before .before .before .before .before .before .before .before .before .before .args .r) (If (c .before .before .before .before .before .before .before .before .before .a3 .given .0 .0) (c .before .before .before .before .before .before .before .before .before .a3 .given .0 .1 .0) (c .before .before .before .before .before .before .before .before .before .a3 .given .0 .1 .1 .0)) = exp-needs (c .before .before .before .before .before .before .before .before .before .before .before .before .before .before .before .args .t .now) (c .before .before .before .before .before .before .before .before .before .before .before .before .before .before .before .args .widths .now) (c .before .before .before .before .before .before .before .before .before .before .before .before .before .before .before .args .r) (c .before .before .before .before .before .before .before .before .before .before .before .before .before .before .before .pre .1 .0) (If (c .before .before .before .before .before .before .before .before .before .a3 .given .0 .0) (c .before .before .before .before .before .before .before .before .before .a3 .given .0 .1 .0) (c .before .before .before .before .before .before .before .before .before .a3 .given .0 .1 .1 .0)) (sym (c .before .before .before .before .before .before .before .before .before .before .before .shape-at .ensures) ∙ c .before .before .before .before .before .before .before .before .before .a3 .given .1) in (omega (arith, k .1 .1), (k .1 .0, c .before .before .before .before .before .before .before .before .before .before .before .before .before .before .before .pre .1 .1, omega (arith, f .1, c .before .before .before .before .before .before .before .before .before .before .before .before .before .before .before .pre .1 .2)))
 
--- src/cycle.rt:130:17  Shape::For(a, b, c, d) => { ⏎ let w = width_at(widths, r);
-by-kind-width-at-requires-3 : (t : ℕ) → by-kind-lts.Need-width-at-requires-3 (
-  shape-at-reads.Asked,
-  shape-at-reads.Learnt,
-  expr-below t,
-  expr.Post,
-  width-at-reads.Asked,
-  width-at-reads.Learnt,
-  copied-reads.Asked,
-  copied-reads.Learnt,
-  wide-reads.Asked,
-  wide-reads.Learnt,
-  single-below t,
-  single.Post,
-  chosen-reads.Asked,
-  chosen-reads.Learnt,
-  put-errs-reads.Asked,
-  put-errs-reads.Learnt,
-  rounds-below t,
-  rounds.Post,
-) (by-kind-at t) by-kind.Post
-by-kind-width-at-requires-3 t c κs = search needs
-
--- src/cycle.rt:131:29  let w = width_at(widths, r); ⏎ let mut inner = copied(env);
-by-kind-copied-requires-2 : (t : ℕ) → by-kind-lts.Need-copied-requires-2 (
-  shape-at-reads.Asked,
-  shape-at-reads.Learnt,
-  expr-below t,
-  expr.Post,
-  width-at-reads.Asked,
-  width-at-reads.Learnt,
-  copied-reads.Asked,
-  copied-reads.Learnt,
-  wide-reads.Asked,
-  wide-reads.Learnt,
-  single-below t,
-  single.Post,
-  chosen-reads.Asked,
-  chosen-reads.Learnt,
-  put-errs-reads.Asked,
-  put-errs-reads.Learnt,
-  rounds-below t,
-  rounds.Post,
-) (by-kind-at t) by-kind.Post
-by-kind-copied-requires-2 t c κs = search needs
-
--- src/cycle.rt:132:43  let mut inner = copied(env); ⏎ match expr(t, widths, c, env, &mut inner, wide(a), left) {
-by-kind-slice-aggregate-expr-2 : (t : ℕ) → by-kind-lts.Need-slice-aggregate-expr-2 (
-  shape-at-reads.Asked,
-  shape-at-reads.Learnt,
-  expr-below t,
-  expr.Post,
-  width-at-reads.Asked,
-  width-at-reads.Learnt,
-  copied-reads.Asked,
-  copied-reads.Learnt,
-  wide-reads.Asked,
-  wide-reads.Learnt,
-  single-below t,
-  single.Post,
-  chosen-reads.Asked,
-  chosen-reads.Learnt,
-  put-errs-reads.Asked,
-  put-errs-reads.Learnt,
-  rounds-below t,
-  rounds.Post,
-) (by-kind-at t) by-kind.Post
-by-kind-slice-aggregate-expr-2 t c = search needs
-
--- src/cycle.rt:132:55  let mut inner = copied(env); ⏎ match expr(t, widths, c, env, &mut inner, wide(a), left) {
-by-kind-wide-requires-2 : (t : ℕ) → by-kind-lts.Need-wide-requires-2 (
-  shape-at-reads.Asked,
-  shape-at-reads.Learnt,
-  expr-below t,
-  expr.Post,
-  width-at-reads.Asked,
-  width-at-reads.Learnt,
-  copied-reads.Asked,
-  copied-reads.Learnt,
-  wide-reads.Asked,
-  wide-reads.Learnt,
-  single-below t,
-  single.Post,
-  chosen-reads.Asked,
-  chosen-reads.Learnt,
-  put-errs-reads.Asked,
-  put-errs-reads.Learnt,
-  rounds-below t,
-  rounds.Post,
-) (by-kind-at t) by-kind.Post
-by-kind-wide-requires-2 t c κs = search needs
-
--- src/cycle.rt:132:19  let mut inner = copied(env); ⏎ match expr(t, widths, c, env, &mut inner, wide(a), left) {
-by-kind-expr-requires-7 : (t : ℕ) → by-kind-lts.Need-expr-requires-7 (
-  shape-at-reads.Asked,
-  shape-at-reads.Learnt,
-  expr-below t,
-  expr.Post,
-  width-at-reads.Asked,
-  width-at-reads.Learnt,
-  copied-reads.Asked,
-  copied-reads.Learnt,
-  wide-reads.Asked,
-  wide-reads.Learnt,
-  single-below t,
-  single.Post,
-  chosen-reads.Asked,
-  chosen-reads.Learnt,
-  put-errs-reads.Asked,
-  put-errs-reads.Learnt,
-  rounds-below t,
-  rounds.Post,
-) (by-kind-at t) by-kind.Post
-by-kind-expr-requires-7 t c κs = let k : ExpChildren (c .before .before .before .before .before .before .before .before .before .before .before .args .t .now) (c .before .before .before .before .before .before .before .before .before .before .before .args .widths .now) (c .before .before .before .before .before .before .before .before .before .before .before .args .r) (For (c .before .before .before .before .before .a4 .given .0 .0) (c .before .before .before .before .before .a4 .given .0 .1 .0) (c .before .before .before .before .before .a4 .given .0 .1 .1 .0) (c .before .before .before .before .before .a4 .given .0 .1 .1 .1 .0)) = exp-children (c .before .before .before .before .before .before .before .before .before .before .before .args .t .now) (c .before .before .before .before .before .before .before .before .before .before .before .args .widths .now) (c .before .before .before .before .before .before .before .before .before .before .before .args .r) (c .before .before .before .before .before .before .before .before .before .before .before .pre .1 .0) (For (c .before .before .before .before .before .a4 .given .0 .0) (c .before .before .before .before .before .a4 .given .0 .1 .0) (c .before .before .before .before .before .a4 .given .0 .1 .1 .0) (c .before .before .before .before .before .a4 .given .0 .1 .1 .1 .0)) (sym (c .before .before .before .before .before .before .before .shape-at .ensures) ∙ c .before .before .before .before .before .a4 .given .1) in let f : ExpNeeds (c .before .before .before .before .before .before .before .before .before .before .before .args .t .now) (c .before .before .before .before .before .before .before .before .before .before .before .args .widths .now) (c .before .before .before .before .before .before .before .before .before .before .before .args .r) (For (c .before .before .before .before .before .a4 .given .0 .0) (c .before .before .before .before .before .a4 .given .0 .1 .0) (c .before .before .before .before .before .a4 .given .0 .1 .1 .0) (c .before .before .before .before .before .a4 .given .0 .1 .1 .1 .0)) = exp-needs (c .before .before .before .before .before .before .before .before .before .before .before .args .t .now) (c .before .before .before .before .before .before .before .before .before .before .before .args .widths .now) (c .before .before .before .before .before .before .before .before .before .before .before .args .r) (c .before .before .before .before .before .before .before .before .before .before .before .pre .1 .0) (For (c .before .before .before .before .before .a4 .given .0 .0) (c .before .before .before .before .before .a4 .given .0 .1 .0) (c .before .before .before .before .before .a4 .given .0 .1 .1 .0) (c .before .before .before .before .before .a4 .given .0 .1 .1 .1 .0)) (sym (c .before .before .before .before .before .before .before .shape-at .ensures) ∙ c .before .before .before .before .before .a4 .given .1) in (omega (arith, k .0 .1), (k .0 .0, c .before .before .before .before .before .before .before .before .before .before .before .pre .1 .1, omega (arith, f .0, f .1, c .wide2 .ensures, ap length (c .before .before .copied2 .ensures), c .before .before .before .before .before .before .before .before .before .before .before .pre .1 .1)))
-
--- src/cycle.rt:133:28  match expr(t, widths, c, env, &mut inner, wide(a), left) { ⏎ Rest::Left(l) => rounds(t, widths, d, w, wide(a), wide(b), &mut inner, out, at, l),
-by-kind-enum-known-l-6 : (t : ℕ) → by-kind-lts.Need-enum-known-l-6 (
-  shape-at-reads.Asked,
-  shape-at-reads.Learnt,
-  expr-below t,
-  expr.Post,
-  width-at-reads.Asked,
-  width-at-reads.Learnt,
-  copied-reads.Asked,
-  copied-reads.Learnt,
-  wide-reads.Asked,
-  wide-reads.Learnt,
-  single-below t,
-  single.Post,
-  chosen-reads.Asked,
-  chosen-reads.Learnt,
-  put-errs-reads.Asked,
-  put-errs-reads.Learnt,
-  rounds-below t,
-  rounds.Post,
-) (by-kind-at t) by-kind.Post
-by-kind-enum-known-l-6 t c = search needs
-
--- src/cycle.rt:133:58  match expr(t, widths, c, env, &mut inner, wide(a), left) { ⏎ Rest::Left(l) => rounds(t, widths, d, w, wide(a), wide(b), &mut inner, out, at, l),
-by-kind-wide-requires-3 : (t : ℕ) → by-kind-lts.Need-wide-requires-3 (
-  shape-at-reads.Asked,
-  shape-at-reads.Learnt,
-  expr-below t,
-  expr.Post,
-  width-at-reads.Asked,
-  width-at-reads.Learnt,
-  copied-reads.Asked,
-  copied-reads.Learnt,
-  wide-reads.Asked,
-  wide-reads.Learnt,
-  single-below t,
-  single.Post,
-  chosen-reads.Asked,
-  chosen-reads.Learnt,
-  put-errs-reads.Asked,
-  put-errs-reads.Learnt,
-  rounds-below t,
-  rounds.Post,
-) (by-kind-at t) by-kind.Post
-by-kind-wide-requires-3 t c κs = search needs
-
--- src/cycle.rt:133:67  match expr(t, widths, c, env, &mut inner, wide(a), left) { ⏎ Rest::Left(l) => rounds(t, widths, d, w, wide(a), wide(b), &mut inner, out, at, l),
-by-kind-wide-requires-4 : (t : ℕ) → by-kind-lts.Need-wide-requires-4 (
-  shape-at-reads.Asked,
-  shape-at-reads.Learnt,
-  expr-below t,
-  expr.Post,
-  width-at-reads.Asked,
-  width-at-reads.Learnt,
-  copied-reads.Asked,
-  copied-reads.Learnt,
-  wide-reads.Asked,
-  wide-reads.Learnt,
-  single-below t,
-  single.Post,
-  chosen-reads.Asked,
-  chosen-reads.Learnt,
-  put-errs-reads.Asked,
-  put-errs-reads.Learnt,
-  rounds-below t,
-  rounds.Post,
-) (by-kind-at t) by-kind.Post
-by-kind-wide-requires-4 t c κs = search needs
-
--- src/cycle.rt:133:34  match expr(t, widths, c, env, &mut inner, wide(a), left) { ⏎ Rest::Left(l) => rounds(t, widths, d, w, wide(a), wide(b), &mut inner, out, at, l),
-by-kind-rounds-requires : (t : ℕ) → by-kind-lts.Need-rounds-requires (
-  shape-at-reads.Asked,
-  shape-at-reads.Learnt,
-  expr-below t,
-  expr.Post,
-  width-at-reads.Asked,
-  width-at-reads.Learnt,
-  copied-reads.Asked,
-  copied-reads.Learnt,
-  wide-reads.Asked,
-  wide-reads.Learnt,
-  single-below t,
-  single.Post,
-  chosen-reads.Asked,
-  chosen-reads.Learnt,
-  put-errs-reads.Asked,
-  put-errs-reads.Learnt,
-  rounds-below t,
-  rounds.Post,
-) (by-kind-at t) by-kind.Post
-by-kind-rounds-requires t c κs = let k : ExpChildren (c .before .before .before .before .before .before .before .before .before .before .before .before .before .before .before .before .before .before .before .before .args .t .now) (c .before .before .before .before .before .before .before .before .before .before .before .before .before .before .before .before .before .before .before .before .args .widths .now) (c .before .before .before .before .before .before .before .before .before .before .before .before .before .before .before .before .before .before .before .before .args .r) (For (c .before .before .before .before .before .before .before .before .before .before .before .before .before .before .a4 .given .0 .0) (c .before .before .before .before .before .before .before .before .before .before .before .before .before .before .a4 .given .0 .1 .0) (c .before .before .before .before .before .before .before .before .before .before .before .before .before .before .a4 .given .0 .1 .1 .0) (c .before .before .before .before .before .before .before .before .before .before .before .before .before .before .a4 .given .0 .1 .1 .1 .0)) = exp-children (c .before .before .before .before .before .before .before .before .before .before .before .before .before .before .before .before .before .before .before .before .args .t .now) (c .before .before .before .before .before .before .before .before .before .before .before .before .before .before .before .before .before .before .before .before .args .widths .now) (c .before .before .before .before .before .before .before .before .before .before .before .before .before .before .before .before .before .before .before .before .args .r) (c .before .before .before .before .before .before .before .before .before .before .before .before .before .before .before .before .before .before .before .before .pre .1 .0) (For (c .before .before .before .before .before .before .before .before .before .before .before .before .before .before .a4 .given .0 .0) (c .before .before .before .before .before .before .before .before .before .before .before .before .before .before .a4 .given .0 .1 .0) (c .before .before .before .before .before .before .before .before .before .before .before .before .before .before .a4 .given .0 .1 .1 .0) (c .before .before .before .before .before .before .before .before .before .before .before .before .before .before .a4 .given .0 .1 .1 .1 .0)) (sym (c .before .before .before .before .before .before .before .before .before .before .before .before .before .before .before .before .shape-at .ensures) ∙ c .before .before .before .before .before .before .before .before .before .before .before .before .before .before .a4 .given .1) in let f : ExpNeeds (c .before .before .before .before .before .before .before .before .before .before .before .before .before .before .before .before .before .before .before .before .args .t .now) (c .before .before .before .before .before .before .before .before .before .before .before .before .before .before .before .before .before .before .before .before .args .widths .now) (c .before .before .before .before .before .before .before .before .before .before .before .before .before .before .before .before .before .before .before .before .args .r) (For (c .before .before .before .before .before .before .before .before .before .before .before .before .before .before .a4 .given .0 .0) (c .before .before .before .before .before .before .before .before .before .before .before .before .before .before .a4 .given .0 .1 .0) (c .before .before .before .before .before .before .before .before .before .before .before .before .before .before .a4 .given .0 .1 .1 .0) (c .before .before .before .before .before .before .before .before .before .before .before .before .before .before .a4 .given .0 .1 .1 .1 .0)) = exp-needs (c .before .before .before .before .before .before .before .before .before .before .before .before .before .before .before .before .before .before .before .before .args .t .now) (c .before .before .before .before .before .before .before .before .before .before .before .before .before .before .before .before .before .before .before .before .args .widths .now) (c .before .before .before .before .before .before .before .before .before .before .before .before .before .before .before .before .before .before .before .before .args .r) (c .before .before .before .before .before .before .before .before .before .before .before .before .before .before .before .before .before .before .before .before .pre .1 .0) (For (c .before .before .before .before .before .before .before .before .before .before .before .before .before .before .a4 .given .0 .0) (c .before .before .before .before .before .before .before .before .before .before .before .before .before .before .a4 .given .0 .1 .0) (c .before .before .before .before .before .before .before .before .before .before .before .before .before .before .a4 .given .0 .1 .1 .0) (c .before .before .before .before .before .before .before .before .before .before .before .before .before .before .a4 .given .0 .1 .1 .1 .0)) (sym (c .before .before .before .before .before .before .before .before .before .before .before .before .before .before .before .before .shape-at .ensures) ∙ c .before .before .before .before .before .before .before .before .before .before .before .before .before .before .a4 .given .1) in (omega (arith, k .1 .1), (k .1 .0, f .3 ∙ sym (c .before .before .before .before .before .before .before .before .before .before .before .before .width-at3 .ensures .0), f .4 ∙ sym (c .before .before .wide4 .ensures), omega (arith, narrow (c .before .before .before .before .before .before .before .before .before .before .before .before .before .before .before .before .before .before .before .before .args .t .now) (c .before .before .before .before .before .before .before .before .before .before .before .before .before .before .before .before .before .before .before .before .args .widths .now) (c .before .before .before .before .before .before .before .before .before .before .before .before .before .before .before .before .before .before .before .before .args .r) (c .before .before .before .before .before .before .before .before .before .before .before .before .before .before .before .before .before .before .before .before .pre .1 .0), c .before .before .before .before .before .before .before .before .before .before .before .before .width-at3 .ensures .0), omega (arith, f .2, c .before .before .wide4 .ensures), omega (arith, f .1, c .before .before .before .wide3 .ensures, c .before .before .wide4 .ensures), c .before .before .before .before .before .before .before .before .expr7 .ensures .1 ∙ ap length (c .before .before .before .before .before .before .before .before .before .before .before .copied2 .ensures) ∙ c .before .before .before .before .before .before .before .before .before .before .before .before .before .before .before .before .before .before .before .before .pre .1 .1, omega (arith, c .before .before .before .before .before .before .before .before .before .before .before .before .before .before .before .before .before .before .before .before .pre .1 .2, c .before .before .before .before .before .before .before .before .before .before .before .before .width-at3 .ensures .0)))
-
--- src/cycle.rt:134:32  Rest::Left(l) => rounds(t, widths, d, w, wide(a), wide(b), &mut inner, out, at, l), ⏎ Rest::Short => Rest::Short,
+-- src/cycle.rt:123:57  Sense::True => expr(t, widths, b, env, out, at, l), ⏎ Sense::False => expr(t, widths, c, env, out, at, l),
 by-kind-enum-told-4 : (t : ℕ) → by-kind-lts.Need-enum-told-4 (
   shape-at-reads.Asked,
   shape-at-reads.Learnt,
@@ -1951,7 +1631,30 @@ by-kind-enum-told-4 : (t : ℕ) → by-kind-lts.Need-enum-told-4 (
 ) (by-kind-at t) by-kind.Post
 by-kind-enum-told-4 t c = search needs
 
--- src/cycle.rt:138:33  // no such row is handed in ⏎ Shape::Identifier(_) => Rest::Short,
+-- src/cycle.rt:123:33  Sense::True => expr(t, widths, b, env, out, at, l), ⏎ Sense::False => expr(t, widths, c, env, out, at, l),
+by-kind-expr-requires-6 : (t : ℕ) → by-kind-lts.Need-expr-requires-6 (
+  shape-at-reads.Asked,
+  shape-at-reads.Learnt,
+  expr-below t,
+  expr.Post,
+  width-at-reads.Asked,
+  width-at-reads.Learnt,
+  copied-reads.Asked,
+  copied-reads.Learnt,
+  wide-reads.Asked,
+  wide-reads.Learnt,
+  single-below t,
+  single.Post,
+  chosen-reads.Asked,
+  chosen-reads.Learnt,
+  put-errs-reads.Asked,
+  put-errs-reads.Learnt,
+  rounds-below t,
+  rounds.Post,
+) (by-kind-at t) by-kind.Post
+by-kind-expr-requires-6 t c κs = let k : ExpChildren (c .before .before .before .before .before .before .before .before .before .before .before .before .before .before .before .args .t .now) (c .before .before .before .before .before .before .before .before .before .before .before .before .before .before .before .args .widths .now) (c .before .before .before .before .before .before .before .before .before .before .before .before .before .before .before .args .r) (If (c .before .before .before .before .before .before .before .before .before .a3 .given .0 .0) (c .before .before .before .before .before .before .before .before .before .a3 .given .0 .1 .0) (c .before .before .before .before .before .before .before .before .before .a3 .given .0 .1 .1 .0)) = exp-children (c .before .before .before .before .before .before .before .before .before .before .before .before .before .before .before .args .t .now) (c .before .before .before .before .before .before .before .before .before .before .before .before .before .before .before .args .widths .now) (c .before .before .before .before .before .before .before .before .before .before .before .before .before .before .before .args .r) (c .before .before .before .before .before .before .before .before .before .before .before .before .before .before .before .pre .1 .0) (If (c .before .before .before .before .before .before .before .before .before .a3 .given .0 .0) (c .before .before .before .before .before .before .before .before .before .a3 .given .0 .1 .0) (c .before .before .before .before .before .before .before .before .before .a3 .given .0 .1 .1 .0)) (sym (c .before .before .before .before .before .before .before .before .before .before .before .shape-at .ensures) ∙ c .before .before .before .before .before .before .before .before .before .a3 .given .1) in let f : ExpNeeds (c .before .before .before .before .before .before .before .before .before .before .before .before .before .before .before .args .t .now) (c .before .before .before .before .before .before .before .before .before .before .before .before .before .before .before .args .widths .now) (c .before .before .before .before .before .before .before .before .before .before .before .before .before .before .before .args .r) (If (c .before .before .before .before .before .before .before .before .before .a3 .given .0 .0) (c .before .before .before .before .before .before .before .before .before .a3 .given .0 .1 .0) (c .before .before .before .before .before .before .before .before .before .a3 .given .0 .1 .1 .0)) = exp-needs (c .before .before .before .before .before .before .before .before .before .before .before .before .before .before .before .args .t .now) (c .before .before .before .before .before .before .before .before .before .before .before .before .before .before .before .args .widths .now) (c .before .before .before .before .before .before .before .before .before .before .before .before .before .before .before .args .r) (c .before .before .before .before .before .before .before .before .before .before .before .before .before .before .before .pre .1 .0) (If (c .before .before .before .before .before .before .before .before .before .a3 .given .0 .0) (c .before .before .before .before .before .before .before .before .before .a3 .given .0 .1 .0) (c .before .before .before .before .before .before .before .before .before .a3 .given .0 .1 .1 .0)) (sym (c .before .before .before .before .before .before .before .before .before .before .before .shape-at .ensures) ∙ c .before .before .before .before .before .before .before .before .before .a3 .given .1) in (omega (arith, k .2 .1), (k .2 .0, c .before .before .before .before .before .before .before .before .before .before .before .before .before .before .before .pre .1 .1, omega (arith, f .2, c .before .before .before .before .before .before .before .before .before .before .before .before .before .before .before .pre .1 .2)))
+
+-- src/cycle.rt:125:30  Sense::Neither => { ⏎ put_errs(out, at, width_at(widths, b));
 by-kind-enum-told-5 : (t : ℕ) → by-kind-lts.Need-enum-told-5 (
   shape-at-reads.Asked,
   shape-at-reads.Learnt,
@@ -1974,7 +1677,53 @@ by-kind-enum-told-5 : (t : ℕ) → by-kind-lts.Need-enum-told-5 (
 ) (by-kind-at t) by-kind.Post
 by-kind-enum-told-5 t c = search needs
 
--- src/cycle.rt:139:28  Shape::Identifier(_) => Rest::Short, ⏎ Shape::Whole(_) => Rest::Short,
+-- src/cycle.rt:125:39  Sense::Neither => { ⏎ put_errs(out, at, width_at(widths, b));
+by-kind-width-at-requires-2 : (t : ℕ) → by-kind-lts.Need-width-at-requires-2 (
+  shape-at-reads.Asked,
+  shape-at-reads.Learnt,
+  expr-below t,
+  expr.Post,
+  width-at-reads.Asked,
+  width-at-reads.Learnt,
+  copied-reads.Asked,
+  copied-reads.Learnt,
+  wide-reads.Asked,
+  wide-reads.Learnt,
+  single-below t,
+  single.Post,
+  chosen-reads.Asked,
+  chosen-reads.Learnt,
+  put-errs-reads.Asked,
+  put-errs-reads.Learnt,
+  rounds-below t,
+  rounds.Post,
+) (by-kind-at t) by-kind.Post
+by-kind-width-at-requires-2 t c κs = let k : ExpChildren (c .before .before .before .before .before .before .before .before .before .before .before .before .before .before .before .args .t .now) (c .before .before .before .before .before .before .before .before .before .before .before .before .before .before .before .args .widths .now) (c .before .before .before .before .before .before .before .before .before .before .before .before .before .before .before .args .r) (If (c .before .before .before .before .before .before .before .before .before .a3 .given .0 .0) (c .before .before .before .before .before .before .before .before .before .a3 .given .0 .1 .0) (c .before .before .before .before .before .before .before .before .before .a3 .given .0 .1 .1 .0)) = exp-children (c .before .before .before .before .before .before .before .before .before .before .before .before .before .before .before .args .t .now) (c .before .before .before .before .before .before .before .before .before .before .before .before .before .before .before .args .widths .now) (c .before .before .before .before .before .before .before .before .before .before .before .before .before .before .before .args .r) (c .before .before .before .before .before .before .before .before .before .before .before .before .before .before .before .pre .1 .0) (If (c .before .before .before .before .before .before .before .before .before .a3 .given .0 .0) (c .before .before .before .before .before .before .before .before .before .a3 .given .0 .1 .0) (c .before .before .before .before .before .before .before .before .before .a3 .given .0 .1 .1 .0)) (sym (c .before .before .before .before .before .before .before .before .before .before .before .shape-at .ensures) ∙ c .before .before .before .before .before .before .before .before .before .a3 .given .1) in (k .1 .0 .low, omega (arith, k .1 .0 .high, k .1 .0 .accepted .table))
+
+-- src/cycle.rt:125:21  Sense::Neither => { ⏎ put_errs(out, at, width_at(widths, b));
+by-kind-put-errs-requires : (t : ℕ) → by-kind-lts.Need-put-errs-requires (
+  shape-at-reads.Asked,
+  shape-at-reads.Learnt,
+  expr-below t,
+  expr.Post,
+  width-at-reads.Asked,
+  width-at-reads.Learnt,
+  copied-reads.Asked,
+  copied-reads.Learnt,
+  wide-reads.Asked,
+  wide-reads.Learnt,
+  single-below t,
+  single.Post,
+  chosen-reads.Asked,
+  chosen-reads.Learnt,
+  put-errs-reads.Asked,
+  put-errs-reads.Learnt,
+  rounds-below t,
+  rounds.Post,
+) (by-kind-at t) by-kind.Post
+by-kind-put-errs-requires t c κs = let k : ExpChildren (c .before .before .before .before .before .before .before .before .before .before .before .before .before .before .before .before .args .t .now) (c .before .before .before .before .before .before .before .before .before .before .before .before .before .before .before .before .args .widths .now) (c .before .before .before .before .before .before .before .before .before .before .before .before .before .before .before .before .args .r) (If (c .before .before .before .before .before .before .before .before .before .before .a3 .given .0 .0) (c .before .before .before .before .before .before .before .before .before .before .a3 .given .0 .1 .0) (c .before .before .before .before .before .before .before .before .before .before .a3 .given .0 .1 .1 .0)) = exp-children (c .before .before .before .before .before .before .before .before .before .before .before .before .before .before .before .before .args .t .now) (c .before .before .before .before .before .before .before .before .before .before .before .before .before .before .before .before .args .widths .now) (c .before .before .before .before .before .before .before .before .before .before .before .before .before .before .before .before .args .r) (c .before .before .before .before .before .before .before .before .before .before .before .before .before .before .before .before .pre .1 .0) (If (c .before .before .before .before .before .before .before .before .before .before .a3 .given .0 .0) (c .before .before .before .before .before .before .before .before .before .before .a3 .given .0 .1 .0) (c .before .before .before .before .before .before .before .before .before .before .a3 .given .0 .1 .1 .0)) (sym (c .before .before .before .before .before .before .before .before .before .before .before .before .shape-at .ensures) ∙ c .before .before .before .before .before .before .before .before .before .before .a3 .given .1) in let f : ExpNeeds (c .before .before .before .before .before .before .before .before .before .before .before .before .before .before .before .before .args .t .now) (c .before .before .before .before .before .before .before .before .before .before .before .before .before .before .before .before .args .widths .now) (c .before .before .before .before .before .before .before .before .before .before .before .before .before .before .before .before .args .r) (If (c .before .before .before .before .before .before .before .before .before .before .a3 .given .0 .0) (c .before .before .before .before .before .before .before .before .before .before .a3 .given .0 .1 .0) (c .before .before .before .before .before .before .before .before .before .before .a3 .given .0 .1 .1 .0)) = exp-needs (c .before .before .before .before .before .before .before .before .before .before .before .before .before .before .before .before .args .t .now) (c .before .before .before .before .before .before .before .before .before .before .before .before .before .before .before .before .args .widths .now) (c .before .before .before .before .before .before .before .before .before .before .before .before .before .before .before .before .args .r) (c .before .before .before .before .before .before .before .before .before .before .before .before .before .before .before .before .pre .1 .0) (If (c .before .before .before .before .before .before .before .before .before .before .a3 .given .0 .0) (c .before .before .before .before .before .before .before .before .before .before .a3 .given .0 .1 .0) (c .before .before .before .before .before .before .before .before .before .before .a3 .given .0 .1 .1 .0)) (sym (c .before .before .before .before .before .before .before .before .before .before .before .before .shape-at .ensures) ∙ c .before .before .before .before .before .before .before .before .before .before .a3 .given .1) in (omega (arith, f .1, c .before .before .before .before .before .before .before .before .before .before .before .before .before .before .before .before .pre .1 .2, c .width-at2 .ensures .0), omega (arith, narrow (c .before .before .before .before .before .before .before .before .before .before .before .before .before .before .before .before .args .t .now) (c .before .before .before .before .before .before .before .before .before .before .before .before .before .before .before .before .args .widths .now) (c .before .before .before .before .before .before .before .before .before .before .a3 .given .0 .1 .0) (k .1 .0), c .width-at2 .ensures .0))
+
+-- src/cycle.rt:129:30  }, ⏎ Single::Short => Rest::Short,
 by-kind-enum-told-6 : (t : ℕ) → by-kind-lts.Need-enum-told-6 (
   shape-at-reads.Asked,
   shape-at-reads.Learnt,
@@ -1997,7 +1746,237 @@ by-kind-enum-told-6 : (t : ℕ) → by-kind-lts.Need-enum-told-6 (
 ) (by-kind-at t) by-kind.Post
 by-kind-enum-told-6 t c = search needs
 
--- src/cycle.rt:140:28  Shape::Whole(_) => Rest::Short, ⏎ Shape::Truth(_) => Rest::Short,
+-- src/cycle.rt:131:20  }, ⏎ Shape::For(a, b, c, d) => {
+by-kind-enum-known-a-4 : (t : ℕ) → by-kind-lts.Need-enum-known-a-4 (
+  shape-at-reads.Asked,
+  shape-at-reads.Learnt,
+  expr-below t,
+  expr.Post,
+  width-at-reads.Asked,
+  width-at-reads.Learnt,
+  copied-reads.Asked,
+  copied-reads.Learnt,
+  wide-reads.Asked,
+  wide-reads.Learnt,
+  single-below t,
+  single.Post,
+  chosen-reads.Asked,
+  chosen-reads.Learnt,
+  put-errs-reads.Asked,
+  put-errs-reads.Learnt,
+  rounds-below t,
+  rounds.Post,
+) (by-kind-at t) by-kind.Post
+by-kind-enum-known-a-4 t c = search needs
+
+-- src/cycle.rt:132:17  Shape::For(a, b, c, d) => { ⏎ let w = width_at(widths, r);
+by-kind-width-at-requires-3 : (t : ℕ) → by-kind-lts.Need-width-at-requires-3 (
+  shape-at-reads.Asked,
+  shape-at-reads.Learnt,
+  expr-below t,
+  expr.Post,
+  width-at-reads.Asked,
+  width-at-reads.Learnt,
+  copied-reads.Asked,
+  copied-reads.Learnt,
+  wide-reads.Asked,
+  wide-reads.Learnt,
+  single-below t,
+  single.Post,
+  chosen-reads.Asked,
+  chosen-reads.Learnt,
+  put-errs-reads.Asked,
+  put-errs-reads.Learnt,
+  rounds-below t,
+  rounds.Post,
+) (by-kind-at t) by-kind.Post
+by-kind-width-at-requires-3 t c κs = search needs
+
+-- src/cycle.rt:133:29  let w = width_at(widths, r); ⏎ let mut inner = copied(env);
+by-kind-copied-requires-2 : (t : ℕ) → by-kind-lts.Need-copied-requires-2 (
+  shape-at-reads.Asked,
+  shape-at-reads.Learnt,
+  expr-below t,
+  expr.Post,
+  width-at-reads.Asked,
+  width-at-reads.Learnt,
+  copied-reads.Asked,
+  copied-reads.Learnt,
+  wide-reads.Asked,
+  wide-reads.Learnt,
+  single-below t,
+  single.Post,
+  chosen-reads.Asked,
+  chosen-reads.Learnt,
+  put-errs-reads.Asked,
+  put-errs-reads.Learnt,
+  rounds-below t,
+  rounds.Post,
+) (by-kind-at t) by-kind.Post
+by-kind-copied-requires-2 t c κs = search needs
+
+-- src/cycle.rt:134:43  let mut inner = copied(env); ⏎ match expr(t, widths, c, env, &mut inner, wide(a), left) {
+by-kind-slice-aggregate-expr-2 : (t : ℕ) → by-kind-lts.Need-slice-aggregate-expr-2 (
+  shape-at-reads.Asked,
+  shape-at-reads.Learnt,
+  expr-below t,
+  expr.Post,
+  width-at-reads.Asked,
+  width-at-reads.Learnt,
+  copied-reads.Asked,
+  copied-reads.Learnt,
+  wide-reads.Asked,
+  wide-reads.Learnt,
+  single-below t,
+  single.Post,
+  chosen-reads.Asked,
+  chosen-reads.Learnt,
+  put-errs-reads.Asked,
+  put-errs-reads.Learnt,
+  rounds-below t,
+  rounds.Post,
+) (by-kind-at t) by-kind.Post
+by-kind-slice-aggregate-expr-2 t c = search needs
+
+-- src/cycle.rt:134:55  let mut inner = copied(env); ⏎ match expr(t, widths, c, env, &mut inner, wide(a), left) {
+by-kind-wide-requires-2 : (t : ℕ) → by-kind-lts.Need-wide-requires-2 (
+  shape-at-reads.Asked,
+  shape-at-reads.Learnt,
+  expr-below t,
+  expr.Post,
+  width-at-reads.Asked,
+  width-at-reads.Learnt,
+  copied-reads.Asked,
+  copied-reads.Learnt,
+  wide-reads.Asked,
+  wide-reads.Learnt,
+  single-below t,
+  single.Post,
+  chosen-reads.Asked,
+  chosen-reads.Learnt,
+  put-errs-reads.Asked,
+  put-errs-reads.Learnt,
+  rounds-below t,
+  rounds.Post,
+) (by-kind-at t) by-kind.Post
+by-kind-wide-requires-2 t c κs = search needs
+
+-- src/cycle.rt:134:19  let mut inner = copied(env); ⏎ match expr(t, widths, c, env, &mut inner, wide(a), left) {
+by-kind-expr-requires-7 : (t : ℕ) → by-kind-lts.Need-expr-requires-7 (
+  shape-at-reads.Asked,
+  shape-at-reads.Learnt,
+  expr-below t,
+  expr.Post,
+  width-at-reads.Asked,
+  width-at-reads.Learnt,
+  copied-reads.Asked,
+  copied-reads.Learnt,
+  wide-reads.Asked,
+  wide-reads.Learnt,
+  single-below t,
+  single.Post,
+  chosen-reads.Asked,
+  chosen-reads.Learnt,
+  put-errs-reads.Asked,
+  put-errs-reads.Learnt,
+  rounds-below t,
+  rounds.Post,
+) (by-kind-at t) by-kind.Post
+by-kind-expr-requires-7 t c κs = let k : ExpChildren (c .before .before .before .before .before .before .before .before .before .before .before .args .t .now) (c .before .before .before .before .before .before .before .before .before .before .before .args .widths .now) (c .before .before .before .before .before .before .before .before .before .before .before .args .r) (For (c .before .before .before .before .before .a4 .given .0 .0) (c .before .before .before .before .before .a4 .given .0 .1 .0) (c .before .before .before .before .before .a4 .given .0 .1 .1 .0) (c .before .before .before .before .before .a4 .given .0 .1 .1 .1 .0)) = exp-children (c .before .before .before .before .before .before .before .before .before .before .before .args .t .now) (c .before .before .before .before .before .before .before .before .before .before .before .args .widths .now) (c .before .before .before .before .before .before .before .before .before .before .before .args .r) (c .before .before .before .before .before .before .before .before .before .before .before .pre .1 .0) (For (c .before .before .before .before .before .a4 .given .0 .0) (c .before .before .before .before .before .a4 .given .0 .1 .0) (c .before .before .before .before .before .a4 .given .0 .1 .1 .0) (c .before .before .before .before .before .a4 .given .0 .1 .1 .1 .0)) (sym (c .before .before .before .before .before .before .before .shape-at .ensures) ∙ c .before .before .before .before .before .a4 .given .1) in let f : ExpNeeds (c .before .before .before .before .before .before .before .before .before .before .before .args .t .now) (c .before .before .before .before .before .before .before .before .before .before .before .args .widths .now) (c .before .before .before .before .before .before .before .before .before .before .before .args .r) (For (c .before .before .before .before .before .a4 .given .0 .0) (c .before .before .before .before .before .a4 .given .0 .1 .0) (c .before .before .before .before .before .a4 .given .0 .1 .1 .0) (c .before .before .before .before .before .a4 .given .0 .1 .1 .1 .0)) = exp-needs (c .before .before .before .before .before .before .before .before .before .before .before .args .t .now) (c .before .before .before .before .before .before .before .before .before .before .before .args .widths .now) (c .before .before .before .before .before .before .before .before .before .before .before .args .r) (c .before .before .before .before .before .before .before .before .before .before .before .pre .1 .0) (For (c .before .before .before .before .before .a4 .given .0 .0) (c .before .before .before .before .before .a4 .given .0 .1 .0) (c .before .before .before .before .before .a4 .given .0 .1 .1 .0) (c .before .before .before .before .before .a4 .given .0 .1 .1 .1 .0)) (sym (c .before .before .before .before .before .before .before .shape-at .ensures) ∙ c .before .before .before .before .before .a4 .given .1) in (omega (arith, k .0 .1), (k .0 .0, c .before .before .before .before .before .before .before .before .before .before .before .pre .1 .1, omega (arith, f .0, f .1, c .wide2 .ensures, ap length (c .before .before .copied2 .ensures), c .before .before .before .before .before .before .before .before .before .before .before .pre .1 .1)))
+
+-- src/cycle.rt:135:28  match expr(t, widths, c, env, &mut inner, wide(a), left) { ⏎ Rest::Left(l) => rounds(t, widths, d, w, wide(a), wide(b), &mut inner, out, at, l),
+by-kind-enum-known-l-3 : (t : ℕ) → by-kind-lts.Need-enum-known-l-3 (
+  shape-at-reads.Asked,
+  shape-at-reads.Learnt,
+  expr-below t,
+  expr.Post,
+  width-at-reads.Asked,
+  width-at-reads.Learnt,
+  copied-reads.Asked,
+  copied-reads.Learnt,
+  wide-reads.Asked,
+  wide-reads.Learnt,
+  single-below t,
+  single.Post,
+  chosen-reads.Asked,
+  chosen-reads.Learnt,
+  put-errs-reads.Asked,
+  put-errs-reads.Learnt,
+  rounds-below t,
+  rounds.Post,
+) (by-kind-at t) by-kind.Post
+by-kind-enum-known-l-3 t c = search needs
+
+-- src/cycle.rt:135:58  match expr(t, widths, c, env, &mut inner, wide(a), left) { ⏎ Rest::Left(l) => rounds(t, widths, d, w, wide(a), wide(b), &mut inner, out, at, l),
+by-kind-wide-requires-3 : (t : ℕ) → by-kind-lts.Need-wide-requires-3 (
+  shape-at-reads.Asked,
+  shape-at-reads.Learnt,
+  expr-below t,
+  expr.Post,
+  width-at-reads.Asked,
+  width-at-reads.Learnt,
+  copied-reads.Asked,
+  copied-reads.Learnt,
+  wide-reads.Asked,
+  wide-reads.Learnt,
+  single-below t,
+  single.Post,
+  chosen-reads.Asked,
+  chosen-reads.Learnt,
+  put-errs-reads.Asked,
+  put-errs-reads.Learnt,
+  rounds-below t,
+  rounds.Post,
+) (by-kind-at t) by-kind.Post
+by-kind-wide-requires-3 t c κs = search needs
+
+-- src/cycle.rt:135:67  match expr(t, widths, c, env, &mut inner, wide(a), left) { ⏎ Rest::Left(l) => rounds(t, widths, d, w, wide(a), wide(b), &mut inner, out, at, l),
+by-kind-wide-requires-4 : (t : ℕ) → by-kind-lts.Need-wide-requires-4 (
+  shape-at-reads.Asked,
+  shape-at-reads.Learnt,
+  expr-below t,
+  expr.Post,
+  width-at-reads.Asked,
+  width-at-reads.Learnt,
+  copied-reads.Asked,
+  copied-reads.Learnt,
+  wide-reads.Asked,
+  wide-reads.Learnt,
+  single-below t,
+  single.Post,
+  chosen-reads.Asked,
+  chosen-reads.Learnt,
+  put-errs-reads.Asked,
+  put-errs-reads.Learnt,
+  rounds-below t,
+  rounds.Post,
+) (by-kind-at t) by-kind.Post
+by-kind-wide-requires-4 t c κs = search needs
+
+-- src/cycle.rt:135:34  match expr(t, widths, c, env, &mut inner, wide(a), left) { ⏎ Rest::Left(l) => rounds(t, widths, d, w, wide(a), wide(b), &mut inner, out, at, l),
+by-kind-rounds-requires : (t : ℕ) → by-kind-lts.Need-rounds-requires (
+  shape-at-reads.Asked,
+  shape-at-reads.Learnt,
+  expr-below t,
+  expr.Post,
+  width-at-reads.Asked,
+  width-at-reads.Learnt,
+  copied-reads.Asked,
+  copied-reads.Learnt,
+  wide-reads.Asked,
+  wide-reads.Learnt,
+  single-below t,
+  single.Post,
+  chosen-reads.Asked,
+  chosen-reads.Learnt,
+  put-errs-reads.Asked,
+  put-errs-reads.Learnt,
+  rounds-below t,
+  rounds.Post,
+) (by-kind-at t) by-kind.Post
+by-kind-rounds-requires t c κs = let k : ExpChildren (c .before .before .before .before .before .before .before .before .before .before .before .before .before .before .before .before .before .before .before .before .args .t .now) (c .before .before .before .before .before .before .before .before .before .before .before .before .before .before .before .before .before .before .before .before .args .widths .now) (c .before .before .before .before .before .before .before .before .before .before .before .before .before .before .before .before .before .before .before .before .args .r) (For (c .before .before .before .before .before .before .before .before .before .before .before .before .before .before .a4 .given .0 .0) (c .before .before .before .before .before .before .before .before .before .before .before .before .before .before .a4 .given .0 .1 .0) (c .before .before .before .before .before .before .before .before .before .before .before .before .before .before .a4 .given .0 .1 .1 .0) (c .before .before .before .before .before .before .before .before .before .before .before .before .before .before .a4 .given .0 .1 .1 .1 .0)) = exp-children (c .before .before .before .before .before .before .before .before .before .before .before .before .before .before .before .before .before .before .before .before .args .t .now) (c .before .before .before .before .before .before .before .before .before .before .before .before .before .before .before .before .before .before .before .before .args .widths .now) (c .before .before .before .before .before .before .before .before .before .before .before .before .before .before .before .before .before .before .before .before .args .r) (c .before .before .before .before .before .before .before .before .before .before .before .before .before .before .before .before .before .before .before .before .pre .1 .0) (For (c .before .before .before .before .before .before .before .before .before .before .before .before .before .before .a4 .given .0 .0) (c .before .before .before .before .before .before .before .before .before .before .before .before .before .before .a4 .given .0 .1 .0) (c .before .before .before .before .before .before .before .before .before .before .before .before .before .before .a4 .given .0 .1 .1 .0) (c .before .before .before .before .before .before .before .before .before .before .before .before .before .before .a4 .given .0 .1 .1 .1 .0)) (sym (c .before .before .before .before .before .before .before .before .before .before .before .before .before .before .before .before .shape-at .ensures) ∙ c .before .before .before .before .before .before .before .before .before .before .before .before .before .before .a4 .given .1) in let f : ExpNeeds (c .before .before .before .before .before .before .before .before .before .before .before .before .before .before .before .before .before .before .before .before .args .t .now) (c .before .before .before .before .before .before .before .before .before .before .before .before .before .before .before .before .before .before .before .before .args .widths .now) (c .before .before .before .before .before .before .before .before .before .before .before .before .before .before .before .before .before .before .before .before .args .r) (For (c .before .before .before .before .before .before .before .before .before .before .before .before .before .before .a4 .given .0 .0) (c .before .before .before .before .before .before .before .before .before .before .before .before .before .before .a4 .given .0 .1 .0) (c .before .before .before .before .before .before .before .before .before .before .before .before .before .before .a4 .given .0 .1 .1 .0) (c .before .before .before .before .before .before .before .before .before .before .before .before .before .before .a4 .given .0 .1 .1 .1 .0)) = exp-needs (c .before .before .before .before .before .before .before .before .before .before .before .before .before .before .before .before .before .before .before .before .args .t .now) (c .before .before .before .before .before .before .before .before .before .before .before .before .before .before .before .before .before .before .before .before .args .widths .now) (c .before .before .before .before .before .before .before .before .before .before .before .before .before .before .before .before .before .before .before .before .args .r) (c .before .before .before .before .before .before .before .before .before .before .before .before .before .before .before .before .before .before .before .before .pre .1 .0) (For (c .before .before .before .before .before .before .before .before .before .before .before .before .before .before .a4 .given .0 .0) (c .before .before .before .before .before .before .before .before .before .before .before .before .before .before .a4 .given .0 .1 .0) (c .before .before .before .before .before .before .before .before .before .before .before .before .before .before .a4 .given .0 .1 .1 .0) (c .before .before .before .before .before .before .before .before .before .before .before .before .before .before .a4 .given .0 .1 .1 .1 .0)) (sym (c .before .before .before .before .before .before .before .before .before .before .before .before .before .before .before .before .shape-at .ensures) ∙ c .before .before .before .before .before .before .before .before .before .before .before .before .before .before .a4 .given .1) in (omega (arith, k .1 .1), (k .1 .0, f .3 ∙ sym (c .before .before .before .before .before .before .before .before .before .before .before .before .width-at3 .ensures .0), f .4 ∙ sym (c .before .before .wide4 .ensures), omega (arith, narrow (c .before .before .before .before .before .before .before .before .before .before .before .before .before .before .before .before .before .before .before .before .args .t .now) (c .before .before .before .before .before .before .before .before .before .before .before .before .before .before .before .before .before .before .before .before .args .widths .now) (c .before .before .before .before .before .before .before .before .before .before .before .before .before .before .before .before .before .before .before .before .args .r) (c .before .before .before .before .before .before .before .before .before .before .before .before .before .before .before .before .before .before .before .before .pre .1 .0), c .before .before .before .before .before .before .before .before .before .before .before .before .width-at3 .ensures .0), omega (arith, f .2, c .before .before .wide4 .ensures), omega (arith, f .1, c .before .before .before .wide3 .ensures, c .before .before .wide4 .ensures), c .before .before .before .before .before .before .before .before .expr7 .ensures .1 ∙ ap length (c .before .before .before .before .before .before .before .before .before .before .before .copied2 .ensures) ∙ c .before .before .before .before .before .before .before .before .before .before .before .before .before .before .before .before .before .before .before .before .pre .1 .1, omega (arith, c .before .before .before .before .before .before .before .before .before .before .before .before .before .before .before .before .before .before .before .before .pre .1 .2, c .before .before .before .before .before .before .before .before .before .before .before .before .width-at3 .ensures .0)))
+
+-- src/cycle.rt:136:32  Rest::Left(l) => rounds(t, widths, d, w, wide(a), wide(b), &mut inner, out, at, l), ⏎ Rest::Short => Rest::Short,
 by-kind-enum-told-7 : (t : ℕ) → by-kind-lts.Need-enum-told-7 (
   shape-at-reads.Asked,
   shape-at-reads.Learnt,
@@ -2020,7 +1999,7 @@ by-kind-enum-told-7 : (t : ℕ) → by-kind-lts.Need-enum-told-7 (
 ) (by-kind-at t) by-kind.Post
 by-kind-enum-told-7 t c = search needs
 
--- src/cycle.rt:141:34  Shape::Truth(_) => Rest::Short, ⏎ Shape::Operator(_, _) => Rest::Short,
+-- src/cycle.rt:140:33  // no such row is handed in ⏎ Shape::Identifier(_) => Rest::Short,
 by-kind-enum-told-8 : (t : ℕ) → by-kind-lts.Need-enum-told-8 (
   shape-at-reads.Asked,
   shape-at-reads.Learnt,
@@ -2043,7 +2022,7 @@ by-kind-enum-told-8 : (t : ℕ) → by-kind-lts.Need-enum-told-8 (
 ) (by-kind-at t) by-kind.Post
 by-kind-enum-told-8 t c = search needs
 
--- src/cycle.rt:142:27  Shape::Operator(_, _) => Rest::Short, ⏎ Shape::Iter(_) => Rest::Short,
+-- src/cycle.rt:141:28  Shape::Identifier(_) => Rest::Short, ⏎ Shape::Whole(_) => Rest::Short,
 by-kind-enum-told-9 : (t : ℕ) → by-kind-lts.Need-enum-told-9 (
   shape-at-reads.Asked,
   shape-at-reads.Learnt,
@@ -2065,6 +2044,75 @@ by-kind-enum-told-9 : (t : ℕ) → by-kind-lts.Need-enum-told-9 (
   rounds.Post,
 ) (by-kind-at t) by-kind.Post
 by-kind-enum-told-9 t c = search needs
+
+-- src/cycle.rt:142:28  Shape::Whole(_) => Rest::Short, ⏎ Shape::Truth(_) => Rest::Short,
+by-kind-enum-told-10 : (t : ℕ) → by-kind-lts.Need-enum-told-10 (
+  shape-at-reads.Asked,
+  shape-at-reads.Learnt,
+  expr-below t,
+  expr.Post,
+  width-at-reads.Asked,
+  width-at-reads.Learnt,
+  copied-reads.Asked,
+  copied-reads.Learnt,
+  wide-reads.Asked,
+  wide-reads.Learnt,
+  single-below t,
+  single.Post,
+  chosen-reads.Asked,
+  chosen-reads.Learnt,
+  put-errs-reads.Asked,
+  put-errs-reads.Learnt,
+  rounds-below t,
+  rounds.Post,
+) (by-kind-at t) by-kind.Post
+by-kind-enum-told-10 t c = search needs
+
+-- src/cycle.rt:143:34  Shape::Truth(_) => Rest::Short, ⏎ Shape::Operator(_, _) => Rest::Short,
+by-kind-enum-told-11 : (t : ℕ) → by-kind-lts.Need-enum-told-11 (
+  shape-at-reads.Asked,
+  shape-at-reads.Learnt,
+  expr-below t,
+  expr.Post,
+  width-at-reads.Asked,
+  width-at-reads.Learnt,
+  copied-reads.Asked,
+  copied-reads.Learnt,
+  wide-reads.Asked,
+  wide-reads.Learnt,
+  single-below t,
+  single.Post,
+  chosen-reads.Asked,
+  chosen-reads.Learnt,
+  put-errs-reads.Asked,
+  put-errs-reads.Learnt,
+  rounds-below t,
+  rounds.Post,
+) (by-kind-at t) by-kind.Post
+by-kind-enum-told-11 t c = search needs
+
+-- src/cycle.rt:144:27  Shape::Operator(_, _) => Rest::Short, ⏎ Shape::Iter(_) => Rest::Short,
+by-kind-enum-told-12 : (t : ℕ) → by-kind-lts.Need-enum-told-12 (
+  shape-at-reads.Asked,
+  shape-at-reads.Learnt,
+  expr-below t,
+  expr.Post,
+  width-at-reads.Asked,
+  width-at-reads.Learnt,
+  copied-reads.Asked,
+  copied-reads.Learnt,
+  wide-reads.Asked,
+  wide-reads.Learnt,
+  single-below t,
+  single.Post,
+  chosen-reads.Asked,
+  chosen-reads.Learnt,
+  put-errs-reads.Asked,
+  put-errs-reads.Learnt,
+  rounds-below t,
+  rounds.Post,
+) (by-kind-at t) by-kind.Post
+by-kind-enum-told-12 t c = search needs
 
 -- src/cycle.rt:96:1  // Row r by its kind, where it is evaluated by its parts' rows: as expr. ⏎ fn by_kind(
 by-kind-same-length : (t : ℕ) → by-kind-lts.Need-same-length (
@@ -2271,7 +2319,7 @@ by-kind-returns-5 : (t : ℕ) → by-kind-lts.Need-returns-5 (
   rounds-below t,
   rounds.Post,
 ) (by-kind-at t) by-kind.Post
-by-kind-returns-5 t c = (tell-first (c .before .before .before .before .before .before .before .before .before .before .before .before .before .before .before .before .args .t .now) (c .before .before .before .before .before .before .before .before .before .before .before .before .before .before .before .before .args .widths .now) (c .before .before .before .before .before .before .before .before .before .before .before .before .before .before .before .before .args .r) (c .before .before .before .before .before .before .before .before .before .before .before .before .before .before .before .before .pre .1 .0) (envOf (c .before .before .before .before .before .before .before .before .before .before .before .before .before .before .before .before .args .env .now)) (c .before .before .before .before .before .before .before .before .before .before .before .before .before .before .before .before .args .left) (c .before .before .before .before .before .before .before .before .before .before .before .before .before .before .before .before .args .at) (c .before .before .before .before .before .before .before .before .before .before .before .before .before .before .before .before .args .out .now) (c .before .before .expr5 .last .1 .1 .1 .1 .0) (c .before .before .before .before .before .before .before .before .before .before .a3 .given .0 .0) (c .before .before .before .before .before .before .before .before .before .before .a3 .given .0 .1 .0) (c .before .before .before .before .before .before .before .before .before .before .a3 .given .0 .1 .1 .0) (sym (c .before .before .before .before .before .before .before .before .before .before .before .before .shape-at .ensures) ∙ c .before .before .before .before .before .before .before .before .before .before .a3 .given .1) (c .before .before .before .before .before .before .before .before .single .result) (c .before .before .before .before .before .before .before .before .single .ensures) (c .before .before .before .before .before .l3 .given .0 .0) (c .before .before .expr5 .result) (sym (c .before .before .before .before .before .before .before .chosen .ensures) ∙ c .before .before .before .before .before .l3 .given .1) (c .before .before .expr5 .ensures .0), c .before .before .expr5 .ensures .1)
+by-kind-returns-5 t c = (tell-first (c .before .before .before .before .before .before .before .before .before .before .before .before .before .before .before .before .before .before .args .t .now) (c .before .before .before .before .before .before .before .before .before .before .before .before .before .before .before .before .before .before .args .widths .now) (c .before .before .before .before .before .before .before .before .before .before .before .before .before .before .before .before .before .before .args .r) (c .before .before .before .before .before .before .before .before .before .before .before .before .before .before .before .before .before .before .pre .1 .0) (envOf (c .before .before .before .before .before .before .before .before .before .before .before .before .before .before .before .before .before .before .args .env .now)) (c .before .before .before .before .before .before .before .before .before .before .before .before .before .before .before .before .before .before .args .left) (c .before .before .before .before .before .before .before .before .before .before .before .before .before .before .before .before .before .before .args .at) (c .before .before .before .before .before .before .before .before .before .before .before .before .before .before .before .before .before .before .args .out .now) (c .before .before .expr5 .last .1 .1 .1 .1 .0) (c .before .before .before .before .before .before .before .before .before .before .before .before .a3 .given .0 .0) (c .before .before .before .before .before .before .before .before .before .before .before .before .a3 .given .0 .1 .0) (c .before .before .before .before .before .before .before .before .before .before .before .before .a3 .given .0 .1 .1 .0) (sym (c .before .before .before .before .before .before .before .before .before .before .before .before .before .before .shape-at .ensures) ∙ c .before .before .before .before .before .before .before .before .before .before .before .before .a3 .given .1) (c .before .before .before .before .before .before .before .before .before .before .single .result) (c .before .before .before .before .before .before .before .before .before .before .single .ensures) (c .before .before .before .before .before .before .before .before .w .given .0 .0) (c .before .before .before .before .before .before .before .before .w .given .0 .1 .0) (c .before .before .before .before .before .before .before .before .w .given .1) (c .before .before .expr5 .result) (sym (c .before .before .before .before .before .before .chosen .ensures) ∙ c .before .before .before .before .enum-told3 .given .1) (c .before .before .expr5 .ensures .0), c .before .before .expr5 .ensures .1)
 
 -- src/cycle.rt:96:1  // Row r by its kind, where it is evaluated by its parts' rows: as expr. ⏎ fn by_kind(
 by-kind-same-length-5 : (t : ℕ) → by-kind-lts.Need-same-length-5 (
@@ -2317,7 +2365,7 @@ by-kind-returns-6 : (t : ℕ) → by-kind-lts.Need-returns-6 (
   rounds-below t,
   rounds.Post,
 ) (by-kind-at t) by-kind.Post
-by-kind-returns-6 t c = (tell-second (c .before .before .before .before .before .before .before .before .before .before .before .before .before .before .before .before .args .t .now) (c .before .before .before .before .before .before .before .before .before .before .before .before .before .before .before .before .args .widths .now) (c .before .before .before .before .before .before .before .before .before .before .before .before .before .before .before .before .args .r) (c .before .before .before .before .before .before .before .before .before .before .before .before .before .before .before .before .pre .1 .0) (envOf (c .before .before .before .before .before .before .before .before .before .before .before .before .before .before .before .before .args .env .now)) (c .before .before .before .before .before .before .before .before .before .before .before .before .before .before .before .before .args .left) (c .before .before .before .before .before .before .before .before .before .before .before .before .before .before .before .before .args .at) (c .before .before .before .before .before .before .before .before .before .before .before .before .before .before .before .before .args .out .now) (c .before .before .expr6 .last .1 .1 .1 .1 .0) (c .before .before .before .before .before .before .before .before .before .before .a3 .given .0 .0) (c .before .before .before .before .before .before .before .before .before .before .a3 .given .0 .1 .0) (c .before .before .before .before .before .before .before .before .before .before .a3 .given .0 .1 .1 .0) (sym (c .before .before .before .before .before .before .before .before .before .before .before .before .shape-at .ensures) ∙ c .before .before .before .before .before .before .before .before .before .before .a3 .given .1) (c .before .before .before .before .before .before .before .before .single .result) (c .before .before .before .before .before .before .before .before .single .ensures) (c .before .before .before .before .before .l4 .given .0 .0) (c .before .before .expr6 .result) (sym (c .before .before .before .before .before .before .before .chosen .ensures) ∙ c .before .before .before .before .before .l4 .given .1) (c .before .before .expr6 .ensures .0), c .before .before .expr6 .ensures .1)
+by-kind-returns-6 t c = (tell-second (c .before .before .before .before .before .before .before .before .before .before .before .before .before .before .before .before .before .before .args .t .now) (c .before .before .before .before .before .before .before .before .before .before .before .before .before .before .before .before .before .before .args .widths .now) (c .before .before .before .before .before .before .before .before .before .before .before .before .before .before .before .before .before .before .args .r) (c .before .before .before .before .before .before .before .before .before .before .before .before .before .before .before .before .before .before .pre .1 .0) (envOf (c .before .before .before .before .before .before .before .before .before .before .before .before .before .before .before .before .before .before .args .env .now)) (c .before .before .before .before .before .before .before .before .before .before .before .before .before .before .before .before .before .before .args .left) (c .before .before .before .before .before .before .before .before .before .before .before .before .before .before .before .before .before .before .args .at) (c .before .before .before .before .before .before .before .before .before .before .before .before .before .before .before .before .before .before .args .out .now) (c .before .before .expr6 .last .1 .1 .1 .1 .0) (c .before .before .before .before .before .before .before .before .before .before .before .before .a3 .given .0 .0) (c .before .before .before .before .before .before .before .before .before .before .before .before .a3 .given .0 .1 .0) (c .before .before .before .before .before .before .before .before .before .before .before .before .a3 .given .0 .1 .1 .0) (sym (c .before .before .before .before .before .before .before .before .before .before .before .before .before .before .shape-at .ensures) ∙ c .before .before .before .before .before .before .before .before .before .before .before .before .a3 .given .1) (c .before .before .before .before .before .before .before .before .before .before .single .result) (c .before .before .before .before .before .before .before .before .before .before .single .ensures) (c .before .before .before .before .before .before .before .before .w .given .0 .0) (c .before .before .before .before .before .before .before .before .w .given .0 .1 .0) (c .before .before .before .before .before .before .before .before .w .given .1) (c .before .before .expr6 .result) (sym (c .before .before .before .before .before .before .chosen .ensures) ∙ c .before .before .before .before .enum-told4 .given .1) (c .before .before .expr6 .ensures .0), c .before .before .expr6 .ensures .1)
 
 -- src/cycle.rt:96:1  // Row r by its kind, where it is evaluated by its parts' rows: as expr. ⏎ fn by_kind(
 by-kind-same-length-6 : (t : ℕ) → by-kind-lts.Need-same-length-6 (
@@ -2363,7 +2411,7 @@ by-kind-returns-7 : (t : ℕ) → by-kind-lts.Need-returns-7 (
   rounds-below t,
   rounds.Post,
 ) (by-kind-at t) by-kind.Post
-by-kind-returns-7 t c = (tell-neither (c .before .before .before .before .before .before .before .before .before .before .before .before .before .before .before .before .before .args .t .now) (c .before .before .before .before .before .before .before .before .before .before .before .before .before .before .before .before .before .args .widths .now) (c .before .before .before .before .before .before .before .before .before .before .before .before .before .before .before .before .before .args .r) (c .before .before .before .before .before .before .before .before .before .before .before .before .before .before .before .before .before .pre .1 .0) (envOf (c .before .before .before .before .before .before .before .before .before .before .before .before .before .before .before .before .before .args .env .now)) (c .before .before .before .before .before .before .before .before .before .before .before .before .before .before .before .before .before .args .left) (c .before .before .before .before .before .before .before .before .before .before .before .before .before .before .before .before .before .args .at) (c .before .before .before .before .before .before .before .before .before .before .before .before .before .before .before .before .before .args .out .now) (c .before .before .put-errs .last .0) (c .before .before .before .before .before .before .before .before .before .before .before .a3 .given .0 .0) (c .before .before .before .before .before .before .before .before .before .before .before .a3 .given .0 .1 .0) (c .before .before .before .before .before .before .before .before .before .before .before .a3 .given .0 .1 .1 .0) (sym (c .before .before .before .before .before .before .before .before .before .before .before .before .before .shape-at .ensures) ∙ c .before .before .before .before .before .before .before .before .before .before .before .a3 .given .1) (c .before .before .before .before .before .before .before .before .before .single .result) (c .before .before .before .before .before .before .before .before .before .single .ensures) (c .before .before .before .before .before .before .l5 .given .0 .0) (sym (c .before .before .before .before .before .before .before .before .chosen .ensures) ∙ c .before .before .before .before .before .before .l5 .given .1) (rw (c .before .before .before .width-at2 .ensures .0) at (c .before .before .put-errs .ensures .0)), c .before .before .put-errs .ensures .1)
+by-kind-returns-7 t c = (tell-neither (c .before .before .before .before .before .before .before .before .before .before .before .before .before .before .before .before .before .before .before .args .t .now) (c .before .before .before .before .before .before .before .before .before .before .before .before .before .before .before .before .before .before .before .args .widths .now) (c .before .before .before .before .before .before .before .before .before .before .before .before .before .before .before .before .before .before .before .args .r) (c .before .before .before .before .before .before .before .before .before .before .before .before .before .before .before .before .before .before .before .pre .1 .0) (envOf (c .before .before .before .before .before .before .before .before .before .before .before .before .before .before .before .before .before .before .before .args .env .now)) (c .before .before .before .before .before .before .before .before .before .before .before .before .before .before .before .before .before .before .before .args .left) (c .before .before .before .before .before .before .before .before .before .before .before .before .before .before .before .before .before .before .before .args .at) (c .before .before .before .before .before .before .before .before .before .before .before .before .before .before .before .before .before .before .before .args .out .now) (c .before .before .put-errs .last .0) (c .before .before .before .before .before .before .before .before .before .before .before .before .before .a3 .given .0 .0) (c .before .before .before .before .before .before .before .before .before .before .before .before .before .a3 .given .0 .1 .0) (c .before .before .before .before .before .before .before .before .before .before .before .before .before .a3 .given .0 .1 .1 .0) (sym (c .before .before .before .before .before .before .before .before .before .before .before .before .before .before .before .shape-at .ensures) ∙ c .before .before .before .before .before .before .before .before .before .before .before .before .before .a3 .given .1) (c .before .before .before .before .before .before .before .before .before .before .before .single .result) (c .before .before .before .before .before .before .before .before .before .before .before .single .ensures) (c .before .before .before .before .before .before .before .before .before .w .given .0 .0) (c .before .before .before .before .before .before .before .before .before .w .given .0 .1 .0) (c .before .before .before .before .before .before .before .before .before .w .given .1) (sym (c .before .before .before .before .before .before .before .chosen .ensures) ∙ c .before .before .before .before .before .enum-told5 .given .1) (rw (c .before .before .before .width-at2 .ensures .0) at (c .before .before .put-errs .ensures .0)), c .before .before .put-errs .ensures .1)
 
 -- src/cycle.rt:96:1  // Row r by its kind, where it is evaluated by its parts' rows: as expr. ⏎ fn by_kind(
 by-kind-returns-8 : (t : ℕ) → by-kind-lts.Need-returns-8 (
@@ -2386,7 +2434,7 @@ by-kind-returns-8 : (t : ℕ) → by-kind-lts.Need-returns-8 (
   rounds-below t,
   rounds.Post,
 ) (by-kind-at t) by-kind.Post
-by-kind-returns-8 t c = (tell-untested (c .before .before .before .before .before .before .before .before .before .before .before .args .t .now) (c .before .before .before .before .before .before .before .before .before .before .before .args .widths .now) (c .before .before .before .before .before .before .before .before .before .before .before .args .r) (c .before .before .before .before .before .before .before .before .before .before .before .pre .1 .0) (envOf (c .before .before .before .before .before .before .before .before .before .before .before .args .env .now)) (c .before .before .before .before .before .before .before .before .before .before .before .args .left) (c .before .before .before .before .before .before .before .before .before .before .before .args .at) (c .before .before .before .before .before .before .before .before .before .before .before .args .out .now) (c .before .before .before .before .before .before .before .before .before .before .before .args .out .now) (c .before .before .before .before .before .a3 .given .0 .0) (c .before .before .before .before .before .a3 .given .0 .1 .0) (c .before .before .before .before .before .a3 .given .0 .1 .1 .0) (sym (c .before .before .before .before .before .before .before .shape-at .ensures) ∙ c .before .before .before .before .before .a3 .given .1) (c .before .before .before .single .result) (c .before .before .before .single .ensures) (sym (c .before .before .chosen .ensures) ∙ c .enum-told3 .given .1), refl)
+by-kind-returns-8 t c = (tell-untested (c .before .before .before .before .before .before .before .before .before .before .args .t .now) (c .before .before .before .before .before .before .before .before .before .before .args .widths .now) (c .before .before .before .before .before .before .before .before .before .before .args .r) (c .before .before .before .before .before .before .before .before .before .before .pre .1 .0) (envOf (c .before .before .before .before .before .before .before .before .before .before .args .env .now)) (c .before .before .before .before .before .before .before .before .before .before .args .left) (c .before .before .before .before .before .before .before .before .before .before .args .at) (c .before .before .before .before .before .before .before .before .before .before .args .out .now) (c .before .before .before .before .before .before .before .before .before .before .args .out .now) (c .before .before .before .before .a3 .given .0 .0) (c .before .before .before .before .a3 .given .0 .1 .0) (c .before .before .before .before .a3 .given .0 .1 .1 .0) (sym (c .before .before .before .before .before .before .shape-at .ensures) ∙ c .before .before .before .before .a3 .given .1) (c .before .before .single .result) (c .before .before .single .ensures) (c .enum-told6 .given .1), refl)
 
 -- src/cycle.rt:96:1  // Row r by its kind, where it is evaluated by its parts' rows: as expr. ⏎ fn by_kind(
 by-kind-same-length-7 : (t : ℕ) → by-kind-lts.Need-same-length-7 (
@@ -2432,7 +2480,7 @@ by-kind-returns-9 : (t : ℕ) → by-kind-lts.Need-returns-9 (
   rounds-below t,
   rounds.Post,
 ) (by-kind-at t) by-kind.Post
-by-kind-returns-9 t c = (tell-for (c .before .before .before .before .before .before .before .before .before .before .before .before .before .before .before .before .before .before .before .before .before .before .before .args .t .now) (c .before .before .before .before .before .before .before .before .before .before .before .before .before .before .before .before .before .before .before .before .before .before .before .args .widths .now) (c .before .before .before .before .before .before .before .before .before .before .before .before .before .before .before .before .before .before .before .before .before .before .before .args .r) (c .before .before .before .before .before .before .before .before .before .before .before .before .before .before .before .before .before .before .before .before .before .before .before .pre .1 .0) (envOf (c .before .before .before .before .before .before .before .before .before .before .before .before .before .before .before .before .before .before .before .before .before .before .before .args .env .now)) (c .before .before .before .before .before .before .before .before .before .before .before .before .before .before .before .before .before .before .before .before .before .before .before .args .left) (c .before .before .before .before .before .before .before .before .before .before .before .before .before .before .before .before .before .before .before .before .before .before .before .args .at) (c .before .before .before .before .before .before .before .before .before .before .before .before .before .before .before .before .before .before .before .before .before .before .before .args .out .now) (c .before .before .rounds .last .1 .1 .1 .1 .1 .1 .1 .0) (c .before .before .before .before .before .before .before .before .before .before .before .before .before .before .before .before .before .a4 .given .0 .0) (c .before .before .before .before .before .before .before .before .before .before .before .before .before .before .before .before .before .a4 .given .0 .1 .0) (c .before .before .before .before .before .before .before .before .before .before .before .before .before .before .before .before .before .a4 .given .0 .1 .1 .0) (c .before .before .before .before .before .before .before .before .before .before .before .before .before .before .before .before .before .a4 .given .0 .1 .1 .1 .0) (sym (c .before .before .before .before .before .before .before .before .before .before .before .before .before .before .before .before .before .before .before .shape-at .ensures) ∙ c .before .before .before .before .before .before .before .before .before .before .before .before .before .before .before .before .before .a4 .given .1) (c .before .before .before .before .before .before .before .before .before .before .before .before .before .before .copied2 .result) (c .before .before .before .before .before .before .before .before .before .before .before .expr7 .last .1 .1 .1 .1 .0) (c .before .before .before .before .before .before .before .before .l6 .given .0 .0) (c .before .before .rounds .result) (ap envOf (c .before .before .before .before .before .before .before .before .before .before .before .before .before .before .copied2 .ensures)) (rw (c .before .before .before .before .before .before .before .before .before .before .before .before .wide2 .ensures, c .before .before .before .before .before .before .before .before .l6 .given .1) at (c .before .before .before .before .before .before .before .before .before .before .before .expr7 .ensures .0)) (rw (c .before .before .before .before .before .before .wide3 .ensures, c .before .before .before .before .before .wide4 .ensures) at (c .before .before .rounds .ensures .0)), c .before .before .rounds .ensures .1)
+by-kind-returns-9 t c = (tell-for (c .before .before .before .before .before .before .before .before .before .before .before .before .before .before .before .before .before .before .before .before .before .before .before .args .t .now) (c .before .before .before .before .before .before .before .before .before .before .before .before .before .before .before .before .before .before .before .before .before .before .before .args .widths .now) (c .before .before .before .before .before .before .before .before .before .before .before .before .before .before .before .before .before .before .before .before .before .before .before .args .r) (c .before .before .before .before .before .before .before .before .before .before .before .before .before .before .before .before .before .before .before .before .before .before .before .pre .1 .0) (envOf (c .before .before .before .before .before .before .before .before .before .before .before .before .before .before .before .before .before .before .before .before .before .before .before .args .env .now)) (c .before .before .before .before .before .before .before .before .before .before .before .before .before .before .before .before .before .before .before .before .before .before .before .args .left) (c .before .before .before .before .before .before .before .before .before .before .before .before .before .before .before .before .before .before .before .before .before .before .before .args .at) (c .before .before .before .before .before .before .before .before .before .before .before .before .before .before .before .before .before .before .before .before .before .before .before .args .out .now) (c .before .before .rounds .last .1 .1 .1 .1 .1 .1 .1 .0) (c .before .before .before .before .before .before .before .before .before .before .before .before .before .before .before .before .before .a4 .given .0 .0) (c .before .before .before .before .before .before .before .before .before .before .before .before .before .before .before .before .before .a4 .given .0 .1 .0) (c .before .before .before .before .before .before .before .before .before .before .before .before .before .before .before .before .before .a4 .given .0 .1 .1 .0) (c .before .before .before .before .before .before .before .before .before .before .before .before .before .before .before .before .before .a4 .given .0 .1 .1 .1 .0) (sym (c .before .before .before .before .before .before .before .before .before .before .before .before .before .before .before .before .before .before .before .shape-at .ensures) ∙ c .before .before .before .before .before .before .before .before .before .before .before .before .before .before .before .before .before .a4 .given .1) (c .before .before .before .before .before .before .before .before .before .before .before .before .before .before .copied2 .result) (c .before .before .before .before .before .before .before .before .before .before .before .expr7 .last .1 .1 .1 .1 .0) (c .before .before .before .before .before .before .before .before .l3 .given .0 .0) (c .before .before .rounds .result) (ap envOf (c .before .before .before .before .before .before .before .before .before .before .before .before .before .before .copied2 .ensures)) (rw (c .before .before .before .before .before .before .before .before .before .before .before .before .wide2 .ensures, c .before .before .before .before .before .before .before .before .l3 .given .1) at (c .before .before .before .before .before .before .before .before .before .before .before .expr7 .ensures .0)) (rw (c .before .before .before .before .before .before .wide3 .ensures, c .before .before .before .before .before .wide4 .ensures) at (c .before .before .rounds .ensures .0)), c .before .before .rounds .ensures .1)
 
 -- src/cycle.rt:96:1  // Row r by its kind, where it is evaluated by its parts' rows: as expr. ⏎ fn by_kind(
 by-kind-returns-10 : (t : ℕ) → by-kind-lts.Need-returns-10 (
@@ -2455,7 +2503,7 @@ by-kind-returns-10 : (t : ℕ) → by-kind-lts.Need-returns-10 (
   rounds-below t,
   rounds.Post,
 ) (by-kind-at t) by-kind.Post
-by-kind-returns-10 t c = (tell-stopped (c .before .before .before .before .before .before .before .before .before .before .before .before .before .before .before .args .t .now) (c .before .before .before .before .before .before .before .before .before .before .before .before .before .before .before .args .widths .now) (c .before .before .before .before .before .before .before .before .before .before .before .before .before .before .before .args .r) (c .before .before .before .before .before .before .before .before .before .before .before .before .before .before .before .pre .1 .0) (envOf (c .before .before .before .before .before .before .before .before .before .before .before .before .before .before .before .args .env .now)) (c .before .before .before .before .before .before .before .before .before .before .before .before .before .before .before .args .left) (For (c .before .before .before .before .before .before .before .before .before .a4 .given .0 .0) (c .before .before .before .before .before .before .before .before .before .a4 .given .0 .1 .0) (c .before .before .before .before .before .before .before .before .before .a4 .given .0 .1 .1 .0) (c .before .before .before .before .before .before .before .before .before .a4 .given .0 .1 .1 .1 .0)) (sym (c .before .before .before .before .before .before .before .before .before .before .before .shape-at .ensures) ∙ c .before .before .before .before .before .before .before .before .before .a4 .given .1) (c .before .before .before .before .before .before .before .before .before .a4 .given .0 .1 .1 .0) refl (c .before .before .before .before .before .before .before .before .before .before .before .before .before .before .before .args .at) (c .before .before .before .before .wide2 .result) (c .before .before .before .before .before .before .before .before .before .before .before .before .before .before .before .args .out .now) (c .before .before .before .before .before .before .before .before .before .before .before .before .before .before .before .args .out .now) (c .before .before .before .before .before .before .copied2 .result) (c .before .before .before .expr7 .last .1 .1 .1 .1 .0) (rw (c .enum-told4 .given .1) at (c .before .before .before .expr7 .ensures .0)), refl)
+by-kind-returns-10 t c = (tell-stopped (c .before .before .before .before .before .before .before .before .before .before .before .before .before .before .before .args .t .now) (c .before .before .before .before .before .before .before .before .before .before .before .before .before .before .before .args .widths .now) (c .before .before .before .before .before .before .before .before .before .before .before .before .before .before .before .args .r) (c .before .before .before .before .before .before .before .before .before .before .before .before .before .before .before .pre .1 .0) (envOf (c .before .before .before .before .before .before .before .before .before .before .before .before .before .before .before .args .env .now)) (c .before .before .before .before .before .before .before .before .before .before .before .before .before .before .before .args .left) (For (c .before .before .before .before .before .before .before .before .before .a4 .given .0 .0) (c .before .before .before .before .before .before .before .before .before .a4 .given .0 .1 .0) (c .before .before .before .before .before .before .before .before .before .a4 .given .0 .1 .1 .0) (c .before .before .before .before .before .before .before .before .before .a4 .given .0 .1 .1 .1 .0)) (sym (c .before .before .before .before .before .before .before .before .before .before .before .shape-at .ensures) ∙ c .before .before .before .before .before .before .before .before .before .a4 .given .1) (c .before .before .before .before .before .before .before .before .before .a4 .given .0 .1 .1 .0) refl (c .before .before .before .before .before .before .before .before .before .before .before .before .before .before .before .args .at) (c .before .before .before .before .wide2 .result) (c .before .before .before .before .before .before .before .before .before .before .before .before .before .before .before .args .out .now) (c .before .before .before .before .before .before .before .before .before .before .before .before .before .before .before .args .out .now) (c .before .before .before .before .before .before .copied2 .result) (c .before .before .before .expr7 .last .1 .1 .1 .1 .0) (rw (c .enum-told7 .given .1) at (c .before .before .before .expr7 .ensures .0)), refl)
 
 -- src/cycle.rt:96:1  // Row r by its kind, where it is evaluated by its parts' rows: as expr. ⏎ fn by_kind(
 by-kind-returns-11 : (t : ℕ) → by-kind-lts.Need-returns-11 (
@@ -2478,7 +2526,7 @@ by-kind-returns-11 : (t : ℕ) → by-kind-lts.Need-returns-11 (
   rounds-below t,
   rounds.Post,
 ) (by-kind-at t) by-kind.Post
-by-kind-returns-11 t c = absurd (subst Compound (sym (c .before .before .shape-at .ensures) ∙ c .enum-told5 .given .1) (c .before .before .before .before .before .before .pre .1 .3))
+by-kind-returns-11 t c = absurd (subst Compound (sym (c .before .before .shape-at .ensures) ∙ c .enum-told8 .given .1) (c .before .before .before .before .before .before .pre .1 .3))
 
 -- src/cycle.rt:96:1  // Row r by its kind, where it is evaluated by its parts' rows: as expr. ⏎ fn by_kind(
 by-kind-returns-12 : (t : ℕ) → by-kind-lts.Need-returns-12 (
@@ -2501,7 +2549,7 @@ by-kind-returns-12 : (t : ℕ) → by-kind-lts.Need-returns-12 (
   rounds-below t,
   rounds.Post,
 ) (by-kind-at t) by-kind.Post
-by-kind-returns-12 t c = absurd (subst Compound (sym (c .before .before .shape-at .ensures) ∙ c .enum-told6 .given .1) (c .before .before .before .before .before .before .pre .1 .3))
+by-kind-returns-12 t c = absurd (subst Compound (sym (c .before .before .shape-at .ensures) ∙ c .enum-told9 .given .1) (c .before .before .before .before .before .before .pre .1 .3))
 
 -- src/cycle.rt:96:1  // Row r by its kind, where it is evaluated by its parts' rows: as expr. ⏎ fn by_kind(
 by-kind-returns-13 : (t : ℕ) → by-kind-lts.Need-returns-13 (
@@ -2524,7 +2572,7 @@ by-kind-returns-13 : (t : ℕ) → by-kind-lts.Need-returns-13 (
   rounds-below t,
   rounds.Post,
 ) (by-kind-at t) by-kind.Post
-by-kind-returns-13 t c = absurd (subst Compound (sym (c .before .before .shape-at .ensures) ∙ c .enum-told7 .given .1) (c .before .before .before .before .before .before .pre .1 .3))
+by-kind-returns-13 t c = absurd (subst Compound (sym (c .before .before .shape-at .ensures) ∙ c .enum-told10 .given .1) (c .before .before .before .before .before .before .pre .1 .3))
 
 -- src/cycle.rt:96:1  // Row r by its kind, where it is evaluated by its parts' rows: as expr. ⏎ fn by_kind(
 by-kind-returns-14 : (t : ℕ) → by-kind-lts.Need-returns-14 (
@@ -2547,7 +2595,7 @@ by-kind-returns-14 : (t : ℕ) → by-kind-lts.Need-returns-14 (
   rounds-below t,
   rounds.Post,
 ) (by-kind-at t) by-kind.Post
-by-kind-returns-14 t c = absurd (subst Compound (sym (c .before .before .shape-at .ensures) ∙ c .enum-told8 .given .1) (c .before .before .before .before .before .before .pre .1 .3))
+by-kind-returns-14 t c = absurd (subst Compound (sym (c .before .before .shape-at .ensures) ∙ c .enum-told11 .given .1) (c .before .before .before .before .before .before .pre .1 .3))
 
 -- src/cycle.rt:96:1  // Row r by its kind, where it is evaluated by its parts' rows: as expr. ⏎ fn by_kind(
 by-kind-returns-15 : (t : ℕ) → by-kind-lts.Need-returns-15 (
@@ -2570,7 +2618,7 @@ by-kind-returns-15 : (t : ℕ) → by-kind-lts.Need-returns-15 (
   rounds-below t,
   rounds.Post,
 ) (by-kind-at t) by-kind.Post
-by-kind-returns-15 t c = absurd (subst Compound (sym (c .before .before .shape-at .ensures) ∙ c .enum-told9 .given .1) (c .before .before .before .before .before .before .pre .1 .3))
+by-kind-returns-15 t c = absurd (subst Compound (sym (c .before .before .shape-at .ensures) ∙ c .enum-told12 .given .1) (c .before .before .before .before .before .before .pre .1 .3))
 
 -- src/cycle.rt:54:8  { ⏎ if width_at(widths, r) != 1 {
 expr-width-at-requires : (t : ℕ) → expr-lts.Need-width-at-requires (
@@ -2721,7 +2769,7 @@ rounds-Inv-loop t widths d w a b inner₀ out₀ at left values₀ l₀ inner ou
 abbrev rounds-μ-loop : rounds-lts.MeasureT-loop
 rounds-μ-loop t widths d w a b inner₀ out₀ at left values₀ l₀ inner out values l = l
 
--- src/cycle.rt:165:5  let mut l = left; ⏎ while 0 < l {
+-- src/cycle.rt:167:5  let mut l = left; ⏎ while 0 < l {
 rounds-loop-holds : (t : ℕ) → rounds-lts.Need-loop-holds (
   body-below t,
   body.Post,
@@ -2730,7 +2778,7 @@ rounds-loop-holds : (t : ℕ) → rounds-lts.Need-loop-holds (
 ) (rounds-at t) rounds.Post rounds-Inv-loop rounds-μ-loop
 rounds-loop-holds t c = search needs
 
--- src/cycle.rt:166:44  while 0 < l { ⏎ match body(t, widths, d, w, inner, &mut values, l - 1) {
+-- src/cycle.rt:168:44  while 0 < l { ⏎ match body(t, widths, d, w, inner, &mut values, l - 1) {
 rounds-slice-aggregate-body : (t : ℕ) → rounds-lts.Need-slice-aggregate-body (
   body-below t,
   body.Post,
@@ -2739,7 +2787,7 @@ rounds-slice-aggregate-body : (t : ℕ) → rounds-lts.Need-slice-aggregate-body
 ) (rounds-at t) rounds.Post rounds-Inv-loop rounds-μ-loop
 rounds-slice-aggregate-body t c = search needs
 
--- src/cycle.rt:166:57  while 0 < l { ⏎ match body(t, widths, d, w, inner, &mut values, l - 1) {
+-- src/cycle.rt:168:57  while 0 < l { ⏎ match body(t, widths, d, w, inner, &mut values, l - 1) {
 rounds-sub-body : (t : ℕ) → rounds-lts.Need-sub-body (
   body-below t,
   body.Post,
@@ -2748,7 +2796,7 @@ rounds-sub-body : (t : ℕ) → rounds-lts.Need-sub-body (
 ) (rounds-at t) rounds.Post rounds-Inv-loop rounds-μ-loop
 rounds-sub-body t c = search needs
 
--- src/cycle.rt:166:15  while 0 < l { ⏎ match body(t, widths, d, w, inner, &mut values, l - 1) {
+-- src/cycle.rt:168:15  while 0 < l { ⏎ match body(t, widths, d, w, inner, &mut values, l - 1) {
 rounds-body-requires : (t : ℕ) → rounds-lts.Need-body-requires (
   body-below t,
   body.Post,
@@ -2757,7 +2805,7 @@ rounds-body-requires : (t : ℕ) → rounds-lts.Need-body-requires (
 ) (rounds-at t) rounds.Post rounds-Inv-loop rounds-μ-loop
 rounds-body-requires t c κs = search needs
 
--- src/cycle.rt:168:17  Turn::Short => { ⏎ return Rest::Short;
+-- src/cycle.rt:170:17  Turn::Short => { ⏎ return Rest::Short;
 rounds-enum-told : (t : ℕ) → rounds-lts.Need-enum-told (
   body-below t,
   body.Post,
@@ -2766,7 +2814,7 @@ rounds-enum-told : (t : ℕ) → rounds-lts.Need-enum-told (
 ) (rounds-at t) rounds.Post rounds-Inv-loop rounds-μ-loop
 rounds-enum-told t c = search needs
 
--- src/cycle.rt:168:17  Turn::Short => { ⏎ return Rest::Short;
+-- src/cycle.rt:170:17  Turn::Short => { ⏎ return Rest::Short;
 rounds-same-length : (t : ℕ) → rounds-lts.Need-same-length (
   body-below t,
   body.Post,
@@ -2775,7 +2823,7 @@ rounds-same-length : (t : ℕ) → rounds-lts.Need-same-length (
 ) (rounds-at t) rounds.Post rounds-Inv-loop rounds-μ-loop
 rounds-same-length t c = search needs
 
--- src/cycle.rt:168:17  Turn::Short => { ⏎ return Rest::Short;
+-- src/cycle.rt:170:17  Turn::Short => { ⏎ return Rest::Short;
 rounds-returns : (t : ℕ) → rounds-lts.Need-returns (
   body-below t,
   body.Post,
@@ -2784,7 +2832,7 @@ rounds-returns : (t : ℕ) → rounds-lts.Need-returns (
 ) (rounds-at t) rounds.Post rounds-Inv-loop rounds-μ-loop
 rounds-returns t c = (round-short (c .before .before .before .before .before .before .before .before .before .before .before .args .t .now) (c .before .before .before .before .before .before .before .before .before .before .before .args .widths .now) (c .before .before .before .before .before .before .before .before .before .before .before .args .d) (c .before .before .before .before .before .before .before .before .before .before .before .pre .1 .0) (c .before .before .before .before .before .before .before .before .before .before .before .args .a) (c .before .before .before .before .before .before .before .before .before .before .before .args .b) (c .before .before .before .before .before .before .before .before .before .before .before .args .w) (c .before .before .before .before .before .before .before .before .before .before .before .pre .1 .1) (c .before .before .before .before .before .before .before .before .before .before .before .pre .1 .2) (c .before .before .before .before .before .before .before .before .before .before .before .args .inner .now) (c .before .before .before .before .before .before .before .loop .inner) (c .before .before .before .before .before .before .before .before .before .before .before .args .left) (c .before .before .before .before .before .before .before .loop .l) (c .before .before .before .before .before .before .before .loop .inv .0) (c .before .before .before .before .before .before .loop-test .taken) (c .before .before .before .before .before .before .before .loop .values) (c .before .before .before .body .last .1 .1 .1 .1 .1 .0) (rw (c .enum-told .given .1) at (c .before .before .before .body .ensures .0)) (c .before .before .before .before .before .before .before .before .before .before .before .args .at) (c .before .before .before .before .before .before .before .before .before .before .before .args .out .now) (c .before .before .before .before .before .before .before .loop .out), ap length (c .before .before .before .before .before .before .before .loop .inv .3))
 
--- src/cycle.rt:170:24  } ⏎ Turn::Back(m) => {
+-- src/cycle.rt:172:24  } ⏎ Turn::Back(m) => {
 rounds-enum-known-m : (t : ℕ) → rounds-lts.Need-enum-known-m (
   body-below t,
   body.Post,
@@ -2793,7 +2841,7 @@ rounds-enum-known-m : (t : ℕ) → rounds-lts.Need-enum-known-m (
 ) (rounds-at t) rounds.Post rounds-Inv-loop rounds-μ-loop
 rounds-enum-known-m t c = search needs
 
--- src/cycle.rt:171:31  Turn::Back(m) => { ⏎ copy(out, at, &values, w);
+-- src/cycle.rt:173:31  Turn::Back(m) => { ⏎ copy(out, at, &values, w);
 rounds-slice-aggregate-copy : (t : ℕ) → rounds-lts.Need-slice-aggregate-copy (
   body-below t,
   body.Post,
@@ -2802,7 +2850,7 @@ rounds-slice-aggregate-copy : (t : ℕ) → rounds-lts.Need-slice-aggregate-copy
 ) (rounds-at t) rounds.Post rounds-Inv-loop rounds-μ-loop
 rounds-slice-aggregate-copy t c = search needs
 
--- src/cycle.rt:171:17  Turn::Back(m) => { ⏎ copy(out, at, &values, w);
+-- src/cycle.rt:173:17  Turn::Back(m) => { ⏎ copy(out, at, &values, w);
 rounds-copy-requires : (t : ℕ) → rounds-lts.Need-copy-requires (
   body-below t,
   body.Post,
@@ -2811,7 +2859,7 @@ rounds-copy-requires : (t : ℕ) → rounds-lts.Need-copy-requires (
 ) (rounds-at t) rounds.Post rounds-Inv-loop rounds-μ-loop
 rounds-copy-requires t c κs = (omega (arith, ap length (c .before .before .before .before .before .before .before .before .before .before .loop .inv .3), c .before .before .before .before .before .before .before .before .before .before .before .before .before .before .pre .1 .7), omega (arith, c .before .before .before .before .before .before .body .ensures .1, c .before .before .before .before .before .before .before .before .before .before .loop .inv .2, c .before .before .before .before .before .before .before .before .before .before .before .before .before .before .pre .1 .3))
 
--- src/cycle.rt:172:17  copy(out, at, &values, w); ⏎ return Rest::Left(m);
+-- src/cycle.rt:174:17  copy(out, at, &values, w); ⏎ return Rest::Left(m);
 rounds-same-length-2 : (t : ℕ) → rounds-lts.Need-same-length-2 (
   body-below t,
   body.Post,
@@ -2820,7 +2868,7 @@ rounds-same-length-2 : (t : ℕ) → rounds-lts.Need-same-length-2 (
 ) (rounds-at t) rounds.Post rounds-Inv-loop rounds-μ-loop
 rounds-same-length-2 t c = c .before .before .copy .ensures .1 ∙ ap length (c .before .before .before .before .before .before .before .before .before .before .before .before .before .loop .inv .3)
 
--- src/cycle.rt:172:17  copy(out, at, &values, w); ⏎ return Rest::Left(m);
+-- src/cycle.rt:174:17  copy(out, at, &values, w); ⏎ return Rest::Left(m);
 rounds-returns-2 : (t : ℕ) → rounds-lts.Need-returns-2 (
   body-below t,
   body.Post,
@@ -2829,7 +2877,7 @@ rounds-returns-2 : (t : ℕ) → rounds-lts.Need-returns-2 (
 ) (rounds-at t) rounds.Post rounds-Inv-loop rounds-μ-loop
 rounds-returns-2 t c = (subst (λ (z : List ℕ). Told (turns (bodyOf (c .before .before .before .before .before .before .before .before .before .before .before .before .before .before .before .before .before .args .t .now) (c .before .before .before .before .before .before .before .before .before .before .before .before .before .before .before .before .before .args .d)) (c .before .before .before .before .before .before .before .before .before .before .before .before .before .before .before .before .before .args .a) (c .before .before .before .before .before .before .before .before .before .before .before .before .before .before .before .before .before .args .b) (envOf (c .before .before .before .before .before .before .before .before .before .before .before .before .before .before .before .before .before .args .inner .now)) (envOf (c .before .before .before .before .before .before .before .before .before .before .before .before .before .before .before .before .before .args .inner .now)) (c .before .before .before .before .before .before .before .before .before .before .before .before .before .before .before .before .before .args .left)) (Left (c .before .before .before .before .before .before .m .given .0 .0)) (c .before .before .before .before .before .before .before .before .before .before .before .before .before .before .before .before .before .args .at) (c .before .before .before .before .before .before .before .before .before .before .before .before .before .before .before .before .before .args .out .now) z) (sym (c .before .before .copy .ensures .0 ∙ ap (λ (z : List ℕ). paste z (c .before .before .before .before .before .before .before .before .before .before .before .before .before .before .before .before .before .args .at) (c .before .before .before .before .before .before .before .before .before .body .last .1 .1 .1 .1 .1 .0) (c .before .before .before .before .before .before .before .before .before .before .before .before .before .before .before .before .before .args .w)) (c .before .before .before .before .before .before .before .before .before .before .before .before .before .loop .inv .3))) (round-back (c .before .before .before .before .before .before .before .before .before .before .before .before .before .before .before .before .before .args .t .now) (c .before .before .before .before .before .before .before .before .before .before .before .before .before .before .before .before .before .args .widths .now) (c .before .before .before .before .before .before .before .before .before .before .before .before .before .before .before .before .before .args .d) (c .before .before .before .before .before .before .before .before .before .before .before .before .before .before .before .before .before .pre .1 .0) (c .before .before .before .before .before .before .before .before .before .before .before .before .before .before .before .before .before .args .a) (c .before .before .before .before .before .before .before .before .before .before .before .before .before .before .before .before .before .args .b) (c .before .before .before .before .before .before .before .before .before .before .before .before .before .before .before .before .before .args .w) (c .before .before .before .before .before .before .before .before .before .before .before .before .before .before .before .before .before .pre .1 .1) (c .before .before .before .before .before .before .before .before .before .before .before .before .before .before .before .before .before .pre .1 .2) (c .before .before .before .before .before .before .before .before .before .before .before .before .before .before .before .before .before .args .inner .now) (c .before .before .before .before .before .before .before .before .before .before .before .before .before .loop .inner) (c .before .before .before .before .before .before .before .before .before .before .before .before .before .before .before .before .before .args .left) (c .before .before .before .before .before .before .before .before .before .before .before .before .before .loop .l) (c .before .before .before .before .before .before .before .before .before .before .before .before .before .loop .inv .0) (c .before .before .before .before .before .before .before .before .before .before .before .before .loop-test .taken) (c .before .before .before .before .before .before .before .before .before .before .before .before .before .loop .values) (c .before .before .before .before .before .before .before .before .before .body .last .1 .1 .1 .1 .1 .0) (c .before .before .before .before .before .before .m .given .0 .0) (rw (c .before .before .before .before .before .before .m .given .1) at (c .before .before .before .before .before .before .before .before .before .body .ensures .0)) (c .before .before .before .before .before .before .before .before .before .before .before .before .before .before .before .before .before .args .at) (c .before .before .before .before .before .before .before .before .before .before .before .before .before .before .before .before .before .args .out .now) (c .before .before .before .before .before .before .before .before .before .before .before .before .before .before .before .before .before .pre .1 .7) (omega (arith, c .before .before .before .before .before .before .before .before .before .body .ensures .1, c .before .before .before .before .before .before .before .before .before .before .before .before .before .loop .inv .2, c .before .before .before .before .before .before .before .before .before .before .before .before .before .before .before .before .before .pre .1 .3))), c .before .before .copy .ensures .1 ∙ ap length (c .before .before .before .before .before .before .before .before .before .before .before .before .before .loop .inv .3))
 
--- src/cycle.rt:174:25  } ⏎ Turn::Again(m) => {
+-- src/cycle.rt:176:25  } ⏎ Turn::Again(m) => {
 rounds-enum-known-m-2 : (t : ℕ) → rounds-lts.Need-enum-known-m-2 (
   body-below t,
   body.Post,
@@ -2838,7 +2886,7 @@ rounds-enum-known-m-2 : (t : ℕ) → rounds-lts.Need-enum-known-m-2 (
 ) (rounds-at t) rounds.Post rounds-Inv-loop rounds-μ-loop
 rounds-enum-known-m-2 t c = search needs
 
--- src/cycle.rt:175:32  Turn::Again(m) => { ⏎ copy(inner, a, &values, b);
+-- src/cycle.rt:177:32  Turn::Again(m) => { ⏎ copy(inner, a, &values, b);
 rounds-slice-aggregate-copy-2 : (t : ℕ) → rounds-lts.Need-slice-aggregate-copy-2 (
   body-below t,
   body.Post,
@@ -2847,7 +2895,7 @@ rounds-slice-aggregate-copy-2 : (t : ℕ) → rounds-lts.Need-slice-aggregate-co
 ) (rounds-at t) rounds.Post rounds-Inv-loop rounds-μ-loop
 rounds-slice-aggregate-copy-2 t c = search needs
 
--- src/cycle.rt:175:17  Turn::Again(m) => { ⏎ copy(inner, a, &values, b);
+-- src/cycle.rt:177:17  Turn::Again(m) => { ⏎ copy(inner, a, &values, b);
 rounds-copy-requires-2 : (t : ℕ) → rounds-lts.Need-copy-requires-2 (
   body-below t,
   body.Post,
@@ -2856,7 +2904,7 @@ rounds-copy-requires-2 : (t : ℕ) → rounds-lts.Need-copy-requires-2 (
 ) (rounds-at t) rounds.Post rounds-Inv-loop rounds-μ-loop
 rounds-copy-requires-2 t c κs = search needs
 
--- src/cycle.rt:165:5  let mut l = left; ⏎ while 0 < l {
+-- src/cycle.rt:167:5  let mut l = left; ⏎ while 0 < l {
 rounds-loop-less : (t : ℕ) → rounds-lts.Need-loop-less (
   body-below t,
   body.Post,
@@ -2865,7 +2913,7 @@ rounds-loop-less : (t : ℕ) → rounds-lts.Need-loop-less (
 ) (rounds-at t) rounds.Post rounds-Inv-loop rounds-μ-loop
 rounds-loop-less t c = round-again (c .before .before .before .before .before .before .before .before .before .before .before .before .before .before .before .args .t .now) (c .before .before .before .before .before .before .before .before .before .before .before .before .before .before .before .args .widths .now) (c .before .before .before .before .before .before .before .before .before .before .before .before .before .before .before .args .d) (c .before .before .before .before .before .before .before .before .before .before .before .before .before .before .before .pre .1 .0) (c .before .before .before .before .before .before .before .before .before .before .before .before .before .before .before .args .a) (c .before .before .before .before .before .before .before .before .before .before .before .before .before .before .before .args .b) (c .before .before .before .before .before .before .before .before .before .before .before .before .before .before .before .args .w) (c .before .before .before .before .before .before .before .before .before .before .before .before .before .before .before .pre .1 .1) (c .before .before .before .before .before .before .before .before .before .before .before .before .before .before .before .pre .1 .2) (c .before .before .before .before .before .before .before .before .before .before .before .before .before .before .before .args .inner .now) (c .before .before .before .before .before .before .before .before .before .before .before .loop .inner) (c .before .before .before .before .before .before .before .before .before .before .before .before .before .before .before .args .left) (c .before .before .before .before .before .before .before .before .before .before .before .loop .l) (c .before .before .before .before .before .before .before .before .before .before .before .loop .inv .0) (c .before .before .before .before .before .before .before .before .before .before .loop-test .taken) (c .before .before .before .before .before .before .before .before .before .before .before .loop .values) (c .before .before .before .before .before .before .before .body .last .1 .1 .1 .1 .1 .0) (c .before .before .before .before .m2 .given .0 .0) (rw (c .before .before .before .before .m2 .given .1) at (c .before .before .before .before .before .before .before .body .ensures .0)) (omega (arith, c .before .before .before .before .before .before .before .before .before .before .before .loop .inv .1, c .before .before .before .before .before .before .before .before .before .before .before .before .before .before .before .pre .1 .5)) (omega (arith, c .before .before .before .before .before .before .before .body .ensures .1, c .before .before .before .before .before .before .before .before .before .before .before .loop .inv .2, c .before .before .before .before .before .before .before .before .before .before .before .before .before .before .before .pre .1 .4)) .1
 
--- src/cycle.rt:165:5  let mut l = left; ⏎ while 0 < l {
+-- src/cycle.rt:167:5  let mut l = left; ⏎ while 0 < l {
 rounds-loop-again : (t : ℕ) → rounds-lts.Need-loop-again (
   body-below t,
   body.Post,
@@ -2874,7 +2922,7 @@ rounds-loop-again : (t : ℕ) → rounds-lts.Need-loop-again (
 ) (rounds-at t) rounds.Post rounds-Inv-loop rounds-μ-loop
 rounds-loop-again t c = (subst (λ (z : List ℕ). Turning (bodyOf (c .before .before .before .before .before .before .before .before .before .before .before .before .before .before .before .args .t .now) (c .before .before .before .before .before .before .before .before .before .before .before .before .before .before .before .args .d)) (c .before .before .before .before .before .before .before .before .before .before .before .before .before .before .before .args .a) (c .before .before .before .before .before .before .before .before .before .before .before .before .before .before .before .args .b) (c .before .before .before .before .before .before .before .before .before .before .before .before .before .before .before .args .inner .now) z (c .before .before .before .before .before .before .before .before .before .before .before .before .before .before .before .args .left) (c .before .before .before .before .m2 .given .0 .0)) (sym (c .copy2 .ensures .0)) (round-again (c .before .before .before .before .before .before .before .before .before .before .before .before .before .before .before .args .t .now) (c .before .before .before .before .before .before .before .before .before .before .before .before .before .before .before .args .widths .now) (c .before .before .before .before .before .before .before .before .before .before .before .before .before .before .before .args .d) (c .before .before .before .before .before .before .before .before .before .before .before .before .before .before .before .pre .1 .0) (c .before .before .before .before .before .before .before .before .before .before .before .before .before .before .before .args .a) (c .before .before .before .before .before .before .before .before .before .before .before .before .before .before .before .args .b) (c .before .before .before .before .before .before .before .before .before .before .before .before .before .before .before .args .w) (c .before .before .before .before .before .before .before .before .before .before .before .before .before .before .before .pre .1 .1) (c .before .before .before .before .before .before .before .before .before .before .before .before .before .before .before .pre .1 .2) (c .before .before .before .before .before .before .before .before .before .before .before .before .before .before .before .args .inner .now) (c .before .before .before .before .before .before .before .before .before .before .before .loop .inner) (c .before .before .before .before .before .before .before .before .before .before .before .before .before .before .before .args .left) (c .before .before .before .before .before .before .before .before .before .before .before .loop .l) (c .before .before .before .before .before .before .before .before .before .before .before .loop .inv .0) (c .before .before .before .before .before .before .before .before .before .before .loop-test .taken) (c .before .before .before .before .before .before .before .before .before .before .before .loop .values) (c .before .before .before .before .before .before .before .body .last .1 .1 .1 .1 .1 .0) (c .before .before .before .before .m2 .given .0 .0) (rw (c .before .before .before .before .m2 .given .1) at (c .before .before .before .before .before .before .before .body .ensures .0)) (omega (arith, c .before .before .before .before .before .before .before .before .before .before .before .loop .inv .1, c .before .before .before .before .before .before .before .before .before .before .before .before .before .before .before .pre .1 .5)) (omega (arith, c .before .before .before .before .before .before .before .body .ensures .1, c .before .before .before .before .before .before .before .before .before .before .before .loop .inv .2, c .before .before .before .before .before .before .before .before .before .before .before .before .before .before .before .pre .1 .4)) .0), c .copy2 .ensures .1 ∙ c .before .before .before .before .before .before .before .before .before .before .before .loop .inv .1, c .before .before .before .before .before .before .before .body .ensures .1 ∙ c .before .before .before .before .before .before .before .before .before .before .before .loop .inv .2, c .before .before .before .before .before .before .before .before .before .before .before .loop .inv .3)
 
--- src/cycle.rt:148:1  // w values go to the words of `out` from `at` on. ⏎ fn rounds(
+-- src/cycle.rt:150:1  // w values go to the words of `out` from `at` on. ⏎ fn rounds(
 rounds-same-length-3 : (t : ℕ) → rounds-lts.Need-same-length-3 (
   body-below t,
   body.Post,
@@ -2883,7 +2931,7 @@ rounds-same-length-3 : (t : ℕ) → rounds-lts.Need-same-length-3 (
 ) (rounds-at t) rounds.Post rounds-Inv-loop rounds-μ-loop
 rounds-same-length-3 t c = search needs
 
--- src/cycle.rt:148:1  // w values go to the words of `out` from `at` on. ⏎ fn rounds(
+-- src/cycle.rt:150:1  // w values go to the words of `out` from `at` on. ⏎ fn rounds(
 rounds-returns-3 : (t : ℕ) → rounds-lts.Need-returns-3 (
   body-below t,
   body.Post,
@@ -3559,15 +3607,16 @@ pub +body+by-kind+expr+rounds+single-spec : {M : Type 1} → statement M
     (body-enum-told t)
     (body-enum-known-a-3 t)
     (body-single-requires t)
+    (body-enum-known-v t)
     (body-chosen-requires t)
-    (body-enum-known-l-2 t)
-    (body-body-requires-2 t)
-    (body-enum-known-l-3 t)
-    (body-body-requires-3 t)
-    (body-enum-known-l-4 t)
-    (body-put-errs-requires t)
     (body-enum-told-2 t)
+    (body-body-requires-2 t)
     (body-enum-told-3 t)
+    (body-body-requires-3 t)
+    (body-enum-told-4 t)
+    (body-put-errs-requires t)
+    (body-enum-told-5 t)
+    (body-enum-told-6 t)
     (body-expr-requires-3 t)
     (body-back-requires t)
     (body-same-length t)
@@ -3624,31 +3673,32 @@ pub +body+by-kind+expr+rounds+single-spec : {M : Type 1} → statement M
     (by-kind-enum-told-2 t)
     (by-kind-enum-known-a-3 t)
     (by-kind-single-requires t)
+    (by-kind-enum-known-w t)
     (by-kind-chosen-requires t)
-    (by-kind-enum-known-l-3 t)
+    (by-kind-enum-told-3 t)
     (by-kind-expr-requires-5 t)
-    (by-kind-enum-known-l-4 t)
+    (by-kind-enum-told-4 t)
     (by-kind-expr-requires-6 t)
-    (by-kind-enum-known-l-5 t)
+    (by-kind-enum-told-5 t)
     (by-kind-width-at-requires-2 t)
     (by-kind-put-errs-requires t)
-    (by-kind-enum-told-3 t)
+    (by-kind-enum-told-6 t)
     (by-kind-enum-known-a-4 t)
     (by-kind-width-at-requires-3 t)
     (by-kind-copied-requires-2 t)
     (by-kind-slice-aggregate-expr-2 t)
     (by-kind-wide-requires-2 t)
     (by-kind-expr-requires-7 t)
-    (by-kind-enum-known-l-6 t)
+    (by-kind-enum-known-l-3 t)
     (by-kind-wide-requires-3 t)
     (by-kind-wide-requires-4 t)
     (by-kind-rounds-requires t)
-    (by-kind-enum-told-4 t)
-    (by-kind-enum-told-5 t)
-    (by-kind-enum-told-6 t)
     (by-kind-enum-told-7 t)
     (by-kind-enum-told-8 t)
     (by-kind-enum-told-9 t)
+    (by-kind-enum-told-10 t)
+    (by-kind-enum-told-11 t)
+    (by-kind-enum-told-12 t)
     (by-kind-same-length t)
     (by-kind-returns t)
     (by-kind-same-length-2 t)

@@ -2,6 +2,7 @@
 --   tie if1  { ⏎ if width_at(widths, b) == 1 {
 --   tie if2  }; ⏎ if width_at(widths, x) != 1 {
 --   tie if3  } ⏎ if width_at(widths, y) != 1 {
+use native.Mathlib.Omega.{arith}
 use borrow.Author.Needs.{needs}
 use Rattle.eval_words.proofs.parts.operator_at.Statement.{statement}
 use Rattle.eval_words.proofs.parts.operator_at.Tie as tie
@@ -13,7 +14,6 @@ use Prim.Native.Nat.{ℕ, _+_, _*_, _-_, _≤_, _<_}
 use mathlib.Core.Path.{_≡_, refl, sym, _∙_}
 use Rattle.formula.specs.declared.Shape.the-variants.{Pair}
 use Rattle.meaning.specs.Rows.{ExpChildren, exp-children}
-use native.Mathlib.Omega.{arith}
 
 -- src/parts.rt:20:8  { ⏎ if width_at(widths, b) == 1 {
 width-at-requires : tie.Need-width-at-requires

@@ -8,15 +8,15 @@ use mathlib.Core.Path.{_≡_, refl, sym, _∙_, ap}
 use mir.Syntax.{w32}
 use mir.Facts.{toZ-pos}
 
--- src/words.rt:76:23  { ⏎ word(Value::Whole(a as i32))
+-- src/words.rt:77:23  { ⏎ word(Value::Whole(a as i32))
 cast-t2 : tie.Need-cast-t2
 cast-t2 c = search needs
 
--- src/words.rt:76:5  { ⏎ word(Value::Whole(a as i32))
+-- src/words.rt:77:5  { ⏎ word(Value::Whole(a as i32))
 word-requires : tie.Need-word-requires
 word-requires c κs = search needs
 
--- src/words.rt:72:1  } ⏎ pub fn whole_word(a: u32) -> u64
+-- src/words.rt:73:1  } ⏎ pub fn whole_word(a: u32) -> u64
 returns : tie.Need-returns
 returns c = rw (sym (toZ-pos w32 {n = c .before .args .a} (c .before .pre))) (c .word .ensures)
 

@@ -1,0 +1,49 @@
+-- Tokens as words: which words true, false and the plain err have, and that a word which was read as a token is that token's word. Who cites these
+-- names no case of a value, so a further one changes the proofs here alone. Assumes nothing.
+use Prim.Native.Nat.{ℕ, _≤_}
+use mathlib.Core.Path.{_≡_, refl, sym, ap, _∙_}
+use mathlib.Core.Bool.{Bool, true, false}
+use mathlib.Core.Option.{Option, some, none}
+use native.Mathlib.Omega.{arith}
+use Rattle.value.specs.declared.Value.{Value}
+use Rattle.value.specs.declared.Value.the-variants.{Whole, Truth, Err}
+use Rattle.value.specs.Operators.{pick}
+use Rattle.value.specs.Bytes.{wordOf, valueOf, isSome, decoded, wordOr}
+use Rattle.value.proofs.Words.{value-of-word, word-of-value, value-in-range, no-value}
+
+pub only-true : (v : Value) → wordOf v ≡ 258 → v ≡ Truth true
+unfolding wordOf
+only-true (Whole z) e = absurd (omega arith)
+only-true (Truth true) e = refl
+only-true (Truth false) e = absurd (omega arith)
+only-true Err e = absurd (omega arith)
+
+pub only-false : (v : Value) → wordOf v ≡ 2 → v ≡ Truth false
+unfolding wordOf
+only-false (Whole z) e = absurd (omega arith)
+only-false (Truth true) e = absurd (omega arith)
+only-false (Truth false) e = refl
+only-false Err e = absurd (omega arith)
+
+pub only-err : (v : Value) → wordOf v ≡ 3 → v ≡ Err
+unfolding wordOf
+only-err (Whole z) e = absurd (omega arith)
+only-err (Truth true) e = absurd (omega arith)
+only-err (Truth false) e = absurd (omega arith)
+only-err Err e = refl
+
+-- the word of a token that was read is the word itself where it is a value, else 0
+pub word-of-token : (w : ℕ) → wordOr (decoded (valueOf w)) ≡ pick (isSome (valueOf w)) w 0
+word-of-token w = go (valueOf w) refl
+  where
+    go : (x : Option Value) → valueOf w ≡ x → wordOr (decoded x) ≡ pick (isSome x) w 0
+    go (some v) e = sym (word-of-value w v e)
+    go none e = refl
+
+-- a token that was read is read again from its word
+pub token-of-word : (w : ℕ) → valueOf (wordOr (decoded (valueOf w))) ≡ valueOf w
+token-of-word w = go (valueOf w) refl
+  where
+    go : (x : Option Value) → valueOf w ≡ x → valueOf (wordOr (decoded x)) ≡ x
+    go (some v) e = value-of-word v (value-in-range w v e)
+    go none e = no-value
