@@ -8,7 +8,7 @@ use Rattle.value.specs.declared.Value.{Value}
 use Rattle.value.specs.Bytes.{InRange}
 use Rattle.value.proofs.Codes.{apply-in-range}
 use Rattle.network.specs.Values.{err-value, Sense, is-true, is-false, is-neither, sense, one-operand}
-use Rattle.network.specs.Rules.{Kind, constant, copy, operator, T-gate, F-gate, M-gate, E-gate, IC-gate, FM-gate, FS-gate, Register, Firing, takes, gives, never, Input, T-rule, F-rule, M-rule, E-rule, chosen, IC-table, fired, FS-rule, operator-rule, rule}
+use Rattle.network.specs.Rules.{Kind, constant, copy, operator, T-gate, F-gate, M-gate, E-gate, IC-gate, FM-gate, FS-gate, Register, Firing, takes, gives, never, Input, T-rule, F-rule, M-rule, E-rule, chosen, as-truth, IC-table, fired, FS-rule, operator-rule, rule}
 use Rattle.network.specs.Decide.{Taken, also, untouched, Decision, with-head, decided, decide}
 use Rattle.network.specs.Firing.{none-is-not-some, some-same}
 use Rattle.demand_view.specs.Stands.{Fine}
@@ -39,19 +39,17 @@ module _ (g : Register) (f : Fine g) where
   E-fine is-false = λ v h. (h, tt, tt, f)
   E-fine is-neither = (tt, tt, tt, f)
 
-  table-fine : (c s : Sense) → Gives-fine (IC-table g c s)
-  table-fine is-true is-true = (tt, tt, tt, f)
-  table-fine is-true is-false = (tt, tt, tt, f)
-  table-fine is-true is-neither = (tt, tt, tt, f)
-  table-fine is-false is-true = (tt, tt, tt, f)
-  table-fine is-false is-false = (tt, tt, tt, f)
-  table-fine is-false is-neither = (tt, tt, tt, f)
-  table-fine is-neither s = (tt, tt, tt, f)
+  table-fine : (c : Sense) (i : Bool) → Gives-fine (IC-table g c i)
+  table-fine is-true true = (tt, tt, tt, f)
+  table-fine is-true false = (tt, tt, tt, f)
+  table-fine is-false true = (tt, tt, tt, f)
+  table-fine is-false false = (tt, tt, tt, f)
+  table-fine is-neither i = (tt, tt, tt, f)
 
   IC-fine : (s : Sense) → Gives-fine (chosen s (IC-table g s))
-  IC-fine is-true = λ v h. table-fine is-true (sense v)
-  IC-fine is-false = λ v h. table-fine is-false (sense v)
-  IC-fine is-neither = table-fine is-neither is-neither
+  IC-fine is-true = λ v h. table-fine is-true (as-truth (sense v))
+  IC-fine is-false = λ v h. table-fine is-false (as-truth (sense v))
+  IC-fine is-neither = table-fine is-neither false
 
   operator-fine : (b : Bool) (code : ℕ) (v : Value) → Gives-fine (operator-rule b code g v)
   operator-fine true code v = (apply-in-range code v err-value, tt, tt, f)

@@ -8,7 +8,7 @@ use mathlib.Core.List.{[], _∷_}
 use mathlib.Core.Option.{Option, none, some}
 use Rattle.value.specs.declared.Value.{Value}
 use Rattle.network.specs.Values.{Sense, is-true, is-false, is-neither, sense, one-operand}
-use Rattle.network.specs.Rules.{Kind, constant, copy, operator, T-gate, F-gate, M-gate, E-gate, IC-gate, FM-gate, FS-gate, Register, Firing, takes, gives, never, Input, first, second, third, T-rule, F-rule, M-rule, E-rule, chosen, IC-table, fired, FS-rule, operator-rule, rule}
+use Rattle.network.specs.Rules.{Kind, constant, copy, operator, T-gate, F-gate, M-gate, E-gate, IC-gate, FM-gate, FS-gate, Register, Firing, takes, gives, never, Input, first, second, third, T-rule, F-rule, M-rule, E-rule, chosen, as-truth, IC-table, fired, FS-rule, operator-rule, rule}
 use Rattle.network.specs.Histories.{History}
 use Rattle.network.specs.HistoryLaw.{Outcome, outcome}
 
@@ -81,18 +81,16 @@ E-once g is-true = (refl, λ v. tt)
 E-once g is-false = (refl, λ v. tt)
 E-once g is-neither = tt
 
-table-once : (t : Taken) (g : Register) (c s : Sense) → Once t (IC-table g c s)
-table-once t g is-true is-true = tt
-table-once t g is-true is-false = tt
-table-once t g is-true is-neither = tt
-table-once t g is-false is-true = tt
-table-once t g is-false is-false = tt
-table-once t g is-false is-neither = tt
-table-once t g is-neither s = tt
+table-once : (t : Taken) (g : Register) (c : Sense) (i : Bool) → Once t (IC-table g c i)
+table-once t g is-true true = tt
+table-once t g is-true false = tt
+table-once t g is-false true = tt
+table-once t g is-false false = tt
+table-once t g is-neither i = tt
 
 IC-once : (g : Register) (s : Sense) → Once after-control (chosen s (IC-table g s))
-IC-once g is-true = (refl, λ v. table-once (also second after-control) g is-true (sense v))
-IC-once g is-false = (refl, λ v. table-once (also third after-control) g is-false (sense v))
+IC-once g is-true = (refl, λ v. table-once (also second after-control) g is-true (as-truth (sense v)))
+IC-once g is-false = (refl, λ v. table-once (also third after-control) g is-false (as-truth (sense v)))
 IC-once g is-neither = tt
 
 FS-once : (r : Value) (s : Sense) → Once after-control (FS-rule r s)

@@ -9,7 +9,7 @@ use mathlib.Core.List.{List, [], _∷_, _++_}
 use mathlib.Core.Option.{Option, none, some}
 use Rattle.value.specs.declared.Value.{Value}
 use Rattle.network.specs.Values.{err-value, Sense, is-true, is-false, is-neither, sense, one-operand}
-use Rattle.network.specs.Rules.{Kind, constant, copy, operator, T-gate, F-gate, M-gate, E-gate, IC-gate, FM-gate, FS-gate, Register, Firing, takes, gives, never, Input, first, second, third, T-rule, F-rule, M-rule, E-rule, chosen, IC-table, operator-rule, rule}
+use Rattle.network.specs.Rules.{Kind, constant, copy, operator, T-gate, F-gate, M-gate, E-gate, IC-gate, FM-gate, FS-gate, Register, Firing, takes, gives, never, Input, first, second, third, T-rule, F-rule, M-rule, E-rule, chosen, as-truth, IC-table, operator-rule, rule}
 use Rattle.network.specs.Net.{Token, val, mark, Demand, ask, fire, halt}
 
 pub record Ports : Type 0 where
@@ -108,19 +108,16 @@ module _ (g : Register) where
   E-keeps is-false = λ v. refl
   E-keeps is-neither = refl
 
-  IC-true-keeps : (s : Sense) → Keeps (IC-table g is-true s)
-  IC-true-keeps is-true = refl
-  IC-true-keeps is-false = refl
-  IC-true-keeps is-neither = refl
-
-  IC-false-keeps : (s : Sense) → Keeps (IC-table g is-false s)
-  IC-false-keeps is-true = refl
-  IC-false-keeps is-false = refl
-  IC-false-keeps is-neither = refl
+  table-keeps : (c : Sense) (i : Bool) → Keeps (IC-table g c i)
+  table-keeps is-true true = refl
+  table-keeps is-true false = refl
+  table-keeps is-false true = refl
+  table-keeps is-false false = refl
+  table-keeps is-neither i = refl
 
   IC-keeps : (s : Sense) → Keeps (chosen s (IC-table g s))
-  IC-keeps is-true = λ v. IC-true-keeps (sense v)
-  IC-keeps is-false = λ v. IC-false-keeps (sense v)
+  IC-keeps is-true = λ v. table-keeps is-true (as-truth (sense v))
+  IC-keeps is-false = λ v. table-keeps is-false (as-truth (sense v))
   IC-keeps is-neither = refl
 
   operator-keeps : (b : Bool) (code : ℕ) (v : Value) → Keeps (operator-rule b code g v)

@@ -59,23 +59,25 @@ E-rule g is-true = takes second (λ v. passes v g)
 E-rule g is-false = takes second (λ v. passes v g)
 E-rule g is-neither = passes err-value g
 
+-- How IC reads the input that its control chooses. Document 02: "A chosen input that is no truth, in altered memory, counts as false."
+abbrev pub as-truth : Sense → Bool
+as-truth is-true = true
+as-truth is-false = false
+as-truth is-neither = false
+
 -- IC: "true takes input 2, false input 3"; another control takes neither.
-abbrev pub chosen : Sense → (Sense → Firing) → Firing
-chosen is-true k = takes second (λ v. k (sense v))
-chosen is-false k = takes third (λ v. k (sense v))
-chosen is-neither k = k is-neither
+abbrev pub chosen : Sense → (Bool → Firing) → Firing
+chosen is-true k = takes second (λ v. k (as-truth (sense v)))
+chosen is-false k = takes third (λ v. k (as-truth (sense v)))
+chosen is-neither k = k false
 
 -- Brock's table of the IC gate (section 2.4), row by row: the control and the chosen iter?; the graph's iter?, the I and the R control.
--- The last two rows are in neither his table nor document 01: a chosen input that is no truth, met in altered memory only, is read as false,
--- as document 02 later asks.
-abbrev pub IC-table : Register → Sense → Sense → Firing
-IC-table g is-true is-true = gives (some true-value) (some true-value) none g
-IC-table g is-true is-false = gives (some false-value) none (some true-value) g
-IC-table g is-false is-true = gives (some true-value) (some false-value) none g
-IC-table g is-false is-false = gives (some false-value) none (some false-value) g
+abbrev pub IC-table : Register → Sense → Bool → Firing
+IC-table g is-true true = gives (some true-value) (some true-value) none g
+IC-table g is-true false = gives (some false-value) none (some true-value) g
+IC-table g is-false true = gives (some true-value) (some false-value) none g
+IC-table g is-false false = gives (some false-value) none (some false-value) g
 IC-table g is-neither i = gives (some false-value) none (some err-value) g
-IC-table g is-true is-neither = gives (some false-value) none (some true-value) g
-IC-table g is-false is-neither = gives (some false-value) none (some false-value) g
 
 -- The register of an FM that has fired: which value it is matters to nobody.
 abbrev pub fired : Register

@@ -10,7 +10,7 @@ use lib.Dec.{leb}
 use native.Mathlib.Decide.{ℕ-discrete}
 use Rattle.value.specs.declared.Value.{Value}
 use Rattle.network.specs.Values.{true-value, Sense, is-true, is-false, is-neither, sense, one-operand}
-use Rattle.network.specs.Rules.{Kind, constant, copy, operator, T-gate, F-gate, M-gate, E-gate, IC-gate, FM-gate, FS-gate, Register, Firing, takes, gives, never, Input, first, second, third, T-rule, F-rule, M-rule, E-rule, chosen, IC-table, fired, FS-rule, operator-rule, rule}
+use Rattle.network.specs.Rules.{Kind, constant, copy, operator, T-gate, F-gate, M-gate, E-gate, IC-gate, FM-gate, FS-gate, Register, Firing, takes, gives, never, Input, first, second, third, T-rule, F-rule, M-rule, E-rule, chosen, as-truth, IC-table, fired, FS-rule, operator-rule, rule}
 use Rattle.network.specs.Net.{Token, val, Demand, ask, fire}
 use Rattle.network.specs.Wired.{Emits-in, Uses, free-of}
 use Rattle.network.specs.Fill.{Ports, input, value-of, register-of, register-token, emission, emissions, wire, remembering, kept, filled, fill}
@@ -65,18 +65,16 @@ E-within g is-true = (refl, λ v. tt)
 E-within g is-false = (refl, λ v. tt)
 E-within g is-neither = tt
 
-table-within : (g : Register) (c s : Sense) → Within 3 (IC-table g c s)
-table-within g is-true is-true = tt
-table-within g is-true is-false = tt
-table-within g is-true is-neither = tt
-table-within g is-false is-true = tt
-table-within g is-false is-false = tt
-table-within g is-false is-neither = tt
-table-within g is-neither s = tt
+table-within : (g : Register) (c : Sense) (i : Bool) → Within 3 (IC-table g c i)
+table-within g is-true true = tt
+table-within g is-true false = tt
+table-within g is-false true = tt
+table-within g is-false false = tt
+table-within g is-neither i = tt
 
 IC-within : (g : Register) (s : Sense) → Within 3 (chosen s (IC-table g s))
-IC-within g is-true = (refl, λ v. table-within g is-true (sense v))
-IC-within g is-false = (refl, λ v. table-within g is-false (sense v))
+IC-within g is-true = (refl, λ v. table-within g is-true (as-truth (sense v)))
+IC-within g is-false = (refl, λ v. table-within g is-false (as-truth (sense v)))
 IC-within g is-neither = tt
 
 FS-within : (r : Value) (s : Sense) → Within 2 (FS-rule r s)

@@ -10,7 +10,7 @@ use native.Mathlib.Omega.{arith}
 use Rattle.value.specs.declared.Value.{Value}
 use Rattle.value.specs.Operators.{operands, pick}
 use Rattle.network.specs.Values.{true-value, false-value, err-value, Sense, is-true, is-false, is-neither, sense, one-operand, apply}
-use Rattle.network.specs.Rules.{IC-gate, Input, first, second, third, Firing, T-rule, F-rule, M-rule, E-rule, chosen, IC-table}
+use Rattle.network.specs.Rules.{IC-gate, Input, first, second, third, Firing, T-rule, F-rule, M-rule, E-rule, chosen, as-truth, IC-table}
 use Rattle.network.specs.Decide.{Decision, decide, decided, also, untouched}
 use Rattle.graph.specs.Assembly.{const, oper, T, F, M, E, IC, gateOutputs}
 use Rattle.graph.specs.Yields.{Fires, rests, fires, TakesAll, present, waiting}
@@ -28,7 +28,7 @@ abbrev IC-rule : Sense → Firing
 IC-rule s = chosen s (IC-table none s)
 
 abbrev by-chosen : Input → Sense → List (Option Value) → Sense → Option Decision
-by-chosen i c vs s = decided (also i (also first untouched)) (IC-table none c s) (waiting vs)
+by-chosen i c vs s = decided (also i (also first untouched)) (IC-table none c (as-truth s)) (waiting vs)
 
 -- ---- constants and operators
 
