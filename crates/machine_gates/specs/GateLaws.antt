@@ -10,7 +10,7 @@ use Rattle.value.specs.declared.Sense.{Sense}
 use Rattle.value.specs.declared.Sense.the-variants.{True, False, Neither}
 use Rattle.value.specs.Senses.{sense}
 use Rattle.network.specs.Values.{true-value, false-value, err-value}
-use Rattle.machine_gates.specs.Decide.{Decided, does, idle, isAbsent, isTrue, isFalse, isNeither, countsFalse, trueSense, falseSense, neitherSense, falseCounted}
+use Rattle.machine_gates.specs.Decide.{Decided, does, idle, isAbsent, isTrue, isFalse, isNeither, countsFalse, trueSense, falseSense, neitherSense}
 use Rattle.machine_gates.specs.Gates.{applied, unaryBy, binaryBy, constantBy, copyBy, tBy, fBy, mBy, eBy, icBy, fmBy}
 
 pub applied-there : (code : ℕ) (a b : Decoded) → isAbsent a ≡ false → isAbsent b ≡ false → isAbsent (applied code a b) ≡ false

@@ -3,3 +3,4 @@ pub mod Gates
 pub mod Tables
 pub mod GateLaws
 pub mod Words
+pub mod LoopJoin
