@@ -30,25 +30,26 @@ module _ (m : List ℕ) (size i : ℕ) (a b c g : Decoded) where
 
   none-holds : (rs : List Row) → holding rs a b c ≡ 0 → holdingIn m size i rs a b c g ≡ 0
   none-holds [] e = refl
-  none-holds (r ∷ rs) e = go (r .holds a b c) refl
+  none-holds (r ∷ rs) e = go (r .holds a b c) refl (λ h. none-holds rs h)
     where
-      go : (t : Bool) → r .holds a b c ≡ t → holdingIn m size i (r ∷ rs) a b c g ≡ 0
-      go true q = absurd (let o : cond (r .holds a b c) 1 0 ≡ 1 = (rw q refl) in omega (arith, e))
-      go false q = let o : cond (r .holds a b c) 1 0 ≡ 0 = (rw q refl) in rw q (none-holds rs (omega (arith, e)))
+      go : (t : Bool) → r .holds a b c ≡ t → (holding rs a b c ≡ 0 → holdingIn m size i rs a b c g ≡ 0) → holdingIn m size i (r ∷ rs) a b c g ≡ 0
+      go true q ih = absurd (let o : _≡_ {A = ℕ} (cond (r .holds a b c) 1 0) 1 = (rw q refl) in omega (arith, e))
+      go false q ih = let o : _≡_ {A = ℕ} (cond (r .holds a b c) 1 0) 0 = (rw q refl) in rw q (omega (arith, ih (omega (arith, e))))
 
   -- where at most one row holds, the first one decides
   first-decides : (rs : List Row) → holding rs a b c ≤ 1 → holdingIn m size i rs a b c g ≡ cond (ready m size i (firstRow rs a b c g)) 1 0
   first-decides [] h = ap (λ (t : Bool). cond t 1 0) (sym idle-never)
-  first-decides (r ∷ rs) h = go (r .holds a b c) refl
+  first-decides (r ∷ rs) h = go (r .holds a b c) refl (λ k. first-decides rs k)
     where
-      go : (t : Bool) → r .holds a b c ≡ t → holdingIn m size i (r ∷ rs) a b c g ≡ cond (ready m size i (firstRow (r ∷ rs) a b c g)) 1 0
-      go true q =
-          let o : cond (r .holds a b c) 1 0 ≡ 1 = (rw q refl) in
+      go : (t : Bool) → r .holds a b c ≡ t → (holding rs a b c ≤ 1 → holdingIn m size i rs a b c g ≡ cond (ready m size i (firstRow rs a b c g)) 1 0) →
+          holdingIn m size i (r ∷ rs) a b c g ≡ cond (ready m size i (firstRow (r ∷ rs) a b c g)) 1 0
+      go true q ih =
+          let o : _≡_ {A = ℕ} (cond (r .holds a b c) 1 0) 1 = (rw q refl) in
           let n = none-holds rs (omega (arith, h)) in
           rw (q, n) (omega arith)
-      go false q =
-          let o : cond (r .holds a b c) 1 0 ≡ 0 = (rw q refl) in
-          rw q (first-decides rs (omega (arith, h)))
+      go false q ih =
+          let o : _≡_ {A = ℕ} (cond (r .holds a b c) 1 0) 0 = (rw q refl) in
+          rw q (omega (arith, ih (omega (arith, h))))
 
   at-most-one : holding table a b c ≤ 1
   at-most-one = go (decideAt 18 a b c g .able) (exactly-one a b c g)
