@@ -391,7 +391,92 @@ static void sixteen(void) {
     expect("nothing behind the result set", out[BENCH_RESULT_BYTES] == 0x5a && out[sizeof out - 1] == 0x5a, 1);
 }
 
+/* What may wait first on a link: nothing, or a token of each sort. */
+enum sort { NOTHING, TRUE_TOKEN, FALSE_TOKEN, WHOLE_TOKEN, ERR_TOKEN, SORTS };
+static const uint8_t tokens[SORTS][BENCH_VALUE_BYTES] = {
+    [TRUE_TOKEN] = {BENCH_TRUTH, 1}, [FALSE_TOKEN] = {BENCH_TRUTH, 0}, [WHOLE_TOKEN] = {BENCH_WHOLE, 5}, [ERR_TOKEN] = {BENCH_ERR}};
+
+static size_t stretch_at(size_t name) {
+    return STRETCHES_AT + STRETCH * (size_t)figure(name);
+}
+
+static void put_token(size_t stretch, enum sort sort) {
+    memory[stretch] = sort != NOTHING;
+    memcpy(memory + stretch + 1, tokens[sort], BENCH_VALUE_BYTES);
+}
+
+/* Nothing or just this token waits on a link. */
+static void waits(const char *what, size_t stretch, enum sort sort) {
+    expect(what, memory[stretch], sort != NOTHING);
+    expect(what, sort == NOTHING || memcmp(memory + stretch + 1, tokens[sort], BENCH_VALUE_BYTES) == 0, 1);
+}
+
+/* A row of Brock's table of the IC gate: the control, the input that it chooses; the graph's iter?, the I control, the R control. */
+struct row {
+    enum sort control, chosen, iter, again, result;
+};
+static const struct row rows[] = {
+    {TRUE_TOKEN, TRUE_TOKEN, TRUE_TOKEN, TRUE_TOKEN, NOTHING},
+    {TRUE_TOKEN, FALSE_TOKEN, FALSE_TOKEN, NOTHING, TRUE_TOKEN},
+    {FALSE_TOKEN, TRUE_TOKEN, TRUE_TOKEN, FALSE_TOKEN, NOTHING},
+    {FALSE_TOKEN, FALSE_TOKEN, FALSE_TOKEN, NOTHING, FALSE_TOKEN},
+    {ERR_TOKEN, NOTHING, FALSE_TOKEN, NOTHING, ERR_TOKEN},
+};
+
+/* The row for the tokens that wait, NULL where the gate is not able: a control that is no truth is like an err, a chosen input that is no truth like false. */
+static const struct row *row_of(enum sort control, enum sort second, enum sort third) {
+    enum sort chosen = control == TRUE_TOKEN ? second : control == FALSE_TOKEN ? third : NOTHING;
+    for (size_t r = 0; r < sizeof rows / sizeof rows[0]; r++) {
+        enum sort wanted = control == WHOLE_TOKEN ? ERR_TOKEN : control;
+        enum sort read = chosen == WHOLE_TOKEN || chosen == ERR_TOKEN ? FALSE_TOKEN : chosen;
+        if (rows[r].control == wanted && rows[r].chosen == read) {
+            return &rows[r];
+        }
+    }
+    return NULL;
+}
+
+/* IC with these tokens on its inputs: what it takes and gives, by its row. */
+static void join(uint32_t operator, enum sort control, enum sort second, enum sort third) {
+    size_t names = RECORDS_AT + RECORD_BYTES * (size_t)operator + PORTS_AT, port[PORTS];
+    for (unsigned p = 0; p < PORTS; p++) {
+        port[p] = stretch_at(names + FIGURE_BYTES * p);
+        put_token(port[p], NOTHING);
+    }
+    put_token(port[0], control);
+    put_token(port[1], second);
+    put_token(port[2], third);
+    const struct row *row = row_of(control, second, third);
+    expect("IC fires where a row holds", bench_fire(memory, length, operator).refusal, row != NULL ? BENCH_ACCEPTED : BENCH_NOT_ABLE);
+    waits("IC's control", port[0], row != NULL ? NOTHING : control);
+    waits("IC's second input", port[1], row != NULL && control == TRUE_TOKEN ? NOTHING : second);
+    waits("IC's third input", port[2], row != NULL && control == FALSE_TOKEN ? NOTHING : third);
+    waits("the graph's iter?", port[INPUT_PORTS], row != NULL ? row->iter : NOTHING);
+    waits("the I control", port[INPUT_PORTS + 1], row != NULL ? row->again : NOTHING);
+    waits("the R control", port[INPUT_PORTS + 2], row != NULL ? row->result : NOTHING);
+}
+
+/* Every sort of token on each input of factorial's IC gate, which gets a link for its second output. */
+static void loop_join(void) {
+    begin(factorial, CAPACITY);
+    uint32_t operator = 0;
+    while (memory[RECORDS_AT + RECORD_BYTES * (size_t)operator] != IC) {
+        operator++;
+    }
+    unsigned links = figure(LINKS_AT);
+    put_figure(RECORDS_AT + RECORD_BYTES * (size_t)operator + PORTS_AT + FIGURE_BYTES * (INPUT_PORTS + 1), links);
+    put_figure(LINKS_AT, links + 1);
+    for (enum sort control = NOTHING; control < SORTS; control++) {
+        for (enum sort second = NOTHING; second < SORTS; second++) {
+            for (enum sort third = NOTHING; third < SORTS; third++) {
+                join(operator, control, second, third);
+            }
+        }
+    }
+}
+
 int main(void) {
+    loop_join();
     lengths();
     starts();
     orders();

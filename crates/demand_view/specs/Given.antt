@@ -11,7 +11,7 @@ use Rattle.value.specs.declared.Sense.{Sense}
 use Rattle.value.specs.declared.Sense.the-variants.{True, False, Neither}
 use Rattle.value.specs.Senses.{sense}
 use Rattle.network.specs.Values.{err-value, one-operand}
-use Rattle.network.specs.Rules.{Kind, constant, copy, operator, T-gate, F-gate, M-gate, E-gate, IC-gate, FM-gate, FS-gate, Register, Firing, takes, gives, never, Input, T-rule, F-rule, M-rule, E-rule, chosen, IC-table, fired, FS-rule, operator-rule, rule}
+use Rattle.network.specs.Rules.{Kind, constant, copy, operator, T-gate, F-gate, M-gate, E-gate, IC-gate, FM-gate, FS-gate, Register, Firing, takes, gives, never, Input, T-rule, F-rule, M-rule, E-rule, chosen, as-truth, IC-table, fired, FS-rule, operator-rule, rule}
 use Rattle.network.specs.Decide.{Taken, also, untouched, Decision, with-head, decided, decide}
 use Rattle.network.specs.Firing.{none-is-not-some, some-same}
 use Rattle.demand_view.specs.Stands.{Fine}
@@ -42,19 +42,17 @@ module _ (g : Register) (f : Fine g) where
   E-fine False = λ v h. (h, tt, tt, f)
   E-fine Neither = (tt, tt, tt, f)
 
-  table-fine : (c s : Sense) → Gives-fine (IC-table g c s)
-  table-fine True True = (tt, tt, tt, f)
-  table-fine True False = (tt, tt, tt, f)
-  table-fine True Neither = (tt, tt, tt, f)
-  table-fine False True = (tt, tt, tt, f)
-  table-fine False False = (tt, tt, tt, f)
-  table-fine False Neither = (tt, tt, tt, f)
-  table-fine Neither s = (tt, tt, tt, f)
+  table-fine : (c : Sense) (i : Bool) → Gives-fine (IC-table g c i)
+  table-fine True true = (tt, tt, tt, f)
+  table-fine True false = (tt, tt, tt, f)
+  table-fine False true = (tt, tt, tt, f)
+  table-fine False false = (tt, tt, tt, f)
+  table-fine Neither i = (tt, tt, tt, f)
 
   IC-fine : (s : Sense) → Gives-fine (chosen s (IC-table g s))
-  IC-fine True = λ v h. table-fine True (sense v)
-  IC-fine False = λ v h. table-fine False (sense v)
-  IC-fine Neither = table-fine Neither Neither
+  IC-fine True = λ v h. table-fine True (as-truth (sense v))
+  IC-fine False = λ v h. table-fine False (as-truth (sense v))
+  IC-fine Neither = table-fine Neither false
 
   operator-fine : (b : Bool) (code : ℕ) (v : Value) → Gives-fine (operator-rule b code g v)
   operator-fine true code v = (apply-in-range code v err-value, tt, tt, f)

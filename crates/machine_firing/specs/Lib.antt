@@ -4,3 +4,4 @@ pub mod Parts
 pub mod LinkLaws
 pub mod Moves
 pub mod MoveLaws
+pub mod LoopJoin

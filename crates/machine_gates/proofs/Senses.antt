@@ -15,7 +15,8 @@ use Rattle.value.specs.declared.Sense.{Sense}
 use Rattle.value.specs.declared.Sense.the-variants.{True, False, Neither}
 use Rattle.value.specs.Senses.{sense, only-one-true, only-one-false}
 use Rattle.network.specs.Values.{true-value, false-value}
-use Rattle.machine_gates.specs.Decide.{isAbsent, isTrue, isFalse, isNeither, countsFalse, trueSense, falseSense, neitherSense, falseCounted}
+use Rattle.network.specs.Rules.{as-truth}
+use Rattle.machine_gates.specs.Decide.{isAbsent, isTrue, isFalse, isNeither, countsFalse, trueSense, falseSense, neitherSense}
 
 pub absent-word : (t : Decoded) → eqb (wordOr t) 0 ≡ isAbsent t
 absent-word (Valid v) = ne-eqb (wordOf v) 0 (λ e. omega (arith, word-pos v))
@@ -55,7 +56,7 @@ else-neither Invalid p q = p
 pub else-false : (t : Decoded) → isAbsent t ≡ false → not (isTrue t) ≡ countsFalse t
 else-false (Valid v) p = go (sense v)
   where
-    go : (s : Sense) → not (trueSense s) ≡ falseCounted s
+    go : (s : Sense) → not (trueSense s) ≡ not (as-truth s)
     go True = refl
     go False = refl
     go Neither = refl

@@ -3,7 +3,7 @@
 -- fired yet: such memory is altered, and 31 comes first. Assumes nothing.
 use Prim.Native.Nat.{ℕ}
 use mathlib.Core.Path.{_≡_, refl}
-use mathlib.Core.Bool.{Bool, true, false}
+use mathlib.Core.Bool.{Bool, true, false, not}
 use mathlib.Core.Option.{Option, some, none}
 use Rattle.value.specs.declared.Value.{Value}
 use Rattle.value.specs.declared.Decoded.{Decoded}
@@ -12,7 +12,7 @@ use Rattle.value.specs.Bytes.{decoded}
 use Rattle.value.specs.declared.Sense.{Sense}
 use Rattle.value.specs.declared.Sense.the-variants.{True, False, Neither}
 use Rattle.value.specs.Senses.{sense}
-use Rattle.network.specs.Rules.{Kind, Input, first, second, third}
+use Rattle.network.specs.Rules.{Kind, Input, first, second, third, as-truth}
 use Rattle.network.specs.Decide.{Decision, decide}
 use Rattle.machine_layout.specs.Kinds.{kindOf}
 
@@ -80,12 +80,6 @@ neitherSense True = false
 neitherSense False = false
 neitherSense Neither = true
 
--- "An iter? that is no truth, in altered memory, counts as false."
-abbrev pub falseCounted : Sense → Bool
-falseCounted True = false
-falseCounted False = true
-falseCounted Neither = true
-
 abbrev pub isTrue : Decoded → Bool
 isTrue (Valid v) = trueSense (sense v)
 isTrue Invalid = false
@@ -98,8 +92,9 @@ abbrev pub isNeither : Decoded → Bool
 isNeither (Valid v) = neitherSense (sense v)
 isNeither Invalid = false
 
+-- "A chosen input that is no truth, in altered memory, counts as false."
 abbrev pub countsFalse : Decoded → Bool
-countsFalse (Valid v) = falseCounted (sense v)
+countsFalse (Valid v) = not (as-truth (sense v))
 countsFalse Invalid = false
 
 pub read-back : (g : Decoded) → decoded (optional g) ≡ g

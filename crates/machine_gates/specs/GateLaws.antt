@@ -10,7 +10,7 @@ use Rattle.value.specs.declared.Sense.{Sense}
 use Rattle.value.specs.declared.Sense.the-variants.{True, False, Neither}
 use Rattle.value.specs.Senses.{sense}
 use Rattle.network.specs.Values.{true-value, false-value, err-value}
-use Rattle.machine_gates.specs.Decide.{Decided, does, idle, isAbsent, isTrue, isFalse, isNeither, countsFalse, trueSense, falseSense, neitherSense, falseCounted}
+use Rattle.machine_gates.specs.Decide.{Decided, does, idle, isAbsent, isTrue, isFalse, isNeither, countsFalse, trueSense, falseSense, neitherSense}
 use Rattle.machine_gates.specs.Gates.{applied, unaryBy, binaryBy, constantBy, copyBy, tBy, fBy, mBy, eBy, icBy, fmBy}
 
 pub applied-there : (code : ℕ) (a b : Decoded) → isAbsent a ≡ false → isAbsent b ≡ false → isAbsent (applied code a b) ≡ false
@@ -79,41 +79,3 @@ module _ (a b c g : Decoded) where
 pub FM-leaves : (a b c g : Decoded) → Leaves (Valid true-value) (fmBy a b c g)
 unfolding fmBy
 FM-leaves a b c g = either (Valid true-value) (isAbsent g) _ _ (waiting (Valid true-value) c _ (λ e. refl)) (M-leaves a b c (Valid true-value))
-
--- ---- a row of the IC gate: it takes the control and what that chooses, and gives the graph's iter? with one of the two controls
-
-abbrev pub Row : Bool → Bool → Decided → Type 0
-Row t2 t3 d =
-    (d ≡ pick (isAbsent (d .give1)) idle (does true t2 t3 (d .give1) (d .give2) (d .give3) (d .register)))
-    × (isAbsent (d .give1) ≡ false → isAbsent (d .give3) ≡ not (isAbsent (d .give2)))
-
-pub IC-row : (a b c g : Decoded) → Row (isTrue a) (isFalse a) (icBy a b c g)
-unfolding icBy
-IC-row Invalid b c g = (refl, λ e. absurd (true≢false e))
-IC-row (Valid x) b c g = go (sense x) (isTrue b) (countsFalse b) (isTrue c) (countsFalse c)
-  where
-    go : (s : Sense) (p q r t : Bool) →
-        Row (trueSense s) (falseSense s)
-        (pick (trueSense s && p) (does true true false (Valid true-value) (Valid true-value) Invalid g)
-        (pick (trueSense s && q) (does true true false (Valid false-value) Invalid (Valid true-value) g)
-        (pick (falseSense s && r) (does true false true (Valid true-value) (Valid false-value) Invalid g)
-        (pick (falseSense s && t) (does true false true (Valid false-value) Invalid (Valid false-value) g)
-        (pick (neitherSense s) (does true false false (Valid false-value) Invalid (Valid err-value) g)
-        idle)))))
-    go True true q r t = (refl, λ e. refl)
-    go True false true r t = (refl, λ e. refl)
-    go True false false r t = (refl, λ e. absurd (true≢false e))
-    go False p q true t = (refl, λ e. refl)
-    go False p q false true = (refl, λ e. refl)
-    go False p q false false = (refl, λ e. absurd (true≢false e))
-    go Neither p q r t = (refl, λ e. refl)
-
--- a control chooses one input only
-pub not-both : (a : Decoded) → isTrue a && isFalse a ≡ false
-not-both Invalid = refl
-not-both (Valid x) = go (sense x)
-  where
-    go : (s : Sense) → trueSense s && falseSense s ≡ false
-    go True = refl
-    go False = refl
-    go Neither = refl

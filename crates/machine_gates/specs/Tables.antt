@@ -2,7 +2,7 @@
 -- whether a token is true, false or neither matters. Assumes nothing.
 use Prim.Native.Nat.{ℕ, _≤_, _<_}
 use mathlib.Core.Path.{_≡_, refl, sym, ap, _∙_}
-use mathlib.Core.Bool.{Bool, true, false, _&&_, _||_}
+use mathlib.Core.Bool.{Bool, true, false, not, _&&_, _||_}
 use mathlib.Core.Logic.{_≢_, _⊎_, inl, inr}
 use mathlib.Core.Option.{Option, some, none}
 use native.Mathlib.Omega.{arith}
@@ -17,10 +17,10 @@ use Rattle.value.specs.declared.Sense.{Sense}
 use Rattle.value.specs.declared.Sense.the-variants.{True, False, Neither}
 use Rattle.value.specs.Senses.{sense}
 use Rattle.network.specs.Values.{true-value, false-value, err-value, one-operand, apply}
-use Rattle.network.specs.Rules.{Kind, constant, copy, operator, T-gate, F-gate, M-gate, E-gate, IC-gate, FM-gate, FS-gate, Register, first, second, third, T-rule, F-rule, M-rule, E-rule, chosen, IC-table, FS-rule, operator-rule}
+use Rattle.network.specs.Rules.{Kind, constant, copy, operator, T-gate, F-gate, M-gate, E-gate, IC-gate, FM-gate, FS-gate, Register, first, second, third, T-rule, F-rule, M-rule, E-rule, chosen, as-truth, IC-table, FS-rule, operator-rule}
 use Rattle.network.specs.Decide.{untouched, also, Decision, decided, decide}
 use Rattle.machine_layout.specs.Kinds.{kindOf}
-use Rattle.machine_gates.specs.Decide.{Decided, optional, heads, does, idle, told, decideAt, isAbsent, isTrue, isFalse, countsFalse, trueSense, falseSense, neitherSense, falseCounted, read-back}
+use Rattle.machine_gates.specs.Decide.{Decided, optional, heads, does, idle, told, decideAt, isAbsent, isTrue, isFalse, countsFalse, trueSense, falseSense, neitherSense, read-back}
 use Rattle.machine_gates.specs.Gates.{passing, dropping, unaryBy, binaryBy, constantBy, copyBy, tBy, fBy, mBy, eBy, icBy, fmBy, fsBy}
 
 abbrev says : Kind → Decoded → Decoded → Decoded → Decoded → Decided
@@ -135,17 +135,17 @@ FS-says (Valid x) b c (Valid r) = go (sense x) b
 
 -- IC after its control: the chosen input decides the row
 IC-true : (x y : Value) (c g : Decoded) (s : Sense) →
-    told (decided (also second (also first untouched)) (IC-table (optional g) True s) (heads (Valid x) (Valid y) c))
+    told (decided (also second (also first untouched)) (IC-table (optional g) True (as-truth s)) (heads (Valid x) (Valid y) c))
     ≡ pick (trueSense s) (does true true false (Valid true-value) (Valid true-value) Invalid g)
-    (pick (falseCounted s) (does true true false (Valid false-value) Invalid (Valid true-value) g) idle)
+    (pick (not (as-truth s)) (does true true false (Valid false-value) Invalid (Valid true-value) g) idle)
 IC-true x y c g True = rw (read-back g) refl
 IC-true x y c g False = rw (read-back g) refl
 IC-true x y c g Neither = rw (read-back g) refl
 
 IC-false : (x z : Value) (b g : Decoded) (s : Sense) →
-    told (decided (also third (also first untouched)) (IC-table (optional g) False s) (heads (Valid x) b (Valid z)))
+    told (decided (also third (also first untouched)) (IC-table (optional g) False (as-truth s)) (heads (Valid x) b (Valid z)))
     ≡ pick (trueSense s) (does true false true (Valid true-value) (Valid false-value) Invalid g)
-    (pick (falseCounted s) (does true false true (Valid false-value) Invalid (Valid false-value) g) idle)
+    (pick (not (as-truth s)) (does true false true (Valid false-value) Invalid (Valid false-value) g) idle)
 IC-false x z b g True = rw (read-back g) refl
 IC-false x z b g False = rw (read-back g) refl
 IC-false x z b g Neither = rw (read-back g) refl

@@ -11,7 +11,7 @@ use Rattle.value.specs.declared.Sense.{Sense}
 use Rattle.value.specs.declared.Sense.the-variants.{True, False, Neither}
 use Rattle.value.specs.Senses.{sense}
 use Rattle.network.specs.Values.{one-operand}
-use Rattle.network.specs.Rules.{Kind, constant, copy, operator, T-gate, F-gate, M-gate, E-gate, IC-gate, FM-gate, FS-gate, Register, Firing, takes, gives, never, Input, first, second, third, T-rule, F-rule, M-rule, E-rule, chosen, IC-table, fired, FS-rule, operator-rule, rule}
+use Rattle.network.specs.Rules.{Kind, constant, copy, operator, T-gate, F-gate, M-gate, E-gate, IC-gate, FM-gate, FS-gate, Register, Firing, takes, gives, never, Input, first, second, third, T-rule, F-rule, M-rule, E-rule, chosen, as-truth, IC-table, fired, FS-rule, operator-rule, rule}
 use Rattle.network.specs.Histories.{History}
 use Rattle.network.specs.HistoryLaw.{Outcome, outcome}
 
@@ -84,18 +84,16 @@ E-once g True = (refl, λ v. tt)
 E-once g False = (refl, λ v. tt)
 E-once g Neither = tt
 
-table-once : (t : Taken) (g : Register) (c s : Sense) → Once t (IC-table g c s)
-table-once t g True True = tt
-table-once t g True False = tt
-table-once t g True Neither = tt
-table-once t g False True = tt
-table-once t g False False = tt
-table-once t g False Neither = tt
-table-once t g Neither s = tt
+table-once : (t : Taken) (g : Register) (c : Sense) (i : Bool) → Once t (IC-table g c i)
+table-once t g True true = tt
+table-once t g True false = tt
+table-once t g False true = tt
+table-once t g False false = tt
+table-once t g Neither i = tt
 
 IC-once : (g : Register) (s : Sense) → Once after-control (chosen s (IC-table g s))
-IC-once g True = (refl, λ v. table-once (also second after-control) g True (sense v))
-IC-once g False = (refl, λ v. table-once (also third after-control) g False (sense v))
+IC-once g True = (refl, λ v. table-once (also second after-control) g True (as-truth (sense v)))
+IC-once g False = (refl, λ v. table-once (also third after-control) g False (as-truth (sense v)))
 IC-once g Neither = tt
 
 FS-once : (r : Value) (s : Sense) → Once after-control (FS-rule r s)

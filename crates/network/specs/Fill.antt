@@ -12,7 +12,7 @@ use Rattle.value.specs.declared.Sense.{Sense}
 use Rattle.value.specs.declared.Sense.the-variants.{True, False, Neither}
 use Rattle.value.specs.Senses.{sense}
 use Rattle.network.specs.Values.{err-value, one-operand}
-use Rattle.network.specs.Rules.{Kind, constant, copy, operator, T-gate, F-gate, M-gate, E-gate, IC-gate, FM-gate, FS-gate, Register, Firing, takes, gives, never, Input, first, second, third, T-rule, F-rule, M-rule, E-rule, chosen, IC-table, operator-rule, rule}
+use Rattle.network.specs.Rules.{Kind, constant, copy, operator, T-gate, F-gate, M-gate, E-gate, IC-gate, FM-gate, FS-gate, Register, Firing, takes, gives, never, Input, first, second, third, T-rule, F-rule, M-rule, E-rule, chosen, as-truth, IC-table, operator-rule, rule}
 use Rattle.network.specs.Net.{Token, val, mark, Demand, ask, fire, halt}
 
 pub record Ports : Type 0 where
@@ -111,19 +111,16 @@ module _ (g : Register) where
   E-keeps False = λ v. refl
   E-keeps Neither = refl
 
-  IC-true-keeps : (s : Sense) → Keeps (IC-table g True s)
-  IC-true-keeps True = refl
-  IC-true-keeps False = refl
-  IC-true-keeps Neither = refl
-
-  IC-false-keeps : (s : Sense) → Keeps (IC-table g False s)
-  IC-false-keeps True = refl
-  IC-false-keeps False = refl
-  IC-false-keeps Neither = refl
+  table-keeps : (c : Sense) (i : Bool) → Keeps (IC-table g c i)
+  table-keeps True true = refl
+  table-keeps True false = refl
+  table-keeps False true = refl
+  table-keeps False false = refl
+  table-keeps Neither i = refl
 
   IC-keeps : (s : Sense) → Keeps (chosen s (IC-table g s))
-  IC-keeps True = λ v. IC-true-keeps (sense v)
-  IC-keeps False = λ v. IC-false-keeps (sense v)
+  IC-keeps True = λ v. table-keeps True (as-truth (sense v))
+  IC-keeps False = λ v. table-keeps False (as-truth (sense v))
   IC-keeps Neither = refl
 
   operator-keeps : (b : Bool) (code : ℕ) (v : Value) → Keeps (operator-rule b code g v)

@@ -12,7 +12,7 @@ use Rattle.value.specs.declared.Sense.{Sense}
 use Rattle.value.specs.declared.Sense.the-variants.{True, False, Neither}
 use Rattle.value.specs.Senses.{sense}
 use Rattle.network.specs.Values.{true-value, false-value, err-value, one-operand, apply}
-use Rattle.network.specs.Rules.{Kind, constant, copy, operator, T-gate, F-gate, M-gate, E-gate, IC-gate, FM-gate, FS-gate, Register}
+use Rattle.network.specs.Rules.{Kind, constant, copy, operator, T-gate, F-gate, M-gate, E-gate, IC-gate, FM-gate, FS-gate, Register, as-truth}
 
 abbrev pub History : Type 0
 History = List Value
@@ -20,6 +20,11 @@ History = List Value
 abbrev pub senses : History → List Sense
 senses [] = []
 senses (x ∷ xs) = sense x ∷ senses xs
+
+-- The histories of IC's second and third input as it reads them: an iter? that is no truth, met in altered memory only, as false.
+abbrev pub truths : History → List Bool
+truths [] = []
+truths (x ∷ xs) = as-truth (sense x) ∷ truths xs
 
 -- The histories of three output ports, and a tuple of values (or none of a port) before them: Brock's (x, y, z) · O.
 pub record Outputs : Type 0 where
@@ -102,19 +107,16 @@ abbrev pub FS-history : List Sense → History → History
 FS-history xs [] = []
 FS-history xs (y ∷ ys) = y ∷ S-history y xs ys
 
--- O[IC gate]. The last two lines are in neither paper: a chosen iter? that is no truth, met in altered memory only, is read as false here,
--- as document 02 later asks.
-abbrev pub IC-history : List Sense → List Sense → List Sense → Outputs
+-- O[IC gate]
+abbrev pub IC-history : List Sense → List Bool → List Bool → Outputs
 IC-history [] ys zs = silence
 IC-history (True ∷ xs) [] zs = silence
-IC-history (True ∷ xs) (True ∷ ys) zs = followed (some true-value) (some true-value) none (IC-history xs ys zs)
-IC-history (True ∷ xs) (False ∷ ys) zs = followed (some false-value) none (some true-value) (IC-history xs ys zs)
+IC-history (True ∷ xs) (true ∷ ys) zs = followed (some true-value) (some true-value) none (IC-history xs ys zs)
+IC-history (True ∷ xs) (false ∷ ys) zs = followed (some false-value) none (some true-value) (IC-history xs ys zs)
 IC-history (False ∷ xs) ys [] = silence
-IC-history (False ∷ xs) ys (True ∷ zs) = followed (some true-value) (some false-value) none (IC-history xs ys zs)
-IC-history (False ∷ xs) ys (False ∷ zs) = followed (some false-value) none (some false-value) (IC-history xs ys zs)
+IC-history (False ∷ xs) ys (true ∷ zs) = followed (some true-value) (some false-value) none (IC-history xs ys zs)
+IC-history (False ∷ xs) ys (false ∷ zs) = followed (some false-value) none (some false-value) (IC-history xs ys zs)
 IC-history (Neither ∷ xs) ys zs = followed (some false-value) none (some err-value) (IC-history xs ys zs)
-IC-history (True ∷ xs) (Neither ∷ ys) zs = followed (some false-value) none (some true-value) (IC-history xs ys zs)
-IC-history (False ∷ xs) ys (Neither ∷ zs) = followed (some false-value) none (some false-value) (IC-history xs ys zs)
 
 -- O[E gate], with the err of a bad control that his last line lacks
 abbrev pub E-history : List Sense → History → History
@@ -139,7 +141,7 @@ history T-gate g xs ys zs = only (T-history (senses xs) ys)
 history F-gate g xs ys zs = only (F-history (senses xs) ys)
 history M-gate g xs ys zs = only (M-history (senses xs) ys zs)
 history E-gate g xs ys zs = only (E-history (senses xs) ys)
-history IC-gate g xs ys zs = IC-history (senses xs) (senses ys) (senses zs)
+history IC-gate g xs ys zs = IC-history (senses xs) (truths ys) (truths zs)
 history FM-gate none xs ys zs = only (FM-history (senses xs) ys zs)
 history FM-gate (some r) xs ys zs = only (M-history (senses xs) ys zs)
 history FS-gate none xs ys zs = only (FS-history (senses xs) ys)

@@ -12,8 +12,8 @@ use Rattle.value.specs.declared.Sense.{Sense}
 use Rattle.value.specs.declared.Sense.the-variants.{True, False, Neither}
 use Rattle.value.specs.Senses.{sense}
 use Rattle.network.specs.Values.{err-value, one-operand, apply}
-use Rattle.network.specs.Rules.{Kind, constant, copy, operator, T-gate, F-gate, M-gate, E-gate, IC-gate, FM-gate, FS-gate, Register, Firing, takes, gives, never, first, second, third, T-rule, F-rule, M-rule, E-rule, chosen, IC-table, fired, FS-rule, operator-rule, rule}
-use Rattle.network.specs.Histories.{History, senses, Outputs, silence, followed, only, operator-history, T-history, F-history, M-history, S-history, IC-history, E-history, history}
+use Rattle.network.specs.Rules.{Kind, constant, copy, operator, T-gate, F-gate, M-gate, E-gate, IC-gate, FM-gate, FS-gate, Register, Firing, takes, gives, never, first, second, third, T-rule, F-rule, M-rule, E-rule, chosen, as-truth, IC-table, fired, FS-rule, operator-rule, rule}
+use Rattle.network.specs.Histories.{History, senses, truths, Outputs, silence, followed, only, operator-history, T-history, F-history, M-history, S-history, IC-history, E-history, history}
 
 -- One firing on three input histories: what it leaves of them, what it gives on the outputs, the register it leaves.
 pub record Outcome : Type 0 where
@@ -74,24 +74,22 @@ E-law g False xs [] zs = refl
 E-law g False xs (y ∷ ys) zs = refl
 E-law g Neither xs ys zs = refl
 
-IC-true-law : (g : Register) (s : Sense) (xs ys zs : History) →
-    IC-history (True ∷ senses xs) (s ∷ senses ys) (senses zs) ≡ continued IC-gate (outcome (IC-table g True s) xs ys zs)
-IC-true-law g True xs ys zs = refl
-IC-true-law g False xs ys zs = refl
-IC-true-law g Neither xs ys zs = refl
+IC-true-law : (g : Register) (t : Bool) (xs ys zs : History) →
+    IC-history (True ∷ senses xs) (t ∷ truths ys) (truths zs) ≡ continued IC-gate (outcome (IC-table g True t) xs ys zs)
+IC-true-law g true xs ys zs = refl
+IC-true-law g false xs ys zs = refl
 
-IC-false-law : (g : Register) (s : Sense) (xs ys zs : History) →
-    IC-history (False ∷ senses xs) (senses ys) (s ∷ senses zs) ≡ continued IC-gate (outcome (IC-table g False s) xs ys zs)
-IC-false-law g True xs ys zs = refl
-IC-false-law g False xs ys zs = refl
-IC-false-law g Neither xs ys zs = refl
+IC-false-law : (g : Register) (t : Bool) (xs ys zs : History) →
+    IC-history (False ∷ senses xs) (truths ys) (t ∷ truths zs) ≡ continued IC-gate (outcome (IC-table g False t) xs ys zs)
+IC-false-law g true xs ys zs = refl
+IC-false-law g false xs ys zs = refl
 
 IC-law : (g : Register) (s : Sense) (xs ys zs : History) →
-    IC-history (s ∷ senses xs) (senses ys) (senses zs) ≡ continued IC-gate (outcome (chosen s (IC-table g s)) xs ys zs)
+    IC-history (s ∷ senses xs) (truths ys) (truths zs) ≡ continued IC-gate (outcome (chosen s (IC-table g s)) xs ys zs)
 IC-law g True xs [] zs = refl
-IC-law g True xs (y ∷ ys) zs = IC-true-law g (sense y) xs ys zs
+IC-law g True xs (y ∷ ys) zs = IC-true-law g (as-truth (sense y)) xs ys zs
 IC-law g False xs ys [] = refl
-IC-law g False xs ys (z ∷ zs) = IC-false-law g (sense z) xs ys zs
+IC-law g False xs ys (z ∷ zs) = IC-false-law g (as-truth (sense z)) xs ys zs
 IC-law g Neither xs ys zs = refl
 
 FS-law : (r : Value) (s : Sense) (xs ys zs : History) → only (S-history r (s ∷ senses xs) ys) ≡ continued FS-gate (outcome (FS-rule r s) xs ys zs)

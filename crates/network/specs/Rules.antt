@@ -62,23 +62,25 @@ E-rule g True = takes second (λ v. passes v g)
 E-rule g False = takes second (λ v. passes v g)
 E-rule g Neither = passes err-value g
 
+-- How IC reads the input that its control chooses. Document 02: "A chosen input that is no truth, in altered memory, counts as false."
+abbrev pub as-truth : Sense → Bool
+as-truth True = true
+as-truth False = false
+as-truth Neither = false
+
 -- IC: "true takes input 2, false input 3"; another control takes neither.
-abbrev pub chosen : Sense → (Sense → Firing) → Firing
-chosen True k = takes second (λ v. k (sense v))
-chosen False k = takes third (λ v. k (sense v))
-chosen Neither k = k Neither
+abbrev pub chosen : Sense → (Bool → Firing) → Firing
+chosen True k = takes second (λ v. k (as-truth (sense v)))
+chosen False k = takes third (λ v. k (as-truth (sense v)))
+chosen Neither k = k false
 
 -- Brock's table of the IC gate (section 2.4), row by row: the control and the chosen iter?; the graph's iter?, the I and the R control.
--- The last two rows are in neither his table nor document 01: a chosen input that is no truth, met in altered memory only, is read as false,
--- as document 02 later asks.
-abbrev pub IC-table : Register → Sense → Sense → Firing
-IC-table g True True = gives (some true-value) (some true-value) none g
-IC-table g True False = gives (some false-value) none (some true-value) g
-IC-table g False True = gives (some true-value) (some false-value) none g
-IC-table g False False = gives (some false-value) none (some false-value) g
+abbrev pub IC-table : Register → Sense → Bool → Firing
+IC-table g True true = gives (some true-value) (some true-value) none g
+IC-table g True false = gives (some false-value) none (some true-value) g
+IC-table g False true = gives (some true-value) (some false-value) none g
+IC-table g False false = gives (some false-value) none (some false-value) g
 IC-table g Neither i = gives (some false-value) none (some err-value) g
-IC-table g True Neither = gives (some false-value) none (some true-value) g
-IC-table g False Neither = gives (some false-value) none (some false-value) g
 
 -- The register of an FM that has fired: which value it is matters to nobody.
 abbrev pub fired : Register

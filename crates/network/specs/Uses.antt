@@ -13,7 +13,7 @@ use Rattle.value.specs.declared.Sense.{Sense}
 use Rattle.value.specs.declared.Sense.the-variants.{True, False, Neither}
 use Rattle.value.specs.Senses.{sense}
 use Rattle.network.specs.Values.{true-value, one-operand}
-use Rattle.network.specs.Rules.{Kind, constant, copy, operator, T-gate, F-gate, M-gate, E-gate, IC-gate, FM-gate, FS-gate, Register, Firing, takes, gives, never, Input, first, second, third, T-rule, F-rule, M-rule, E-rule, chosen, IC-table, fired, FS-rule, operator-rule, rule}
+use Rattle.network.specs.Rules.{Kind, constant, copy, operator, T-gate, F-gate, M-gate, E-gate, IC-gate, FM-gate, FS-gate, Register, Firing, takes, gives, never, Input, first, second, third, T-rule, F-rule, M-rule, E-rule, chosen, as-truth, IC-table, fired, FS-rule, operator-rule, rule}
 use Rattle.network.specs.Net.{Token, val, Demand, ask, fire}
 use Rattle.network.specs.Wired.{Emits-in, Uses, free-of}
 use Rattle.network.specs.Fill.{Ports, input, value-of, register-of, register-token, emission, emissions, wire, remembering, kept, filled, fill}
@@ -68,18 +68,16 @@ E-within g True = (refl, λ v. tt)
 E-within g False = (refl, λ v. tt)
 E-within g Neither = tt
 
-table-within : (g : Register) (c s : Sense) → Within 3 (IC-table g c s)
-table-within g True True = tt
-table-within g True False = tt
-table-within g True Neither = tt
-table-within g False True = tt
-table-within g False False = tt
-table-within g False Neither = tt
-table-within g Neither s = tt
+table-within : (g : Register) (c : Sense) (i : Bool) → Within 3 (IC-table g c i)
+table-within g True true = tt
+table-within g True false = tt
+table-within g False true = tt
+table-within g False false = tt
+table-within g Neither i = tt
 
 IC-within : (g : Register) (s : Sense) → Within 3 (chosen s (IC-table g s))
-IC-within g True = (refl, λ v. table-within g True (sense v))
-IC-within g False = (refl, λ v. table-within g False (sense v))
+IC-within g True = (refl, λ v. table-within g True (as-truth (sense v)))
+IC-within g False = (refl, λ v. table-within g False (as-truth (sense v)))
 IC-within g Neither = tt
 
 FS-within : (r : Value) (s : Sense) → Within 2 (FS-rule r s)

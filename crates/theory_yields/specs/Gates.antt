@@ -13,7 +13,7 @@ use Rattle.value.specs.declared.Sense.{Sense}
 use Rattle.value.specs.declared.Sense.the-variants.{True, False, Neither}
 use Rattle.value.specs.Senses.{sense}
 use Rattle.network.specs.Values.{true-value, false-value, err-value, one-operand, apply}
-use Rattle.network.specs.Rules.{IC-gate, Input, first, second, third, Firing, T-rule, F-rule, M-rule, E-rule, chosen, IC-table}
+use Rattle.network.specs.Rules.{IC-gate, Input, first, second, third, Firing, T-rule, F-rule, M-rule, E-rule, chosen, as-truth, IC-table}
 use Rattle.network.specs.Decide.{Decision, decide, decided, also, untouched}
 use Rattle.graph.specs.Assembly.{const, oper, T, F, M, E, IC, gateOutputs}
 use Rattle.graph.specs.Yields.{Fires, rests, fires, TakesAll, present, waiting}
@@ -31,7 +31,7 @@ abbrev IC-rule : Sense → Firing
 IC-rule s = chosen s (IC-table none s)
 
 abbrev by-chosen : Input → Sense → List (Option Value) → Sense → Option Decision
-by-chosen i c vs s = decided (also i (also first untouched)) (IC-table none c s) (waiting vs)
+by-chosen i c vs s = decided (also i (also first untouched)) (IC-table none c (as-truth s)) (waiting vs)
 
 -- ---- constants and operators
 
