@@ -66,11 +66,30 @@ cases =
     ∷ at 7 (Truth true) (Truth true) Err
     ∷ at 8 (Truth true) (Truth true) (Truth true)
     ∷ at 8 (Truth true) (Truth false) (Truth false)
-    ∷ at 8 (Truth false) Err Err
-    ∷ at 9 (Truth false) (Truth false) (Truth false)
+    ∷ at 8 (Truth true) Err Err
+    ∷ at 8 (Truth false) (Truth true) (Truth false)
+    ∷ at 8 (Truth false) (Truth false) (Truth false)
+    ∷ at 8 (Truth false) Err (Truth false)
+    ∷ at 8 Err (Truth true) Err
+    ∷ at 8 Err (Truth false) (Truth false)
+    ∷ at 8 Err Err Err
+    ∷ at 8 (n 1) (Truth false) Err
+    ∷ at 8 (Truth false) (n 0) Err
+    ∷ at 8 Err (n 1) Err
+    ∷ at 8 (n 0) (Truth true) Err
+    ∷ at 9 (Truth true) (Truth true) (Truth true)
+    ∷ at 9 (Truth true) (Truth false) (Truth true)
+    ∷ at 9 (Truth true) Err (Truth true)
     ∷ at 9 (Truth false) (Truth true) (Truth true)
-    ∷ at 9 Err (Truth true) Err
+    ∷ at 9 (Truth false) (Truth false) (Truth false)
+    ∷ at 9 (Truth false) Err Err
+    ∷ at 9 Err (Truth true) (Truth true)
+    ∷ at 9 Err (Truth false) Err
+    ∷ at 9 Err Err Err
     ∷ at 9 (n 1) (Truth true) Err
+    ∷ at 9 (Truth true) (n 0) Err
+    ∷ at 9 Err (n 1) Err
+    ∷ at 9 (n 0) (Truth false) Err
     ∷ at 10 (Truth true) Err (Truth false)
     ∷ at 10 (n 0) (n 0) Err
     ∷ at 11 (n 5) (Truth true) (minus 4)
