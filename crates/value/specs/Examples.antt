@@ -1,5 +1,6 @@
--- Outcomes that hold the definitions to the paper, each kind one list with one proof: of operators, which document 01,
--- "Values and operators", states or whose words decide them at the ends of the range; and of byte forms. Assumes nothing.
+-- Outcomes that hold the definitions to the papers, each kind one list with one proof: of operators, which document 01,
+-- "Values and operators", states or whose words decide them at the ends of the range, and of and, or every pair of truths
+-- and errs, which document 02, Job 2, decides; and of byte forms. Assumes nothing.
 use Prim.Native.Nat.{ℕ, _+_, _*_}
 use mathlib.Core.Path.{_≡_, refl}
 use mathlib.Core.Bool.{true, false}

@@ -1,5 +1,5 @@
--- The meaning of each operator: document 01, "Values and operators", in its order.
--- Other crates ask `apply` (code, first operand, second operand) and cite its laws in proofs/Codes, or unfold it to
+-- The meaning of each operator: document 01, "Values and operators", in its order; and, or with document 02, Job 2.
+-- Other crates ask `apply` (code, first operand, second operand) and cite its laws in AndOr and proofs/Codes, or unfold it to
 -- compute; the pieces before it are for this crate's functions. Assumes nothing.
 use Prim.Native.Nat.{ℕ, zero, suc}
 use mathlib.Core.Bool.{Bool, true, false, _&&_, not, _||_}
@@ -91,9 +91,8 @@ besideErr true true = Truth true
 besideErr false true = Err
 besideErr true false = Err
 
--- And, or: f of two truths, of which d decides.
+-- And, or: f of two truths; beside an err the truth d decides.
 unfoldable pub logical : Bool → (Bool → Bool → Value) → Value → Value → Value
-unfolding besideErr
 logical d f (Truth a) (Truth b) = f a b
 -- "whichever side the err stands"
 logical d f (Truth a) Err = besideErr d a
