@@ -120,7 +120,7 @@ pub fn fire(mem: &mut [u8], operator: u32) -> Answer
         return refused(Refusal::NotAble);
     }
     let size = machine_layout::stretch_size(machine_layout::capacity(mem));
-    if machine_firing::fire_at(mem, size, i) {
+    if machine_operators::fire_at(mem, size, i) {
         return reply(0, 0);
     }
     refused(Refusal::NotAble)

@@ -49,7 +49,7 @@ pub fn run_plain(mem: &mut [u8], size: usize, n: usize, budget: u32) -> u32
         if i == n {
             return count;
         }
-        if machine_firing::fire_at(mem, size, i) {
+        if machine_operators::fire_at(mem, size, i) {
             count += 1;
             i = 0;
         } else {
@@ -184,7 +184,7 @@ fn run_marked(mem: &mut [u8], size: usize, n: usize, budget: u32, users: &[u16])
         if n <= i {
             return fired;
         }
-        if machine_firing::fire_at(mem, size, i) {
+        if machine_operators::fire_at(mem, size, i) {
             fired += 1;
             m = wake(mem, size, users, i, &mut awake, m);
         } else {
@@ -230,7 +230,7 @@ pub fn idle(mem: &mut [u8], size: usize, n: usize) -> bool
 {
     let mut i = 0;
     while i < n {
-        if machine_firing::able_at(mem, size, i) {
+        if machine_operators::able_at(mem, size, i) {
             return false;
         }
         i += 1;

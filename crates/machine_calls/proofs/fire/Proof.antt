@@ -1,7 +1,7 @@
 -- The tests, as paths name them:
 --   tie if1  let stands = standing_of(mem); ⏎ if stands != 0 {
 --   tie if2  let i = operator as usize; ⏎ if machine_layout::operators(mem) <= i {
---   tie if3  let size = machine_layout::stretch_size(machine_layout::capacity(mem)); ⏎ if machine_firing::fire_at(mem, size, i) {
+--   tie if3  let size = machine_layout::stretch_size(machine_layout::capacity(mem)); ⏎ if machine_operators::fire_at(mem, size, i) {
 use native.Mathlib.Omega.{arith}
 use borrow.Author.Needs.{needs}
 use Rattle.machine_calls.proofs.fire.Statement.{statement}
@@ -11,7 +11,7 @@ use Rattle.machine_calls.proofs.fire.Lts as lts
 use Rattle.machine_calls.proofs.refused.Reads as refused-reads
 use Rattle.machine_calls.proofs.reply.Reads as reply-reads
 use Rattle.machine_calls.proofs.standing_of.Reads as standing-of-reads
-use Rattle.machine_firing.proofs.fire_at.Reads as fire-at-reads
+use Rattle.machine_operators.proofs.fire_at.Reads as fire-at-reads
 use Rattle.machine_layout.proofs.capacity.Reads as capacity-reads
 use Rattle.machine_layout.proofs.operators.Reads as operators-reads
 use Rattle.machine_layout.proofs.stretch_size.Reads as stretch-size-reads
@@ -79,7 +79,7 @@ capacity-requires c κs = search needs
 stretch-size-requires : tie.Need-stretch-size-requires
 stretch-size-requires c κs = search needs
 
--- src/lib.rt:123:8  let size = machine_layout::stretch_size(machine_layout::capacity(mem)); ⏎ if machine_firing::fire_at(mem, size, i) {
+-- src/lib.rt:123:8  let size = machine_layout::stretch_size(machine_layout::capacity(mem)); ⏎ if machine_operators::fire_at(mem, size, i) {
 fire-at-requires : tie.Need-fire-at-requires
 fire-at-requires c κs =
     let st : standing (c .before .before .before .before .before .before .before .before .before .before .before .args .mem .now) ≡ 0 = sym (c .before .before .before .before .before .before .before .before .standing-of .ensures) ∙ c .before .before .before .before .before .before .before .if1 .left in
@@ -88,15 +88,15 @@ fire-at-requires c κs =
     let s : c .before .stretch-size .result ≡ sizeIn (c .before .before .before .before .before .before .before .before .before .before .before .args .mem .now) = c .before .stretch-size .ensures ∙ ap sizeOf (c .before .before .capacity .ensures .0) in
     (omega (arith, c .before .stretch-size .ensures, c .before .before .capacity .ensures .1), omega (arith, c .before .stretch-size .ensures, c .before .before .capacity .ensures .2), omega (arith, s, g .0), omega (arith, f .operators, c .before .before .before .before .before .operators .ensures .0))
 
--- src/lib.rt:124:9  if machine_firing::fire_at(mem, size, i) { ⏎ return reply(0, 0);
+-- src/lib.rt:124:9  if machine_operators::fire_at(mem, size, i) { ⏎ return reply(0, 0);
 reply-requires-2 : tie.Need-reply-requires-2
 reply-requires-2 c κs = search needs
 
--- src/lib.rt:124:9  if machine_firing::fire_at(mem, size, i) { ⏎ return reply(0, 0);
+-- src/lib.rt:124:9  if machine_operators::fire_at(mem, size, i) { ⏎ return reply(0, 0);
 same-length-3 : tie.Need-same-length-3
 same-length-3 c = search needs
 
--- src/lib.rt:124:9  if machine_firing::fire_at(mem, size, i) { ⏎ return reply(0, 0);
+-- src/lib.rt:124:9  if machine_operators::fire_at(mem, size, i) { ⏎ return reply(0, 0);
 returns-3 : tie.Need-returns-3
 returns-3 c =
     let st : standing (c .before .before .before .before .before .before .before .before .before .before .before .before .before .before .before .before .args .mem .now) ≡ 0 = sym (c .before .before .before .before .before .before .before .before .before .before .before .before .before .standing-of .ensures) ∙ c .before .before .before .before .before .before .before .before .before .before .before .before .if1 .left in

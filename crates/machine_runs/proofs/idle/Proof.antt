@@ -1,10 +1,10 @@
 -- The tests, as paths name them:
---   tie if1  while i < n { ⏎ if machine_firing::able_at(mem, size, i) {
+--   tie if1  while i < n { ⏎ if machine_operators::able_at(mem, size, i) {
 use Rattle.machine_runs.proofs.idle.Statement.{statement}
 use Rattle.machine_runs.proofs.idle.Tie as tie
 use Rattle.machine_runs.proofs.idle.Reads as reads
 use Rattle.machine_runs.proofs.idle.Lts as lts
-use Rattle.machine_firing.proofs.able_at.Reads as able-at-reads
+use Rattle.machine_operators.proofs.able_at.Reads as able-at-reads
 use borrow.Author.Needs.{needs}
 use native.Mathlib.Omega.{arith}
 use Prim.Native.Nat.{ℕ, _+_, _-_, _*_, _≤_, _<_}
@@ -27,15 +27,15 @@ abbrev μ-loop : tie.MeasureT-loop
 loop-holds : tie.Need-loop-holds Inv-loop μ-loop
 loop-holds c = (omega arith, refl, quiet-none (c .before .args .mem .now) (c .before .args .size))
 
--- src/lib.rt:233:12  while i < n { ⏎ if machine_firing::able_at(mem, size, i) {
+-- src/lib.rt:233:12  while i < n { ⏎ if machine_operators::able_at(mem, size, i) {
 able-at-requires : tie.Need-able-at-requires Inv-loop μ-loop
 able-at-requires c κs = let l : length (c .before .before .loop .mem) ≡ length (c .before .before .before .before .args .mem .now) = ap length (c .before .before .loop .inv .1) in (omega arith, omega arith, omega arith, omega arith)
 
--- src/lib.rt:234:13  if machine_firing::able_at(mem, size, i) { ⏎ return false;
+-- src/lib.rt:234:13  if machine_operators::able_at(mem, size, i) { ⏎ return false;
 same-length : tie.Need-same-length Inv-loop μ-loop
 same-length c = search needs
 
--- src/lib.rt:234:13  if machine_firing::able_at(mem, size, i) { ⏎ return false;
+-- src/lib.rt:234:13  if machine_operators::able_at(mem, size, i) { ⏎ return false;
 returns : tie.Need-returns Inv-loop μ-loop
 unfolding stillAt
 returns c = (rw (least-at (c .before .before .before .before .before .before .before .before .args .mem .now) (c .before .before .before .before .before .before .before .before .args .size) (c .before .before .before .before .before .before .before .before .args .n) (c .before .before .before .before .before .before .loop .i) (omega arith) (c .before .before .before .before .before .before .loop .inv .2) (sym (rw (c .before .before .before .before .before .before .loop .inv .1) at (c .before .before .before .able-at .ensures .0)) ∙ c .if1 .taken), lt-ltb (c .before .before .before .before .before .before .loop .i) (c .before .before .before .before .before .before .before .before .args .n) (omega arith)) refl, c .before .before .before .able-at .ensures .1 ∙ c .before .before .before .before .before .before .loop .inv .1)

@@ -1,12 +1,12 @@
 -- The tests, as paths name them:
 --   tie if1  let i = machine_marks::first_of(m); ⏎ if n <= i {
---   tie if2  } ⏎ if machine_firing::fire_at(mem, size, i) {
+--   tie if2  } ⏎ if machine_operators::fire_at(mem, size, i) {
 use borrow.Author.Needs.{needs}
 use Rattle.machine_runs.proofs.run_marked.Statement.{statement}
 use Rattle.machine_runs.proofs.run_marked.Tie as tie
 use Rattle.machine_runs.proofs.run_marked.Reads as reads
 use Rattle.machine_runs.proofs.run_marked.Lts as lts
-use Rattle.machine_firing.proofs.fire_at.Reads as fire-at-reads
+use Rattle.machine_operators.proofs.fire_at.Reads as fire-at-reads
 use Rattle.machine_marks.proofs.first_of.Reads as first-of-reads
 use Rattle.machine_marks.proofs.forward.Reads as forward-reads
 use Rattle.machine_marks.proofs.without.Reads as without-reads
@@ -56,11 +56,11 @@ same-length c = c .before .before .before .before .before .before .loop .inv .2 
 returns : tie.Need-returns Inv-loop μ-loop
 returns c = fast-end (c .before .before .before .before .before .before .before .before .before .args .users .now) (c .before .before .before .before .before .before .before .before .before .args .mem .now) (c .before .before .before .before .before .before .before .before .before .args .size) (c .before .before .before .before .before .before .before .before .before .args .n) (c .before .before .before .before .before .before .before .before .before .args .budget) (c .before .before .before .before .before .before .loop .mem) (c .before .before .before .forward .last .0) (c .before .before .before .forward .result) (c .before .before .before .before .before .before .loop .fired) (fast-moved (c .before .before .before .before .before .before .before .before .before .args .users .now) (c .before .before .before .before .before .before .before .before .before .args .mem .now) (c .before .before .before .before .before .before .before .before .before .args .size) (c .before .before .before .before .before .before .before .before .before .args .n) (c .before .before .before .before .before .before .before .before .before .args .budget) (c .before .before .before .before .before .before .loop .mem) (c .before .before .before .before .before .before .loop .awake) (c .before .before .before .before .before .before .loop .m) (c .before .before .before .before .before .before .loop .fired) (c .before .before .before .before .before .before .loop .inv .2) (omega arith) (c .before .before .before .forward .last .0) (c .before .before .before .forward .result) (c .before .before .before .forward .ensures .0)) (omega arith) (c .before .before .before .forward .ensures .0 .stands) (c .before .before .before .forward .ensures .0 .level) (c .before .first-of .result) (c .if1 .taken) (c .before .first-of .ensures .0) (λ h. rw (c .before .before .before .forward .ensures .0 .same) (c .before .before .before .forward .ensures .2 (c .before .first-of .ensures .1 h)))
 
--- src/lib.rt:161:12  } ⏎ if machine_firing::fire_at(mem, size, i) {
+-- src/lib.rt:161:12  } ⏎ if machine_operators::fire_at(mem, size, i) {
 fire-at-requires : tie.Need-fire-at-requires Inv-loop μ-loop
 fire-at-requires c κs = omega (arith, c .before .before .before .before .before .before .before .loop .inv .2 .going .len)
 
--- src/lib.rt:162:13  if machine_firing::fire_at(mem, size, i) { ⏎ fired += 1;
+-- src/lib.rt:162:13  if machine_operators::fire_at(mem, size, i) { ⏎ fired += 1;
 add-fired : tie.Need-add-fired Inv-loop μ-loop
 add-fired c = search needs
 

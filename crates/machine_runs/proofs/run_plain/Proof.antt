@@ -1,11 +1,11 @@
 -- The tests, as paths name them:
 --   tie if1  while count < budget { ⏎ if i == n {
---   tie if2  } ⏎ if machine_firing::fire_at(mem, size, i) {
+--   tie if2  } ⏎ if machine_operators::fire_at(mem, size, i) {
 use Rattle.machine_runs.proofs.run_plain.Statement.{statement}
 use Rattle.machine_runs.proofs.run_plain.Tie as tie
 use Rattle.machine_runs.proofs.run_plain.Reads as reads
 use Rattle.machine_runs.proofs.run_plain.Lts as lts
-use Rattle.machine_firing.proofs.fire_at.Reads as fire-at-reads
+use Rattle.machine_operators.proofs.fire_at.Reads as fire-at-reads
 use borrow.Author.Needs.{needs}
 use native.Mathlib.Omega.{arith}
 use Prim.Native.Nat.{ℕ, _+_, _-_, _*_, _≤_, _<_}
@@ -35,11 +35,11 @@ same-length c = c .before .before .loop .inv .len
 returns : tie.Need-returns Inv-loop μ-loop
 returns c = going-end (c .before .before .before .before .args .mem .now) (c .before .before .before .before .args .size) (c .before .before .before .before .args .n) (c .before .before .before .before .args .budget) (c .before .before .loop .mem) (c .before .before .loop .count) (c .before .before .loop .i) (c .before .before .loop .inv) (c .if1 .taken)
 
--- src/lib.rt:52:12  } ⏎ if machine_firing::fire_at(mem, size, i) {
+-- src/lib.rt:52:12  } ⏎ if machine_operators::fire_at(mem, size, i) {
 fire-at-requires : tie.Need-fire-at-requires Inv-loop μ-loop
 fire-at-requires c κs = omega arith
 
--- src/lib.rt:53:13  if machine_firing::fire_at(mem, size, i) { ⏎ count += 1;
+-- src/lib.rt:53:13  if machine_operators::fire_at(mem, size, i) { ⏎ count += 1;
 add-count : tie.Need-add-count Inv-loop μ-loop
 add-count c = omega arith
 
