@@ -11,7 +11,7 @@ use lib.Count.{trailingZeros}
 use lib.ListN.{length, getD, set, length-set, replicate, length-replicate}
 use lib.Seq.{getD-set-same, getD-set-other, set-getD, set-set, set-comm}
 use Rattle.machine_marks.specs.declared.Marks.{Marks}
-use Rattle.machine_marks.specs.Words.{bit, mark, woken, slept, length-woken, mark-woken, mark-woken-other, mark-set-word, mark-set-other, mark-blank, mark-all, and-less, lowest-set, below-lowest, lowest-within}
+use Rattle.machine_marks.specs.Words.{bit, mark, woken, slept, mark-woken, mark-woken-other, mark-set-word, mark-set-other, mark-blank, mark-all, and-less, lowest-set, below-lowest, lowest-within}
 
 -- the words of marks, those of the block put back
 abbrev pub held : List ℕ → Marks → List ℕ

@@ -30,14 +30,6 @@ woken w u = set w (u / 64) (bitOr (getD w (u / 64) 0) (2 ^ (u % 64)))
 unfoldable pub slept : List ℕ → ℕ → List ℕ
 slept w u = set w (u / 64) (bitAnd (getD w (u / 64) 0) ((2 ^ 64 - 1) - 2 ^ (u % 64)))
 
-pub length-woken : (w : List ℕ) (u : ℕ) → length (woken w u) ≡ length w
-unfolding woken
-length-woken w u = length-set w (u / 64) (bitOr (getD w (u / 64) 0) (2 ^ (u % 64)))
-
-pub length-slept : (w : List ℕ) (u : ℕ) → length (slept w u) ≡ length w
-unfolding slept
-length-slept w u = length-set w (u / 64) (bitAnd (getD w (u / 64) 0) ((2 ^ 64 - 1) - 2 ^ (u % 64)))
-
 -- ---- bits of one word, lowest first
 
 bit-zero : (w : ℕ) → bit w 0 ≡ w % 2
