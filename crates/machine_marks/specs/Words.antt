@@ -10,7 +10,7 @@ use native.Mathlib.Decide.{ℕ-discrete, decLt}
 use lib.Bits.{bitAnd, bitOr, and-step, or-step, and-le-l}
 use lib.Count.{trailingZeros, under}
 use lib.Pow.{pow-lt, shr-shr, shl-exact}
-use lib.ListN.{length, getD, set, length-set, replicate, getD-replicate}
+use lib.ListN.{length, getD, set, replicate, getD-replicate}
 use lib.Seq.{getD-set-same, getD-set-other}
 
 unfoldable pub bit : ℕ → ℕ → ℕ
