@@ -10,9 +10,10 @@ use Rattle.value.specs.declared.Decoded.{Decoded}
 use Rattle.value.specs.Operators.{pick}
 use Rattle.machine_layout.specs.Layout.{operatorAt, kindByte, portOf}
 use Rattle.machine_gates.specs.Decide.{Decided, idle, decideAt}
-use Rattle.machine_gates.specs.LoopJoin.{Row, table, holding, firstRow, decided-by-row, exactly-one}
+use Rattle.machine_gates.specs.Rows.{Row, table, holding, firstRow}
+use Rattle.machine_gates.specs.LoopJoin.{Among, decided-by-row, decided-by-that-row, at-most-one}
 use Rattle.machine_firing.specs.Links.{tokenAt}
-use Rattle.machine_firing.specs.Fire.{planned, registerOf, decisionAt, planAt, readyFor, ableAt}
+use Rattle.machine_firing.specs.Fire.{planned, registerOf, decisionAt, planAt, readyFor, performed, ableAt, firedAt}
 
 -- whether every token that a decision takes waits and each link it emits on has a free place
 abbrev pub ready : List ℕ → ℕ → ℕ → Decided → Bool
@@ -51,13 +52,6 @@ module _ (m : List ℕ) (size i : ℕ) (a b c g : Decoded) where
           let o : _≡_ {A = ℕ} (cond (r .holds a b c) 1 0) 0 = (rw q refl) in
           rw q (omega (arith, ih (omega (arith, h))))
 
-  at-most-one : holding table a b c ≤ 1
-  at-most-one = go (decideAt 18 a b c g .able) (exactly-one a b c g)
-    where
-      go : (t : Bool) → holding table a b c ≡ cond t 1 0 → holding table a b c ≤ 1
-      go true e = omega (arith, e)
-      go false e = omega (arith, e)
-
 -- "each able firing falls under exactly one": of an IC gate in any memory one row holds with room where it is able, else none.
 pub one-row : (m : List ℕ) (size i : ℕ) → kindByte m i ≡ 18 →
     holdingIn m size i table (tokenAt m size (portOf m i 0)) (tokenAt m size (portOf m i 1)) (tokenAt m size (portOf m i 2)) (registerOf m i)
@@ -68,5 +62,18 @@ one-row m size i k =
     let b = tokenAt m size (portOf m i 1) in
     let c = tokenAt m size (portOf m i 2) in
     let g = registerOf m i in
-    first-decides m size i a b c g table (at-most-one m size i a b c g)
+    first-decides m size i a b c g table (at-most-one a b c g)
     ∙ ap (λ (d : Decided). cond (ready m size i d) 1 0) (sym (decided-by-row a b c g) ∙ ap (λ (n : ℕ). decideAt n a b c g) (sym k))
+
+-- Whichever row holds with room, its firing is what is done to the memory.
+pub fired-by-that-row : (m : List ℕ) (size i : ℕ) → kindByte m i ≡ 18 → (r : Row) → Among r table →
+    r .holds (tokenAt m size (portOf m i 0)) (tokenAt m size (portOf m i 1)) (tokenAt m size (portOf m i 2)) ≡ true →
+    ready m size i (r .acts (registerOf m i)) ≡ true → firedAt m size i ≡ performed m size i (planned m (operatorAt i + 2) (r .acts (registerOf m i)))
+unfolding decisionAt planAt ableAt firedAt
+fired-by-that-row m size i k r n e room =
+    let a = tokenAt m size (portOf m i 0) in
+    let b = tokenAt m size (portOf m i 1) in
+    let c = tokenAt m size (portOf m i 2) in
+    let g = registerOf m i in
+    let d : decideAt (kindByte m i) a b c g ≡ r .acts g = ap (λ (x : ℕ). decideAt x a b c g) k ∙ decided-by-that-row a b c g r n e in
+    rw (d, room) refl

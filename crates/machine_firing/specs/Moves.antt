@@ -9,8 +9,8 @@ use Rattle.value.specs.declared.Decoded.the-variants.{Valid}
 use Rattle.value.specs.Operators.{pick}
 use Rattle.value.specs.Bytes.{wordOr}
 use Rattle.network.specs.Values.{true-value}
-use Rattle.machine_gates.specs.Decide.{Decided, isTrue, isFalse}
-use Rattle.machine_layout.specs.Layout.{noLink, operatorAt, portOf}
+use Rattle.machine_gates.specs.Decide.{Decided}
+use Rattle.machine_layout.specs.Layout.{operatorAt, portOf}
 use Rattle.machine_firing.specs.Links.{tokenAt, removedAt, appendedAt}
 use Rattle.machine_firing.specs.Fire.{planned, readyFor, moved, performed}
 
@@ -28,12 +28,9 @@ Fires m m′ size i dry r d = Done m m′ dry r (readyFor m size (planned m (ope
 abbrev pub MovesAny : List ℕ → List ℕ → ℕ → ℕ → Bool → Bool → (Decoded → Decided) → Type 0
 MovesAny m m′ size i dry r d = (g : Decoded) → Moves m m′ size i dry r (d g)
 
--- The first token on an input of operator i, and the link that an IC gate's control chooses.
+-- The first token on an input of operator i.
 abbrev pub input : List ℕ → ℕ → ℕ → ℕ → Decoded
 input m size i port = tokenAt m size (portOf m i port)
-
-abbrev pub Chosen : ℕ → ℕ → ℕ → ℕ → Type 0
-Chosen control second third l = (t : Decoded) → control ≡ wordOr t → l ≡ pick (isTrue t) second (pick (isFalse t) third noLink)
 
 -- A token taken from each of two links; then one given, or two.
 unfoldable pub takenTwo : List ℕ → ℕ → ℕ → ℕ → List ℕ

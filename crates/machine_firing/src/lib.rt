@@ -4,8 +4,6 @@
 // times the capacity and one. With `dry` nothing is moved: it is only told whether it could be.
 // Every equation holds for all contents: a link number from machine_layout::LINKS on is no link.
 use machine_gates::is_absent;
-use machine_gates::is_false;
-use machine_gates::is_true;
 use machine_layout::FIRST_OUTPUT;
 use machine_layout::SECOND_INPUT;
 use value::bytes::TRUE;
@@ -18,7 +16,7 @@ ghost use Rattle.machine_layout.specs.Layout.{mostOperators, linksAt, leastSize
 ghost use Rattle.machine_gates.specs.Decide.{isAbsent};
 ghost use Rattle.machine_firing.specs.Links.{headAt, tokenAt, roomAt, removedAt, appendedAt};
 ghost use Rattle.machine_firing.specs.Fire.{registerOf};
-ghost use Rattle.machine_firing.specs.Moves.{Done, takenTwo, givenOne, givenTwo, nextRegister, input, Chosen};
+ghost use Rattle.machine_firing.specs.Moves.{Done, takenTwo, givenOne, givenTwo, nextRegister, input};
 
 // The number of no link, machine_layout::NO_LINK, among those of links.
 pub const NOWHERE: usize = 65535;
@@ -181,19 +179,6 @@ pub fn pass_data(
         return false;
     }
     give_one(mem, size, i, control, l, token, dry)
-}
-
-// "true takes input 2, false input 3"; another control takes neither.
-pub fn chosen(control: u64, second: usize, third: usize) -> usize
-    ensures { λ r. ⌜ Chosen control second third r ⌝ }
-{
-    if is_true(control) {
-        return second;
-    }
-    if is_false(control) {
-        return third;
-    }
-    NOWHERE
 }
 
 // Takes the token that waits on the second input, gives nothing, and takes from `control`.

@@ -7,6 +7,7 @@ use Rattle.value.specs.declared.Decoded.{Decoded}
 use Rattle.value.specs.declared.Decoded.the-variants.{Valid, Invalid}
 use Rattle.value.specs.Operators.{pick}
 use Rattle.network.specs.Values.{true-value, false-value, err-value, apply}
+use Rattle.machine_gates.specs.Rows.{table, firstRow}
 use Rattle.machine_gates.specs.Decide.{Decided, does, idle, isAbsent, isTrue, isFalse, isNeither, countsFalse}
 
 abbrev pub applied : ℕ → Decoded → Decoded → Decoded
@@ -52,15 +53,9 @@ mBy a b c g =
 unfoldable pub eBy : Decoded → Decoded → Decoded → Decided
 eBy a b g = pick (isAbsent a) idle (pick (isNeither a) (passes true false false (Valid err-value) g) (passing true true false b g))
 
--- Brock's table of the IC gate (section 2.4) in his order: the control and the iter? of the arm that it chooses; the graph's iter?, the I and the R control.
+-- Brock's table of the IC gate: the row that holds (Rows.antt).
 unfoldable pub icBy : Decoded → Decoded → Decoded → Decoded → Decided
-icBy a b c g =
-    pick (isTrue a && isTrue b) (does true true false (Valid true-value) (Valid true-value) Invalid g)
-    (pick (isTrue a && countsFalse b) (does true true false (Valid false-value) Invalid (Valid true-value) g)
-    (pick (isFalse a && isTrue c) (does true false true (Valid true-value) (Valid false-value) Invalid g)
-    (pick (isFalse a && countsFalse c) (does true false true (Valid false-value) Invalid (Valid false-value) g)
-    (pick (isNeither a) (does true false false (Valid false-value) Invalid (Valid err-value) g)
-    idle))))
+icBy a b c g = firstRow table a b c g
 
 unfoldable pub fmBy : Decoded → Decoded → Decoded → Decoded → Decided
 unfolding mBy

@@ -1,4 +1,5 @@
 pub mod Decide
+pub mod Rows
 pub mod Gates
 pub mod Tables
 pub mod GateLaws

@@ -1,8 +1,9 @@
--- The IC gate as a list of cases: Brock's table (section 2.4), one row beside the other, in his order. Each able firing falls under exactly one, one
--- that is not able under none, and the decision is that of the row. Document 02: "A chosen input that is no truth, in altered memory, counts
--- as false", before the row is chosen. Assumes nothing.
-use Prim.Native.Nat.{ℕ, _+_}
-use mathlib.Core.Path.{_≡_, refl}
+-- Each able firing of an IC gate falls under exactly one row of Brock's table (Rows.antt), one that is not able under none, and what is decided is
+-- that row's. Assumes nothing.
+use Prim.Native.Nat.{ℕ, _+_, _≤_}
+use mathlib.Core.Path.{_≡_, refl, sym, _∙_}
+use mathlib.Core.Logic.{_⊎_, inl, inr}
+use native.Mathlib.Omega.{arith}
 use mathlib.Core.Bool.{Bool, true, false, cond, not, _&&_}
 use mathlib.Core.List.{List, [], _∷_}
 use Rattle.value.specs.declared.Value.{Value}
@@ -15,36 +16,9 @@ use Rattle.value.specs.Operators.{pick}
 use Rattle.network.specs.Values.{true-value, false-value, err-value}
 use Rattle.network.specs.Rules.{as-truth}
 use Rattle.machine_gates.specs.Decide.{Decided, does, idle, isTrue, isFalse, isNeither, countsFalse, trueSense, falseSense, neitherSense, decideAt}
+use Rattle.machine_gates.specs.Rows.{Row, table, holding, firstRow}
 use Rattle.machine_gates.specs.Gates.{icBy}
 use Rattle.machine_gates.specs.Tables.{decide-IC}
-
--- A row: when it holds, by the tokens that wait first on control, input 2 and input 3; what is done then, with the register that is left.
-pub record Row : Type 0 where
-  pub holds : Decoded → Decoded → Decoded → Bool
-  pub acts : Decoded → Decided
-
-abbrev row : (Decoded → Decoded → Decoded → Bool) → (Decoded → Decided) → Row
-row h d = record { holds = h; acts = d }
-
--- the control, the iter? that it chooses; the graph's iter?, the I control, the R control
-abbrev pub table : List Row
-table =
-    row (λ a b c. isTrue a && isTrue b) (λ g. does true true false (Valid true-value) (Valid true-value) Invalid g)
-    ∷ row (λ a b c. isTrue a && countsFalse b) (λ g. does true true false (Valid false-value) Invalid (Valid true-value) g)
-    ∷ row (λ a b c. isFalse a && isTrue c) (λ g. does true false true (Valid true-value) (Valid false-value) Invalid g)
-    ∷ row (λ a b c. isFalse a && countsFalse c) (λ g. does true false true (Valid false-value) Invalid (Valid false-value) g)
-    ∷ row (λ a b c. isNeither a) (λ g. does true false false (Valid false-value) Invalid (Valid err-value) g)
-    ∷ []
-
--- how many rows hold
-abbrev pub holding : List Row → Decoded → Decoded → Decoded → ℕ
-holding [] a b c = 0
-holding (r ∷ rs) a b c = cond (r .holds a b c) 1 0 + holding rs a b c
-
--- the first row that holds; nothing is done where none does
-abbrev pub firstRow : List Row → Decoded → Decoded → Decoded → Decoded → Decided
-firstRow [] a b c g = idle
-firstRow (r ∷ rs) a b c g = pick (r .holds a b c) (r .acts g) (firstRow rs a b c g)
 
 pub decided-by-row : (a b c g : Decoded) → decideAt 18 a b c g ≡ firstRow table a b c g
 unfolding icBy
@@ -91,3 +65,34 @@ exactly-one a b c g = rw (decided-by-row a b c g) (go a b c)
     go : (a b c : Decoded) → holding table a b c ≡ cond (firstRow table a b c g .able) 1 0
     go Invalid b c = refl
     go (Valid x) b c = by-control (sense x) b c
+
+-- ---- what the one row does
+
+-- r stands in a list of rows
+abbrev pub Among : Row → List Row → Type 0
+Among r [] = ⊥
+Among r (x ∷ rs) = (x ≡ r) ⊎ Among r rs
+
+module _ (a b c g : Decoded) (r : Row) (e : r .holds a b c ≡ true) where
+  some-holds : (rs : List Row) → Among r rs → 1 ≤ holding rs a b c
+  some-holds (x ∷ rs) (inl p) = let o : _≡_ {A = ℕ} (cond (x .holds a b c) 1 0) 1 = (rw (p, e) refl) in omega arith
+  some-holds (x ∷ rs) (inr m) = let h = some-holds rs m in omega arith
+
+  that-row : (rs : List Row) → Among r rs → holding rs a b c ≤ 1 → firstRow rs a b c g ≡ r .acts g
+  that-row (x ∷ rs) (inl p) h = rw (p, e) refl
+  that-row (x ∷ rs) (inr m) h = go (x .holds a b c) refl (λ k. that-row rs m k)
+    where
+      go : (t : Bool) → x .holds a b c ≡ t → (holding rs a b c ≤ 1 → firstRow rs a b c g ≡ r .acts g) → firstRow (x ∷ rs) a b c g ≡ r .acts g
+      go true q ih = absurd (let o : _≡_ {A = ℕ} (cond (x .holds a b c) 1 0) 1 = (rw q refl) in omega (arith, h, some-holds rs m))
+      go false q ih = let o : _≡_ {A = ℕ} (cond (x .holds a b c) 1 0) 0 = (rw q refl) in rw q (ih (omega (arith, h)))
+
+pub at-most-one : (a b c g : Decoded) → holding table a b c ≤ 1
+at-most-one a b c g = go (decideAt 18 a b c g .able) (exactly-one a b c g)
+  where
+    go : (t : Bool) → holding table a b c ≡ cond t 1 0 → holding table a b c ≤ 1
+    go true e = omega (arith, e)
+    go false e = omega (arith, e)
+
+-- whichever row holds, what is decided is its own
+pub decided-by-that-row : (a b c g : Decoded) (r : Row) → Among r table → r .holds a b c ≡ true → decideAt 18 a b c g ≡ r .acts g
+decided-by-that-row a b c g r m e = decided-by-row a b c g ∙ that-row a b c g r e table m (at-most-one a b c g)

@@ -1,10 +1,9 @@
 // The operators by their kinds (document 01, "The graph", "Rules, control first"): a gate looks at its
-// control and then at one input after the other, and ends where a token does not wait; data pass
-// through unseen. The table of rules is network's specs/Rules, and machine_gates has that what the
+// control and at the tokens that its rule wants, and ends where one does not wait; data pass through
+// unseen. The table of rules is network's specs/Rules, and machine_gates has that what the
 // gates' contracts name is what that table says. A `dry` firing only tells whether the operator
 // could fire. Assumes that the memory is as long as a machine needs, and nothing of its contents.
 use machine_firing::NOWHERE;
-use machine_firing::chosen;
 use machine_firing::drop_data;
 use machine_firing::give_one;
 use machine_firing::give_two;
@@ -16,6 +15,8 @@ use machine_firing::remember;
 use machine_firing::remember_data;
 use machine_firing::set_register;
 use machine_firing::token_of;
+use machine_gates::both;
+use machine_gates::counts_false;
 use machine_gates::is_absent;
 use machine_gates::is_false;
 use machine_gates::is_neither;
@@ -26,6 +27,8 @@ use machine_layout::SECOND_OUTPUT;
 use machine_layout::THIRD_INPUT;
 use machine_layout::THIRD_OUTPUT;
 use value::bytes::ERR;
+use value::bytes::FALSE;
+use value::bytes::TRUE;
 ghost use mathlib.Core.Path.{_≡_};
 ghost use mathlib.Core.Logic.{_≢_};
 ghost use Prim.Native.Nat.{ℕ, _≤_, _<_};
@@ -174,7 +177,9 @@ fn e_gate(mem: &mut [u8], size: usize, i: usize, dry: bool) -> bool
     pass_data(mem, size, i, first, SECOND_INPUT, dry)
 }
 
-// Brock's table is machine_gates::ic_row: it gives the graph's iter? and one of the two controls.
+// Brock's table (section 2.4), row by row and in his order: the control and the iter? of the arm that
+// it chooses are taken; the graph's iter? is given, and the control on the second output where it is
+// true, else on the third. An iter? that is no truth, met in altered memory only, counts as false.
 fn ic_gate(mem: &mut [u8], size: usize, i: usize, dry: bool) -> bool
     requires { ⌜ (leastSize ≤ size) × (size ≤ mostSize) × (need size ≤ length (now mem)) × (i < mostOperators) ⌝ }
     ensures { λ r. ⌜ Moves (now (mem .entry)) (now (mem .exit)) size i dry r (icBy (input (now (mem .entry)) size i 0) (input (now (mem .entry)) size i 1) (input (now (mem .entry)) size i 2) (registerOf (now (mem .entry)) i)) ⌝ }
@@ -183,22 +188,24 @@ fn ic_gate(mem: &mut [u8], size: usize, i: usize, dry: bool) -> bool
     let second = port_of(mem, i, SECOND_INPUT);
     let third = port_of(mem, i, THIRD_INPUT);
     let control = token_of(mem, size, first);
-    let row = machine_gates::ic_row(
-        control,
-        token_of(mem, size, second),
-        token_of(mem, size, third),
-    );
-    let iter = row.iter;
-    if is_absent(iter) {
-        return false;
+    let iter2 = token_of(mem, size, second);
+    let iter3 = token_of(mem, size, third);
+    if both(is_true(control), is_true(iter2)) {
+        return give_two(mem, size, i, first, second, TRUE, SECOND_OUTPUT, TRUE, dry);
     }
-    let data = chosen(control, second, third);
-    let again = row.again;
-    if is_absent(again) {
-        let back = row.back;
-        return give_two(mem, size, i, first, data, iter, THIRD_OUTPUT, back, dry);
+    if both(is_true(control), counts_false(iter2)) {
+        return give_two(mem, size, i, first, second, FALSE, THIRD_OUTPUT, TRUE, dry);
     }
-    give_two(mem, size, i, first, data, iter, SECOND_OUTPUT, again, dry)
+    if both(is_false(control), is_true(iter3)) {
+        return give_two(mem, size, i, first, third, TRUE, SECOND_OUTPUT, FALSE, dry);
+    }
+    if both(is_false(control), counts_false(iter3)) {
+        return give_two(mem, size, i, first, third, FALSE, THIRD_OUTPUT, FALSE, dry);
+    }
+    if is_neither(control) {
+        return give_two(mem, size, i, first, NOWHERE, FALSE, THIRD_OUTPUT, ERR, dry);
+    }
+    false
 }
 
 // "first firing wants only input 3 and passes it; then as M, with control iter?"
