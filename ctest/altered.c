@@ -456,6 +456,23 @@ static void join(uint32_t operator, enum sort control, enum sort second, enum so
     waits("the R control", port[INPUT_PORTS + 2], row != NULL ? row->result : NOTHING);
 }
 
+/* IC with a true control and a true iter? wants a place on its first and its second output, and none on its third. */
+static void join_when_full(uint32_t operator) {
+    size_t names = RECORDS_AT + RECORD_BYTES * (size_t)operator + PORTS_AT;
+    for (unsigned full = INPUT_PORTS; full < PORTS; full++) {
+        for (unsigned p = 0; p < PORTS; p++) {
+            put_token(stretch_at(names + FIGURE_BYTES * p), p < INPUT_PORTS ? TRUE_TOKEN : NOTHING);
+        }
+        size_t stretch = stretch_at(names + FIGURE_BYTES * full);
+        memory[stretch] = CAPACITY;
+        memcpy(memory + stretch + 1, two_values, sizeof two_values);
+        uint32_t wanted = full == INPUT_PORTS + 2 ? BENCH_ACCEPTED : BENCH_NOT_ABLE;
+        expect("IC with a full output", bench_fire(memory, length, operator).refusal, wanted);
+        expect("a full link stays full", memory[stretch], CAPACITY);
+        put_token(stretch, NOTHING);
+    }
+}
+
 /* Every sort of token on each input of factorial's IC gate, which gets a link for its second output. */
 static void loop_join(void) {
     begin(factorial, CAPACITY);
@@ -473,6 +490,7 @@ static void loop_join(void) {
             }
         }
     }
+    join_when_full(operator);
 }
 
 int main(void) {

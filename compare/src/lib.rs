@@ -1,4 +1,5 @@
-// A second implementation of document 01, written from the paper alone and sharing nothing with the product.
+// A second implementation of document 01 and of document 02's landed requests, written from the papers alone and sharing
+// nothing with the product.
 // Where both are run on the same bytes, a misreading in either shows up as a difference.
 
 pub mod arguments;

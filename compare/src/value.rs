@@ -1,4 +1,4 @@
-// Values and the eleven operators (document 01, "Values and operators").
+// Values and the eleven operators (document 01, "Values and operators"; and, or beside an err: document 02, Job 2).
 // Arithmetic is exact in 64 bits and then held to the range; assumes nothing.
 
 /// A whole number of 32 bits, a truth, or err.
@@ -63,6 +63,9 @@ pub fn operate(code: u32, operand: &[Value]) -> Value {
         (1..=7, &[Whole(x), Whole(y)]) => on_wholes(code, x.into(), y.into()),
         (8, &[Truth(x), Truth(y)]) => Truth(x && y),
         (9, &[Truth(x), Truth(y)]) => Truth(x || y),
+        // Document 02, Job 2: "false and err is false, true or err is true, whichever side the err stands".
+        (8, &[Truth(false), Err] | &[Err, Truth(false)]) => Truth(false),
+        (9, &[Truth(true), Err] | &[Err, Truth(true)]) => Truth(true),
         (10, &[Truth(x)]) => Truth(!x),
         (11, &[Whole(x)]) => in_range(-i64::from(x)),
         _ => Err,
@@ -132,10 +135,30 @@ mod tests {
         assert_eq!(operate(8, &[Truth(true), Truth(false)]), Truth(false));
         assert_eq!(operate(9, &[Truth(true), Truth(false)]), Truth(true));
         assert_eq!(operate(10, &[Truth(true)]), Truth(false));
-        assert_eq!(operate(8, &[Truth(false), Err]), Err);
         assert_eq!(operate(9, &[Truth(true), Whole(1)]), Err);
         assert_eq!(operate(10, &[Whole(1)]), Err);
         assert_eq!(operate(11, &[Truth(true)]), Err);
         assert_eq!(two(8, 1, 1), Err);
+    }
+
+    #[test]
+    fn false_decides_and_and_true_decides_or_beside_an_err() {
+        for (code, decides) in [(8, false), (9, true)] {
+            for (truth, gives) in [(decides, Truth(decides)), (!decides, Err)] {
+                assert_eq!(operate(code, &[Truth(truth), Err]), gives);
+                assert_eq!(operate(code, &[Err, Truth(truth)]), gives);
+            }
+            assert_eq!(operate(code, &[Err, Err]), Err);
+        }
+    }
+
+    #[test]
+    fn a_whole_number_in_and_or_gives_err() {
+        for code in [8, 9] {
+            for value in [Truth(false), Truth(true), Err, Whole(0)] {
+                assert_eq!(operate(code, &[Whole(1), value]), Err);
+                assert_eq!(operate(code, &[value, Whole(1)]), Err);
+            }
+        }
     }
 }

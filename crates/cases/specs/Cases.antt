@@ -1,11 +1,11 @@
--- Document 01's marked examples (p): "one list of definitions' outcomes with one proof over the list". A case is a question and
--- what it gives; a question that a later part answers is one constructor more, in `Question`, `Answer` and `got`.
+-- Document 01's marked examples (p), "one list of definitions' outcomes with one proof over the list", and the verdict that document 02,
+-- Job 2, asks for. A case is a question and what it gives; a question that a later part answers is one constructor more, in `Question`, `Answer` and `got`.
 use Prim.Native.Nat.{ℕ}
 use mathlib.Core.Path.{_≡_, refl}
 use mathlib.Core.Bool.{Bool, true, false}
 use mathlib.Core.List.{List, [], _∷_, _++_, map}
 use native.Mathlib.Decide.{ℕ-discrete}
-use lib.IntN.{pos}
+use lib.IntN.{pos, negsuc}
 use lib.ListN.{length, replicate}
 use Rattle.value.specs.declared.Value.{Value}
 use Rattle.value.specs.declared.Value.the-variants.{Whole, Truth}
@@ -29,7 +29,7 @@ use Rattle.theory_reference.specs.Marks.{marks}
 use Rattle.theory_verdicts.specs.Running.{startOf}
 use Rattle.demand_ends.specs.ResultBytes.{spelled}
 use Rattle.demand.specs.Pushes.{pushRefusals}
-use Rattle.examples.specs.Sheets.{bytes, lesser, twice, factorial, iterAlone, letUnused, alike, constantRow}
+use Rattle.examples.specs.Sheets.{bytes, lesser, twice, factorial, verdict, iterAlone, letUnused, alike, constantRow}
 
 -- What can be asked of the definitions.
 pub data Question : Type 0 where
@@ -93,6 +93,10 @@ number n = Whole (pos n)
 abbrev one : Value → ℕ → Answer
 one v k = evaluates 0 0 1 k (cell v ∷ replicate 15 (cell err))
 
+-- A verdict and its two margins.
+abbrev three : Value → Value → Value → Answer
+three v a b = evaluates 0 0 3 0 (cell v ∷ cell a ∷ cell b ∷ replicate 13 (cell err))
+
 -- "A refusal's counts and rows are 0 unless stated, its result set has width 0."
 abbrev refusal : ℕ → Answer
 refusal n = evaluates n 0 0 0 (replicate 16 (cell err))
@@ -101,7 +105,7 @@ abbrev pub threeAndFive : List Value
 threeAndFive = number 3 ∷ number 5 ∷ []
 
 unfoldable pub cases : List Case
-unfolding bytes lesser twice factorial iterAlone letUnused alike constantRow
+unfolding bytes lesser twice factorial verdict iterAlone letUnused alike constantRow
 cases =
     -- "sixteen pushes at capacity 16 pass, the seventeenth gives 32": on the links; the same on the machine's memory is Pushed's
     case (pushes (bytes lesser) 16 threeAndFive 17) (refusals (replicate 16 0 ++ 32 ∷ []))
@@ -128,6 +132,9 @@ cases =
     -- "n = 12 gives 479,001,600", "n = 13 gives E"
     ∷ case (evaluation (bytes factorial) (number 12 ∷ []) 12) (one (number 479001600) 12)
     ∷ case (evaluation (bytes factorial) (number 13 ∷ []) 13) (one err 13)
+    -- "A beacon that fails on range" with a battery reading that is E fails; with a good range there is no verdict, as before
+    ∷ case (evaluation (bytes verdict) (err ∷ number 3900 ∷ []) 0) (three (Truth false) err (Whole (negsuc 99)))
+    ∷ case (evaluation (bytes verdict) (err ∷ number 4500 ∷ []) 0) (three err err (number 500))
     -- a value too few
     ∷ case (evaluation (bytes lesser) (number 3 ∷ []) 0) (refusal 12)
     -- "iter as the formula: 7", "let x = 1 in 2: 9"

@@ -1,4 +1,4 @@
--- The example sheets of document 01, "Program and readings" and "Marked for proof", as text. Assumes nothing.
+-- The example sheets of document 01, "Program and readings" and "Marked for proof", and that of examples/verdict, as text. Assumes nothing.
 use Prim.Native.Nat.{ℕ, zero, suc}
 use Prim.Native.String.{String, [] as endS, _∷_ as _∷S_}
 use Prim.Native.Char as Char
@@ -20,6 +20,11 @@ twice = "     1     0     0     0     0\n     1     0     0     0     0\n     4 
 -- for i, y = n, 1 do if 1 < i then iter i - 1, y * i else y; n is identifier 0, i and y are 1 and 2.
 unfoldable pub factorial : String
 factorial = "     1     0     0     0     0\n     2     1     0     0     0\n     4     1     2     0     0\n     2     1     0     0     0\n     1     1     0     0     0\n     4     4     5     0     0\n     5     6     6     0     0\n     1     1     0     0     0\n     2     1     0     0     0\n     4     8     9     0     0\n     5     2    10     0     0\n     1     2     0     0     0\n     1     1     0     0     0\n     4    12    13     0     0\n     5     3    14     0     0\n     4    11    15     0     0\n     9    16     0     0     0\n     1     2     0     0     0\n     7     7    17    18     0\n     8     1     2     3    19\n"
+
+-- not (battery < 900) and not (range < 4000), and the margins battery - 900 and range - 4000, as in examples/verdict; battery and
+-- range are identifiers 0 and 1.
+unfoldable pub verdict : String
+verdict = "     1     0     0     0     0\n     2   900     0     0     0\n     4     1     2     0     0\n     5     6     3     0     0\n     5    10     4     0     0\n     1     1     0     0     0\n     2  4000     0     0     0\n     4     6     7     0     0\n     5     6     8     0     0\n     5    10     9     0     0\n     4     5    10     0     0\n     5     8    11     0     0\n     1     0     0     0     0\n     2   900     0     0     0\n     4    13    14     0     0\n     5     2    15     0     0\n     1     1     0     0     0\n     2  4000     0     0     0\n     4    17    18     0     0\n     5     2    19     0     0\n     4    16    20     0     0\n     4    12    21     0     0\n"
 
 -- An iter as the formula.
 unfoldable pub iterAlone : String

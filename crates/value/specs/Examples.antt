@@ -1,5 +1,6 @@
--- Outcomes that hold the definitions to the paper, each kind one list with one proof: of operators, which document 01,
--- "Values and operators", states or whose words decide them at the ends of the range; and of byte forms. Assumes nothing.
+-- Outcomes that hold the definitions to the papers, each kind one list with one proof: of operators, which document 01,
+-- "Values and operators", states or whose words decide them at the ends of the range, and of and, or every pair of truths
+-- and errs, which document 02, Job 2, decides; and of byte forms. Assumes nothing.
 use Prim.Native.Nat.{ℕ, _+_, _*_}
 use mathlib.Core.Path.{_≡_, refl}
 use mathlib.Core.Bool.{true, false}
@@ -66,11 +67,30 @@ cases =
     ∷ at 7 (Truth true) (Truth true) Err
     ∷ at 8 (Truth true) (Truth true) (Truth true)
     ∷ at 8 (Truth true) (Truth false) (Truth false)
-    ∷ at 8 (Truth false) Err Err
-    ∷ at 9 (Truth false) (Truth false) (Truth false)
+    ∷ at 8 (Truth true) Err Err
+    ∷ at 8 (Truth false) (Truth true) (Truth false)
+    ∷ at 8 (Truth false) (Truth false) (Truth false)
+    ∷ at 8 (Truth false) Err (Truth false)
+    ∷ at 8 Err (Truth true) Err
+    ∷ at 8 Err (Truth false) (Truth false)
+    ∷ at 8 Err Err Err
+    ∷ at 8 (n 1) (Truth false) Err
+    ∷ at 8 (Truth false) (n 0) Err
+    ∷ at 8 Err (n 1) Err
+    ∷ at 8 (n 0) (Truth true) Err
+    ∷ at 9 (Truth true) (Truth true) (Truth true)
+    ∷ at 9 (Truth true) (Truth false) (Truth true)
+    ∷ at 9 (Truth true) Err (Truth true)
     ∷ at 9 (Truth false) (Truth true) (Truth true)
-    ∷ at 9 Err (Truth true) Err
+    ∷ at 9 (Truth false) (Truth false) (Truth false)
+    ∷ at 9 (Truth false) Err Err
+    ∷ at 9 Err (Truth true) (Truth true)
+    ∷ at 9 Err (Truth false) Err
+    ∷ at 9 Err Err Err
     ∷ at 9 (n 1) (Truth true) Err
+    ∷ at 9 (Truth true) (n 0) Err
+    ∷ at 9 Err (n 1) Err
+    ∷ at 9 (n 0) (Truth false) Err
     ∷ at 10 (Truth true) Err (Truth false)
     ∷ at 10 (n 0) (n 0) Err
     ∷ at 11 (n 5) (Truth true) (minus 4)

@@ -1,5 +1,5 @@
--- The meaning of each operator: document 01, "Values and operators", in its order.
--- Other crates ask `apply` (code, first operand, second operand) and cite its laws in proofs/Codes, or unfold it to
+-- The meaning of each operator: document 01, "Values and operators", in its order; and, or with document 02, Job 2.
+-- Other crates ask `apply` (code, first operand, second operand) and cite its laws in AndOr and proofs/Codes, or unfold it to
 -- compute; the pieces before it are for this crate's functions. Assumes nothing.
 use Prim.Native.Nat.{ℕ, zero, suc}
 use mathlib.Core.Bool.{Bool, true, false, _&&_, not, _||_}
@@ -82,12 +82,26 @@ wholes f (Whole a) Err = Err
 wholes f (Truth a) b = Err
 wholes f Err b = Err
 
-unfoldable pub truths : (Bool → Bool → Value) → Value → Value → Value
-truths f (Truth a) (Truth b) = f a b
-truths f (Truth a) (Whole b) = Err
-truths f (Truth a) Err = Err
-truths f (Whole a) b = Err
-truths f Err b = Err
+-- A truth beside an err, where the truth d decides: document 02, Job 2.
+unfoldable pub besideErr : Bool → Bool → Value
+-- "false and err is false", "true or err is true"
+besideErr false false = Truth false
+besideErr true true = Truth true
+-- "Otherwise an err operand of codes 8 and 9 still gives err"
+besideErr false true = Err
+besideErr true false = Err
+
+-- And, or: f of two truths; beside an err the truth d decides.
+unfoldable pub logical : Bool → (Bool → Bool → Value) → Value → Value → Value
+logical d f (Truth a) (Truth b) = f a b
+-- "whichever side the err stands"
+logical d f (Truth a) Err = besideErr d a
+logical d f Err (Truth b) = besideErr d b
+logical d f Err Err = Err
+-- "Both operands must still be truths or err; a whole number gives err."
+logical d f (Whole a) b = Err
+logical d f (Truth a) (Whole b) = Err
+logical d f Err (Whole b) = Err
 
 unfoldable pub truth : (Bool → Value) → Value → Value
 truth f (Truth a) = f a
@@ -100,9 +114,9 @@ whole f (Truth a) = Err
 whole f Err = Err
 
 -- "1 add, 2 subtract, 3 multiply, 4 divide, 5 remainder, 6 less, 7 equal, 8 and, 9 or, 10 not, 11 negate."
--- "8 to 10 want truths, the others whole numbers". A code that is none of these has no operator, and gives err.
+-- "8 to 10 want truths, the others whole numbers". False decides and, true decides or. A code that is none of these has no operator, and gives err.
 unfoldable pub apply : ℕ → Value → Value → Value
-unfolding fitOf dividedBy addOf subtractOf multiplyOf divideOf remainderOf lessOf equalOf andOf orOf notOf negateOf wholes truths truth whole
+unfolding fitOf dividedBy addOf subtractOf multiplyOf divideOf remainderOf lessOf equalOf andOf orOf notOf negateOf wholes besideErr logical truth whole
 apply c a b =
     pick (eqb c 1) (wholes addOf a b)
     (pick (eqb c 2) (wholes subtractOf a b)
@@ -111,8 +125,8 @@ apply c a b =
     (pick (eqb c 5) (wholes remainderOf a b)
     (pick (eqb c 6) (wholes lessOf a b)
     (pick (eqb c 7) (wholes equalOf a b)
-    (pick (eqb c 8) (truths andOf a b)
-    (pick (eqb c 9) (truths orOf a b)
+    (pick (eqb c 8) (logical false andOf a b)
+    (pick (eqb c 9) (logical true orOf a b)
     (pick (eqb c 10) (truth notOf a)
     (pick (eqb c 11) (whole negateOf a)
     Err))))))))))

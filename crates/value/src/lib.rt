@@ -5,7 +5,7 @@ pub mod bytes; // bytes.rt: a value as a tag byte and four bytes
 ghost use mathlib.Core.Path.{_≡_};
 ghost use Prim.Native.Nat.{ℕ, _+_, _*_, _≤_, _<_};
 ghost use lib.IntN.{pos, negsuc, _+ℤ_, _-ℤ_, _*ℤ_};
-ghost use Rattle.value.specs.Operators.{fitOf, addOf, subtractOf, multiplyOf, divideOf, remainderOf, lessOf, equalOf, andOf, orOf, negateOf, apply};
+ghost use Rattle.value.specs.Operators.{fitOf, addOf, subtractOf, multiplyOf, divideOf, remainderOf, lessOf, equalOf, andOf, orOf, besideErr, negateOf, apply};
 ghost use Rattle.value.specs.Senses.{sense, err};
 
 // "A value is a whole number .., a truth, or err."
@@ -163,6 +163,47 @@ fn apply_truths(code: u8, a: bool, b: bool) -> Value
     }
 }
 
+// A truth beside an err, where the truth d decides.
+fn beside_err(d: bool, a: bool) -> Value
+    ensures { λ r. ⌜ r ≡ besideErr d a ⌝ }
+{
+    if a == d {
+        return Value::Truth(d);
+    }
+    Value::Err
+}
+
+// Codes 8 and 9 of a truth and an err, whichever side the err stands: false decides an and, true an or.
+fn apply_beside_err(code: u8, a: bool) -> Value
+    requires { ⌜ (8 ≤ code) × (code ≤ 9) ⌝ }
+    ensures { λ r. ⌜ (r ≡ apply code (Value.Truth a) Value.Err) × (r ≡ apply code Value.Err (Value.Truth a)) ⌝ }
+{
+    match code {
+        8 => beside_err(false, a),
+        _ => beside_err(true, a),
+    }
+}
+
+// Codes 8 and 9.
+fn apply_logical(code: u8, a: Value, b: Value) -> Value
+    requires { ⌜ (8 ≤ code) × (code ≤ 9) ⌝ }
+    ensures { λ r. ⌜ r ≡ apply code a b ⌝ }
+{
+    match a {
+        Value::Truth(x) => match b {
+            Value::Truth(y) => apply_truths(code, x, y),
+            Value::Err => apply_beside_err(code, x),
+            Value::Whole(_) => Value::Err,
+        },
+        Value::Err => match b {
+            Value::Truth(y) => apply_beside_err(code, y),
+            Value::Err => Value::Err,
+            Value::Whole(_) => Value::Err,
+        },
+        Value::Whole(_) => Value::Err,
+    }
+}
+
 // The operator of a code on its operands; codes 10 and 11 do not look at the second.
 pub fn apply_code(code: u8, a: Value, b: Value) -> Value
     ensures { λ r. ⌜ r ≡ apply code a b ⌝ }
@@ -177,15 +218,7 @@ pub fn apply_code(code: u8, a: Value, b: Value) -> Value
             };
             apply_wholes(code, x, y)
         }
-        8..=9 => {
-            let Value::Truth(x) = a else {
-                return Value::Err;
-            };
-            let Value::Truth(y) = b else {
-                return Value::Err;
-            };
-            apply_truths(code, x, y)
-        }
+        8..=9 => apply_logical(code, a, b),
         10 => {
             let Value::Truth(x) = a else {
                 return Value::Err;
