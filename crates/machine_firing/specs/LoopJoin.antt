@@ -7,7 +7,6 @@ use mathlib.Core.Bool.{Bool, true, false, cond, _&&_}
 use mathlib.Core.List.{List, [], _∷_}
 use native.Mathlib.Omega.{arith}
 use Rattle.value.specs.declared.Decoded.{Decoded}
-use Rattle.value.specs.Operators.{pick}
 use Rattle.machine_layout.specs.Layout.{operatorAt, kindByte, portOf}
 use Rattle.machine_gates.specs.Decide.{Decided, idle, decideAt}
 use Rattle.machine_gates.specs.Rows.{Row, table, holding, firstRow}

@@ -7,7 +7,6 @@ use lib.Dec.{eqb}
 use Rattle.value.specs.declared.Decoded.{Decoded}
 use Rattle.value.specs.declared.Decoded.the-variants.{Valid}
 use Rattle.value.specs.Operators.{pick}
-use Rattle.value.specs.Bytes.{wordOr}
 use Rattle.network.specs.Values.{true-value}
 use Rattle.machine_gates.specs.Decide.{Decided}
 use Rattle.machine_layout.specs.Layout.{operatorAt, portOf}

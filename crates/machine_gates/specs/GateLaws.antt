@@ -1,16 +1,12 @@
--- What the gates' decisions have in common: the register that they leave, and the shape of an IC gate's rows. Assumes nothing.
+-- What the gates' decisions have in common: the register that they leave. Assumes nothing.
 use Prim.Native.Nat.{ℕ}
 use mathlib.Core.Path.{_≡_, refl}
-use mathlib.Core.Bool.{Bool, true, false, not, _&&_, false≢true, true≢false}
-use Rattle.value.specs.declared.Value.{Value}
+use mathlib.Core.Bool.{Bool, true, false, _&&_, false≢true}
 use Rattle.value.specs.declared.Decoded.{Decoded}
 use Rattle.value.specs.declared.Decoded.the-variants.{Valid, Invalid}
 use Rattle.value.specs.Operators.{pick}
-use Rattle.value.specs.declared.Sense.{Sense}
-use Rattle.value.specs.declared.Sense.the-variants.{True, False, Neither}
-use Rattle.value.specs.Senses.{sense}
-use Rattle.network.specs.Values.{true-value, false-value, err-value}
-use Rattle.machine_gates.specs.Decide.{Decided, does, idle, isAbsent, isTrue, isFalse, isNeither, countsFalse, trueSense, falseSense, neitherSense}
+use Rattle.network.specs.Values.{true-value}
+use Rattle.machine_gates.specs.Decide.{Decided, idle, isAbsent, isTrue, isFalse, isNeither, countsFalse}
 use Rattle.machine_gates.specs.Gates.{applied, unaryBy, binaryBy, constantBy, copyBy, tBy, fBy, mBy, eBy, icBy, fmBy}
 
 pub applied-there : (code : ℕ) (a b : Decoded) → isAbsent a ≡ false → isAbsent b ≡ false → isAbsent (applied code a b) ≡ false

@@ -1,14 +1,13 @@
 -- Each gate's decision as the code makes it, by tests on its tokens one after the other. That this is what the table of rules says is
 -- Tables.antt. Assumes nothing.
 use Prim.Native.Nat.{ℕ}
-use mathlib.Core.Bool.{Bool, true, false, _&&_}
-use Rattle.value.specs.declared.Value.{Value}
+use mathlib.Core.Bool.{Bool, true, false}
 use Rattle.value.specs.declared.Decoded.{Decoded}
 use Rattle.value.specs.declared.Decoded.the-variants.{Valid, Invalid}
 use Rattle.value.specs.Operators.{pick}
-use Rattle.network.specs.Values.{true-value, false-value, err-value, apply}
+use Rattle.network.specs.Values.{true-value, err-value, apply}
 use Rattle.machine_gates.specs.Rows.{table, firstRow}
-use Rattle.machine_gates.specs.Decide.{Decided, does, idle, isAbsent, isTrue, isFalse, isNeither, countsFalse}
+use Rattle.machine_gates.specs.Decide.{Decided, does, idle, isAbsent, isTrue, isFalse, isNeither}
 
 abbrev pub applied : ℕ → Decoded → Decoded → Decoded
 applied code (Valid x) (Valid y) = Valid (apply code x y)
