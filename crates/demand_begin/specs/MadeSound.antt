@@ -7,7 +7,8 @@ use mathlib.Core.List.{List, [], _∷_}
 use lib.ListN.{length}
 use native.Mathlib.Omega.{arith}
 use Rattle.names.specs.Names.{Names, bit, size, members}
-use Rattle.formula.specs.Tree.{Exp, identifier, whole, truth, pair, operator, letE, ifE, forE, Body, ret, iter, letB, ifB, formulaOf}
+use Rattle.formula.specs.Constants.{constant-in-range}
+use Rattle.formula.specs.Tree.{Exp, identifier, constant, pair, operator, letE, ifE, forE, Body, ret, iter, letB, ifB, formulaOf}
 use Rattle.formula.specs.Free.{freeE, freeB}
 use Rattle.formula.specs.Widths.{width, returned, iterated}
 use Rattle.formula.specs.Count.{returns, iterates}
@@ -81,8 +82,7 @@ mutual
 
   proper-E : (x : Exp) → AdmittedE x → Proper (graphE x)
   proper-E (identifier a) h = tt
-  proper-E (whole a) h = (omega arith, tt)
-  proper-E (truth a) h = (tt, tt)
+  proper-E (constant k a) h = (constant-in-range k a h, tt)
   proper-E (pair x y) h = (proper-E x (h .1), proper-E y (h .2))
   proper-E (operator k x) h = (h .1, proper-E x (h .2))
   proper-E (letE a b x y) h = (proper-E x (h .2), proper-E y (h .3))

@@ -12,7 +12,7 @@ use Rattle.value.specs.declared.Sense.{Sense}
 use Rattle.value.specs.declared.Sense.the-variants.{True, False, Neither}
 use Rattle.value.specs.Senses.{err, sense}
 use Rattle.formula.specs.declared.Shape.{Shape}
-use Rattle.formula.specs.declared.Shape.the-variants.{Identifier, Whole, Truth, Pair, Operator, Let, If, For, Iter}
+use Rattle.formula.specs.declared.Shape.the-variants.{Identifier, Constant, Pair, Operator, Let, If, For, Iter}
 use Rattle.formula.specs.Sheet.{shapeAt}
 use Rattle.formula.specs.Tree.{Exp, Body, ret, expNode, bodyNode, expOf, bodyOf}
 use Rattle.formula.specs.TreeLaws.{exp-as, body-as}
@@ -235,8 +235,7 @@ module _ (t ws : List ℕ) (r : ℕ) (h : ExpRow t ws r) (env : Env) (left at : 
 -- The part of a row that is evaluated first.
 abbrev FirstPart : Shape → ℕ → Type 0
 FirstPart (Identifier a) k = ⊥
-FirstPart (Whole a) k = ⊥
-FirstPart (Truth a) k = ⊥
+FirstPart (Constant kind a) k = ⊥
 FirstPart (Pair a b) k = k ≡ a
 FirstPart (Operator a b) k = ⊥
 FirstPart (Let a b c d) k = k ≡ c
@@ -255,8 +254,7 @@ tell-stopped t ws r h env left s e k f at i o o′ z z′ p =
     go : (y : Shape) → FirstPart y k → evalE (expOf t k) env left ≡ Outcome.unfinished
         → evalE (expNode (expOf t) (bodyOf t) y) env left ≡ Outcome.unfinished
     go (Identifier a) f q = absurd f
-    go (Whole a) f q = absurd f
-    go (Truth a) f q = absurd f
+    go (Constant k a) f q = absurd f
     go (Pair a b) f q = then-short _ (rw f at q)
     go (Operator a b) f q = absurd f
     go (Let a b c d) f q = then-short _ (rw f at q)

@@ -13,7 +13,7 @@ use Rattle.value.specs.declared.Sense.{Sense}
 use Rattle.value.specs.declared.Sense.the-variants.{True, False, Neither}
 use Rattle.value.specs.Senses.{err, sense}
 use Rattle.formula.specs.declared.Shape.{Shape}
-use Rattle.formula.specs.declared.Shape.the-variants.{Identifier, Whole, Truth, Pair, Operator, Let, If, For, Iter}
+use Rattle.formula.specs.declared.Shape.the-variants.{Identifier, Constant, Pair, Operator, Let, If, For, Iter}
 use Rattle.formula.specs.Sheet.{shapeAt}
 use Rattle.formula.specs.Tree.{Exp, Body, ret, expNode, bodyNode, expOf, bodyOf}
 use Rattle.formula.specs.TreeLaws.{body-as}
@@ -62,8 +62,7 @@ Shaped s End = Plain s
 
 shaped : (s : Shape) → Shaped s (wayOf s)
 shaped (Identifier a) = tt
-shaped (Whole a) = tt
-shaped (Truth a) = tt
+shaped (Constant k a) = tt
 shaped (Pair a b) = tt
 shaped (Operator a b) = tt
 shaped (Let a b c d) = refl

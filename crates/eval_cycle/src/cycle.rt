@@ -138,8 +138,7 @@ fn by_kind(
         }
         // no such row is handed in
         Shape::Identifier(_) => Rest::Short,
-        Shape::Whole(_) => Rest::Short,
-        Shape::Truth(_) => Rest::Short,
+        Shape::Constant(_, _) => Rest::Short,
         Shape::Operator(_, _) => Rest::Short,
         Shape::Iter(_) => Rest::Short,
     }

@@ -10,7 +10,7 @@ use Rattle.value.specs.declared.Value.{Value}
 use Rattle.formula.specs.declared.Refusal.{Refusal}
 use Rattle.formula.specs.declared.Verdict.{Verdict}
 use Rattle.formula.specs.declared.Verdict.the-variants.{Passed, Refused}
-use Rattle.formula.specs.Tree.{Exp, identifier, whole, truth, pair, operator, letE, ifE, forE, formulaOf}
+use Rattle.formula.specs.Tree.{Exp, identifier, constant, pair, operator, letE, ifE, forE, formulaOf}
 use Rattle.formula.specs.Free.{freeE, inputsOf}
 use Rattle.formula.specs.Widths.{width}
 use Rattle.formula.specs.Tests.{verdictOf}
@@ -30,8 +30,7 @@ rowIn (Refused r row) = row
 sound-narrow : (x : Exp) → SoundE x → width x ≤ 16
 unfolding width
 sound-narrow (identifier a) h = omega arith
-sound-narrow (whole a) h = omega arith
-sound-narrow (truth a) h = omega arith
+sound-narrow (constant k a) h = omega arith
 sound-narrow (pair x y) h = wide-16 (pair x y) (h .0)
 sound-narrow (operator k x) h = wide-16 (operator k x) (h .0)
 sound-narrow (letE a b x y) h = wide-16 (letE a b x y) (h .0)

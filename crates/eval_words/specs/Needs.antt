@@ -9,7 +9,8 @@ use lib.ListN.{getD}
 use native.Mathlib.Omega.{arith}
 use Rattle.value.specs.Operators.{operands, pick}
 use Rattle.formula.specs.declared.Shape.{Shape}
-use Rattle.formula.specs.declared.Shape.the-variants.{Identifier, Whole, Truth, Pair, Operator, Let, If, For, Iter}
+use Rattle.formula.specs.declared.Shape.the-variants.{Identifier, Constant, Pair, Operator, Let, If, For, Iter}
+use Rattle.formula.specs.Constants.{constantMost}
 use Rattle.formula.specs.Sheet.{shapeAt}
 use Rattle.formula.specs.Tree.{Exp, Body, ret, iter, letB, ifB, expNode, bodyNode, expOf, bodyOf}
 use Rattle.formula.specs.TreeLaws.{exp-as, body-as}
@@ -22,8 +23,7 @@ W ws r = getD ws (r - 1) 0
 
 abbrev pub ExpNeeds : List ℕ → List ℕ → ℕ → Shape → Type 0
 ExpNeeds t ws r (Identifier a) = (W ws r ≡ 1) × (a < 32)
-ExpNeeds t ws r (Whole a) = (W ws r ≡ 1) × (a < 2147483648)
-ExpNeeds t ws r (Truth a) = W ws r ≡ 1
+ExpNeeds t ws r (Constant k a) = (W ws r ≡ 1) × (a ≤ constantMost k)
 ExpNeeds t ws r (Pair a b) = W ws r ≡ W ws a + W ws b
 ExpNeeds t ws r (Operator a b) = (W ws r ≡ 1) × (W ws b ≤ 2) × (a < 256)
 ExpNeeds t ws r (Let a b c d) = (W ws c ≡ b) × (a + b ≤ 32) × (W ws d ≡ W ws r)
@@ -34,8 +34,7 @@ ExpNeeds t ws r (Iter a) = ⊥
 
 abbrev pub BodyNeeds : List ℕ → List ℕ → ℕ → Shape → Type 0
 BodyNeeds t ws r (Identifier a) = Unit {0}
-BodyNeeds t ws r (Whole a) = Unit {0}
-BodyNeeds t ws r (Truth a) = Unit {0}
+BodyNeeds t ws r (Constant k a) = Unit {0}
 BodyNeeds t ws r (Pair a b) = Unit {0}
 BodyNeeds t ws r (Operator a b) = Unit {0}
 BodyNeeds t ws r (Let a b c d) = (W ws c ≡ b) × (a + b ≤ 32) × (returned (bodyOf t d) ≡ returned (bodyOf t r))
@@ -73,8 +72,7 @@ module _ (t ws : List ℕ) where
           → W ws r ≡ width (expNode (expOf t) (bodyOf t) z) → wideE (expNode (expOf t) (bodyOf t) z) ≡ true
           → ExpNeeds t ws r z
       go (Identifier a) c i w f = (w, omega (arith, i))
-      go (Whole a) c i w f = (w, omega (arith, i))
-      go (Truth a) c i w f = w
+      go (Constant k a) c i w f = (w, i)
       go (Pair a b) c i w f = rw (table a (c .0 .0), table b (c .1 .0)) w
       go (Operator a b) c i w f =
           let k : W ws b ≡ operands a = table b (c .0) ∙ operator-fits a (expOf t b) f in
@@ -111,8 +109,7 @@ module _ (t ws : List ℕ) where
           → returned (bodyOf t r) ≡ returned (bodyNode (expOf t) (bodyOf t) z)
           → wideB (bodyNode (expOf t) (bodyOf t) z) ≡ true → BodyNeeds t ws r z
       go (Identifier a) c i w f = tt
-      go (Whole a) c i w f = tt
-      go (Truth a) c i w f = tt
+      go (Constant k a) c i w f = tt
       go (Pair a b) c i w f = tt
       go (Operator a b) c i w f = tt
       go (Let a b x y) c i w f =

@@ -3,13 +3,11 @@
 use Prim.Native.Nat.{ℕ, _<_}
 use mathlib.Core.Path.{_≡_, refl, sym, ap, _∙_}
 use mathlib.Core.List.{List, [], _∷_}
-use lib.IntN.{pos}
-use lib.Dec.{eqb}
 use native.Mathlib.Omega.{arith}
 use Rattle.value.specs.declared.Value.{Value}
-use Rattle.value.specs.declared.Value.the-variants.{Whole as whole-value, Truth as truth-value}
 use Rattle.formula.specs.declared.Shape.{Shape}
-use Rattle.formula.specs.declared.Shape.the-variants.{Identifier, Whole, Truth, Pair, Operator, Let, If, For, Iter}
+use Rattle.formula.specs.declared.Shape.the-variants.{Identifier, Constant, Pair, Operator, Let, If, For, Iter}
+use Rattle.formula.specs.Constants.{constantValue}
 use Rattle.formula.specs.Sheet.{shapeAt}
 use Rattle.formula.specs.Tree.{Exp, expNode, expOf, bodyOf}
 use Rattle.formula.specs.TreeLaws.{exp-as}
@@ -54,8 +52,7 @@ pub record Pairs (t ws : List ℕ) (r k x y : ℕ) : Type 0 where
 -- The kinds of a row that is evaluated by its parts' rows, each in lent words.
 abbrev pub Compound : Shape → Type 0
 Compound (Identifier a) = ⊥
-Compound (Whole a) = ⊥
-Compound (Truth a) = ⊥
+Compound (Constant k a) = ⊥
 Compound (Pair a b) = Unit {0}
 Compound (Operator a b) = ⊥
 Compound (Let a b c d) = Unit {0}
@@ -69,8 +66,7 @@ wide-compound t ws r h n = go (shapeAt t r) (exp-needs t ws r h (shapeAt t r) re
   where
     go : (s : Shape) → ExpNeeds t ws r s → Compound s
     go (Identifier a) f = absurd (n (f .0))
-    go (Whole a) f = absurd (n (f .0))
-    go (Truth a) f = absurd (n f)
+    go (Constant k a) f = absurd (n (f .0))
     go (Pair a b) f = tt
     go (Operator a b) f = absurd (n (f .0))
     go (Let a b c d) f = tt
@@ -103,15 +99,10 @@ module _ (t ws : List ℕ) (r : ℕ) (h : ExpRow t ws r) (env : Env) where
   unfolding evalE expNode
   part-identifier a w e p left = by-shape t ws r h env left (Identifier a) e ∙ ap (λ (v : Value). yields (v ∷ []) left) p
 
-  pub part-whole : (a w : ℕ) → shapeAt t r ≡ Whole a → heldOf w ≡ whole-value (pos a)
+  pub part-constant : (k a w : ℕ) → shapeAt t r ≡ Constant k a → heldOf w ≡ constantValue k a
       → (left : ℕ) → evalE (expOf t r) env left ≡ yields (heldOf w ∷ []) left
   unfolding evalE expNode
-  part-whole a w e p left = by-shape t ws r h env left (Whole a) e ∙ ap (λ (v : Value). yields (v ∷ []) left) (sym p)
-
-  pub part-truth : (a w : ℕ) → shapeAt t r ≡ Truth a → heldOf w ≡ truth-value (eqb a 1)
-      → (left : ℕ) → evalE (expOf t r) env left ≡ yields (heldOf w ∷ []) left
-  unfolding evalE expNode
-  part-truth a w e p left = by-shape t ws r h env left (Truth a) e ∙ ap (λ (v : Value). yields (v ∷ []) left) (sym p)
+  part-constant k a w e p left = by-shape t ws r h env left (Constant k a) e ∙ ap (λ (v : Value). yields (v ∷ []) left) (sym p)
 
 -- ---- the rows of a part
 

@@ -14,9 +14,11 @@ use Rattle.value.specs.declared.Value.{Value}
 use Rattle.value.specs.declared.Decoded.{Decoded}
 use Rattle.value.specs.declared.Decoded.the-variants.{Valid, Invalid}
 use Rattle.value.specs.Bytes.{InRange, wordOf, valueOf, decoded}
-use Rattle.value.proofs.Words.{value-of-word}
+use Rattle.value.proofs.Words.{value-of-word, word-of-value}
 use Rattle.value.specs.Operators.{apply}
-use Rattle.value.specs.Senses.{err}
+use Rattle.value.specs.declared.Sense.{Sense}
+use Rattle.value.specs.declared.Sense.the-variants.{True, False, Neither}
+use Rattle.value.specs.Senses.{err, sense, only-one-true, only-one-false}
 use Rattle.meaning.specs.Meaning.{Env, bind, Outcome, yields, then}
 use Rattle.meaning.specs.Binding.{bind-is}
 use Rattle.eval_words.specs.declared.Single.{Single}
@@ -65,6 +67,28 @@ held-invalid w = go (valueOf w)
 pub held-zero : heldOf 0 ≡ err
 unfolding heldOf valueOf
 held-zero = refl
+
+-- Only 258 is a word of true, and only 2 one of false.
+pub word-true : (w : ℕ) → w ≡ 258 → True ≡ sense (heldOf w)
+unfolding heldOf valueOf
+word-true w e = rw e refl
+
+pub word-false : (w : ℕ) → w ≡ 2 → False ≡ sense (heldOf w)
+unfolding heldOf valueOf
+word-false w e = rw e refl
+
+pub word-neither : (w : ℕ) → (w ≡ 258 → ⊥) → (w ≡ 2 → ⊥) → Neither ≡ sense (heldOf w)
+unfolding heldOf wordOf
+word-neither w p q = go (valueOf w) refl
+  where
+    by-sense : (v : Value) → valueOf w ≡ some v → (s : Sense) → sense v ≡ s → Neither ≡ s
+    by-sense v e True h = absurd (p (word-of-value w v e ∙ ap wordOf (only-one-true v h)))
+    by-sense v e False h = absurd (q (word-of-value w v e ∙ ap wordOf (only-one-false v h)))
+    by-sense v e Neither h = refl
+
+    go : (o : Option Value) → valueOf w ≡ o → Neither ≡ sense (orErr o)
+    go (some v) e = by-sense v e (sense v) refl
+    go none e = refl
 
 -- An array of zeros holds err everywhere.
 pub zeros-err : (n k : ℕ) → envOf (replicate n 0) k ≡ err

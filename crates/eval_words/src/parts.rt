@@ -1,8 +1,7 @@
 // What the value of a row of width one is made of (document 01, "Widths": kinds 1 to 3 have one value, an operator one), so
 // that names, constants and operators on such rows need no lent words (specs/Parts). Assumes an accepted sheet's row.
 use crate::Part;
-use crate::words::truth_word;
-use crate::words::whole_word;
+use crate::words::constant_word;
 use formula::Shape;
 use sheet_fields::shape::shape_at;
 use sheet_fields::shape::width_at;
@@ -39,8 +38,7 @@ pub fn part_at(t: &[u32], widths: &[u8], r: usize, env: &[u64; 32]) -> Part
 {
     match shape_at(t, r) {
         Shape::Identifier(a) => Part::Value(env[a as usize]),
-        Shape::Whole(a) => Part::Value(whole_word(a)),
-        Shape::Truth(a) => Part::Value(truth_word(a)),
+        Shape::Constant(kind, a) => Part::Value(constant_word(kind, a)),
         Shape::Pair(_, _) => Part::Other,
         Shape::Operator(code, b) => operator_at(t, widths, code, b),
         Shape::Let(_, _, _, _) => Part::Other,

@@ -7,12 +7,11 @@ use value::Value;
 ghost use mathlib.Core.Path.{_≡_};
 ghost use mathlib.Core.List.{[], _∷_};
 ghost use Prim.Native.Nat.{ℕ, _+_, _≤_, _<_};
-ghost use lib.IntN.{pos};
-ghost use lib.Dec.{eqb};
 ghost use lib.ListN.{length, replicate};
 ghost use lib.Seq.{paste};
 ghost use Rattle.value.specs.Operators.{apply};
 ghost use Rattle.value.specs.Senses.{err, sense};
+ghost use Rattle.formula.specs.Constants.{constantValue, constantMost};
 ghost use Rattle.meaning.specs.Meaning.{bind, yields, then};
 ghost use Rattle.eval_words.specs.Words.{heldOf, envOf, outcomeOf, applying};
 
@@ -70,24 +69,25 @@ pub fn applied_to(code: u32, a: u64, second: Single) -> Single
     }
 }
 
-pub fn whole_word(a: u32) -> u64
-    requires { ⌜ a < 2147483648 ⌝ }
-    ensures { λ w. ⌜ heldOf w ≡ Value.Whole (pos a) ⌝ }
+// A word of a constant.
+pub fn constant_word(kind: u32, a: u32) -> u64
+    requires { ⌜ a ≤ constantMost kind ⌝ }
+    ensures { λ w. ⌜ heldOf w ≡ constantValue kind a ⌝ }
 {
-    word(Value::Whole(a as i32))
-}
-
-pub fn truth_word(a: u32) -> u64
-    ensures { λ w. ⌜ heldOf w ≡ Value.Truth (eqb a 1) ⌝ }
-{
-    word(Value::Truth(a == 1))
+    word(formula::constant(kind, a))
 }
 
 // Which arm of an if the word of its test chooses: the first on true, the second on false.
 pub fn chosen(w: u64) -> Sense
     ensures { λ s. ⌜ s ≡ sense (heldOf w) ⌝ }
 {
-    value::sense_of(held(w))
+    if w == value::bytes::TRUE {
+        return Sense::True;
+    }
+    if w == value::bytes::FALSE {
+        return Sense::False;
+    }
+    Sense::Neither
 }
 
 // The first n words of `from`, put into `to` from `at` on.

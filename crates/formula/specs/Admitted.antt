@@ -3,7 +3,8 @@
 use Prim.Native.Nat.{ℕ, _+_, _≤_, _<_}
 use mathlib.Core.Path.{_≡_}
 use mathlib.Core.Bool.{true}
-use Rattle.formula.specs.Tree.{Exp, identifier, whole, truth, pair, operator, letE, ifE, forE, Body, ret, iter, letB, ifB}
+use Rattle.formula.specs.Tree.{Exp, identifier, constant, pair, operator, letE, ifE, forE, Body, ret, iter, letB, ifB}
+use Rattle.formula.specs.Constants.{constantMost}
 use Rattle.formula.specs.Widths.{wideE, wideB}
 use Rattle.formula.specs.Free.{boundE, boundB}
 
@@ -20,8 +21,7 @@ FineB y = (wideB y ≡ true) × (boundB y ≡ true)
 abbrev mutual
   pub AdmittedE : Exp → Type 0
   AdmittedE (identifier a) = a < 32
-  AdmittedE (whole a) = a ≤ 999999
-  AdmittedE (truth a) = a ≤ 1
+  AdmittedE (constant k a) = a ≤ constantMost k
   AdmittedE (pair x y) = FineE (pair x y) × AdmittedE x × AdmittedE y
   AdmittedE (operator k x) = FineE (operator k x) × ((1 ≤ k) × (k ≤ 11)) × AdmittedE x
   AdmittedE (letE a b x y) = FineE (letE a b x y) × Binds a b × AdmittedE x × AdmittedE y

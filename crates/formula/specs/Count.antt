@@ -3,7 +3,7 @@
 use Prim.Native.Nat.{ℕ, _+_, _*_, _-_}
 use mathlib.Core.Bool.{Bool, true, false, cond, _&&_, _||_}
 use Rattle.names.specs.Names.{Names, trigger, one, union, common, without, range, size, sizeFrom}
-use Rattle.formula.specs.Tree.{Exp, identifier, whole, truth, pair, operator, letE, ifE, forE, Body, ret, iter, letB, ifB}
+use Rattle.formula.specs.Tree.{Exp, identifier, constant, pair, operator, letE, ifE, forE, Body, ret, iter, letB, ifB}
 use Rattle.formula.specs.Widths.{width, iterated, returned}
 use Rattle.formula.specs.Free.{freeE, freeB}
 
@@ -67,8 +67,7 @@ unfoldable mutual
 
   pub countE : Exp → Count
   countE (identifier a) = gates 0
-  countE (whole a) = gates 1
-  countE (truth a) = gates 1
+  countE (constant k a) = gates 1
   countE (pair x y) = shared (freeE x) (freeE y) ⊕ countE x ⊕ countE y
   countE (operator k x) = countE x ⊕ gates 1
   countE (letE a b x y) = shared (freeE x) (without (freeE y) (range a b)) ⊕ countE x ⊕ countE y

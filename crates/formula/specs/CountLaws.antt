@@ -3,7 +3,7 @@ use Prim.Native.Nat.{ℕ, _+_, _*_, _-_, _≤_}
 use mathlib.Core.Path.{_≡_, refl}
 use mathlib.Core.Bool.{Bool, true, false, cond, _&&_, _||_}
 use native.Mathlib.Omega.{arith}
-use Rattle.formula.specs.Tree.{Exp, identifier, whole, truth, pair, operator, letE, ifE, forE, Body, ret, iter, letB, ifB}
+use Rattle.formula.specs.Tree.{Exp, identifier, constant, pair, operator, letE, ifE, forE, Body, ret, iter, letB, ifB}
 use Rattle.names.specs.Names.{trigger, one, union, common, without, range, size}
 use Rattle.formula.specs.Widths.{width, iterated, returned}
 use Rattle.formula.specs.Free.{freeE, freeB}
@@ -90,8 +90,7 @@ mutual
 
   pub links-few : (x : Exp) → Few (countE x)
   links-few (identifier a) = gates-few 0
-  links-few (whole a) = gates-few 1
-  links-few (truth a) = gates-few 1
+  links-few (constant k a) = gates-few 1
   links-few (pair x y) = beside (size (common (freeE x) (freeE y))) (countE x) (countE y) (links-few x) (links-few y)
   links-few (operator k x) = sum-few (countE x) (gates 1) (links-few x) (gates-few 1)
   links-few (letE a k x y) = beside (size (common (freeE x) (without (freeE y) (range a k)))) (countE x) (countE y) (links-few x) (links-few y)

@@ -5,14 +5,13 @@ use mathlib.Core.Bool.{Bool, true}
 use mathlib.Core.List.{List}
 use lib.Dec.{eqb}
 use Rattle.names.specs.Names.{Names, trigger, one, union, without, range, size, sizeFrom, members, membersFrom}
-use Rattle.formula.specs.Tree.{Exp, identifier, whole, truth, pair, operator, letE, ifE, forE, Body, ret, iter, letB, ifB}
+use Rattle.formula.specs.Tree.{Exp, identifier, constant, pair, operator, letE, ifE, forE, Body, ret, iter, letB, ifB}
 
 -- "row c of let and for lies outside the new identifiers"
 unfoldable mutual
   pub freeE : Exp → Names
   freeE (identifier a) = one a
-  freeE (whole a) = one trigger
-  freeE (truth a) = one trigger
+  freeE (constant k a) = one trigger
   freeE (pair x y) = union (freeE x) (freeE y)
   freeE (operator k x) = freeE x
   freeE (letE a b x y) = union (freeE x) (without (freeE y) (range a b))
@@ -34,8 +33,7 @@ covers f a b = eqb (size (without (range a b) f)) 0
 unfoldable pub boundE : Exp → Bool
 unfolding freeE covers
 boundE (identifier a) = true
-boundE (whole a) = true
-boundE (truth a) = true
+boundE (constant k a) = true
 boundE (pair x y) = true
 boundE (operator k x) = true
 boundE (letE a b x y) = covers (freeE y) a b

@@ -1,6 +1,7 @@
 pub mod Refusals
 pub mod Sheet
 pub mod Ways
+pub mod Constants
 pub mod Tree
 pub mod Widths
 pub mod Free

@@ -13,7 +13,7 @@ use borrow.Author.Tests.{eq-eqb, ne-eqb}
 use native.Mathlib.Omega.{arith}
 use native.Mathlib.Decide.{ℕ-discrete, decLt}
 use Rattle.formula.specs.declared.Shape.{Shape}
-use Rattle.formula.specs.declared.Shape.the-variants.{Identifier, Whole, Truth, Pair, Operator, Let, If, For, Iter}
+use Rattle.formula.specs.declared.Shape.the-variants.{Identifier, Constant, Pair, Operator, Let, If, For, Iter}
 use Rattle.formula.specs.Sheet.{shapeAt, namedIn}
 use Rattle.formula.specs.Places.{bodiesIn, inBody, mark, markDown, placesOf}
 use Rattle.formula.specs.Tests.{occurrences, allNamed}
@@ -27,8 +27,7 @@ pub record Sound (t : List ℕ) (n : ℕ) : Type 0 where
 -- The places of the rows that a row names, field by field; b says whether the row itself is in a body place.
 unfoldable pub fieldPlaces : Bool → Shape → List Bool
 fieldPlaces b (Identifier i) = []
-fieldPlaces b (Whole i) = []
-fieldPlaces b (Truth i) = []
+fieldPlaces b (Constant k i) = []
 fieldPlaces b (Pair x y) = false ∷ false ∷ []
 fieldPlaces b (Operator k x) = false ∷ []
 fieldPlaces b (Let i k x y) = false ∷ b ∷ []
@@ -112,8 +111,7 @@ mark-at (y ∷ l) p x r a h k =
 pub bodies-between : (r : ℕ) (b : Bool) (s : Shape) → AllBetween r (namedIn s) → AllBetween r (bodiesIn b s)
 unfolding namedIn bodiesIn
 bodies-between r b (Identifier i) h = tt
-bodies-between r b (Whole i) h = tt
-bodies-between r b (Truth i) h = tt
+bodies-between r b (Constant k i) h = tt
 bodies-between r b (Pair x y) h = tt
 bodies-between r b (Operator k x) h = tt
 bodies-between r true (Let i k x y) h = h .1
@@ -126,8 +124,7 @@ bodies-between r b (Iter x) h = tt
 pub bodies-named : (x : ℕ) (b : Bool) (s : Shape) → occurrences x (bodiesIn b s) ≤ occurrences x (namedIn s)
 unfolding namedIn bodiesIn occurrences
 bodies-named x b (Identifier i) = omega arith
-bodies-named x b (Whole i) = omega arith
-bodies-named x b (Truth i) = omega arith
+bodies-named x b (Constant k i) = omega arith
 bodies-named x b (Pair y z) = omega arith
 bodies-named x b (Operator k y) = omega arith
 bodies-named x true (Let i k y z) = omega arith
@@ -264,8 +261,7 @@ module _
         → map p (namedIn s) ≡ fieldPlaces b s
     unfolding namedIn bodiesIn fieldPlaces occurrences
     by-shape (Identifier i) l o h = refl
-    by-shape (Whole i) l o h = refl
-    by-shape (Truth i) l o h = refl
+    by-shape (Constant k i) l o h = refl
     by-shape (Pair x y) l o h =
         let u : p x ≡ false = h x (l .0 .0) (l .0 .1) (omega (arith, own x)) in
         let v : p y ≡ false = h y (l .1 .0 .0) (l .1 .0 .1) (omega (arith, own y)) in

@@ -5,15 +5,14 @@ use mathlib.Core.Bool.{Bool, true, false, cond}
 use mathlib.Core.List.{List, [], _∷_}
 use lib.ListN.{getD, set, replicate}
 use Rattle.formula.specs.declared.Shape.{Shape}
-use Rattle.formula.specs.declared.Shape.the-variants.{Identifier, Whole, Truth, Pair, Operator, Let, If, For, Iter}
+use Rattle.formula.specs.declared.Shape.the-variants.{Identifier, Constant, Pair, Operator, Let, If, For, Iter}
 use Rattle.formula.specs.Sheet.{shapeAt}
 use Rattle.formula.specs.Tree.{Exp, Body, expOf, bodyOf}
 
 -- The rows that a row names in body places; `inBody` says whether the row itself is in one.
 unfoldable pub bodiesIn : Bool → Shape → List ℕ
 bodiesIn inBody (Identifier a) = []
-bodiesIn inBody (Whole a) = []
-bodiesIn inBody (Truth a) = []
+bodiesIn inBody (Constant k a) = []
 bodiesIn inBody (Pair a b) = []
 bodiesIn inBody (Operator a b) = []
 bodiesIn inBody (Let a b c d) = cond inBody (d ∷ []) []

@@ -8,7 +8,7 @@ use lib.Dec.{eqb, leb}
 use Rattle.formula.specs.declared.Field.{Field}
 use Rattle.formula.specs.declared.Field.the-variants.{Number, Malformed}
 use Rattle.formula.specs.declared.Shape.{Shape}
-use Rattle.formula.specs.declared.Shape.the-variants.{Identifier, Whole, Truth, Pair, Operator, Let, If, For, Iter}
+use Rattle.formula.specs.declared.Shape.the-variants.{Identifier, Constant, Pair, Operator, Let, If, For, Iter}
 
 abbrev pub isDigit : ℕ → Bool
 isDigit b = leb 48 b && leb b 57
@@ -79,15 +79,15 @@ field t r j = getD t (5 * (r - 1) + j) 0
 unfoldable pub shapeOf : ℕ → ℕ → ℕ → ℕ → ℕ → Shape
 shapeOf kind a b c d =
     cond (eqb kind 1) (Identifier a)
-    (cond (eqb kind 2) (Whole a)
-    (cond (eqb kind 3) (Truth a)
+    (cond (eqb kind 2) (Constant 2 a)
+    (cond (eqb kind 3) (Constant 3 a)
     (cond (eqb kind 4) (Pair a b)
     (cond (eqb kind 5) (Operator a b)
     (cond (eqb kind 6) (Let a b c d)
     (cond (eqb kind 7) (If a b c)
     (cond (eqb kind 8) (For a b c d)
     (cond (eqb kind 9) (Iter a)
-    (Whole 0)))))))))
+    (Constant 2 0)))))))))
 
 unfoldable pub shapeAt : List ℕ → ℕ → Shape
 unfolding shapeOf
@@ -96,8 +96,7 @@ shapeAt t r = shapeOf (field t r 0) (field t r 1) (field t r 2) (field t r 3) (f
 -- The rows that a row names, field by field.
 unfoldable pub namedIn : Shape → List ℕ
 namedIn (Identifier a) = []
-namedIn (Whole a) = []
-namedIn (Truth a) = []
+namedIn (Constant k a) = []
 namedIn (Pair a b) = a ∷ b ∷ []
 namedIn (Operator a b) = b ∷ []
 namedIn (Let a b c d) = c ∷ d ∷ []

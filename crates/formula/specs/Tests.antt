@@ -8,7 +8,7 @@ use lib.Dec.{eqb, leb, ltb}
 use Rattle.formula.specs.declared.Field.{Field}
 use Rattle.formula.specs.declared.Field.the-variants.{Number, Malformed as malformed}
 use Rattle.formula.specs.declared.Shape.{Shape}
-use Rattle.formula.specs.declared.Shape.the-variants.{Identifier, Whole, Truth, Pair, Operator, Let, If, For, Iter}
+use Rattle.formula.specs.declared.Shape.the-variants.{Identifier, Constant, Pair, Operator, Let, If, For, Iter}
 use Rattle.formula.specs.declared.Check.{Check}
 use Rattle.formula.specs.declared.Check.the-variants.{Passed, Fault}
 use Rattle.formula.specs.declared.Refusal.{Refusal}
@@ -120,8 +120,7 @@ namedOnce names r = eqb (occurrences r names) 1
 -- 7 "iter in an expression place"
 abbrev pub isIter : Shape → Bool
 isIter (Identifier a) = false
-isIter (Whole a) = false
-isIter (Truth a) = false
+isIter (Constant k a) = false
 isIter (Pair a b) = false
 isIter (Operator a b) = false
 isIter (Let a b c d) = false

@@ -5,14 +5,14 @@
 use Prim.Native.Nat.{ℕ, zero, suc}
 use mathlib.Core.List.{List}
 use Rattle.formula.specs.declared.Shape.{Shape}
-use Rattle.formula.specs.declared.Shape.the-variants.{Identifier, Whole, Truth, Pair, Operator, Let, If, For, Iter}
+use Rattle.formula.specs.declared.Shape.the-variants.{Identifier, Constant, Pair, Operator, Let, If, For, Iter}
 use Rattle.formula.specs.Sheet.{shapeAt, rowCount, fieldsOf}
 
 mutual
   pub data Exp : Type 0 where
     identifier : ℕ → Exp
-    whole : ℕ → Exp
-    truth : ℕ → Exp
+    -- the row's kind, and a
+    constant : ℕ → ℕ → Exp
     pair : Exp → Exp → Exp
     operator : ℕ → Exp → Exp
     letE : ℕ → ℕ → Exp → Exp → Exp
@@ -28,8 +28,7 @@ mutual
 -- A row in an expression place, from the trees of the rows that it names. An iter there is refused by 7.
 unfoldable pub expNode : (ℕ → Exp) → (ℕ → Body) → Shape → Exp
 expNode E B (Identifier a) = identifier a
-expNode E B (Whole a) = whole a
-expNode E B (Truth a) = truth a
+expNode E B (Constant k a) = constant k a
 expNode E B (Pair a b) = pair (E a) (E b)
 expNode E B (Operator a b) = operator a (E b)
 expNode E B (Let a b c d) = letE a b (E c) (E d)
@@ -41,8 +40,7 @@ expNode E B (Iter a) = E a
 unfoldable pub bodyNode : (ℕ → Exp) → (ℕ → Body) → Shape → Body
 unfolding expNode
 bodyNode E B (Identifier a) = ret (expNode E B (Identifier a))
-bodyNode E B (Whole a) = ret (expNode E B (Whole a))
-bodyNode E B (Truth a) = ret (expNode E B (Truth a))
+bodyNode E B (Constant k a) = ret (expNode E B (Constant k a))
 bodyNode E B (Pair a b) = ret (expNode E B (Pair a b))
 bodyNode E B (Operator a b) = ret (expNode E B (Operator a b))
 bodyNode E B (Let a b c d) = letB a b (E c) (B d)
@@ -55,11 +53,11 @@ unfoldable mutual
   unfolding expNode bodyNode shapeAt
 
   pub expIn : ℕ → List ℕ → ℕ → Exp
-  expIn zero t r = whole 0
+  expIn zero t r = constant 2 0
   expIn (suc depth) t r = expNode (λ k. expIn depth t k) (λ k. bodyIn depth t k) (shapeAt t r)
 
   pub bodyIn : ℕ → List ℕ → ℕ → Body
-  bodyIn zero t r = ret (whole 0)
+  bodyIn zero t r = ret (constant 2 0)
   bodyIn (suc depth) t r = bodyNode (λ k. expIn depth t k) (λ k. bodyIn depth t k) (shapeAt t r)
 
 unfoldable pub expOf : List ℕ → ℕ → Exp

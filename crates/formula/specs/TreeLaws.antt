@@ -8,7 +8,7 @@ use lib.Dec.{leb, ltb}
 use borrow.Author.Tests.{leb-true, ltb-true}
 use native.Mathlib.Omega.{arith}
 use Rattle.formula.specs.declared.Shape.{Shape}
-use Rattle.formula.specs.declared.Shape.the-variants.{Identifier, Whole, Truth, Pair, Operator, Let, If, For, Iter}
+use Rattle.formula.specs.declared.Shape.the-variants.{Identifier, Constant, Pair, Operator, Let, If, For, Iter}
 use Rattle.formula.specs.Sheet.{shapeAt, namedIn}
 use Rattle.formula.specs.Tree.{Exp, Body, ret, expNode, bodyNode, expIn, bodyIn, expOf, bodyOf}
 use Rattle.formula.specs.Tests.{allBetween}
@@ -46,8 +46,7 @@ module _
     exp-alike : (s : Shape) → AllBetween r (namedIn s) → expNode E B s ≡ expNode E′ B′ s
     unfolding expNode namedIn
     exp-alike (Identifier a) h = refl
-    exp-alike (Whole a) h = refl
-    exp-alike (Truth a) h = refl
+    exp-alike (Constant k a) h = refl
     exp-alike (Pair a b) h = cc (p a (h .0 .0) (h .0 .1), p b (h .1 .0 .0) (h .1 .0 .1))
     exp-alike (Operator a b) h = cc (p b (h .0 .0) (h .0 .1))
     exp-alike (Let a b c d) h = cc (p c (h .0 .0) (h .0 .1), p d (h .1 .0 .0) (h .1 .0 .1))
@@ -59,8 +58,7 @@ module _
     body-alike : (s : Shape) → AllBetween r (namedIn s) → bodyNode E B s ≡ bodyNode E′ B′ s
     unfolding bodyNode namedIn
     body-alike (Identifier a) h = refl
-    body-alike (Whole a) h = refl
-    body-alike (Truth a) h = refl
+    body-alike (Constant k a) h = refl
     body-alike (Pair a b) h = ap ret (exp-alike (Pair a b) h)
     body-alike (Operator a b) h = ap ret (exp-alike (Operator a b) h)
     body-alike (Let a b c d) h = cc (p c (h .0 .0) (h .0 .1), q d (h .1 .0 .0) (h .1 .0 .1))

@@ -3,7 +3,7 @@ use Prim.Native.Nat.{ℕ, _+_}
 use mathlib.Core.Bool.{Bool, true, not, cond, _&&_, _||_}
 use lib.Dec.{eqb, leb}
 use Rattle.value.specs.Operators.{operands}
-use Rattle.formula.specs.Tree.{Exp, identifier, whole, truth, pair, operator, letE, ifE, forE, Body, ret, iter, letB, ifB}
+use Rattle.formula.specs.Tree.{Exp, identifier, constant, pair, operator, letE, ifE, forE, Body, ret, iter, letB, ifB}
 
 -- The width of two arms: that of the first that has one.
 abbrev pub either : ℕ → ℕ → ℕ
@@ -14,8 +14,7 @@ either u v = cond (eqb u 0) v u
 unfoldable mutual
   pub width : Exp → ℕ
   width (identifier a) = 1
-  width (whole a) = 1
-  width (truth a) = 1
+  width (constant k a) = 1
   width (pair x y) = width x + width y
   width (operator k x) = 1
   width (letE a b x y) = width y
@@ -43,8 +42,7 @@ agree u v = eqb u 0 || eqb v 0 || eqb u v
 unfoldable pub fittingE : Exp → Bool
 unfolding width iterated operands
 fittingE (identifier a) = true
-fittingE (whole a) = true
-fittingE (truth a) = true
+fittingE (constant k a) = true
 fittingE (pair x y) = true
 fittingE (operator k x) = eqb (width x) (operands k)
 fittingE (letE a b x y) = eqb (width x) b

@@ -1,7 +1,10 @@
 // The data of the formula sheet (document 01, "The formula sheet" and the two lists of refusals): a field, a row by its
 // kind, what a test says of a sheet, and the refusals with their numbers. The definitions over them are in specs/.
+use value::Value;
 ghost use mathlib.Core.Path.{_≡_};
+ghost use Prim.Native.Nat.{_≤_};
 ghost use Rattle.formula.specs.Refusals.{numberOf};
+ghost use Rattle.formula.specs.Constants.{constantValue, constantMost};
 
 // A decimal field: its number, or malformed.
 pub enum Field {
@@ -13,10 +16,8 @@ pub enum Field {
 pub enum Shape {
     // a: the identifier's number
     Identifier(u32),
-    // a: the constant
-    Whole(u32),
-    // a: 0 false, 1 true
-    Truth(u32),
+    // a constant: its row kind, and a
+    Constant(u32, u32),
     // a, b: rows
     Pair(usize, usize),
     // a: the code; b: the row of its operands
@@ -110,6 +111,20 @@ pub struct Figures {
 pub enum Reading {
     Accepted(Figures),
     Rejected(Refusal, usize),
+}
+
+// The row kind of a truth.
+const TRUTH: u32 = 3;
+
+// The value of a constant's row, from its kind and its field a.
+pub fn constant(kind: u32, a: u32) -> Value
+    requires { ⌜ a ≤ constantMost kind ⌝ }
+    ensures { λ v. ⌜ v ≡ constantValue kind a ⌝ }
+{
+    if kind == TRUTH {
+        return Value::Truth(a == 1);
+    }
+    Value::Whole(a as i32)
 }
 
 // Document 01's number of a refusal.

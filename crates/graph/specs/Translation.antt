@@ -3,12 +3,11 @@ use Prim.Native.Nat.{ℕ, _+_}
 use mathlib.Core.Bool.{Bool, true, false, cond, _&&_}
 use mathlib.Core.List.{List, [], _∷_, _++_}
 use lib.ListN.{length}
-use lib.IntN.{pos}
-use lib.Dec.{eqb}
 use Rattle.value.specs.declared.Value.{Value}
-use Rattle.value.specs.declared.Value.the-variants.{Whole, Truth}
+use Rattle.value.specs.declared.Value.the-variants.{Truth}
 use Rattle.names.specs.Names.{Names, trigger, size, sizeFrom, members, membersFrom, below}
-use Rattle.formula.specs.Tree.{Exp, identifier, whole, truth, pair, operator, letE, ifE, forE, Body, ret, iter, letB, ifB}
+use Rattle.formula.specs.Constants.{constantValue}
+use Rattle.formula.specs.Tree.{Exp, identifier, constant, pair, operator, letE, ifE, forE, Body, ret, iter, letB, ifB}
 use Rattle.formula.specs.Widths.{width, returned, iterated}
 use Rattle.formula.specs.Free.{freeE, freeB, inputsOf}
 use Rattle.formula.specs.Count.{returns, iterates}
@@ -122,8 +121,7 @@ unfoldable mutual
   -- Figure 2.3
   graphE (identifier a) = wire a
   -- Figure 2.4
-  graphE (whole a) = constantOf (Whole (pos a))
-  graphE (truth a) = constantOf (Truth (eqb a 1))
+  graphE (constant k a) = constantOf (constantValue k a)
   -- Figure 2.5
   graphE (pair x y) = beside (graphE x) (graphE y)
   -- Figure 2.6

@@ -8,7 +8,7 @@ use lib.ListN.{length, take}
 use native.Mathlib.Omega.{arith}
 use Rattle.names.specs.Names.{mask}
 use Rattle.formula.specs.declared.Shape.{Shape}
-use Rattle.formula.specs.declared.Shape.the-variants.{Identifier, Whole, Truth, Pair, Operator, Let, If, For, Iter}
+use Rattle.formula.specs.declared.Shape.the-variants.{Identifier, Constant, Pair, Operator, Let, If, For, Iter}
 use Rattle.formula.specs.Sheet.{rowCount, fieldsOf, shapeAt}
 use Rattle.formula.specs.Tree.{expOf, bodyOf, formulaOf}
 use Rattle.formula.specs.Places.{nodeIn, inBody, placesOf}
@@ -26,8 +26,7 @@ use Rattle.maker.specs.Making.{Makeable}
 
 placed-kids : (P : List Bool) (b : Bool) (s : Shape) → Placed P b s → Kids (λ k. inBody P k) b s
 placed-kids P b (Identifier a) h = tt
-placed-kids P b (Whole a) h = tt
-placed-kids P b (Truth a) h = tt
+placed-kids P b (Constant k a) h = tt
 placed-kids P b (Pair x y) h = h
 placed-kids P b (Operator k x) h = h
 placed-kids P b (Let a k x y) h = h

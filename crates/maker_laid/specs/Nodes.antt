@@ -12,9 +12,10 @@ use native.Mathlib.Omega.{arith}
 use Rattle.value.specs.declared.Value.the-variants.{Truth as TruthValue}
 use Rattle.names.specs.Names.{Names, trigger, one, union, without, range, mask}
 use Rattle.formula.specs.declared.Shape.{Shape}
-use Rattle.formula.specs.declared.Shape.the-variants.{Identifier, Whole, Truth, Pair, Operator, Let, If, For, Iter}
+use Rattle.formula.specs.declared.Shape.the-variants.{Identifier, Constant, Pair, Operator, Let, If, For, Iter}
+use Rattle.formula.specs.Constants.{constantMost}
 use Rattle.formula.specs.Sheet.{shapeAt, namedIn}
-use Rattle.formula.specs.Tree.{Exp, identifier, whole, truth, pair, operator, letE, ifE, forE, Body, ret, iter, letB, ifB, expOf, bodyOf, expNode, bodyNode}
+use Rattle.formula.specs.Tree.{Exp, identifier, constant, pair, operator, letE, ifE, forE, Body, ret, iter, letB, ifB, expOf, bodyOf, expNode, bodyNode}
 use Rattle.formula.specs.TreeLaws.{Named, AllBetween, exp-as, body-as, between-as}
 use Rattle.formula.specs.Widths.{width, returned, iterated}
 use Rattle.formula.specs.Free.{freeE, freeB}
@@ -54,8 +55,7 @@ small-in true w t r h = small-B (bodyOf t r) (h .0)
 some-name : (x : Exp) → AdmittedE x → (k : ℕ) × (freeE x k ≡ true)
 unfolding freeE
 some-name (identifier a) h = (a, eq-eqb a a refl)
-some-name (whole a) h = (trigger, refl)
-some-name (truth a) h = (trigger, refl)
+some-name (constant k a) h = (trigger, refl)
 some-name (pair x y) h = let s = some-name x (h .1) in (s .0, or-left (freeE x (s .0)) (freeE y (s .0)) (s .1))
 some-name (operator c x) h = some-name x (h .2)
 some-name (letE a b x y) h = let s = some-name x (h .2) in (s .0, or-left (freeE x (s .0)) (freeE y (s .0) && not (range a b (s .0))) (s .1))
@@ -71,8 +71,7 @@ some-in true w t r h = (trigger, body-triggered (bodyOf t r) (h .0))
 -- The places of the rows that a row names, when the row is read as an expression or as a body.
 abbrev pub Kids : (ℕ → Bool) → Bool → Shape → Type 0
 Kids place p (Identifier a) = Unit {0}
-Kids place p (Whole a) = Unit {0}
-Kids place p (Truth a) = Unit {0}
+Kids place p (Constant k a) = Unit {0}
 Kids place p (Pair a b) = (place a ≡ false) × (place b ≡ false)
 Kids place p (Operator k b) = place b ≡ false
 Kids place p (Let a b c d) = (place c ≡ false) × (place d ≡ p)
@@ -151,13 +150,9 @@ module _ (t masks widths : List ℕ) where
     unfolding expNode graphE
     at-identifier a e = (ap graphE (exp-is false w r Y (Identifier a) e), admitted (Identifier a) e)
 
-    pub at-whole : (a : ℕ) → shapeAt t r ≡ Whole a → (graphE (expOf t r) ≡ graphE (whole a)) × (a ≤ 999999)
+    pub at-constant : (k a : ℕ) → shapeAt t r ≡ Constant k a → (graphE (expOf t r) ≡ graphE (constant k a)) × (a ≤ constantMost k)
     unfolding expNode
-    at-whole a e = (ap graphE (exp-is false w r Y (Whole a) e), admitted (Whole a) e)
-
-    pub at-truth : (a : ℕ) → shapeAt t r ≡ Truth a → (graphE (expOf t r) ≡ graphE (truth a)) × (a ≤ 1)
-    unfolding expNode
-    at-truth a e = (ap graphE (exp-is false w r Y (Truth a) e), admitted (Truth a) e)
+    at-constant k a e = (ap graphE (exp-is false w r Y (Constant k a) e), admitted (Constant k a) e)
 
     pub at-pair : (a b : ℕ) → shapeAt t r ≡ Pair a b
         → (graphE (expOf t r) ≡ beside (graphE (expOf t a)) (graphE (expOf t b))) × AdmittedE (pair (expOf t a) (expOf t b))
@@ -298,8 +293,7 @@ module _ (t masks widths : List ℕ) where
   -- neither a let nor an if nor an iter
   abbrev pub Ends : Shape → Type 0
   Ends (Identifier a) = Unit {0}
-  Ends (Whole a) = Unit {0}
-  Ends (Truth a) = Unit {0}
+  Ends (Constant k a) = Unit {0}
   Ends (Pair a b) = Unit {0}
   Ends (Operator a b) = Unit {0}
   Ends (Let a b c d) = ⊥
@@ -310,8 +304,7 @@ module _ (t masks widths : List ℕ) where
   ends-body : (s : Shape) → Ends s → bodyNode (expOf t) (bodyOf t) s ≡ ret (expNode (expOf t) (bodyOf t) s)
   unfolding bodyNode
   ends-body (Identifier a) h = refl
-  ends-body (Whole a) h = refl
-  ends-body (Truth a) h = refl
+  ends-body (Constant k a) h = refl
   ends-body (Pair a b) h = refl
   ends-body (Operator a b) h = refl
   ends-body (Let a b c d) h = absurd h
@@ -321,8 +314,7 @@ module _ (t masks widths : List ℕ) where
 
   ends-kids : (place : ℕ → Bool) (s : Shape) → Ends s → Kids place true s → Kids place false s
   ends-kids place (Identifier a) h k = k
-  ends-kids place (Whole a) h k = k
-  ends-kids place (Truth a) h k = k
+  ends-kids place (Constant kind a) h k = k
   ends-kids place (Pair a b) h k = k
   ends-kids place (Operator a b) h k = k
   ends-kids place (Let a b c d) h k = absurd h

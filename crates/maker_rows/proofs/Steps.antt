@@ -7,15 +7,15 @@ use mathlib.Core.List.{List, [], _∷_, _++_}
 use lib.ListN.{length, getD, take}
 use lib.Bits.{bitAnd}
 use native.Mathlib.Omega.{arith}
-use lib.IntN.{pos}
 use lib.Dec.{eqb}
 use Rattle.value.specs.declared.Value.{Value}
-use Rattle.value.specs.declared.Value.the-variants.{Truth as truth-value, Whole as whole-value}
+use Rattle.value.specs.declared.Value.the-variants.{Truth as truth-value}
 use Rattle.value.specs.Operators.{operands, pick}
 use Rattle.names.specs.Names.{Names, trigger, one, common, without, range, mask}
 use Rattle.names.proofs.Sets.{mask-one, known-union, known-minus, mask-range}
 use Rattle.formula.specs.declared.Shape.{Shape}
-use Rattle.formula.specs.declared.Shape.the-variants.{Identifier, Whole, Truth, Pair, Operator, Let, If, For, Iter}
+use Rattle.formula.specs.declared.Shape.the-variants.{Identifier, Constant, Pair, Operator, Let, If, For, Iter}
+use Rattle.formula.specs.Constants.{constantValue}
 use Rattle.formula.specs.Sheet.{shapeAt, namedIn}
 use Rattle.formula.specs.Ways.{wayOf}
 use Rattle.formula.specs.Tree.{Exp, pair, expOf, bodyOf, expNode, bodyNode}
@@ -33,7 +33,7 @@ use Rattle.sheet_tables.specs.Masks.{plainMask, outside, Ranged}
 use Rattle.maker_laid.specs.Masked.{listOf}
 use Rattle.maker_laid.specs.Emitted.{assigned}
 use Rattle.maker_laid.specs.Counts.{operatorCount}
-use Rattle.maker_laid.specs.Nodes.{graphIn, freeIn, Ready, Child, Ends, at-identifier, at-whole, at-truth, at-pair, at-operator, at-let, at-iteration, at-end, at-for}
+use Rattle.maker_laid.specs.Nodes.{graphIn, freeIn, Ready, Child, Ends, at-identifier, at-constant, at-pair, at-operator, at-let, at-iteration, at-end, at-for}
 use Rattle.maker_laid.specs.Done.{Done, Forked, done-as, done-beside, done-let}
 use Rattle.maker_joins.specs.declared.Emitted.{Emitted}
 use Rattle.formula.specs.declared.Way.{Way}
@@ -54,8 +54,7 @@ Shaped t masks widths s End = Ends t masks widths s
 
 shaped : (t masks widths : List ℕ) (s : Shape) → Shaped t masks widths s (wayOf s)
 shaped t masks widths (Identifier a) = tt
-shaped t masks widths (Whole a) = tt
-shaped t masks widths (Truth a) = tt
+shaped t masks widths (Constant k a) = tt
 shaped t masks widths (Pair a b) = tt
 shaped t masks widths (Operator a b) = tt
 shaped t masks widths (Let a b c d) = refl
@@ -192,9 +191,9 @@ module _ (t masks widths : List ℕ) where
           iterates = ei ∙ ap (λ (z : ℕ). cond b z 0) (counted-E 0 t k (x .next .link) (x .next .operator) second mem₂ mem₃ y (Y .fits) (dy .done));
         }
 
-  pub constant-room : (b : Bool) (n m : ℕ) → Room n m (operatorCount (constantOf (truth-value b))) → Room n m 1
+  pub end-constant-room : (b : Bool) (n m : ℕ) → Room n m (operatorCount (constantOf (truth-value b))) → Room n m 1
   unfolding operatorCount
-  constant-room b n m r = r
+  end-constant-room b n m r = r
 
   -- ---- a body's row as an ending
 
@@ -258,29 +257,19 @@ module _ (t masks widths : List ℕ) where
   -- ---- rows of one operator, and names
 
   module _ (r : ℕ) (Y : Ready t masks widths false 0 r) where
-    pub whole-part : (a : ℕ) → shapeAt t r ≡ Whole a → (v : Value) → v ≡ whole-value (pos a) → (n m : ℕ) (en mem mem′ : List ℕ) (x : Emitted) → Gives (constantOf v) n m en mem mem′ x
+    pub constant-part : (k a : ℕ) → shapeAt t r ≡ Constant k a → (v : Value) → v ≡ constantValue k a → (n m : ℕ) (en mem mem′ : List ℕ) (x : Emitted) → Gives (constantOf v) n m en mem mem′ x
         → Part false 0 t r n m en mem mem′ x
     unfolding graphE
-    whole-part a e v ev n m en mem mem′ x d =
-        part-E r n m en mem mem′ x (constantOf v) (at-whole t masks widths 0 r Y a e .0 ∙ ap constantOf (sym ev)) d
-
-    pub truth-part : (a : ℕ) → shapeAt t r ≡ Truth a → (v : Value) → v ≡ truth-value (eqb a 1) → (n m : ℕ) (en mem mem′ : List ℕ) (x : Emitted) → Gives (constantOf v) n m en mem mem′ x
-        → Part false 0 t r n m en mem mem′ x
-    unfolding graphE
-    truth-part a e v ev n m en mem mem′ x d =
-        part-E r n m en mem mem′ x (constantOf v) (at-truth t masks widths 0 r Y a e .0 ∙ ap constantOf (sym ev)) d
+    constant-part k a e v ev n m en mem mem′ x d =
+        part-E r n m en mem mem′ x (constantOf v) (at-constant t masks widths 0 r Y k a e .0 ∙ ap constantOf (sym ev)) d
 
     constant-count : (v : Value) → operatorCount (constantOf v) ≡ 1
     unfolding operatorCount
     constant-count v = refl
 
-    pub whole-room : (a : ℕ) → shapeAt t r ≡ Whole a → (n m : ℕ) → Room n m (operatorCount (graphIn false 0 t r)) → Room n m 1
+    pub constant-room : (k a : ℕ) → shapeAt t r ≡ Constant k a → (n m : ℕ) → Room n m (operatorCount (graphIn false 0 t r)) → Room n m 1
     unfolding graphE
-    whole-room a e n m room = room-of n m 1 _ (ap operatorCount (at-whole t masks widths 0 r Y a e .0) ∙ constant-count (whole-value (pos a))) room
-
-    pub truth-room : (a : ℕ) → shapeAt t r ≡ Truth a → (n m : ℕ) → Room n m (operatorCount (graphIn false 0 t r)) → Room n m 1
-    unfolding graphE
-    truth-room a e n m room = room-of n m 1 _ (ap operatorCount (at-truth t masks widths 0 r Y a e .0) ∙ constant-count (truth-value (eqb a 1))) room
+    constant-room k a e n m room = room-of n m 1 _ (ap operatorCount (at-constant t masks widths 0 r Y k a e .0) ∙ constant-count (constantValue k a)) room
 
     module _ (code b : ℕ) (e : shapeAt t r ≡ Operator code b) where
       pub operator-child : Child t masks widths false 0 r b
@@ -328,8 +317,7 @@ module _ (t masks widths : List ℕ) where
         where
           go : (s : Shape) → shapeAt t r ≡ s → Ends t masks widths s → Ranged s
           go (Identifier a) e i = at-identifier t masks widths 0 r Y a e .1
-          go (Whole a) e i = tt
-          go (Truth a) e i = tt
+          go (Constant k a) e i = tt
           go (Pair a b) e i = tt
           go (Operator a b) e i = tt
           go (Let a b c d) e i = absurd i
@@ -344,8 +332,7 @@ module _ (t masks widths : List ℕ) where
         where
           go : (s : Shape) → shapeAt t r ≡ s → Ends t masks widths s → plainMask (λ k. getD masks (k - 1) 0) s ≡ mask (freeE (expNode (expOf t) (bodyOf t) s))
           go (Identifier a) e i = sym (mask-one a (let l : a < 32 = at-identifier t masks widths 0 r Y a e .1 in omega arith))
-          go (Whole a) e i = sym (mask-one 32 (omega arith))
-          go (Truth a) e i = sym (mask-one 32 (omega arith))
+          go (Constant k a) e i = sym (mask-one 32 (omega arith))
           go (Pair a b) e i =
               known-union _ _ (freeE (expOf t a)) (freeE (expOf t b)) (at-pair t masks widths 0 r Y a b e .2 .masked) (at-pair t masks widths 0 r Y a b e .3 .masked)
           go (Operator a b) e i = at-operator t masks widths 0 r Y a b e .2 .masked

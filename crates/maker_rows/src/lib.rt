@@ -164,8 +164,7 @@ fn plain(
 {
     match shape_at(t, r) {
         Shape::Identifier(a) => identifier(a, env, next),
-        Shape::Whole(a) => constant(mem, Value::Whole(a as i32), env, next),
-        Shape::Truth(a) => constant(mem, Value::Truth(a == 1), env, next),
+        Shape::Constant(kind, a) => constant(mem, formula::constant(kind, a), env, next),
         Shape::Pair(a, b) => pairs(t, masks, widths, r, a, b, env, next, mem),
         Shape::Operator(code, b) => {
             let x = row(t, masks, widths, EXPRESSION, b, env, next, mem);

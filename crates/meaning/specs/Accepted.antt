@@ -9,7 +9,7 @@ use lib.ListN.{length, getD}
 use borrow.Author.Tests.{eqb-true, eqb-false, not-true}
 use native.Mathlib.Omega.{arith}
 use Rattle.formula.specs.declared.Shape.{Shape}
-use Rattle.formula.specs.declared.Shape.the-variants.{Identifier, Whole, Truth, Pair, Operator, Let, If, For, Iter}
+use Rattle.formula.specs.declared.Shape.the-variants.{Identifier, Constant, Pair, Operator, Let, If, For, Iter}
 use Rattle.formula.specs.Sheet.{rowCount, fieldsOf, shapeAt, namedIn}
 use Rattle.formula.specs.Tree.{formulaOf}
 use Rattle.formula.specs.TreeLaws.{Named, all-between, and-true}
@@ -35,8 +35,7 @@ third l = getD l 2 false
 placed-is : (p : List Bool) (b : Bool) (s : Shape) → map (λ x. inBody p x) (namedIn s) ≡ fieldPlaces b s → Placed p b s
 unfolding namedIn fieldPlaces
 placed-is p b (Identifier a) h = tt
-placed-is p b (Whole a) h = tt
-placed-is p b (Truth a) h = tt
+placed-is p b (Constant k a) h = tt
 placed-is p b (Pair x y) h = (ap first h, ap second h)
 placed-is p b (Operator k x) h = ap first h
 placed-is p b (Let a c x y) h = (ap first h, ap second h)

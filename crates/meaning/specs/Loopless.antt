@@ -5,14 +5,13 @@ use mathlib.Core.List.{List, [], _∷_, _++_}
 use lib.ListN.{getD}
 use Rattle.value.specs.declared.Value.{Value}
 use Rattle.value.specs.Senses.{err, sense}
-use Rattle.formula.specs.Tree.{Exp, identifier, whole, truth, pair, operator, letE, ifE, forE}
+use Rattle.formula.specs.Tree.{Exp, identifier, constant, pair, operator, letE, ifE, forE}
 use Rattle.meaning.specs.Meaning.{Env, bind, Outcome, yields, then, evalE}
 use Rattle.meaning.specs.Rounds.{branch-holds}
 
 abbrev pub Loopless : Exp → Type 0
 Loopless (identifier a) = Unit {0}
-Loopless (whole a) = Unit {0}
-Loopless (truth a) = Unit {0}
+Loopless (constant k a) = Unit {0}
 Loopless (pair x y) = Loopless x × Loopless y
 Loopless (operator k x) = Loopless x
 Loopless (letE a b x y) = Loopless x × Loopless y
@@ -30,8 +29,7 @@ then-left o k left (vs, e) h = let r = h vs in (r .0, ap (λ z. then z k) e ∙ 
 pub loopless-ends : (x : Exp) → Loopless x → (env : Env) (left : ℕ) → Whole-left (evalE x env left) left
 unfolding evalE
 loopless-ends (identifier a) h env left = (env a ∷ [], refl)
-loopless-ends (whole a) h env left = (_, refl)
-loopless-ends (truth a) h env left = (_, refl)
+loopless-ends (constant k a) h env left = (_, refl)
 loopless-ends (pair x y) h env left =
     then-left (evalE x env left) _ left (loopless-ends x (h .0) env left)
     (λ vs. then-left (evalE y env left) _ left (loopless-ends y (h .1) env left) (λ ws. (vs ++ ws, refl)))

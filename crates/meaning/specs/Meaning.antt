@@ -4,16 +4,14 @@ use Prim.Native.Nat.{ℕ, zero, suc, _-_}
 use mathlib.Core.Bool.{cond}
 use mathlib.Core.List.{List, [], _∷_, _++_}
 use lib.ListN.{getD, replicate}
-use lib.IntN.{pos}
-use lib.Dec.{eqb}
 use Rattle.value.specs.declared.Value.{Value}
-use Rattle.value.specs.declared.Value.the-variants.{Whole, Truth}
 use Rattle.value.specs.declared.Sense.{Sense}
 use Rattle.value.specs.declared.Sense.the-variants.{True, False, Neither}
 use Rattle.value.specs.Senses.{err, sense}
 use Rattle.value.specs.Operators.{apply}
 use Rattle.names.specs.Names.{Names, range, below, sizeFrom}
-use Rattle.formula.specs.Tree.{Exp, identifier, whole, truth, pair, operator, letE, ifE, forE, Body, ret, iter, letB, ifB}
+use Rattle.formula.specs.Constants.{constantValue}
+use Rattle.formula.specs.Tree.{Exp, identifier, constant, pair, operator, letE, ifE, forE, Body, ret, iter, letB, ifB}
 use Rattle.formula.specs.Widths.{width, returned}
 
 -- The value of each identifier.
@@ -82,8 +80,7 @@ unfoldable mutual
 
   pub evalE : Exp → Env → ℕ → Outcome
   evalE (identifier a) env left = yields (env a ∷ []) left
-  evalE (whole a) env left = yields (Whole (pos a) ∷ []) left
-  evalE (truth a) env left = yields (Truth (eqb a 1) ∷ []) left
+  evalE (constant k a) env left = yields (constantValue k a ∷ []) left
   evalE (pair x y) env left =
       then (evalE x env left) λ vs l. then (evalE y env l) λ ws l′. yields (vs ++ ws) l′
   evalE (operator k x) env left =

@@ -14,7 +14,7 @@ use Rattle.value.specs.declared.Value.{Value}
 use Rattle.value.specs.declared.Sense.{Sense}
 use Rattle.value.specs.declared.Sense.the-variants.{True, False, Neither}
 use Rattle.value.specs.Senses.{err, sense}
-use Rattle.formula.specs.Tree.{Exp, identifier, whole, truth, pair, operator, letE, ifE, forE, Body, ret, iter, letB, ifB}
+use Rattle.formula.specs.Tree.{Exp, identifier, constant, pair, operator, letE, ifE, forE, Body, ret, iter, letB, ifB}
 use Rattle.formula.specs.Widths.{returned}
 use Rattle.meaning.specs.Meaning.{Env, bind, Outcome, yields, Ending, again, returns, then, thenB, after, enter, loop, branch, evalE, evalB}
 
@@ -81,8 +81,7 @@ mutual
 
   pub within : (x : Exp) (env : Env) (l : ℕ) → Within l (evalE x env l)
   within (identifier a) env l = omega arith
-  within (whole a) env l = omega arith
-  within (truth a) env l = omega arith
+  within (constant k a) env l = omega arith
   within (pair x y) env l =
       then-within l (evalE x env l) _ (within x env l)
       (λ vs l₁. then-within l₁ (evalE y env l₁) (λ ws l₂. yields (vs ++ ws) l₂) (within y env l₁) (λ ws l₂. omega arith))
@@ -234,8 +233,7 @@ mutual
   pub more-rounds : (x : Exp) (k : ℕ) (env : Env) (l : ℕ)
       → Finished (evalE x env l) → evalE x env (l + k) ≡ extra k (evalE x env l)
   more-rounds (identifier a) k env l h = refl
-  more-rounds (whole a) k env l h = refl
-  more-rounds (truth a) k env l h = refl
+  more-rounds (constant kind a) k env l h = refl
   more-rounds (pair x y) k env l h =
       then-more k (evalE x env l) (evalE x env (l + k)) _ (λ e. more-rounds x k env l e)
       (λ vs l₁ h₁.

@@ -10,7 +10,8 @@ use lib.ListN.{length, getD}
 use borrow.Author.Tests.{leb-true}
 use native.Mathlib.Omega.{arith}
 use Rattle.formula.specs.declared.Shape.{Shape}
-use Rattle.formula.specs.declared.Shape.the-variants.{Identifier, Whole, Truth, Pair, Operator, Let, If, For, Iter}
+use Rattle.formula.specs.declared.Shape.the-variants.{Identifier, Constant, Pair, Operator, Let, If, For, Iter}
+use Rattle.formula.specs.Constants.{constantMost}
 use Rattle.formula.specs.Sheet.{field, shapeOf, shapeAt, namedIn}
 use Rattle.formula.specs.Tree.{Exp, Body, ret, expNode, bodyNode, expOf, bodyOf}
 use Rattle.formula.specs.TreeLaws.{AllBetween, Named, and-true, exp-as, body-as, between-as}
@@ -24,8 +25,7 @@ use Rattle.meaning.specs.WidthLaws.{SoundE, SoundB, ret-fits}
 -- The bounds that evaluation rests on.
 abbrev pub InBounds : Shape → Type 0
 InBounds (Identifier a) = a ≤ 31
-InBounds (Whole a) = a ≤ 999999
-InBounds (Truth a) = Unit {0}
+InBounds (Constant k a) = a ≤ constantMost k
 InBounds (Pair a b) = Unit {0}
 InBounds (Operator a b) = a ≤ 11
 InBounds (Let a b c d) = a + b ≤ 32
@@ -57,18 +57,18 @@ in-bounds kind a b c d =
         false)))))))) ≡ true
         → InBounds
         (cond k1 (Identifier a)
-        (cond k2 (Whole a)
-        (cond k3 (Truth a)
+        (cond k2 (Constant 2 a)
+        (cond k3 (Constant 3 a)
         (cond k4 (Pair a b)
         (cond k5 (Operator a b)
         (cond k6 (Let a b c d)
         (cond k7 (If a b c)
         (cond k8 (For a b c d)
         (cond k9 (Iter a)
-        (Whole 0))))))))))
+        (Constant 2 0))))))))))
     go true k2 k3 k4 k5 k6 k7 k8 k9 h = leb-true a 31 (first-two (leb a 31) (eqb b 0) (eqb c 0) (eqb d 0) h .0)
     go false true k3 k4 k5 k6 k7 k8 k9 h = leb-true a 999999 (first-two (leb a 999999) (eqb b 0) (eqb c 0) (eqb d 0) h .0)
-    go false false true k4 k5 k6 k7 k8 k9 h = tt
+    go false false true k4 k5 k6 k7 k8 k9 h = leb-true a 1 (first-two (leb a 1) (eqb b 0) (eqb c 0) (eqb d 0) h .0)
     go false false false true k5 k6 k7 k8 k9 h = tt
     go false false false false true k6 k7 k8 k9 h = leb-true a 11 (first-two (leb 1 a) (leb a 11) (eqb c 0) (eqb d 0) h .1)
     go false false false false false true k7 k8 k9 h = last-bound (a + b) 32 (leb 1 b) h
@@ -82,8 +82,7 @@ in-bounds kind a b c d =
 -- The places of the rows that a row names, where `place` is its own.
 abbrev pub Placed : List Bool → Bool → Shape → Type 0
 Placed p place (Identifier a) = Unit {0}
-Placed p place (Whole a) = Unit {0}
-Placed p place (Truth a) = Unit {0}
+Placed p place (Constant k a) = Unit {0}
 Placed p place (Pair a b) = (inBody p a ≡ false) × (inBody p b ≡ false)
 Placed p place (Operator a b) = inBody p b ≡ false
 Placed p place (Let a b c d) = (inBody p c ≡ false) × (inBody p d ≡ place)
@@ -94,8 +93,7 @@ Placed p place (Iter a) = inBody p a ≡ false
 -- A row that is read alike in both places.
 abbrev pub Plain : Shape → Type 0
 Plain (Identifier a) = Unit {0}
-Plain (Whole a) = Unit {0}
-Plain (Truth a) = Unit {0}
+Plain (Constant k a) = Unit {0}
 Plain (Pair a b) = Unit {0}
 Plain (Operator a b) = Unit {0}
 Plain (Let a b c d) = ⊥
@@ -169,8 +167,7 @@ module _ (t ws : List ℕ) (n : ℕ) (ok : Accepted t ws n) (r : ℕ) (l : 1 ≤
 -- The rows that a row names, each with its place.
 abbrev pub ExpChildren : List ℕ → List ℕ → ℕ → Shape → Type 0
 ExpChildren t ws r (Identifier a) = Unit {0}
-ExpChildren t ws r (Whole a) = Unit {0}
-ExpChildren t ws r (Truth a) = Unit {0}
+ExpChildren t ws r (Constant k a) = Unit {0}
 ExpChildren t ws r (Pair a b) = (ExpRow t ws a × (a < r)) × (ExpRow t ws b × (b < r))
 ExpChildren t ws r (Operator a b) = ExpRow t ws b × (b < r)
 ExpChildren t ws r (Let a b c d) = (ExpRow t ws c × (c < r)) × (ExpRow t ws d × (d < r))
@@ -180,8 +177,7 @@ ExpChildren t ws r (Iter a) = ⊥
 
 abbrev pub BodyChildren : List ℕ → List ℕ → ℕ → Shape → Type 0
 BodyChildren t ws r (Identifier a) = Unit {0}
-BodyChildren t ws r (Whole a) = Unit {0}
-BodyChildren t ws r (Truth a) = Unit {0}
+BodyChildren t ws r (Constant k a) = Unit {0}
 BodyChildren t ws r (Pair a b) = Unit {0}
 BodyChildren t ws r (Operator a b) = Unit {0}
 BodyChildren t ws r (Let a b c d) = (ExpRow t ws c × (c < r)) × (BodyRow t ws d × (d < r))
@@ -222,8 +218,7 @@ exp-children t ws r h s e = go (inBody p r) refl s e place named placed
     go : (b : Bool) → inBody p r ≡ b → (z : Shape) → shapeAt t r ≡ z → ExpPlace (inBody p r) z → AllBetween r (namedIn z)
         → Placed p (inBody p r) z → ExpChildren t ws r z
     go b q (Identifier a) f i j k = tt
-    go b q (Whole a) f i j k = tt
-    go b q (Truth a) f i j k = tt
+    go b q (Constant kind a) f i j k = tt
     go b q (Pair a c) f i j k = (at a (j .0) (k .0), at c (j .1 .0) (k .1))
     go b q (Operator a c) f i j k = at c (j .0) k
     go true q (Let a b c d) f i j k = absurd (rw q at i)
@@ -259,8 +254,7 @@ body-children t ws r h s e = go s named placed
 
     go : (z : Shape) → AllBetween r (namedIn z) → Placed p (inBody p r) z → BodyChildren t ws r z
     go (Identifier a) j k = tt
-    go (Whole a) j k = tt
-    go (Truth a) j k = tt
+    go (Constant kind a) j k = tt
     go (Pair a c) j k = tt
     go (Operator a c) j k = tt
     go (Let a b c d) j k = (at c (j .0) (k .0), in-body d (j .1 .0) (k .1 ∙ h .place))
@@ -285,8 +279,7 @@ ending-row t ws r h p =
 plain-body : (E : ℕ → Exp) (B : ℕ → Body) (s : Shape) → Plain s → bodyNode E B s ≡ ret (expNode E B s)
 unfolding bodyNode
 plain-body E B (Identifier a) h = refl
-plain-body E B (Whole a) h = refl
-plain-body E B (Truth a) h = refl
+plain-body E B (Constant k a) h = refl
 plain-body E B (Pair a b) h = refl
 plain-body E B (Operator a b) h = refl
 plain-body E B (Let a b c d) h = absurd h
@@ -341,8 +334,7 @@ module _ (t ws : List ℕ) where
       go : (s : Shape) → shapeAt t r ≡ s → wideE (expNode (expOf t) (bodyOf t) s) ≡ true
           → SoundE (expNode (expOf t) (bodyOf t) s)
       go (Identifier a) e w = tt
-      go (Whole a) e w = tt
-      go (Truth a) e w = tt
+      go (Constant k a) e w = tt
       go (Pair a b) e w =
           let c : ExpChildren t ws r (Pair a b) = exp-children t ws r h (Pair a b) e in
           (w, at a (c .0), at b (c .1))
@@ -386,8 +378,7 @@ module _ (t ws : List ℕ) where
       go : (s : Shape) → shapeAt t r ≡ s → wideB (bodyNode (expOf t) (bodyOf t) s) ≡ true
           → SoundB (bodyNode (expOf t) (bodyOf t) s)
       go (Identifier a) e w = tt
-      go (Whole a) e w = tt
-      go (Truth a) e w = tt
+      go (Constant k a) e w = tt
       go (Pair a b) e w = ends (Pair a b) e tt
       go (Operator a b) e w = ends (Operator a b) e tt
       go (Let a b c d) e w =

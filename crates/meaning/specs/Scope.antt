@@ -11,7 +11,7 @@ use Rattle.value.specs.declared.Value.{Value}
 use Rattle.value.specs.Senses.{err, sense}
 use Rattle.value.specs.Operators.{apply}
 use Rattle.names.specs.Names.{Names, trigger, one, union, without, range}
-use Rattle.formula.specs.Tree.{Exp, identifier, whole, truth, pair, operator, letE, ifE, forE, Body, ret, iter, letB, ifB}
+use Rattle.formula.specs.Tree.{Exp, identifier, constant, pair, operator, letE, ifE, forE, Body, ret, iter, letB, ifB}
 use Rattle.formula.specs.Free.{freeE, freeB}
 use Rattle.formula.specs.Widths.{width, returned}
 use Rattle.meaning.specs.Meaning.{Env, bind, Outcome, yields, Ending, again, returns, then, thenB, after, enter, loop, branch, evalE, evalB}
@@ -63,8 +63,7 @@ mutual
 
   pub scope-E : (x : Exp) (e e′ : Env) → Agree (freeE x) e e′ → (left : ℕ) → evalE x e left ≡ evalE x e′ left
   scope-E (identifier a) e e′ h left = ap (λ (v : Value). yields (v ∷ []) left) (h a (eq-eqb a a refl))
-  scope-E (whole a) e e′ h left = refl
-  scope-E (truth a) e e′ h left = refl
+  scope-E (constant k a) e e′ h left = refl
   scope-E (pair x y) e e′ h left = λ i.
       then (scope-E x e e′ (agree-left (freeE x) (freeE y) e e′ h) left i)
       (λ vs l. then (scope-E y e e′ (agree-right (freeE x) (freeE y) e e′ h) l i) (λ ws m. yields (vs ++ ws) m))

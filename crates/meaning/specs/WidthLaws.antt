@@ -12,7 +12,7 @@ use native.Mathlib.Omega.{arith}
 use Rattle.value.specs.declared.Value.{Value}
 use Rattle.value.specs.Senses.{err, sense}
 use Rattle.value.specs.Operators.{operands}
-use Rattle.formula.specs.Tree.{Exp, identifier, whole, truth, pair, operator, letE, ifE, forE, Body, ret, iter, letB, ifB}
+use Rattle.formula.specs.Tree.{Exp, identifier, constant, pair, operator, letE, ifE, forE, Body, ret, iter, letB, ifB}
 use Rattle.formula.specs.Widths.{width, returned, iterated, either, agree, fittingE, fittingB, wideE, wideB}
 use Rattle.formula.specs.TreeLaws.{and-true}
 use Rattle.formula.specs.Admitted.{AdmittedE, AdmittedB}
@@ -121,8 +121,7 @@ arms-suit (suc u) (suc v) w h s =
 abbrev mutual
   pub SoundE : Exp → Type 0
   SoundE (identifier a) = Unit {0}
-  SoundE (whole a) = Unit {0}
-  SoundE (truth a) = Unit {0}
+  SoundE (constant k a) = Unit {0}
   SoundE (pair x y) = (wideE (pair x y) ≡ true) × SoundE x × SoundE y
   SoundE (operator k x) = (wideE (operator k x) ≡ true) × SoundE x
   SoundE (letE a b x y) = (wideE (letE a b x y) ≡ true) × SoundE x × SoundE y
@@ -139,8 +138,7 @@ abbrev mutual
 pub positive : (x : Exp) → SoundE x → 1 ≤ width x
 unfolding width
 positive (identifier a) s = omega arith
-positive (whole a) s = omega arith
-positive (truth a) s = omega arith
+positive (constant k a) s = omega arith
 positive (pair x y) s = omega (arith, positive x (s .1), positive y (s .2))
 positive (operator k x) s = omega arith
 positive (letE a b x y) s = positive y (s .2)
@@ -199,8 +197,7 @@ mutual
 
   pub sized : (x : Exp) → SoundE x → (env : Env) (l : ℕ) → Sized (width x) (evalE x env l)
   sized (identifier a) s env l = refl
-  sized (whole a) s env l = refl
-  sized (truth a) s env l = refl
+  sized (constant k a) s env l = refl
   sized (pair x y) s env l =
       then-sized (width x) (width x + width y) (evalE x env l) _ (sized x (s .1) env l)
       (λ vs l₁ h.
@@ -256,8 +253,7 @@ mutual
 mutual
   pub admitted-sound : (x : Exp) → AdmittedE x → SoundE x
   admitted-sound (identifier a) h = tt
-  admitted-sound (whole a) h = tt
-  admitted-sound (truth a) h = tt
+  admitted-sound (constant k a) h = tt
   admitted-sound (pair x y) h = (h .0 .0, admitted-sound x (h .1), admitted-sound y (h .2))
   admitted-sound (operator k x) h = (h .0 .0, admitted-sound x (h .2))
   admitted-sound (letE a b x y) h = (h .0 .0, admitted-sound x (h .2), admitted-sound y (h .3))

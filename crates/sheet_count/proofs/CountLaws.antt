@@ -12,9 +12,9 @@ use borrow.Author.Tests.{ne-eqb}
 use Rattle.names.specs.Names.{Names, mask, one, union, common, without, range, trigger, size}
 use Rattle.names.proofs.Sets.{mask-one, mask-range, mask-or, mask-and, mask-without, ones-mask}
 use Rattle.formula.specs.declared.Shape.{Shape}
-use Rattle.formula.specs.declared.Shape.the-variants.{Identifier, Whole, Truth, Pair, Operator, Let, If, For, Iter}
+use Rattle.formula.specs.declared.Shape.the-variants.{Identifier, Constant, Pair, Operator, Let, If, For, Iter}
 use Rattle.formula.specs.Sheet.{namedIn}
-use Rattle.formula.specs.Tree.{Exp, identifier, whole, truth, pair, operator, letE, ifE, forE, Body, ret, iter, letB, ifB, expNode, bodyNode}
+use Rattle.formula.specs.Tree.{Exp, identifier, constant, pair, operator, letE, ifE, forE, Body, ret, iter, letB, ifB, expNode, bodyNode}
 use Rattle.formula.specs.Places.{Node, expression, body}
 use Rattle.formula.specs.Widths.{width, returned, iterated}
 use Rattle.formula.specs.Free.{freeE, freeB}
@@ -71,13 +71,9 @@ module _ (x y : Exp) (a k : ℕ) where
   unfolding freeE
   identifier-mask h = sym (mask-one a (omega arith))
 
-  whole-mask : triggerMask ≡ mask (freeE (whole a))
+  constant-mask : triggerMask ≡ mask (freeE (constant k a))
   unfolding freeE
-  whole-mask = trigger-is
-
-  truth-mask : triggerMask ≡ mask (freeE (truth a))
-  unfolding freeE
-  truth-mask = trigger-is
+  constant-mask = trigger-is
 
   operator-mask : mask (freeE x) ≡ mask (freeE (operator k x))
   unfolding freeE
@@ -112,13 +108,9 @@ module _ (a : ℕ) where
   unfolding countE
   identifier-counted = plain-leaf 0 a
 
-  whole-counted : Counted (countE (whole a)) (own 1 0) 0
+  constant-counted : (k : ℕ) → Counted (countE (constant k a)) (own 1 0) 0
   unfolding countE
-  whole-counted = plain-leaf 1 a
-
-  truth-counted : Counted (countE (truth a)) (own 1 0) 0
-  unfolding countE
-  truth-counted = plain-leaf 1 a
+  constant-counted k = plain-leaf 1 a
 
 -- parts that share names
 beside-count : (m f : ℕ) (x y : Count) → m ≡ f → Counted (copies f ⊕ x ⊕ y) (own 0 m) (x .operators + (y .operators + 0))
@@ -200,10 +192,8 @@ module _ (N : ℕ → Node) (E : ℕ → Exp) (B : ℕ → Body) (W : ℕ → �
   unfolding plainOwn bodyOwn plainMask namedIn expNode bodyNode
   counted false (Identifier a) h q l = identifier-counted a
   counted true (Identifier a) h q l = ended-count w (identifier a) (2 ^ a) (own 0 0) 0 (identifier-mask (identifier a) (identifier a) a 0 q) (identifier-counted a)
-  counted false (Whole a) h q l = whole-counted a
-  counted true (Whole a) h q l = ended-count w (whole a) triggerMask (own 1 0) 0 (whole-mask (whole a) (whole a) a 0) (whole-counted a)
-  counted false (Truth a) h q l = truth-counted a
-  counted true (Truth a) h q l = ended-count w (truth a) triggerMask (own 1 0) 0 (truth-mask (truth a) (truth a) a 0) (truth-counted a)
+  counted false (Constant k a) h q l = constant-counted a k
+  counted true (Constant k a) h q l = ended-count w (constant k a) triggerMask (own 1 0) 0 (constant-mask (constant k a) (constant k a) a k) (constant-counted a k)
   counted false (Pair x y) h q l = pair-plain x y (h .0) (h .1)
   counted true (Pair x y) h q l =
       ended-count w (pair (E x) (E y)) (bitOr (mask (freeIn (N x))) (mask (freeIn (N y)))) (own 0 (sharing (mask (freeIn (N x))) (mask (freeIn (N y)))))

@@ -12,7 +12,7 @@ use lib.Seq.{getD-set-same, getD-set-other}
 use borrow.Author.Tests.{ne-eqb, le-leb, lt-leb}
 use Rattle.names.specs.Names.{mask}
 use Rattle.formula.specs.declared.Shape.{Shape}
-use Rattle.formula.specs.declared.Shape.the-variants.{Identifier, Whole, Truth, Pair, Operator, Let, If, For, Iter}
+use Rattle.formula.specs.declared.Shape.the-variants.{Identifier, Constant, Pair, Operator, Let, If, For, Iter}
 use Rattle.formula.specs.Sheet.{shapeAt, namedIn}
 use Rattle.formula.specs.Tree.{Exp, Body, expOf, bodyOf}
 use Rattle.formula.specs.Places.{Node, expression, body, nodeIn, inBody, placesOf}
@@ -44,10 +44,8 @@ module _ (r : ℕ) (M M′ R R′ I I′ F F′ : ℕ → ℕ)
     unfolding plainOwn bodyOwn plainMask namedIn
     same-own true w (Identifier a) h = refl
     same-own false w (Identifier a) h = refl
-    same-own true w (Whole a) h = refl
-    same-own false w (Whole a) h = refl
-    same-own true w (Truth a) h = refl
-    same-own false w (Truth a) h = refl
+    same-own true w (Constant k a) h = refl
+    same-own false w (Constant k a) h = refl
     same-own true w (Pair x y) h = rw (m x (h .0 .0) (h .0 .1), m y (h .1 .0 .0) (h .1 .0 .1)) refl
     same-own false w (Pair x y) h = rw (m x (h .0 .0) (h .0 .1), m y (h .1 .0 .0) (h .1 .0 .1)) refl
     same-own true w (Operator k x) h = rw (m x (h .0 .0) (h .0 .1)) refl

@@ -7,7 +7,7 @@ use lib.Bits.{bitAnd, bitOr}
 use lib.Count.{ones}
 use lib.Dec.{eqb, leb}
 use Rattle.formula.specs.declared.Shape.{Shape}
-use Rattle.formula.specs.declared.Shape.the-variants.{Identifier, Whole, Truth, Pair, Operator, Let, If, For, Iter}
+use Rattle.formula.specs.declared.Shape.the-variants.{Identifier, Constant, Pair, Operator, Let, If, For, Iter}
 use Rattle.formula.specs.Sheet.{namedIn}
 use lib.ListN.{getD}
 use Rattle.formula.specs.Count.{Count}
@@ -58,8 +58,7 @@ bodyIf x y z v w e f =
 -- A row read as an expression; a let in a body place has the same, and an iter its true constant.
 unfoldable pub plainOwn : (ℕ → ℕ) → (ℕ → ℕ) → Shape → Own
 plainOwn M R (Identifier a) = own 0 0
-plainOwn M R (Whole a) = own 1 0
-plainOwn M R (Truth a) = own 1 0
+plainOwn M R (Constant k a) = own 1 0
 plainOwn M R (Pair x y) = own 0 (sharing (M x) (M y))
 plainOwn M R (Operator k x) = own 1 0
 plainOwn M R (Let a k x y) = own 0 (sharing (M x) (outside (M y) a k))
@@ -75,8 +74,7 @@ ended o m = record { gates = o .gates + 1; copies = o .copies + sharing triggerM
 unfoldable pub bodyOwn : (ℕ → ℕ) → (ℕ → ℕ) → (ℕ → ℕ) → (ℕ → ℕ) → ℕ → Shape → Own
 unfolding plainOwn plainMask
 bodyOwn M R I F w (Identifier a) = ended (plainOwn M R (Identifier a)) (plainMask M (Identifier a))
-bodyOwn M R I F w (Whole a) = ended (plainOwn M R (Whole a)) (plainMask M (Whole a))
-bodyOwn M R I F w (Truth a) = ended (plainOwn M R (Truth a)) (plainMask M (Truth a))
+bodyOwn M R I F w (Constant k a) = ended (plainOwn M R (Constant k a)) (plainMask M (Constant k a))
 bodyOwn M R I F w (Pair x y) = ended (plainOwn M R (Pair x y)) (plainMask M (Pair x y))
 bodyOwn M R I F w (Operator k x) = ended (plainOwn M R (Operator k x)) (plainMask M (Operator k x))
 bodyOwn M R I F w (Let a k x y) = plainOwn M R (Let a k x y)

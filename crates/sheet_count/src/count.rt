@@ -137,8 +137,7 @@ fn plain_own(s: Shape, r: usize, masks: &[u64], returned: &[u8]) -> Own
 {
     match s {
         Shape::Identifier(_) => simple(0, 0),
-        Shape::Whole(_) => simple(1, 0),
-        Shape::Truth(_) => simple(1, 0),
+        Shape::Constant(_, _) => simple(1, 0),
         Shape::Pair(a, b) => simple(0, sharing(mask_at(masks, a), mask_at(masks, b))),
         Shape::Operator(_, _) => simple(1, 0),
         Shape::Let(a, b, c, d) => simple(
@@ -188,8 +187,7 @@ fn own_of(
     }
     match s {
         Shape::Identifier(_) => ended(plain, plain_mask(s, r, masks)),
-        Shape::Whole(_) => ended(plain, plain_mask(s, r, masks)),
-        Shape::Truth(_) => ended(plain, plain_mask(s, r, masks)),
+        Shape::Constant(_, _) => ended(plain, plain_mask(s, r, masks)),
         Shape::Pair(_, _) => ended(plain, plain_mask(s, r, masks)),
         Shape::Operator(_, _) => ended(plain, plain_mask(s, r, masks)),
         Shape::Let(_, _, _, _) => plain,
@@ -221,8 +219,7 @@ fn named_total(s: Shape, r: usize, counts: &[u32]) -> u32
 {
     match s {
         Shape::Identifier(_) => 0,
-        Shape::Whole(_) => 0,
-        Shape::Truth(_) => 0,
+        Shape::Constant(_, _) => 0,
         Shape::Pair(a, b) => number_at(counts, a) + number_at(counts, b),
         Shape::Operator(_, b) => number_at(counts, b),
         Shape::Let(_, _, c, d) => number_at(counts, c) + number_at(counts, d),

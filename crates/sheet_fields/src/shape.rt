@@ -30,15 +30,15 @@ fn shape_of(kind: u32, a: u32, b: u32, c: u32, d: u32) -> Shape
 {
     match kind {
         1 => Shape::Identifier(a),
-        2 => Shape::Whole(a),
-        3 => Shape::Truth(a),
+        2 => Shape::Constant(kind, a),
+        3 => Shape::Constant(kind, a),
         4 => Shape::Pair(row_number(a), row_number(b)),
         5 => Shape::Operator(a, row_number(b)),
         6 => Shape::Let(a, b, row_number(c), row_number(d)),
         7 => Shape::If(row_number(a), row_number(b), row_number(c)),
         8 => Shape::For(a, b, row_number(c), row_number(d)),
         9 => Shape::Iter(row_number(a)),
-        _ => Shape::Whole(0),
+        _ => Shape::Constant(2, 0),
     }
 }
 
@@ -63,8 +63,7 @@ pub fn way_at(fields: &[u32], r: usize) -> Way
 {
     match shape_at(fields, r) {
         Shape::Identifier(_) => Way::End,
-        Shape::Whole(_) => Way::End,
-        Shape::Truth(_) => Way::End,
+        Shape::Constant(_, _) => Way::End,
         Shape::Pair(_, _) => Way::End,
         Shape::Operator(_, _) => Way::End,
         Shape::Let(a, b, c, d) => Way::Let(a, b, c, d),

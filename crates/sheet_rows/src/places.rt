@@ -35,8 +35,7 @@ pub fn bodies_of(s: Shape, in_body: bool) -> Bodies
 {
     match s {
         Shape::Identifier(_) => Bodies::None,
-        Shape::Whole(_) => Bodies::None,
-        Shape::Truth(_) => Bodies::None,
+        Shape::Constant(_, _) => Bodies::None,
         Shape::Pair(_, _) => Bodies::None,
         Shape::Operator(_, _) => Bodies::None,
         Shape::Let(_, _, _, d) => {
@@ -94,8 +93,7 @@ fn placed_well(s: Shape, in_body: bool) -> bool
 {
     match s {
         Shape::Identifier(_) => true,
-        Shape::Whole(_) => true,
-        Shape::Truth(_) => true,
+        Shape::Constant(_, _) => true,
         Shape::Pair(_, _) => true,
         Shape::Operator(_, _) => true,
         Shape::Let(_, _, _, _) => true,

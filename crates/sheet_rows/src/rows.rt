@@ -126,8 +126,7 @@ fn names_well(s: Shape, r: usize) -> bool
 {
     match s {
         Shape::Identifier(_) => true,
-        Shape::Whole(_) => true,
-        Shape::Truth(_) => true,
+        Shape::Constant(_, _) => true,
         Shape::Pair(a, b) => { if between(a, r) { between(b, r) } else { false } }
         Shape::Operator(_, b) => between(b, r),
         Shape::Let(_, _, c, d) => { if between(c, r) { between(d, r) } else { false } }
@@ -177,8 +176,7 @@ fn tally_row(times: &mut [u8], s: Shape, r: usize)
 {
     match s {
         Shape::Identifier(_) => {}
-        Shape::Whole(_) => {}
-        Shape::Truth(_) => {}
+        Shape::Constant(_, _) => {}
         Shape::Pair(a, b) => {
             tally_one(times, a);
             tally_one(times, b);

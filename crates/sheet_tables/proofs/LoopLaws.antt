@@ -12,7 +12,7 @@ use lib.Dec.{leb, eqb}
 use lib.ListN.{length, getD, set, replicate, length-set, length-replicate}
 use lib.Seq.{getD-set-same, getD-set-other}
 use Rattle.formula.specs.declared.Shape.{Shape}
-use Rattle.formula.specs.declared.Shape.the-variants.{Identifier, Whole, Truth, Pair, Operator, Let, If, For, Iter}
+use Rattle.formula.specs.declared.Shape.the-variants.{Identifier, Constant, Pair, Operator, Let, If, For, Iter}
 use Rattle.formula.specs.Sheet.{shapeAt, namedIn}
 use Rattle.formula.specs.Tree.{Exp, Body, ret, iter, letB, ifB, expNode, bodyNode, expOf, bodyOf}
 use Rattle.formula.specs.Places.{Node, expression, body, bodiesIn, inBody}
@@ -56,10 +56,8 @@ module _ (N : ℕ → Node) (E : ℕ → Exp) (B : ℕ → Body) where
   unfolding endsBy endsOf expNode bodyNode
   ends-node true (Identifier a) h = refl
   ends-node false (Identifier a) h = refl
-  ends-node true (Whole a) h = refl
-  ends-node false (Whole a) h = refl
-  ends-node true (Truth a) h = refl
-  ends-node false (Truth a) h = refl
+  ends-node true (Constant k a) h = refl
+  ends-node false (Constant k a) h = refl
   ends-node true (Pair x y) h = refl
   ends-node false (Pair x y) h = refl
   ends-node true (Operator k x) h = refl
@@ -76,8 +74,7 @@ module _ (N : ℕ → Node) (E : ℕ → Exp) (B : ℕ → Body) where
 same-ends : (r : ℕ) (F G : ℕ → ℕ) (s : Shape) → AllBetween r (namedIn s) → ((k : ℕ) → 1 ≤ k → k < r → F k ≡ G k) → endsBy F s ≡ endsBy G s
 unfolding endsBy namedIn
 same-ends r F G (Identifier a) h e = refl
-same-ends r F G (Whole a) h e = refl
-same-ends r F G (Truth a) h e = refl
+same-ends r F G (Constant k a) h e = refl
 same-ends r F G (Pair x y) h e = refl
 same-ends r F G (Operator k x) h e = refl
 same-ends r F G (Let a k x y) h e = e y (h .1 .0 .0) (h .1 .0 .1)
@@ -206,8 +203,7 @@ settled t p R n (suc m) r x l ok b k a c d e o f =
 same-handed : (r : ℕ) (R Q : ℕ → ℕ) (w : ℕ) (s : Shape) → AllBetween r (namedIn s) → ((k : ℕ) → 1 ≤ k → k < r → R k ≡ Q k) → handed R w s ≡ handed Q w s
 unfolding handed namedIn
 same-handed r R Q w (Identifier a) h e = refl
-same-handed r R Q w (Whole a) h e = refl
-same-handed r R Q w (Truth a) h e = refl
+same-handed r R Q w (Constant k a) h e = refl
 same-handed r R Q w (Pair x y) h e = refl
 same-handed r R Q w (Operator k x) h e = refl
 same-handed r R Q w (Let a k x y) h e = refl
@@ -232,8 +228,7 @@ same-loops t p R Q n ok e = same-down t p R Q n n (replicate n 0) ok (omega arit
 -- What is known of the loop widths W of the rows that a row with loop width w names.
 abbrev pub Loops : (ℕ → ℕ) → (ℕ → ℕ) → ℕ → Bool → Shape → Type 0
 Loops W R w b (Identifier a) = Unit {0}
-Loops W R w b (Whole a) = Unit {0}
-Loops W R w b (Truth a) = Unit {0}
+Loops W R w b (Constant k a) = Unit {0}
 Loops W R w b (Pair x y) = Unit {0}
 Loops W R w b (Operator k x) = Unit {0}
 Loops W R w true (Let a k x y) = W y ≡ w
@@ -250,8 +245,7 @@ by-handing : (W R : ℕ → ℕ) (w r : ℕ) (b : Bool) (s : Shape) → AllBetwe
     → ((x : ℕ) → 1 ≤ x → x < r → 1 ≤ occurrences x (bodiesIn b s) → W x ≡ handed R w s) → Loops W R w b s
 unfolding namedIn bodiesIn handed occurrences
 by-handing W R w r b (Identifier a) l h = tt
-by-handing W R w r b (Whole a) l h = tt
-by-handing W R w r b (Truth a) l h = tt
+by-handing W R w r b (Constant k a) l h = tt
 by-handing W R w r b (Pair x y) l h = tt
 by-handing W R w r b (Operator k x) l h = tt
 by-handing W R w r true (Let a k x y) l h = h y (l .1 .0 .0) (l .1 .0 .1) (omega (arith, own y))

@@ -12,7 +12,7 @@ use borrow.Author.Tests.{leb-true}
 use Rattle.names.specs.Names.{Names, mask, one, union, without, range, trigger, size}
 use Rattle.names.proofs.Sets.{mask-one, mask-range, known-union, known-minus, known-count}
 use Rattle.formula.specs.declared.Shape.{Shape}
-use Rattle.formula.specs.declared.Shape.the-variants.{Identifier, Whole, Truth, Pair, Operator, Let, If, For, Iter}
+use Rattle.formula.specs.declared.Shape.the-variants.{Identifier, Constant, Pair, Operator, Let, If, For, Iter}
 use Rattle.formula.specs.Sheet.{shapeAt, shapeOf, namedIn, field}
 use Rattle.formula.specs.Tree.{Exp, Body, expNode, bodyNode, expOf, bodyOf}
 use Rattle.formula.specs.Places.{Node, expression, body, nodeIn, inBody}
@@ -56,10 +56,8 @@ module _ (N : ℕ → Node) (E : ℕ → Exp) (B : ℕ → Body) (M : ℕ → �
     unfolding plainMask namedIn expNode bodyNode freeE
     masked true (Identifier a) h q l = with-trigger (2 ^ a) (one a) (sym (mask-one a (omega arith)))
     masked false (Identifier a) h q l = sym (mask-one a (omega arith))
-    masked true (Whole a) h q l = with-trigger triggerMask (one trigger) trigger-mask
-    masked false (Whole a) h q l = trigger-mask
-    masked true (Truth a) h q l = with-trigger triggerMask (one trigger) trigger-mask
-    masked false (Truth a) h q l = trigger-mask
+    masked true (Constant k a) h q l = with-trigger triggerMask (one trigger) trigger-mask
+    masked false (Constant k a) h q l = trigger-mask
     masked true (Pair x y) h q l =
         with-trigger (bitOr (M x) (M y)) (union (freeE (E x)) (freeE (E y)))
         (known-union (M x) (M y) (freeE (E x)) (freeE (E y)) (as-exp x (l .0) (h .0)) (as-exp y (l .1 .0) (h .1)))
@@ -83,10 +81,8 @@ module _ (N : ℕ → Node) (E : ℕ → Exp) (B : ℕ → Body) (M : ℕ → �
     unfolding boundNode boundE boundB boundBy namedIn expNode bodyNode covers
     bound true (Identifier a) h q l = refl
     bound false (Identifier a) h q l = refl
-    bound true (Whole a) h q l = refl
-    bound false (Whole a) h q l = refl
-    bound true (Truth a) h q l = refl
-    bound false (Truth a) h q l = refl
+    bound true (Constant k a) h q l = refl
+    bound false (Constant k a) h q l = refl
     bound true (Pair x y) h q l = refl
     bound false (Pair x y) h q l = refl
     bound true (Operator k x) h q l = refl
@@ -121,15 +117,15 @@ ranged-by : (a b c d : ℕ) (k1 k2 k3 k4 k5 k6 k7 k8 k9 : Bool)
     false)))))))) ≡ true
     → Ranged
     (cond k1 (Identifier a)
-    (cond k2 (Whole a)
-    (cond k3 (Truth a)
+    (cond k2 (Constant 2 a)
+    (cond k3 (Constant 3 a)
     (cond k4 (Pair a b)
     (cond k5 (Operator a b)
     (cond k6 (Let a b c d)
     (cond k7 (If a b c)
     (cond k8 (For a b c d)
     (cond k9 (Iter a)
-    (Whole 0))))))))))
+    (Constant 2 0))))))))))
 ranged-by a b c d true k2 k3 k4 k5 k6 k7 k8 k9 h =
     let e : a ≤ 31 = leb-true a 31 (low-part (leb a 31) (eqb b 0) (eqb c 0) (and-true (leb a 31 && eqb b 0 && eqb c 0) (eqb d 0) h .0)) in omega arith
 ranged-by a b c d false true k3 k4 k5 k6 k7 k8 k9 h = tt

@@ -9,7 +9,7 @@ use lib.ListN.{length, getD, set, take, length-set}
 use lib.Seq.{getD-set-same, getD-set-other, getD-take}
 use native.Mathlib.Decide.{ℕ-discrete}
 use Rattle.formula.specs.declared.Shape.{Shape}
-use Rattle.formula.specs.declared.Shape.the-variants.{Identifier, Whole, Truth, Pair, Operator, Let, If, For, Iter}
+use Rattle.formula.specs.declared.Shape.the-variants.{Identifier, Constant, Pair, Operator, Let, If, For, Iter}
 use Rattle.formula.specs.Sheet.{shapeAt, namedIn}
 use Rattle.formula.specs.Tree.{Exp, Body, expNode, bodyNode, expOf, bodyOf}
 use Rattle.formula.specs.Places.{Node, expression, body, nodeIn, inBody, placesOf}
@@ -27,8 +27,7 @@ nodeBy false E B s = expression (expNode E B s)
 -- What is known of the nodes N of the rows that a row of shape s names. An iter is in a body place.
 abbrev pub Parts : (ℕ → Node) → (ℕ → Exp) → (ℕ → Body) → Bool → Shape → Type 0
 Parts N E B b (Identifier a) = Unit {0}
-Parts N E B b (Whole a) = Unit {0}
-Parts N E B b (Truth a) = Unit {0}
+Parts N E B b (Constant k a) = Unit {0}
 Parts N E B b (Pair x y) = (N x ≡ expression (E x)) × (N y ≡ expression (E y))
 Parts N E B b (Operator k x) = N x ≡ expression (E x)
 Parts N E B true (Let a k x y) = (N x ≡ expression (E x)) × (N y ≡ body (B y))
@@ -51,8 +50,7 @@ module _ (t : List ℕ) (p : List Bool) where
       → Parts (nodeAt t p) (expOf t) (bodyOf t) b s
   unfolding namedIn fieldPlaces
   by-places b (Identifier a) i e = tt
-  by-places b (Whole a) i e = tt
-  by-places b (Truth a) i e = tt
+  by-places b (Constant k a) i e = tt
   by-places b (Pair x y) i e = (in-expression x (ap (λ l. getD l 0 false) e), in-expression y (ap (λ l. getD l 1 false) e))
   by-places b (Operator k x) i e = in-expression x (ap (λ l. getD l 0 false) e)
   by-places true (Let a k x y) i e = (in-expression x (ap (λ l. getD l 0 false) e), in-body y (ap (λ l. getD l 1 false) e))

@@ -7,7 +7,7 @@ use native.Mathlib.Omega.{arith}
 use lib.Dec.{leb, eqb}
 use lib.ListN.{length, getD}
 use Rattle.formula.specs.declared.Shape.{Shape}
-use Rattle.formula.specs.declared.Shape.the-variants.{Identifier, Whole, Truth, Pair, Operator, Let, If, For, Iter}
+use Rattle.formula.specs.declared.Shape.the-variants.{Identifier, Constant, Pair, Operator, Let, If, For, Iter}
 use Rattle.formula.specs.Sheet.{shapeAt, namedIn}
 use Rattle.formula.specs.Tree.{Exp, Body, expNode, bodyNode, expOf, bodyOf}
 use Rattle.formula.specs.Places.{Node, expression, body, nodeIn, inBody}
@@ -38,10 +38,8 @@ module _ (N : ℕ → Node) (E : ℕ → Exp) (B : ℕ → Body) where
   unfolding widthsBy expNode bodyNode width iterated wideNode wideE wideB fittingE fittingB
   tells true (Identifier a) h = record { returns = refl; iterates = refl; rules = refl }
   tells false (Identifier a) h = record { returns = refl; iterates = refl; rules = refl }
-  tells true (Whole a) h = record { returns = refl; iterates = refl; rules = refl }
-  tells false (Whole a) h = record { returns = refl; iterates = refl; rules = refl }
-  tells true (Truth a) h = record { returns = refl; iterates = refl; rules = refl }
-  tells false (Truth a) h = record { returns = refl; iterates = refl; rules = refl }
+  tells true (Constant k a) h = record { returns = refl; iterates = refl; rules = refl }
+  tells false (Constant k a) h = record { returns = refl; iterates = refl; rules = refl }
   tells true (Pair x y) h = rw (h .0, h .1) (record { returns = refl; iterates = refl; rules = refl })
   tells false (Pair x y) h = rw (h .0, h .1) (record { returns = refl; iterates = refl; rules = refl })
   tells true (Operator k x) h = rw h (record { returns = refl; iterates = refl; rules = refl })
@@ -60,8 +58,7 @@ same-widths : (b : Bool) (r : ℕ) (R I J K : ℕ → ℕ) (s : Shape) → AllBe
     → ((k : ℕ) → 1 ≤ k → k < r → J k ≡ R k) → ((k : ℕ) → 1 ≤ k → k < r → K k ≡ I k) → widthsBy b J K s ≡ widthsBy b R I s
 unfolding widthsBy namedIn
 same-widths b r R I J K (Identifier a) h u v = refl
-same-widths b r R I J K (Whole a) h u v = refl
-same-widths b r R I J K (Truth a) h u v = refl
+same-widths b r R I J K (Constant k a) h u v = refl
 same-widths b r R I J K (Pair x y) h u v = rw (u x (h .0 .0) (h .0 .1), u y (h .1 .0 .0) (h .1 .0 .1)) refl
 same-widths b r R I J K (Operator k x) h u v = rw (u x (h .0 .0) (h .0 .1)) refl
 same-widths b r R I J K (Let a k x y) h u v = rw (u x (h .0 .0) (h .0 .1), u y (h .1 .0 .0) (h .1 .0 .1), v y (h .1 .0 .0) (h .1 .0 .1)) refl

@@ -4,7 +4,7 @@ use Prim.Native.Nat.{ℕ}
 use mathlib.Core.Bool.{cond, _||_}
 use lib.Dec.{leb}
 use Rattle.formula.specs.declared.Shape.{Shape}
-use Rattle.formula.specs.declared.Shape.the-variants.{Identifier, Whole, Truth, Pair, Operator, Let, If, For, Iter}
+use Rattle.formula.specs.declared.Shape.the-variants.{Identifier, Constant, Pair, Operator, Let, If, For, Iter}
 use Rattle.formula.specs.Tree.{Body, ret, iter, letB, ifB}
 use Rattle.formula.specs.Places.{Node, expression, body}
 
@@ -24,8 +24,7 @@ endsIn (body y) = endsOf y
 -- The same for a table: F has the ends of earlier rows.
 unfoldable pub endsBy : (ℕ → ℕ) → Shape → ℕ
 endsBy F (Identifier a) = 1
-endsBy F (Whole a) = 1
-endsBy F (Truth a) = 1
+endsBy F (Constant k a) = 1
 endsBy F (Pair x y) = 1
 endsBy F (Operator k x) = 1
 endsBy F (Let a k x y) = F y

@@ -5,15 +5,14 @@ use mathlib.Core.Bool.{Bool}
 use mathlib.Core.List.{List, [], _∷_}
 use lib.ListN.{getD, set, replicate}
 use Rattle.formula.specs.declared.Shape.{Shape}
-use Rattle.formula.specs.declared.Shape.the-variants.{Identifier, Whole, Truth, Pair, Operator, Let, If, For, Iter}
+use Rattle.formula.specs.declared.Shape.the-variants.{Identifier, Constant, Pair, Operator, Let, If, For, Iter}
 use Rattle.formula.specs.Sheet.{shapeAt}
 use Rattle.formula.specs.Places.{bodiesIn, inBody}
 
 -- What a row hands on to the rows that it names in body places: a for its body's returned width, others their own loop's.
 unfoldable pub handed : (ℕ → ℕ) → ℕ → Shape → ℕ
 handed R w (Identifier a) = w
-handed R w (Whole a) = w
-handed R w (Truth a) = w
+handed R w (Constant k a) = w
 handed R w (Pair x y) = w
 handed R w (Operator k x) = w
 handed R w (Let a k x y) = w

@@ -6,7 +6,7 @@ use lib.Bits.{bitAnd, bitOr}
 use lib.Count.{ones}
 use lib.Dec.{eqb}
 use Rattle.formula.specs.declared.Shape.{Shape}
-use Rattle.formula.specs.declared.Shape.the-variants.{Identifier, Whole, Truth, Pair, Operator, Let, If, For, Iter}
+use Rattle.formula.specs.declared.Shape.the-variants.{Identifier, Constant, Pair, Operator, Let, If, For, Iter}
 
 -- The mask of the trigger.
 abbrev pub triggerMask : ℕ
@@ -23,8 +23,7 @@ outside m a k = bitAnd m ((2 ^ 64 - 1) - rangeMask a k)
 -- A row in an expression place; a let or an if in a body place has its names in the same way, and an iter its constant's.
 unfoldable pub plainMask : (ℕ → ℕ) → Shape → ℕ
 plainMask M (Identifier a) = 2 ^ a
-plainMask M (Whole a) = triggerMask
-plainMask M (Truth a) = triggerMask
+plainMask M (Constant k a) = triggerMask
 plainMask M (Pair x y) = bitOr (M x) (M y)
 plainMask M (Operator k x) = M x
 plainMask M (Let a k x y) = bitOr (M x) (outside (M y) a k)
@@ -35,8 +34,7 @@ plainMask M (Iter x) = bitOr triggerMask (M x)
 -- Whether a row of this kind, in a body place, is a returned expression.
 abbrev pub isReturned : Shape → Bool
 isReturned (Identifier a) = true
-isReturned (Whole a) = true
-isReturned (Truth a) = true
+isReturned (Constant k a) = true
 isReturned (Pair x y) = true
 isReturned (Operator k x) = true
 isReturned (Let a k x y) = false
@@ -54,8 +52,7 @@ missing m a k = ones (bitAnd (rangeMask a k) ((2 ^ 64 - 1) - m))
 
 unfoldable pub boundBy : (ℕ → ℕ) → Shape → Bool
 boundBy M (Identifier a) = true
-boundBy M (Whole a) = true
-boundBy M (Truth a) = true
+boundBy M (Constant k a) = true
 boundBy M (Pair x y) = true
 boundBy M (Operator k x) = true
 boundBy M (Let a k x y) = eqb (missing (M y) a k) 0
@@ -66,8 +63,7 @@ boundBy M (Iter x) = true
 -- What test 4 says of a row's identifiers, by its shape.
 abbrev pub Ranged : Shape → Type 0
 Ranged (Identifier a) = a < 32
-Ranged (Whole a) = Unit {0}
-Ranged (Truth a) = Unit {0}
+Ranged (Constant k a) = Unit {0}
 Ranged (Pair x y) = Unit {0}
 Ranged (Operator k x) = Unit {0}
 Ranged (Let a k x y) = a + k ≤ 32

@@ -4,7 +4,7 @@ use mathlib.Core.Bool.{Bool, true, false, not, cond, _&&_}
 use lib.Dec.{eqb, leb}
 use Rattle.value.specs.Operators.{operands}
 use Rattle.formula.specs.declared.Shape.{Shape}
-use Rattle.formula.specs.declared.Shape.the-variants.{Identifier, Whole, Truth, Pair, Operator, Let, If, For, Iter}
+use Rattle.formula.specs.declared.Shape.the-variants.{Identifier, Constant, Pair, Operator, Let, If, For, Iter}
 use Rattle.formula.specs.Widths.{either, agree}
 use Rattle.sheet_tables.specs.declared.widths.Widths.{Widths}
 
@@ -19,8 +19,7 @@ pickWidths false x y = y
 unfoldable pub widthsBy : Bool → (ℕ → ℕ) → (ℕ → ℕ) → Shape → Widths
 unfolding operands
 widthsBy b R I (Identifier a) = widths 1 0 true
-widthsBy b R I (Whole a) = widths 1 0 true
-widthsBy b R I (Truth a) = widths 1 0 true
+widthsBy b R I (Constant k a) = widths 1 0 true
 widthsBy b R I (Pair x y) = widths (R x + R y) 0 true
 widthsBy b R I (Operator k x) = widths 1 0 (eqb (R x) (operands k))
 widthsBy b R I (Let a k x y) = widths (R y) (I y) (eqb (R x) k)

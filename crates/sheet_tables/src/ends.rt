@@ -46,8 +46,7 @@ fn ends_of(s: Shape, r: usize, ends: &[u8]) -> u8
 {
     match s {
         Shape::Identifier(_) => RETURNS,
-        Shape::Whole(_) => RETURNS,
-        Shape::Truth(_) => RETURNS,
+        Shape::Constant(_, _) => RETURNS,
         Shape::Pair(_, _) => RETURNS,
         Shape::Operator(_, _) => RETURNS,
         Shape::Let(_, _, _, d) => end_at(ends, d),

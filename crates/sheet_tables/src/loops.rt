@@ -20,8 +20,7 @@ fn hand_on(s: Shape, r: usize, w: u8, returned: &[u8]) -> u8
 {
     match s {
         Shape::Identifier(_) => w,
-        Shape::Whole(_) => w,
-        Shape::Truth(_) => w,
+        Shape::Constant(_, _) => w,
         Shape::Pair(_, _) => w,
         Shape::Operator(_, _) => w,
         Shape::Let(_, _, _, _) => w,

@@ -44,8 +44,7 @@ pub fn plain_mask(s: Shape, r: usize, masks: &[u64]) -> u64
 {
     match s {
         Shape::Identifier(a) => single(a),
-        Shape::Whole(_) => TRIGGER_MASK,
-        Shape::Truth(_) => TRIGGER_MASK,
+        Shape::Constant(_, _) => TRIGGER_MASK,
         Shape::Pair(a, b) => mask_at(masks, a) | mask_at(masks, b),
         Shape::Operator(_, b) => mask_at(masks, b),
         Shape::Let(a, b, c, d) => mask_at(masks, c) | outside(mask_at(masks, d), a, b),
@@ -61,8 +60,7 @@ pub fn is_returned(s: Shape) -> bool
 {
     match s {
         Shape::Identifier(_) => true,
-        Shape::Whole(_) => true,
-        Shape::Truth(_) => true,
+        Shape::Constant(_, _) => true,
         Shape::Pair(_, _) => true,
         Shape::Operator(_, _) => true,
         Shape::Let(_, _, _, _) => false,
@@ -102,8 +100,7 @@ fn bound_well(s: Shape, r: usize, masks: &[u64]) -> bool
 {
     match s {
         Shape::Identifier(_) => true,
-        Shape::Whole(_) => true,
-        Shape::Truth(_) => true,
+        Shape::Constant(_, _) => true,
         Shape::Pair(_, _) => true,
         Shape::Operator(_, _) => true,
         Shape::Let(a, b, _, d) => covered(mask_at(masks, d), a, b),

@@ -106,8 +106,7 @@ fn widths_of(s: Shape, r: usize, in_body: bool, returned: &[u8], iterated: &[u8]
 {
     match s {
         Shape::Identifier(_) => expression(1, true),
-        Shape::Whole(_) => expression(1, true),
-        Shape::Truth(_) => expression(1, true),
+        Shape::Constant(_, _) => expression(1, true),
         Shape::Pair(a, b) => expression(width_at(returned, a) + width_at(returned, b), true),
         Shape::Operator(k, b) => expression(1, width_at(returned, b) == operand_width(k)),
         Shape::Let(_, b, c, d) => Widths {

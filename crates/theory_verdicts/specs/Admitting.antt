@@ -11,7 +11,8 @@ use borrow.Author.Tests.{leb-true}
 use native.Mathlib.Omega.{arith}
 use native.Mathlib.Decide.{decLe}
 use Rattle.formula.specs.declared.Shape.{Shape}
-use Rattle.formula.specs.declared.Shape.the-variants.{Identifier, Whole, Truth, Pair, Operator, Let, If, For, Iter}
+use Rattle.formula.specs.declared.Shape.the-variants.{Identifier, Constant, Pair, Operator, Let, If, For, Iter}
+use Rattle.formula.specs.Constants.{constantMost}
 use Rattle.formula.specs.Sheet.{rowCount, fieldsOf, field, shapeOf, shapeAt, namedIn}
 use Rattle.formula.specs.Tree.{Exp, Body, ret, expNode, bodyNode, expOf, bodyOf, formulaOf}
 use Rattle.formula.specs.TreeLaws.{AllBetween, Named, and-true, exp-as, body-as, between-as}
@@ -31,8 +32,7 @@ use Rattle.meaning.specs.Accepted.{accepted}
 
 abbrev Ranged : Shape → Type 0
 Ranged (Identifier a) = a < 32
-Ranged (Whole a) = a ≤ 999999
-Ranged (Truth a) = a ≤ 1
+Ranged (Constant k a) = a ≤ constantMost k
 Ranged (Pair a b) = Unit {0}
 Ranged (Operator a b) = (1 ≤ a) × (a ≤ 11)
 Ranged (Let a b c d) = Binds a b
@@ -64,15 +64,15 @@ ranged-shape kind a b c d =
         false)))))))) ≡ true
         → Ranged
         (cond k1 (Identifier a)
-        (cond k2 (Whole a)
-        (cond k3 (Truth a)
+        (cond k2 (Constant 2 a)
+        (cond k3 (Constant 3 a)
         (cond k4 (Pair a b)
         (cond k5 (Operator a b)
         (cond k6 (Let a b c d)
         (cond k7 (If a b c)
         (cond k8 (For a b c d)
         (cond k9 (Iter a)
-        (Whole 0))))))))))
+        (Constant 2 0))))))))))
     go true k2 k3 k4 k5 k6 k7 k8 k9 h = let i = leb-true a 31 (first-of-four (leb a 31) (eqb b 0) (eqb c 0) (eqb d 0) h .0) in omega arith
     go false true k3 k4 k5 k6 k7 k8 k9 h = leb-true a 999999 (first-of-four (leb a 999999) (eqb b 0) (eqb c 0) (eqb d 0) h .0)
     go false false true k4 k5 k6 k7 k8 k9 h = leb-true a 1 (first-of-four (leb a 1) (eqb b 0) (eqb c 0) (eqb d 0) h .0)
@@ -169,8 +169,7 @@ module _ (t : List ℕ) (n : ℕ) (ok : Checked t n) where
       go : (b : Bool) → inBody p r ≡ b → (s : Shape) → shapeAt t r ≡ s → FineE (expNode E B s) → Ranged s → AllBetween r (namedIn s) → Placed p b s → ReadAs b s
           → not (isIter s) || b ≡ true → AdmittedE (expNode E B s)
       go b q (Identifier a) e f g j k i m = g
-      go b q (Whole a) e f g j k i m = g
-      go b q (Truth a) e f g j k i m = g
+      go b q (Constant kind a) e f g j k i m = g
       go b q (Pair x y) e f g j k i m = (f, at x (j .0) (k .0), at y (j .1 .0) (k .1))
       go b q (Operator c x) e f g j k i m = (f, g, at x (j .0) k)
       go true q (Let a c x y) e f g j k i m = absurd i
@@ -202,8 +201,7 @@ module _ (t : List ℕ) (n : ℕ) (ok : Checked t n) where
 
       go : (s : Shape) → shapeAt t r ≡ s → FineB (bodyNode E B s) → Ranged s → AllBetween r (namedIn s) → Placed p true s → AdmittedB (bodyNode E B s)
       go (Identifier a) e f g j k = (f, ends (Identifier a) e tt)
-      go (Whole a) e f g j k = (f, ends (Whole a) e tt)
-      go (Truth a) e f g j k = (f, ends (Truth a) e tt)
+      go (Constant kind a) e f g j k = (f, ends (Constant kind a) e tt)
       go (Pair x y) e f g j k = (f, ends (Pair x y) e tt)
       go (Operator c x) e f g j k = (f, ends (Operator c x) e tt)
       go (Let a c x y) e f g j k = (f, g, at x (j .0) (k .0), in-body y (j .1 .0) (k .1))

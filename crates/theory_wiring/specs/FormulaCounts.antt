@@ -9,7 +9,7 @@ use native.Mathlib.Omega.{arith}
 use Rattle.value.specs.declared.Value.the-variants.{Truth}
 use Rattle.names.specs.Names.{Names, trigger, one, union, common, without, range, size}
 use Rattle.names.proofs.Sets.{size-cong, size-le}
-use Rattle.formula.specs.Tree.{Exp, identifier, whole, truth, pair, operator, letE, ifE, forE, Body, ret, iter, letB, ifB}
+use Rattle.formula.specs.Tree.{Exp, identifier, constant, pair, operator, letE, ifE, forE, Body, ret, iter, letB, ifB}
 use Rattle.formula.specs.Widths.{width, returned}
 use Rattle.formula.specs.Free.{freeE, freeB}
 use Rattle.formula.specs.Count.{_⊕_, gates, copies, shared, gated as gatedCount, countE, countB}
@@ -94,8 +94,7 @@ mutual
 
   pub count-E : (x : Exp) → AdmittedE x → Same (countG (graphE x)) (countE x)
   count-E (identifier a) h = (refl, refl)
-  count-E (whole a) h = (refl, refl)
-  count-E (truth a) h = (refl, refl)
+  count-E (constant k a) h = (refl, refl)
   count-E (pair x y) h =
       let s = shared-names (graphE x) (graphE y) (freeE x) (freeE y) (free-E x (h .1)) (free-E y (h .2)) (small-E x (h .1)) in
       let p = count-E x (h .1) in

@@ -5,7 +5,7 @@ use mathlib.Core.Path.{_≡_, refl}
 use mathlib.Core.Logic.{inl, inr}
 use native.Mathlib.Omega.{arith}
 use Rattle.network.specs.Poisoned.{plain, twinned}
-use Rattle.formula.specs.Tree.{Exp, identifier, whole, pair, operator, forE, ret, iter, ifB}
+use Rattle.formula.specs.Tree.{Exp, identifier, constant, pair, operator, forE, ret, iter, ifB}
 use Rattle.formula.specs.Widths.{wideE, wideB}
 use Rattle.formula.specs.Free.{boundE, boundB}
 use Rattle.formula.specs.Admitted.{AdmittedE}
@@ -23,7 +23,7 @@ use Rattle.theory_wiring.specs.Machine.{netOf, tested-at}
 abbrev pub smallest : Exp
 smallest =
     forE 1 1 (identifier 0)
-    (ifB (operator 6 (pair (identifier 1) (whole 1))) (ret (identifier 1)) (iter (operator 2 (pair (identifier 1) (whole 1)))))
+    (ifB (operator 6 (pair (identifier 1) (constant 2 1))) (ret (identifier 1)) (iter (operator 2 (pair (identifier 1) (constant 2 1)))))
 
 admitted : AdmittedE smallest
 unfolding wideE wideB boundE boundB

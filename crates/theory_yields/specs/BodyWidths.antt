@@ -5,7 +5,7 @@ use mathlib.Core.Path.{_≡_, refl, sym, _∙_}
 use mathlib.Core.Bool.{Bool, true, false, cond, false≢true}
 use borrow.Author.Tests.{ne-eqb}
 use native.Mathlib.Omega.{arith}
-use Rattle.formula.specs.Tree.{Exp, identifier, whole, truth, pair, operator, letE, ifE, forE, Body, ret, iter, letB, ifB}
+use Rattle.formula.specs.Tree.{Exp, identifier, constant, pair, operator, letE, ifE, forE, Body, ret, iter, letB, ifB}
 use Rattle.formula.specs.Widths.{width, returned, iterated, either, wideB}
 use Rattle.formula.specs.Count.{returns, iterates}
 use Rattle.formula.specs.Admitted.{AdmittedE, AdmittedB}
@@ -17,8 +17,7 @@ use Rattle.theory_yields.specs.Naming.{or-neither}
 mutual
   pub sound-E : (x : Exp) → AdmittedE x → SoundE x
   sound-E (identifier a) h = tt
-  sound-E (whole a) h = tt
-  sound-E (truth a) h = tt
+  sound-E (constant k a) h = tt
   sound-E (pair x y) h = (h .0 .0, sound-E x (h .1), sound-E y (h .2))
   sound-E (operator k x) h = (h .0 .0, sound-E x (h .2))
   sound-E (letE a b x y) h = (h .0 .0, sound-E x (h .2), sound-E y (h .3))
@@ -37,8 +36,7 @@ wide-enough x h = positive x (sound-E x h)
 pub not-too-wide : (x : Exp) → AdmittedE x → width x ≤ 16
 unfolding width
 not-too-wide (identifier a) h = omega arith
-not-too-wide (whole a) h = omega arith
-not-too-wide (truth a) h = omega arith
+not-too-wide (constant k a) h = omega arith
 not-too-wide (pair x y) h = wide-16 (pair x y) (h .0 .0)
 not-too-wide (operator k x) h = omega arith
 not-too-wide (letE a b x y) h = wide-16 (letE a b x y) (h .0 .0)

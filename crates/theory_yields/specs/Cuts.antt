@@ -7,19 +7,18 @@ use mathlib.Core.Bool.{true, false, false≢true}
 use mathlib.Core.List.{List, [], _∷_, _++_}
 use mathlib.Core.Option.{Option, some}
 use lib.ListN.{length, getD, replicate, length-append, length-replicate}
-use lib.Dec.{eqb}
-use lib.IntN.{pos}
 use borrow.Author.Tests.{eq-eqb}
 use native.Mathlib.Omega.{arith}
 use Rattle.value.specs.declared.Value.{Value}
-use Rattle.value.specs.declared.Value.the-variants.{Whole, Truth}
+use Rattle.value.specs.declared.Value.the-variants.{Truth}
 use Rattle.value.specs.Operators.{apply}
 use Rattle.value.specs.declared.Sense.{Sense}
 use Rattle.value.specs.declared.Sense.the-variants.{True, False, Neither}
 use Rattle.value.specs.Senses.{err, sense, only-one-true, only-one-false}
 use Rattle.names.specs.Names.{trigger, one, union, without, range}
 use Rattle.network.specs.Values.{true-value, false-value, err-value}
-use Rattle.formula.specs.Tree.{Exp, identifier, whole, truth, pair, operator, letE, ifE, forE, Body, ret, iter, letB, ifB}
+use Rattle.formula.specs.Constants.{constantValue}
+use Rattle.formula.specs.Tree.{Exp, identifier, constant, pair, operator, letE, ifE, forE, Body, ret, iter, letB, ifB}
 use Rattle.formula.specs.Widths.{width, returned, iterated}
 use Rattle.formula.specs.Free.{freeE, freeB}
 use Rattle.formula.specs.Count.{returns as returnsAlways, iterates}
@@ -231,8 +230,7 @@ module _ (N : ℕ) where
 
     pub ends-E : (x : Exp) → AdmittedE x → (env : Env) (ρ : Values) → Holds (freeE x) env ρ → Ends (graphE x) ρ (width x)
     ends-E (identifier a) adm env ρ h = (env a ∷ [], refl, (0, (refl, ap (λ (v : Option Value). some (v ∷ [])) (sym (h .0 a adm (eq-eqb a a refl))))))
-    ends-E (whole a) adm env ρ h = (Whole (pos a) ∷ [], refl, (0, constant-ends (some N) (Whole (pos a)) env ρ h))
-    ends-E (truth a) adm env ρ h = (Truth (eqb a 1) ∷ [], refl, (0, constant-ends (some N) (Truth (eqb a 1)) env ρ h))
+    ends-E (constant k a) adm env ρ h = (constantValue k a ∷ [], refl, (0, constant-ends (some N) (constantValue k a) env ρ h))
     ends-E (pair x y) adm env ρ h =
         let p = ends-E x (adm .1) env ρ (left-part (freeE x) (freeE y) env ρ h) in
         let q = ends-E y (adm .2) env ρ (right-part (freeE x) (freeE y) env ρ h) in (

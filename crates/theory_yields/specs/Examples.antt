@@ -9,7 +9,7 @@ use native.Mathlib.Omega.{arith}
 use Rattle.value.specs.declared.Value.{Value}
 use Rattle.value.specs.declared.Value.the-variants.{Whole}
 use Rattle.value.specs.Senses.{err}
-use Rattle.formula.specs.Tree.{Exp, identifier, whole, pair, operator, forE, ret, iter, ifB}
+use Rattle.formula.specs.Tree.{Exp, identifier, constant, pair, operator, forE, ret, iter, ifB}
 use Rattle.formula.specs.Widths.{wideE, wideB}
 use Rattle.formula.specs.Free.{freeE, boundE, boundB}
 use Rattle.formula.specs.Admitted.{AdmittedE}
@@ -22,9 +22,9 @@ use Rattle.theory_yields.specs.Meets.{Holds}
 -- n is identifier 0, i is 1 and y is 2.
 abbrev factorial : Exp
 factorial =
-    forE 1 2 (pair (identifier 0) (whole 1))
-    (ifB (operator 6 (pair (whole 1) (identifier 1)))
-    (iter (pair (operator 2 (pair (identifier 1) (whole 1))) (operator 3 (pair (identifier 2) (identifier 1)))))
+    forE 1 2 (pair (identifier 0) (constant 2 1))
+    (ifB (operator 6 (pair (constant 2 1) (identifier 1)))
+    (iter (pair (operator 2 (pair (identifier 1) (constant 2 1))) (operator 3 (pair (identifier 2) (identifier 1)))))
     (ret (identifier 2)))
 
 admitted : AdmittedE factorial
@@ -52,7 +52,7 @@ admitted = (
 abbrev two-iters : Exp
 two-iters =
     forE 1 1 (identifier 0)
-    (ifB (operator 6 (pair (whole 1) (identifier 1))) (ifB (identifier 1) (iter (identifier 1)) (iter (identifier 1))) (ret (identifier 1)))
+    (ifB (operator 6 (pair (constant 2 1) (identifier 1))) (ifB (identifier 1) (iter (identifier 1)) (iter (identifier 1))) (ret (identifier 1)))
 
 two-iters-admitted : AdmittedE two-iters
 unfolding wideE wideB boundE boundB

@@ -9,7 +9,7 @@ use borrow.Author.Tests.{le-leb, lt-ltb}
 use native.Mathlib.Omega.{arith}
 use Rattle.names.specs.Names.{Names, sizeFrom, bit}
 use Rattle.names.proofs.Counts.{sizeFrom-suc, sizeFrom-mono}
-use Rattle.formula.specs.Tree.{Exp, identifier, whole, truth, pair, operator, letE, ifE, forE, Body, ret, iter, letB, ifB}
+use Rattle.formula.specs.Tree.{Exp, identifier, constant, pair, operator, letE, ifE, forE, Body, ret, iter, letB, ifB}
 use Rattle.formula.specs.Widths.{width, returned, iterated}
 use Rattle.formula.specs.Free.{freeE, freeB, boundE, boundB, covers}
 use Rattle.formula.specs.Count.{returns, iterates}
@@ -72,8 +72,7 @@ mutual
 
   pub count-E : (x : Exp) → AdmittedE x → outputCount (graphE x) ≡ width x
   count-E (identifier a) h = refl
-  count-E (whole a) h = refl
-  count-E (truth a) h = refl
+  count-E (constant k a) h = refl
   count-E (pair x y) h = ap₂ _+_ (count-E x (h .1)) (count-E y (h .2))
   count-E (operator k x) h = refl
   count-E (letE a b x y) h = count-E y (h .3)
@@ -156,8 +155,7 @@ mutual
 
   pub fit-E : (x : Exp) → AdmittedE x → Fit (graphE x)
   fit-E (identifier a) h = omega arith
-  fit-E (whole a) h = (omega arith, refl)
-  fit-E (truth a) h = (omega arith, refl)
+  fit-E (constant k a) h = (omega arith, refl)
   fit-E (pair x y) h = (fit-E x (h .1), fit-E y (h .2))
   fit-E (operator k x) h = (fit-E x (h .2), count-E x (h .2) ∙ operator-fits k x (h .0 .0))
   fit-E (letE a b x y) h = (

@@ -9,7 +9,7 @@ use borrow.Author.Tests.{ne-eqb, eqb-true}
 use native.Mathlib.Omega.{arith}
 use Rattle.names.specs.Names.{Names, trigger, one, union, without, range, size, sizeFrom, bit}
 use Rattle.names.proofs.Counts.{sizeFrom-suc, sizeFrom-mono}
-use Rattle.formula.specs.Tree.{Exp, identifier, whole, truth, pair, operator, letE, ifE, forE, Body, ret, iter, letB, ifB}
+use Rattle.formula.specs.Tree.{Exp, identifier, constant, pair, operator, letE, ifE, forE, Body, ret, iter, letB, ifB}
 use Rattle.formula.specs.Widths.{width, returned}
 use Rattle.formula.specs.Free.{freeE, freeB, covers}
 use Rattle.formula.specs.Admitted.{AdmittedE, AdmittedB}
@@ -36,8 +36,7 @@ mutual
 
   pub small-E : (x : Exp) → AdmittedE x → Small (freeE x)
   small-E (identifier a) h = λ k l. ne-eqb a k (λ e. omega arith)
-  small-E (whole a) h = small-trigger
-  small-E (truth a) h = small-trigger
+  small-E (constant k a) h = small-trigger
   small-E (pair x y) h = small-union (freeE x) (freeE y) (small-E x (h .1)) (small-E y (h .2))
   small-E (operator k x) h = small-E x (h .2)
   small-E (letE a b x y) h =
@@ -85,8 +84,7 @@ mutual
 
   pub free-E : (x : Exp) → AdmittedE x → Has (graphE x) (freeE x)
   free-E (identifier a) h = λ k. refl
-  free-E (whole a) h = λ k. refl
-  free-E (truth a) h = λ k. refl
+  free-E (constant kind a) h = λ k. refl
   free-E (pair x y) h = λ k. ap₂ _||_ (free-E x (h .1) k) (free-E y (h .2) k)
   free-E (operator c x) h = free-E x (h .2)
   free-E (letE a b x y) h =

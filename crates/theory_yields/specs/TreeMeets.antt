@@ -8,16 +8,16 @@ use mathlib.Core.List.{List, [], _∷_, _++_}
 use mathlib.Core.Option.{Option, none, some}
 use lib.ListN.{length, getD}
 use lib.Dec.{eqb}
-use lib.IntN.{pos}
 use borrow.Author.Tests.{eq-eqb, ne-eqb}
 use native.Mathlib.Omega.{arith}
 use Rattle.value.specs.declared.Value.{Value}
-use Rattle.value.specs.declared.Value.the-variants.{Whole, Truth}
+use Rattle.value.specs.declared.Value.the-variants.{Truth}
 use Rattle.value.specs.Senses.{err, sense}
 use Rattle.value.specs.Operators.{apply}
 use Rattle.names.specs.Names.{Names, trigger, one, union, without, range}
 use Rattle.network.specs.Values.{true-value}
-use Rattle.formula.specs.Tree.{Exp, identifier, whole, truth, pair, operator, letE, ifE, forE, Body, ret, iter, letB, ifB}
+use Rattle.formula.specs.Constants.{constantValue}
+use Rattle.formula.specs.Tree.{Exp, identifier, constant, pair, operator, letE, ifE, forE, Body, ret, iter, letB, ifB}
 use Rattle.formula.specs.Widths.{width, returned, iterated}
 use Rattle.formula.specs.Free.{freeE, freeB}
 use Rattle.formula.specs.Count.{returns as returnsAlways, iterates}
@@ -117,8 +117,7 @@ mutual
       → Meets (Yields (graphE x) ρ) lent (evalE x env lent)
   meets-E (identifier a) adm env ρ h lent =
       (omega arith, ap (λ (v : Option Value). some (v ∷ [])) (sym (h .0 a adm (eq-eqb a a refl))))
-  meets-E (whole a) adm env ρ h lent = constant-yields (Whole (pos a)) env ρ lent h
-  meets-E (truth a) adm env ρ h lent = constant-yields (Truth (eqb a 1)) env ρ lent h
+  meets-E (constant k a) adm env ρ h lent = constant-yields (constantValue k a) env ρ lent h
   meets-E (pair x y) adm env ρ h lent =
       pair-meets (graphE x) (graphE y) ρ lent (evalE x env lent) (λ l. evalE y env l) (within x env lent)
       (meets-E x (adm .1) env ρ (left-part (freeE x) (freeE y) env ρ h) lent) (λ l. within y env l)

@@ -1,6 +1,8 @@
 -- The tests, as paths name them:
 --   row-lts if1  Way::Iter(a) => { ⏎ if place.body {
 --   row-lts if2  Way::End => { ⏎ if place.body {
+use native.Mathlib.Omega.{arith}
+use borrow.Author.Needs.{needs}
 use Prim.Native.Nat.{ℕ, _<_}
 use borrow.Fn.Kinds.{In}
 use borrow.Fn.PlainCycle.{Measures, is, falls, and}
@@ -28,16 +30,14 @@ use Rattle.maker_rows.proofs.+arm+ended+fors+ifs+lets+pairs+plain+row.L
 use Rattle.maker_rows.proofs.row.Reads as row
 use Rattle.maker_rows.proofs.row.Kinds as row-kinds
 use Rattle.maker_rows.proofs.+arm+ended+fors+ifs+lets+pairs+plain+row.Lts-row as row-lts
-use Rattle.sheet_fields.proofs.shape.shape_at.Reads as shape-at-reads
-use Rattle.sheet_fields.proofs.shape.way_at.Reads as way-at-reads
-use Rattle.sheet_fields.proofs.shape.width_at.Reads as width-at-reads
+use Rattle.formula.proofs.constant.Reads as constant-reads
 use Rattle.machine_layout.proofs.store_operator.Reads as store-operator-reads
 use Rattle.maker_emit.proofs.links.join.Reads as join-reads
 use Rattle.maker_emit.proofs.records.assign.Reads as assign-reads
 use Rattle.maker_emit.proofs.records.copy_of.Reads as copy-of-reads
 use Rattle.maker_parts.proofs.applied.Reads as applied-reads
 use Rattle.maker_parts.proofs.closed.Reads as closed-reads
-use Rattle.maker_parts.proofs.constant.Reads as constant-reads
+use Rattle.maker_parts.proofs.constant.Reads as constant-reads′
 use Rattle.maker_parts.proofs.fork.Reads as fork-reads
 use Rattle.maker_parts.proofs.gated.Reads as gated-reads
 use Rattle.maker_parts.proofs.identifier.Reads as identifier-reads
@@ -46,6 +46,9 @@ use Rattle.maker_parts.proofs.names_in.Reads as names-in-reads
 use Rattle.maker_parts.proofs.numbered.Reads as numbered-reads
 use Rattle.maker_rows.proofs.again.Reads as again-reads
 use Rattle.names.proofs.range_mask.Reads as range-mask-reads
+use Rattle.sheet_fields.proofs.shape.shape_at.Reads as shape-at-reads
+use Rattle.sheet_fields.proofs.shape.way_at.Reads as way-at-reads
+use Rattle.sheet_fields.proofs.shape.width_at.Reads as width-at-reads
 use Rattle.sheet_tables.proofs.masks.mask_at.Reads as mask-at-reads
 use Rattle.sheet_tables.proofs.masks.outside.Reads as outside-reads
 use Rattle.sheet_tables.proofs.masks.plain_mask.Reads as plain-mask-reads
@@ -57,16 +60,12 @@ use mathlib.Core.Bool.{Bool, true, false, cond, false≢true}
 use mathlib.Core.List.{List}
 use lib.ListN.{length, getD}
 use lib.Bits.{bitAnd, bitOr}
-use mir.Syntax.{w32}
-use mir.Facts.{toZ-pos}
 use Rattle.machine_layout.specs.Record.{placed}
-use Rattle.formula.specs.declared.Shape.the-variants.{Identifier, Whole, Truth, Pair, Operator, Let, If, For, Iter}
 use Rattle.formula.specs.Sheet.{shapeAt, namedIn}
-use Rattle.value.specs.declared.Value.the-variants.{Truth as truth-value, Whole as whole-value}
 use Rattle.sheet_tables.specs.Masks.{outside, plainMask, Ranged}
 use Rattle.formula.specs.declared.Shape.{Shape}
 use Rattle.formula.specs.TreeLaws.{AllBetween}
-use Rattle.maker_laid.specs.Nodes.{Ready, Child, Ends, graphIn, at-identifier, at-whole, at-truth, at-iter}
+use Rattle.maker_laid.specs.Nodes.{Ready, Child, Ends, graphIn, at-identifier, at-constant, at-iter}
 use Rattle.maker_laid.specs.Counts.{operatorCount}
 use Rattle.maker_laid.specs.Masked.{listOf, Mask}
 use Rattle.formula.specs.declared.Way.the-variants.{Let as let-way, If as if-way, Iter as iter-way, End}
@@ -75,11 +74,9 @@ use Rattle.maker_parts.specs.Ranges.{mask-of-range}
 use Rattle.maker_parts.specs.Parts.{Closed, Numbered}
 use Rattle.maker_rows.specs.Rows.{Part, Ended, Armed}
 use Rattle.maker_rows.proofs.Splits.{split-mask, split-fork, split-first, split-second, split-needs, fork-same, child-mask, child-alone, forked-long, arm-needs, arm-behind, arm-part}
-use Rattle.maker_rows.proofs.Steps.{shaped-as, by-place, row-inside, pair-first, pair-second, pair-split, pair-narrow, pair-part, let-first, let-second, let-low, let-split, let-part, end-split, end-part, constant-room, iter-child, iter-room, iter-part, return-ready, return-room, return-part, part-E, room-E, few-results, whole-part, truth-part, whole-room, truth-room, operator-child, operator-room, operator-needs, operator-part, plain-between, plain-ranged, plain-mask-is, as-expression}
+use Rattle.maker_rows.proofs.Steps.{shaped-as, by-place, row-inside, pair-first, pair-second, pair-split, pair-narrow, pair-part, let-first, let-second, let-low, let-split, let-part, end-split, end-part, end-constant-room, iter-child, iter-room, iter-part, return-ready, return-room, return-part, part-E, room-E, few-results, constant-part, constant-room, operator-child, operator-room, operator-needs, operator-part, plain-between, plain-ranged, plain-mask-is, as-expression}
 use Rattle.maker_rows.proofs.Choosing.{if-test, if-first, if-second, if-split, room-arms, room-first, room-between, room-joins, if-needs, if-part, arms-mask, arms-room}
 use Rattle.maker_rows.proofs.Looping.{for-first, for-second, for-low, body-some, for-split, room-body, room-ring, for-part, body-read, room-start}
-use native.Mathlib.Omega.{arith}
-use borrow.Author.Needs.{needs}
 
 abbrev μ-arm : Measures 4 arm-kinds.ps ℕ
 μ-arm κs a = 8 * a .1 .1 .1 .1 .1 .0 + 5
@@ -153,7 +150,7 @@ row-at t = and 4 row-kinds.ps (is 4 row-kinds.ps μ-row t) row.Pre
 abbrev row-below : ℕ → In 4 row-kinds.ps
 row-below t = and 4 row-kinds.ps (falls 4 row-kinds.ps _<_ μ-row t) row.Pre
 
--- src/lib.rt:273:13  { ⏎ let l = next.link as u16;
+-- src/lib.rt:272:13  { ⏎ let l = next.link as u16;
 arm-cast-l : (t : ℕ) → arm-lts.Need-cast-l (
   copy-of-reads.Asked,
   copy-of-reads.Learnt,
@@ -168,7 +165,7 @@ arm-cast-l : (t : ℕ) → arm-lts.Need-cast-l (
 ) (arm-at t) arm.Post
 arm-cast-l t c = search needs
 
--- src/lib.rt:274:57  let l = next.link as u16; ⏎ store_operator(mem, next.operator, copy_of(from, l, l + 1));
+-- src/lib.rt:273:57  let l = next.link as u16; ⏎ store_operator(mem, next.operator, copy_of(from, l, l + 1));
 arm-add-copy-of : (t : ℕ) → arm-lts.Need-add-copy-of (
   copy-of-reads.Asked,
   copy-of-reads.Learnt,
@@ -183,7 +180,7 @@ arm-add-copy-of : (t : ℕ) → arm-lts.Need-add-copy-of (
 ) (arm-at t) arm.Post
 arm-add-copy-of t c = search needs
 
--- src/lib.rt:274:40  let l = next.link as u16; ⏎ store_operator(mem, next.operator, copy_of(from, l, l + 1));
+-- src/lib.rt:273:40  let l = next.link as u16; ⏎ store_operator(mem, next.operator, copy_of(from, l, l + 1));
 arm-copy-of-requires : (t : ℕ) → arm-lts.Need-copy-of-requires (
   copy-of-reads.Asked,
   copy-of-reads.Learnt,
@@ -198,7 +195,7 @@ arm-copy-of-requires : (t : ℕ) → arm-lts.Need-copy-of-requires (
 ) (arm-at t) arm.Post
 arm-copy-of-requires t c κs = search needs
 
--- src/lib.rt:274:5  let l = next.link as u16; ⏎ store_operator(mem, next.operator, copy_of(from, l, l + 1));
+-- src/lib.rt:273:5  let l = next.link as u16; ⏎ store_operator(mem, next.operator, copy_of(from, l, l + 1));
 arm-store-operator-requires : (t : ℕ) → arm-lts.Need-store-operator-requires (
   copy-of-reads.Asked,
   copy-of-reads.Learnt,
@@ -213,7 +210,7 @@ arm-store-operator-requires : (t : ℕ) → arm-lts.Need-store-operator-requires
 ) (arm-at t) arm.Post
 arm-store-operator-requires t c κs = (c .before .before .before .before .before .before .before .pre .1 .1, search needs)
 
--- src/lib.rt:276:15  let behind = Next { ⏎ link: next.link + 2,
+-- src/lib.rt:275:15  let behind = Next { ⏎ link: next.link + 2,
 arm-add-t20 : (t : ℕ) → arm-lts.Need-add-t20 (
   copy-of-reads.Asked,
   copy-of-reads.Learnt,
@@ -228,7 +225,7 @@ arm-add-t20 : (t : ℕ) → arm-lts.Need-add-t20 (
 ) (arm-at t) arm.Post
 arm-add-t20 t c = search needs
 
--- src/lib.rt:277:19  link: next.link + 2, ⏎ operator: next.operator + 1,
+-- src/lib.rt:276:19  link: next.link + 2, ⏎ operator: next.operator + 1,
 arm-add-t21 : (t : ℕ) → arm-lts.Need-add-t21 (
   copy-of-reads.Asked,
   copy-of-reads.Learnt,
@@ -243,7 +240,7 @@ arm-add-t21 : (t : ℕ) → arm-lts.Need-add-t21 (
 ) (arm-at t) arm.Post
 arm-add-t21 t c = search needs
 
--- src/lib.rt:279:32  }; ⏎ let g = gated(mem, yes, l, mask_at(masks, k), env, behind);
+-- src/lib.rt:278:32  }; ⏎ let g = gated(mem, yes, l, mask_at(masks, k), env, behind);
 arm-mask-at-requires : (t : ℕ) → arm-lts.Need-mask-at-requires (
   copy-of-reads.Asked,
   copy-of-reads.Learnt,
@@ -258,7 +255,7 @@ arm-mask-at-requires : (t : ℕ) → arm-lts.Need-mask-at-requires (
 ) (arm-at t) arm.Post
 arm-mask-at-requires t c κs = (c .before .before .before .before .before .before .before .before .before .before .before .before .before .pre .1 .0 .ready .low, c .before .before .before .before .before .before .before .before .before .before .before .before .before .pre .1 .0 .in-masks)
 
--- src/lib.rt:279:9  }; ⏎ let g = gated(mem, yes, l, mask_at(masks, k), env, behind);
+-- src/lib.rt:278:9  }; ⏎ let g = gated(mem, yes, l, mask_at(masks, k), env, behind);
 arm-gated-requires : (t : ℕ) → arm-lts.Need-gated-requires (
   copy-of-reads.Asked,
   copy-of-reads.Learnt,
@@ -273,7 +270,7 @@ arm-gated-requires : (t : ℕ) → arm-lts.Need-gated-requires (
 ) (arm-at t) arm.Post
 arm-gated-requires t c κs = let h = arm-needs (c .before .before .before .before .before .before .before .before .before .before .before .before .before .before .args .t .now) (c .before .before .before .before .before .before .before .before .before .before .before .before .before .before .args .masks .now) (c .before .before .before .before .before .before .before .before .before .before .before .before .before .before .args .widths .now) (c .before .before .before .before .before .before .before .before .before .before .before .before .before .before .args .place .body) (c .before .before .before .before .before .before .before .before .before .before .before .before .before .before .args .place .returned) (c .before .before .before .before .before .before .before .before .before .before .before .before .before .before .args .k) (c .before .before .before .before .before .before .before .before .before .before .before .before .before .before .pre .1 .0) (c .mask-at .result) (c .before .before .before .before .before .before .before .before .before .before .before .before .before .before .args .next .link + 2) (c .before .before .before .before .before .before .before .before .before .before .before .before .before .before .args .next .operator + 1) _ (c .mask-at .ensures) (c .before .before .before .before .before .before .before .before .before .before .before .before .before .before .pre .1 .3) in (h .0, h .1, h .2, omega (arith, c .before .before .before .before .before .before .before .before .before .before .before .before .before .before .pre .1 .4, c .before .before .before .before .before .mem .given))
 
--- src/lib.rt:281:5  let inner = g.env; ⏎ row(t, masks, widths, place, k, inner, g.next, mem)
+-- src/lib.rt:280:5  let inner = g.env; ⏎ row(t, masks, widths, place, k, inner, g.next, mem)
 arm-row-requires : (t : ℕ) → arm-lts.Need-row-requires (
   copy-of-reads.Asked,
   copy-of-reads.Learnt,
@@ -288,7 +285,7 @@ arm-row-requires : (t : ℕ) → arm-lts.Need-row-requires (
 ) (arm-at t) arm.Post
 arm-row-requires t c κs = (omega (arith, by-place (c .before .before .before .before .before .before .before .before .before .before .before .before .before .before .before .before .before .before .before .args .place .body) .1, c .before .before .before .before .before .before .before .before .before .before .before .before .before .before .before .before .before .before .before .pre .0), (c .before .before .before .before .before .before .before .before .before .before .before .before .before .before .before .before .before .before .before .pre .1 .0 .ready, arm-behind (c .before .before .before .before .before .before .before .before .before .before .before .before .before .before .before .before .before .before .before .args .t .now) (c .before .before .before .before .before .before .before .before .before .before .before .before .before .before .before .before .before .before .before .args .masks .now) (c .before .before .before .before .before .before .before .before .before .before .before .before .before .before .before .before .before .before .before .args .widths .now) (c .before .before .before .before .before .before .before .before .before .before .before .before .before .before .before .before .before .before .before .args .place .body) (c .before .before .before .before .before .before .before .before .before .before .before .before .before .before .before .before .before .before .before .args .place .returned) (c .before .before .before .before .before .before .before .before .before .before .before .before .before .before .before .before .before .before .before .args .k) (c .before .before .before .before .before .before .before .before .before .before .before .before .before .before .before .before .before .before .before .pre .1 .0) (c .before .before .before .before .before .before .before .before .before .before .before .before .before .before .before .before .before .before .before .args .yes) (c .before .before .before .before .before .mask-at .result) (c .before .before .before .before .before .before .before .before .before .before .before .before .before .before .before .before .before .before .before .args .next .link) (c .before .before .before .before .before .before .before .before .before .before .before .before .before .before .before .before .before .before .before .args .next .link + 2) (c .before .before .before .before .before .before .before .before .before .before .before .before .before .before .before .before .before .before .before .args .next .operator + 1) _ _ _ _ _ _ _ (c .before .before .before .before .before .mask-at .ensures) (c .before .before .before .before .gated .ensures) (c .before .before .before .before .before .before .before .before .before .before .before .before .before .before .before .before .before .before .before .pre .1 .3), omega (arith, c .before .before .before .before .before .before .before .before .before .before .before .before .before .before .before .before .before .before .before .pre .1 .4, c .before .before .before .before .before .before .before .before .before .before .mem .given, c .before .before .before .mem2 .given)))
 
--- src/lib.rt:258:1  // copy's first output is the gates' control. ⏎ fn arm(
+-- src/lib.rt:257:1  // copy's first output is the gates' control. ⏎ fn arm(
 arm-same-length : (t : ℕ) → arm-lts.Need-same-length (
   copy-of-reads.Asked,
   copy-of-reads.Learnt,
@@ -303,7 +300,7 @@ arm-same-length : (t : ℕ) → arm-lts.Need-same-length (
 ) (arm-at t) arm.Post
 arm-same-length t c = c .before .mem3 .given ∙ c .before .before .before .before .before .before .mem2 .given ∙ c .before .before .before .before .before .before .before .before .before .before .before .before .before .mem .given
 
--- src/lib.rt:258:1  // copy's first output is the gates' control. ⏎ fn arm(
+-- src/lib.rt:257:1  // copy's first output is the gates' control. ⏎ fn arm(
 arm-returns : (t : ℕ) → arm-lts.Need-returns (
   copy-of-reads.Asked,
   copy-of-reads.Learnt,
@@ -322,8 +319,8 @@ arm-returns t c = record { middle = c .before .before .before .before .before .b
 ended-fork-requires : (t : ℕ) → ended-lts.Need-fork-requires (
   fork-reads.Asked,
   fork-reads.Learnt,
-  constant-reads.Asked,
-  constant-reads.Learnt,
+  constant-reads′.Asked,
+  constant-reads′.Learnt,
   row-below t,
   row.Post,
   join-reads.Asked,
@@ -337,8 +334,8 @@ ended-fork-requires t c κs = (split-mask _ _ _ _ _ _ (end-split (c .before .bef
 ended-constant-requires : (t : ℕ) → ended-lts.Need-constant-requires (
   fork-reads.Asked,
   fork-reads.Learnt,
-  constant-reads.Asked,
-  constant-reads.Learnt,
+  constant-reads′.Asked,
+  constant-reads′.Learnt,
   row-below t,
   row.Post,
   join-reads.Asked,
@@ -346,14 +343,14 @@ ended-constant-requires : (t : ℕ) → ended-lts.Need-constant-requires (
   again-reads.Asked,
   again-reads.Learnt,
 ) (ended-at t) ended.Post
-ended-constant-requires t c κs = (constant-room (c .before .before .before .before .before .before .before .before .before .before .before .args .t .now) (c .before .before .before .before .before .before .before .before .before .before .before .args .masks .now) (c .before .before .before .before .before .before .before .before .before .before .before .args .widths .now) (c .before .before .before .before .before .before .before .before .before .before .before .args .iter) _ _ (split-first _ _ _ _ _ _ (end-split (c .before .before .before .before .before .before .before .before .before .before .before .args .t .now) (c .before .before .before .before .before .before .before .before .before .before .before .args .masks .now) (c .before .before .before .before .before .before .before .before .before .before .before .args .widths .now) (c .before .before .before .before .before .before .before .before .before .before .before .args .iter) (c .before .before .before .before .before .before .before .before .before .before .before .args .k) (c .before .before .before .before .before .before .before .before .before .before .before .pre .1 .0) (c .before .before .before .before .before .before .before .before .before .before .before .args .free) (c .before .before .before .before .before .before .before .before .before .before .before .pre .1 .1) (c .before .before .before .before .before .before .before .before .before .before .before .args .next .link) (c .before .before .before .before .before .before .before .before .before .before .before .args .next .operator) (c .before .before .before .before .before .before .before .before .before .before .before .pre .1 .2)) _ _ _ _ _ _ _ (c .before .before .before .before .before .fork .ensures)), omega (arith, c .before .before .before .before .before .before .before .before .before .before .before .pre .1 .3, c .before .before .before .before .mem .given))
+ended-constant-requires t c κs = (end-constant-room (c .before .before .before .before .before .before .before .before .before .before .before .args .t .now) (c .before .before .before .before .before .before .before .before .before .before .before .args .masks .now) (c .before .before .before .before .before .before .before .before .before .before .before .args .widths .now) (c .before .before .before .before .before .before .before .before .before .before .before .args .iter) _ _ (split-first _ _ _ _ _ _ (end-split (c .before .before .before .before .before .before .before .before .before .before .before .args .t .now) (c .before .before .before .before .before .before .before .before .before .before .before .args .masks .now) (c .before .before .before .before .before .before .before .before .before .before .before .args .widths .now) (c .before .before .before .before .before .before .before .before .before .before .before .args .iter) (c .before .before .before .before .before .before .before .before .before .before .before .args .k) (c .before .before .before .before .before .before .before .before .before .before .before .pre .1 .0) (c .before .before .before .before .before .before .before .before .before .before .before .args .free) (c .before .before .before .before .before .before .before .before .before .before .before .pre .1 .1) (c .before .before .before .before .before .before .before .before .before .before .before .args .next .link) (c .before .before .before .before .before .before .before .before .before .before .before .args .next .operator) (c .before .before .before .before .before .before .before .before .before .before .before .pre .1 .2)) _ _ _ _ _ _ _ (c .before .before .before .before .before .fork .ensures)), omega (arith, c .before .before .before .before .before .before .before .before .before .before .before .pre .1 .3, c .before .before .before .before .mem .given))
 
 -- src/lib.rt:139:9  let c = constant(mem, Value::Truth(iter), first, f.next); ⏎ let x = row(t, masks, widths, EXPRESSION, k, second, c.next, mem);
 ended-row-requires : (t : ℕ) → ended-lts.Need-row-requires (
   fork-reads.Asked,
   fork-reads.Learnt,
-  constant-reads.Asked,
-  constant-reads.Learnt,
+  constant-reads′.Asked,
+  constant-reads′.Learnt,
   row-below t,
   row.Post,
   join-reads.Asked,
@@ -367,8 +364,8 @@ ended-row-requires t c κs = (omega (arith, c .before .before .before .before .b
 ended-join-requires : (t : ℕ) → ended-lts.Need-join-requires (
   fork-reads.Asked,
   fork-reads.Learnt,
-  constant-reads.Asked,
-  constant-reads.Learnt,
+  constant-reads′.Asked,
+  constant-reads′.Learnt,
   row-below t,
   row.Post,
   join-reads.Asked,
@@ -382,8 +379,8 @@ ended-join-requires t c κs = omega (arith, few-results (c .before .before .befo
 ended-add-t28 : (t : ℕ) → ended-lts.Need-add-t28 (
   fork-reads.Asked,
   fork-reads.Learnt,
-  constant-reads.Asked,
-  constant-reads.Learnt,
+  constant-reads′.Asked,
+  constant-reads′.Learnt,
   row-below t,
   row.Post,
   join-reads.Asked,
@@ -397,8 +394,8 @@ ended-add-t28 t c = omega (arith, few-results (c .before .before .before .before
 ended-again-requires : (t : ℕ) → ended-lts.Need-again-requires (
   fork-reads.Asked,
   fork-reads.Learnt,
-  constant-reads.Asked,
-  constant-reads.Learnt,
+  constant-reads′.Asked,
+  constant-reads′.Learnt,
   row-below t,
   row.Post,
   join-reads.Asked,
@@ -412,8 +409,8 @@ ended-again-requires t c κs = search needs
 ended-same-length : (t : ℕ) → ended-lts.Need-same-length (
   fork-reads.Asked,
   fork-reads.Learnt,
-  constant-reads.Asked,
-  constant-reads.Learnt,
+  constant-reads′.Asked,
+  constant-reads′.Learnt,
   row-below t,
   row.Post,
   join-reads.Asked,
@@ -427,8 +424,8 @@ ended-same-length t c = c .before .before .before .before .before .before .befor
 ended-returns : (t : ℕ) → ended-lts.Need-returns (
   fork-reads.Asked,
   fork-reads.Learnt,
-  constant-reads.Asked,
-  constant-reads.Learnt,
+  constant-reads′.Asked,
+  constant-reads′.Learnt,
   row-below t,
   row.Post,
   join-reads.Asked,
@@ -438,7 +435,7 @@ ended-returns : (t : ℕ) → ended-lts.Need-returns (
 ) (ended-at t) ended.Post
 ended-returns t c = end-part (c .before .before .before .before .before .before .before .before .before .before .before .before .before .before .before .before .before .before .before .before .before .before .before .before .args .t .now) (c .before .before .before .before .before .before .before .before .before .before .before .before .before .before .before .before .before .before .before .before .before .before .before .before .args .masks .now) (c .before .before .before .before .before .before .before .before .before .before .before .before .before .before .before .before .before .before .before .before .before .before .before .before .args .widths .now) (c .before .before .before .before .before .before .before .before .before .before .before .before .before .before .before .before .before .before .before .before .before .before .before .before .args .iter) (c .before .before .before .before .before .before .before .before .before .before .before .before .before .before .before .before .before .before .before .before .before .before .before .before .args .k) (c .before .before .before .before .before .before .before .before .before .before .before .before .before .before .before .before .before .before .before .before .before .before .before .before .pre .1 .0) (c .before .before .before .before .before .before .before .before .before .before .before .before .before .before .before .before .before .before .before .before .before .before .before .before .args .free) (c .before .before .before .before .before .before .before .before .before .before .before .before .before .before .before .before .before .before .before .before .before .before .before .before .pre .1 .1) (c .before .before .before .before .before .before .before .before .before .before .before .before .before .before .before .before .before .before .before .before .before .before .before .before .args .next .link) (c .before .before .before .before .before .before .before .before .before .before .before .before .before .before .before .before .before .before .before .before .before .before .before .before .args .next .operator) _ _ _ _ _ _ _ _ _ _ _ (c .before .before .before .before .before .before .before .before .before .before .before .before .constant .result) (c .before .before .before .before .before .before .before .before .row .result) (search (needs, c .before .before .before .before .before .before .before .before .before .before .before .before .before .before .before .before .before .before .before .before .before .before .before .before .good .1 .1 .1 .1 .1 .1 .0)) (c .before .before .before .before .before .before .before .before .before .before .before .before .before .before .before .before .before .before .before .before .before .before .before .before .pre .1 .2) (c .before .before .before .before .before .before .before .before .before .before .before .before .before .before .before .before .before .before .fork .ensures) (c .before .before .before .before .before .before .before .before .before .before .before .before .constant .ensures) (c .before .before .before .before .before .before .before .before .row .ensures) (c .before .before .before .join .ensures) (c .again .ensures)
 
--- src/lib.rt:362:9  { ⏎ let names = mask_at(masks, binding.inner);
+-- src/lib.rt:333:9  { ⏎ let names = mask_at(masks, binding.inner);
 fors-mask-at-requires : (t : ℕ) → fors-lts.Need-mask-at-requires (
   mask-at-reads.Asked,
   mask-at-reads.Learnt,
@@ -459,7 +456,7 @@ fors-mask-at-requires : (t : ℕ) → fors-lts.Need-mask-at-requires (
 ) (fors-at t) fors.Post
 fors-mask-at-requires t c κs = ((body-read (c .before .before .before .before .args .t .now) (c .before .before .before .before .args .masks .now) (c .before .before .before .before .args .widths .now) (c .before .before .before .before .args .r) (c .before .before .before .before .args .binding .first) (c .before .before .before .before .args .binding .count) (c .before .before .before .before .args .binding .value) (c .before .before .before .before .args .binding .inner) (c .before .before .before .before .pre .1 .0) (c .before .before .before .before .pre .1 .1)) .ready .low, (body-read (c .before .before .before .before .args .t .now) (c .before .before .before .before .args .masks .now) (c .before .before .before .before .args .widths .now) (c .before .before .before .before .args .r) (c .before .before .before .before .args .binding .first) (c .before .before .before .before .args .binding .count) (c .before .before .before .before .args .binding .value) (c .before .before .before .before .args .binding .inner) (c .before .before .before .before .pre .1 .0) (c .before .before .before .before .pre .1 .1)) .in-masks)
 
--- src/lib.rt:363:9  let names = mask_at(masks, binding.inner); ⏎ let k = names_in(names);
+-- src/lib.rt:334:9  let names = mask_at(masks, binding.inner); ⏎ let k = names_in(names);
 fors-names-in-requires : (t : ℕ) → fors-lts.Need-names-in-requires (
   mask-at-reads.Asked,
   mask-at-reads.Learnt,
@@ -480,7 +477,7 @@ fors-names-in-requires : (t : ℕ) → fors-lts.Need-names-in-requires (
 ) (fors-at t) fors.Post
 fors-names-in-requires t c κs = subst Mask (sym (c .mask-at .ensures)) (child-mask (c .before .before .before .before .before .args .t .now) (c .before .before .before .before .before .args .masks .now) (c .before .before .before .before .before .args .widths .now) true _ (c .before .before .before .before .before .args .r) (c .before .before .before .before .before .args .binding .inner) (body-read (c .before .before .before .before .before .args .t .now) (c .before .before .before .before .before .args .masks .now) (c .before .before .before .before .before .args .widths .now) (c .before .before .before .before .before .args .r) (c .before .before .before .before .before .args .binding .first) (c .before .before .before .before .before .args .binding .count) (c .before .before .before .before .before .args .binding .value) (c .before .before .before .before .before .args .binding .inner) (c .before .before .before .before .before .pre .1 .0) (c .before .before .before .before .before .pre .1 .1)))
 
--- src/lib.rt:364:9  let k = names_in(names); ⏎ let outer = outside(names, binding.first, binding.count);
+-- src/lib.rt:335:9  let k = names_in(names); ⏎ let outer = outside(names, binding.first, binding.count);
 fors-outside-requires : (t : ℕ) → fors-lts.Need-outside-requires (
   mask-at-reads.Asked,
   mask-at-reads.Learnt,
@@ -501,7 +498,7 @@ fors-outside-requires : (t : ℕ) → fors-lts.Need-outside-requires (
 ) (fors-at t) fors.Post
 fors-outside-requires t c κs = for-low (c .before .before .before .before .before .before .args .t .now) (c .before .before .before .before .before .before .args .masks .now) (c .before .before .before .before .before .before .args .widths .now) (c .before .before .before .before .before .before .args .r) (c .before .before .before .before .before .before .args .binding .first) (c .before .before .before .before .before .before .args .binding .count) (c .before .before .before .before .before .before .args .binding .value) (c .before .before .before .before .before .before .args .binding .inner) (c .before .before .before .before .before .before .pre .1 .0) (c .before .before .before .before .before .before .pre .1 .1)
 
--- src/lib.rt:365:23  let outer = outside(names, binding.first, binding.count); ⏎ let f = fork(mem, mask_at(masks, binding.value) & outer, env, next);
+-- src/lib.rt:336:23  let outer = outside(names, binding.first, binding.count); ⏎ let f = fork(mem, mask_at(masks, binding.value) & outer, env, next);
 fors-mask-at-requires-2 : (t : ℕ) → fors-lts.Need-mask-at-requires-2 (
   mask-at-reads.Asked,
   mask-at-reads.Learnt,
@@ -522,7 +519,7 @@ fors-mask-at-requires-2 : (t : ℕ) → fors-lts.Need-mask-at-requires-2 (
 ) (fors-at t) fors.Post
 fors-mask-at-requires-2 t c κs = (for-first (c .before .before .before .before .before .before .before .before .args .t .now) (c .before .before .before .before .before .before .before .before .args .masks .now) (c .before .before .before .before .before .before .before .before .args .widths .now) (c .before .before .before .before .before .before .before .before .args .r) (c .before .before .before .before .before .before .before .before .args .binding .first) (c .before .before .before .before .before .before .before .before .args .binding .count) (c .before .before .before .before .before .before .before .before .args .binding .value) (c .before .before .before .before .before .before .before .before .args .binding .inner) (c .before .before .before .before .before .before .before .before .pre .1 .0) (c .before .before .before .before .before .before .before .before .pre .1 .1) .ready .low, for-first (c .before .before .before .before .before .before .before .before .args .t .now) (c .before .before .before .before .before .before .before .before .args .masks .now) (c .before .before .before .before .before .before .before .before .args .widths .now) (c .before .before .before .before .before .before .before .before .args .r) (c .before .before .before .before .before .before .before .before .args .binding .first) (c .before .before .before .before .before .before .before .before .args .binding .count) (c .before .before .before .before .before .before .before .before .args .binding .value) (c .before .before .before .before .before .before .before .before .args .binding .inner) (c .before .before .before .before .before .before .before .before .pre .1 .0) (c .before .before .before .before .before .before .before .before .pre .1 .1) .in-masks)
 
--- src/lib.rt:365:9  let outer = outside(names, binding.first, binding.count); ⏎ let f = fork(mem, mask_at(masks, binding.value) & outer, env, next);
+-- src/lib.rt:336:9  let outer = outside(names, binding.first, binding.count); ⏎ let f = fork(mem, mask_at(masks, binding.value) & outer, env, next);
 fors-fork-requires : (t : ℕ) → fors-lts.Need-fork-requires (
   mask-at-reads.Asked,
   mask-at-reads.Learnt,
@@ -543,7 +540,7 @@ fors-fork-requires : (t : ℕ) → fors-lts.Need-fork-requires (
 ) (fors-at t) fors.Post
 fors-fork-requires t c κs = let h = split-needs _ _ _ _ _ _ (for-split (c .before .before .before .before .before .before .before .before .before .args .t .now) (c .before .before .before .before .before .before .before .before .before .args .masks .now) (c .before .before .before .before .before .before .before .before .before .args .widths .now) (c .before .before .before .before .before .before .before .before .before .args .r) (c .before .before .before .before .before .before .before .before .before .args .binding .first) (c .before .before .before .before .before .before .before .before .before .args .binding .count) (c .before .before .before .before .before .before .before .before .before .args .binding .value) (c .before .before .before .before .before .before .before .before .before .args .binding .inner) (c .before .before .before .before .before .before .before .before .before .pre .1 .0) (c .before .before .before .before .before .before .before .before .before .pre .1 .1) (c .before .before .before .before .before .before .before .before .before .args .next .link) (c .before .before .before .before .before .before .before .before .before .args .next .operator) (c .before .before .before .before .before .before .before .before .before .pre .1 .2)) _ (ap₂ bitAnd (c .mask-at2 .ensures) (c .before .before .outside .ensures ∙ ap (λ (z : ℕ). outside z (c .before .before .before .before .before .before .before .before .before .args .binding .first) (c .before .before .before .before .before .before .before .before .before .args .binding .count)) (c .before .before .before .before .mask-at .ensures))) in (h .0, h .1, search needs)
 
--- src/lib.rt:368:9  let second = f.second; ⏎ let x = row(
+-- src/lib.rt:339:9  let second = f.second; ⏎ let x = row(
 fors-row-requires : (t : ℕ) → fors-lts.Need-row-requires (
   mask-at-reads.Asked,
   mask-at-reads.Learnt,
@@ -564,7 +561,7 @@ fors-row-requires : (t : ℕ) → fors-lts.Need-row-requires (
 ) (fors-at t) fors.Post
 fors-row-requires t c κs = (omega (arith, for-first (c .before .before .before .before .before .before .before .before .before .before .before .before .before .before .before .args .t .now) (c .before .before .before .before .before .before .before .before .before .before .before .before .before .before .before .args .masks .now) (c .before .before .before .before .before .before .before .before .before .before .before .before .before .before .before .args .widths .now) (c .before .before .before .before .before .before .before .before .before .before .before .before .before .before .before .args .r) (c .before .before .before .before .before .before .before .before .before .before .before .before .before .before .before .args .binding .first) (c .before .before .before .before .before .before .before .before .before .before .before .before .before .before .before .args .binding .count) (c .before .before .before .before .before .before .before .before .before .before .before .before .before .before .before .args .binding .value) (c .before .before .before .before .before .before .before .before .before .before .before .before .before .before .before .args .binding .inner) (c .before .before .before .before .before .before .before .before .before .before .before .before .before .before .before .pre .1 .0) (c .before .before .before .before .before .before .before .before .before .before .before .before .before .before .before .pre .1 .1) .less, c .before .before .before .before .before .before .before .before .before .before .before .before .before .before .before .pre .0), (for-first (c .before .before .before .before .before .before .before .before .before .before .before .before .before .before .before .args .t .now) (c .before .before .before .before .before .before .before .before .before .before .before .before .before .before .before .args .masks .now) (c .before .before .before .before .before .before .before .before .before .before .before .before .before .before .before .args .widths .now) (c .before .before .before .before .before .before .before .before .before .before .before .before .before .before .before .args .r) (c .before .before .before .before .before .before .before .before .before .before .before .before .before .before .before .args .binding .first) (c .before .before .before .before .before .before .before .before .before .before .before .before .before .before .before .args .binding .count) (c .before .before .before .before .before .before .before .before .before .before .before .before .before .before .before .args .binding .value) (c .before .before .before .before .before .before .before .before .before .before .before .before .before .before .before .args .binding .inner) (c .before .before .before .before .before .before .before .before .before .before .before .before .before .before .before .pre .1 .0) (c .before .before .before .before .before .before .before .before .before .before .before .before .before .before .before .pre .1 .1) .ready, split-first _ _ _ _ _ _ (for-split (c .before .before .before .before .before .before .before .before .before .before .before .before .before .before .before .args .t .now) (c .before .before .before .before .before .before .before .before .before .before .before .before .before .before .before .args .masks .now) (c .before .before .before .before .before .before .before .before .before .before .before .before .before .before .before .args .widths .now) (c .before .before .before .before .before .before .before .before .before .before .before .before .before .before .before .args .r) (c .before .before .before .before .before .before .before .before .before .before .before .before .before .before .before .args .binding .first) (c .before .before .before .before .before .before .before .before .before .before .before .before .before .before .before .args .binding .count) (c .before .before .before .before .before .before .before .before .before .before .before .before .before .before .before .args .binding .value) (c .before .before .before .before .before .before .before .before .before .before .before .before .before .before .before .args .binding .inner) (c .before .before .before .before .before .before .before .before .before .before .before .before .before .before .before .pre .1 .0) (c .before .before .before .before .before .before .before .before .before .before .before .before .before .before .before .pre .1 .1) (c .before .before .before .before .before .before .before .before .before .before .before .before .before .before .before .args .next .link) (c .before .before .before .before .before .before .before .before .before .before .before .before .before .before .before .args .next .operator) (c .before .before .before .before .before .before .before .before .before .before .before .before .before .before .before .pre .1 .2)) _ _ _ _ _ _ _ (fork-same _ _ _ _ _ _ _ _ _ _ _ (ap₂ bitAnd (c .before .before .before .before .before .before .mask-at2 .ensures) (c .before .before .before .before .before .before .before .before .outside .ensures ∙ ap (λ (z : ℕ). outside z (c .before .before .before .before .before .before .before .before .before .before .before .before .before .before .before .args .binding .first) (c .before .before .before .before .before .before .before .before .before .before .before .before .before .before .before .args .binding .count)) (c .before .before .before .before .before .before .before .before .before .before .mask-at .ensures))) (c .before .before .before .before .before .fork .ensures)), omega (arith, c .before .before .before .before .before .before .before .before .before .before .before .before .before .before .before .pre .1 .3, c .before .before .before .before .mem .given)))
 
--- src/lib.rt:378:9  ); ⏎ let inner = numbered(names, x.next.link);
+-- src/lib.rt:349:9  ); ⏎ let inner = numbered(names, x.next.link);
 fors-numbered-requires : (t : ℕ) → fors-lts.Need-numbered-requires (
   mask-at-reads.Asked,
   mask-at-reads.Learnt,
@@ -585,7 +582,7 @@ fors-numbered-requires : (t : ℕ) → fors-lts.Need-numbered-requires (
 ) (fors-at t) fors.Post
 fors-numbered-requires t c κs = omega (arith, room-start (c .before .before .before .before .before .before .before .before .before .before .before .before .before .before .before .before .before .before .args .t .now) (c .before .before .before .before .before .before .before .before .before .before .before .before .before .before .before .before .before .before .args .masks .now) (c .before .before .before .before .before .before .before .before .before .before .before .before .before .before .before .before .before .before .args .widths .now) (c .before .before .before .before .before .before .before .before .before .before .before .before .before .before .before .before .before .before .args .r) (c .before .before .before .before .before .before .before .before .before .before .before .before .before .before .before .before .before .before .args .binding .first) (c .before .before .before .before .before .before .before .before .before .before .before .before .before .before .before .before .before .before .args .binding .count) (c .before .before .before .before .before .before .before .before .before .before .before .before .before .before .before .before .before .before .args .binding .value) (c .before .before .before .before .before .before .before .before .before .before .before .before .before .before .before .before .before .before .args .binding .inner) (c .before .before .before .before .before .before .before .before .before .before .before .before .before .before .before .before .before .before .pre .1 .0) (c .before .before .before .before .before .before .before .before .before .before .before .before .before .before .before .before .before .before .pre .1 .1) _ _ (split-second _ _ _ _ _ _ (for-split (c .before .before .before .before .before .before .before .before .before .before .before .before .before .before .before .before .before .before .args .t .now) (c .before .before .before .before .before .before .before .before .before .before .before .before .before .before .before .before .before .before .args .masks .now) (c .before .before .before .before .before .before .before .before .before .before .before .before .before .before .before .before .before .before .args .widths .now) (c .before .before .before .before .before .before .before .before .before .before .before .before .before .before .before .before .before .before .args .r) (c .before .before .before .before .before .before .before .before .before .before .before .before .before .before .before .before .before .before .args .binding .first) (c .before .before .before .before .before .before .before .before .before .before .before .before .before .before .before .before .before .before .args .binding .count) (c .before .before .before .before .before .before .before .before .before .before .before .before .before .before .before .before .before .before .args .binding .value) (c .before .before .before .before .before .before .before .before .before .before .before .before .before .before .before .before .before .before .args .binding .inner) (c .before .before .before .before .before .before .before .before .before .before .before .before .before .before .before .before .before .before .pre .1 .0) (c .before .before .before .before .before .before .before .before .before .before .before .before .before .before .before .before .before .before .pre .1 .1) (c .before .before .before .before .before .before .before .before .before .before .before .before .before .before .before .before .before .before .args .next .link) (c .before .before .before .before .before .before .before .before .before .before .before .before .before .before .before .before .before .before .args .next .operator) (c .before .before .before .before .before .before .before .before .before .before .before .before .before .before .before .before .before .before .pre .1 .2)) _ _ _ _ _ _ _ _ (c .before .before .row .result) (fork-same _ _ _ _ _ _ _ _ _ _ _ (ap₂ bitAnd (c .before .before .before .before .before .before .before .before .before .mask-at2 .ensures) (c .before .before .before .before .before .before .before .before .before .before .before .outside .ensures ∙ ap (λ (z : ℕ). outside z (c .before .before .before .before .before .before .before .before .before .before .before .before .before .before .before .before .before .before .args .binding .first) (c .before .before .before .before .before .before .before .before .before .before .before .before .before .before .before .before .before .before .args .binding .count)) (c .before .before .before .before .before .before .before .before .before .before .before .before .before .mask-at .ensures))) (c .before .before .before .before .before .before .before .before .fork .ensures)) (c .before .before .row .ensures .done)))
 
--- src/lib.rt:381:19  body: true, ⏎ returned: width_at(widths, binding.inner),
+-- src/lib.rt:352:19  body: true, ⏎ returned: width_at(widths, binding.inner),
 fors-width-at-requires : (t : ℕ) → fors-lts.Need-width-at-requires (
   mask-at-reads.Asked,
   mask-at-reads.Learnt,
@@ -606,7 +603,7 @@ fors-width-at-requires : (t : ℕ) → fors-lts.Need-width-at-requires (
 ) (fors-at t) fors.Post
 fors-width-at-requires t c κs = ((body-read (c .before .before .before .before .before .before .before .before .before .before .before .before .before .before .before .before .before .before .before .args .t .now) (c .before .before .before .before .before .before .before .before .before .before .before .before .before .before .before .before .before .before .before .args .masks .now) (c .before .before .before .before .before .before .before .before .before .before .before .before .before .before .before .before .before .before .before .args .widths .now) (c .before .before .before .before .before .before .before .before .before .before .before .before .before .before .before .before .before .before .before .args .r) (c .before .before .before .before .before .before .before .before .before .before .before .before .before .before .before .before .before .before .before .args .binding .first) (c .before .before .before .before .before .before .before .before .before .before .before .before .before .before .before .before .before .before .before .args .binding .count) (c .before .before .before .before .before .before .before .before .before .before .before .before .before .before .before .before .before .before .before .args .binding .value) (c .before .before .before .before .before .before .before .before .before .before .before .before .before .before .before .before .before .before .before .args .binding .inner) (c .before .before .before .before .before .before .before .before .before .before .before .before .before .before .before .before .before .before .before .pre .1 .0) (c .before .before .before .before .before .before .before .before .before .before .before .before .before .before .before .before .before .before .before .pre .1 .1)) .ready .low, (body-read (c .before .before .before .before .before .before .before .before .before .before .before .before .before .before .before .before .before .before .before .args .t .now) (c .before .before .before .before .before .before .before .before .before .before .before .before .before .before .before .before .before .before .before .args .masks .now) (c .before .before .before .before .before .before .before .before .before .before .before .before .before .before .before .before .before .before .before .args .widths .now) (c .before .before .before .before .before .before .before .before .before .before .before .before .before .before .before .before .before .before .before .args .r) (c .before .before .before .before .before .before .before .before .before .before .before .before .before .before .before .before .before .before .before .args .binding .first) (c .before .before .before .before .before .before .before .before .before .before .before .before .before .before .before .before .before .before .before .args .binding .count) (c .before .before .before .before .before .before .before .before .before .before .before .before .before .before .before .before .before .before .before .args .binding .value) (c .before .before .before .before .before .before .before .before .before .before .before .before .before .before .before .before .before .before .before .args .binding .inner) (c .before .before .before .before .before .before .before .before .before .before .before .before .before .before .before .before .before .before .before .pre .1 .0) (c .before .before .before .before .before .before .before .before .before .before .before .before .before .before .before .before .before .before .before .pre .1 .1)) .in-widths)
 
--- src/lib.rt:384:15  let behind = Next { ⏎ link: x.next.link + k,
+-- src/lib.rt:355:15  let behind = Next { ⏎ link: x.next.link + k,
 fors-add-t27 : (t : ℕ) → fors-lts.Need-add-t27 (
   mask-at-reads.Asked,
   mask-at-reads.Learnt,
@@ -627,7 +624,7 @@ fors-add-t27 : (t : ℕ) → fors-lts.Need-add-t27 (
 ) (fors-at t) fors.Post
 fors-add-t27 t c = omega (arith, c .before .before .before .before .before .before .before .before .before .before .before .before .before .before .before .names-in .ensures .1, room-start (c .before .before .before .before .before .before .before .before .before .before .before .before .before .before .before .before .before .before .before .before .before .args .t .now) (c .before .before .before .before .before .before .before .before .before .before .before .before .before .before .before .before .before .before .before .before .before .args .masks .now) (c .before .before .before .before .before .before .before .before .before .before .before .before .before .before .before .before .before .before .before .before .before .args .widths .now) (c .before .before .before .before .before .before .before .before .before .before .before .before .before .before .before .before .before .before .before .before .before .args .r) (c .before .before .before .before .before .before .before .before .before .before .before .before .before .before .before .before .before .before .before .before .before .args .binding .first) (c .before .before .before .before .before .before .before .before .before .before .before .before .before .before .before .before .before .before .before .before .before .args .binding .count) (c .before .before .before .before .before .before .before .before .before .before .before .before .before .before .before .before .before .before .before .before .before .args .binding .value) (c .before .before .before .before .before .before .before .before .before .before .before .before .before .before .before .before .before .before .before .before .before .args .binding .inner) (c .before .before .before .before .before .before .before .before .before .before .before .before .before .before .before .before .before .before .before .before .before .pre .1 .0) (c .before .before .before .before .before .before .before .before .before .before .before .before .before .before .before .before .before .before .before .before .before .pre .1 .1) _ _ (split-second _ _ _ _ _ _ (for-split (c .before .before .before .before .before .before .before .before .before .before .before .before .before .before .before .before .before .before .before .before .before .args .t .now) (c .before .before .before .before .before .before .before .before .before .before .before .before .before .before .before .before .before .before .before .before .before .args .masks .now) (c .before .before .before .before .before .before .before .before .before .before .before .before .before .before .before .before .before .before .before .before .before .args .widths .now) (c .before .before .before .before .before .before .before .before .before .before .before .before .before .before .before .before .before .before .before .before .before .args .r) (c .before .before .before .before .before .before .before .before .before .before .before .before .before .before .before .before .before .before .before .before .before .args .binding .first) (c .before .before .before .before .before .before .before .before .before .before .before .before .before .before .before .before .before .before .before .before .before .args .binding .count) (c .before .before .before .before .before .before .before .before .before .before .before .before .before .before .before .before .before .before .before .before .before .args .binding .value) (c .before .before .before .before .before .before .before .before .before .before .before .before .before .before .before .before .before .before .before .before .before .args .binding .inner) (c .before .before .before .before .before .before .before .before .before .before .before .before .before .before .before .before .before .before .before .before .before .pre .1 .0) (c .before .before .before .before .before .before .before .before .before .before .before .before .before .before .before .before .before .before .before .before .before .pre .1 .1) (c .before .before .before .before .before .before .before .before .before .before .before .before .before .before .before .before .before .before .before .before .before .args .next .link) (c .before .before .before .before .before .before .before .before .before .before .before .before .before .before .before .before .before .before .before .before .before .args .next .operator) (c .before .before .before .before .before .before .before .before .before .before .before .before .before .before .before .before .before .before .before .before .before .pre .1 .2)) _ _ _ _ _ _ _ _ (c .before .before .before .before .before .row .result) (fork-same _ _ _ _ _ _ _ _ _ _ _ (ap₂ bitAnd (c .before .before .before .before .before .before .before .before .before .before .before .before .mask-at2 .ensures) (c .before .before .before .before .before .before .before .before .before .before .before .before .before .before .outside .ensures ∙ ap (λ (z : ℕ). outside z (c .before .before .before .before .before .before .before .before .before .before .before .before .before .before .before .before .before .before .before .before .before .args .binding .first) (c .before .before .before .before .before .before .before .before .before .before .before .before .before .before .before .before .before .before .before .before .before .args .binding .count)) (c .before .before .before .before .before .before .before .before .before .before .before .before .before .before .before .before .mask-at .ensures))) (c .before .before .before .before .before .before .before .before .before .before .before .fork .ensures)) (c .before .before .before .before .before .row .ensures .done)))
 
--- src/lib.rt:387:9  }; ⏎ let y = row(t, masks, widths, place, binding.inner, inner, behind, mem);
+-- src/lib.rt:358:9  }; ⏎ let y = row(t, masks, widths, place, binding.inner, inner, behind, mem);
 fors-row-requires-2 : (t : ℕ) → fors-lts.Need-row-requires-2 (
   mask-at-reads.Asked,
   mask-at-reads.Learnt,
@@ -648,7 +645,7 @@ fors-row-requires-2 : (t : ℕ) → fors-lts.Need-row-requires-2 (
 ) (fors-at t) fors.Post
 fors-row-requires-2 t c κs = (omega (arith, (body-read (c .before .before .before .before .before .before .before .before .before .before .before .before .before .before .before .before .before .before .before .before .before .before .args .t .now) (c .before .before .before .before .before .before .before .before .before .before .before .before .before .before .before .before .before .before .before .before .before .before .args .masks .now) (c .before .before .before .before .before .before .before .before .before .before .before .before .before .before .before .before .before .before .before .before .before .before .args .widths .now) (c .before .before .before .before .before .before .before .before .before .before .before .before .before .before .before .before .before .before .before .before .before .before .args .r) (c .before .before .before .before .before .before .before .before .before .before .before .before .before .before .before .before .before .before .before .before .before .before .args .binding .first) (c .before .before .before .before .before .before .before .before .before .before .before .before .before .before .before .before .before .before .before .before .before .before .args .binding .count) (c .before .before .before .before .before .before .before .before .before .before .before .before .before .before .before .before .before .before .before .before .before .before .args .binding .value) (c .before .before .before .before .before .before .before .before .before .before .before .before .before .before .before .before .before .before .before .before .before .before .args .binding .inner) (c .before .before .before .before .before .before .before .before .before .before .before .before .before .before .before .before .before .before .before .before .before .before .pre .1 .0) (c .before .before .before .before .before .before .before .before .before .before .before .before .before .before .before .before .before .before .before .before .before .before .pre .1 .1)) .less, c .before .before .before .before .before .before .before .before .before .before .before .before .before .before .before .before .before .before .before .before .before .before .pre .0), ((for-second (c .before .before .before .before .before .before .before .before .before .before .before .before .before .before .before .before .before .before .before .before .before .before .args .t .now) (c .before .before .before .before .before .before .before .before .before .before .before .before .before .before .before .before .before .before .before .before .before .before .args .masks .now) (c .before .before .before .before .before .before .before .before .before .before .before .before .before .before .before .before .before .before .before .before .before .before .args .widths .now) (c .before .before .before .before .before .before .before .before .before .before .before .before .before .before .before .before .before .before .before .before .before .before .args .r) (c .before .before .before .before .before .before .before .before .before .before .before .before .before .before .before .before .before .before .before .before .before .before .args .binding .first) (c .before .before .before .before .before .before .before .before .before .before .before .before .before .before .before .before .before .before .before .before .before .before .args .binding .count) (c .before .before .before .before .before .before .before .before .before .before .before .before .before .before .before .before .before .before .before .before .before .before .args .binding .value) (c .before .before .before .before .before .before .before .before .before .before .before .before .before .before .before .before .before .before .before .before .before .before .args .binding .inner) (c .before .before .before .before .before .before .before .before .before .before .before .before .before .before .before .before .before .before .before .before .before .before .pre .1 .0) (c .before .before .before .before .before .before .before .before .before .before .before .before .before .before .before .before .before .before .before .before .before .before .pre .1 .1) (c .before .before .width-at .result) (c .before .before .width-at .ensures .0)) .ready, (room-body (c .before .before .before .before .before .before .before .before .before .before .before .before .before .before .before .before .before .before .before .before .before .before .args .t .now) (c .before .before .before .before .before .before .before .before .before .before .before .before .before .before .before .before .before .before .before .before .before .before .args .masks .now) (c .before .before .before .before .before .before .before .before .before .before .before .before .before .before .before .before .before .before .before .before .before .before .args .widths .now) (c .before .before .before .before .before .before .before .before .before .before .before .before .before .before .before .before .before .before .before .before .before .before .args .r) (c .before .before .before .before .before .before .before .before .before .before .before .before .before .before .before .before .before .before .before .before .before .before .args .binding .first) (c .before .before .before .before .before .before .before .before .before .before .before .before .before .before .before .before .before .before .before .before .before .before .args .binding .count) (c .before .before .before .before .before .before .before .before .before .before .before .before .before .before .before .before .before .before .before .before .before .before .args .binding .value) (c .before .before .before .before .before .before .before .before .before .before .before .before .before .before .before .before .before .before .before .before .before .before .args .binding .inner) (c .before .before .before .before .before .before .before .before .before .before .before .before .before .before .before .before .before .before .before .before .before .before .pre .1 .0) (c .before .before .before .before .before .before .before .before .before .before .before .before .before .before .before .before .before .before .before .before .before .before .pre .1 .1) (c .before .before .width-at .result) (c .before .before .before .before .before .before .row .result .next .link) (c .before .before .before .before .before .before .row .result .next .operator) (c .before .before .before .before .before .before .before .before .before .before .before .before .before .before .before .before .names-in .result) (c .before .before .width-at .ensures .0) (c .before .before .before .before .before .before .before .before .before .before .before .before .before .before .before .before .names-in .ensures .0 ∙ ap (λ (z : ℕ). length (listOf z)) (c .before .before .before .before .before .before .before .before .before .before .before .before .before .before .before .before .before .mask-at .ensures)) (split-second _ _ _ _ _ _ (for-split (c .before .before .before .before .before .before .before .before .before .before .before .before .before .before .before .before .before .before .before .before .before .before .args .t .now) (c .before .before .before .before .before .before .before .before .before .before .before .before .before .before .before .before .before .before .before .before .before .before .args .masks .now) (c .before .before .before .before .before .before .before .before .before .before .before .before .before .before .before .before .before .before .before .before .before .before .args .widths .now) (c .before .before .before .before .before .before .before .before .before .before .before .before .before .before .before .before .before .before .before .before .before .before .args .r) (c .before .before .before .before .before .before .before .before .before .before .before .before .before .before .before .before .before .before .before .before .before .before .args .binding .first) (c .before .before .before .before .before .before .before .before .before .before .before .before .before .before .before .before .before .before .before .before .before .before .args .binding .count) (c .before .before .before .before .before .before .before .before .before .before .before .before .before .before .before .before .before .before .before .before .before .before .args .binding .value) (c .before .before .before .before .before .before .before .before .before .before .before .before .before .before .before .before .before .before .before .before .before .before .args .binding .inner) (c .before .before .before .before .before .before .before .before .before .before .before .before .before .before .before .before .before .before .before .before .before .before .pre .1 .0) (c .before .before .before .before .before .before .before .before .before .before .before .before .before .before .before .before .before .before .before .before .before .before .pre .1 .1) (c .before .before .before .before .before .before .before .before .before .before .before .before .before .before .before .before .before .before .before .before .before .before .args .next .link) (c .before .before .before .before .before .before .before .before .before .before .before .before .before .before .before .before .before .before .before .before .before .before .args .next .operator) (c .before .before .before .before .before .before .before .before .before .before .before .before .before .before .before .before .before .before .before .before .before .before .pre .1 .2)) _ _ _ _ _ _ _ _ (c .before .before .before .before .before .before .row .result) (fork-same _ _ _ _ _ _ _ _ _ _ _ (ap₂ bitAnd (c .before .before .before .before .before .before .before .before .before .before .before .before .before .mask-at2 .ensures) (c .before .before .before .before .before .before .before .before .before .before .before .before .before .before .before .outside .ensures ∙ ap (λ (z : ℕ). outside z (c .before .before .before .before .before .before .before .before .before .before .before .before .before .before .before .before .before .before .before .before .before .before .args .binding .first) (c .before .before .before .before .before .before .before .before .before .before .before .before .before .before .before .before .before .before .before .before .before .before .args .binding .count)) (c .before .before .before .before .before .before .before .before .before .before .before .before .before .before .before .before .before .mask-at .ensures))) (c .before .before .before .before .before .before .before .before .before .before .before .before .fork .ensures)) (c .before .before .before .before .before .before .row .ensures .done))) .1, omega (arith, c .before .before .before .before .before .before .before .before .before .before .before .before .before .before .before .before .before .before .before .before .before .before .pre .1 .3, c .before .before .before .before .before .before .before .before .before .before .before .mem .given, c .before .before .before .before .before .mem2 .given)))
 
--- src/lib.rt:388:5  let y = row(t, masks, widths, place, binding.inner, inner, behind, mem); ⏎ closed(mem, names, binding, env, second, inner, x, y)
+-- src/lib.rt:359:5  let y = row(t, masks, widths, place, binding.inner, inner, behind, mem); ⏎ closed(mem, names, binding, env, second, inner, x, y)
 fors-closed-requires : (t : ℕ) → fors-lts.Need-closed-requires (
   mask-at-reads.Asked,
   mask-at-reads.Learnt,
@@ -669,7 +666,7 @@ fors-closed-requires : (t : ℕ) → fors-lts.Need-closed-requires (
 ) (fors-at t) fors.Post
 fors-closed-requires t c κs = let h = room-ring (c .before .before .before .before .before .before .before .before .before .before .before .before .before .before .before .before .before .before .before .before .before .before .before .before .before .before .args .t .now) (c .before .before .before .before .before .before .before .before .before .before .before .before .before .before .before .before .before .before .before .before .before .before .before .before .before .before .args .masks .now) (c .before .before .before .before .before .before .before .before .before .before .before .before .before .before .before .before .before .before .before .before .before .before .before .before .before .before .args .widths .now) (c .before .before .before .before .before .before .before .before .before .before .before .before .before .before .before .before .before .before .before .before .before .before .before .before .before .before .args .r) (c .before .before .before .before .before .before .before .before .before .before .before .before .before .before .before .before .before .before .before .before .before .before .before .before .before .before .args .binding .first) (c .before .before .before .before .before .before .before .before .before .before .before .before .before .before .before .before .before .before .before .before .before .before .before .before .before .before .args .binding .count) (c .before .before .before .before .before .before .before .before .before .before .before .before .before .before .before .before .before .before .before .before .before .before .before .before .before .before .args .binding .value) (c .before .before .before .before .before .before .before .before .before .before .before .before .before .before .before .before .before .before .before .before .before .before .before .before .before .before .args .binding .inner) (c .before .before .before .before .before .before .before .before .before .before .before .before .before .before .before .before .before .before .before .before .before .before .before .before .before .before .pre .1 .0) (c .before .before .before .before .before .before .before .before .before .before .before .before .before .before .before .before .before .before .before .before .before .before .before .before .before .before .pre .1 .1) (c .before .before .before .before .before .before .width-at .result) (c .before .before .before .before .before .before .before .before .before .before .row .result .next .link) (c .before .before .before .before .before .before .before .before .before .before .row .result .next .operator) (c .before .before .before .before .before .before .before .before .before .before .before .before .before .before .before .before .before .before .before .before .names-in .result) _ _ _ (c .before .before .before .row2 .result) (c .before .before .before .before .before .before .width-at .ensures .0) (c .before .before .before .before .before .before .before .before .before .before .before .before .before .before .before .before .before .before .before .before .names-in .ensures .0 ∙ ap (λ (z : ℕ). length (listOf z)) (c .before .before .before .before .before .before .before .before .before .before .before .before .before .before .before .before .before .before .before .before .before .mask-at .ensures)) (c .before .before .before .row2 .ensures) (split-second _ _ _ _ _ _ (for-split (c .before .before .before .before .before .before .before .before .before .before .before .before .before .before .before .before .before .before .before .before .before .before .before .before .before .before .args .t .now) (c .before .before .before .before .before .before .before .before .before .before .before .before .before .before .before .before .before .before .before .before .before .before .before .before .before .before .args .masks .now) (c .before .before .before .before .before .before .before .before .before .before .before .before .before .before .before .before .before .before .before .before .before .before .before .before .before .before .args .widths .now) (c .before .before .before .before .before .before .before .before .before .before .before .before .before .before .before .before .before .before .before .before .before .before .before .before .before .before .args .r) (c .before .before .before .before .before .before .before .before .before .before .before .before .before .before .before .before .before .before .before .before .before .before .before .before .before .before .args .binding .first) (c .before .before .before .before .before .before .before .before .before .before .before .before .before .before .before .before .before .before .before .before .before .before .before .before .before .before .args .binding .count) (c .before .before .before .before .before .before .before .before .before .before .before .before .before .before .before .before .before .before .before .before .before .before .before .before .before .before .args .binding .value) (c .before .before .before .before .before .before .before .before .before .before .before .before .before .before .before .before .before .before .before .before .before .before .before .before .before .before .args .binding .inner) (c .before .before .before .before .before .before .before .before .before .before .before .before .before .before .before .before .before .before .before .before .before .before .before .before .before .before .pre .1 .0) (c .before .before .before .before .before .before .before .before .before .before .before .before .before .before .before .before .before .before .before .before .before .before .before .before .before .before .pre .1 .1) (c .before .before .before .before .before .before .before .before .before .before .before .before .before .before .before .before .before .before .before .before .before .before .before .before .before .before .args .next .link) (c .before .before .before .before .before .before .before .before .before .before .before .before .before .before .before .before .before .before .before .before .before .before .before .before .before .before .args .next .operator) (c .before .before .before .before .before .before .before .before .before .before .before .before .before .before .before .before .before .before .before .before .before .before .before .before .before .before .pre .1 .2)) _ _ _ _ _ _ _ _ (c .before .before .before .before .before .before .before .before .before .before .row .result) (fork-same _ _ _ _ _ _ _ _ _ _ _ (ap₂ bitAnd (c .before .before .before .before .before .before .before .before .before .before .before .before .before .before .before .before .before .mask-at2 .ensures) (c .before .before .before .before .before .before .before .before .before .before .before .before .before .before .before .before .before .before .before .outside .ensures ∙ ap (λ (z : ℕ). outside z (c .before .before .before .before .before .before .before .before .before .before .before .before .before .before .before .before .before .before .before .before .before .before .before .before .before .before .args .binding .first) (c .before .before .before .before .before .before .before .before .before .before .before .before .before .before .before .before .before .before .before .before .before .before .before .before .before .before .args .binding .count)) (c .before .before .before .before .before .before .before .before .before .before .before .before .before .before .before .before .before .before .before .before .before .mask-at .ensures))) (c .before .before .before .before .before .before .before .before .before .before .before .before .before .before .before .before .fork .ensures)) (c .before .before .before .before .before .before .before .before .before .before .row .ensures .done)) in (subst Mask (sym (c .before .before .before .before .before .before .before .before .before .before .before .before .before .before .before .before .before .before .before .before .before .mask-at .ensures)) (child-mask (c .before .before .before .before .before .before .before .before .before .before .before .before .before .before .before .before .before .before .before .before .before .before .before .before .before .before .args .t .now) (c .before .before .before .before .before .before .before .before .before .before .before .before .before .before .before .before .before .before .before .before .before .before .before .before .before .before .args .masks .now) (c .before .before .before .before .before .before .before .before .before .before .before .before .before .before .before .before .before .before .before .before .before .before .before .before .before .before .args .widths .now) true _ (c .before .before .before .before .before .before .before .before .before .before .before .before .before .before .before .before .before .before .before .before .before .before .before .before .before .before .args .r) (c .before .before .before .before .before .before .before .before .before .before .before .before .before .before .before .before .before .before .before .before .before .before .before .before .before .before .args .binding .inner) (body-read (c .before .before .before .before .before .before .before .before .before .before .before .before .before .before .before .before .before .before .before .before .before .before .before .before .before .before .args .t .now) (c .before .before .before .before .before .before .before .before .before .before .before .before .before .before .before .before .before .before .before .before .before .before .before .before .before .before .args .masks .now) (c .before .before .before .before .before .before .before .before .before .before .before .before .before .before .before .before .before .before .before .before .before .before .before .before .before .before .args .widths .now) (c .before .before .before .before .before .before .before .before .before .before .before .before .before .before .before .before .before .before .before .before .before .before .before .before .before .before .args .r) (c .before .before .before .before .before .before .before .before .before .before .before .before .before .before .before .before .before .before .before .before .before .before .before .before .before .before .args .binding .first) (c .before .before .before .before .before .before .before .before .before .before .before .before .before .before .before .before .before .before .before .before .before .before .before .before .before .before .args .binding .count) (c .before .before .before .before .before .before .before .before .before .before .before .before .before .before .before .before .before .before .before .before .before .before .before .before .before .before .args .binding .value) (c .before .before .before .before .before .before .before .before .before .before .before .before .before .before .before .before .before .before .before .before .before .before .before .before .before .before .args .binding .inner) (c .before .before .before .before .before .before .before .before .before .before .before .before .before .before .before .before .before .before .before .before .before .before .before .before .before .before .pre .1 .0) (c .before .before .before .before .before .before .before .before .before .before .before .before .before .before .before .before .before .before .before .before .before .before .before .before .before .before .pre .1 .1))), for-low (c .before .before .before .before .before .before .before .before .before .before .before .before .before .before .before .before .before .before .before .before .before .before .before .before .before .before .args .t .now) (c .before .before .before .before .before .before .before .before .before .before .before .before .before .before .before .before .before .before .before .before .before .before .before .before .before .before .args .masks .now) (c .before .before .before .before .before .before .before .before .before .before .before .before .before .before .before .before .before .before .before .before .before .before .before .before .before .before .args .widths .now) (c .before .before .before .before .before .before .before .before .before .before .before .before .before .before .before .before .before .before .before .before .before .before .before .before .before .before .args .r) (c .before .before .before .before .before .before .before .before .before .before .before .before .before .before .before .before .before .before .before .before .before .before .before .before .before .before .args .binding .first) (c .before .before .before .before .before .before .before .before .before .before .before .before .before .before .before .before .before .before .before .before .before .before .before .before .before .before .args .binding .count) (c .before .before .before .before .before .before .before .before .before .before .before .before .before .before .before .before .before .before .before .before .before .before .before .before .before .before .args .binding .value) (c .before .before .before .before .before .before .before .before .before .before .before .before .before .before .before .before .before .before .before .before .before .before .before .before .before .before .args .binding .inner) (c .before .before .before .before .before .before .before .before .before .before .before .before .before .before .before .before .before .before .before .before .before .before .before .before .before .before .pre .1 .0) (c .before .before .before .before .before .before .before .before .before .before .before .before .before .before .before .before .before .before .before .before .before .before .before .before .before .before .pre .1 .1), subst (λ (z : ℕ). 1 ≤ length (listOf z)) (sym (c .before .before .before .before .before .before .before .before .before .before .before .before .before .before .before .before .before .before .before .before .before .mask-at .ensures)) (body-some (c .before .before .before .before .before .before .before .before .before .before .before .before .before .before .before .before .before .before .before .before .before .before .before .before .before .before .args .t .now) (c .before .before .before .before .before .before .before .before .before .before .before .before .before .before .before .before .before .before .before .before .before .before .before .before .before .before .args .masks .now) (c .before .before .before .before .before .before .before .before .before .before .before .before .before .before .before .before .before .before .before .before .before .before .before .before .before .before .args .widths .now) (c .before .before .before .before .before .before .before .before .before .before .before .before .before .before .before .before .before .before .before .before .before .before .before .before .before .before .args .r) (c .before .before .before .before .before .before .before .before .before .before .before .before .before .before .before .before .before .before .before .before .before .before .before .before .before .before .args .binding .first) (c .before .before .before .before .before .before .before .before .before .before .before .before .before .before .before .before .before .before .before .before .before .before .before .before .before .before .args .binding .count) (c .before .before .before .before .before .before .before .before .before .before .before .before .before .before .before .before .before .before .before .before .before .before .before .before .before .before .args .binding .value) (c .before .before .before .before .before .before .before .before .before .before .before .before .before .before .before .before .before .before .before .before .before .before .before .before .before .before .args .binding .inner) (c .before .before .before .before .before .before .before .before .before .before .before .before .before .before .before .before .before .before .before .before .before .before .before .before .before .before .pre .1 .0) (c .before .before .before .before .before .before .before .before .before .before .before .before .before .before .before .before .before .before .before .before .before .before .before .before .before .before .pre .1 .1)), h .0, subst (λ (z : ℕ). c .before .before .before .row2 .result .next .operator + (2 * length (listOf z) - 1) ≤ 1024) (sym (c .before .before .before .before .before .before .before .before .before .before .before .before .before .before .before .before .before .before .before .before .before .mask-at .ensures)) (h .1), h .2, omega (arith, c .before .before .before .before .before .before .before .before .before .before .before .before .before .before .before .before .before .before .before .before .before .before .before .before .before .before .pre .1 .3, c .before .before .before .before .before .before .before .before .before .before .before .before .before .before .before .mem .given, c .before .before .before .before .before .before .before .before .before .mem2 .given, c .before .before .mem3 .given))
 
--- src/lib.rt:349:1  // A loop: the starting row, then the body on links of its own for all its names, then the ring. ⏎ fn fors(
+-- src/lib.rt:320:1  // A loop: the starting row, then the body on links of its own for all its names, then the ring. ⏎ fn fors(
 fors-same-length : (t : ℕ) → fors-lts.Need-same-length (
   mask-at-reads.Asked,
   mask-at-reads.Learnt,
@@ -690,7 +687,7 @@ fors-same-length : (t : ℕ) → fors-lts.Need-same-length (
 ) (fors-at t) fors.Post
 fors-same-length t c = c .before .mem4 .given ∙ c .before .before .before .before .before .mem3 .given ∙ c .before .before .before .before .before .before .before .before .before .before .before .before .mem2 .given ∙ c .before .before .before .before .before .before .before .before .before .before .before .before .before .before .before .before .before .before .mem .given
 
--- src/lib.rt:349:1  // A loop: the starting row, then the body on links of its own for all its names, then the ring. ⏎ fn fors(
+-- src/lib.rt:320:1  // A loop: the starting row, then the body on links of its own for all its names, then the ring. ⏎ fn fors(
 fors-returns : (t : ℕ) → fors-lts.Need-returns (
   mask-at-reads.Asked,
   mask-at-reads.Learnt,
@@ -711,7 +708,7 @@ fors-returns : (t : ℕ) → fors-lts.Need-returns (
 ) (fors-at t) fors.Post
 fors-returns t c = for-part (c .before .before .before .before .before .before .before .before .before .before .before .before .before .before .before .before .before .before .before .before .before .before .before .before .before .before .before .before .before .args .t .now) (c .before .before .before .before .before .before .before .before .before .before .before .before .before .before .before .before .before .before .before .before .before .before .before .before .before .before .before .before .before .args .masks .now) (c .before .before .before .before .before .before .before .before .before .before .before .before .before .before .before .before .before .before .before .before .before .before .before .before .before .before .before .before .before .args .widths .now) (c .before .before .before .before .before .before .before .before .before .before .before .before .before .before .before .before .before .before .before .before .before .before .before .before .before .before .before .before .before .args .r) (c .before .before .before .before .before .before .before .before .before .before .before .before .before .before .before .before .before .before .before .before .before .before .before .before .before .before .before .before .before .args .binding .first) (c .before .before .before .before .before .before .before .before .before .before .before .before .before .before .before .before .before .before .before .before .before .before .before .before .before .before .before .before .before .args .binding .count) (c .before .before .before .before .before .before .before .before .before .before .before .before .before .before .before .before .before .before .before .before .before .before .before .before .before .before .before .before .before .args .binding .value) (c .before .before .before .before .before .before .before .before .before .before .before .before .before .before .before .before .before .before .before .before .before .before .before .before .before .before .before .before .before .args .binding .inner) (c .before .before .before .before .before .before .before .before .before .before .before .before .before .before .before .before .before .before .before .before .before .before .before .before .before .before .before .before .before .pre .1 .0) (c .before .before .before .before .before .before .before .before .before .before .before .before .before .before .before .before .before .before .before .before .before .before .before .before .before .before .before .before .before .pre .1 .1) (c .before .before .before .before .before .before .before .before .before .width-at .result) (c .before .before .before .before .before .before .before .before .before .before .before .before .before .row .result .next .link) (c .before .before .before .before .before .before .before .before .before .before .before .before .before .row .result .next .operator) (c .before .before .before .before .before .before .before .before .before .before .before .before .before .before .before .before .before .before .before .before .before .before .before .names-in .result) _ _ _ (c .before .before .before .before .before .before .row2 .result) (c .before .before .before .before .before .before .before .before .before .width-at .ensures .0) (c .before .before .before .before .before .before .before .before .before .before .before .before .before .before .before .before .before .before .before .before .before .before .before .names-in .ensures .0 ∙ ap (λ (z : ℕ). length (listOf z)) (c .before .before .before .before .before .before .before .before .before .before .before .before .before .before .before .before .before .before .before .before .before .before .before .before .mask-at .ensures)) (c .before .before .before .before .before .before .row2 .ensures) (c .before .before .before .before .before .before .before .before .before .before .before .before .before .before .before .before .before .before .before .before .before .before .before .before .before .before .before .before .before .args .next .link) (c .before .before .before .before .before .before .before .before .before .before .before .before .before .before .before .before .before .before .before .before .before .before .before .before .before .before .before .before .before .args .next .operator) _ _ 0 _ _ _ _ _ _ (c .before .before .before .before .before .before .before .before .before .before .before .before .before .row .result) (c .before .before .closed .result) (search (needs, c .before .before .before .before .before .before .before .before .before .before .before .before .before .before .before .before .before .before .before .before .before .before .before .before .before .before .before .before .before .good .1 .1 .1 .1 .1 .0)) (c .before .before .before .before .before .before .before .before .before .before .before .before .before .before .before .before .before .before .before .before .before .before .before .before .before .before .before .before .before .pre .1 .2) (fork-same _ _ _ _ _ _ _ _ _ _ _ (ap₂ bitAnd (c .before .before .before .before .before .before .before .before .before .before .before .before .before .before .before .before .before .before .before .before .mask-at2 .ensures) (c .before .before .before .before .before .before .before .before .before .before .before .before .before .before .before .before .before .before .before .before .before .before .outside .ensures ∙ ap (λ (z : ℕ). outside z (c .before .before .before .before .before .before .before .before .before .before .before .before .before .before .before .before .before .before .before .before .before .before .before .before .before .before .before .before .before .args .binding .first) (c .before .before .before .before .before .before .before .before .before .before .before .before .before .before .before .before .before .before .before .before .before .before .before .before .before .before .before .before .before .args .binding .count)) (c .before .before .before .before .before .before .before .before .before .before .before .before .before .before .before .before .before .before .before .before .before .before .before .before .mask-at .ensures))) (c .before .before .before .before .before .before .before .before .before .before .before .before .before .before .before .before .before .before .before .fork .ensures)) (c .before .before .before .before .before .before .before .before .before .before .before .before .before .row .ensures) refl refl (subst (λ (z : ℕ). Numbered z (c .before .before .before .before .before .before .before .before .before .before .before .before .before .row .result .next .link) (c .before .before .before .before .before .before .before .before .before .before .numbered .result)) (c .before .before .before .before .before .before .before .before .before .before .before .before .before .before .before .before .before .before .before .before .before .before .before .before .mask-at .ensures) (c .before .before .before .before .before .before .before .before .before .before .numbered .ensures)) (subst (λ (z : ℕ). Closed z (c .before .before .before .before .before .before .before .before .before .before .before .before .before .before .before .before .before .before .before .before .before .before .before .before .before .before .before .before .before .args .binding .first) (c .before .before .before .before .before .before .before .before .before .before .before .before .before .before .before .before .before .before .before .before .before .before .before .before .before .before .before .before .before .args .binding .count) (c .before .before .before .before .before .before .before .before .before .before .before .before .before .before .before .before .before .before .before .before .before .before .before .before .before .before .before .before .before .args .env) (c .before .before .before .before .before .before .before .before .before .before .before .before .before .before .before .before .before .before .before .fork .result .second) (c .before .before .before .before .before .before .before .before .before .before .numbered .result) (c .before .before .before .before .before .before .row2 .last .1 .1 .1 .1 .1 .1 .1 .0) (c .before .before .closed .last .0) (c .before .before .before .before .before .before .before .before .before .before .before .before .before .row .result) (c .before .before .before .before .before .before .row2 .result) (c .before .before .closed .result)) (c .before .before .before .before .before .before .before .before .before .before .before .before .before .before .before .before .before .before .before .before .before .before .before .before .mask-at .ensures) (c .before .before .closed .ensures))
 
--- src/lib.rt:300:9  { ⏎ let mb = mask_at(masks, choice.first);
+-- src/lib.rt:302:9  let c = choice.second; ⏎ let mb = mask_at(masks, b);
 ifs-mask-at-requires : (t : ℕ) → ifs-lts.Need-mask-at-requires (
   mask-at-reads.Asked,
   mask-at-reads.Learnt,
@@ -726,7 +723,7 @@ ifs-mask-at-requires : (t : ℕ) → ifs-lts.Need-mask-at-requires (
 ) (ifs-at t) ifs.Post
 ifs-mask-at-requires t c κs = (if-first (c .before .before .before .before .args .t .now) (c .before .before .before .before .args .masks .now) (c .before .before .before .before .args .widths .now) (c .before .before .before .before .args .place .body) (c .before .before .before .before .args .place .returned) (c .before .before .before .before .args .r) (c .before .before .before .before .args .choice .test) (c .before .before .before .before .args .choice .first) (c .before .before .before .before .args .choice .second) (c .before .before .before .before .pre .1 .0) (c .before .before .before .before .pre .1 .1) .ready .low, if-first (c .before .before .before .before .args .t .now) (c .before .before .before .before .args .masks .now) (c .before .before .before .before .args .widths .now) (c .before .before .before .before .args .place .body) (c .before .before .before .before .args .place .returned) (c .before .before .before .before .args .r) (c .before .before .before .before .args .choice .test) (c .before .before .before .before .args .choice .first) (c .before .before .before .before .args .choice .second) (c .before .before .before .before .pre .1 .0) (c .before .before .before .before .pre .1 .1) .in-masks)
 
--- src/lib.rt:301:9  let mb = mask_at(masks, choice.first); ⏎ let mc = mask_at(masks, choice.second);
+-- src/lib.rt:303:9  let mb = mask_at(masks, b); ⏎ let mc = mask_at(masks, c);
 ifs-mask-at-requires-2 : (t : ℕ) → ifs-lts.Need-mask-at-requires-2 (
   mask-at-reads.Asked,
   mask-at-reads.Learnt,
@@ -741,7 +738,7 @@ ifs-mask-at-requires-2 : (t : ℕ) → ifs-lts.Need-mask-at-requires-2 (
 ) (ifs-at t) ifs.Post
 ifs-mask-at-requires-2 t c κs = (if-second (c .before .before .before .before .before .args .t .now) (c .before .before .before .before .before .args .masks .now) (c .before .before .before .before .before .args .widths .now) (c .before .before .before .before .before .args .place .body) (c .before .before .before .before .before .args .place .returned) (c .before .before .before .before .before .args .r) (c .before .before .before .before .before .args .choice .test) (c .before .before .before .before .before .args .choice .first) (c .before .before .before .before .before .args .choice .second) (c .before .before .before .before .before .pre .1 .0) (c .before .before .before .before .before .pre .1 .1) .ready .low, if-second (c .before .before .before .before .before .args .t .now) (c .before .before .before .before .before .args .masks .now) (c .before .before .before .before .before .args .widths .now) (c .before .before .before .before .before .args .place .body) (c .before .before .before .before .before .args .place .returned) (c .before .before .before .before .before .args .r) (c .before .before .before .before .before .args .choice .test) (c .before .before .before .before .before .args .choice .first) (c .before .before .before .before .before .args .choice .second) (c .before .before .before .before .before .pre .1 .0) (c .before .before .before .before .before .pre .1 .1) .in-masks)
 
--- src/lib.rt:302:23  let mc = mask_at(masks, choice.second); ⏎ let f = fork(mem, mask_at(masks, choice.test) & (mb | mc), env, next);
+-- src/lib.rt:304:23  let mc = mask_at(masks, c); ⏎ let f = fork(mem, mask_at(masks, a) & (mb | mc), env, next);
 ifs-mask-at-requires-3 : (t : ℕ) → ifs-lts.Need-mask-at-requires-3 (
   mask-at-reads.Asked,
   mask-at-reads.Learnt,
@@ -756,7 +753,7 @@ ifs-mask-at-requires-3 : (t : ℕ) → ifs-lts.Need-mask-at-requires-3 (
 ) (ifs-at t) ifs.Post
 ifs-mask-at-requires-3 t c κs = (if-test (c .before .before .before .before .before .before .before .args .t .now) (c .before .before .before .before .before .before .before .args .masks .now) (c .before .before .before .before .before .before .before .args .widths .now) (c .before .before .before .before .before .before .before .args .place .body) (c .before .before .before .before .before .before .before .args .place .returned) (c .before .before .before .before .before .before .before .args .r) (c .before .before .before .before .before .before .before .args .choice .test) (c .before .before .before .before .before .before .before .args .choice .first) (c .before .before .before .before .before .before .before .args .choice .second) (c .before .before .before .before .before .before .before .pre .1 .0) (c .before .before .before .before .before .before .before .pre .1 .1) .ready .low, if-test (c .before .before .before .before .before .before .before .args .t .now) (c .before .before .before .before .before .before .before .args .masks .now) (c .before .before .before .before .before .before .before .args .widths .now) (c .before .before .before .before .before .before .before .args .place .body) (c .before .before .before .before .before .before .before .args .place .returned) (c .before .before .before .before .before .before .before .args .r) (c .before .before .before .before .before .before .before .args .choice .test) (c .before .before .before .before .before .before .before .args .choice .first) (c .before .before .before .before .before .before .before .args .choice .second) (c .before .before .before .before .before .before .before .pre .1 .0) (c .before .before .before .before .before .before .before .pre .1 .1) .in-masks)
 
--- src/lib.rt:302:9  let mc = mask_at(masks, choice.second); ⏎ let f = fork(mem, mask_at(masks, choice.test) & (mb | mc), env, next);
+-- src/lib.rt:304:9  let mc = mask_at(masks, c); ⏎ let f = fork(mem, mask_at(masks, a) & (mb | mc), env, next);
 ifs-fork-requires : (t : ℕ) → ifs-lts.Need-fork-requires (
   mask-at-reads.Asked,
   mask-at-reads.Learnt,
@@ -771,7 +768,7 @@ ifs-fork-requires : (t : ℕ) → ifs-lts.Need-fork-requires (
 ) (ifs-at t) ifs.Post
 ifs-fork-requires t c κs = let h = split-needs _ _ _ _ _ _ (if-split (c .before .before .before .before .before .before .before .before .args .t .now) (c .before .before .before .before .before .before .before .before .args .masks .now) (c .before .before .before .before .before .before .before .before .args .widths .now) (c .before .before .before .before .before .before .before .before .args .place .body) (c .before .before .before .before .before .before .before .before .args .place .returned) (c .before .before .before .before .before .before .before .before .args .r) (c .before .before .before .before .before .before .before .before .args .choice .test) (c .before .before .before .before .before .before .before .before .args .choice .first) (c .before .before .before .before .before .before .before .before .args .choice .second) (c .before .before .before .before .before .before .before .before .pre .1 .0) (c .before .before .before .before .before .before .before .before .pre .1 .1) (c .before .before .before .before .before .before .before .before .args .next .link) (c .before .before .before .before .before .before .before .before .args .next .operator) (c .before .before .before .before .before .before .before .before .pre .1 .2)) _ (λ i. bitAnd (c .mask-at3 .ensures i) (bitOr (c .before .before .before .mask-at .ensures i) (c .before .before .mask-at2 .ensures i))) in (h .0, h .1, search needs)
 
--- src/lib.rt:305:9  let second = f.second; ⏎ let x = row(
+-- src/lib.rt:307:9  let second = f.second; ⏎ let x = row(t, masks, widths, EXPRESSION, a, first, f.next, mem);
 ifs-row-requires : (t : ℕ) → ifs-lts.Need-row-requires (
   mask-at-reads.Asked,
   mask-at-reads.Learnt,
@@ -786,7 +783,7 @@ ifs-row-requires : (t : ℕ) → ifs-lts.Need-row-requires (
 ) (ifs-at t) ifs.Post
 ifs-row-requires t c κs = (omega (arith, if-test (c .before .before .before .before .before .before .before .before .before .before .before .before .before .before .args .t .now) (c .before .before .before .before .before .before .before .before .before .before .before .before .before .before .args .masks .now) (c .before .before .before .before .before .before .before .before .before .before .before .before .before .before .args .widths .now) (c .before .before .before .before .before .before .before .before .before .before .before .before .before .before .args .place .body) (c .before .before .before .before .before .before .before .before .before .before .before .before .before .before .args .place .returned) (c .before .before .before .before .before .before .before .before .before .before .before .before .before .before .args .r) (c .before .before .before .before .before .before .before .before .before .before .before .before .before .before .args .choice .test) (c .before .before .before .before .before .before .before .before .before .before .before .before .before .before .args .choice .first) (c .before .before .before .before .before .before .before .before .before .before .before .before .before .before .args .choice .second) (c .before .before .before .before .before .before .before .before .before .before .before .before .before .before .pre .1 .0) (c .before .before .before .before .before .before .before .before .before .before .before .before .before .before .pre .1 .1) .less, c .before .before .before .before .before .before .before .before .before .before .before .before .before .before .pre .0), (if-test (c .before .before .before .before .before .before .before .before .before .before .before .before .before .before .args .t .now) (c .before .before .before .before .before .before .before .before .before .before .before .before .before .before .args .masks .now) (c .before .before .before .before .before .before .before .before .before .before .before .before .before .before .args .widths .now) (c .before .before .before .before .before .before .before .before .before .before .before .before .before .before .args .place .body) (c .before .before .before .before .before .before .before .before .before .before .before .before .before .before .args .place .returned) (c .before .before .before .before .before .before .before .before .before .before .before .before .before .before .args .r) (c .before .before .before .before .before .before .before .before .before .before .before .before .before .before .args .choice .test) (c .before .before .before .before .before .before .before .before .before .before .before .before .before .before .args .choice .first) (c .before .before .before .before .before .before .before .before .before .before .before .before .before .before .args .choice .second) (c .before .before .before .before .before .before .before .before .before .before .before .before .before .before .pre .1 .0) (c .before .before .before .before .before .before .before .before .before .before .before .before .before .before .pre .1 .1) .ready, split-first _ _ _ _ _ _ (if-split (c .before .before .before .before .before .before .before .before .before .before .before .before .before .before .args .t .now) (c .before .before .before .before .before .before .before .before .before .before .before .before .before .before .args .masks .now) (c .before .before .before .before .before .before .before .before .before .before .before .before .before .before .args .widths .now) (c .before .before .before .before .before .before .before .before .before .before .before .before .before .before .args .place .body) (c .before .before .before .before .before .before .before .before .before .before .before .before .before .before .args .place .returned) (c .before .before .before .before .before .before .before .before .before .before .before .before .before .before .args .r) (c .before .before .before .before .before .before .before .before .before .before .before .before .before .before .args .choice .test) (c .before .before .before .before .before .before .before .before .before .before .before .before .before .before .args .choice .first) (c .before .before .before .before .before .before .before .before .before .before .before .before .before .before .args .choice .second) (c .before .before .before .before .before .before .before .before .before .before .before .before .before .before .pre .1 .0) (c .before .before .before .before .before .before .before .before .before .before .before .before .before .before .pre .1 .1) (c .before .before .before .before .before .before .before .before .before .before .before .before .before .before .args .next .link) (c .before .before .before .before .before .before .before .before .before .before .before .before .before .before .args .next .operator) (c .before .before .before .before .before .before .before .before .before .before .before .before .before .before .pre .1 .2)) _ _ _ _ _ _ _ (fork-same _ _ _ _ _ _ _ _ _ _ _ (λ i. bitAnd (c .before .before .before .before .before .before .mask-at3 .ensures i) (bitOr (c .before .before .before .before .before .before .before .before .before .mask-at .ensures i) (c .before .before .before .before .before .before .before .before .mask-at2 .ensures i))) (c .before .before .before .before .before .fork .ensures)), omega (arith, c .before .before .before .before .before .before .before .before .before .before .before .before .before .before .pre .1 .3, c .before .before .before .before .mem .given)))
 
--- src/lib.rt:315:9  ); ⏎ let g = fork(mem, mb & mc, second, x.next);
+-- src/lib.rt:308:9  let x = row(t, masks, widths, EXPRESSION, a, first, f.next, mem); ⏎ let g = fork(mem, mb & mc, second, x.next);
 ifs-fork-requires-2 : (t : ℕ) → ifs-lts.Need-fork-requires-2 (
   mask-at-reads.Asked,
   mask-at-reads.Learnt,
@@ -801,7 +798,7 @@ ifs-fork-requires-2 : (t : ℕ) → ifs-lts.Need-fork-requires-2 (
 ) (ifs-at t) ifs.Post
 ifs-fork-requires-2 t c κs = (arms-mask (c .before .before .before .before .before .before .before .before .before .before .before .before .before .before .before .before .before .before .args .t .now) (c .before .before .before .before .before .before .before .before .before .before .before .before .before .before .before .before .before .before .args .masks .now) (c .before .before .before .before .before .before .before .before .before .before .before .before .before .before .before .before .before .before .args .widths .now) (c .before .before .before .before .before .before .before .before .before .before .before .before .before .before .before .before .before .before .args .place .body) (c .before .before .before .before .before .before .before .before .before .before .before .before .before .before .before .before .before .before .args .place .returned) (c .before .before .before .before .before .before .before .before .before .before .before .before .before .before .before .before .before .before .args .r) (c .before .before .before .before .before .before .before .before .before .before .before .before .before .before .before .before .before .before .args .choice .test) (c .before .before .before .before .before .before .before .before .before .before .before .before .before .before .before .before .before .before .args .choice .first) (c .before .before .before .before .before .before .before .before .before .before .before .before .before .before .before .before .before .before .args .choice .second) (c .before .before .before .before .before .before .before .before .before .before .before .before .before .before .before .before .before .before .pre .1 .0) (c .before .before .before .before .before .before .before .before .before .before .before .before .before .before .before .before .before .before .pre .1 .1) _ (ap₂ bitAnd (c .before .before .before .before .before .before .before .before .before .before .before .before .before .mask-at .ensures) (c .before .before .before .before .before .before .before .before .before .before .before .before .mask-at2 .ensures)), arms-room (c .before .before .before .before .before .before .before .before .before .before .before .before .before .before .before .before .before .before .args .t .now) (c .before .before .before .before .before .before .before .before .before .before .before .before .before .before .before .before .before .before .args .masks .now) (c .before .before .before .before .before .before .before .before .before .before .before .before .before .before .before .before .before .before .args .widths .now) (c .before .before .before .before .before .before .before .before .before .before .before .before .before .before .before .before .before .before .args .place .body) (c .before .before .before .before .before .before .before .before .before .before .before .before .before .before .before .before .before .before .args .place .returned) (c .before .before .before .before .before .before .before .before .before .before .before .before .before .before .before .before .before .before .args .r) (c .before .before .before .before .before .before .before .before .before .before .before .before .before .before .before .before .before .before .args .choice .test) (c .before .before .before .before .before .before .before .before .before .before .before .before .before .before .before .before .before .before .args .choice .first) (c .before .before .before .before .before .before .before .before .before .before .before .before .before .before .before .before .before .before .args .choice .second) (c .before .before .before .before .before .before .before .before .before .before .before .before .before .before .before .before .before .before .pre .1 .0) (c .before .before .before .before .before .before .before .before .before .before .before .before .before .before .before .before .before .before .pre .1 .1) _ _ _ (ap₂ bitAnd (c .before .before .before .before .before .before .before .before .before .before .before .before .before .mask-at .ensures) (c .before .before .before .before .before .before .before .before .before .before .before .before .mask-at2 .ensures)) (split-second _ _ _ _ _ _ (if-split (c .before .before .before .before .before .before .before .before .before .before .before .before .before .before .before .before .before .before .args .t .now) (c .before .before .before .before .before .before .before .before .before .before .before .before .before .before .before .before .before .before .args .masks .now) (c .before .before .before .before .before .before .before .before .before .before .before .before .before .before .before .before .before .before .args .widths .now) (c .before .before .before .before .before .before .before .before .before .before .before .before .before .before .before .before .before .before .args .place .body) (c .before .before .before .before .before .before .before .before .before .before .before .before .before .before .before .before .before .before .args .place .returned) (c .before .before .before .before .before .before .before .before .before .before .before .before .before .before .before .before .before .before .args .r) (c .before .before .before .before .before .before .before .before .before .before .before .before .before .before .before .before .before .before .args .choice .test) (c .before .before .before .before .before .before .before .before .before .before .before .before .before .before .before .before .before .before .args .choice .first) (c .before .before .before .before .before .before .before .before .before .before .before .before .before .before .before .before .before .before .args .choice .second) (c .before .before .before .before .before .before .before .before .before .before .before .before .before .before .before .before .before .before .pre .1 .0) (c .before .before .before .before .before .before .before .before .before .before .before .before .before .before .before .before .before .before .pre .1 .1) (c .before .before .before .before .before .before .before .before .before .before .before .before .before .before .before .before .before .before .args .next .link) (c .before .before .before .before .before .before .before .before .before .before .before .before .before .before .before .before .before .before .args .next .operator) (c .before .before .before .before .before .before .before .before .before .before .before .before .before .before .before .before .before .before .pre .1 .2)) _ _ _ _ _ _ _ _ (c .before .before .before .row .result) (fork-same _ _ _ _ _ _ _ _ _ _ _ (λ i. bitAnd (c .before .before .before .before .before .before .before .before .before .before .mask-at3 .ensures i) (bitOr (c .before .before .before .before .before .before .before .before .before .before .before .before .before .mask-at .ensures i) (c .before .before .before .before .before .before .before .before .before .before .before .before .mask-at2 .ensures i))) (c .before .before .before .before .before .before .before .before .before .fork .ensures)) (c .before .before .before .row .ensures .done)), omega (arith, c .before .before .before .before .before .before .before .before .before .before .before .before .before .before .before .before .before .before .pre .1 .3, c .before .before .before .before .before .before .before .before .mem .given, c .before .before .mem2 .given))
 
--- src/lib.rt:326:9  choice.first, ⏎ test[0],
+-- src/lib.rt:312:51  let test = x.outs; ⏎ let y = arm(t, masks, widths, place, true, b, test[0], yes, g.next, mem);
 ifs-array-read-arm : (t : ℕ) → ifs-lts.Need-array-read-arm (
   mask-at-reads.Asked,
   mask-at-reads.Learnt,
@@ -816,7 +813,7 @@ ifs-array-read-arm : (t : ℕ) → ifs-lts.Need-array-read-arm (
 ) (ifs-at t) ifs.Post
 ifs-array-read-arm t c = search needs
 
--- src/lib.rt:319:9  let test = x.outs; ⏎ let y = arm(
+-- src/lib.rt:312:9  let test = x.outs; ⏎ let y = arm(t, masks, widths, place, true, b, test[0], yes, g.next, mem);
 ifs-arm-requires : (t : ℕ) → ifs-lts.Need-arm-requires (
   mask-at-reads.Asked,
   mask-at-reads.Learnt,
@@ -831,7 +828,7 @@ ifs-arm-requires : (t : ℕ) → ifs-lts.Need-arm-requires (
 ) (ifs-at t) ifs.Post
 ifs-arm-requires t c κs = (omega (arith, if-first (c .before .before .before .before .before .before .before .before .before .before .before .before .before .before .before .before .before .before .before .before .before .before .before .before .before .args .t .now) (c .before .before .before .before .before .before .before .before .before .before .before .before .before .before .before .before .before .before .before .before .before .before .before .before .before .args .masks .now) (c .before .before .before .before .before .before .before .before .before .before .before .before .before .before .before .before .before .before .before .before .before .before .before .before .before .args .widths .now) (c .before .before .before .before .before .before .before .before .before .before .before .before .before .before .before .before .before .before .before .before .before .before .before .before .before .args .place .body) (c .before .before .before .before .before .before .before .before .before .before .before .before .before .before .before .before .before .before .before .before .before .before .before .before .before .args .place .returned) (c .before .before .before .before .before .before .before .before .before .before .before .before .before .before .before .before .before .before .before .before .before .before .before .before .before .args .r) (c .before .before .before .before .before .before .before .before .before .before .before .before .before .before .before .before .before .before .before .before .before .before .before .before .before .args .choice .test) (c .before .before .before .before .before .before .before .before .before .before .before .before .before .before .before .before .before .before .before .before .before .before .before .before .before .args .choice .first) (c .before .before .before .before .before .before .before .before .before .before .before .before .before .before .before .before .before .before .before .before .before .before .before .before .before .args .choice .second) (c .before .before .before .before .before .before .before .before .before .before .before .before .before .before .before .before .before .before .before .before .before .before .before .before .before .pre .1 .0) (c .before .before .before .before .before .before .before .before .before .before .before .before .before .before .before .before .before .before .before .before .before .before .before .before .before .pre .1 .1) .less, c .before .before .before .before .before .before .before .before .before .before .before .before .before .before .before .before .before .before .before .before .before .before .before .before .before .pre .0), (child-alone (c .before .before .before .before .before .before .before .before .before .before .before .before .before .before .before .before .before .before .before .before .before .before .before .before .before .args .t .now) (c .before .before .before .before .before .before .before .before .before .before .before .before .before .before .before .before .before .before .before .before .before .before .before .before .before .args .masks .now) (c .before .before .before .before .before .before .before .before .before .before .before .before .before .before .before .before .before .before .before .before .before .before .before .before .before .args .widths .now) (c .before .before .before .before .before .before .before .before .before .before .before .before .before .before .before .before .before .before .before .before .before .before .before .before .before .args .place .body) (c .before .before .before .before .before .before .before .before .before .before .before .before .before .before .before .before .before .before .before .before .before .before .before .before .before .args .place .returned) (c .before .before .before .before .before .before .before .before .before .before .before .before .before .before .before .before .before .before .before .before .before .before .before .before .before .args .r) (c .before .before .before .before .before .before .before .before .before .before .before .before .before .before .before .before .before .before .before .before .before .before .before .before .before .args .choice .first) (if-first (c .before .before .before .before .before .before .before .before .before .before .before .before .before .before .before .before .before .before .before .before .before .before .before .before .before .args .t .now) (c .before .before .before .before .before .before .before .before .before .before .before .before .before .before .before .before .before .before .before .before .before .before .before .before .before .args .masks .now) (c .before .before .before .before .before .before .before .before .before .before .before .before .before .before .before .before .before .before .before .before .before .before .before .before .before .args .widths .now) (c .before .before .before .before .before .before .before .before .before .before .before .before .before .before .before .before .before .before .before .before .before .before .before .before .before .args .place .body) (c .before .before .before .before .before .before .before .before .before .before .before .before .before .before .before .before .before .before .before .before .before .before .before .before .before .args .place .returned) (c .before .before .before .before .before .before .before .before .before .before .before .before .before .before .before .before .before .before .before .before .before .before .before .before .before .args .r) (c .before .before .before .before .before .before .before .before .before .before .before .before .before .before .before .before .before .before .before .before .before .before .before .before .before .args .choice .test) (c .before .before .before .before .before .before .before .before .before .before .before .before .before .before .before .before .before .before .before .before .before .before .before .before .before .args .choice .first) (c .before .before .before .before .before .before .before .before .before .before .before .before .before .before .before .before .before .before .before .before .before .before .before .before .before .args .choice .second) (c .before .before .before .before .before .before .before .before .before .before .before .before .before .before .before .before .before .before .before .before .before .before .before .before .before .pre .1 .0) (c .before .before .before .before .before .before .before .before .before .before .before .before .before .before .before .before .before .before .before .before .before .before .before .before .before .pre .1 .1)), (room-first (c .before .before .before .before .before .before .before .before .before .before .before .before .before .before .before .before .before .before .before .before .before .before .before .before .before .args .t .now) (c .before .before .before .before .before .before .before .before .before .before .before .before .before .before .before .before .before .before .before .before .before .before .before .before .before .args .masks .now) (c .before .before .before .before .before .before .before .before .before .before .before .before .before .before .before .before .before .before .before .before .before .before .before .before .before .args .widths .now) (c .before .before .before .before .before .before .before .before .before .before .before .before .before .before .before .before .before .before .before .before .before .before .before .before .before .args .place .body) (c .before .before .before .before .before .before .before .before .before .before .before .before .before .before .before .before .before .before .before .before .before .before .before .before .before .args .place .returned) (c .before .before .before .before .before .before .before .before .before .before .before .before .before .before .before .before .before .before .before .before .before .before .before .before .before .args .r) (c .before .before .before .before .before .before .before .before .before .before .before .before .before .before .before .before .before .before .before .before .before .before .before .before .before .args .choice .test) (c .before .before .before .before .before .before .before .before .before .before .before .before .before .before .before .before .before .before .before .before .before .before .before .before .before .args .choice .first) (c .before .before .before .before .before .before .before .before .before .before .before .before .before .before .before .before .before .before .before .before .before .before .before .before .before .args .choice .second) (c .before .before .before .before .before .before .before .before .before .before .before .before .before .before .before .before .before .before .before .before .before .before .before .before .before .pre .1 .0) (c .before .before .before .before .before .before .before .before .before .before .before .before .before .before .before .before .before .before .before .before .before .before .before .before .before .pre .1 .1) _ _ _ _ _ _ _ _ _ (split-second _ _ _ _ _ _ (if-split (c .before .before .before .before .before .before .before .before .before .before .before .before .before .before .before .before .before .before .before .before .before .before .before .before .before .args .t .now) (c .before .before .before .before .before .before .before .before .before .before .before .before .before .before .before .before .before .before .before .before .before .before .before .before .before .args .masks .now) (c .before .before .before .before .before .before .before .before .before .before .before .before .before .before .before .before .before .before .before .before .before .before .before .before .before .args .widths .now) (c .before .before .before .before .before .before .before .before .before .before .before .before .before .before .before .before .before .before .before .before .before .before .before .before .before .args .place .body) (c .before .before .before .before .before .before .before .before .before .before .before .before .before .before .before .before .before .before .before .before .before .before .before .before .before .args .place .returned) (c .before .before .before .before .before .before .before .before .before .before .before .before .before .before .before .before .before .before .before .before .before .before .before .before .before .args .r) (c .before .before .before .before .before .before .before .before .before .before .before .before .before .before .before .before .before .before .before .before .before .before .before .before .before .args .choice .test) (c .before .before .before .before .before .before .before .before .before .before .before .before .before .before .before .before .before .before .before .before .before .before .before .before .before .args .choice .first) (c .before .before .before .before .before .before .before .before .before .before .before .before .before .before .before .before .before .before .before .before .before .before .before .before .before .args .choice .second) (c .before .before .before .before .before .before .before .before .before .before .before .before .before .before .before .before .before .before .before .before .before .before .before .before .before .pre .1 .0) (c .before .before .before .before .before .before .before .before .before .before .before .before .before .before .before .before .before .before .before .before .before .before .before .before .before .pre .1 .1) (c .before .before .before .before .before .before .before .before .before .before .before .before .before .before .before .before .before .before .before .before .before .before .before .before .before .args .next .link) (c .before .before .before .before .before .before .before .before .before .before .before .before .before .before .before .before .before .before .before .before .before .before .before .before .before .args .next .operator) (c .before .before .before .before .before .before .before .before .before .before .before .before .before .before .before .before .before .before .before .before .before .before .before .before .before .pre .1 .2)) _ _ _ _ _ _ _ _ (c .before .before .before .before .before .before .before .before .before .before .row .result) (fork-same _ _ _ _ _ _ _ _ _ _ _ (λ i. bitAnd (c .before .before .before .before .before .before .before .before .before .before .before .before .before .before .before .before .before .mask-at3 .ensures i) (bitOr (c .before .before .before .before .before .before .before .before .before .before .before .before .before .before .before .before .before .before .before .before .mask-at .ensures i) (c .before .before .before .before .before .before .before .before .before .before .before .before .before .before .before .before .before .before .before .mask-at2 .ensures i))) (c .before .before .before .before .before .before .before .before .before .before .before .before .before .before .before .before .fork .ensures)) (c .before .before .before .before .before .before .before .before .before .before .row .ensures .done)) (fork-same _ _ _ _ _ _ _ _ _ _ _ (ap₂ bitAnd (c .before .before .before .before .before .before .before .before .before .before .before .before .before .before .before .before .before .before .before .before .mask-at .ensures) (c .before .before .before .before .before .before .before .before .before .before .before .before .before .before .before .before .before .before .before .mask-at2 .ensures)) (c .before .before .before .before .before .before .fork2 .ensures))) .0, (room-first (c .before .before .before .before .before .before .before .before .before .before .before .before .before .before .before .before .before .before .before .before .before .before .before .before .before .args .t .now) (c .before .before .before .before .before .before .before .before .before .before .before .before .before .before .before .before .before .before .before .before .before .before .before .before .before .args .masks .now) (c .before .before .before .before .before .before .before .before .before .before .before .before .before .before .before .before .before .before .before .before .before .before .before .before .before .args .widths .now) (c .before .before .before .before .before .before .before .before .before .before .before .before .before .before .before .before .before .before .before .before .before .before .before .before .before .args .place .body) (c .before .before .before .before .before .before .before .before .before .before .before .before .before .before .before .before .before .before .before .before .before .before .before .before .before .args .place .returned) (c .before .before .before .before .before .before .before .before .before .before .before .before .before .before .before .before .before .before .before .before .before .before .before .before .before .args .r) (c .before .before .before .before .before .before .before .before .before .before .before .before .before .before .before .before .before .before .before .before .before .before .before .before .before .args .choice .test) (c .before .before .before .before .before .before .before .before .before .before .before .before .before .before .before .before .before .before .before .before .before .before .before .before .before .args .choice .first) (c .before .before .before .before .before .before .before .before .before .before .before .before .before .before .before .before .before .before .before .before .before .before .before .before .before .args .choice .second) (c .before .before .before .before .before .before .before .before .before .before .before .before .before .before .before .before .before .before .before .before .before .before .before .before .before .pre .1 .0) (c .before .before .before .before .before .before .before .before .before .before .before .before .before .before .before .before .before .before .before .before .before .before .before .before .before .pre .1 .1) _ _ _ _ _ _ _ _ _ (split-second _ _ _ _ _ _ (if-split (c .before .before .before .before .before .before .before .before .before .before .before .before .before .before .before .before .before .before .before .before .before .before .before .before .before .args .t .now) (c .before .before .before .before .before .before .before .before .before .before .before .before .before .before .before .before .before .before .before .before .before .before .before .before .before .args .masks .now) (c .before .before .before .before .before .before .before .before .before .before .before .before .before .before .before .before .before .before .before .before .before .before .before .before .before .args .widths .now) (c .before .before .before .before .before .before .before .before .before .before .before .before .before .before .before .before .before .before .before .before .before .before .before .before .before .args .place .body) (c .before .before .before .before .before .before .before .before .before .before .before .before .before .before .before .before .before .before .before .before .before .before .before .before .before .args .place .returned) (c .before .before .before .before .before .before .before .before .before .before .before .before .before .before .before .before .before .before .before .before .before .before .before .before .before .args .r) (c .before .before .before .before .before .before .before .before .before .before .before .before .before .before .before .before .before .before .before .before .before .before .before .before .before .args .choice .test) (c .before .before .before .before .before .before .before .before .before .before .before .before .before .before .before .before .before .before .before .before .before .before .before .before .before .args .choice .first) (c .before .before .before .before .before .before .before .before .before .before .before .before .before .before .before .before .before .before .before .before .before .before .before .before .before .args .choice .second) (c .before .before .before .before .before .before .before .before .before .before .before .before .before .before .before .before .before .before .before .before .before .before .before .before .before .pre .1 .0) (c .before .before .before .before .before .before .before .before .before .before .before .before .before .before .before .before .before .before .before .before .before .before .before .before .before .pre .1 .1) (c .before .before .before .before .before .before .before .before .before .before .before .before .before .before .before .before .before .before .before .before .before .before .before .before .before .args .next .link) (c .before .before .before .before .before .before .before .before .before .before .before .before .before .before .before .before .before .before .before .before .before .before .before .before .before .args .next .operator) (c .before .before .before .before .before .before .before .before .before .before .before .before .before .before .before .before .before .before .before .before .before .before .before .before .before .pre .1 .2)) _ _ _ _ _ _ _ _ (c .before .before .before .before .before .before .before .before .before .before .row .result) (fork-same _ _ _ _ _ _ _ _ _ _ _ (λ i. bitAnd (c .before .before .before .before .before .before .before .before .before .before .before .before .before .before .before .before .before .mask-at3 .ensures i) (bitOr (c .before .before .before .before .before .before .before .before .before .before .before .before .before .before .before .before .before .before .before .before .mask-at .ensures i) (c .before .before .before .before .before .before .before .before .before .before .before .before .before .before .before .before .before .before .before .mask-at2 .ensures i))) (c .before .before .before .before .before .before .before .before .before .before .before .before .before .before .before .before .fork .ensures)) (c .before .before .before .before .before .before .before .before .before .before .row .ensures .done)) (fork-same _ _ _ _ _ _ _ _ _ _ _ (ap₂ bitAnd (c .before .before .before .before .before .before .before .before .before .before .before .before .before .before .before .before .before .before .before .before .mask-at .ensures) (c .before .before .before .before .before .before .before .before .before .before .before .before .before .before .before .before .before .before .before .mask-at2 .ensures)) (c .before .before .before .before .before .before .fork2 .ensures))) .1, (room-first (c .before .before .before .before .before .before .before .before .before .before .before .before .before .before .before .before .before .before .before .before .before .before .before .before .before .args .t .now) (c .before .before .before .before .before .before .before .before .before .before .before .before .before .before .before .before .before .before .before .before .before .before .before .before .before .args .masks .now) (c .before .before .before .before .before .before .before .before .before .before .before .before .before .before .before .before .before .before .before .before .before .before .before .before .before .args .widths .now) (c .before .before .before .before .before .before .before .before .before .before .before .before .before .before .before .before .before .before .before .before .before .before .before .before .before .args .place .body) (c .before .before .before .before .before .before .before .before .before .before .before .before .before .before .before .before .before .before .before .before .before .before .before .before .before .args .place .returned) (c .before .before .before .before .before .before .before .before .before .before .before .before .before .before .before .before .before .before .before .before .before .before .before .before .before .args .r) (c .before .before .before .before .before .before .before .before .before .before .before .before .before .before .before .before .before .before .before .before .before .before .before .before .before .args .choice .test) (c .before .before .before .before .before .before .before .before .before .before .before .before .before .before .before .before .before .before .before .before .before .before .before .before .before .args .choice .first) (c .before .before .before .before .before .before .before .before .before .before .before .before .before .before .before .before .before .before .before .before .before .before .before .before .before .args .choice .second) (c .before .before .before .before .before .before .before .before .before .before .before .before .before .before .before .before .before .before .before .before .before .before .before .before .before .pre .1 .0) (c .before .before .before .before .before .before .before .before .before .before .before .before .before .before .before .before .before .before .before .before .before .before .before .before .before .pre .1 .1) _ _ _ _ _ _ _ _ _ (split-second _ _ _ _ _ _ (if-split (c .before .before .before .before .before .before .before .before .before .before .before .before .before .before .before .before .before .before .before .before .before .before .before .before .before .args .t .now) (c .before .before .before .before .before .before .before .before .before .before .before .before .before .before .before .before .before .before .before .before .before .before .before .before .before .args .masks .now) (c .before .before .before .before .before .before .before .before .before .before .before .before .before .before .before .before .before .before .before .before .before .before .before .before .before .args .widths .now) (c .before .before .before .before .before .before .before .before .before .before .before .before .before .before .before .before .before .before .before .before .before .before .before .before .before .args .place .body) (c .before .before .before .before .before .before .before .before .before .before .before .before .before .before .before .before .before .before .before .before .before .before .before .before .before .args .place .returned) (c .before .before .before .before .before .before .before .before .before .before .before .before .before .before .before .before .before .before .before .before .before .before .before .before .before .args .r) (c .before .before .before .before .before .before .before .before .before .before .before .before .before .before .before .before .before .before .before .before .before .before .before .before .before .args .choice .test) (c .before .before .before .before .before .before .before .before .before .before .before .before .before .before .before .before .before .before .before .before .before .before .before .before .before .args .choice .first) (c .before .before .before .before .before .before .before .before .before .before .before .before .before .before .before .before .before .before .before .before .before .before .before .before .before .args .choice .second) (c .before .before .before .before .before .before .before .before .before .before .before .before .before .before .before .before .before .before .before .before .before .before .before .before .before .pre .1 .0) (c .before .before .before .before .before .before .before .before .before .before .before .before .before .before .before .before .before .before .before .before .before .before .before .before .before .pre .1 .1) (c .before .before .before .before .before .before .before .before .before .before .before .before .before .before .before .before .before .before .before .before .before .before .before .before .before .args .next .link) (c .before .before .before .before .before .before .before .before .before .before .before .before .before .before .before .before .before .before .before .before .before .before .before .before .before .args .next .operator) (c .before .before .before .before .before .before .before .before .before .before .before .before .before .before .before .before .before .before .before .before .before .before .before .before .before .pre .1 .2)) _ _ _ _ _ _ _ _ (c .before .before .before .before .before .before .before .before .before .before .row .result) (fork-same _ _ _ _ _ _ _ _ _ _ _ (λ i. bitAnd (c .before .before .before .before .before .before .before .before .before .before .before .before .before .before .before .before .before .mask-at3 .ensures i) (bitOr (c .before .before .before .before .before .before .before .before .before .before .before .before .before .before .before .before .before .before .before .before .mask-at .ensures i) (c .before .before .before .before .before .before .before .before .before .before .before .before .before .before .before .before .before .before .before .mask-at2 .ensures i))) (c .before .before .before .before .before .before .before .before .before .before .before .before .before .before .before .before .fork .ensures)) (c .before .before .before .before .before .before .before .before .before .before .row .ensures .done)) (fork-same _ _ _ _ _ _ _ _ _ _ _ (ap₂ bitAnd (c .before .before .before .before .before .before .before .before .before .before .before .before .before .before .before .before .before .before .before .before .mask-at .ensures) (c .before .before .before .before .before .before .before .before .before .before .before .before .before .before .before .before .before .before .before .mask-at2 .ensures)) (c .before .before .before .before .before .before .fork2 .ensures))) .2, omega (arith, c .before .before .before .before .before .before .before .before .before .before .before .before .before .before .before .before .before .before .before .before .before .before .before .before .before .pre .1 .3, c .before .before .before .before .before .before .before .before .before .before .before .before .before .before .before .mem .given, c .before .before .before .before .before .before .before .before .before .mem2 .given, c .before .before .before .before .before .mem3 .given)))
 
--- src/lib.rt:331:19  ); ⏎ let copied = (g.next.link + 1) as u16;
+-- src/lib.rt:313:19  let y = arm(t, masks, widths, place, true, b, test[0], yes, g.next, mem); ⏎ let copied = (g.next.link + 1) as u16;
 ifs-add-copied : (t : ℕ) → ifs-lts.Need-add-copied (
   mask-at-reads.Asked,
   mask-at-reads.Learnt,
@@ -846,7 +843,7 @@ ifs-add-copied : (t : ℕ) → ifs-lts.Need-add-copied (
 ) (ifs-at t) ifs.Post
 ifs-add-copied t c = omega (arith, (room-first (c .before .before .before .before .before .before .before .before .before .before .before .before .before .before .before .before .before .before .before .before .before .before .before .before .before .before .before .before .before .args .t .now) (c .before .before .before .before .before .before .before .before .before .before .before .before .before .before .before .before .before .before .before .before .before .before .before .before .before .before .before .before .before .args .masks .now) (c .before .before .before .before .before .before .before .before .before .before .before .before .before .before .before .before .before .before .before .before .before .before .before .before .before .before .before .before .before .args .widths .now) (c .before .before .before .before .before .before .before .before .before .before .before .before .before .before .before .before .before .before .before .before .before .before .before .before .before .before .before .before .before .args .place .body) (c .before .before .before .before .before .before .before .before .before .before .before .before .before .before .before .before .before .before .before .before .before .before .before .before .before .before .before .before .before .args .place .returned) (c .before .before .before .before .before .before .before .before .before .before .before .before .before .before .before .before .before .before .before .before .before .before .before .before .before .before .before .before .before .args .r) (c .before .before .before .before .before .before .before .before .before .before .before .before .before .before .before .before .before .before .before .before .before .before .before .before .before .before .before .before .before .args .choice .test) (c .before .before .before .before .before .before .before .before .before .before .before .before .before .before .before .before .before .before .before .before .before .before .before .before .before .before .before .before .before .args .choice .first) (c .before .before .before .before .before .before .before .before .before .before .before .before .before .before .before .before .before .before .before .before .before .before .before .before .before .before .before .before .before .args .choice .second) (c .before .before .before .before .before .before .before .before .before .before .before .before .before .before .before .before .before .before .before .before .before .before .before .before .before .before .before .before .before .pre .1 .0) (c .before .before .before .before .before .before .before .before .before .before .before .before .before .before .before .before .before .before .before .before .before .before .before .before .before .before .before .before .before .pre .1 .1) _ _ _ _ _ _ _ _ _ (split-second _ _ _ _ _ _ (if-split (c .before .before .before .before .before .before .before .before .before .before .before .before .before .before .before .before .before .before .before .before .before .before .before .before .before .before .before .before .before .args .t .now) (c .before .before .before .before .before .before .before .before .before .before .before .before .before .before .before .before .before .before .before .before .before .before .before .before .before .before .before .before .before .args .masks .now) (c .before .before .before .before .before .before .before .before .before .before .before .before .before .before .before .before .before .before .before .before .before .before .before .before .before .before .before .before .before .args .widths .now) (c .before .before .before .before .before .before .before .before .before .before .before .before .before .before .before .before .before .before .before .before .before .before .before .before .before .before .before .before .before .args .place .body) (c .before .before .before .before .before .before .before .before .before .before .before .before .before .before .before .before .before .before .before .before .before .before .before .before .before .before .before .before .before .args .place .returned) (c .before .before .before .before .before .before .before .before .before .before .before .before .before .before .before .before .before .before .before .before .before .before .before .before .before .before .before .before .before .args .r) (c .before .before .before .before .before .before .before .before .before .before .before .before .before .before .before .before .before .before .before .before .before .before .before .before .before .before .before .before .before .args .choice .test) (c .before .before .before .before .before .before .before .before .before .before .before .before .before .before .before .before .before .before .before .before .before .before .before .before .before .before .before .before .before .args .choice .first) (c .before .before .before .before .before .before .before .before .before .before .before .before .before .before .before .before .before .before .before .before .before .before .before .before .before .before .before .before .before .args .choice .second) (c .before .before .before .before .before .before .before .before .before .before .before .before .before .before .before .before .before .before .before .before .before .before .before .before .before .before .before .before .before .pre .1 .0) (c .before .before .before .before .before .before .before .before .before .before .before .before .before .before .before .before .before .before .before .before .before .before .before .before .before .before .before .before .before .pre .1 .1) (c .before .before .before .before .before .before .before .before .before .before .before .before .before .before .before .before .before .before .before .before .before .before .before .before .before .before .before .before .before .args .next .link) (c .before .before .before .before .before .before .before .before .before .before .before .before .before .before .before .before .before .before .before .before .before .before .before .before .before .before .before .before .before .args .next .operator) (c .before .before .before .before .before .before .before .before .before .before .before .before .before .before .before .before .before .before .before .before .before .before .before .before .before .before .before .before .before .pre .1 .2)) _ _ _ _ _ _ _ _ (c .before .before .before .before .before .before .before .before .before .before .before .before .before .before .row .result) (fork-same _ _ _ _ _ _ _ _ _ _ _ (λ i. bitAnd (c .before .before .before .before .before .before .before .before .before .before .before .before .before .before .before .before .before .before .before .before .before .mask-at3 .ensures i) (bitOr (c .before .before .before .before .before .before .before .before .before .before .before .before .before .before .before .before .before .before .before .before .before .before .before .before .mask-at .ensures i) (c .before .before .before .before .before .before .before .before .before .before .before .before .before .before .before .before .before .before .before .before .before .before .before .mask-at2 .ensures i))) (c .before .before .before .before .before .before .before .before .before .before .before .before .before .before .before .before .before .before .before .before .fork .ensures)) (c .before .before .before .before .before .before .before .before .before .before .before .before .before .before .row .ensures .done)) (fork-same _ _ _ _ _ _ _ _ _ _ _ (ap₂ bitAnd (c .before .before .before .before .before .before .before .before .before .before .before .before .before .before .before .before .before .before .before .before .before .before .before .before .mask-at .ensures) (c .before .before .before .before .before .before .before .before .before .before .before .before .before .before .before .before .before .before .before .before .before .before .before .mask-at2 .ensures)) (c .before .before .before .before .before .before .before .before .before .before .fork2 .ensures))) .1)
 
--- src/lib.rt:331:18  ); ⏎ let copied = (g.next.link + 1) as u16;
+-- src/lib.rt:313:18  let y = arm(t, masks, widths, place, true, b, test[0], yes, g.next, mem); ⏎ let copied = (g.next.link + 1) as u16;
 ifs-cast-copied : (t : ℕ) → ifs-lts.Need-cast-copied (
   mask-at-reads.Asked,
   mask-at-reads.Learnt,
@@ -861,7 +858,7 @@ ifs-cast-copied : (t : ℕ) → ifs-lts.Need-cast-copied (
 ) (ifs-at t) ifs.Post
 ifs-cast-copied t c = omega (arith, (room-first (c .before .before .before .before .before .before .before .before .before .before .before .before .before .before .before .before .before .before .before .before .before .before .before .before .before .before .before .before .before .args .t .now) (c .before .before .before .before .before .before .before .before .before .before .before .before .before .before .before .before .before .before .before .before .before .before .before .before .before .before .before .before .before .args .masks .now) (c .before .before .before .before .before .before .before .before .before .before .before .before .before .before .before .before .before .before .before .before .before .before .before .before .before .before .before .before .before .args .widths .now) (c .before .before .before .before .before .before .before .before .before .before .before .before .before .before .before .before .before .before .before .before .before .before .before .before .before .before .before .before .before .args .place .body) (c .before .before .before .before .before .before .before .before .before .before .before .before .before .before .before .before .before .before .before .before .before .before .before .before .before .before .before .before .before .args .place .returned) (c .before .before .before .before .before .before .before .before .before .before .before .before .before .before .before .before .before .before .before .before .before .before .before .before .before .before .before .before .before .args .r) (c .before .before .before .before .before .before .before .before .before .before .before .before .before .before .before .before .before .before .before .before .before .before .before .before .before .before .before .before .before .args .choice .test) (c .before .before .before .before .before .before .before .before .before .before .before .before .before .before .before .before .before .before .before .before .before .before .before .before .before .before .before .before .before .args .choice .first) (c .before .before .before .before .before .before .before .before .before .before .before .before .before .before .before .before .before .before .before .before .before .before .before .before .before .before .before .before .before .args .choice .second) (c .before .before .before .before .before .before .before .before .before .before .before .before .before .before .before .before .before .before .before .before .before .before .before .before .before .before .before .before .before .pre .1 .0) (c .before .before .before .before .before .before .before .before .before .before .before .before .before .before .before .before .before .before .before .before .before .before .before .before .before .before .before .before .before .pre .1 .1) _ _ _ _ _ _ _ _ _ (split-second _ _ _ _ _ _ (if-split (c .before .before .before .before .before .before .before .before .before .before .before .before .before .before .before .before .before .before .before .before .before .before .before .before .before .before .before .before .before .args .t .now) (c .before .before .before .before .before .before .before .before .before .before .before .before .before .before .before .before .before .before .before .before .before .before .before .before .before .before .before .before .before .args .masks .now) (c .before .before .before .before .before .before .before .before .before .before .before .before .before .before .before .before .before .before .before .before .before .before .before .before .before .before .before .before .before .args .widths .now) (c .before .before .before .before .before .before .before .before .before .before .before .before .before .before .before .before .before .before .before .before .before .before .before .before .before .before .before .before .before .args .place .body) (c .before .before .before .before .before .before .before .before .before .before .before .before .before .before .before .before .before .before .before .before .before .before .before .before .before .before .before .before .before .args .place .returned) (c .before .before .before .before .before .before .before .before .before .before .before .before .before .before .before .before .before .before .before .before .before .before .before .before .before .before .before .before .before .args .r) (c .before .before .before .before .before .before .before .before .before .before .before .before .before .before .before .before .before .before .before .before .before .before .before .before .before .before .before .before .before .args .choice .test) (c .before .before .before .before .before .before .before .before .before .before .before .before .before .before .before .before .before .before .before .before .before .before .before .before .before .before .before .before .before .args .choice .first) (c .before .before .before .before .before .before .before .before .before .before .before .before .before .before .before .before .before .before .before .before .before .before .before .before .before .before .before .before .before .args .choice .second) (c .before .before .before .before .before .before .before .before .before .before .before .before .before .before .before .before .before .before .before .before .before .before .before .before .before .before .before .before .before .pre .1 .0) (c .before .before .before .before .before .before .before .before .before .before .before .before .before .before .before .before .before .before .before .before .before .before .before .before .before .before .before .before .before .pre .1 .1) (c .before .before .before .before .before .before .before .before .before .before .before .before .before .before .before .before .before .before .before .before .before .before .before .before .before .before .before .before .before .args .next .link) (c .before .before .before .before .before .before .before .before .before .before .before .before .before .before .before .before .before .before .before .before .before .before .before .before .before .before .before .before .before .args .next .operator) (c .before .before .before .before .before .before .before .before .before .before .before .before .before .before .before .before .before .before .before .before .before .before .before .before .before .before .before .before .before .pre .1 .2)) _ _ _ _ _ _ _ _ (c .before .before .before .before .before .before .before .before .before .before .before .before .before .before .row .result) (fork-same _ _ _ _ _ _ _ _ _ _ _ (λ i. bitAnd (c .before .before .before .before .before .before .before .before .before .before .before .before .before .before .before .before .before .before .before .before .before .mask-at3 .ensures i) (bitOr (c .before .before .before .before .before .before .before .before .before .before .before .before .before .before .before .before .before .before .before .before .before .before .before .before .mask-at .ensures i) (c .before .before .before .before .before .before .before .before .before .before .before .before .before .before .before .before .before .before .before .before .before .before .before .mask-at2 .ensures i))) (c .before .before .before .before .before .before .before .before .before .before .before .before .before .before .before .before .before .before .before .before .fork .ensures)) (c .before .before .before .before .before .before .before .before .before .before .before .before .before .before .row .ensures .done)) (fork-same _ _ _ _ _ _ _ _ _ _ _ (ap₂ bitAnd (c .before .before .before .before .before .before .before .before .before .before .before .before .before .before .before .before .before .before .before .before .before .before .before .before .mask-at .ensures) (c .before .before .before .before .before .before .before .before .before .before .before .before .before .before .before .before .before .before .before .before .before .before .before .mask-at2 .ensures)) (c .before .before .before .before .before .before .before .before .before .before .fork2 .ensures))) .1)
 
--- src/lib.rt:332:9  let copied = (g.next.link + 1) as u16; ⏎ let z = arm(
+-- src/lib.rt:314:9  let copied = (g.next.link + 1) as u16; ⏎ let z = arm(t, masks, widths, place, false, c, copied, no, y.next, mem);
 ifs-arm-requires-2 : (t : ℕ) → ifs-lts.Need-arm-requires-2 (
   mask-at-reads.Asked,
   mask-at-reads.Learnt,
@@ -876,7 +873,7 @@ ifs-arm-requires-2 : (t : ℕ) → ifs-lts.Need-arm-requires-2 (
 ) (ifs-at t) ifs.Post
 ifs-arm-requires-2 t c κs = (omega (arith, if-second (c .before .before .before .before .before .before .before .before .before .before .before .before .before .before .before .before .before .before .before .before .before .before .before .before .before .before .before .before .before .before .args .t .now) (c .before .before .before .before .before .before .before .before .before .before .before .before .before .before .before .before .before .before .before .before .before .before .before .before .before .before .before .before .before .before .args .masks .now) (c .before .before .before .before .before .before .before .before .before .before .before .before .before .before .before .before .before .before .before .before .before .before .before .before .before .before .before .before .before .before .args .widths .now) (c .before .before .before .before .before .before .before .before .before .before .before .before .before .before .before .before .before .before .before .before .before .before .before .before .before .before .before .before .before .before .args .place .body) (c .before .before .before .before .before .before .before .before .before .before .before .before .before .before .before .before .before .before .before .before .before .before .before .before .before .before .before .before .before .before .args .place .returned) (c .before .before .before .before .before .before .before .before .before .before .before .before .before .before .before .before .before .before .before .before .before .before .before .before .before .before .before .before .before .before .args .r) (c .before .before .before .before .before .before .before .before .before .before .before .before .before .before .before .before .before .before .before .before .before .before .before .before .before .before .before .before .before .before .args .choice .test) (c .before .before .before .before .before .before .before .before .before .before .before .before .before .before .before .before .before .before .before .before .before .before .before .before .before .before .before .before .before .before .args .choice .first) (c .before .before .before .before .before .before .before .before .before .before .before .before .before .before .before .before .before .before .before .before .before .before .before .before .before .before .before .before .before .before .args .choice .second) (c .before .before .before .before .before .before .before .before .before .before .before .before .before .before .before .before .before .before .before .before .before .before .before .before .before .before .before .before .before .before .pre .1 .0) (c .before .before .before .before .before .before .before .before .before .before .before .before .before .before .before .before .before .before .before .before .before .before .before .before .before .before .before .before .before .before .pre .1 .1) .less, c .before .before .before .before .before .before .before .before .before .before .before .before .before .before .before .before .before .before .before .before .before .before .before .before .before .before .before .before .before .before .pre .0), (child-alone (c .before .before .before .before .before .before .before .before .before .before .before .before .before .before .before .before .before .before .before .before .before .before .before .before .before .before .before .before .before .before .args .t .now) (c .before .before .before .before .before .before .before .before .before .before .before .before .before .before .before .before .before .before .before .before .before .before .before .before .before .before .before .before .before .before .args .masks .now) (c .before .before .before .before .before .before .before .before .before .before .before .before .before .before .before .before .before .before .before .before .before .before .before .before .before .before .before .before .before .before .args .widths .now) (c .before .before .before .before .before .before .before .before .before .before .before .before .before .before .before .before .before .before .before .before .before .before .before .before .before .before .before .before .before .before .args .place .body) (c .before .before .before .before .before .before .before .before .before .before .before .before .before .before .before .before .before .before .before .before .before .before .before .before .before .before .before .before .before .before .args .place .returned) (c .before .before .before .before .before .before .before .before .before .before .before .before .before .before .before .before .before .before .before .before .before .before .before .before .before .before .before .before .before .before .args .r) (c .before .before .before .before .before .before .before .before .before .before .before .before .before .before .before .before .before .before .before .before .before .before .before .before .before .before .before .before .before .before .args .choice .second) (if-second (c .before .before .before .before .before .before .before .before .before .before .before .before .before .before .before .before .before .before .before .before .before .before .before .before .before .before .before .before .before .before .args .t .now) (c .before .before .before .before .before .before .before .before .before .before .before .before .before .before .before .before .before .before .before .before .before .before .before .before .before .before .before .before .before .before .args .masks .now) (c .before .before .before .before .before .before .before .before .before .before .before .before .before .before .before .before .before .before .before .before .before .before .before .before .before .before .before .before .before .before .args .widths .now) (c .before .before .before .before .before .before .before .before .before .before .before .before .before .before .before .before .before .before .before .before .before .before .before .before .before .before .before .before .before .before .args .place .body) (c .before .before .before .before .before .before .before .before .before .before .before .before .before .before .before .before .before .before .before .before .before .before .before .before .before .before .before .before .before .before .args .place .returned) (c .before .before .before .before .before .before .before .before .before .before .before .before .before .before .before .before .before .before .before .before .before .before .before .before .before .before .before .before .before .before .args .r) (c .before .before .before .before .before .before .before .before .before .before .before .before .before .before .before .before .before .before .before .before .before .before .before .before .before .before .before .before .before .before .args .choice .test) (c .before .before .before .before .before .before .before .before .before .before .before .before .before .before .before .before .before .before .before .before .before .before .before .before .before .before .before .before .before .before .args .choice .first) (c .before .before .before .before .before .before .before .before .before .before .before .before .before .before .before .before .before .before .before .before .before .before .before .before .before .before .before .before .before .before .args .choice .second) (c .before .before .before .before .before .before .before .before .before .before .before .before .before .before .before .before .before .before .before .before .before .before .before .before .before .before .before .before .before .before .pre .1 .0) (c .before .before .before .before .before .before .before .before .before .before .before .before .before .before .before .before .before .before .before .before .before .before .before .before .before .before .before .before .before .before .pre .1 .1)), (room-between (c .before .before .before .before .before .before .before .before .before .before .before .before .before .before .before .before .before .before .before .before .before .before .before .before .before .before .before .before .before .before .args .t .now) (c .before .before .before .before .before .before .before .before .before .before .before .before .before .before .before .before .before .before .before .before .before .before .before .before .before .before .before .before .before .before .args .masks .now) (c .before .before .before .before .before .before .before .before .before .before .before .before .before .before .before .before .before .before .before .before .before .before .before .before .before .before .before .before .before .before .args .widths .now) (c .before .before .before .before .before .before .before .before .before .before .before .before .before .before .before .before .before .before .before .before .before .before .before .before .before .before .before .before .before .before .args .place .body) (c .before .before .before .before .before .before .before .before .before .before .before .before .before .before .before .before .before .before .before .before .before .before .before .before .before .before .before .before .before .before .args .place .returned) (c .before .before .before .before .before .before .before .before .before .before .before .before .before .before .before .before .before .before .before .before .before .before .before .before .before .before .before .before .before .before .args .r) (c .before .before .before .before .before .before .before .before .before .before .before .before .before .before .before .before .before .before .before .before .before .before .before .before .before .before .before .before .before .before .args .choice .test) (c .before .before .before .before .before .before .before .before .before .before .before .before .before .before .before .before .before .before .before .before .before .before .before .before .before .before .before .before .before .before .args .choice .first) (c .before .before .before .before .before .before .before .before .before .before .before .before .before .before .before .before .before .before .before .before .before .before .before .before .before .before .before .before .before .before .args .choice .second) (c .before .before .before .before .before .before .before .before .before .before .before .before .before .before .before .before .before .before .before .before .before .before .before .before .before .before .before .before .before .before .pre .1 .0) (c .before .before .before .before .before .before .before .before .before .before .before .before .before .before .before .before .before .before .before .before .before .before .before .before .before .before .before .before .before .before .pre .1 .1) _ _ _ _ _ ((room-first (c .before .before .before .before .before .before .before .before .before .before .before .before .before .before .before .before .before .before .before .before .before .before .before .before .before .before .before .before .before .before .args .t .now) (c .before .before .before .before .before .before .before .before .before .before .before .before .before .before .before .before .before .before .before .before .before .before .before .before .before .before .before .before .before .before .args .masks .now) (c .before .before .before .before .before .before .before .before .before .before .before .before .before .before .before .before .before .before .before .before .before .before .before .before .before .before .before .before .before .before .args .widths .now) (c .before .before .before .before .before .before .before .before .before .before .before .before .before .before .before .before .before .before .before .before .before .before .before .before .before .before .before .before .before .before .args .place .body) (c .before .before .before .before .before .before .before .before .before .before .before .before .before .before .before .before .before .before .before .before .before .before .before .before .before .before .before .before .before .before .args .place .returned) (c .before .before .before .before .before .before .before .before .before .before .before .before .before .before .before .before .before .before .before .before .before .before .before .before .before .before .before .before .before .before .args .r) (c .before .before .before .before .before .before .before .before .before .before .before .before .before .before .before .before .before .before .before .before .before .before .before .before .before .before .before .before .before .before .args .choice .test) (c .before .before .before .before .before .before .before .before .before .before .before .before .before .before .before .before .before .before .before .before .before .before .before .before .before .before .before .before .before .before .args .choice .first) (c .before .before .before .before .before .before .before .before .before .before .before .before .before .before .before .before .before .before .before .before .before .before .before .before .before .before .before .before .before .before .args .choice .second) (c .before .before .before .before .before .before .before .before .before .before .before .before .before .before .before .before .before .before .before .before .before .before .before .before .before .before .before .before .before .before .pre .1 .0) (c .before .before .before .before .before .before .before .before .before .before .before .before .before .before .before .before .before .before .before .before .before .before .before .before .before .before .before .before .before .before .pre .1 .1) _ _ _ _ _ _ _ _ _ (split-second _ _ _ _ _ _ (if-split (c .before .before .before .before .before .before .before .before .before .before .before .before .before .before .before .before .before .before .before .before .before .before .before .before .before .before .before .before .before .before .args .t .now) (c .before .before .before .before .before .before .before .before .before .before .before .before .before .before .before .before .before .before .before .before .before .before .before .before .before .before .before .before .before .before .args .masks .now) (c .before .before .before .before .before .before .before .before .before .before .before .before .before .before .before .before .before .before .before .before .before .before .before .before .before .before .before .before .before .before .args .widths .now) (c .before .before .before .before .before .before .before .before .before .before .before .before .before .before .before .before .before .before .before .before .before .before .before .before .before .before .before .before .before .before .args .place .body) (c .before .before .before .before .before .before .before .before .before .before .before .before .before .before .before .before .before .before .before .before .before .before .before .before .before .before .before .before .before .before .args .place .returned) (c .before .before .before .before .before .before .before .before .before .before .before .before .before .before .before .before .before .before .before .before .before .before .before .before .before .before .before .before .before .before .args .r) (c .before .before .before .before .before .before .before .before .before .before .before .before .before .before .before .before .before .before .before .before .before .before .before .before .before .before .before .before .before .before .args .choice .test) (c .before .before .before .before .before .before .before .before .before .before .before .before .before .before .before .before .before .before .before .before .before .before .before .before .before .before .before .before .before .before .args .choice .first) (c .before .before .before .before .before .before .before .before .before .before .before .before .before .before .before .before .before .before .before .before .before .before .before .before .before .before .before .before .before .before .args .choice .second) (c .before .before .before .before .before .before .before .before .before .before .before .before .before .before .before .before .before .before .before .before .before .before .before .before .before .before .before .before .before .before .pre .1 .0) (c .before .before .before .before .before .before .before .before .before .before .before .before .before .before .before .before .before .before .before .before .before .before .before .before .before .before .before .before .before .before .pre .1 .1) (c .before .before .before .before .before .before .before .before .before .before .before .before .before .before .before .before .before .before .before .before .before .before .before .before .before .before .before .before .before .before .args .next .link) (c .before .before .before .before .before .before .before .before .before .before .before .before .before .before .before .before .before .before .before .before .before .before .before .before .before .before .before .before .before .before .args .next .operator) (c .before .before .before .before .before .before .before .before .before .before .before .before .before .before .before .before .before .before .before .before .before .before .before .before .before .before .before .before .before .before .pre .1 .2)) _ _ _ _ _ _ _ _ (c .before .before .before .before .before .before .before .before .before .before .before .before .before .before .before .row .result) (fork-same _ _ _ _ _ _ _ _ _ _ _ (λ i. bitAnd (c .before .before .before .before .before .before .before .before .before .before .before .before .before .before .before .before .before .before .before .before .before .before .mask-at3 .ensures i) (bitOr (c .before .before .before .before .before .before .before .before .before .before .before .before .before .before .before .before .before .before .before .before .before .before .before .before .before .mask-at .ensures i) (c .before .before .before .before .before .before .before .before .before .before .before .before .before .before .before .before .before .before .before .before .before .before .before .before .mask-at2 .ensures i))) (c .before .before .before .before .before .before .before .before .before .before .before .before .before .before .before .before .before .before .before .before .before .fork .ensures)) (c .before .before .before .before .before .before .before .before .before .before .before .before .before .before .before .row .ensures .done)) (fork-same _ _ _ _ _ _ _ _ _ _ _ (ap₂ bitAnd (c .before .before .before .before .before .before .before .before .before .before .before .before .before .before .before .before .before .before .before .before .before .before .before .before .before .mask-at .ensures) (c .before .before .before .before .before .before .before .before .before .before .before .before .before .before .before .before .before .before .before .before .before .before .before .before .mask-at2 .ensures)) (c .before .before .before .before .before .before .before .before .before .before .before .fork2 .ensures))) .3) ((room-first (c .before .before .before .before .before .before .before .before .before .before .before .before .before .before .before .before .before .before .before .before .before .before .before .before .before .before .before .before .before .before .args .t .now) (c .before .before .before .before .before .before .before .before .before .before .before .before .before .before .before .before .before .before .before .before .before .before .before .before .before .before .before .before .before .before .args .masks .now) (c .before .before .before .before .before .before .before .before .before .before .before .before .before .before .before .before .before .before .before .before .before .before .before .before .before .before .before .before .before .before .args .widths .now) (c .before .before .before .before .before .before .before .before .before .before .before .before .before .before .before .before .before .before .before .before .before .before .before .before .before .before .before .before .before .before .args .place .body) (c .before .before .before .before .before .before .before .before .before .before .before .before .before .before .before .before .before .before .before .before .before .before .before .before .before .before .before .before .before .before .args .place .returned) (c .before .before .before .before .before .before .before .before .before .before .before .before .before .before .before .before .before .before .before .before .before .before .before .before .before .before .before .before .before .before .args .r) (c .before .before .before .before .before .before .before .before .before .before .before .before .before .before .before .before .before .before .before .before .before .before .before .before .before .before .before .before .before .before .args .choice .test) (c .before .before .before .before .before .before .before .before .before .before .before .before .before .before .before .before .before .before .before .before .before .before .before .before .before .before .before .before .before .before .args .choice .first) (c .before .before .before .before .before .before .before .before .before .before .before .before .before .before .before .before .before .before .before .before .before .before .before .before .before .before .before .before .before .before .args .choice .second) (c .before .before .before .before .before .before .before .before .before .before .before .before .before .before .before .before .before .before .before .before .before .before .before .before .before .before .before .before .before .before .pre .1 .0) (c .before .before .before .before .before .before .before .before .before .before .before .before .before .before .before .before .before .before .before .before .before .before .before .before .before .before .before .before .before .before .pre .1 .1) _ _ _ _ _ _ _ _ _ (split-second _ _ _ _ _ _ (if-split (c .before .before .before .before .before .before .before .before .before .before .before .before .before .before .before .before .before .before .before .before .before .before .before .before .before .before .before .before .before .before .args .t .now) (c .before .before .before .before .before .before .before .before .before .before .before .before .before .before .before .before .before .before .before .before .before .before .before .before .before .before .before .before .before .before .args .masks .now) (c .before .before .before .before .before .before .before .before .before .before .before .before .before .before .before .before .before .before .before .before .before .before .before .before .before .before .before .before .before .before .args .widths .now) (c .before .before .before .before .before .before .before .before .before .before .before .before .before .before .before .before .before .before .before .before .before .before .before .before .before .before .before .before .before .before .args .place .body) (c .before .before .before .before .before .before .before .before .before .before .before .before .before .before .before .before .before .before .before .before .before .before .before .before .before .before .before .before .before .before .args .place .returned) (c .before .before .before .before .before .before .before .before .before .before .before .before .before .before .before .before .before .before .before .before .before .before .before .before .before .before .before .before .before .before .args .r) (c .before .before .before .before .before .before .before .before .before .before .before .before .before .before .before .before .before .before .before .before .before .before .before .before .before .before .before .before .before .before .args .choice .test) (c .before .before .before .before .before .before .before .before .before .before .before .before .before .before .before .before .before .before .before .before .before .before .before .before .before .before .before .before .before .before .args .choice .first) (c .before .before .before .before .before .before .before .before .before .before .before .before .before .before .before .before .before .before .before .before .before .before .before .before .before .before .before .before .before .before .args .choice .second) (c .before .before .before .before .before .before .before .before .before .before .before .before .before .before .before .before .before .before .before .before .before .before .before .before .before .before .before .before .before .before .pre .1 .0) (c .before .before .before .before .before .before .before .before .before .before .before .before .before .before .before .before .before .before .before .before .before .before .before .before .before .before .before .before .before .before .pre .1 .1) (c .before .before .before .before .before .before .before .before .before .before .before .before .before .before .before .before .before .before .before .before .before .before .before .before .before .before .before .before .before .before .args .next .link) (c .before .before .before .before .before .before .before .before .before .before .before .before .before .before .before .before .before .before .before .before .before .before .before .before .before .before .before .before .before .before .args .next .operator) (c .before .before .before .before .before .before .before .before .before .before .before .before .before .before .before .before .before .before .before .before .before .before .before .before .before .before .before .before .before .before .pre .1 .2)) _ _ _ _ _ _ _ _ (c .before .before .before .before .before .before .before .before .before .before .before .before .before .before .before .row .result) (fork-same _ _ _ _ _ _ _ _ _ _ _ (λ i. bitAnd (c .before .before .before .before .before .before .before .before .before .before .before .before .before .before .before .before .before .before .before .before .before .before .mask-at3 .ensures i) (bitOr (c .before .before .before .before .before .before .before .before .before .before .before .before .before .before .before .before .before .before .before .before .before .before .before .before .before .mask-at .ensures i) (c .before .before .before .before .before .before .before .before .before .before .before .before .before .before .before .before .before .before .before .before .before .before .before .before .mask-at2 .ensures i))) (c .before .before .before .before .before .before .before .before .before .before .before .before .before .before .before .before .before .before .before .before .before .fork .ensures)) (c .before .before .before .before .before .before .before .before .before .before .before .before .before .before .before .row .ensures .done)) (fork-same _ _ _ _ _ _ _ _ _ _ _ (ap₂ bitAnd (c .before .before .before .before .before .before .before .before .before .before .before .before .before .before .before .before .before .before .before .before .before .before .before .before .before .mask-at .ensures) (c .before .before .before .before .before .before .before .before .before .before .before .before .before .before .before .before .before .before .before .before .before .before .before .before .mask-at2 .ensures)) (c .before .before .before .before .before .before .before .before .before .before .before .fork2 .ensures))) .4) (c .before .before .before .before .arm .ensures .armed .operators) (c .before .before .before .before .arm .ensures .armed .links)) .0, (room-between (c .before .before .before .before .before .before .before .before .before .before .before .before .before .before .before .before .before .before .before .before .before .before .before .before .before .before .before .before .before .before .args .t .now) (c .before .before .before .before .before .before .before .before .before .before .before .before .before .before .before .before .before .before .before .before .before .before .before .before .before .before .before .before .before .before .args .masks .now) (c .before .before .before .before .before .before .before .before .before .before .before .before .before .before .before .before .before .before .before .before .before .before .before .before .before .before .before .before .before .before .args .widths .now) (c .before .before .before .before .before .before .before .before .before .before .before .before .before .before .before .before .before .before .before .before .before .before .before .before .before .before .before .before .before .before .args .place .body) (c .before .before .before .before .before .before .before .before .before .before .before .before .before .before .before .before .before .before .before .before .before .before .before .before .before .before .before .before .before .before .args .place .returned) (c .before .before .before .before .before .before .before .before .before .before .before .before .before .before .before .before .before .before .before .before .before .before .before .before .before .before .before .before .before .before .args .r) (c .before .before .before .before .before .before .before .before .before .before .before .before .before .before .before .before .before .before .before .before .before .before .before .before .before .before .before .before .before .before .args .choice .test) (c .before .before .before .before .before .before .before .before .before .before .before .before .before .before .before .before .before .before .before .before .before .before .before .before .before .before .before .before .before .before .args .choice .first) (c .before .before .before .before .before .before .before .before .before .before .before .before .before .before .before .before .before .before .before .before .before .before .before .before .before .before .before .before .before .before .args .choice .second) (c .before .before .before .before .before .before .before .before .before .before .before .before .before .before .before .before .before .before .before .before .before .before .before .before .before .before .before .before .before .before .pre .1 .0) (c .before .before .before .before .before .before .before .before .before .before .before .before .before .before .before .before .before .before .before .before .before .before .before .before .before .before .before .before .before .before .pre .1 .1) _ _ _ _ _ ((room-first (c .before .before .before .before .before .before .before .before .before .before .before .before .before .before .before .before .before .before .before .before .before .before .before .before .before .before .before .before .before .before .args .t .now) (c .before .before .before .before .before .before .before .before .before .before .before .before .before .before .before .before .before .before .before .before .before .before .before .before .before .before .before .before .before .before .args .masks .now) (c .before .before .before .before .before .before .before .before .before .before .before .before .before .before .before .before .before .before .before .before .before .before .before .before .before .before .before .before .before .before .args .widths .now) (c .before .before .before .before .before .before .before .before .before .before .before .before .before .before .before .before .before .before .before .before .before .before .before .before .before .before .before .before .before .before .args .place .body) (c .before .before .before .before .before .before .before .before .before .before .before .before .before .before .before .before .before .before .before .before .before .before .before .before .before .before .before .before .before .before .args .place .returned) (c .before .before .before .before .before .before .before .before .before .before .before .before .before .before .before .before .before .before .before .before .before .before .before .before .before .before .before .before .before .before .args .r) (c .before .before .before .before .before .before .before .before .before .before .before .before .before .before .before .before .before .before .before .before .before .before .before .before .before .before .before .before .before .before .args .choice .test) (c .before .before .before .before .before .before .before .before .before .before .before .before .before .before .before .before .before .before .before .before .before .before .before .before .before .before .before .before .before .before .args .choice .first) (c .before .before .before .before .before .before .before .before .before .before .before .before .before .before .before .before .before .before .before .before .before .before .before .before .before .before .before .before .before .before .args .choice .second) (c .before .before .before .before .before .before .before .before .before .before .before .before .before .before .before .before .before .before .before .before .before .before .before .before .before .before .before .before .before .before .pre .1 .0) (c .before .before .before .before .before .before .before .before .before .before .before .before .before .before .before .before .before .before .before .before .before .before .before .before .before .before .before .before .before .before .pre .1 .1) _ _ _ _ _ _ _ _ _ (split-second _ _ _ _ _ _ (if-split (c .before .before .before .before .before .before .before .before .before .before .before .before .before .before .before .before .before .before .before .before .before .before .before .before .before .before .before .before .before .before .args .t .now) (c .before .before .before .before .before .before .before .before .before .before .before .before .before .before .before .before .before .before .before .before .before .before .before .before .before .before .before .before .before .before .args .masks .now) (c .before .before .before .before .before .before .before .before .before .before .before .before .before .before .before .before .before .before .before .before .before .before .before .before .before .before .before .before .before .before .args .widths .now) (c .before .before .before .before .before .before .before .before .before .before .before .before .before .before .before .before .before .before .before .before .before .before .before .before .before .before .before .before .before .before .args .place .body) (c .before .before .before .before .before .before .before .before .before .before .before .before .before .before .before .before .before .before .before .before .before .before .before .before .before .before .before .before .before .before .args .place .returned) (c .before .before .before .before .before .before .before .before .before .before .before .before .before .before .before .before .before .before .before .before .before .before .before .before .before .before .before .before .before .before .args .r) (c .before .before .before .before .before .before .before .before .before .before .before .before .before .before .before .before .before .before .before .before .before .before .before .before .before .before .before .before .before .before .args .choice .test) (c .before .before .before .before .before .before .before .before .before .before .before .before .before .before .before .before .before .before .before .before .before .before .before .before .before .before .before .before .before .before .args .choice .first) (c .before .before .before .before .before .before .before .before .before .before .before .before .before .before .before .before .before .before .before .before .before .before .before .before .before .before .before .before .before .before .args .choice .second) (c .before .before .before .before .before .before .before .before .before .before .before .before .before .before .before .before .before .before .before .before .before .before .before .before .before .before .before .before .before .before .pre .1 .0) (c .before .before .before .before .before .before .before .before .before .before .before .before .before .before .before .before .before .before .before .before .before .before .before .before .before .before .before .before .before .before .pre .1 .1) (c .before .before .before .before .before .before .before .before .before .before .before .before .before .before .before .before .before .before .before .before .before .before .before .before .before .before .before .before .before .before .args .next .link) (c .before .before .before .before .before .before .before .before .before .before .before .before .before .before .before .before .before .before .before .before .before .before .before .before .before .before .before .before .before .before .args .next .operator) (c .before .before .before .before .before .before .before .before .before .before .before .before .before .before .before .before .before .before .before .before .before .before .before .before .before .before .before .before .before .before .pre .1 .2)) _ _ _ _ _ _ _ _ (c .before .before .before .before .before .before .before .before .before .before .before .before .before .before .before .row .result) (fork-same _ _ _ _ _ _ _ _ _ _ _ (λ i. bitAnd (c .before .before .before .before .before .before .before .before .before .before .before .before .before .before .before .before .before .before .before .before .before .before .mask-at3 .ensures i) (bitOr (c .before .before .before .before .before .before .before .before .before .before .before .before .before .before .before .before .before .before .before .before .before .before .before .before .before .mask-at .ensures i) (c .before .before .before .before .before .before .before .before .before .before .before .before .before .before .before .before .before .before .before .before .before .before .before .before .mask-at2 .ensures i))) (c .before .before .before .before .before .before .before .before .before .before .before .before .before .before .before .before .before .before .before .before .before .fork .ensures)) (c .before .before .before .before .before .before .before .before .before .before .before .before .before .before .before .row .ensures .done)) (fork-same _ _ _ _ _ _ _ _ _ _ _ (ap₂ bitAnd (c .before .before .before .before .before .before .before .before .before .before .before .before .before .before .before .before .before .before .before .before .before .before .before .before .before .mask-at .ensures) (c .before .before .before .before .before .before .before .before .before .before .before .before .before .before .before .before .before .before .before .before .before .before .before .before .mask-at2 .ensures)) (c .before .before .before .before .before .before .before .before .before .before .before .fork2 .ensures))) .3) ((room-first (c .before .before .before .before .before .before .before .before .before .before .before .before .before .before .before .before .before .before .before .before .before .before .before .before .before .before .before .before .before .before .args .t .now) (c .before .before .before .before .before .before .before .before .before .before .before .before .before .before .before .before .before .before .before .before .before .before .before .before .before .before .before .before .before .before .args .masks .now) (c .before .before .before .before .before .before .before .before .before .before .before .before .before .before .before .before .before .before .before .before .before .before .before .before .before .before .before .before .before .before .args .widths .now) (c .before .before .before .before .before .before .before .before .before .before .before .before .before .before .before .before .before .before .before .before .before .before .before .before .before .before .before .before .before .before .args .place .body) (c .before .before .before .before .before .before .before .before .before .before .before .before .before .before .before .before .before .before .before .before .before .before .before .before .before .before .before .before .before .before .args .place .returned) (c .before .before .before .before .before .before .before .before .before .before .before .before .before .before .before .before .before .before .before .before .before .before .before .before .before .before .before .before .before .before .args .r) (c .before .before .before .before .before .before .before .before .before .before .before .before .before .before .before .before .before .before .before .before .before .before .before .before .before .before .before .before .before .before .args .choice .test) (c .before .before .before .before .before .before .before .before .before .before .before .before .before .before .before .before .before .before .before .before .before .before .before .before .before .before .before .before .before .before .args .choice .first) (c .before .before .before .before .before .before .before .before .before .before .before .before .before .before .before .before .before .before .before .before .before .before .before .before .before .before .before .before .before .before .args .choice .second) (c .before .before .before .before .before .before .before .before .before .before .before .before .before .before .before .before .before .before .before .before .before .before .before .before .before .before .before .before .before .before .pre .1 .0) (c .before .before .before .before .before .before .before .before .before .before .before .before .before .before .before .before .before .before .before .before .before .before .before .before .before .before .before .before .before .before .pre .1 .1) _ _ _ _ _ _ _ _ _ (split-second _ _ _ _ _ _ (if-split (c .before .before .before .before .before .before .before .before .before .before .before .before .before .before .before .before .before .before .before .before .before .before .before .before .before .before .before .before .before .before .args .t .now) (c .before .before .before .before .before .before .before .before .before .before .before .before .before .before .before .before .before .before .before .before .before .before .before .before .before .before .before .before .before .before .args .masks .now) (c .before .before .before .before .before .before .before .before .before .before .before .before .before .before .before .before .before .before .before .before .before .before .before .before .before .before .before .before .before .before .args .widths .now) (c .before .before .before .before .before .before .before .before .before .before .before .before .before .before .before .before .before .before .before .before .before .before .before .before .before .before .before .before .before .before .args .place .body) (c .before .before .before .before .before .before .before .before .before .before .before .before .before .before .before .before .before .before .before .before .before .before .before .before .before .before .before .before .before .before .args .place .returned) (c .before .before .before .before .before .before .before .before .before .before .before .before .before .before .before .before .before .before .before .before .before .before .before .before .before .before .before .before .before .before .args .r) (c .before .before .before .before .before .before .before .before .before .before .before .before .before .before .before .before .before .before .before .before .before .before .before .before .before .before .before .before .before .before .args .choice .test) (c .before .before .before .before .before .before .before .before .before .before .before .before .before .before .before .before .before .before .before .before .before .before .before .before .before .before .before .before .before .before .args .choice .first) (c .before .before .before .before .before .before .before .before .before .before .before .before .before .before .before .before .before .before .before .before .before .before .before .before .before .before .before .before .before .before .args .choice .second) (c .before .before .before .before .before .before .before .before .before .before .before .before .before .before .before .before .before .before .before .before .before .before .before .before .before .before .before .before .before .before .pre .1 .0) (c .before .before .before .before .before .before .before .before .before .before .before .before .before .before .before .before .before .before .before .before .before .before .before .before .before .before .before .before .before .before .pre .1 .1) (c .before .before .before .before .before .before .before .before .before .before .before .before .before .before .before .before .before .before .before .before .before .before .before .before .before .before .before .before .before .before .args .next .link) (c .before .before .before .before .before .before .before .before .before .before .before .before .before .before .before .before .before .before .before .before .before .before .before .before .before .before .before .before .before .before .args .next .operator) (c .before .before .before .before .before .before .before .before .before .before .before .before .before .before .before .before .before .before .before .before .before .before .before .before .before .before .before .before .before .before .pre .1 .2)) _ _ _ _ _ _ _ _ (c .before .before .before .before .before .before .before .before .before .before .before .before .before .before .before .row .result) (fork-same _ _ _ _ _ _ _ _ _ _ _ (λ i. bitAnd (c .before .before .before .before .before .before .before .before .before .before .before .before .before .before .before .before .before .before .before .before .before .before .mask-at3 .ensures i) (bitOr (c .before .before .before .before .before .before .before .before .before .before .before .before .before .before .before .before .before .before .before .before .before .before .before .before .before .mask-at .ensures i) (c .before .before .before .before .before .before .before .before .before .before .before .before .before .before .before .before .before .before .before .before .before .before .before .before .mask-at2 .ensures i))) (c .before .before .before .before .before .before .before .before .before .before .before .before .before .before .before .before .before .before .before .before .before .fork .ensures)) (c .before .before .before .before .before .before .before .before .before .before .before .before .before .before .before .row .ensures .done)) (fork-same _ _ _ _ _ _ _ _ _ _ _ (ap₂ bitAnd (c .before .before .before .before .before .before .before .before .before .before .before .before .before .before .before .before .before .before .before .before .before .before .before .before .before .mask-at .ensures) (c .before .before .before .before .before .before .before .before .before .before .before .before .before .before .before .before .before .before .before .before .before .before .before .before .mask-at2 .ensures)) (c .before .before .before .before .before .before .before .before .before .before .before .fork2 .ensures))) .4) (c .before .before .before .before .arm .ensures .armed .operators) (c .before .before .before .before .arm .ensures .armed .links)) .1, (room-between (c .before .before .before .before .before .before .before .before .before .before .before .before .before .before .before .before .before .before .before .before .before .before .before .before .before .before .before .before .before .before .args .t .now) (c .before .before .before .before .before .before .before .before .before .before .before .before .before .before .before .before .before .before .before .before .before .before .before .before .before .before .before .before .before .before .args .masks .now) (c .before .before .before .before .before .before .before .before .before .before .before .before .before .before .before .before .before .before .before .before .before .before .before .before .before .before .before .before .before .before .args .widths .now) (c .before .before .before .before .before .before .before .before .before .before .before .before .before .before .before .before .before .before .before .before .before .before .before .before .before .before .before .before .before .before .args .place .body) (c .before .before .before .before .before .before .before .before .before .before .before .before .before .before .before .before .before .before .before .before .before .before .before .before .before .before .before .before .before .before .args .place .returned) (c .before .before .before .before .before .before .before .before .before .before .before .before .before .before .before .before .before .before .before .before .before .before .before .before .before .before .before .before .before .before .args .r) (c .before .before .before .before .before .before .before .before .before .before .before .before .before .before .before .before .before .before .before .before .before .before .before .before .before .before .before .before .before .before .args .choice .test) (c .before .before .before .before .before .before .before .before .before .before .before .before .before .before .before .before .before .before .before .before .before .before .before .before .before .before .before .before .before .before .args .choice .first) (c .before .before .before .before .before .before .before .before .before .before .before .before .before .before .before .before .before .before .before .before .before .before .before .before .before .before .before .before .before .before .args .choice .second) (c .before .before .before .before .before .before .before .before .before .before .before .before .before .before .before .before .before .before .before .before .before .before .before .before .before .before .before .before .before .before .pre .1 .0) (c .before .before .before .before .before .before .before .before .before .before .before .before .before .before .before .before .before .before .before .before .before .before .before .before .before .before .before .before .before .before .pre .1 .1) _ _ _ _ _ ((room-first (c .before .before .before .before .before .before .before .before .before .before .before .before .before .before .before .before .before .before .before .before .before .before .before .before .before .before .before .before .before .before .args .t .now) (c .before .before .before .before .before .before .before .before .before .before .before .before .before .before .before .before .before .before .before .before .before .before .before .before .before .before .before .before .before .before .args .masks .now) (c .before .before .before .before .before .before .before .before .before .before .before .before .before .before .before .before .before .before .before .before .before .before .before .before .before .before .before .before .before .before .args .widths .now) (c .before .before .before .before .before .before .before .before .before .before .before .before .before .before .before .before .before .before .before .before .before .before .before .before .before .before .before .before .before .before .args .place .body) (c .before .before .before .before .before .before .before .before .before .before .before .before .before .before .before .before .before .before .before .before .before .before .before .before .before .before .before .before .before .before .args .place .returned) (c .before .before .before .before .before .before .before .before .before .before .before .before .before .before .before .before .before .before .before .before .before .before .before .before .before .before .before .before .before .before .args .r) (c .before .before .before .before .before .before .before .before .before .before .before .before .before .before .before .before .before .before .before .before .before .before .before .before .before .before .before .before .before .before .args .choice .test) (c .before .before .before .before .before .before .before .before .before .before .before .before .before .before .before .before .before .before .before .before .before .before .before .before .before .before .before .before .before .before .args .choice .first) (c .before .before .before .before .before .before .before .before .before .before .before .before .before .before .before .before .before .before .before .before .before .before .before .before .before .before .before .before .before .before .args .choice .second) (c .before .before .before .before .before .before .before .before .before .before .before .before .before .before .before .before .before .before .before .before .before .before .before .before .before .before .before .before .before .before .pre .1 .0) (c .before .before .before .before .before .before .before .before .before .before .before .before .before .before .before .before .before .before .before .before .before .before .before .before .before .before .before .before .before .before .pre .1 .1) _ _ _ _ _ _ _ _ _ (split-second _ _ _ _ _ _ (if-split (c .before .before .before .before .before .before .before .before .before .before .before .before .before .before .before .before .before .before .before .before .before .before .before .before .before .before .before .before .before .before .args .t .now) (c .before .before .before .before .before .before .before .before .before .before .before .before .before .before .before .before .before .before .before .before .before .before .before .before .before .before .before .before .before .before .args .masks .now) (c .before .before .before .before .before .before .before .before .before .before .before .before .before .before .before .before .before .before .before .before .before .before .before .before .before .before .before .before .before .before .args .widths .now) (c .before .before .before .before .before .before .before .before .before .before .before .before .before .before .before .before .before .before .before .before .before .before .before .before .before .before .before .before .before .before .args .place .body) (c .before .before .before .before .before .before .before .before .before .before .before .before .before .before .before .before .before .before .before .before .before .before .before .before .before .before .before .before .before .before .args .place .returned) (c .before .before .before .before .before .before .before .before .before .before .before .before .before .before .before .before .before .before .before .before .before .before .before .before .before .before .before .before .before .before .args .r) (c .before .before .before .before .before .before .before .before .before .before .before .before .before .before .before .before .before .before .before .before .before .before .before .before .before .before .before .before .before .before .args .choice .test) (c .before .before .before .before .before .before .before .before .before .before .before .before .before .before .before .before .before .before .before .before .before .before .before .before .before .before .before .before .before .before .args .choice .first) (c .before .before .before .before .before .before .before .before .before .before .before .before .before .before .before .before .before .before .before .before .before .before .before .before .before .before .before .before .before .before .args .choice .second) (c .before .before .before .before .before .before .before .before .before .before .before .before .before .before .before .before .before .before .before .before .before .before .before .before .before .before .before .before .before .before .pre .1 .0) (c .before .before .before .before .before .before .before .before .before .before .before .before .before .before .before .before .before .before .before .before .before .before .before .before .before .before .before .before .before .before .pre .1 .1) (c .before .before .before .before .before .before .before .before .before .before .before .before .before .before .before .before .before .before .before .before .before .before .before .before .before .before .before .before .before .before .args .next .link) (c .before .before .before .before .before .before .before .before .before .before .before .before .before .before .before .before .before .before .before .before .before .before .before .before .before .before .before .before .before .before .args .next .operator) (c .before .before .before .before .before .before .before .before .before .before .before .before .before .before .before .before .before .before .before .before .before .before .before .before .before .before .before .before .before .before .pre .1 .2)) _ _ _ _ _ _ _ _ (c .before .before .before .before .before .before .before .before .before .before .before .before .before .before .before .row .result) (fork-same _ _ _ _ _ _ _ _ _ _ _ (λ i. bitAnd (c .before .before .before .before .before .before .before .before .before .before .before .before .before .before .before .before .before .before .before .before .before .before .mask-at3 .ensures i) (bitOr (c .before .before .before .before .before .before .before .before .before .before .before .before .before .before .before .before .before .before .before .before .before .before .before .before .before .mask-at .ensures i) (c .before .before .before .before .before .before .before .before .before .before .before .before .before .before .before .before .before .before .before .before .before .before .before .before .mask-at2 .ensures i))) (c .before .before .before .before .before .before .before .before .before .before .before .before .before .before .before .before .before .before .before .before .before .fork .ensures)) (c .before .before .before .before .before .before .before .before .before .before .before .before .before .before .before .row .ensures .done)) (fork-same _ _ _ _ _ _ _ _ _ _ _ (ap₂ bitAnd (c .before .before .before .before .before .before .before .before .before .before .before .before .before .before .before .before .before .before .before .before .before .before .before .before .before .mask-at .ensures) (c .before .before .before .before .before .before .before .before .before .before .before .before .before .before .before .before .before .before .before .before .before .before .before .before .mask-at2 .ensures)) (c .before .before .before .before .before .before .before .before .before .before .before .fork2 .ensures))) .3) ((room-first (c .before .before .before .before .before .before .before .before .before .before .before .before .before .before .before .before .before .before .before .before .before .before .before .before .before .before .before .before .before .before .args .t .now) (c .before .before .before .before .before .before .before .before .before .before .before .before .before .before .before .before .before .before .before .before .before .before .before .before .before .before .before .before .before .before .args .masks .now) (c .before .before .before .before .before .before .before .before .before .before .before .before .before .before .before .before .before .before .before .before .before .before .before .before .before .before .before .before .before .before .args .widths .now) (c .before .before .before .before .before .before .before .before .before .before .before .before .before .before .before .before .before .before .before .before .before .before .before .before .before .before .before .before .before .before .args .place .body) (c .before .before .before .before .before .before .before .before .before .before .before .before .before .before .before .before .before .before .before .before .before .before .before .before .before .before .before .before .before .before .args .place .returned) (c .before .before .before .before .before .before .before .before .before .before .before .before .before .before .before .before .before .before .before .before .before .before .before .before .before .before .before .before .before .before .args .r) (c .before .before .before .before .before .before .before .before .before .before .before .before .before .before .before .before .before .before .before .before .before .before .before .before .before .before .before .before .before .before .args .choice .test) (c .before .before .before .before .before .before .before .before .before .before .before .before .before .before .before .before .before .before .before .before .before .before .before .before .before .before .before .before .before .before .args .choice .first) (c .before .before .before .before .before .before .before .before .before .before .before .before .before .before .before .before .before .before .before .before .before .before .before .before .before .before .before .before .before .before .args .choice .second) (c .before .before .before .before .before .before .before .before .before .before .before .before .before .before .before .before .before .before .before .before .before .before .before .before .before .before .before .before .before .before .pre .1 .0) (c .before .before .before .before .before .before .before .before .before .before .before .before .before .before .before .before .before .before .before .before .before .before .before .before .before .before .before .before .before .before .pre .1 .1) _ _ _ _ _ _ _ _ _ (split-second _ _ _ _ _ _ (if-split (c .before .before .before .before .before .before .before .before .before .before .before .before .before .before .before .before .before .before .before .before .before .before .before .before .before .before .before .before .before .before .args .t .now) (c .before .before .before .before .before .before .before .before .before .before .before .before .before .before .before .before .before .before .before .before .before .before .before .before .before .before .before .before .before .before .args .masks .now) (c .before .before .before .before .before .before .before .before .before .before .before .before .before .before .before .before .before .before .before .before .before .before .before .before .before .before .before .before .before .before .args .widths .now) (c .before .before .before .before .before .before .before .before .before .before .before .before .before .before .before .before .before .before .before .before .before .before .before .before .before .before .before .before .before .before .args .place .body) (c .before .before .before .before .before .before .before .before .before .before .before .before .before .before .before .before .before .before .before .before .before .before .before .before .before .before .before .before .before .before .args .place .returned) (c .before .before .before .before .before .before .before .before .before .before .before .before .before .before .before .before .before .before .before .before .before .before .before .before .before .before .before .before .before .before .args .r) (c .before .before .before .before .before .before .before .before .before .before .before .before .before .before .before .before .before .before .before .before .before .before .before .before .before .before .before .before .before .before .args .choice .test) (c .before .before .before .before .before .before .before .before .before .before .before .before .before .before .before .before .before .before .before .before .before .before .before .before .before .before .before .before .before .before .args .choice .first) (c .before .before .before .before .before .before .before .before .before .before .before .before .before .before .before .before .before .before .before .before .before .before .before .before .before .before .before .before .before .before .args .choice .second) (c .before .before .before .before .before .before .before .before .before .before .before .before .before .before .before .before .before .before .before .before .before .before .before .before .before .before .before .before .before .before .pre .1 .0) (c .before .before .before .before .before .before .before .before .before .before .before .before .before .before .before .before .before .before .before .before .before .before .before .before .before .before .before .before .before .before .pre .1 .1) (c .before .before .before .before .before .before .before .before .before .before .before .before .before .before .before .before .before .before .before .before .before .before .before .before .before .before .before .before .before .before .args .next .link) (c .before .before .before .before .before .before .before .before .before .before .before .before .before .before .before .before .before .before .before .before .before .before .before .before .before .before .before .before .before .before .args .next .operator) (c .before .before .before .before .before .before .before .before .before .before .before .before .before .before .before .before .before .before .before .before .before .before .before .before .before .before .before .before .before .before .pre .1 .2)) _ _ _ _ _ _ _ _ (c .before .before .before .before .before .before .before .before .before .before .before .before .before .before .before .row .result) (fork-same _ _ _ _ _ _ _ _ _ _ _ (λ i. bitAnd (c .before .before .before .before .before .before .before .before .before .before .before .before .before .before .before .before .before .before .before .before .before .before .mask-at3 .ensures i) (bitOr (c .before .before .before .before .before .before .before .before .before .before .before .before .before .before .before .before .before .before .before .before .before .before .before .before .before .mask-at .ensures i) (c .before .before .before .before .before .before .before .before .before .before .before .before .before .before .before .before .before .before .before .before .before .before .before .before .mask-at2 .ensures i))) (c .before .before .before .before .before .before .before .before .before .before .before .before .before .before .before .before .before .before .before .before .before .fork .ensures)) (c .before .before .before .before .before .before .before .before .before .before .before .before .before .before .before .row .ensures .done)) (fork-same _ _ _ _ _ _ _ _ _ _ _ (ap₂ bitAnd (c .before .before .before .before .before .before .before .before .before .before .before .before .before .before .before .before .before .before .before .before .before .before .before .before .before .mask-at .ensures) (c .before .before .before .before .before .before .before .before .before .before .before .before .before .before .before .before .before .before .before .before .before .before .before .before .mask-at2 .ensures)) (c .before .before .before .before .before .before .before .before .before .before .before .fork2 .ensures))) .4) (c .before .before .before .before .arm .ensures .armed .operators) (c .before .before .before .before .arm .ensures .armed .links)) .2, omega (arith, c .before .before .before .before .before .before .before .before .before .before .before .before .before .before .before .before .before .before .before .before .before .before .before .before .before .before .before .before .before .before .pre .1 .3, c .before .before .before .before .before .before .before .before .before .before .before .before .before .before .before .before .before .before .before .before .mem .given, c .before .before .before .before .before .before .before .before .before .before .before .before .before .before .mem2 .given, c .before .before .before .before .before .before .before .before .before .before .mem3 .given, c .before .before .before .mem4 .given)))
 
--- src/lib.rt:344:17  ); ⏎ let last = (y.next.link + 1) as u16;
+-- src/lib.rt:315:17  let z = arm(t, masks, widths, place, false, c, copied, no, y.next, mem); ⏎ let last = (y.next.link + 1) as u16;
 ifs-add-last : (t : ℕ) → ifs-lts.Need-add-last (
   mask-at-reads.Asked,
   mask-at-reads.Learnt,
@@ -891,7 +888,7 @@ ifs-add-last : (t : ℕ) → ifs-lts.Need-add-last (
 ) (ifs-at t) ifs.Post
 ifs-add-last t c = omega (arith, (room-between (c .before .before .before .before .before .before .before .before .before .before .before .before .before .before .before .before .before .before .before .before .before .before .before .before .before .before .before .before .before .before .before .before .before .before .args .t .now) (c .before .before .before .before .before .before .before .before .before .before .before .before .before .before .before .before .before .before .before .before .before .before .before .before .before .before .before .before .before .before .before .before .before .before .args .masks .now) (c .before .before .before .before .before .before .before .before .before .before .before .before .before .before .before .before .before .before .before .before .before .before .before .before .before .before .before .before .before .before .before .before .before .before .args .widths .now) (c .before .before .before .before .before .before .before .before .before .before .before .before .before .before .before .before .before .before .before .before .before .before .before .before .before .before .before .before .before .before .before .before .before .before .args .place .body) (c .before .before .before .before .before .before .before .before .before .before .before .before .before .before .before .before .before .before .before .before .before .before .before .before .before .before .before .before .before .before .before .before .before .before .args .place .returned) (c .before .before .before .before .before .before .before .before .before .before .before .before .before .before .before .before .before .before .before .before .before .before .before .before .before .before .before .before .before .before .before .before .before .before .args .r) (c .before .before .before .before .before .before .before .before .before .before .before .before .before .before .before .before .before .before .before .before .before .before .before .before .before .before .before .before .before .before .before .before .before .before .args .choice .test) (c .before .before .before .before .before .before .before .before .before .before .before .before .before .before .before .before .before .before .before .before .before .before .before .before .before .before .before .before .before .before .before .before .before .before .args .choice .first) (c .before .before .before .before .before .before .before .before .before .before .before .before .before .before .before .before .before .before .before .before .before .before .before .before .before .before .before .before .before .before .before .before .before .before .args .choice .second) (c .before .before .before .before .before .before .before .before .before .before .before .before .before .before .before .before .before .before .before .before .before .before .before .before .before .before .before .before .before .before .before .before .before .before .pre .1 .0) (c .before .before .before .before .before .before .before .before .before .before .before .before .before .before .before .before .before .before .before .before .before .before .before .before .before .before .before .before .before .before .before .before .before .before .pre .1 .1) _ _ _ _ _ ((room-first (c .before .before .before .before .before .before .before .before .before .before .before .before .before .before .before .before .before .before .before .before .before .before .before .before .before .before .before .before .before .before .before .before .before .before .args .t .now) (c .before .before .before .before .before .before .before .before .before .before .before .before .before .before .before .before .before .before .before .before .before .before .before .before .before .before .before .before .before .before .before .before .before .before .args .masks .now) (c .before .before .before .before .before .before .before .before .before .before .before .before .before .before .before .before .before .before .before .before .before .before .before .before .before .before .before .before .before .before .before .before .before .before .args .widths .now) (c .before .before .before .before .before .before .before .before .before .before .before .before .before .before .before .before .before .before .before .before .before .before .before .before .before .before .before .before .before .before .before .before .before .before .args .place .body) (c .before .before .before .before .before .before .before .before .before .before .before .before .before .before .before .before .before .before .before .before .before .before .before .before .before .before .before .before .before .before .before .before .before .before .args .place .returned) (c .before .before .before .before .before .before .before .before .before .before .before .before .before .before .before .before .before .before .before .before .before .before .before .before .before .before .before .before .before .before .before .before .before .before .args .r) (c .before .before .before .before .before .before .before .before .before .before .before .before .before .before .before .before .before .before .before .before .before .before .before .before .before .before .before .before .before .before .before .before .before .before .args .choice .test) (c .before .before .before .before .before .before .before .before .before .before .before .before .before .before .before .before .before .before .before .before .before .before .before .before .before .before .before .before .before .before .before .before .before .before .args .choice .first) (c .before .before .before .before .before .before .before .before .before .before .before .before .before .before .before .before .before .before .before .before .before .before .before .before .before .before .before .before .before .before .before .before .before .before .args .choice .second) (c .before .before .before .before .before .before .before .before .before .before .before .before .before .before .before .before .before .before .before .before .before .before .before .before .before .before .before .before .before .before .before .before .before .before .pre .1 .0) (c .before .before .before .before .before .before .before .before .before .before .before .before .before .before .before .before .before .before .before .before .before .before .before .before .before .before .before .before .before .before .before .before .before .before .pre .1 .1) _ _ _ _ _ _ _ _ _ (split-second _ _ _ _ _ _ (if-split (c .before .before .before .before .before .before .before .before .before .before .before .before .before .before .before .before .before .before .before .before .before .before .before .before .before .before .before .before .before .before .before .before .before .before .args .t .now) (c .before .before .before .before .before .before .before .before .before .before .before .before .before .before .before .before .before .before .before .before .before .before .before .before .before .before .before .before .before .before .before .before .before .before .args .masks .now) (c .before .before .before .before .before .before .before .before .before .before .before .before .before .before .before .before .before .before .before .before .before .before .before .before .before .before .before .before .before .before .before .before .before .before .args .widths .now) (c .before .before .before .before .before .before .before .before .before .before .before .before .before .before .before .before .before .before .before .before .before .before .before .before .before .before .before .before .before .before .before .before .before .before .args .place .body) (c .before .before .before .before .before .before .before .before .before .before .before .before .before .before .before .before .before .before .before .before .before .before .before .before .before .before .before .before .before .before .before .before .before .before .args .place .returned) (c .before .before .before .before .before .before .before .before .before .before .before .before .before .before .before .before .before .before .before .before .before .before .before .before .before .before .before .before .before .before .before .before .before .before .args .r) (c .before .before .before .before .before .before .before .before .before .before .before .before .before .before .before .before .before .before .before .before .before .before .before .before .before .before .before .before .before .before .before .before .before .before .args .choice .test) (c .before .before .before .before .before .before .before .before .before .before .before .before .before .before .before .before .before .before .before .before .before .before .before .before .before .before .before .before .before .before .before .before .before .before .args .choice .first) (c .before .before .before .before .before .before .before .before .before .before .before .before .before .before .before .before .before .before .before .before .before .before .before .before .before .before .before .before .before .before .before .before .before .before .args .choice .second) (c .before .before .before .before .before .before .before .before .before .before .before .before .before .before .before .before .before .before .before .before .before .before .before .before .before .before .before .before .before .before .before .before .before .before .pre .1 .0) (c .before .before .before .before .before .before .before .before .before .before .before .before .before .before .before .before .before .before .before .before .before .before .before .before .before .before .before .before .before .before .before .before .before .before .pre .1 .1) (c .before .before .before .before .before .before .before .before .before .before .before .before .before .before .before .before .before .before .before .before .before .before .before .before .before .before .before .before .before .before .before .before .before .before .args .next .link) (c .before .before .before .before .before .before .before .before .before .before .before .before .before .before .before .before .before .before .before .before .before .before .before .before .before .before .before .before .before .before .before .before .before .before .args .next .operator) (c .before .before .before .before .before .before .before .before .before .before .before .before .before .before .before .before .before .before .before .before .before .before .before .before .before .before .before .before .before .before .before .before .before .before .pre .1 .2)) _ _ _ _ _ _ _ _ (c .before .before .before .before .before .before .before .before .before .before .before .before .before .before .before .before .before .before .before .row .result) (fork-same _ _ _ _ _ _ _ _ _ _ _ (λ i. bitAnd (c .before .before .before .before .before .before .before .before .before .before .before .before .before .before .before .before .before .before .before .before .before .before .before .before .before .before .mask-at3 .ensures i) (bitOr (c .before .before .before .before .before .before .before .before .before .before .before .before .before .before .before .before .before .before .before .before .before .before .before .before .before .before .before .before .before .mask-at .ensures i) (c .before .before .before .before .before .before .before .before .before .before .before .before .before .before .before .before .before .before .before .before .before .before .before .before .before .before .before .before .mask-at2 .ensures i))) (c .before .before .before .before .before .before .before .before .before .before .before .before .before .before .before .before .before .before .before .before .before .before .before .before .before .fork .ensures)) (c .before .before .before .before .before .before .before .before .before .before .before .before .before .before .before .before .before .before .before .row .ensures .done)) (fork-same _ _ _ _ _ _ _ _ _ _ _ (ap₂ bitAnd (c .before .before .before .before .before .before .before .before .before .before .before .before .before .before .before .before .before .before .before .before .before .before .before .before .before .before .before .before .before .mask-at .ensures) (c .before .before .before .before .before .before .before .before .before .before .before .before .before .before .before .before .before .before .before .before .before .before .before .before .before .before .before .before .mask-at2 .ensures)) (c .before .before .before .before .before .before .before .before .before .before .before .before .before .before .before .fork2 .ensures))) .3) ((room-first (c .before .before .before .before .before .before .before .before .before .before .before .before .before .before .before .before .before .before .before .before .before .before .before .before .before .before .before .before .before .before .before .before .before .before .args .t .now) (c .before .before .before .before .before .before .before .before .before .before .before .before .before .before .before .before .before .before .before .before .before .before .before .before .before .before .before .before .before .before .before .before .before .before .args .masks .now) (c .before .before .before .before .before .before .before .before .before .before .before .before .before .before .before .before .before .before .before .before .before .before .before .before .before .before .before .before .before .before .before .before .before .before .args .widths .now) (c .before .before .before .before .before .before .before .before .before .before .before .before .before .before .before .before .before .before .before .before .before .before .before .before .before .before .before .before .before .before .before .before .before .before .args .place .body) (c .before .before .before .before .before .before .before .before .before .before .before .before .before .before .before .before .before .before .before .before .before .before .before .before .before .before .before .before .before .before .before .before .before .before .args .place .returned) (c .before .before .before .before .before .before .before .before .before .before .before .before .before .before .before .before .before .before .before .before .before .before .before .before .before .before .before .before .before .before .before .before .before .before .args .r) (c .before .before .before .before .before .before .before .before .before .before .before .before .before .before .before .before .before .before .before .before .before .before .before .before .before .before .before .before .before .before .before .before .before .before .args .choice .test) (c .before .before .before .before .before .before .before .before .before .before .before .before .before .before .before .before .before .before .before .before .before .before .before .before .before .before .before .before .before .before .before .before .before .before .args .choice .first) (c .before .before .before .before .before .before .before .before .before .before .before .before .before .before .before .before .before .before .before .before .before .before .before .before .before .before .before .before .before .before .before .before .before .before .args .choice .second) (c .before .before .before .before .before .before .before .before .before .before .before .before .before .before .before .before .before .before .before .before .before .before .before .before .before .before .before .before .before .before .before .before .before .before .pre .1 .0) (c .before .before .before .before .before .before .before .before .before .before .before .before .before .before .before .before .before .before .before .before .before .before .before .before .before .before .before .before .before .before .before .before .before .before .pre .1 .1) _ _ _ _ _ _ _ _ _ (split-second _ _ _ _ _ _ (if-split (c .before .before .before .before .before .before .before .before .before .before .before .before .before .before .before .before .before .before .before .before .before .before .before .before .before .before .before .before .before .before .before .before .before .before .args .t .now) (c .before .before .before .before .before .before .before .before .before .before .before .before .before .before .before .before .before .before .before .before .before .before .before .before .before .before .before .before .before .before .before .before .before .before .args .masks .now) (c .before .before .before .before .before .before .before .before .before .before .before .before .before .before .before .before .before .before .before .before .before .before .before .before .before .before .before .before .before .before .before .before .before .before .args .widths .now) (c .before .before .before .before .before .before .before .before .before .before .before .before .before .before .before .before .before .before .before .before .before .before .before .before .before .before .before .before .before .before .before .before .before .before .args .place .body) (c .before .before .before .before .before .before .before .before .before .before .before .before .before .before .before .before .before .before .before .before .before .before .before .before .before .before .before .before .before .before .before .before .before .before .args .place .returned) (c .before .before .before .before .before .before .before .before .before .before .before .before .before .before .before .before .before .before .before .before .before .before .before .before .before .before .before .before .before .before .before .before .before .before .args .r) (c .before .before .before .before .before .before .before .before .before .before .before .before .before .before .before .before .before .before .before .before .before .before .before .before .before .before .before .before .before .before .before .before .before .before .args .choice .test) (c .before .before .before .before .before .before .before .before .before .before .before .before .before .before .before .before .before .before .before .before .before .before .before .before .before .before .before .before .before .before .before .before .before .before .args .choice .first) (c .before .before .before .before .before .before .before .before .before .before .before .before .before .before .before .before .before .before .before .before .before .before .before .before .before .before .before .before .before .before .before .before .before .before .args .choice .second) (c .before .before .before .before .before .before .before .before .before .before .before .before .before .before .before .before .before .before .before .before .before .before .before .before .before .before .before .before .before .before .before .before .before .before .pre .1 .0) (c .before .before .before .before .before .before .before .before .before .before .before .before .before .before .before .before .before .before .before .before .before .before .before .before .before .before .before .before .before .before .before .before .before .before .pre .1 .1) (c .before .before .before .before .before .before .before .before .before .before .before .before .before .before .before .before .before .before .before .before .before .before .before .before .before .before .before .before .before .before .before .before .before .before .args .next .link) (c .before .before .before .before .before .before .before .before .before .before .before .before .before .before .before .before .before .before .before .before .before .before .before .before .before .before .before .before .before .before .before .before .before .before .args .next .operator) (c .before .before .before .before .before .before .before .before .before .before .before .before .before .before .before .before .before .before .before .before .before .before .before .before .before .before .before .before .before .before .before .before .before .before .pre .1 .2)) _ _ _ _ _ _ _ _ (c .before .before .before .before .before .before .before .before .before .before .before .before .before .before .before .before .before .before .before .row .result) (fork-same _ _ _ _ _ _ _ _ _ _ _ (λ i. bitAnd (c .before .before .before .before .before .before .before .before .before .before .before .before .before .before .before .before .before .before .before .before .before .before .before .before .before .before .mask-at3 .ensures i) (bitOr (c .before .before .before .before .before .before .before .before .before .before .before .before .before .before .before .before .before .before .before .before .before .before .before .before .before .before .before .before .before .mask-at .ensures i) (c .before .before .before .before .before .before .before .before .before .before .before .before .before .before .before .before .before .before .before .before .before .before .before .before .before .before .before .before .mask-at2 .ensures i))) (c .before .before .before .before .before .before .before .before .before .before .before .before .before .before .before .before .before .before .before .before .before .before .before .before .before .fork .ensures)) (c .before .before .before .before .before .before .before .before .before .before .before .before .before .before .before .before .before .before .before .row .ensures .done)) (fork-same _ _ _ _ _ _ _ _ _ _ _ (ap₂ bitAnd (c .before .before .before .before .before .before .before .before .before .before .before .before .before .before .before .before .before .before .before .before .before .before .before .before .before .before .before .before .before .mask-at .ensures) (c .before .before .before .before .before .before .before .before .before .before .before .before .before .before .before .before .before .before .before .before .before .before .before .before .before .before .before .before .mask-at2 .ensures)) (c .before .before .before .before .before .before .before .before .before .before .before .before .before .before .before .fork2 .ensures))) .4) (c .before .before .before .before .before .before .before .before .arm .ensures .armed .operators) (c .before .before .before .before .before .before .before .before .arm .ensures .armed .links)) .1)
 
--- src/lib.rt:344:16  ); ⏎ let last = (y.next.link + 1) as u16;
+-- src/lib.rt:315:16  let z = arm(t, masks, widths, place, false, c, copied, no, y.next, mem); ⏎ let last = (y.next.link + 1) as u16;
 ifs-cast-last : (t : ℕ) → ifs-lts.Need-cast-last (
   mask-at-reads.Asked,
   mask-at-reads.Learnt,
@@ -906,7 +903,7 @@ ifs-cast-last : (t : ℕ) → ifs-lts.Need-cast-last (
 ) (ifs-at t) ifs.Post
 ifs-cast-last t c = omega (arith, (room-between (c .before .before .before .before .before .before .before .before .before .before .before .before .before .before .before .before .before .before .before .before .before .before .before .before .before .before .before .before .before .before .before .before .before .before .args .t .now) (c .before .before .before .before .before .before .before .before .before .before .before .before .before .before .before .before .before .before .before .before .before .before .before .before .before .before .before .before .before .before .before .before .before .before .args .masks .now) (c .before .before .before .before .before .before .before .before .before .before .before .before .before .before .before .before .before .before .before .before .before .before .before .before .before .before .before .before .before .before .before .before .before .before .args .widths .now) (c .before .before .before .before .before .before .before .before .before .before .before .before .before .before .before .before .before .before .before .before .before .before .before .before .before .before .before .before .before .before .before .before .before .before .args .place .body) (c .before .before .before .before .before .before .before .before .before .before .before .before .before .before .before .before .before .before .before .before .before .before .before .before .before .before .before .before .before .before .before .before .before .before .args .place .returned) (c .before .before .before .before .before .before .before .before .before .before .before .before .before .before .before .before .before .before .before .before .before .before .before .before .before .before .before .before .before .before .before .before .before .before .args .r) (c .before .before .before .before .before .before .before .before .before .before .before .before .before .before .before .before .before .before .before .before .before .before .before .before .before .before .before .before .before .before .before .before .before .before .args .choice .test) (c .before .before .before .before .before .before .before .before .before .before .before .before .before .before .before .before .before .before .before .before .before .before .before .before .before .before .before .before .before .before .before .before .before .before .args .choice .first) (c .before .before .before .before .before .before .before .before .before .before .before .before .before .before .before .before .before .before .before .before .before .before .before .before .before .before .before .before .before .before .before .before .before .before .args .choice .second) (c .before .before .before .before .before .before .before .before .before .before .before .before .before .before .before .before .before .before .before .before .before .before .before .before .before .before .before .before .before .before .before .before .before .before .pre .1 .0) (c .before .before .before .before .before .before .before .before .before .before .before .before .before .before .before .before .before .before .before .before .before .before .before .before .before .before .before .before .before .before .before .before .before .before .pre .1 .1) _ _ _ _ _ ((room-first (c .before .before .before .before .before .before .before .before .before .before .before .before .before .before .before .before .before .before .before .before .before .before .before .before .before .before .before .before .before .before .before .before .before .before .args .t .now) (c .before .before .before .before .before .before .before .before .before .before .before .before .before .before .before .before .before .before .before .before .before .before .before .before .before .before .before .before .before .before .before .before .before .before .args .masks .now) (c .before .before .before .before .before .before .before .before .before .before .before .before .before .before .before .before .before .before .before .before .before .before .before .before .before .before .before .before .before .before .before .before .before .before .args .widths .now) (c .before .before .before .before .before .before .before .before .before .before .before .before .before .before .before .before .before .before .before .before .before .before .before .before .before .before .before .before .before .before .before .before .before .before .args .place .body) (c .before .before .before .before .before .before .before .before .before .before .before .before .before .before .before .before .before .before .before .before .before .before .before .before .before .before .before .before .before .before .before .before .before .before .args .place .returned) (c .before .before .before .before .before .before .before .before .before .before .before .before .before .before .before .before .before .before .before .before .before .before .before .before .before .before .before .before .before .before .before .before .before .before .args .r) (c .before .before .before .before .before .before .before .before .before .before .before .before .before .before .before .before .before .before .before .before .before .before .before .before .before .before .before .before .before .before .before .before .before .before .args .choice .test) (c .before .before .before .before .before .before .before .before .before .before .before .before .before .before .before .before .before .before .before .before .before .before .before .before .before .before .before .before .before .before .before .before .before .before .args .choice .first) (c .before .before .before .before .before .before .before .before .before .before .before .before .before .before .before .before .before .before .before .before .before .before .before .before .before .before .before .before .before .before .before .before .before .before .args .choice .second) (c .before .before .before .before .before .before .before .before .before .before .before .before .before .before .before .before .before .before .before .before .before .before .before .before .before .before .before .before .before .before .before .before .before .before .pre .1 .0) (c .before .before .before .before .before .before .before .before .before .before .before .before .before .before .before .before .before .before .before .before .before .before .before .before .before .before .before .before .before .before .before .before .before .before .pre .1 .1) _ _ _ _ _ _ _ _ _ (split-second _ _ _ _ _ _ (if-split (c .before .before .before .before .before .before .before .before .before .before .before .before .before .before .before .before .before .before .before .before .before .before .before .before .before .before .before .before .before .before .before .before .before .before .args .t .now) (c .before .before .before .before .before .before .before .before .before .before .before .before .before .before .before .before .before .before .before .before .before .before .before .before .before .before .before .before .before .before .before .before .before .before .args .masks .now) (c .before .before .before .before .before .before .before .before .before .before .before .before .before .before .before .before .before .before .before .before .before .before .before .before .before .before .before .before .before .before .before .before .before .before .args .widths .now) (c .before .before .before .before .before .before .before .before .before .before .before .before .before .before .before .before .before .before .before .before .before .before .before .before .before .before .before .before .before .before .before .before .before .before .args .place .body) (c .before .before .before .before .before .before .before .before .before .before .before .before .before .before .before .before .before .before .before .before .before .before .before .before .before .before .before .before .before .before .before .before .before .before .args .place .returned) (c .before .before .before .before .before .before .before .before .before .before .before .before .before .before .before .before .before .before .before .before .before .before .before .before .before .before .before .before .before .before .before .before .before .before .args .r) (c .before .before .before .before .before .before .before .before .before .before .before .before .before .before .before .before .before .before .before .before .before .before .before .before .before .before .before .before .before .before .before .before .before .before .args .choice .test) (c .before .before .before .before .before .before .before .before .before .before .before .before .before .before .before .before .before .before .before .before .before .before .before .before .before .before .before .before .before .before .before .before .before .before .args .choice .first) (c .before .before .before .before .before .before .before .before .before .before .before .before .before .before .before .before .before .before .before .before .before .before .before .before .before .before .before .before .before .before .before .before .before .before .args .choice .second) (c .before .before .before .before .before .before .before .before .before .before .before .before .before .before .before .before .before .before .before .before .before .before .before .before .before .before .before .before .before .before .before .before .before .before .pre .1 .0) (c .before .before .before .before .before .before .before .before .before .before .before .before .before .before .before .before .before .before .before .before .before .before .before .before .before .before .before .before .before .before .before .before .before .before .pre .1 .1) (c .before .before .before .before .before .before .before .before .before .before .before .before .before .before .before .before .before .before .before .before .before .before .before .before .before .before .before .before .before .before .before .before .before .before .args .next .link) (c .before .before .before .before .before .before .before .before .before .before .before .before .before .before .before .before .before .before .before .before .before .before .before .before .before .before .before .before .before .before .before .before .before .before .args .next .operator) (c .before .before .before .before .before .before .before .before .before .before .before .before .before .before .before .before .before .before .before .before .before .before .before .before .before .before .before .before .before .before .before .before .before .before .pre .1 .2)) _ _ _ _ _ _ _ _ (c .before .before .before .before .before .before .before .before .before .before .before .before .before .before .before .before .before .before .before .row .result) (fork-same _ _ _ _ _ _ _ _ _ _ _ (λ i. bitAnd (c .before .before .before .before .before .before .before .before .before .before .before .before .before .before .before .before .before .before .before .before .before .before .before .before .before .before .mask-at3 .ensures i) (bitOr (c .before .before .before .before .before .before .before .before .before .before .before .before .before .before .before .before .before .before .before .before .before .before .before .before .before .before .before .before .before .mask-at .ensures i) (c .before .before .before .before .before .before .before .before .before .before .before .before .before .before .before .before .before .before .before .before .before .before .before .before .before .before .before .before .mask-at2 .ensures i))) (c .before .before .before .before .before .before .before .before .before .before .before .before .before .before .before .before .before .before .before .before .before .before .before .before .before .fork .ensures)) (c .before .before .before .before .before .before .before .before .before .before .before .before .before .before .before .before .before .before .before .row .ensures .done)) (fork-same _ _ _ _ _ _ _ _ _ _ _ (ap₂ bitAnd (c .before .before .before .before .before .before .before .before .before .before .before .before .before .before .before .before .before .before .before .before .before .before .before .before .before .before .before .before .before .mask-at .ensures) (c .before .before .before .before .before .before .before .before .before .before .before .before .before .before .before .before .before .before .before .before .before .before .before .before .before .before .before .before .mask-at2 .ensures)) (c .before .before .before .before .before .before .before .before .before .before .before .before .before .before .before .fork2 .ensures))) .3) ((room-first (c .before .before .before .before .before .before .before .before .before .before .before .before .before .before .before .before .before .before .before .before .before .before .before .before .before .before .before .before .before .before .before .before .before .before .args .t .now) (c .before .before .before .before .before .before .before .before .before .before .before .before .before .before .before .before .before .before .before .before .before .before .before .before .before .before .before .before .before .before .before .before .before .before .args .masks .now) (c .before .before .before .before .before .before .before .before .before .before .before .before .before .before .before .before .before .before .before .before .before .before .before .before .before .before .before .before .before .before .before .before .before .before .args .widths .now) (c .before .before .before .before .before .before .before .before .before .before .before .before .before .before .before .before .before .before .before .before .before .before .before .before .before .before .before .before .before .before .before .before .before .before .args .place .body) (c .before .before .before .before .before .before .before .before .before .before .before .before .before .before .before .before .before .before .before .before .before .before .before .before .before .before .before .before .before .before .before .before .before .before .args .place .returned) (c .before .before .before .before .before .before .before .before .before .before .before .before .before .before .before .before .before .before .before .before .before .before .before .before .before .before .before .before .before .before .before .before .before .before .args .r) (c .before .before .before .before .before .before .before .before .before .before .before .before .before .before .before .before .before .before .before .before .before .before .before .before .before .before .before .before .before .before .before .before .before .before .args .choice .test) (c .before .before .before .before .before .before .before .before .before .before .before .before .before .before .before .before .before .before .before .before .before .before .before .before .before .before .before .before .before .before .before .before .before .before .args .choice .first) (c .before .before .before .before .before .before .before .before .before .before .before .before .before .before .before .before .before .before .before .before .before .before .before .before .before .before .before .before .before .before .before .before .before .before .args .choice .second) (c .before .before .before .before .before .before .before .before .before .before .before .before .before .before .before .before .before .before .before .before .before .before .before .before .before .before .before .before .before .before .before .before .before .before .pre .1 .0) (c .before .before .before .before .before .before .before .before .before .before .before .before .before .before .before .before .before .before .before .before .before .before .before .before .before .before .before .before .before .before .before .before .before .before .pre .1 .1) _ _ _ _ _ _ _ _ _ (split-second _ _ _ _ _ _ (if-split (c .before .before .before .before .before .before .before .before .before .before .before .before .before .before .before .before .before .before .before .before .before .before .before .before .before .before .before .before .before .before .before .before .before .before .args .t .now) (c .before .before .before .before .before .before .before .before .before .before .before .before .before .before .before .before .before .before .before .before .before .before .before .before .before .before .before .before .before .before .before .before .before .before .args .masks .now) (c .before .before .before .before .before .before .before .before .before .before .before .before .before .before .before .before .before .before .before .before .before .before .before .before .before .before .before .before .before .before .before .before .before .before .args .widths .now) (c .before .before .before .before .before .before .before .before .before .before .before .before .before .before .before .before .before .before .before .before .before .before .before .before .before .before .before .before .before .before .before .before .before .before .args .place .body) (c .before .before .before .before .before .before .before .before .before .before .before .before .before .before .before .before .before .before .before .before .before .before .before .before .before .before .before .before .before .before .before .before .before .before .args .place .returned) (c .before .before .before .before .before .before .before .before .before .before .before .before .before .before .before .before .before .before .before .before .before .before .before .before .before .before .before .before .before .before .before .before .before .before .args .r) (c .before .before .before .before .before .before .before .before .before .before .before .before .before .before .before .before .before .before .before .before .before .before .before .before .before .before .before .before .before .before .before .before .before .before .args .choice .test) (c .before .before .before .before .before .before .before .before .before .before .before .before .before .before .before .before .before .before .before .before .before .before .before .before .before .before .before .before .before .before .before .before .before .before .args .choice .first) (c .before .before .before .before .before .before .before .before .before .before .before .before .before .before .before .before .before .before .before .before .before .before .before .before .before .before .before .before .before .before .before .before .before .before .args .choice .second) (c .before .before .before .before .before .before .before .before .before .before .before .before .before .before .before .before .before .before .before .before .before .before .before .before .before .before .before .before .before .before .before .before .before .before .pre .1 .0) (c .before .before .before .before .before .before .before .before .before .before .before .before .before .before .before .before .before .before .before .before .before .before .before .before .before .before .before .before .before .before .before .before .before .before .pre .1 .1) (c .before .before .before .before .before .before .before .before .before .before .before .before .before .before .before .before .before .before .before .before .before .before .before .before .before .before .before .before .before .before .before .before .before .before .args .next .link) (c .before .before .before .before .before .before .before .before .before .before .before .before .before .before .before .before .before .before .before .before .before .before .before .before .before .before .before .before .before .before .before .before .before .before .args .next .operator) (c .before .before .before .before .before .before .before .before .before .before .before .before .before .before .before .before .before .before .before .before .before .before .before .before .before .before .before .before .before .before .before .before .before .before .pre .1 .2)) _ _ _ _ _ _ _ _ (c .before .before .before .before .before .before .before .before .before .before .before .before .before .before .before .before .before .before .before .row .result) (fork-same _ _ _ _ _ _ _ _ _ _ _ (λ i. bitAnd (c .before .before .before .before .before .before .before .before .before .before .before .before .before .before .before .before .before .before .before .before .before .before .before .before .before .before .mask-at3 .ensures i) (bitOr (c .before .before .before .before .before .before .before .before .before .before .before .before .before .before .before .before .before .before .before .before .before .before .before .before .before .before .before .before .before .mask-at .ensures i) (c .before .before .before .before .before .before .before .before .before .before .before .before .before .before .before .before .before .before .before .before .before .before .before .before .before .before .before .before .mask-at2 .ensures i))) (c .before .before .before .before .before .before .before .before .before .before .before .before .before .before .before .before .before .before .before .before .before .before .before .before .before .fork .ensures)) (c .before .before .before .before .before .before .before .before .before .before .before .before .before .before .before .before .before .before .before .row .ensures .done)) (fork-same _ _ _ _ _ _ _ _ _ _ _ (ap₂ bitAnd (c .before .before .before .before .before .before .before .before .before .before .before .before .before .before .before .before .before .before .before .before .before .before .before .before .before .before .before .before .before .mask-at .ensures) (c .before .before .before .before .before .before .before .before .before .before .before .before .before .before .before .before .before .before .before .before .before .before .before .before .before .before .before .before .mask-at2 .ensures)) (c .before .before .before .before .before .before .before .before .before .before .before .before .before .before .before .fork2 .ensures))) .4) (c .before .before .before .before .before .before .before .before .arm .ensures .armed .operators) (c .before .before .before .before .before .before .before .before .arm .ensures .armed .links)) .1)
 
--- src/lib.rt:345:5  let last = (y.next.link + 1) as u16; ⏎ joined(mem, place, last, y, z, z.next)
+-- src/lib.rt:316:5  let last = (y.next.link + 1) as u16; ⏎ joined(mem, place, last, y, z, z.next)
 ifs-joined-requires : (t : ℕ) → ifs-lts.Need-joined-requires (
   mask-at-reads.Asked,
   mask-at-reads.Learnt,
@@ -921,7 +918,7 @@ ifs-joined-requires : (t : ℕ) → ifs-lts.Need-joined-requires (
 ) (ifs-at t) ifs.Post
 ifs-joined-requires t c κs = (if-needs (c .before .before .before .before .before .before .before .before .before .before .before .before .before .before .before .before .before .before .before .before .before .before .before .before .before .before .before .before .before .before .before .before .before .before .before .args .t .now) (c .before .before .before .before .before .before .before .before .before .before .before .before .before .before .before .before .before .before .before .before .before .before .before .before .before .before .before .before .before .before .before .before .before .before .before .args .masks .now) (c .before .before .before .before .before .before .before .before .before .before .before .before .before .before .before .before .before .before .before .before .before .before .before .before .before .before .before .before .before .before .before .before .before .before .before .args .widths .now) (c .before .before .before .before .before .before .before .before .before .before .before .before .before .before .before .before .before .before .before .before .before .before .before .before .before .before .before .before .before .before .before .before .before .before .before .args .place .body) (c .before .before .before .before .before .before .before .before .before .before .before .before .before .before .before .before .before .before .before .before .before .before .before .before .before .before .before .before .before .before .before .before .before .before .before .args .place .returned) (c .before .before .before .before .before .before .before .before .before .before .before .before .before .before .before .before .before .before .before .before .before .before .before .before .before .before .before .before .before .before .before .before .before .before .before .args .r) (c .before .before .before .before .before .before .before .before .before .before .before .before .before .before .before .before .before .before .before .before .before .before .before .before .before .before .before .before .before .before .before .before .before .before .before .args .choice .test) (c .before .before .before .before .before .before .before .before .before .before .before .before .before .before .before .before .before .before .before .before .before .before .before .before .before .before .before .before .before .before .before .before .before .before .before .args .choice .first) (c .before .before .before .before .before .before .before .before .before .before .before .before .before .before .before .before .before .before .before .before .before .before .before .before .before .before .before .before .before .before .before .before .before .before .before .args .choice .second) (c .before .before .before .before .before .before .before .before .before .before .before .before .before .before .before .before .before .before .before .before .before .before .before .before .before .before .before .before .before .before .before .before .before .before .before .pre .1 .0) (c .before .before .before .before .before .before .before .before .before .before .before .before .before .before .before .before .before .before .before .before .before .before .before .before .before .before .before .before .before .before .before .before .before .before .before .pre .1 .1) _ _ _ _ _ _ _ _ _ _ _ _ _ _ (c .before .before .before .before .before .before .before .before .before .arm .result) (c .before .before .before .before .arm2 .result) (c .before .before .before .before .before .before .before .before .before .arm .ensures .armed) (c .before .before .before .before .arm2 .ensures .armed) (room-joins (c .before .before .before .before .before .before .before .before .before .before .before .before .before .before .before .before .before .before .before .before .before .before .before .before .before .before .before .before .before .before .before .before .before .before .before .args .t .now) (c .before .before .before .before .before .before .before .before .before .before .before .before .before .before .before .before .before .before .before .before .before .before .before .before .before .before .before .before .before .before .before .before .before .before .before .args .masks .now) (c .before .before .before .before .before .before .before .before .before .before .before .before .before .before .before .before .before .before .before .before .before .before .before .before .before .before .before .before .before .before .before .before .before .before .before .args .widths .now) (c .before .before .before .before .before .before .before .before .before .before .before .before .before .before .before .before .before .before .before .before .before .before .before .before .before .before .before .before .before .before .before .before .before .before .before .args .place .body) (c .before .before .before .before .before .before .before .before .before .before .before .before .before .before .before .before .before .before .before .before .before .before .before .before .before .before .before .before .before .before .before .before .before .before .before .args .place .returned) (c .before .before .before .before .before .before .before .before .before .before .before .before .before .before .before .before .before .before .before .before .before .before .before .before .before .before .before .before .before .before .before .before .before .before .before .args .r) (c .before .before .before .before .before .before .before .before .before .before .before .before .before .before .before .before .before .before .before .before .before .before .before .before .before .before .before .before .before .before .before .before .before .before .before .args .choice .test) (c .before .before .before .before .before .before .before .before .before .before .before .before .before .before .before .before .before .before .before .before .before .before .before .before .before .before .before .before .before .before .before .before .before .before .before .args .choice .first) (c .before .before .before .before .before .before .before .before .before .before .before .before .before .before .before .before .before .before .before .before .before .before .before .before .before .before .before .before .before .before .before .before .before .before .before .args .choice .second) (c .before .before .before .before .before .before .before .before .before .before .before .before .before .before .before .before .before .before .before .before .before .before .before .before .before .before .before .before .before .before .before .before .before .before .before .pre .1 .0) (c .before .before .before .before .before .before .before .before .before .before .before .before .before .before .before .before .before .before .before .before .before .before .before .before .before .before .before .before .before .before .before .before .before .before .before .pre .1 .1) _ _ _ _ _ ((room-between (c .before .before .before .before .before .before .before .before .before .before .before .before .before .before .before .before .before .before .before .before .before .before .before .before .before .before .before .before .before .before .before .before .before .before .before .args .t .now) (c .before .before .before .before .before .before .before .before .before .before .before .before .before .before .before .before .before .before .before .before .before .before .before .before .before .before .before .before .before .before .before .before .before .before .before .args .masks .now) (c .before .before .before .before .before .before .before .before .before .before .before .before .before .before .before .before .before .before .before .before .before .before .before .before .before .before .before .before .before .before .before .before .before .before .before .args .widths .now) (c .before .before .before .before .before .before .before .before .before .before .before .before .before .before .before .before .before .before .before .before .before .before .before .before .before .before .before .before .before .before .before .before .before .before .before .args .place .body) (c .before .before .before .before .before .before .before .before .before .before .before .before .before .before .before .before .before .before .before .before .before .before .before .before .before .before .before .before .before .before .before .before .before .before .before .args .place .returned) (c .before .before .before .before .before .before .before .before .before .before .before .before .before .before .before .before .before .before .before .before .before .before .before .before .before .before .before .before .before .before .before .before .before .before .before .args .r) (c .before .before .before .before .before .before .before .before .before .before .before .before .before .before .before .before .before .before .before .before .before .before .before .before .before .before .before .before .before .before .before .before .before .before .before .args .choice .test) (c .before .before .before .before .before .before .before .before .before .before .before .before .before .before .before .before .before .before .before .before .before .before .before .before .before .before .before .before .before .before .before .before .before .before .before .args .choice .first) (c .before .before .before .before .before .before .before .before .before .before .before .before .before .before .before .before .before .before .before .before .before .before .before .before .before .before .before .before .before .before .before .before .before .before .before .args .choice .second) (c .before .before .before .before .before .before .before .before .before .before .before .before .before .before .before .before .before .before .before .before .before .before .before .before .before .before .before .before .before .before .before .before .before .before .before .pre .1 .0) (c .before .before .before .before .before .before .before .before .before .before .before .before .before .before .before .before .before .before .before .before .before .before .before .before .before .before .before .before .before .before .before .before .before .before .before .pre .1 .1) _ _ _ _ _ ((room-first (c .before .before .before .before .before .before .before .before .before .before .before .before .before .before .before .before .before .before .before .before .before .before .before .before .before .before .before .before .before .before .before .before .before .before .before .args .t .now) (c .before .before .before .before .before .before .before .before .before .before .before .before .before .before .before .before .before .before .before .before .before .before .before .before .before .before .before .before .before .before .before .before .before .before .before .args .masks .now) (c .before .before .before .before .before .before .before .before .before .before .before .before .before .before .before .before .before .before .before .before .before .before .before .before .before .before .before .before .before .before .before .before .before .before .before .args .widths .now) (c .before .before .before .before .before .before .before .before .before .before .before .before .before .before .before .before .before .before .before .before .before .before .before .before .before .before .before .before .before .before .before .before .before .before .before .args .place .body) (c .before .before .before .before .before .before .before .before .before .before .before .before .before .before .before .before .before .before .before .before .before .before .before .before .before .before .before .before .before .before .before .before .before .before .before .args .place .returned) (c .before .before .before .before .before .before .before .before .before .before .before .before .before .before .before .before .before .before .before .before .before .before .before .before .before .before .before .before .before .before .before .before .before .before .before .args .r) (c .before .before .before .before .before .before .before .before .before .before .before .before .before .before .before .before .before .before .before .before .before .before .before .before .before .before .before .before .before .before .before .before .before .before .before .args .choice .test) (c .before .before .before .before .before .before .before .before .before .before .before .before .before .before .before .before .before .before .before .before .before .before .before .before .before .before .before .before .before .before .before .before .before .before .before .args .choice .first) (c .before .before .before .before .before .before .before .before .before .before .before .before .before .before .before .before .before .before .before .before .before .before .before .before .before .before .before .before .before .before .before .before .before .before .before .args .choice .second) (c .before .before .before .before .before .before .before .before .before .before .before .before .before .before .before .before .before .before .before .before .before .before .before .before .before .before .before .before .before .before .before .before .before .before .before .pre .1 .0) (c .before .before .before .before .before .before .before .before .before .before .before .before .before .before .before .before .before .before .before .before .before .before .before .before .before .before .before .before .before .before .before .before .before .before .before .pre .1 .1) _ _ _ _ _ _ _ _ _ (split-second _ _ _ _ _ _ (if-split (c .before .before .before .before .before .before .before .before .before .before .before .before .before .before .before .before .before .before .before .before .before .before .before .before .before .before .before .before .before .before .before .before .before .before .before .args .t .now) (c .before .before .before .before .before .before .before .before .before .before .before .before .before .before .before .before .before .before .before .before .before .before .before .before .before .before .before .before .before .before .before .before .before .before .before .args .masks .now) (c .before .before .before .before .before .before .before .before .before .before .before .before .before .before .before .before .before .before .before .before .before .before .before .before .before .before .before .before .before .before .before .before .before .before .before .args .widths .now) (c .before .before .before .before .before .before .before .before .before .before .before .before .before .before .before .before .before .before .before .before .before .before .before .before .before .before .before .before .before .before .before .before .before .before .before .args .place .body) (c .before .before .before .before .before .before .before .before .before .before .before .before .before .before .before .before .before .before .before .before .before .before .before .before .before .before .before .before .before .before .before .before .before .before .before .args .place .returned) (c .before .before .before .before .before .before .before .before .before .before .before .before .before .before .before .before .before .before .before .before .before .before .before .before .before .before .before .before .before .before .before .before .before .before .before .args .r) (c .before .before .before .before .before .before .before .before .before .before .before .before .before .before .before .before .before .before .before .before .before .before .before .before .before .before .before .before .before .before .before .before .before .before .before .args .choice .test) (c .before .before .before .before .before .before .before .before .before .before .before .before .before .before .before .before .before .before .before .before .before .before .before .before .before .before .before .before .before .before .before .before .before .before .before .args .choice .first) (c .before .before .before .before .before .before .before .before .before .before .before .before .before .before .before .before .before .before .before .before .before .before .before .before .before .before .before .before .before .before .before .before .before .before .before .args .choice .second) (c .before .before .before .before .before .before .before .before .before .before .before .before .before .before .before .before .before .before .before .before .before .before .before .before .before .before .before .before .before .before .before .before .before .before .before .pre .1 .0) (c .before .before .before .before .before .before .before .before .before .before .before .before .before .before .before .before .before .before .before .before .before .before .before .before .before .before .before .before .before .before .before .before .before .before .before .pre .1 .1) (c .before .before .before .before .before .before .before .before .before .before .before .before .before .before .before .before .before .before .before .before .before .before .before .before .before .before .before .before .before .before .before .before .before .before .before .args .next .link) (c .before .before .before .before .before .before .before .before .before .before .before .before .before .before .before .before .before .before .before .before .before .before .before .before .before .before .before .before .before .before .before .before .before .before .before .args .next .operator) (c .before .before .before .before .before .before .before .before .before .before .before .before .before .before .before .before .before .before .before .before .before .before .before .before .before .before .before .before .before .before .before .before .before .before .before .pre .1 .2)) _ _ _ _ _ _ _ _ (c .before .before .before .before .before .before .before .before .before .before .before .before .before .before .before .before .before .before .before .before .row .result) (fork-same _ _ _ _ _ _ _ _ _ _ _ (λ i. bitAnd (c .before .before .before .before .before .before .before .before .before .before .before .before .before .before .before .before .before .before .before .before .before .before .before .before .before .before .before .mask-at3 .ensures i) (bitOr (c .before .before .before .before .before .before .before .before .before .before .before .before .before .before .before .before .before .before .before .before .before .before .before .before .before .before .before .before .before .before .mask-at .ensures i) (c .before .before .before .before .before .before .before .before .before .before .before .before .before .before .before .before .before .before .before .before .before .before .before .before .before .before .before .before .before .mask-at2 .ensures i))) (c .before .before .before .before .before .before .before .before .before .before .before .before .before .before .before .before .before .before .before .before .before .before .before .before .before .before .fork .ensures)) (c .before .before .before .before .before .before .before .before .before .before .before .before .before .before .before .before .before .before .before .before .row .ensures .done)) (fork-same _ _ _ _ _ _ _ _ _ _ _ (ap₂ bitAnd (c .before .before .before .before .before .before .before .before .before .before .before .before .before .before .before .before .before .before .before .before .before .before .before .before .before .before .before .before .before .before .mask-at .ensures) (c .before .before .before .before .before .before .before .before .before .before .before .before .before .before .before .before .before .before .before .before .before .before .before .before .before .before .before .before .before .mask-at2 .ensures)) (c .before .before .before .before .before .before .before .before .before .before .before .before .before .before .before .before .fork2 .ensures))) .3) ((room-first (c .before .before .before .before .before .before .before .before .before .before .before .before .before .before .before .before .before .before .before .before .before .before .before .before .before .before .before .before .before .before .before .before .before .before .before .args .t .now) (c .before .before .before .before .before .before .before .before .before .before .before .before .before .before .before .before .before .before .before .before .before .before .before .before .before .before .before .before .before .before .before .before .before .before .before .args .masks .now) (c .before .before .before .before .before .before .before .before .before .before .before .before .before .before .before .before .before .before .before .before .before .before .before .before .before .before .before .before .before .before .before .before .before .before .before .args .widths .now) (c .before .before .before .before .before .before .before .before .before .before .before .before .before .before .before .before .before .before .before .before .before .before .before .before .before .before .before .before .before .before .before .before .before .before .before .args .place .body) (c .before .before .before .before .before .before .before .before .before .before .before .before .before .before .before .before .before .before .before .before .before .before .before .before .before .before .before .before .before .before .before .before .before .before .before .args .place .returned) (c .before .before .before .before .before .before .before .before .before .before .before .before .before .before .before .before .before .before .before .before .before .before .before .before .before .before .before .before .before .before .before .before .before .before .before .args .r) (c .before .before .before .before .before .before .before .before .before .before .before .before .before .before .before .before .before .before .before .before .before .before .before .before .before .before .before .before .before .before .before .before .before .before .before .args .choice .test) (c .before .before .before .before .before .before .before .before .before .before .before .before .before .before .before .before .before .before .before .before .before .before .before .before .before .before .before .before .before .before .before .before .before .before .before .args .choice .first) (c .before .before .before .before .before .before .before .before .before .before .before .before .before .before .before .before .before .before .before .before .before .before .before .before .before .before .before .before .before .before .before .before .before .before .before .args .choice .second) (c .before .before .before .before .before .before .before .before .before .before .before .before .before .before .before .before .before .before .before .before .before .before .before .before .before .before .before .before .before .before .before .before .before .before .before .pre .1 .0) (c .before .before .before .before .before .before .before .before .before .before .before .before .before .before .before .before .before .before .before .before .before .before .before .before .before .before .before .before .before .before .before .before .before .before .before .pre .1 .1) _ _ _ _ _ _ _ _ _ (split-second _ _ _ _ _ _ (if-split (c .before .before .before .before .before .before .before .before .before .before .before .before .before .before .before .before .before .before .before .before .before .before .before .before .before .before .before .before .before .before .before .before .before .before .before .args .t .now) (c .before .before .before .before .before .before .before .before .before .before .before .before .before .before .before .before .before .before .before .before .before .before .before .before .before .before .before .before .before .before .before .before .before .before .before .args .masks .now) (c .before .before .before .before .before .before .before .before .before .before .before .before .before .before .before .before .before .before .before .before .before .before .before .before .before .before .before .before .before .before .before .before .before .before .before .args .widths .now) (c .before .before .before .before .before .before .before .before .before .before .before .before .before .before .before .before .before .before .before .before .before .before .before .before .before .before .before .before .before .before .before .before .before .before .before .args .place .body) (c .before .before .before .before .before .before .before .before .before .before .before .before .before .before .before .before .before .before .before .before .before .before .before .before .before .before .before .before .before .before .before .before .before .before .before .args .place .returned) (c .before .before .before .before .before .before .before .before .before .before .before .before .before .before .before .before .before .before .before .before .before .before .before .before .before .before .before .before .before .before .before .before .before .before .before .args .r) (c .before .before .before .before .before .before .before .before .before .before .before .before .before .before .before .before .before .before .before .before .before .before .before .before .before .before .before .before .before .before .before .before .before .before .before .args .choice .test) (c .before .before .before .before .before .before .before .before .before .before .before .before .before .before .before .before .before .before .before .before .before .before .before .before .before .before .before .before .before .before .before .before .before .before .before .args .choice .first) (c .before .before .before .before .before .before .before .before .before .before .before .before .before .before .before .before .before .before .before .before .before .before .before .before .before .before .before .before .before .before .before .before .before .before .before .args .choice .second) (c .before .before .before .before .before .before .before .before .before .before .before .before .before .before .before .before .before .before .before .before .before .before .before .before .before .before .before .before .before .before .before .before .before .before .before .pre .1 .0) (c .before .before .before .before .before .before .before .before .before .before .before .before .before .before .before .before .before .before .before .before .before .before .before .before .before .before .before .before .before .before .before .before .before .before .before .pre .1 .1) (c .before .before .before .before .before .before .before .before .before .before .before .before .before .before .before .before .before .before .before .before .before .before .before .before .before .before .before .before .before .before .before .before .before .before .before .args .next .link) (c .before .before .before .before .before .before .before .before .before .before .before .before .before .before .before .before .before .before .before .before .before .before .before .before .before .before .before .before .before .before .before .before .before .before .before .args .next .operator) (c .before .before .before .before .before .before .before .before .before .before .before .before .before .before .before .before .before .before .before .before .before .before .before .before .before .before .before .before .before .before .before .before .before .before .before .pre .1 .2)) _ _ _ _ _ _ _ _ (c .before .before .before .before .before .before .before .before .before .before .before .before .before .before .before .before .before .before .before .before .row .result) (fork-same _ _ _ _ _ _ _ _ _ _ _ (λ i. bitAnd (c .before .before .before .before .before .before .before .before .before .before .before .before .before .before .before .before .before .before .before .before .before .before .before .before .before .before .before .mask-at3 .ensures i) (bitOr (c .before .before .before .before .before .before .before .before .before .before .before .before .before .before .before .before .before .before .before .before .before .before .before .before .before .before .before .before .before .before .mask-at .ensures i) (c .before .before .before .before .before .before .before .before .before .before .before .before .before .before .before .before .before .before .before .before .before .before .before .before .before .before .before .before .before .mask-at2 .ensures i))) (c .before .before .before .before .before .before .before .before .before .before .before .before .before .before .before .before .before .before .before .before .before .before .before .before .before .before .fork .ensures)) (c .before .before .before .before .before .before .before .before .before .before .before .before .before .before .before .before .before .before .before .before .row .ensures .done)) (fork-same _ _ _ _ _ _ _ _ _ _ _ (ap₂ bitAnd (c .before .before .before .before .before .before .before .before .before .before .before .before .before .before .before .before .before .before .before .before .before .before .before .before .before .before .before .before .before .before .mask-at .ensures) (c .before .before .before .before .before .before .before .before .before .before .before .before .before .before .before .before .before .before .before .before .before .before .before .before .before .before .before .before .before .mask-at2 .ensures)) (c .before .before .before .before .before .before .before .before .before .before .before .before .before .before .before .before .fork2 .ensures))) .4) (c .before .before .before .before .before .before .before .before .before .arm .ensures .armed .operators) (c .before .before .before .before .before .before .before .before .before .arm .ensures .armed .links)) .3) ((room-between (c .before .before .before .before .before .before .before .before .before .before .before .before .before .before .before .before .before .before .before .before .before .before .before .before .before .before .before .before .before .before .before .before .before .before .before .args .t .now) (c .before .before .before .before .before .before .before .before .before .before .before .before .before .before .before .before .before .before .before .before .before .before .before .before .before .before .before .before .before .before .before .before .before .before .before .args .masks .now) (c .before .before .before .before .before .before .before .before .before .before .before .before .before .before .before .before .before .before .before .before .before .before .before .before .before .before .before .before .before .before .before .before .before .before .before .args .widths .now) (c .before .before .before .before .before .before .before .before .before .before .before .before .before .before .before .before .before .before .before .before .before .before .before .before .before .before .before .before .before .before .before .before .before .before .before .args .place .body) (c .before .before .before .before .before .before .before .before .before .before .before .before .before .before .before .before .before .before .before .before .before .before .before .before .before .before .before .before .before .before .before .before .before .before .before .args .place .returned) (c .before .before .before .before .before .before .before .before .before .before .before .before .before .before .before .before .before .before .before .before .before .before .before .before .before .before .before .before .before .before .before .before .before .before .before .args .r) (c .before .before .before .before .before .before .before .before .before .before .before .before .before .before .before .before .before .before .before .before .before .before .before .before .before .before .before .before .before .before .before .before .before .before .before .args .choice .test) (c .before .before .before .before .before .before .before .before .before .before .before .before .before .before .before .before .before .before .before .before .before .before .before .before .before .before .before .before .before .before .before .before .before .before .before .args .choice .first) (c .before .before .before .before .before .before .before .before .before .before .before .before .before .before .before .before .before .before .before .before .before .before .before .before .before .before .before .before .before .before .before .before .before .before .before .args .choice .second) (c .before .before .before .before .before .before .before .before .before .before .before .before .before .before .before .before .before .before .before .before .before .before .before .before .before .before .before .before .before .before .before .before .before .before .before .pre .1 .0) (c .before .before .before .before .before .before .before .before .before .before .before .before .before .before .before .before .before .before .before .before .before .before .before .before .before .before .before .before .before .before .before .before .before .before .before .pre .1 .1) _ _ _ _ _ ((room-first (c .before .before .before .before .before .before .before .before .before .before .before .before .before .before .before .before .before .before .before .before .before .before .before .before .before .before .before .before .before .before .before .before .before .before .before .args .t .now) (c .before .before .before .before .before .before .before .before .before .before .before .before .before .before .before .before .before .before .before .before .before .before .before .before .before .before .before .before .before .before .before .before .before .before .before .args .masks .now) (c .before .before .before .before .before .before .before .before .before .before .before .before .before .before .before .before .before .before .before .before .before .before .before .before .before .before .before .before .before .before .before .before .before .before .before .args .widths .now) (c .before .before .before .before .before .before .before .before .before .before .before .before .before .before .before .before .before .before .before .before .before .before .before .before .before .before .before .before .before .before .before .before .before .before .before .args .place .body) (c .before .before .before .before .before .before .before .before .before .before .before .before .before .before .before .before .before .before .before .before .before .before .before .before .before .before .before .before .before .before .before .before .before .before .before .args .place .returned) (c .before .before .before .before .before .before .before .before .before .before .before .before .before .before .before .before .before .before .before .before .before .before .before .before .before .before .before .before .before .before .before .before .before .before .before .args .r) (c .before .before .before .before .before .before .before .before .before .before .before .before .before .before .before .before .before .before .before .before .before .before .before .before .before .before .before .before .before .before .before .before .before .before .before .args .choice .test) (c .before .before .before .before .before .before .before .before .before .before .before .before .before .before .before .before .before .before .before .before .before .before .before .before .before .before .before .before .before .before .before .before .before .before .before .args .choice .first) (c .before .before .before .before .before .before .before .before .before .before .before .before .before .before .before .before .before .before .before .before .before .before .before .before .before .before .before .before .before .before .before .before .before .before .before .args .choice .second) (c .before .before .before .before .before .before .before .before .before .before .before .before .before .before .before .before .before .before .before .before .before .before .before .before .before .before .before .before .before .before .before .before .before .before .before .pre .1 .0) (c .before .before .before .before .before .before .before .before .before .before .before .before .before .before .before .before .before .before .before .before .before .before .before .before .before .before .before .before .before .before .before .before .before .before .before .pre .1 .1) _ _ _ _ _ _ _ _ _ (split-second _ _ _ _ _ _ (if-split (c .before .before .before .before .before .before .before .before .before .before .before .before .before .before .before .before .before .before .before .before .before .before .before .before .before .before .before .before .before .before .before .before .before .before .before .args .t .now) (c .before .before .before .before .before .before .before .before .before .before .before .before .before .before .before .before .before .before .before .before .before .before .before .before .before .before .before .before .before .before .before .before .before .before .before .args .masks .now) (c .before .before .before .before .before .before .before .before .before .before .before .before .before .before .before .before .before .before .before .before .before .before .before .before .before .before .before .before .before .before .before .before .before .before .before .args .widths .now) (c .before .before .before .before .before .before .before .before .before .before .before .before .before .before .before .before .before .before .before .before .before .before .before .before .before .before .before .before .before .before .before .before .before .before .before .args .place .body) (c .before .before .before .before .before .before .before .before .before .before .before .before .before .before .before .before .before .before .before .before .before .before .before .before .before .before .before .before .before .before .before .before .before .before .before .args .place .returned) (c .before .before .before .before .before .before .before .before .before .before .before .before .before .before .before .before .before .before .before .before .before .before .before .before .before .before .before .before .before .before .before .before .before .before .before .args .r) (c .before .before .before .before .before .before .before .before .before .before .before .before .before .before .before .before .before .before .before .before .before .before .before .before .before .before .before .before .before .before .before .before .before .before .before .args .choice .test) (c .before .before .before .before .before .before .before .before .before .before .before .before .before .before .before .before .before .before .before .before .before .before .before .before .before .before .before .before .before .before .before .before .before .before .before .args .choice .first) (c .before .before .before .before .before .before .before .before .before .before .before .before .before .before .before .before .before .before .before .before .before .before .before .before .before .before .before .before .before .before .before .before .before .before .before .args .choice .second) (c .before .before .before .before .before .before .before .before .before .before .before .before .before .before .before .before .before .before .before .before .before .before .before .before .before .before .before .before .before .before .before .before .before .before .before .pre .1 .0) (c .before .before .before .before .before .before .before .before .before .before .before .before .before .before .before .before .before .before .before .before .before .before .before .before .before .before .before .before .before .before .before .before .before .before .before .pre .1 .1) (c .before .before .before .before .before .before .before .before .before .before .before .before .before .before .before .before .before .before .before .before .before .before .before .before .before .before .before .before .before .before .before .before .before .before .before .args .next .link) (c .before .before .before .before .before .before .before .before .before .before .before .before .before .before .before .before .before .before .before .before .before .before .before .before .before .before .before .before .before .before .before .before .before .before .before .args .next .operator) (c .before .before .before .before .before .before .before .before .before .before .before .before .before .before .before .before .before .before .before .before .before .before .before .before .before .before .before .before .before .before .before .before .before .before .before .pre .1 .2)) _ _ _ _ _ _ _ _ (c .before .before .before .before .before .before .before .before .before .before .before .before .before .before .before .before .before .before .before .before .row .result) (fork-same _ _ _ _ _ _ _ _ _ _ _ (λ i. bitAnd (c .before .before .before .before .before .before .before .before .before .before .before .before .before .before .before .before .before .before .before .before .before .before .before .before .before .before .before .mask-at3 .ensures i) (bitOr (c .before .before .before .before .before .before .before .before .before .before .before .before .before .before .before .before .before .before .before .before .before .before .before .before .before .before .before .before .before .before .mask-at .ensures i) (c .before .before .before .before .before .before .before .before .before .before .before .before .before .before .before .before .before .before .before .before .before .before .before .before .before .before .before .before .before .mask-at2 .ensures i))) (c .before .before .before .before .before .before .before .before .before .before .before .before .before .before .before .before .before .before .before .before .before .before .before .before .before .before .fork .ensures)) (c .before .before .before .before .before .before .before .before .before .before .before .before .before .before .before .before .before .before .before .before .row .ensures .done)) (fork-same _ _ _ _ _ _ _ _ _ _ _ (ap₂ bitAnd (c .before .before .before .before .before .before .before .before .before .before .before .before .before .before .before .before .before .before .before .before .before .before .before .before .before .before .before .before .before .before .mask-at .ensures) (c .before .before .before .before .before .before .before .before .before .before .before .before .before .before .before .before .before .before .before .before .before .before .before .before .before .before .before .before .before .mask-at2 .ensures)) (c .before .before .before .before .before .before .before .before .before .before .before .before .before .before .before .before .fork2 .ensures))) .3) ((room-first (c .before .before .before .before .before .before .before .before .before .before .before .before .before .before .before .before .before .before .before .before .before .before .before .before .before .before .before .before .before .before .before .before .before .before .before .args .t .now) (c .before .before .before .before .before .before .before .before .before .before .before .before .before .before .before .before .before .before .before .before .before .before .before .before .before .before .before .before .before .before .before .before .before .before .before .args .masks .now) (c .before .before .before .before .before .before .before .before .before .before .before .before .before .before .before .before .before .before .before .before .before .before .before .before .before .before .before .before .before .before .before .before .before .before .before .args .widths .now) (c .before .before .before .before .before .before .before .before .before .before .before .before .before .before .before .before .before .before .before .before .before .before .before .before .before .before .before .before .before .before .before .before .before .before .before .args .place .body) (c .before .before .before .before .before .before .before .before .before .before .before .before .before .before .before .before .before .before .before .before .before .before .before .before .before .before .before .before .before .before .before .before .before .before .before .args .place .returned) (c .before .before .before .before .before .before .before .before .before .before .before .before .before .before .before .before .before .before .before .before .before .before .before .before .before .before .before .before .before .before .before .before .before .before .before .args .r) (c .before .before .before .before .before .before .before .before .before .before .before .before .before .before .before .before .before .before .before .before .before .before .before .before .before .before .before .before .before .before .before .before .before .before .before .args .choice .test) (c .before .before .before .before .before .before .before .before .before .before .before .before .before .before .before .before .before .before .before .before .before .before .before .before .before .before .before .before .before .before .before .before .before .before .before .args .choice .first) (c .before .before .before .before .before .before .before .before .before .before .before .before .before .before .before .before .before .before .before .before .before .before .before .before .before .before .before .before .before .before .before .before .before .before .before .args .choice .second) (c .before .before .before .before .before .before .before .before .before .before .before .before .before .before .before .before .before .before .before .before .before .before .before .before .before .before .before .before .before .before .before .before .before .before .before .pre .1 .0) (c .before .before .before .before .before .before .before .before .before .before .before .before .before .before .before .before .before .before .before .before .before .before .before .before .before .before .before .before .before .before .before .before .before .before .before .pre .1 .1) _ _ _ _ _ _ _ _ _ (split-second _ _ _ _ _ _ (if-split (c .before .before .before .before .before .before .before .before .before .before .before .before .before .before .before .before .before .before .before .before .before .before .before .before .before .before .before .before .before .before .before .before .before .before .before .args .t .now) (c .before .before .before .before .before .before .before .before .before .before .before .before .before .before .before .before .before .before .before .before .before .before .before .before .before .before .before .before .before .before .before .before .before .before .before .args .masks .now) (c .before .before .before .before .before .before .before .before .before .before .before .before .before .before .before .before .before .before .before .before .before .before .before .before .before .before .before .before .before .before .before .before .before .before .before .args .widths .now) (c .before .before .before .before .before .before .before .before .before .before .before .before .before .before .before .before .before .before .before .before .before .before .before .before .before .before .before .before .before .before .before .before .before .before .before .args .place .body) (c .before .before .before .before .before .before .before .before .before .before .before .before .before .before .before .before .before .before .before .before .before .before .before .before .before .before .before .before .before .before .before .before .before .before .before .args .place .returned) (c .before .before .before .before .before .before .before .before .before .before .before .before .before .before .before .before .before .before .before .before .before .before .before .before .before .before .before .before .before .before .before .before .before .before .before .args .r) (c .before .before .before .before .before .before .before .before .before .before .before .before .before .before .before .before .before .before .before .before .before .before .before .before .before .before .before .before .before .before .before .before .before .before .before .args .choice .test) (c .before .before .before .before .before .before .before .before .before .before .before .before .before .before .before .before .before .before .before .before .before .before .before .before .before .before .before .before .before .before .before .before .before .before .before .args .choice .first) (c .before .before .before .before .before .before .before .before .before .before .before .before .before .before .before .before .before .before .before .before .before .before .before .before .before .before .before .before .before .before .before .before .before .before .before .args .choice .second) (c .before .before .before .before .before .before .before .before .before .before .before .before .before .before .before .before .before .before .before .before .before .before .before .before .before .before .before .before .before .before .before .before .before .before .before .pre .1 .0) (c .before .before .before .before .before .before .before .before .before .before .before .before .before .before .before .before .before .before .before .before .before .before .before .before .before .before .before .before .before .before .before .before .before .before .before .pre .1 .1) (c .before .before .before .before .before .before .before .before .before .before .before .before .before .before .before .before .before .before .before .before .before .before .before .before .before .before .before .before .before .before .before .before .before .before .before .args .next .link) (c .before .before .before .before .before .before .before .before .before .before .before .before .before .before .before .before .before .before .before .before .before .before .before .before .before .before .before .before .before .before .before .before .before .before .before .args .next .operator) (c .before .before .before .before .before .before .before .before .before .before .before .before .before .before .before .before .before .before .before .before .before .before .before .before .before .before .before .before .before .before .before .before .before .before .before .pre .1 .2)) _ _ _ _ _ _ _ _ (c .before .before .before .before .before .before .before .before .before .before .before .before .before .before .before .before .before .before .before .before .row .result) (fork-same _ _ _ _ _ _ _ _ _ _ _ (λ i. bitAnd (c .before .before .before .before .before .before .before .before .before .before .before .before .before .before .before .before .before .before .before .before .before .before .before .before .before .before .before .mask-at3 .ensures i) (bitOr (c .before .before .before .before .before .before .before .before .before .before .before .before .before .before .before .before .before .before .before .before .before .before .before .before .before .before .before .before .before .before .mask-at .ensures i) (c .before .before .before .before .before .before .before .before .before .before .before .before .before .before .before .before .before .before .before .before .before .before .before .before .before .before .before .before .before .mask-at2 .ensures i))) (c .before .before .before .before .before .before .before .before .before .before .before .before .before .before .before .before .before .before .before .before .before .before .before .before .before .before .fork .ensures)) (c .before .before .before .before .before .before .before .before .before .before .before .before .before .before .before .before .before .before .before .before .row .ensures .done)) (fork-same _ _ _ _ _ _ _ _ _ _ _ (ap₂ bitAnd (c .before .before .before .before .before .before .before .before .before .before .before .before .before .before .before .before .before .before .before .before .before .before .before .before .before .before .before .before .before .before .mask-at .ensures) (c .before .before .before .before .before .before .before .before .before .before .before .before .before .before .before .before .before .before .before .before .before .before .before .before .before .before .before .before .before .mask-at2 .ensures)) (c .before .before .before .before .before .before .before .before .before .before .before .before .before .before .before .before .fork2 .ensures))) .4) (c .before .before .before .before .before .before .before .before .before .arm .ensures .armed .operators) (c .before .before .before .before .before .before .before .before .before .arm .ensures .armed .links)) .4) (c .before .before .before .before .arm2 .ensures .armed .operators) (c .before .before .before .before .arm2 .ensures .armed .links)), omega (arith, c .before .before .before .before .before .before .before .before .before .before .before .before .before .before .before .before .before .before .before .before .before .before .before .before .before .before .before .before .before .before .before .before .before .before .before .pre .1 .3, c .before .before .before .before .before .before .before .before .before .before .before .before .before .before .before .before .before .before .before .before .before .before .before .before .before .mem .given, c .before .before .before .before .before .before .before .before .before .before .before .before .before .before .before .before .before .before .before .mem2 .given, c .before .before .before .before .before .before .before .before .before .before .before .before .before .before .before .mem3 .given, c .before .before .before .before .before .before .before .before .mem4 .given, c .before .before .before .mem5 .given))
 
--- src/lib.rt:286:1  // the first arm's copy, and the joins take it from the second arm's. ⏎ fn ifs(
+-- src/lib.rt:285:1  // the first arm's copy, and the joins take it from the second arm's. ⏎ fn ifs(
 ifs-same-length : (t : ℕ) → ifs-lts.Need-same-length (
   mask-at-reads.Asked,
   mask-at-reads.Learnt,
@@ -936,7 +933,7 @@ ifs-same-length : (t : ℕ) → ifs-lts.Need-same-length (
 ) (ifs-at t) ifs.Post
 ifs-same-length t c = c .before .mem6 .given ∙ c .before .before .before .before .before .before .mem5 .given ∙ c .before .before .before .before .before .before .before .before .before .before .before .mem4 .given ∙ c .before .before .before .before .before .before .before .before .before .before .before .before .before .before .before .before .before .before .mem3 .given ∙ c .before .before .before .before .before .before .before .before .before .before .before .before .before .before .before .before .before .before .before .before .before .before .mem2 .given ∙ c .before .before .before .before .before .before .before .before .before .before .before .before .before .before .before .before .before .before .before .before .before .before .before .before .before .before .before .before .mem .given
 
--- src/lib.rt:286:1  // the first arm's copy, and the joins take it from the second arm's. ⏎ fn ifs(
+-- src/lib.rt:285:1  // the first arm's copy, and the joins take it from the second arm's. ⏎ fn ifs(
 ifs-returns : (t : ℕ) → ifs-lts.Need-returns (
   mask-at-reads.Asked,
   mask-at-reads.Learnt,
@@ -951,7 +948,7 @@ ifs-returns : (t : ℕ) → ifs-lts.Need-returns (
 ) (ifs-at t) ifs.Post
 ifs-returns t c = if-part (c .before .before .before .before .before .before .before .before .before .before .before .before .before .before .before .before .before .before .before .before .before .before .before .before .before .before .before .before .before .before .before .before .before .before .before .before .before .before .args .t .now) (c .before .before .before .before .before .before .before .before .before .before .before .before .before .before .before .before .before .before .before .before .before .before .before .before .before .before .before .before .before .before .before .before .before .before .before .before .before .before .args .masks .now) (c .before .before .before .before .before .before .before .before .before .before .before .before .before .before .before .before .before .before .before .before .before .before .before .before .before .before .before .before .before .before .before .before .before .before .before .before .before .before .args .widths .now) (c .before .before .before .before .before .before .before .before .before .before .before .before .before .before .before .before .before .before .before .before .before .before .before .before .before .before .before .before .before .before .before .before .before .before .before .before .before .before .args .place .body) (c .before .before .before .before .before .before .before .before .before .before .before .before .before .before .before .before .before .before .before .before .before .before .before .before .before .before .before .before .before .before .before .before .before .before .before .before .before .before .args .place .returned) (c .before .before .before .before .before .before .before .before .before .before .before .before .before .before .before .before .before .before .before .before .before .before .before .before .before .before .before .before .before .before .before .before .before .before .before .before .before .before .args .r) (c .before .before .before .before .before .before .before .before .before .before .before .before .before .before .before .before .before .before .before .before .before .before .before .before .before .before .before .before .before .before .before .before .before .before .before .before .before .before .args .choice .test) (c .before .before .before .before .before .before .before .before .before .before .before .before .before .before .before .before .before .before .before .before .before .before .before .before .before .before .before .before .before .before .before .before .before .before .before .before .before .before .args .choice .first) (c .before .before .before .before .before .before .before .before .before .before .before .before .before .before .before .before .before .before .before .before .before .before .before .before .before .before .before .before .before .before .before .before .before .before .before .before .before .before .args .choice .second) (c .before .before .before .before .before .before .before .before .before .before .before .before .before .before .before .before .before .before .before .before .before .before .before .before .before .before .before .before .before .before .before .before .before .before .before .before .before .before .pre .1 .0) (c .before .before .before .before .before .before .before .before .before .before .before .before .before .before .before .before .before .before .before .before .before .before .before .before .before .before .before .before .before .before .before .before .before .before .before .before .before .before .pre .1 .1) (c .before .before .before .before .before .before .before .before .before .before .before .before .before .before .before .before .before .before .before .before .before .before .before .before .before .before .before .before .before .before .before .before .before .before .before .before .before .before .args .next .link) (c .before .before .before .before .before .before .before .before .before .before .before .before .before .before .before .before .before .before .before .before .before .before .before .before .before .before .before .before .before .before .before .before .before .before .before .before .before .before .args .next .operator) _ _ _ _ _ _ _ _ _ _ _ _ _ _ _ _ _ _ (c .before .before .before .before .before .before .before .before .before .before .before .before .before .before .before .before .before .before .before .before .before .before .before .row .result) (c .before .before .before .before .before .before .before .before .before .before .before .before .arm .result) (c .before .before .before .before .before .before .before .arm2 .result) (c .before .before .joined .result) (search (needs, c .before .before .before .before .before .before .before .before .before .before .before .before .before .before .before .before .before .before .before .before .before .before .before .before .before .before .before .before .before .before .before .before .before .before .before .before .before .before .good .1 .1 .1 .1 .1 .1 .0)) (forked-long _ _ _ _ _ _ _ _ _ _ (c .before .before .before .before .before .before .before .before .before .before .before .before .before .before .before .before .before .before .before .before .before .before .before .before .before .before .before .before .before .fork .ensures) (search (needs, c .before .before .before .before .before .before .before .before .before .before .before .before .before .before .before .before .before .before .before .before .before .before .before .before .before .before .before .before .before .before .before .before .before .before .before .before .before .before .good .1 .1 .1 .1 .1 .1 .0))) (c .before .before .before .before .before .before .before .before .before .before .before .before .before .before .before .before .before .before .before .before .before .before .before .before .before .before .before .before .before .before .before .before .before .before .before .before .before .before .pre .1 .2) (fork-same _ _ _ _ _ _ _ _ _ _ _ (λ i. bitAnd (c .before .before .before .before .before .before .before .before .before .before .before .before .before .before .before .before .before .before .before .before .before .before .before .before .before .before .before .before .before .before .mask-at3 .ensures i) (bitOr (c .before .before .before .before .before .before .before .before .before .before .before .before .before .before .before .before .before .before .before .before .before .before .before .before .before .before .before .before .before .before .before .before .before .mask-at .ensures i) (c .before .before .before .before .before .before .before .before .before .before .before .before .before .before .before .before .before .before .before .before .before .before .before .before .before .before .before .before .before .before .before .before .mask-at2 .ensures i))) (c .before .before .before .before .before .before .before .before .before .before .before .before .before .before .before .before .before .before .before .before .before .before .before .before .before .before .before .before .before .fork .ensures)) (c .before .before .before .before .before .before .before .before .before .before .before .before .before .before .before .before .before .before .before .before .before .before .before .row .ensures) (fork-same _ _ _ _ _ _ _ _ _ _ _ (ap₂ bitAnd (c .before .before .before .before .before .before .before .before .before .before .before .before .before .before .before .before .before .before .before .before .before .before .before .before .before .before .before .before .before .before .before .before .before .mask-at .ensures) (c .before .before .before .before .before .before .before .before .before .before .before .before .before .before .before .before .before .before .before .before .before .before .before .before .before .before .before .before .before .before .before .before .mask-at2 .ensures)) (c .before .before .before .before .before .before .before .before .before .before .before .before .before .before .before .before .before .before .before .fork2 .ensures)) (c .before .before .before .before .before .before .before .before .before .before .before .before .arm .ensures .copied) (c .before .before .before .before .before .before .before .before .before .before .before .before .arm .ensures .armed) (c .before .before .before .before .before .before .before .arm2 .ensures .copied) (c .before .before .before .before .before .before .before .arm2 .ensures .armed) (c .before .before .joined .ensures)
 
--- src/lib.rt:236:9  { ⏎ let value = mask_at(masks, binding.value);
+-- src/lib.rt:235:9  { ⏎ let value = mask_at(masks, binding.value);
 lets-mask-at-requires : (t : ℕ) → lets-lts.Need-mask-at-requires (
   mask-at-reads.Asked,
   mask-at-reads.Learnt,
@@ -968,7 +965,7 @@ lets-mask-at-requires : (t : ℕ) → lets-lts.Need-mask-at-requires (
 ) (lets-at t) lets.Post
 lets-mask-at-requires t c κs = (let-first (c .before .before .before .before .args .t .now) (c .before .before .before .before .args .masks .now) (c .before .before .before .before .args .widths .now) (c .before .before .before .before .args .place .body) (c .before .before .before .before .args .place .returned) (c .before .before .before .before .args .r) (c .before .before .before .before .args .binding .first) (c .before .before .before .before .args .binding .count) (c .before .before .before .before .args .binding .value) (c .before .before .before .before .args .binding .inner) (c .before .before .before .before .pre .1 .0) (c .before .before .before .before .pre .1 .1) .ready .low, let-first (c .before .before .before .before .args .t .now) (c .before .before .before .before .args .masks .now) (c .before .before .before .before .args .widths .now) (c .before .before .before .before .args .place .body) (c .before .before .before .before .args .place .returned) (c .before .before .before .before .args .r) (c .before .before .before .before .args .binding .first) (c .before .before .before .before .args .binding .count) (c .before .before .before .before .args .binding .value) (c .before .before .before .before .args .binding .inner) (c .before .before .before .before .pre .1 .0) (c .before .before .before .before .pre .1 .1) .in-masks)
 
--- src/lib.rt:237:25  let value = mask_at(masks, binding.value); ⏎ let inner = outside(mask_at(masks, binding.inner), binding.first, binding.count);
+-- src/lib.rt:236:25  let value = mask_at(masks, binding.value); ⏎ let inner = outside(mask_at(masks, binding.inner), binding.first, binding.count);
 lets-mask-at-requires-2 : (t : ℕ) → lets-lts.Need-mask-at-requires-2 (
   mask-at-reads.Asked,
   mask-at-reads.Learnt,
@@ -985,7 +982,7 @@ lets-mask-at-requires-2 : (t : ℕ) → lets-lts.Need-mask-at-requires-2 (
 ) (lets-at t) lets.Post
 lets-mask-at-requires-2 t c κs = (let-second (c .before .before .before .before .before .args .t .now) (c .before .before .before .before .before .args .masks .now) (c .before .before .before .before .before .args .widths .now) (c .before .before .before .before .before .args .place .body) (c .before .before .before .before .before .args .place .returned) (c .before .before .before .before .before .args .r) (c .before .before .before .before .before .args .binding .first) (c .before .before .before .before .before .args .binding .count) (c .before .before .before .before .before .args .binding .value) (c .before .before .before .before .before .args .binding .inner) (c .before .before .before .before .before .pre .1 .0) (c .before .before .before .before .before .pre .1 .1) .ready .low, let-second (c .before .before .before .before .before .args .t .now) (c .before .before .before .before .before .args .masks .now) (c .before .before .before .before .before .args .widths .now) (c .before .before .before .before .before .args .place .body) (c .before .before .before .before .before .args .place .returned) (c .before .before .before .before .before .args .r) (c .before .before .before .before .before .args .binding .first) (c .before .before .before .before .before .args .binding .count) (c .before .before .before .before .before .args .binding .value) (c .before .before .before .before .before .args .binding .inner) (c .before .before .before .before .before .pre .1 .0) (c .before .before .before .before .before .pre .1 .1) .in-masks)
 
--- src/lib.rt:237:9  let value = mask_at(masks, binding.value); ⏎ let inner = outside(mask_at(masks, binding.inner), binding.first, binding.count);
+-- src/lib.rt:236:9  let value = mask_at(masks, binding.value); ⏎ let inner = outside(mask_at(masks, binding.inner), binding.first, binding.count);
 lets-outside-requires : (t : ℕ) → lets-lts.Need-outside-requires (
   mask-at-reads.Asked,
   mask-at-reads.Learnt,
@@ -1002,7 +999,7 @@ lets-outside-requires : (t : ℕ) → lets-lts.Need-outside-requires (
 ) (lets-at t) lets.Post
 lets-outside-requires t c κs = let-low (c .before .before .before .before .before .before .args .t .now) (c .before .before .before .before .before .before .args .masks .now) (c .before .before .before .before .before .before .args .widths .now) (c .before .before .before .before .before .before .args .place .body) (c .before .before .before .before .before .before .args .place .returned) (c .before .before .before .before .before .before .args .r) (c .before .before .before .before .before .before .args .binding .first) (c .before .before .before .before .before .before .args .binding .count) (c .before .before .before .before .before .before .args .binding .value) (c .before .before .before .before .before .before .args .binding .inner) (c .before .before .before .before .before .before .pre .1 .0) (c .before .before .before .before .before .before .pre .1 .1)
 
--- src/lib.rt:238:9  let inner = outside(mask_at(masks, binding.inner), binding.first, binding.count); ⏎ let f = fork(mem, value & inner, env, next);
+-- src/lib.rt:237:9  let inner = outside(mask_at(masks, binding.inner), binding.first, binding.count); ⏎ let f = fork(mem, value & inner, env, next);
 lets-fork-requires : (t : ℕ) → lets-lts.Need-fork-requires (
   mask-at-reads.Asked,
   mask-at-reads.Learnt,
@@ -1019,7 +1016,7 @@ lets-fork-requires : (t : ℕ) → lets-lts.Need-fork-requires (
 ) (lets-at t) lets.Post
 lets-fork-requires t c κs = let h = split-needs _ _ _ _ _ _ (let-split (c .before .before .before .before .before .before .before .before .args .t .now) (c .before .before .before .before .before .before .before .before .args .masks .now) (c .before .before .before .before .before .before .before .before .args .widths .now) (c .before .before .before .before .before .before .before .before .args .place .body) (c .before .before .before .before .before .before .before .before .args .place .returned) (c .before .before .before .before .before .before .before .before .args .r) (c .before .before .before .before .before .before .before .before .args .binding .first) (c .before .before .before .before .before .before .before .before .args .binding .count) (c .before .before .before .before .before .before .before .before .args .binding .value) (c .before .before .before .before .before .before .before .before .args .binding .inner) (c .before .before .before .before .before .before .before .before .pre .1 .0) (c .before .before .before .before .before .before .before .before .pre .1 .1) (c .before .before .before .before .before .before .before .before .args .next .link) (c .before .before .before .before .before .before .before .before .args .next .operator) (c .before .before .before .before .before .before .before .before .pre .1 .2)) _ (ap₂ bitAnd (c .before .before .before .mask-at .ensures) (c .before .outside .ensures ∙ ap (λ (z : ℕ). outside z (c .before .before .before .before .before .before .before .before .args .binding .first) (c .before .before .before .before .before .before .before .before .args .binding .count)) (c .before .before .mask-at2 .ensures))) in (h .0, h .1, search needs)
 
--- src/lib.rt:241:9  let second = f.second; ⏎ let x = row(
+-- src/lib.rt:240:9  let second = f.second; ⏎ let x = row(
 lets-row-requires : (t : ℕ) → lets-lts.Need-row-requires (
   mask-at-reads.Asked,
   mask-at-reads.Learnt,
@@ -1036,7 +1033,7 @@ lets-row-requires : (t : ℕ) → lets-lts.Need-row-requires (
 ) (lets-at t) lets.Post
 lets-row-requires t c κs = (omega (arith, let-first (c .before .before .before .before .before .before .before .before .before .before .before .before .before .before .args .t .now) (c .before .before .before .before .before .before .before .before .before .before .before .before .before .before .args .masks .now) (c .before .before .before .before .before .before .before .before .before .before .before .before .before .before .args .widths .now) (c .before .before .before .before .before .before .before .before .before .before .before .before .before .before .args .place .body) (c .before .before .before .before .before .before .before .before .before .before .before .before .before .before .args .place .returned) (c .before .before .before .before .before .before .before .before .before .before .before .before .before .before .args .r) (c .before .before .before .before .before .before .before .before .before .before .before .before .before .before .args .binding .first) (c .before .before .before .before .before .before .before .before .before .before .before .before .before .before .args .binding .count) (c .before .before .before .before .before .before .before .before .before .before .before .before .before .before .args .binding .value) (c .before .before .before .before .before .before .before .before .before .before .before .before .before .before .args .binding .inner) (c .before .before .before .before .before .before .before .before .before .before .before .before .before .before .pre .1 .0) (c .before .before .before .before .before .before .before .before .before .before .before .before .before .before .pre .1 .1) .less, c .before .before .before .before .before .before .before .before .before .before .before .before .before .before .pre .0), (let-first (c .before .before .before .before .before .before .before .before .before .before .before .before .before .before .args .t .now) (c .before .before .before .before .before .before .before .before .before .before .before .before .before .before .args .masks .now) (c .before .before .before .before .before .before .before .before .before .before .before .before .before .before .args .widths .now) (c .before .before .before .before .before .before .before .before .before .before .before .before .before .before .args .place .body) (c .before .before .before .before .before .before .before .before .before .before .before .before .before .before .args .place .returned) (c .before .before .before .before .before .before .before .before .before .before .before .before .before .before .args .r) (c .before .before .before .before .before .before .before .before .before .before .before .before .before .before .args .binding .first) (c .before .before .before .before .before .before .before .before .before .before .before .before .before .before .args .binding .count) (c .before .before .before .before .before .before .before .before .before .before .before .before .before .before .args .binding .value) (c .before .before .before .before .before .before .before .before .before .before .before .before .before .before .args .binding .inner) (c .before .before .before .before .before .before .before .before .before .before .before .before .before .before .pre .1 .0) (c .before .before .before .before .before .before .before .before .before .before .before .before .before .before .pre .1 .1) .ready, split-first _ _ _ _ _ _ (let-split (c .before .before .before .before .before .before .before .before .before .before .before .before .before .before .args .t .now) (c .before .before .before .before .before .before .before .before .before .before .before .before .before .before .args .masks .now) (c .before .before .before .before .before .before .before .before .before .before .before .before .before .before .args .widths .now) (c .before .before .before .before .before .before .before .before .before .before .before .before .before .before .args .place .body) (c .before .before .before .before .before .before .before .before .before .before .before .before .before .before .args .place .returned) (c .before .before .before .before .before .before .before .before .before .before .before .before .before .before .args .r) (c .before .before .before .before .before .before .before .before .before .before .before .before .before .before .args .binding .first) (c .before .before .before .before .before .before .before .before .before .before .before .before .before .before .args .binding .count) (c .before .before .before .before .before .before .before .before .before .before .before .before .before .before .args .binding .value) (c .before .before .before .before .before .before .before .before .before .before .before .before .before .before .args .binding .inner) (c .before .before .before .before .before .before .before .before .before .before .before .before .before .before .pre .1 .0) (c .before .before .before .before .before .before .before .before .before .before .before .before .before .before .pre .1 .1) (c .before .before .before .before .before .before .before .before .before .before .before .before .before .before .args .next .link) (c .before .before .before .before .before .before .before .before .before .before .before .before .before .before .args .next .operator) (c .before .before .before .before .before .before .before .before .before .before .before .before .before .before .pre .1 .2)) _ _ _ _ _ _ _ (fork-same _ _ _ _ _ _ _ _ _ _ _ (ap₂ bitAnd (c .before .before .before .before .before .before .before .before .before .mask-at .ensures) (c .before .before .before .before .before .before .before .outside .ensures ∙ ap (λ (z : ℕ). outside z (c .before .before .before .before .before .before .before .before .before .before .before .before .before .before .args .binding .first) (c .before .before .before .before .before .before .before .before .before .before .before .before .before .before .args .binding .count)) (c .before .before .before .before .before .before .before .before .mask-at2 .ensures))) (c .before .before .before .before .before .fork .ensures)), omega (arith, c .before .before .before .before .before .before .before .before .before .before .before .before .before .before .pre .1 .3, c .before .before .before .before .mem .given)))
 
--- src/lib.rt:252:24  let xs = x.outs; ⏎ let bound = assign(range_mask(binding.first, binding.count), second, xs);
+-- src/lib.rt:251:24  let xs = x.outs; ⏎ let bound = assign(range_mask(binding.first, binding.count), second, xs);
 lets-range-mask-requires : (t : ℕ) → lets-lts.Need-range-mask-requires (
   mask-at-reads.Asked,
   mask-at-reads.Learnt,
@@ -1053,7 +1050,7 @@ lets-range-mask-requires : (t : ℕ) → lets-lts.Need-range-mask-requires (
 ) (lets-at t) lets.Post
 lets-range-mask-requires t c κs = omega (arith, let-low (c .before .before .before .before .before .before .before .before .before .before .before .before .before .before .before .before .before .before .args .t .now) (c .before .before .before .before .before .before .before .before .before .before .before .before .before .before .before .before .before .before .args .masks .now) (c .before .before .before .before .before .before .before .before .before .before .before .before .before .before .before .before .before .before .args .widths .now) (c .before .before .before .before .before .before .before .before .before .before .before .before .before .before .before .before .before .before .args .place .body) (c .before .before .before .before .before .before .before .before .before .before .before .before .before .before .before .before .before .before .args .place .returned) (c .before .before .before .before .before .before .before .before .before .before .before .before .before .before .before .before .before .before .args .r) (c .before .before .before .before .before .before .before .before .before .before .before .before .before .before .before .before .before .before .args .binding .first) (c .before .before .before .before .before .before .before .before .before .before .before .before .before .before .before .before .before .before .args .binding .count) (c .before .before .before .before .before .before .before .before .before .before .before .before .before .before .before .before .before .before .args .binding .value) (c .before .before .before .before .before .before .before .before .before .before .before .before .before .before .before .before .before .before .args .binding .inner) (c .before .before .before .before .before .before .before .before .before .before .before .before .before .before .before .before .before .before .pre .1 .0) (c .before .before .before .before .before .before .before .before .before .before .before .before .before .before .before .before .before .before .pre .1 .1))
 
--- src/lib.rt:252:9  let xs = x.outs; ⏎ let bound = assign(range_mask(binding.first, binding.count), second, xs);
+-- src/lib.rt:251:9  let xs = x.outs; ⏎ let bound = assign(range_mask(binding.first, binding.count), second, xs);
 lets-assign-requires : (t : ℕ) → lets-lts.Need-assign-requires (
   mask-at-reads.Asked,
   mask-at-reads.Learnt,
@@ -1070,7 +1067,7 @@ lets-assign-requires : (t : ℕ) → lets-lts.Need-assign-requires (
 ) (lets-at t) lets.Post
 lets-assign-requires t c κs = mask-of-range (c .before .before .before .before .before .before .before .before .before .before .before .before .before .before .before .before .before .before .before .args .binding .first) (c .before .before .before .before .before .before .before .before .before .before .before .before .before .before .before .before .before .before .before .args .binding .count) (c .range-mask .result) (omega (arith, let-low (c .before .before .before .before .before .before .before .before .before .before .before .before .before .before .before .before .before .before .before .args .t .now) (c .before .before .before .before .before .before .before .before .before .before .before .before .before .before .before .before .before .before .before .args .masks .now) (c .before .before .before .before .before .before .before .before .before .before .before .before .before .before .before .before .before .before .before .args .widths .now) (c .before .before .before .before .before .before .before .before .before .before .before .before .before .before .before .before .before .before .before .args .place .body) (c .before .before .before .before .before .before .before .before .before .before .before .before .before .before .before .before .before .before .before .args .place .returned) (c .before .before .before .before .before .before .before .before .before .before .before .before .before .before .before .before .before .before .before .args .r) (c .before .before .before .before .before .before .before .before .before .before .before .before .before .before .before .before .before .before .before .args .binding .first) (c .before .before .before .before .before .before .before .before .before .before .before .before .before .before .before .before .before .before .before .args .binding .count) (c .before .before .before .before .before .before .before .before .before .before .before .before .before .before .before .before .before .before .before .args .binding .value) (c .before .before .before .before .before .before .before .before .before .before .before .before .before .before .before .before .before .before .before .args .binding .inner) (c .before .before .before .before .before .before .before .before .before .before .before .before .before .before .before .before .before .before .before .pre .1 .0) (c .before .before .before .before .before .before .before .before .before .before .before .before .before .before .before .before .before .before .before .pre .1 .1))) (c .range-mask .ensures)
 
--- src/lib.rt:253:5  let bound = assign(range_mask(binding.first, binding.count), second, xs); ⏎ row(t, masks, widths, place, binding.inner, bound, x.next, mem)
+-- src/lib.rt:252:5  let bound = assign(range_mask(binding.first, binding.count), second, xs); ⏎ row(t, masks, widths, place, binding.inner, bound, x.next, mem)
 lets-row-requires-2 : (t : ℕ) → lets-lts.Need-row-requires-2 (
   mask-at-reads.Asked,
   mask-at-reads.Learnt,
@@ -1087,7 +1084,7 @@ lets-row-requires-2 : (t : ℕ) → lets-lts.Need-row-requires-2 (
 ) (lets-at t) lets.Post
 lets-row-requires-2 t c κs = (omega (arith, let-second (c .before .before .before .before .before .before .before .before .before .before .before .before .before .before .before .before .before .before .before .before .before .args .t .now) (c .before .before .before .before .before .before .before .before .before .before .before .before .before .before .before .before .before .before .before .before .before .args .masks .now) (c .before .before .before .before .before .before .before .before .before .before .before .before .before .before .before .before .before .before .before .before .before .args .widths .now) (c .before .before .before .before .before .before .before .before .before .before .before .before .before .before .before .before .before .before .before .before .before .args .place .body) (c .before .before .before .before .before .before .before .before .before .before .before .before .before .before .before .before .before .before .before .before .before .args .place .returned) (c .before .before .before .before .before .before .before .before .before .before .before .before .before .before .before .before .before .before .before .before .before .args .r) (c .before .before .before .before .before .before .before .before .before .before .before .before .before .before .before .before .before .before .before .before .before .args .binding .first) (c .before .before .before .before .before .before .before .before .before .before .before .before .before .before .before .before .before .before .before .before .before .args .binding .count) (c .before .before .before .before .before .before .before .before .before .before .before .before .before .before .before .before .before .before .before .before .before .args .binding .value) (c .before .before .before .before .before .before .before .before .before .before .before .before .before .before .before .before .before .before .before .before .before .args .binding .inner) (c .before .before .before .before .before .before .before .before .before .before .before .before .before .before .before .before .before .before .before .before .before .pre .1 .0) (c .before .before .before .before .before .before .before .before .before .before .before .before .before .before .before .before .before .before .before .before .before .pre .1 .1) .less, by-place (c .before .before .before .before .before .before .before .before .before .before .before .before .before .before .before .before .before .before .before .before .before .args .place .body) .1, c .before .before .before .before .before .before .before .before .before .before .before .before .before .before .before .before .before .before .before .before .before .pre .0), (let-second (c .before .before .before .before .before .before .before .before .before .before .before .before .before .before .before .before .before .before .before .before .before .args .t .now) (c .before .before .before .before .before .before .before .before .before .before .before .before .before .before .before .before .before .before .before .before .before .args .masks .now) (c .before .before .before .before .before .before .before .before .before .before .before .before .before .before .before .before .before .before .before .before .before .args .widths .now) (c .before .before .before .before .before .before .before .before .before .before .before .before .before .before .before .before .before .before .before .before .before .args .place .body) (c .before .before .before .before .before .before .before .before .before .before .before .before .before .before .before .before .before .before .before .before .before .args .place .returned) (c .before .before .before .before .before .before .before .before .before .before .before .before .before .before .before .before .before .before .before .before .before .args .r) (c .before .before .before .before .before .before .before .before .before .before .before .before .before .before .before .before .before .before .before .before .before .args .binding .first) (c .before .before .before .before .before .before .before .before .before .before .before .before .before .before .before .before .before .before .before .before .before .args .binding .count) (c .before .before .before .before .before .before .before .before .before .before .before .before .before .before .before .before .before .before .before .before .before .args .binding .value) (c .before .before .before .before .before .before .before .before .before .before .before .before .before .before .before .before .before .before .before .before .before .args .binding .inner) (c .before .before .before .before .before .before .before .before .before .before .before .before .before .before .before .before .before .before .before .before .before .pre .1 .0) (c .before .before .before .before .before .before .before .before .before .before .before .before .before .before .before .before .before .before .before .before .before .pre .1 .1) .ready, split-second _ _ _ _ _ _ (let-split (c .before .before .before .before .before .before .before .before .before .before .before .before .before .before .before .before .before .before .before .before .before .args .t .now) (c .before .before .before .before .before .before .before .before .before .before .before .before .before .before .before .before .before .before .before .before .before .args .masks .now) (c .before .before .before .before .before .before .before .before .before .before .before .before .before .before .before .before .before .before .before .before .before .args .widths .now) (c .before .before .before .before .before .before .before .before .before .before .before .before .before .before .before .before .before .before .before .before .before .args .place .body) (c .before .before .before .before .before .before .before .before .before .before .before .before .before .before .before .before .before .before .before .before .before .args .place .returned) (c .before .before .before .before .before .before .before .before .before .before .before .before .before .before .before .before .before .before .before .before .before .args .r) (c .before .before .before .before .before .before .before .before .before .before .before .before .before .before .before .before .before .before .before .before .before .args .binding .first) (c .before .before .before .before .before .before .before .before .before .before .before .before .before .before .before .before .before .before .before .before .before .args .binding .count) (c .before .before .before .before .before .before .before .before .before .before .before .before .before .before .before .before .before .before .before .before .before .args .binding .value) (c .before .before .before .before .before .before .before .before .before .before .before .before .before .before .before .before .before .before .before .before .before .args .binding .inner) (c .before .before .before .before .before .before .before .before .before .before .before .before .before .before .before .before .before .before .before .before .before .pre .1 .0) (c .before .before .before .before .before .before .before .before .before .before .before .before .before .before .before .before .before .before .before .before .before .pre .1 .1) (c .before .before .before .before .before .before .before .before .before .before .before .before .before .before .before .before .before .before .before .before .before .args .next .link) (c .before .before .before .before .before .before .before .before .before .before .before .before .before .before .before .before .before .before .before .before .before .args .next .operator) (c .before .before .before .before .before .before .before .before .before .before .before .before .before .before .before .before .before .before .before .before .before .pre .1 .2)) _ _ _ _ _ _ _ _ (c .before .before .before .before .before .before .row .result) (fork-same _ _ _ _ _ _ _ _ _ _ _ (ap₂ bitAnd (c .before .before .before .before .before .before .before .before .before .before .before .before .before .before .before .before .mask-at .ensures) (c .before .before .before .before .before .before .before .before .before .before .before .before .before .before .outside .ensures ∙ ap (λ (z : ℕ). outside z (c .before .before .before .before .before .before .before .before .before .before .before .before .before .before .before .before .before .before .before .before .before .args .binding .first) (c .before .before .before .before .before .before .before .before .before .before .before .before .before .before .before .before .before .before .before .before .before .args .binding .count)) (c .before .before .before .before .before .before .before .before .before .before .before .before .before .before .before .mask-at2 .ensures))) (c .before .before .before .before .before .before .before .before .before .before .before .before .fork .ensures)) (c .before .before .before .before .before .before .row .ensures .done), omega (arith, c .before .before .before .before .before .before .before .before .before .before .before .before .before .before .before .before .before .before .before .before .before .pre .1 .3, c .before .before .before .before .before .before .before .before .before .before .before .mem .given, c .before .before .before .before .before .mem2 .given)))
 
--- src/lib.rt:222:1  // A let, in its place: the bound row, then the inner row with its results for the identifiers. ⏎ fn lets(
+-- src/lib.rt:221:1  // A let, in its place: the bound row, then the inner row with its results for the identifiers. ⏎ fn lets(
 lets-same-length : (t : ℕ) → lets-lts.Need-same-length (
   mask-at-reads.Asked,
   mask-at-reads.Learnt,
@@ -1104,7 +1101,7 @@ lets-same-length : (t : ℕ) → lets-lts.Need-same-length (
 ) (lets-at t) lets.Post
 lets-same-length t c = c .before .mem3 .given ∙ c .before .before .before .before .before .before .before .before .mem2 .given ∙ c .before .before .before .before .before .before .before .before .before .before .before .before .before .before .mem .given
 
--- src/lib.rt:222:1  // A let, in its place: the bound row, then the inner row with its results for the identifiers. ⏎ fn lets(
+-- src/lib.rt:221:1  // A let, in its place: the bound row, then the inner row with its results for the identifiers. ⏎ fn lets(
 lets-returns : (t : ℕ) → lets-lts.Need-returns (
   mask-at-reads.Asked,
   mask-at-reads.Learnt,
@@ -1121,7 +1118,7 @@ lets-returns : (t : ℕ) → lets-lts.Need-returns (
 ) (lets-at t) lets.Post
 lets-returns t c = let-part (c .before .before .before .before .before .before .before .before .before .before .before .before .before .before .before .before .before .before .before .before .before .before .before .before .args .t .now) (c .before .before .before .before .before .before .before .before .before .before .before .before .before .before .before .before .before .before .before .before .before .before .before .before .args .masks .now) (c .before .before .before .before .before .before .before .before .before .before .before .before .before .before .before .before .before .before .before .before .before .before .before .before .args .widths .now) (c .before .before .before .before .before .before .before .before .before .before .before .before .before .before .before .before .before .before .before .before .before .before .before .before .args .place .body) (c .before .before .before .before .before .before .before .before .before .before .before .before .before .before .before .before .before .before .before .before .before .before .before .before .args .place .returned) (c .before .before .before .before .before .before .before .before .before .before .before .before .before .before .before .before .before .before .before .before .before .before .before .before .args .r) (c .before .before .before .before .before .before .before .before .before .before .before .before .before .before .before .before .before .before .before .before .before .before .before .before .args .binding .first) (c .before .before .before .before .before .before .before .before .before .before .before .before .before .before .before .before .before .before .before .before .before .before .before .before .args .binding .count) (c .before .before .before .before .before .before .before .before .before .before .before .before .before .before .before .before .before .before .before .before .before .before .before .before .args .binding .value) (c .before .before .before .before .before .before .before .before .before .before .before .before .before .before .before .before .before .before .before .before .before .before .before .before .args .binding .inner) (c .before .before .before .before .before .before .before .before .before .before .before .before .before .before .before .before .before .before .before .before .before .before .before .before .pre .1 .0) (c .before .before .before .before .before .before .before .before .before .before .before .before .before .before .before .before .before .before .before .before .before .before .before .before .pre .1 .1) (c .before .before .before .before .before .before .before .before .before .before .before .before .before .before .before .before .before .before .before .before .before .before .before .before .args .next .link) (c .before .before .before .before .before .before .before .before .before .before .before .before .before .before .before .before .before .before .before .before .before .before .before .before .args .next .operator) (c .before .before .before .before .before .range-mask .result) _ _ _ _ _ _ _ _ _ _ (c .before .before .before .before .before .before .before .before .before .row .result) (c .before .before .row2 .result) (search (needs, c .before .before .before .before .before .before .before .before .before .before .before .before .before .before .before .before .before .before .before .before .before .before .before .before .good .1 .1 .1 .1 .1 .1 .0)) (forked-long _ _ _ _ _ _ _ _ _ _ (c .before .before .before .before .before .before .before .before .before .before .before .before .before .before .before .fork .ensures) (search (needs, c .before .before .before .before .before .before .before .before .before .before .before .before .before .before .before .before .before .before .before .before .before .before .before .before .good .1 .1 .1 .1 .1 .1 .0))) (c .before .before .before .before .before .before .before .before .before .before .before .before .before .before .before .before .before .before .before .before .before .before .before .before .pre .1 .2) (fork-same _ _ _ _ _ _ _ _ _ _ _ (ap₂ bitAnd (c .before .before .before .before .before .before .before .before .before .before .before .before .before .before .before .before .before .before .before .mask-at .ensures) (c .before .before .before .before .before .before .before .before .before .before .before .before .before .before .before .before .before .outside .ensures ∙ ap (λ (z : ℕ). outside z (c .before .before .before .before .before .before .before .before .before .before .before .before .before .before .before .before .before .before .before .before .before .before .before .before .args .binding .first) (c .before .before .before .before .before .before .before .before .before .before .before .before .before .before .before .before .before .before .before .before .before .before .before .before .args .binding .count)) (c .before .before .before .before .before .before .before .before .before .before .before .before .before .before .before .before .before .before .mask-at2 .ensures))) (c .before .before .before .before .before .before .before .before .before .before .before .before .before .before .before .fork .ensures)) (c .before .before .before .before .before .before .before .before .before .row .ensures) (c .before .before .before .before .before .range-mask .ensures) (c .before .before .before .before .assign .ensures) (c .before .before .row2 .ensures)
 
--- src/lib.rt:204:23  { ⏎ let f = fork(mem, mask_at(masks, a) & mask_at(masks, b), env, next);
+-- src/lib.rt:203:23  { ⏎ let f = fork(mem, mask_at(masks, a) & mask_at(masks, b), env, next);
 pairs-mask-at-requires : (t : ℕ) → pairs-lts.Need-mask-at-requires (
   mask-at-reads.Asked,
   mask-at-reads.Learnt,
@@ -1134,7 +1131,7 @@ pairs-mask-at-requires : (t : ℕ) → pairs-lts.Need-mask-at-requires (
 ) (pairs-at t) pairs.Post
 pairs-mask-at-requires t c κs = (pair-first (c .before .before .before .before .before .args .t .now) (c .before .before .before .before .before .args .masks .now) (c .before .before .before .before .before .args .widths .now) (c .before .before .before .before .before .args .r) (c .before .before .before .before .before .args .a) (c .before .before .before .before .before .args .b) (c .before .before .before .before .before .pre .1 .0) (c .before .before .before .before .before .pre .1 .1) .ready .low, pair-first (c .before .before .before .before .before .args .t .now) (c .before .before .before .before .before .args .masks .now) (c .before .before .before .before .before .args .widths .now) (c .before .before .before .before .before .args .r) (c .before .before .before .before .before .args .a) (c .before .before .before .before .before .args .b) (c .before .before .before .before .before .pre .1 .0) (c .before .before .before .before .before .pre .1 .1) .in-masks)
 
--- src/lib.rt:204:43  { ⏎ let f = fork(mem, mask_at(masks, a) & mask_at(masks, b), env, next);
+-- src/lib.rt:203:43  { ⏎ let f = fork(mem, mask_at(masks, a) & mask_at(masks, b), env, next);
 pairs-mask-at-requires-2 : (t : ℕ) → pairs-lts.Need-mask-at-requires-2 (
   mask-at-reads.Asked,
   mask-at-reads.Learnt,
@@ -1147,7 +1144,7 @@ pairs-mask-at-requires-2 : (t : ℕ) → pairs-lts.Need-mask-at-requires-2 (
 ) (pairs-at t) pairs.Post
 pairs-mask-at-requires-2 t c κs = (pair-second (c .before .before .before .before .before .before .args .t .now) (c .before .before .before .before .before .before .args .masks .now) (c .before .before .before .before .before .before .args .widths .now) (c .before .before .before .before .before .before .args .r) (c .before .before .before .before .before .before .args .a) (c .before .before .before .before .before .before .args .b) (c .before .before .before .before .before .before .pre .1 .0) (c .before .before .before .before .before .before .pre .1 .1) .ready .low, pair-second (c .before .before .before .before .before .before .args .t .now) (c .before .before .before .before .before .before .args .masks .now) (c .before .before .before .before .before .before .args .widths .now) (c .before .before .before .before .before .before .args .r) (c .before .before .before .before .before .before .args .a) (c .before .before .before .before .before .before .args .b) (c .before .before .before .before .before .before .pre .1 .0) (c .before .before .before .before .before .before .pre .1 .1) .in-masks)
 
--- src/lib.rt:204:9  { ⏎ let f = fork(mem, mask_at(masks, a) & mask_at(masks, b), env, next);
+-- src/lib.rt:203:9  { ⏎ let f = fork(mem, mask_at(masks, a) & mask_at(masks, b), env, next);
 pairs-fork-requires : (t : ℕ) → pairs-lts.Need-fork-requires (
   mask-at-reads.Asked,
   mask-at-reads.Learnt,
@@ -1160,7 +1157,7 @@ pairs-fork-requires : (t : ℕ) → pairs-lts.Need-fork-requires (
 ) (pairs-at t) pairs.Post
 pairs-fork-requires t c κs = let h = split-needs _ _ _ _ _ _ (pair-split (c .before .before .before .before .before .before .before .args .t .now) (c .before .before .before .before .before .before .before .args .masks .now) (c .before .before .before .before .before .before .before .args .widths .now) (c .before .before .before .before .before .before .before .args .r) (c .before .before .before .before .before .before .before .args .a) (c .before .before .before .before .before .before .before .args .b) (c .before .before .before .before .before .before .before .pre .1 .0) (c .before .before .before .before .before .before .before .pre .1 .1) (c .before .before .before .before .before .before .before .args .next .link) (c .before .before .before .before .before .before .before .args .next .operator) (c .before .before .before .before .before .before .before .pre .1 .2)) _ (ap₂ bitAnd (c .before .mask-at .ensures) (c .mask-at2 .ensures)) in (h .0, h .1, search needs)
 
--- src/lib.rt:207:9  let second = f.second; ⏎ let x = row(t, masks, widths, EXPRESSION, a, first, f.next, mem);
+-- src/lib.rt:206:9  let second = f.second; ⏎ let x = row(t, masks, widths, EXPRESSION, a, first, f.next, mem);
 pairs-row-requires : (t : ℕ) → pairs-lts.Need-row-requires (
   mask-at-reads.Asked,
   mask-at-reads.Learnt,
@@ -1173,7 +1170,7 @@ pairs-row-requires : (t : ℕ) → pairs-lts.Need-row-requires (
 ) (pairs-at t) pairs.Post
 pairs-row-requires t c κs = (omega (arith, pair-first (c .before .before .before .before .before .before .before .before .before .before .before .before .before .args .t .now) (c .before .before .before .before .before .before .before .before .before .before .before .before .before .args .masks .now) (c .before .before .before .before .before .before .before .before .before .before .before .before .before .args .widths .now) (c .before .before .before .before .before .before .before .before .before .before .before .before .before .args .r) (c .before .before .before .before .before .before .before .before .before .before .before .before .before .args .a) (c .before .before .before .before .before .before .before .before .before .before .before .before .before .args .b) (c .before .before .before .before .before .before .before .before .before .before .before .before .before .pre .1 .0) (c .before .before .before .before .before .before .before .before .before .before .before .before .before .pre .1 .1) .less, c .before .before .before .before .before .before .before .before .before .before .before .before .before .pre .0), (pair-first (c .before .before .before .before .before .before .before .before .before .before .before .before .before .args .t .now) (c .before .before .before .before .before .before .before .before .before .before .before .before .before .args .masks .now) (c .before .before .before .before .before .before .before .before .before .before .before .before .before .args .widths .now) (c .before .before .before .before .before .before .before .before .before .before .before .before .before .args .r) (c .before .before .before .before .before .before .before .before .before .before .before .before .before .args .a) (c .before .before .before .before .before .before .before .before .before .before .before .before .before .args .b) (c .before .before .before .before .before .before .before .before .before .before .before .before .before .pre .1 .0) (c .before .before .before .before .before .before .before .before .before .before .before .before .before .pre .1 .1) .ready, split-first _ _ _ _ _ _ (pair-split (c .before .before .before .before .before .before .before .before .before .before .before .before .before .args .t .now) (c .before .before .before .before .before .before .before .before .before .before .before .before .before .args .masks .now) (c .before .before .before .before .before .before .before .before .before .before .before .before .before .args .widths .now) (c .before .before .before .before .before .before .before .before .before .before .before .before .before .args .r) (c .before .before .before .before .before .before .before .before .before .before .before .before .before .args .a) (c .before .before .before .before .before .before .before .before .before .before .before .before .before .args .b) (c .before .before .before .before .before .before .before .before .before .before .before .before .before .pre .1 .0) (c .before .before .before .before .before .before .before .before .before .before .before .before .before .pre .1 .1) (c .before .before .before .before .before .before .before .before .before .before .before .before .before .args .next .link) (c .before .before .before .before .before .before .before .before .before .before .before .before .before .args .next .operator) (c .before .before .before .before .before .before .before .before .before .before .before .before .before .pre .1 .2)) _ _ _ _ _ _ _ (fork-same _ _ _ _ _ _ _ _ _ _ _ (ap₂ bitAnd (c .before .before .before .before .before .before .before .mask-at .ensures) (c .before .before .before .before .before .before .mask-at2 .ensures)) (c .before .before .before .before .before .fork .ensures)), omega (arith, c .before .before .before .before .before .before .before .before .before .before .before .before .before .pre .1 .3, c .before .before .before .before .mem .given)))
 
--- src/lib.rt:208:9  let x = row(t, masks, widths, EXPRESSION, a, first, f.next, mem); ⏎ let y = row(t, masks, widths, EXPRESSION, b, second, x.next, mem);
+-- src/lib.rt:207:9  let x = row(t, masks, widths, EXPRESSION, a, first, f.next, mem); ⏎ let y = row(t, masks, widths, EXPRESSION, b, second, x.next, mem);
 pairs-row-requires-2 : (t : ℕ) → pairs-lts.Need-row-requires-2 (
   mask-at-reads.Asked,
   mask-at-reads.Learnt,
@@ -1186,7 +1183,7 @@ pairs-row-requires-2 : (t : ℕ) → pairs-lts.Need-row-requires-2 (
 ) (pairs-at t) pairs.Post
 pairs-row-requires-2 t c κs = (omega (arith, pair-second (c .before .before .before .before .before .before .before .before .before .before .before .before .before .before .before .before .before .args .t .now) (c .before .before .before .before .before .before .before .before .before .before .before .before .before .before .before .before .before .args .masks .now) (c .before .before .before .before .before .before .before .before .before .before .before .before .before .before .before .before .before .args .widths .now) (c .before .before .before .before .before .before .before .before .before .before .before .before .before .before .before .before .before .args .r) (c .before .before .before .before .before .before .before .before .before .before .before .before .before .before .before .before .before .args .a) (c .before .before .before .before .before .before .before .before .before .before .before .before .before .before .before .before .before .args .b) (c .before .before .before .before .before .before .before .before .before .before .before .before .before .before .before .before .before .pre .1 .0) (c .before .before .before .before .before .before .before .before .before .before .before .before .before .before .before .before .before .pre .1 .1) .less, c .before .before .before .before .before .before .before .before .before .before .before .before .before .before .before .before .before .pre .0), (pair-second (c .before .before .before .before .before .before .before .before .before .before .before .before .before .before .before .before .before .args .t .now) (c .before .before .before .before .before .before .before .before .before .before .before .before .before .before .before .before .before .args .masks .now) (c .before .before .before .before .before .before .before .before .before .before .before .before .before .before .before .before .before .args .widths .now) (c .before .before .before .before .before .before .before .before .before .before .before .before .before .before .before .before .before .args .r) (c .before .before .before .before .before .before .before .before .before .before .before .before .before .before .before .before .before .args .a) (c .before .before .before .before .before .before .before .before .before .before .before .before .before .before .before .before .before .args .b) (c .before .before .before .before .before .before .before .before .before .before .before .before .before .before .before .before .before .pre .1 .0) (c .before .before .before .before .before .before .before .before .before .before .before .before .before .before .before .before .before .pre .1 .1) .ready, split-second _ _ _ _ _ _ (pair-split (c .before .before .before .before .before .before .before .before .before .before .before .before .before .before .before .before .before .args .t .now) (c .before .before .before .before .before .before .before .before .before .before .before .before .before .before .before .before .before .args .masks .now) (c .before .before .before .before .before .before .before .before .before .before .before .before .before .before .before .before .before .args .widths .now) (c .before .before .before .before .before .before .before .before .before .before .before .before .before .before .before .before .before .args .r) (c .before .before .before .before .before .before .before .before .before .before .before .before .before .before .before .before .before .args .a) (c .before .before .before .before .before .before .before .before .before .before .before .before .before .before .before .before .before .args .b) (c .before .before .before .before .before .before .before .before .before .before .before .before .before .before .before .before .before .pre .1 .0) (c .before .before .before .before .before .before .before .before .before .before .before .before .before .before .before .before .before .pre .1 .1) (c .before .before .before .before .before .before .before .before .before .before .before .before .before .before .before .before .before .args .next .link) (c .before .before .before .before .before .before .before .before .before .before .before .before .before .before .before .before .before .args .next .operator) (c .before .before .before .before .before .before .before .before .before .before .before .before .before .before .before .before .before .pre .1 .2)) _ _ _ _ _ _ _ _ (c .before .before .before .row .result) (fork-same _ _ _ _ _ _ _ _ _ _ _ (ap₂ bitAnd (c .before .before .before .before .before .before .before .before .before .before .before .mask-at .ensures) (c .before .before .before .before .before .before .before .before .before .before .mask-at2 .ensures)) (c .before .before .before .before .before .before .before .before .before .fork .ensures)) (c .before .before .before .row .ensures .done), omega (arith, c .before .before .before .before .before .before .before .before .before .before .before .before .before .before .before .before .before .pre .1 .3, c .before .before .before .before .before .before .before .before .mem .given, c .before .before .mem2 .given)))
 
--- src/lib.rt:211:9  let ys = y.outs; ⏎ let outs = join(xs, x.count, ys, y.count);
+-- src/lib.rt:210:9  let ys = y.outs; ⏎ let outs = join(xs, x.count, ys, y.count);
 pairs-join-requires : (t : ℕ) → pairs-lts.Need-join-requires (
   mask-at-reads.Asked,
   mask-at-reads.Learnt,
@@ -1199,7 +1196,7 @@ pairs-join-requires : (t : ℕ) → pairs-lts.Need-join-requires (
 ) (pairs-at t) pairs.Post
 pairs-join-requires t c κs = omega (arith, few-results (c .before .before .before .before .before .before .before .before .before .before .before .before .before .before .before .before .before .before .before .before .before .before .args .t .now) (c .before .before .before .before .before .before .before .before .before .before .before .before .before .before .before .before .before .before .before .before .before .before .args .masks .now) (c .before .before .before .before .before .before .before .before .before .before .before .before .before .before .before .before .before .before .before .before .before .before .args .widths .now) (c .before .before .before .before .before .before .before .before .before .before .before .before .before .before .before .before .before .before .before .before .before .before .args .a) _ _ _ _ _ (c .before .before .before .before .before .before .before .before .row .result) (pair-first (c .before .before .before .before .before .before .before .before .before .before .before .before .before .before .before .before .before .before .before .before .before .before .args .t .now) (c .before .before .before .before .before .before .before .before .before .before .before .before .before .before .before .before .before .before .before .before .before .before .args .masks .now) (c .before .before .before .before .before .before .before .before .before .before .before .before .before .before .before .before .before .before .before .before .before .before .args .widths .now) (c .before .before .before .before .before .before .before .before .before .before .before .before .before .before .before .before .before .before .before .before .before .before .args .r) (c .before .before .before .before .before .before .before .before .before .before .before .before .before .before .before .before .before .before .before .before .before .before .args .a) (c .before .before .before .before .before .before .before .before .before .before .before .before .before .before .before .before .before .before .before .before .before .before .args .b) (c .before .before .before .before .before .before .before .before .before .before .before .before .before .before .before .before .before .before .before .before .before .before .pre .1 .0) (c .before .before .before .before .before .before .before .before .before .before .before .before .before .before .before .before .before .before .before .before .before .before .pre .1 .1) .ready) (c .before .before .before .before .before .before .before .before .row .ensures), few-results (c .before .before .before .before .before .before .before .before .before .before .before .before .before .before .before .before .before .before .before .before .before .before .args .t .now) (c .before .before .before .before .before .before .before .before .before .before .before .before .before .before .before .before .before .before .before .before .before .before .args .masks .now) (c .before .before .before .before .before .before .before .before .before .before .before .before .before .before .before .before .before .before .before .before .before .before .args .widths .now) (c .before .before .before .before .before .before .before .before .before .before .before .before .before .before .before .before .before .before .before .before .before .before .args .b) _ _ _ _ _ (c .before .before .before .before .row2 .result) (pair-second (c .before .before .before .before .before .before .before .before .before .before .before .before .before .before .before .before .before .before .before .before .before .before .args .t .now) (c .before .before .before .before .before .before .before .before .before .before .before .before .before .before .before .before .before .before .before .before .before .before .args .masks .now) (c .before .before .before .before .before .before .before .before .before .before .before .before .before .before .before .before .before .before .before .before .before .before .args .widths .now) (c .before .before .before .before .before .before .before .before .before .before .before .before .before .before .before .before .before .before .before .before .before .before .args .r) (c .before .before .before .before .before .before .before .before .before .before .before .before .before .before .before .before .before .before .before .before .before .before .args .a) (c .before .before .before .before .before .before .before .before .before .before .before .before .before .before .before .before .before .before .before .before .before .before .args .b) (c .before .before .before .before .before .before .before .before .before .before .before .before .before .before .before .before .before .before .before .before .before .before .pre .1 .0) (c .before .before .before .before .before .before .before .before .before .before .before .before .before .before .before .before .before .before .before .before .before .before .pre .1 .1) .ready) (c .before .before .before .before .row2 .ensures))
 
--- src/lib.rt:215:16  outs, ⏎ count: x.count + y.count,
+-- src/lib.rt:214:16  outs, ⏎ count: x.count + y.count,
 pairs-add-t29 : (t : ℕ) → pairs-lts.Need-add-t29 (
   mask-at-reads.Asked,
   mask-at-reads.Learnt,
@@ -1212,7 +1209,7 @@ pairs-add-t29 : (t : ℕ) → pairs-lts.Need-add-t29 (
 ) (pairs-at t) pairs.Post
 pairs-add-t29 t c = omega (arith, few-results (c .before .before .before .before .before .before .before .before .before .before .before .before .before .before .before .before .before .before .before .before .before .before .before .before .before .before .args .t .now) (c .before .before .before .before .before .before .before .before .before .before .before .before .before .before .before .before .before .before .before .before .before .before .before .before .before .before .args .masks .now) (c .before .before .before .before .before .before .before .before .before .before .before .before .before .before .before .before .before .before .before .before .before .before .before .before .before .before .args .widths .now) (c .before .before .before .before .before .before .before .before .before .before .before .before .before .before .before .before .before .before .before .before .before .before .before .before .before .before .args .a) _ _ _ _ _ (c .before .before .before .before .before .before .before .before .before .before .before .before .row .result) (pair-first (c .before .before .before .before .before .before .before .before .before .before .before .before .before .before .before .before .before .before .before .before .before .before .before .before .before .before .args .t .now) (c .before .before .before .before .before .before .before .before .before .before .before .before .before .before .before .before .before .before .before .before .before .before .before .before .before .before .args .masks .now) (c .before .before .before .before .before .before .before .before .before .before .before .before .before .before .before .before .before .before .before .before .before .before .before .before .before .before .args .widths .now) (c .before .before .before .before .before .before .before .before .before .before .before .before .before .before .before .before .before .before .before .before .before .before .before .before .before .before .args .r) (c .before .before .before .before .before .before .before .before .before .before .before .before .before .before .before .before .before .before .before .before .before .before .before .before .before .before .args .a) (c .before .before .before .before .before .before .before .before .before .before .before .before .before .before .before .before .before .before .before .before .before .before .before .before .before .before .args .b) (c .before .before .before .before .before .before .before .before .before .before .before .before .before .before .before .before .before .before .before .before .before .before .before .before .before .before .pre .1 .0) (c .before .before .before .before .before .before .before .before .before .before .before .before .before .before .before .before .before .before .before .before .before .before .before .before .before .before .pre .1 .1) .ready) (c .before .before .before .before .before .before .before .before .before .before .before .before .row .ensures), few-results (c .before .before .before .before .before .before .before .before .before .before .before .before .before .before .before .before .before .before .before .before .before .before .before .before .before .before .args .t .now) (c .before .before .before .before .before .before .before .before .before .before .before .before .before .before .before .before .before .before .before .before .before .before .before .before .before .before .args .masks .now) (c .before .before .before .before .before .before .before .before .before .before .before .before .before .before .before .before .before .before .before .before .before .before .before .before .before .before .args .widths .now) (c .before .before .before .before .before .before .before .before .before .before .before .before .before .before .before .before .before .before .before .before .before .before .before .before .before .before .args .b) _ _ _ _ _ (c .before .before .before .before .before .before .before .before .row2 .result) (pair-second (c .before .before .before .before .before .before .before .before .before .before .before .before .before .before .before .before .before .before .before .before .before .before .before .before .before .before .args .t .now) (c .before .before .before .before .before .before .before .before .before .before .before .before .before .before .before .before .before .before .before .before .before .before .before .before .before .before .args .masks .now) (c .before .before .before .before .before .before .before .before .before .before .before .before .before .before .before .before .before .before .before .before .before .before .before .before .before .before .args .widths .now) (c .before .before .before .before .before .before .before .before .before .before .before .before .before .before .before .before .before .before .before .before .before .before .before .before .before .before .args .r) (c .before .before .before .before .before .before .before .before .before .before .before .before .before .before .before .before .before .before .before .before .before .before .before .before .before .before .args .a) (c .before .before .before .before .before .before .before .before .before .before .before .before .before .before .before .before .before .before .before .before .before .before .before .before .before .before .args .b) (c .before .before .before .before .before .before .before .before .before .before .before .before .before .before .before .before .before .before .before .before .before .before .before .before .before .before .pre .1 .0) (c .before .before .before .before .before .before .before .before .before .before .before .before .before .before .before .before .before .before .before .before .before .before .before .before .before .before .pre .1 .1) .ready) (c .before .before .before .before .before .before .before .before .row2 .ensures))
 
--- src/lib.rt:190:1  // A pair: both rows side by side, each with a copy of the names that both use. ⏎ fn pairs(
+-- src/lib.rt:189:1  // A pair: both rows side by side, each with a copy of the names that both use. ⏎ fn pairs(
 pairs-same-length : (t : ℕ) → pairs-lts.Need-same-length (
   mask-at-reads.Asked,
   mask-at-reads.Learnt,
@@ -1225,7 +1222,7 @@ pairs-same-length : (t : ℕ) → pairs-lts.Need-same-length (
 ) (pairs-at t) pairs.Post
 pairs-same-length t c = c .before .before .before .before .before .before .before .mem3 .given ∙ c .before .before .before .before .before .before .before .before .before .before .before .mem2 .given ∙ c .before .before .before .before .before .before .before .before .before .before .before .before .before .before .before .before .before .mem .given
 
--- src/lib.rt:190:1  // A pair: both rows side by side, each with a copy of the names that both use. ⏎ fn pairs(
+-- src/lib.rt:189:1  // A pair: both rows side by side, each with a copy of the names that both use. ⏎ fn pairs(
 pairs-returns : (t : ℕ) → pairs-lts.Need-returns (
   mask-at-reads.Asked,
   mask-at-reads.Learnt,
@@ -1246,6 +1243,8 @@ plain-shape-at-requires : (t : ℕ) → plain-lts.Need-shape-at-requires (
   identifier-reads.Learnt,
   constant-reads.Asked,
   constant-reads.Learnt,
+  constant-reads′.Asked,
+  constant-reads′.Learnt,
   pairs-below t,
   pairs.Post,
   row-below t,
@@ -1265,6 +1264,8 @@ plain-enum-known-a : (t : ℕ) → plain-lts.Need-enum-known-a (
   identifier-reads.Learnt,
   constant-reads.Asked,
   constant-reads.Learnt,
+  constant-reads′.Asked,
+  constant-reads′.Learnt,
   pairs-below t,
   pairs.Post,
   row-below t,
@@ -1284,6 +1285,8 @@ plain-identifier-requires : (t : ℕ) → plain-lts.Need-identifier-requires (
   identifier-reads.Learnt,
   constant-reads.Asked,
   constant-reads.Learnt,
+  constant-reads′.Asked,
+  constant-reads′.Learnt,
   pairs-below t,
   pairs.Post,
   row-below t,
@@ -1295,7 +1298,70 @@ plain-identifier-requires : (t : ℕ) → plain-lts.Need-identifier-requires (
 ) (plain-at t) plain.Post
 plain-identifier-requires t c κs = omega (arith, at-identifier (c .before .before .before .before .before .before .before .before .args .t .now) (c .before .before .before .before .before .before .before .before .args .masks .now) (c .before .before .before .before .before .before .before .before .args .widths .now) 0 (c .before .before .before .before .before .before .before .before .args .r) (c .before .before .before .before .before .before .before .before .pre .1 .0) (c .before .a .given .0 .0) (sym (c .before .before .before .shape-at .ensures) ∙ c .before .a .given .1) .1)
 
--- src/lib.rt:167:22  Shape::Identifier(a) => identifier(a, env, next), ⏎ Shape::Whole(a) => constant(mem, Value::Whole(a as i32), env, next),
+-- src/lib.rt:167:25  Shape::Identifier(a) => identifier(a, env, next), ⏎ Shape::Constant(kind, a) => constant(mem, formula::constant(kind, a), env, next),
+plain-enum-known-kind : (t : ℕ) → plain-lts.Need-enum-known-kind (
+  shape-at-reads.Asked,
+  shape-at-reads.Learnt,
+  identifier-reads.Asked,
+  identifier-reads.Learnt,
+  constant-reads.Asked,
+  constant-reads.Learnt,
+  constant-reads′.Asked,
+  constant-reads′.Learnt,
+  pairs-below t,
+  pairs.Post,
+  row-below t,
+  row.Post,
+  applied-reads.Asked,
+  applied-reads.Learnt,
+  fors-below t,
+  fors.Post,
+) (plain-at t) plain.Post
+plain-enum-known-kind t c = search needs
+
+-- src/lib.rt:167:51  Shape::Identifier(a) => identifier(a, env, next), ⏎ Shape::Constant(kind, a) => constant(mem, formula::constant(kind, a), env, next),
+plain-constant-requires : (t : ℕ) → plain-lts.Need-constant-requires (
+  shape-at-reads.Asked,
+  shape-at-reads.Learnt,
+  identifier-reads.Asked,
+  identifier-reads.Learnt,
+  constant-reads.Asked,
+  constant-reads.Learnt,
+  constant-reads′.Asked,
+  constant-reads′.Learnt,
+  pairs-below t,
+  pairs.Post,
+  row-below t,
+  row.Post,
+  applied-reads.Asked,
+  applied-reads.Learnt,
+  fors-below t,
+  fors.Post,
+) (plain-at t) plain.Post
+plain-constant-requires t c κs = at-constant (c .before .before .before .before .before .before .before .before .before .args .t .now) (c .before .before .before .before .before .before .before .before .before .args .masks .now) (c .before .before .before .before .before .before .before .before .before .args .widths .now) 0 (c .before .before .before .before .before .before .before .before .before .args .r) (c .before .before .before .before .before .before .before .before .before .pre .1 .0) (c .before .before .kind .given .0 .0) (c .before .before .kind .given .0 .1 .0) (sym (c .before .before .before .before .shape-at .ensures) ∙ c .before .before .kind .given .1) .1
+
+-- src/lib.rt:167:37  Shape::Identifier(a) => identifier(a, env, next), ⏎ Shape::Constant(kind, a) => constant(mem, formula::constant(kind, a), env, next),
+plain-constant-requires-2 : (t : ℕ) → plain-lts.Need-constant-requires-2 (
+  shape-at-reads.Asked,
+  shape-at-reads.Learnt,
+  identifier-reads.Asked,
+  identifier-reads.Learnt,
+  constant-reads.Asked,
+  constant-reads.Learnt,
+  constant-reads′.Asked,
+  constant-reads′.Learnt,
+  pairs-below t,
+  pairs.Post,
+  row-below t,
+  row.Post,
+  applied-reads.Asked,
+  applied-reads.Learnt,
+  fors-below t,
+  fors.Post,
+) (plain-at t) plain.Post
+plain-constant-requires-2 t c κs = (constant-room (c .before .before .before .before .before .before .before .before .before .before .args .t .now) (c .before .before .before .before .before .before .before .before .before .before .args .masks .now) (c .before .before .before .before .before .before .before .before .before .before .args .widths .now) (c .before .before .before .before .before .before .before .before .before .before .args .r) (c .before .before .before .before .before .before .before .before .before .before .pre .1 .0) (c .before .before .before .kind .given .0 .0) (c .before .before .before .kind .given .0 .1 .0) (sym (c .before .before .before .before .before .shape-at .ensures) ∙ c .before .before .before .kind .given .1) (c .before .before .before .before .before .before .before .before .before .before .args .next .link) (c .before .before .before .before .before .before .before .before .before .before .args .next .operator) (c .before .before .before .before .before .before .before .before .before .before .pre .1 .2), search needs)
+
+-- src/lib.rt:168:21  Shape::Constant(kind, a) => constant(mem, formula::constant(kind, a), env, next), ⏎ Shape::Pair(a, b) => pairs(t, masks, widths, r, a, b, env, next, mem),
 plain-enum-known-a-2 : (t : ℕ) → plain-lts.Need-enum-known-a-2 (
   shape-at-reads.Asked,
   shape-at-reads.Learnt,
@@ -1303,6 +1369,8 @@ plain-enum-known-a-2 : (t : ℕ) → plain-lts.Need-enum-known-a-2 (
   identifier-reads.Learnt,
   constant-reads.Asked,
   constant-reads.Learnt,
+  constant-reads′.Asked,
+  constant-reads′.Learnt,
   pairs-below t,
   pairs.Post,
   row-below t,
@@ -1314,102 +1382,7 @@ plain-enum-known-a-2 : (t : ℕ) → plain-lts.Need-enum-known-a-2 (
 ) (plain-at t) plain.Post
 plain-enum-known-a-2 t c = search needs
 
--- src/lib.rt:167:55  Shape::Identifier(a) => identifier(a, env, next), ⏎ Shape::Whole(a) => constant(mem, Value::Whole(a as i32), env, next),
-plain-cast-t25 : (t : ℕ) → plain-lts.Need-cast-t25 (
-  shape-at-reads.Asked,
-  shape-at-reads.Learnt,
-  identifier-reads.Asked,
-  identifier-reads.Learnt,
-  constant-reads.Asked,
-  constant-reads.Learnt,
-  pairs-below t,
-  pairs.Post,
-  row-below t,
-  row.Post,
-  applied-reads.Asked,
-  applied-reads.Learnt,
-  fors-below t,
-  fors.Post,
-) (plain-at t) plain.Post
-plain-cast-t25 t c = omega (arith, at-whole (c .before .before .before .before .before .before .before .before .before .args .t .now) (c .before .before .before .before .before .before .before .before .before .args .masks .now) (c .before .before .before .before .before .before .before .before .before .args .widths .now) 0 (c .before .before .before .before .before .before .before .before .before .args .r) (c .before .before .before .before .before .before .before .before .before .pre .1 .0) (c .before .before .a2 .given .0 .0) (sym (c .before .before .before .before .shape-at .ensures) ∙ c .before .before .a2 .given .1) .1)
-
--- src/lib.rt:167:28  Shape::Identifier(a) => identifier(a, env, next), ⏎ Shape::Whole(a) => constant(mem, Value::Whole(a as i32), env, next),
-plain-constant-requires : (t : ℕ) → plain-lts.Need-constant-requires (
-  shape-at-reads.Asked,
-  shape-at-reads.Learnt,
-  identifier-reads.Asked,
-  identifier-reads.Learnt,
-  constant-reads.Asked,
-  constant-reads.Learnt,
-  pairs-below t,
-  pairs.Post,
-  row-below t,
-  row.Post,
-  applied-reads.Asked,
-  applied-reads.Learnt,
-  fors-below t,
-  fors.Post,
-) (plain-at t) plain.Post
-plain-constant-requires t c κs = (whole-room (c .before .before .before .before .before .before .before .before .before .args .t .now) (c .before .before .before .before .before .before .before .before .before .args .masks .now) (c .before .before .before .before .before .before .before .before .before .args .widths .now) (c .before .before .before .before .before .before .before .before .before .args .r) (c .before .before .before .before .before .before .before .before .before .pre .1 .0) (c .before .before .a2 .given .0 .0) (sym (c .before .before .before .before .shape-at .ensures) ∙ c .before .before .a2 .given .1) (c .before .before .before .before .before .before .before .before .before .args .next .link) (c .before .before .before .before .before .before .before .before .before .args .next .operator) (c .before .before .before .before .before .before .before .before .before .pre .1 .2), search needs)
-
--- src/lib.rt:168:22  Shape::Whole(a) => constant(mem, Value::Whole(a as i32), env, next), ⏎ Shape::Truth(a) => constant(mem, Value::Truth(a == 1), env, next),
-plain-enum-known-a-3 : (t : ℕ) → plain-lts.Need-enum-known-a-3 (
-  shape-at-reads.Asked,
-  shape-at-reads.Learnt,
-  identifier-reads.Asked,
-  identifier-reads.Learnt,
-  constant-reads.Asked,
-  constant-reads.Learnt,
-  pairs-below t,
-  pairs.Post,
-  row-below t,
-  row.Post,
-  applied-reads.Asked,
-  applied-reads.Learnt,
-  fors-below t,
-  fors.Post,
-) (plain-at t) plain.Post
-plain-enum-known-a-3 t c = search needs
-
--- src/lib.rt:168:28  Shape::Whole(a) => constant(mem, Value::Whole(a as i32), env, next), ⏎ Shape::Truth(a) => constant(mem, Value::Truth(a == 1), env, next),
-plain-constant-requires-2 : (t : ℕ) → plain-lts.Need-constant-requires-2 (
-  shape-at-reads.Asked,
-  shape-at-reads.Learnt,
-  identifier-reads.Asked,
-  identifier-reads.Learnt,
-  constant-reads.Asked,
-  constant-reads.Learnt,
-  pairs-below t,
-  pairs.Post,
-  row-below t,
-  row.Post,
-  applied-reads.Asked,
-  applied-reads.Learnt,
-  fors-below t,
-  fors.Post,
-) (plain-at t) plain.Post
-plain-constant-requires-2 t c κs = (truth-room (c .before .before .before .before .before .before .before .before .before .args .t .now) (c .before .before .before .before .before .before .before .before .before .args .masks .now) (c .before .before .before .before .before .before .before .before .before .args .widths .now) (c .before .before .before .before .before .before .before .before .before .args .r) (c .before .before .before .before .before .before .before .before .before .pre .1 .0) (c .before .before .a3 .given .0 .0) (sym (c .before .before .before .before .shape-at .ensures) ∙ c .before .before .a3 .given .1) (c .before .before .before .before .before .before .before .before .before .args .next .link) (c .before .before .before .before .before .before .before .before .before .args .next .operator) (c .before .before .before .before .before .before .before .before .before .pre .1 .2), search needs)
-
--- src/lib.rt:169:21  Shape::Truth(a) => constant(mem, Value::Truth(a == 1), env, next), ⏎ Shape::Pair(a, b) => pairs(t, masks, widths, r, a, b, env, next, mem),
-plain-enum-known-a-4 : (t : ℕ) → plain-lts.Need-enum-known-a-4 (
-  shape-at-reads.Asked,
-  shape-at-reads.Learnt,
-  identifier-reads.Asked,
-  identifier-reads.Learnt,
-  constant-reads.Asked,
-  constant-reads.Learnt,
-  pairs-below t,
-  pairs.Post,
-  row-below t,
-  row.Post,
-  applied-reads.Asked,
-  applied-reads.Learnt,
-  fors-below t,
-  fors.Post,
-) (plain-at t) plain.Post
-plain-enum-known-a-4 t c = search needs
-
--- src/lib.rt:169:30  Shape::Truth(a) => constant(mem, Value::Truth(a == 1), env, next), ⏎ Shape::Pair(a, b) => pairs(t, masks, widths, r, a, b, env, next, mem),
+-- src/lib.rt:168:30  Shape::Constant(kind, a) => constant(mem, formula::constant(kind, a), env, next), ⏎ Shape::Pair(a, b) => pairs(t, masks, widths, r, a, b, env, next, mem),
 plain-pairs-requires : (t : ℕ) → plain-lts.Need-pairs-requires (
   shape-at-reads.Asked,
   shape-at-reads.Learnt,
@@ -1417,6 +1390,8 @@ plain-pairs-requires : (t : ℕ) → plain-lts.Need-pairs-requires (
   identifier-reads.Learnt,
   constant-reads.Asked,
   constant-reads.Learnt,
+  constant-reads′.Asked,
+  constant-reads′.Learnt,
   pairs-below t,
   pairs.Post,
   row-below t,
@@ -1426,9 +1401,9 @@ plain-pairs-requires : (t : ℕ) → plain-lts.Need-pairs-requires (
   fors-below t,
   fors.Post,
 ) (plain-at t) plain.Post
-plain-pairs-requires t c κs = (omega (arith, c .before .before .before .before .before .before .before .before .before .pre .0), (c .before .before .before .before .before .before .before .before .before .pre .1 .0, (sym (c .before .before .before .before .shape-at .ensures) ∙ c .before .before .a4 .given .1), c .before .before .before .before .before .before .before .before .before .pre .1 .2, search needs))
+plain-pairs-requires t c κs = (omega (arith, c .before .before .before .before .before .before .before .before .before .pre .0), (c .before .before .before .before .before .before .before .before .before .pre .1 .0, (sym (c .before .before .before .before .shape-at .ensures) ∙ c .before .before .a2 .given .1), c .before .before .before .before .before .before .before .before .before .pre .1 .2, search needs))
 
--- src/lib.rt:170:25  Shape::Pair(a, b) => pairs(t, masks, widths, r, a, b, env, next, mem), ⏎ Shape::Operator(code, b) => {
+-- src/lib.rt:169:25  Shape::Pair(a, b) => pairs(t, masks, widths, r, a, b, env, next, mem), ⏎ Shape::Operator(code, b) => {
 plain-enum-known-code : (t : ℕ) → plain-lts.Need-enum-known-code (
   shape-at-reads.Asked,
   shape-at-reads.Learnt,
@@ -1436,6 +1411,8 @@ plain-enum-known-code : (t : ℕ) → plain-lts.Need-enum-known-code (
   identifier-reads.Learnt,
   constant-reads.Asked,
   constant-reads.Learnt,
+  constant-reads′.Asked,
+  constant-reads′.Learnt,
   pairs-below t,
   pairs.Post,
   row-below t,
@@ -1447,7 +1424,7 @@ plain-enum-known-code : (t : ℕ) → plain-lts.Need-enum-known-code (
 ) (plain-at t) plain.Post
 plain-enum-known-code t c = search needs
 
--- src/lib.rt:171:17  Shape::Operator(code, b) => { ⏎ let x = row(t, masks, widths, EXPRESSION, b, env, next, mem);
+-- src/lib.rt:170:17  Shape::Operator(code, b) => { ⏎ let x = row(t, masks, widths, EXPRESSION, b, env, next, mem);
 plain-row-requires : (t : ℕ) → plain-lts.Need-row-requires (
   shape-at-reads.Asked,
   shape-at-reads.Learnt,
@@ -1455,6 +1432,8 @@ plain-row-requires : (t : ℕ) → plain-lts.Need-row-requires (
   identifier-reads.Learnt,
   constant-reads.Asked,
   constant-reads.Learnt,
+  constant-reads′.Asked,
+  constant-reads′.Learnt,
   pairs-below t,
   pairs.Post,
   row-below t,
@@ -1466,7 +1445,7 @@ plain-row-requires : (t : ℕ) → plain-lts.Need-row-requires (
 ) (plain-at t) plain.Post
 plain-row-requires t c κs = (omega (arith, operator-child (c .before .before .before .before .before .before .before .before .before .args .t .now) (c .before .before .before .before .before .before .before .before .before .args .masks .now) (c .before .before .before .before .before .before .before .before .before .args .widths .now) (c .before .before .before .before .before .before .before .before .before .args .r) (c .before .before .before .before .before .before .before .before .before .pre .1 .0) (c .before .before .code .given .0 .0) (c .before .before .code .given .0 .1 .0) (sym (c .before .before .before .before .shape-at .ensures) ∙ c .before .before .code .given .1) .less, c .before .before .before .before .before .before .before .before .before .pre .0), (operator-child (c .before .before .before .before .before .before .before .before .before .args .t .now) (c .before .before .before .before .before .before .before .before .before .args .masks .now) (c .before .before .before .before .before .before .before .before .before .args .widths .now) (c .before .before .before .before .before .before .before .before .before .args .r) (c .before .before .before .before .before .before .before .before .before .pre .1 .0) (c .before .before .code .given .0 .0) (c .before .before .code .given .0 .1 .0) (sym (c .before .before .before .before .shape-at .ensures) ∙ c .before .before .code .given .1) .ready, operator-room (c .before .before .before .before .before .before .before .before .before .args .t .now) (c .before .before .before .before .before .before .before .before .before .args .masks .now) (c .before .before .before .before .before .before .before .before .before .args .widths .now) (c .before .before .before .before .before .before .before .before .before .args .r) (c .before .before .before .before .before .before .before .before .before .pre .1 .0) (c .before .before .code .given .0 .0) (c .before .before .code .given .0 .1 .0) (sym (c .before .before .before .before .shape-at .ensures) ∙ c .before .before .code .given .1) (c .before .before .before .before .before .before .before .before .before .args .next .link) (c .before .before .before .before .before .before .before .before .before .args .next .operator) (c .before .before .before .before .before .before .before .before .before .pre .1 .2), search needs))
 
--- src/lib.rt:172:13  let x = row(t, masks, widths, EXPRESSION, b, env, next, mem); ⏎ applied(mem, code, x)
+-- src/lib.rt:171:13  let x = row(t, masks, widths, EXPRESSION, b, env, next, mem); ⏎ applied(mem, code, x)
 plain-applied-requires : (t : ℕ) → plain-lts.Need-applied-requires (
   shape-at-reads.Asked,
   shape-at-reads.Learnt,
@@ -1474,6 +1453,8 @@ plain-applied-requires : (t : ℕ) → plain-lts.Need-applied-requires (
   identifier-reads.Learnt,
   constant-reads.Asked,
   constant-reads.Learnt,
+  constant-reads′.Asked,
+  constant-reads′.Learnt,
   pairs-below t,
   pairs.Post,
   row-below t,
@@ -1485,7 +1466,7 @@ plain-applied-requires : (t : ℕ) → plain-lts.Need-applied-requires (
 ) (plain-at t) plain.Post
 plain-applied-requires t c κs = let h = operator-needs (c .before .before .before .before .before .before .before .before .before .before .before .before .before .args .t .now) (c .before .before .before .before .before .before .before .before .before .before .before .before .before .args .masks .now) (c .before .before .before .before .before .before .before .before .before .before .before .before .before .args .widths .now) (c .before .before .before .before .before .before .before .before .before .before .before .before .before .args .r) (c .before .before .before .before .before .before .before .before .before .before .before .before .before .pre .1 .0) (c .before .before .before .before .before .before .code .given .0 .0) (c .before .before .before .before .before .before .code .given .0 .1 .0) (sym (c .before .before .before .before .before .before .before .before .shape-at .ensures) ∙ c .before .before .before .before .before .before .code .given .1) (c .before .before .before .before .before .before .before .before .before .before .before .before .before .args .next .link) (c .before .before .before .before .before .before .before .before .before .before .before .before .before .args .next .operator) _ _ _ (c .before .before .before .row .result) (c .before .before .before .before .before .before .before .before .before .before .before .before .before .pre .1 .2) (c .before .before .before .row .ensures) in (h .0, h .1, h .2, h .3, search needs)
 
--- src/lib.rt:174:20  } ⏎ Shape::For(first, count, value, inner) => {
+-- src/lib.rt:173:20  } ⏎ Shape::For(first, count, value, inner) => {
 plain-enum-known-first : (t : ℕ) → plain-lts.Need-enum-known-first (
   shape-at-reads.Asked,
   shape-at-reads.Learnt,
@@ -1493,6 +1474,8 @@ plain-enum-known-first : (t : ℕ) → plain-lts.Need-enum-known-first (
   identifier-reads.Learnt,
   constant-reads.Asked,
   constant-reads.Learnt,
+  constant-reads′.Asked,
+  constant-reads′.Learnt,
   pairs-below t,
   pairs.Post,
   row-below t,
@@ -1504,7 +1487,7 @@ plain-enum-known-first : (t : ℕ) → plain-lts.Need-enum-known-first (
 ) (plain-at t) plain.Post
 plain-enum-known-first t c = search needs
 
--- src/lib.rt:181:13  }; ⏎ fors(t, masks, widths, r, binding, env, next, mem)
+-- src/lib.rt:180:13  }; ⏎ fors(t, masks, widths, r, binding, env, next, mem)
 plain-fors-requires : (t : ℕ) → plain-lts.Need-fors-requires (
   shape-at-reads.Asked,
   shape-at-reads.Learnt,
@@ -1512,6 +1495,8 @@ plain-fors-requires : (t : ℕ) → plain-lts.Need-fors-requires (
   identifier-reads.Learnt,
   constant-reads.Asked,
   constant-reads.Learnt,
+  constant-reads′.Asked,
+  constant-reads′.Learnt,
   pairs-below t,
   pairs.Post,
   row-below t,
@@ -1523,7 +1508,7 @@ plain-fors-requires : (t : ℕ) → plain-lts.Need-fors-requires (
 ) (plain-at t) plain.Post
 plain-fors-requires t c κs = (omega (arith, c .before .before .before .before .before .before .before .before .before .pre .0), (c .before .before .before .before .before .before .before .before .before .pre .1 .0, (sym (c .before .before .before .before .shape-at .ensures) ∙ c .before .before .first .given .1), c .before .before .before .before .before .before .before .before .before .pre .1 .2, search needs))
 
--- src/lib.rt:183:35  } ⏎ Shape::Let(_, _, _, _) => identifier(0, env, next),
+-- src/lib.rt:182:35  } ⏎ Shape::Let(_, _, _, _) => identifier(0, env, next),
 plain-enum-told : (t : ℕ) → plain-lts.Need-enum-told (
   shape-at-reads.Asked,
   shape-at-reads.Learnt,
@@ -1531,6 +1516,8 @@ plain-enum-told : (t : ℕ) → plain-lts.Need-enum-told (
   identifier-reads.Learnt,
   constant-reads.Asked,
   constant-reads.Learnt,
+  constant-reads′.Asked,
+  constant-reads′.Learnt,
   pairs-below t,
   pairs.Post,
   row-below t,
@@ -1542,7 +1529,7 @@ plain-enum-told : (t : ℕ) → plain-lts.Need-enum-told (
 ) (plain-at t) plain.Post
 plain-enum-told t c = search needs
 
--- src/lib.rt:183:35  } ⏎ Shape::Let(_, _, _, _) => identifier(0, env, next),
+-- src/lib.rt:182:35  } ⏎ Shape::Let(_, _, _, _) => identifier(0, env, next),
 plain-identifier-requires-2 : (t : ℕ) → plain-lts.Need-identifier-requires-2 (
   shape-at-reads.Asked,
   shape-at-reads.Learnt,
@@ -1550,6 +1537,8 @@ plain-identifier-requires-2 : (t : ℕ) → plain-lts.Need-identifier-requires-2
   identifier-reads.Learnt,
   constant-reads.Asked,
   constant-reads.Learnt,
+  constant-reads′.Asked,
+  constant-reads′.Learnt,
   pairs-below t,
   pairs.Post,
   row-below t,
@@ -1561,7 +1550,7 @@ plain-identifier-requires-2 : (t : ℕ) → plain-lts.Need-identifier-requires-2
 ) (plain-at t) plain.Post
 plain-identifier-requires-2 t c κs = omega arith
 
--- src/lib.rt:184:31  Shape::Let(_, _, _, _) => identifier(0, env, next), ⏎ Shape::If(_, _, _) => identifier(0, env, next),
+-- src/lib.rt:183:31  Shape::Let(_, _, _, _) => identifier(0, env, next), ⏎ Shape::If(_, _, _) => identifier(0, env, next),
 plain-enum-told-2 : (t : ℕ) → plain-lts.Need-enum-told-2 (
   shape-at-reads.Asked,
   shape-at-reads.Learnt,
@@ -1569,6 +1558,8 @@ plain-enum-told-2 : (t : ℕ) → plain-lts.Need-enum-told-2 (
   identifier-reads.Learnt,
   constant-reads.Asked,
   constant-reads.Learnt,
+  constant-reads′.Asked,
+  constant-reads′.Learnt,
   pairs-below t,
   pairs.Post,
   row-below t,
@@ -1580,7 +1571,7 @@ plain-enum-told-2 : (t : ℕ) → plain-lts.Need-enum-told-2 (
 ) (plain-at t) plain.Post
 plain-enum-told-2 t c = search needs
 
--- src/lib.rt:184:31  Shape::Let(_, _, _, _) => identifier(0, env, next), ⏎ Shape::If(_, _, _) => identifier(0, env, next),
+-- src/lib.rt:183:31  Shape::Let(_, _, _, _) => identifier(0, env, next), ⏎ Shape::If(_, _, _) => identifier(0, env, next),
 plain-identifier-requires-3 : (t : ℕ) → plain-lts.Need-identifier-requires-3 (
   shape-at-reads.Asked,
   shape-at-reads.Learnt,
@@ -1588,6 +1579,8 @@ plain-identifier-requires-3 : (t : ℕ) → plain-lts.Need-identifier-requires-3
   identifier-reads.Learnt,
   constant-reads.Asked,
   constant-reads.Learnt,
+  constant-reads′.Asked,
+  constant-reads′.Learnt,
   pairs-below t,
   pairs.Post,
   row-below t,
@@ -1599,7 +1592,7 @@ plain-identifier-requires-3 : (t : ℕ) → plain-lts.Need-identifier-requires-3
 ) (plain-at t) plain.Post
 plain-identifier-requires-3 t c κs = omega arith
 
--- src/lib.rt:185:27  Shape::If(_, _, _) => identifier(0, env, next), ⏎ Shape::Iter(_) => identifier(0, env, next),
+-- src/lib.rt:184:27  Shape::If(_, _, _) => identifier(0, env, next), ⏎ Shape::Iter(_) => identifier(0, env, next),
 plain-enum-told-3 : (t : ℕ) → plain-lts.Need-enum-told-3 (
   shape-at-reads.Asked,
   shape-at-reads.Learnt,
@@ -1607,6 +1600,8 @@ plain-enum-told-3 : (t : ℕ) → plain-lts.Need-enum-told-3 (
   identifier-reads.Learnt,
   constant-reads.Asked,
   constant-reads.Learnt,
+  constant-reads′.Asked,
+  constant-reads′.Learnt,
   pairs-below t,
   pairs.Post,
   row-below t,
@@ -1618,7 +1613,7 @@ plain-enum-told-3 : (t : ℕ) → plain-lts.Need-enum-told-3 (
 ) (plain-at t) plain.Post
 plain-enum-told-3 t c = search needs
 
--- src/lib.rt:185:27  Shape::If(_, _, _) => identifier(0, env, next), ⏎ Shape::Iter(_) => identifier(0, env, next),
+-- src/lib.rt:184:27  Shape::If(_, _, _) => identifier(0, env, next), ⏎ Shape::Iter(_) => identifier(0, env, next),
 plain-identifier-requires-4 : (t : ℕ) → plain-lts.Need-identifier-requires-4 (
   shape-at-reads.Asked,
   shape-at-reads.Learnt,
@@ -1626,6 +1621,8 @@ plain-identifier-requires-4 : (t : ℕ) → plain-lts.Need-identifier-requires-4
   identifier-reads.Learnt,
   constant-reads.Asked,
   constant-reads.Learnt,
+  constant-reads′.Asked,
+  constant-reads′.Learnt,
   pairs-below t,
   pairs.Post,
   row-below t,
@@ -1645,6 +1642,8 @@ plain-returns : (t : ℕ) → plain-lts.Need-returns (
   identifier-reads.Learnt,
   constant-reads.Asked,
   constant-reads.Learnt,
+  constant-reads′.Asked,
+  constant-reads′.Learnt,
   pairs-below t,
   pairs.Post,
   row-below t,
@@ -1664,6 +1663,8 @@ plain-same-length : (t : ℕ) → plain-lts.Need-same-length (
   identifier-reads.Learnt,
   constant-reads.Asked,
   constant-reads.Learnt,
+  constant-reads′.Asked,
+  constant-reads′.Learnt,
   pairs-below t,
   pairs.Post,
   row-below t,
@@ -1683,6 +1684,8 @@ plain-returns-2 : (t : ℕ) → plain-lts.Need-returns-2 (
   identifier-reads.Learnt,
   constant-reads.Asked,
   constant-reads.Learnt,
+  constant-reads′.Asked,
+  constant-reads′.Learnt,
   pairs-below t,
   pairs.Post,
   row-below t,
@@ -1692,7 +1695,7 @@ plain-returns-2 : (t : ℕ) → plain-lts.Need-returns-2 (
   fors-below t,
   fors.Post,
 ) (plain-at t) plain.Post
-plain-returns-2 t c = whole-part (c .before .before .before .before .before .before .before .before .before .before .before .before .args .t .now) (c .before .before .before .before .before .before .before .before .before .before .before .before .args .masks .now) (c .before .before .before .before .before .before .before .before .before .before .before .before .args .widths .now) (c .before .before .before .before .before .before .before .before .before .before .before .before .args .r) (c .before .before .before .before .before .before .before .before .before .before .before .before .pre .1 .0) (c .before .before .before .before .before .a2 .given .0 .0) (sym (c .before .before .before .before .before .before .before .shape-at .ensures) ∙ c .before .before .before .before .before .a2 .given .1) _ (ap whole-value (toZ-pos w32 {n = (c .before .before .before .before .before .a2 .given .0 .0)} (omega (arith, at-whole (c .before .before .before .before .before .before .before .before .before .before .before .before .args .t .now) (c .before .before .before .before .before .before .before .before .before .before .before .before .args .masks .now) (c .before .before .before .before .before .before .before .before .before .before .before .before .args .widths .now) 0 (c .before .before .before .before .before .before .before .before .before .before .before .before .args .r) (c .before .before .before .before .before .before .before .before .before .before .before .before .pre .1 .0) (c .before .before .before .before .before .a2 .given .0 .0) (sym (c .before .before .before .before .before .before .before .shape-at .ensures) ∙ c .before .before .before .before .before .a2 .given .1) .1)))) (c .before .before .before .before .before .before .before .before .before .before .before .before .args .next .link) (c .before .before .before .before .before .before .before .before .before .before .before .before .args .next .operator) _ _ _ (c .before .before .constant .result) (c .before .before .constant .ensures)
+plain-returns-2 t c = constant-part (c .before .before .before .before .before .before .before .before .before .before .before .before .before .args .t .now) (c .before .before .before .before .before .before .before .before .before .before .before .before .before .args .masks .now) (c .before .before .before .before .before .before .before .before .before .before .before .before .before .args .widths .now) (c .before .before .before .before .before .before .before .before .before .before .before .before .before .args .r) (c .before .before .before .before .before .before .before .before .before .before .before .before .before .pre .1 .0) (c .before .before .before .before .before .before .kind .given .0 .0) (c .before .before .before .before .before .before .kind .given .0 .1 .0) (sym (c .before .before .before .before .before .before .before .before .shape-at .ensures) ∙ c .before .before .before .before .before .before .kind .given .1) _ (c .before .before .before .constant .ensures) (c .before .before .before .before .before .before .before .before .before .before .before .before .before .args .next .link) (c .before .before .before .before .before .before .before .before .before .before .before .before .before .args .next .operator) _ _ _ (c .before .before .constant2 .result) (c .before .before .constant2 .ensures)
 
 -- src/lib.rt:153:1  // A row that is neither a let nor an if nor an iter, as an expression. ⏎ fn plain(
 plain-same-length-2 : (t : ℕ) → plain-lts.Need-same-length-2 (
@@ -1702,6 +1705,8 @@ plain-same-length-2 : (t : ℕ) → plain-lts.Need-same-length-2 (
   identifier-reads.Learnt,
   constant-reads.Asked,
   constant-reads.Learnt,
+  constant-reads′.Asked,
+  constant-reads′.Learnt,
   pairs-below t,
   pairs.Post,
   row-below t,
@@ -1721,6 +1726,8 @@ plain-returns-3 : (t : ℕ) → plain-lts.Need-returns-3 (
   identifier-reads.Learnt,
   constant-reads.Asked,
   constant-reads.Learnt,
+  constant-reads′.Asked,
+  constant-reads′.Learnt,
   pairs-below t,
   pairs.Post,
   row-below t,
@@ -1730,7 +1737,7 @@ plain-returns-3 : (t : ℕ) → plain-lts.Need-returns-3 (
   fors-below t,
   fors.Post,
 ) (plain-at t) plain.Post
-plain-returns-3 t c = truth-part (c .before .before .before .before .before .before .before .before .before .before .before .before .args .t .now) (c .before .before .before .before .before .before .before .before .before .before .before .before .args .masks .now) (c .before .before .before .before .before .before .before .before .before .before .before .before .args .widths .now) (c .before .before .before .before .before .before .before .before .before .before .before .before .args .r) (c .before .before .before .before .before .before .before .before .before .before .before .before .pre .1 .0) (c .before .before .before .before .before .a3 .given .0 .0) (sym (c .before .before .before .before .before .before .before .shape-at .ensures) ∙ c .before .before .before .before .before .a3 .given .1) _ refl (c .before .before .before .before .before .before .before .before .before .before .before .before .args .next .link) (c .before .before .before .before .before .before .before .before .before .before .before .before .args .next .operator) _ _ _ (c .before .before .constant2 .result) (c .before .before .constant2 .ensures)
+plain-returns-3 t c = c .before .before .pairs .ensures
 
 -- src/lib.rt:153:1  // A row that is neither a let nor an if nor an iter, as an expression. ⏎ fn plain(
 plain-same-length-3 : (t : ℕ) → plain-lts.Need-same-length-3 (
@@ -1740,6 +1747,8 @@ plain-same-length-3 : (t : ℕ) → plain-lts.Need-same-length-3 (
   identifier-reads.Learnt,
   constant-reads.Asked,
   constant-reads.Learnt,
+  constant-reads′.Asked,
+  constant-reads′.Learnt,
   pairs-below t,
   pairs.Post,
   row-below t,
@@ -1759,6 +1768,8 @@ plain-returns-4 : (t : ℕ) → plain-lts.Need-returns-4 (
   identifier-reads.Learnt,
   constant-reads.Asked,
   constant-reads.Learnt,
+  constant-reads′.Asked,
+  constant-reads′.Learnt,
   pairs-below t,
   pairs.Post,
   row-below t,
@@ -1768,7 +1779,7 @@ plain-returns-4 : (t : ℕ) → plain-lts.Need-returns-4 (
   fors-below t,
   fors.Post,
 ) (plain-at t) plain.Post
-plain-returns-4 t c = c .before .before .pairs .ensures
+plain-returns-4 t c = operator-part (c .before .before .before .before .before .before .before .before .before .before .before .before .before .before .before .before .args .t .now) (c .before .before .before .before .before .before .before .before .before .before .before .before .before .before .before .before .args .masks .now) (c .before .before .before .before .before .before .before .before .before .before .before .before .before .before .before .before .args .widths .now) (c .before .before .before .before .before .before .before .before .before .before .before .before .before .before .before .before .args .r) (c .before .before .before .before .before .before .before .before .before .before .before .before .before .before .before .before .pre .1 .0) (c .before .before .before .before .before .before .before .before .before .code .given .0 .0) (c .before .before .before .before .before .before .before .before .before .code .given .0 .1 .0) (sym (c .before .before .before .before .before .before .before .before .before .before .before .shape-at .ensures) ∙ c .before .before .before .before .before .before .before .before .before .code .given .1) (c .before .before .before .before .before .before .before .before .before .before .before .before .before .before .before .before .args .next .link) (c .before .before .before .before .before .before .before .before .before .before .before .before .before .before .before .before .args .next .operator) _ _ _ _ (c .before .before .before .before .before .before .row .result) (c .before .before .applied .result) (c .before .before .before .before .before .before .row .ensures) (c .before .before .applied .ensures)
 
 -- src/lib.rt:153:1  // A row that is neither a let nor an if nor an iter, as an expression. ⏎ fn plain(
 plain-same-length-4 : (t : ℕ) → plain-lts.Need-same-length-4 (
@@ -1778,6 +1789,8 @@ plain-same-length-4 : (t : ℕ) → plain-lts.Need-same-length-4 (
   identifier-reads.Learnt,
   constant-reads.Asked,
   constant-reads.Learnt,
+  constant-reads′.Asked,
+  constant-reads′.Learnt,
   pairs-below t,
   pairs.Post,
   row-below t,
@@ -1797,6 +1810,8 @@ plain-returns-5 : (t : ℕ) → plain-lts.Need-returns-5 (
   identifier-reads.Learnt,
   constant-reads.Asked,
   constant-reads.Learnt,
+  constant-reads′.Asked,
+  constant-reads′.Learnt,
   pairs-below t,
   pairs.Post,
   row-below t,
@@ -1806,26 +1821,7 @@ plain-returns-5 : (t : ℕ) → plain-lts.Need-returns-5 (
   fors-below t,
   fors.Post,
 ) (plain-at t) plain.Post
-plain-returns-5 t c = operator-part (c .before .before .before .before .before .before .before .before .before .before .before .before .before .before .before .before .args .t .now) (c .before .before .before .before .before .before .before .before .before .before .before .before .before .before .before .before .args .masks .now) (c .before .before .before .before .before .before .before .before .before .before .before .before .before .before .before .before .args .widths .now) (c .before .before .before .before .before .before .before .before .before .before .before .before .before .before .before .before .args .r) (c .before .before .before .before .before .before .before .before .before .before .before .before .before .before .before .before .pre .1 .0) (c .before .before .before .before .before .before .before .before .before .code .given .0 .0) (c .before .before .before .before .before .before .before .before .before .code .given .0 .1 .0) (sym (c .before .before .before .before .before .before .before .before .before .before .before .shape-at .ensures) ∙ c .before .before .before .before .before .before .before .before .before .code .given .1) (c .before .before .before .before .before .before .before .before .before .before .before .before .before .before .before .before .args .next .link) (c .before .before .before .before .before .before .before .before .before .before .before .before .before .before .before .before .args .next .operator) _ _ _ _ (c .before .before .before .before .before .before .row .result) (c .before .before .applied .result) (c .before .before .before .before .before .before .row .ensures) (c .before .before .applied .ensures)
-
--- src/lib.rt:153:1  // A row that is neither a let nor an if nor an iter, as an expression. ⏎ fn plain(
-plain-same-length-5 : (t : ℕ) → plain-lts.Need-same-length-5 (
-  shape-at-reads.Asked,
-  shape-at-reads.Learnt,
-  identifier-reads.Asked,
-  identifier-reads.Learnt,
-  constant-reads.Asked,
-  constant-reads.Learnt,
-  pairs-below t,
-  pairs.Post,
-  row-below t,
-  row.Post,
-  applied-reads.Asked,
-  applied-reads.Learnt,
-  fors-below t,
-  fors.Post,
-) (plain-at t) plain.Post
-plain-same-length-5 t c = search needs
+plain-returns-5 t c = c .before .before .fors .ensures
 
 -- src/lib.rt:153:1  // A row that is neither a let nor an if nor an iter, as an expression. ⏎ fn plain(
 plain-returns-6 : (t : ℕ) → plain-lts.Need-returns-6 (
@@ -1835,6 +1831,8 @@ plain-returns-6 : (t : ℕ) → plain-lts.Need-returns-6 (
   identifier-reads.Learnt,
   constant-reads.Asked,
   constant-reads.Learnt,
+  constant-reads′.Asked,
+  constant-reads′.Learnt,
   pairs-below t,
   pairs.Post,
   row-below t,
@@ -1844,7 +1842,7 @@ plain-returns-6 : (t : ℕ) → plain-lts.Need-returns-6 (
   fors-below t,
   fors.Post,
 ) (plain-at t) plain.Post
-plain-returns-6 t c = c .before .before .fors .ensures
+plain-returns-6 t c = absurd (subst (Ends (c .before .before .before .before .before .before .before .before .args .t .now) (c .before .before .before .before .before .before .before .before .args .masks .now) (c .before .before .before .before .before .before .before .before .args .widths .now)) (sym (c .before .before .before .shape-at .ensures) ∙ c .before .enum-told .given .1) (c .before .before .before .before .before .before .before .before .pre .1 .1))
 
 -- src/lib.rt:153:1  // A row that is neither a let nor an if nor an iter, as an expression. ⏎ fn plain(
 plain-returns-7 : (t : ℕ) → plain-lts.Need-returns-7 (
@@ -1854,6 +1852,8 @@ plain-returns-7 : (t : ℕ) → plain-lts.Need-returns-7 (
   identifier-reads.Learnt,
   constant-reads.Asked,
   constant-reads.Learnt,
+  constant-reads′.Asked,
+  constant-reads′.Learnt,
   pairs-below t,
   pairs.Post,
   row-below t,
@@ -1863,7 +1863,7 @@ plain-returns-7 : (t : ℕ) → plain-lts.Need-returns-7 (
   fors-below t,
   fors.Post,
 ) (plain-at t) plain.Post
-plain-returns-7 t c = absurd (subst (Ends (c .before .before .before .before .before .before .before .before .args .t .now) (c .before .before .before .before .before .before .before .before .args .masks .now) (c .before .before .before .before .before .before .before .before .args .widths .now)) (sym (c .before .before .before .shape-at .ensures) ∙ c .before .enum-told .given .1) (c .before .before .before .before .before .before .before .before .pre .1 .1))
+plain-returns-7 t c = absurd (subst (Ends (c .before .before .before .before .before .before .before .before .args .t .now) (c .before .before .before .before .before .before .before .before .args .masks .now) (c .before .before .before .before .before .before .before .before .args .widths .now)) (sym (c .before .before .before .shape-at .ensures) ∙ c .before .enum-told2 .given .1) (c .before .before .before .before .before .before .before .before .pre .1 .1))
 
 -- src/lib.rt:153:1  // A row that is neither a let nor an if nor an iter, as an expression. ⏎ fn plain(
 plain-returns-8 : (t : ℕ) → plain-lts.Need-returns-8 (
@@ -1873,6 +1873,8 @@ plain-returns-8 : (t : ℕ) → plain-lts.Need-returns-8 (
   identifier-reads.Learnt,
   constant-reads.Asked,
   constant-reads.Learnt,
+  constant-reads′.Asked,
+  constant-reads′.Learnt,
   pairs-below t,
   pairs.Post,
   row-below t,
@@ -1882,26 +1884,7 @@ plain-returns-8 : (t : ℕ) → plain-lts.Need-returns-8 (
   fors-below t,
   fors.Post,
 ) (plain-at t) plain.Post
-plain-returns-8 t c = absurd (subst (Ends (c .before .before .before .before .before .before .before .before .args .t .now) (c .before .before .before .before .before .before .before .before .args .masks .now) (c .before .before .before .before .before .before .before .before .args .widths .now)) (sym (c .before .before .before .shape-at .ensures) ∙ c .before .enum-told2 .given .1) (c .before .before .before .before .before .before .before .before .pre .1 .1))
-
--- src/lib.rt:153:1  // A row that is neither a let nor an if nor an iter, as an expression. ⏎ fn plain(
-plain-returns-9 : (t : ℕ) → plain-lts.Need-returns-9 (
-  shape-at-reads.Asked,
-  shape-at-reads.Learnt,
-  identifier-reads.Asked,
-  identifier-reads.Learnt,
-  constant-reads.Asked,
-  constant-reads.Learnt,
-  pairs-below t,
-  pairs.Post,
-  row-below t,
-  row.Post,
-  applied-reads.Asked,
-  applied-reads.Learnt,
-  fors-below t,
-  fors.Post,
-) (plain-at t) plain.Post
-plain-returns-9 t c = absurd (subst (Ends (c .before .before .before .before .before .before .before .before .args .t .now) (c .before .before .before .before .before .before .before .before .args .masks .now) (c .before .before .before .before .before .before .before .before .args .widths .now)) (sym (c .before .before .before .shape-at .ensures) ∙ c .before .enum-told3 .given .1) (c .before .before .before .before .before .before .before .before .pre .1 .1))
+plain-returns-8 t c = absurd (subst (Ends (c .before .before .before .before .before .before .before .before .args .t .now) (c .before .before .before .before .before .before .before .before .args .masks .now) (c .before .before .before .before .before .before .before .before .args .widths .now)) (sym (c .before .before .before .shape-at .ensures) ∙ c .before .enum-told3 .given .1) (c .before .before .before .before .before .before .before .before .pre .1 .1))
 
 -- src/lib.rt:85:11  { ⏎ match way_at(t, r) {
 row-way-at-requires : (t : ℕ) → row-lts.Need-way-at-requires (
@@ -2531,8 +2514,8 @@ pub +arm+ended+fors+ifs+lets+pairs+plain+row-spec : {M : Type 1} → statement M
     (λ t. ended-lts.spec (
       fork-reads.Asked,
       fork-reads.Learnt,
-      constant-reads.Asked,
-      constant-reads.Learnt,
+      constant-reads′.Asked,
+      constant-reads′.Learnt,
       row-below t,
       row.Post,
       join-reads.Asked,
@@ -2667,6 +2650,8 @@ pub +arm+ended+fors+ifs+lets+pairs+plain+row-spec : {M : Type 1} → statement M
       identifier-reads.Learnt,
       constant-reads.Asked,
       constant-reads.Learnt,
+      constant-reads′.Asked,
+      constant-reads′.Learnt,
       pairs-below t,
       pairs.Post,
       row-below t,
@@ -2681,12 +2666,10 @@ pub +arm+ended+fors+ifs+lets+pairs+plain+row-spec : {M : Type 1} → statement M
     (plain-shape-at-requires t)
     (plain-enum-known-a t)
     (plain-identifier-requires t)
-    (plain-enum-known-a-2 t)
-    (plain-cast-t25 t)
+    (plain-enum-known-kind t)
     (plain-constant-requires t)
-    (plain-enum-known-a-3 t)
     (plain-constant-requires-2 t)
-    (plain-enum-known-a-4 t)
+    (plain-enum-known-a-2 t)
     (plain-pairs-requires t)
     (plain-enum-known-code t)
     (plain-row-requires t)
@@ -2708,11 +2691,9 @@ pub +arm+ended+fors+ifs+lets+pairs+plain+row-spec : {M : Type 1} → statement M
     (plain-returns-4 t)
     (plain-same-length-4 t)
     (plain-returns-5 t)
-    (plain-same-length-5 t)
     (plain-returns-6 t)
     (plain-returns-7 t)
-    (plain-returns-8 t)
-    (plain-returns-9 t))
+    (plain-returns-8 t))
     λ t. row-lts.spec (
       way-at-reads.Asked,
       way-at-reads.Learnt,

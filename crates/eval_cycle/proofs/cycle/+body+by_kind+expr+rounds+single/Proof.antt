@@ -102,7 +102,7 @@ single-at t = and 3 single-kinds.ps (is 3 single-kinds.ps μ-single t) single.Pr
 abbrev single-below : ℕ → In 3 single-kinds.ps
 single-below t = and 3 single-kinds.ps (falls 3 single-kinds.ps _<_ μ-single t) single.Pre
 
--- src/cycle.rt:199:11  { ⏎ match way_at(t, r) {
+-- src/cycle.rt:198:11  { ⏎ match way_at(t, r) {
 body-way-at-requires : (t : ℕ) → body-lts.Need-way-at-requires (
   way-at-reads.Asked,
   way-at-reads.Learnt,
@@ -127,7 +127,7 @@ body-way-at-requires : (t : ℕ) → body-lts.Need-way-at-requires (
 ) (body-at t) body.Post
 body-way-at-requires t c κs = search needs
 
--- src/cycle.rt:200:19  match way_at(t, r) { ⏎ Way::Iter(a) => again(expr(t, widths, a, env, out, 0, left)),
+-- src/cycle.rt:199:19  match way_at(t, r) { ⏎ Way::Iter(a) => again(expr(t, widths, a, env, out, 0, left)),
 body-enum-known-a : (t : ℕ) → body-lts.Need-enum-known-a (
   way-at-reads.Asked,
   way-at-reads.Learnt,
@@ -152,7 +152,7 @@ body-enum-known-a : (t : ℕ) → body-lts.Need-enum-known-a (
 ) (body-at t) body.Post
 body-enum-known-a t c = search needs
 
--- src/cycle.rt:200:31  match way_at(t, r) { ⏎ Way::Iter(a) => again(expr(t, widths, a, env, out, 0, left)),
+-- src/cycle.rt:199:31  match way_at(t, r) { ⏎ Way::Iter(a) => again(expr(t, widths, a, env, out, 0, left)),
 body-expr-requires : (t : ℕ) → body-lts.Need-expr-requires (
   way-at-reads.Asked,
   way-at-reads.Learnt,
@@ -177,7 +177,7 @@ body-expr-requires : (t : ℕ) → body-lts.Need-expr-requires (
 ) (body-at t) body.Post
 body-expr-requires t c κs = let k : BodyChildren (c .before .before .before .before .before .before .before .before .args .t .now) (c .before .before .before .before .before .before .before .before .args .widths .now) (c .before .before .before .before .before .before .before .before .args .r) (Iter (c .before .before .a .given .0 .0)) = body-children (c .before .before .before .before .before .before .before .before .args .t .now) (c .before .before .before .before .before .before .before .before .args .widths .now) (c .before .before .before .before .before .before .before .before .args .r) (c .before .before .before .before .before .before .before .before .pre .1 .0) (Iter (c .before .before .a .given .0 .0)) (shaped-as (shapeAt (c .before .before .before .before .before .before .before .before .args .t .now) (c .before .before .before .before .before .before .before .before .args .r)) (iter-way (c .before .before .a .given .0 .0)) (sym (c .before .before .a .given .1) ∙ c .before .before .before .before .way-at .ensures)) in let f : BodyNeeds (c .before .before .before .before .before .before .before .before .args .t .now) (c .before .before .before .before .before .before .before .before .args .widths .now) (c .before .before .before .before .before .before .before .before .args .r) (Iter (c .before .before .a .given .0 .0)) = body-needs (c .before .before .before .before .before .before .before .before .args .t .now) (c .before .before .before .before .before .before .before .before .args .widths .now) (c .before .before .before .before .before .before .before .before .args .r) (c .before .before .before .before .before .before .before .before .pre .1 .0) (Iter (c .before .before .a .given .0 .0)) (shaped-as (shapeAt (c .before .before .before .before .before .before .before .before .args .t .now) (c .before .before .before .before .before .before .before .before .args .r)) (iter-way (c .before .before .a .given .0 .0)) (sym (c .before .before .a .given .1) ∙ c .before .before .before .before .way-at .ensures)) in (omega (arith, k .1), (k .0, c .before .before .before .before .before .before .before .before .pre .1 .3, omega (arith, f, c .before .before .before .before .before .before .before .before .pre .1 .4)))
 
--- src/cycle.rt:200:25  match way_at(t, r) { ⏎ Way::Iter(a) => again(expr(t, widths, a, env, out, 0, left)),
+-- src/cycle.rt:199:25  match way_at(t, r) { ⏎ Way::Iter(a) => again(expr(t, widths, a, env, out, 0, left)),
 body-again-requires : (t : ℕ) → body-lts.Need-again-requires (
   way-at-reads.Asked,
   way-at-reads.Learnt,
@@ -202,7 +202,7 @@ body-again-requires : (t : ℕ) → body-lts.Need-again-requires (
 ) (body-at t) body.Post
 body-again-requires t c κs = search needs
 
--- src/cycle.rt:201:18  Way::Iter(a) => again(expr(t, widths, a, env, out, 0, left)), ⏎ Way::Let(a, _, c, d) => {
+-- src/cycle.rt:200:18  Way::Iter(a) => again(expr(t, widths, a, env, out, 0, left)), ⏎ Way::Let(a, _, c, d) => {
 body-enum-known-a-2 : (t : ℕ) → body-lts.Need-enum-known-a-2 (
   way-at-reads.Asked,
   way-at-reads.Learnt,
@@ -227,7 +227,7 @@ body-enum-known-a-2 : (t : ℕ) → body-lts.Need-enum-known-a-2 (
 ) (body-at t) body.Post
 body-enum-known-a-2 t c = search needs
 
--- src/cycle.rt:202:29  Way::Let(a, _, c, d) => { ⏎ let mut inner = copied(env);
+-- src/cycle.rt:201:29  Way::Let(a, _, c, d) => { ⏎ let mut inner = copied(env);
 body-copied-requires : (t : ℕ) → body-lts.Need-copied-requires (
   way-at-reads.Asked,
   way-at-reads.Learnt,
@@ -252,7 +252,7 @@ body-copied-requires : (t : ℕ) → body-lts.Need-copied-requires (
 ) (body-at t) body.Post
 body-copied-requires t c κs = search needs
 
--- src/cycle.rt:203:43  let mut inner = copied(env); ⏎ match expr(t, widths, c, env, &mut inner, wide(a), left) {
+-- src/cycle.rt:202:43  let mut inner = copied(env); ⏎ match expr(t, widths, c, env, &mut inner, wide(a), left) {
 body-slice-aggregate-expr : (t : ℕ) → body-lts.Need-slice-aggregate-expr (
   way-at-reads.Asked,
   way-at-reads.Learnt,
@@ -277,7 +277,7 @@ body-slice-aggregate-expr : (t : ℕ) → body-lts.Need-slice-aggregate-expr (
 ) (body-at t) body.Post
 body-slice-aggregate-expr t c = search needs
 
--- src/cycle.rt:203:55  let mut inner = copied(env); ⏎ match expr(t, widths, c, env, &mut inner, wide(a), left) {
+-- src/cycle.rt:202:55  let mut inner = copied(env); ⏎ match expr(t, widths, c, env, &mut inner, wide(a), left) {
 body-wide-requires : (t : ℕ) → body-lts.Need-wide-requires (
   way-at-reads.Asked,
   way-at-reads.Learnt,
@@ -302,7 +302,7 @@ body-wide-requires : (t : ℕ) → body-lts.Need-wide-requires (
 ) (body-at t) body.Post
 body-wide-requires t c κs = search needs
 
--- src/cycle.rt:203:19  let mut inner = copied(env); ⏎ match expr(t, widths, c, env, &mut inner, wide(a), left) {
+-- src/cycle.rt:202:19  let mut inner = copied(env); ⏎ match expr(t, widths, c, env, &mut inner, wide(a), left) {
 body-expr-requires-2 : (t : ℕ) → body-lts.Need-expr-requires-2 (
   way-at-reads.Asked,
   way-at-reads.Learnt,
@@ -327,7 +327,7 @@ body-expr-requires-2 : (t : ℕ) → body-lts.Need-expr-requires-2 (
 ) (body-at t) body.Post
 body-expr-requires-2 t c κs = let k : BodyChildren (c .before .before .before .before .before .before .before .before .before .before .args .t .now) (c .before .before .before .before .before .before .before .before .before .before .args .widths .now) (c .before .before .before .before .before .before .before .before .before .before .args .r) (Let (c .before .before .before .before .a2 .given .0 .0) (c .before .before .before .before .a2 .given .0 .1 .0) (c .before .before .before .before .a2 .given .0 .1 .1 .0) (c .before .before .before .before .a2 .given .0 .1 .1 .1 .0)) = body-children (c .before .before .before .before .before .before .before .before .before .before .args .t .now) (c .before .before .before .before .before .before .before .before .before .before .args .widths .now) (c .before .before .before .before .before .before .before .before .before .before .args .r) (c .before .before .before .before .before .before .before .before .before .before .pre .1 .0) (Let (c .before .before .before .before .a2 .given .0 .0) (c .before .before .before .before .a2 .given .0 .1 .0) (c .before .before .before .before .a2 .given .0 .1 .1 .0) (c .before .before .before .before .a2 .given .0 .1 .1 .1 .0)) (shaped-as (shapeAt (c .before .before .before .before .before .before .before .before .before .before .args .t .now) (c .before .before .before .before .before .before .before .before .before .before .args .r)) (let-way (c .before .before .before .before .a2 .given .0 .0) (c .before .before .before .before .a2 .given .0 .1 .0) (c .before .before .before .before .a2 .given .0 .1 .1 .0) (c .before .before .before .before .a2 .given .0 .1 .1 .1 .0)) (sym (c .before .before .before .before .a2 .given .1) ∙ c .before .before .before .before .before .before .way-at .ensures)) in let f : BodyNeeds (c .before .before .before .before .before .before .before .before .before .before .args .t .now) (c .before .before .before .before .before .before .before .before .before .before .args .widths .now) (c .before .before .before .before .before .before .before .before .before .before .args .r) (Let (c .before .before .before .before .a2 .given .0 .0) (c .before .before .before .before .a2 .given .0 .1 .0) (c .before .before .before .before .a2 .given .0 .1 .1 .0) (c .before .before .before .before .a2 .given .0 .1 .1 .1 .0)) = body-needs (c .before .before .before .before .before .before .before .before .before .before .args .t .now) (c .before .before .before .before .before .before .before .before .before .before .args .widths .now) (c .before .before .before .before .before .before .before .before .before .before .args .r) (c .before .before .before .before .before .before .before .before .before .before .pre .1 .0) (Let (c .before .before .before .before .a2 .given .0 .0) (c .before .before .before .before .a2 .given .0 .1 .0) (c .before .before .before .before .a2 .given .0 .1 .1 .0) (c .before .before .before .before .a2 .given .0 .1 .1 .1 .0)) (shaped-as (shapeAt (c .before .before .before .before .before .before .before .before .before .before .args .t .now) (c .before .before .before .before .before .before .before .before .before .before .args .r)) (let-way (c .before .before .before .before .a2 .given .0 .0) (c .before .before .before .before .a2 .given .0 .1 .0) (c .before .before .before .before .a2 .given .0 .1 .1 .0) (c .before .before .before .before .a2 .given .0 .1 .1 .1 .0)) (sym (c .before .before .before .before .a2 .given .1) ∙ c .before .before .before .before .before .before .way-at .ensures)) in (omega (arith, k .0 .1), (k .0 .0, c .before .before .before .before .before .before .before .before .before .before .pre .1 .3, omega (arith, f .0, f .1, c .wide .ensures, ap length (c .before .before .copied .ensures), c .before .before .before .before .before .before .before .before .before .before .pre .1 .3)))
 
--- src/cycle.rt:204:28  match expr(t, widths, c, env, &mut inner, wide(a), left) { ⏎ Rest::Left(l) => body(t, widths, d, w, &inner, out, l),
+-- src/cycle.rt:203:28  match expr(t, widths, c, env, &mut inner, wide(a), left) { ⏎ Rest::Left(l) => body(t, widths, d, w, &inner, out, l),
 body-enum-known-l : (t : ℕ) → body-lts.Need-enum-known-l (
   way-at-reads.Asked,
   way-at-reads.Learnt,
@@ -352,7 +352,7 @@ body-enum-known-l : (t : ℕ) → body-lts.Need-enum-known-l (
 ) (body-at t) body.Post
 body-enum-known-l t c = search needs
 
--- src/cycle.rt:204:34  match expr(t, widths, c, env, &mut inner, wide(a), left) { ⏎ Rest::Left(l) => body(t, widths, d, w, &inner, out, l),
+-- src/cycle.rt:203:34  match expr(t, widths, c, env, &mut inner, wide(a), left) { ⏎ Rest::Left(l) => body(t, widths, d, w, &inner, out, l),
 body-body-requires : (t : ℕ) → body-lts.Need-body-requires (
   way-at-reads.Asked,
   way-at-reads.Learnt,
@@ -377,7 +377,7 @@ body-body-requires : (t : ℕ) → body-lts.Need-body-requires (
 ) (body-at t) body.Post
 body-body-requires t c κs = let k : BodyChildren (c .before .before .before .before .before .before .before .before .before .before .before .before .before .before .before .before .before .args .t .now) (c .before .before .before .before .before .before .before .before .before .before .before .before .before .before .before .before .before .args .widths .now) (c .before .before .before .before .before .before .before .before .before .before .before .before .before .before .before .before .before .args .r) (Let (c .before .before .before .before .before .before .before .before .before .before .before .a2 .given .0 .0) (c .before .before .before .before .before .before .before .before .before .before .before .a2 .given .0 .1 .0) (c .before .before .before .before .before .before .before .before .before .before .before .a2 .given .0 .1 .1 .0) (c .before .before .before .before .before .before .before .before .before .before .before .a2 .given .0 .1 .1 .1 .0)) = body-children (c .before .before .before .before .before .before .before .before .before .before .before .before .before .before .before .before .before .args .t .now) (c .before .before .before .before .before .before .before .before .before .before .before .before .before .before .before .before .before .args .widths .now) (c .before .before .before .before .before .before .before .before .before .before .before .before .before .before .before .before .before .args .r) (c .before .before .before .before .before .before .before .before .before .before .before .before .before .before .before .before .before .pre .1 .0) (Let (c .before .before .before .before .before .before .before .before .before .before .before .a2 .given .0 .0) (c .before .before .before .before .before .before .before .before .before .before .before .a2 .given .0 .1 .0) (c .before .before .before .before .before .before .before .before .before .before .before .a2 .given .0 .1 .1 .0) (c .before .before .before .before .before .before .before .before .before .before .before .a2 .given .0 .1 .1 .1 .0)) (shaped-as (shapeAt (c .before .before .before .before .before .before .before .before .before .before .before .before .before .before .before .before .before .args .t .now) (c .before .before .before .before .before .before .before .before .before .before .before .before .before .before .before .before .before .args .r)) (let-way (c .before .before .before .before .before .before .before .before .before .before .before .a2 .given .0 .0) (c .before .before .before .before .before .before .before .before .before .before .before .a2 .given .0 .1 .0) (c .before .before .before .before .before .before .before .before .before .before .before .a2 .given .0 .1 .1 .0) (c .before .before .before .before .before .before .before .before .before .before .before .a2 .given .0 .1 .1 .1 .0)) (sym (c .before .before .before .before .before .before .before .before .before .before .before .a2 .given .1) ∙ c .before .before .before .before .before .before .before .before .before .before .before .before .before .way-at .ensures)) in let f : BodyNeeds (c .before .before .before .before .before .before .before .before .before .before .before .before .before .before .before .before .before .args .t .now) (c .before .before .before .before .before .before .before .before .before .before .before .before .before .before .before .before .before .args .widths .now) (c .before .before .before .before .before .before .before .before .before .before .before .before .before .before .before .before .before .args .r) (Let (c .before .before .before .before .before .before .before .before .before .before .before .a2 .given .0 .0) (c .before .before .before .before .before .before .before .before .before .before .before .a2 .given .0 .1 .0) (c .before .before .before .before .before .before .before .before .before .before .before .a2 .given .0 .1 .1 .0) (c .before .before .before .before .before .before .before .before .before .before .before .a2 .given .0 .1 .1 .1 .0)) = body-needs (c .before .before .before .before .before .before .before .before .before .before .before .before .before .before .before .before .before .args .t .now) (c .before .before .before .before .before .before .before .before .before .before .before .before .before .before .before .before .before .args .widths .now) (c .before .before .before .before .before .before .before .before .before .before .before .before .before .before .before .before .before .args .r) (c .before .before .before .before .before .before .before .before .before .before .before .before .before .before .before .before .before .pre .1 .0) (Let (c .before .before .before .before .before .before .before .before .before .before .before .a2 .given .0 .0) (c .before .before .before .before .before .before .before .before .before .before .before .a2 .given .0 .1 .0) (c .before .before .before .before .before .before .before .before .before .before .before .a2 .given .0 .1 .1 .0) (c .before .before .before .before .before .before .before .before .before .before .before .a2 .given .0 .1 .1 .1 .0)) (shaped-as (shapeAt (c .before .before .before .before .before .before .before .before .before .before .before .before .before .before .before .before .before .args .t .now) (c .before .before .before .before .before .before .before .before .before .before .before .before .before .before .before .before .before .args .r)) (let-way (c .before .before .before .before .before .before .before .before .before .before .before .a2 .given .0 .0) (c .before .before .before .before .before .before .before .before .before .before .before .a2 .given .0 .1 .0) (c .before .before .before .before .before .before .before .before .before .before .before .a2 .given .0 .1 .1 .0) (c .before .before .before .before .before .before .before .before .before .before .before .a2 .given .0 .1 .1 .1 .0)) (sym (c .before .before .before .before .before .before .before .before .before .before .before .a2 .given .1) ∙ c .before .before .before .before .before .before .before .before .before .before .before .before .before .way-at .ensures)) in (omega (arith, k .1 .1), (k .1 .0, rw (f .2) (c .before .before .before .before .before .before .before .before .before .before .before .before .before .before .before .before .before .pre .1 .1), c .before .before .before .before .before .before .before .before .before .before .before .before .before .before .before .before .before .pre .1 .2, c .before .before .before .before .before .before .expr2 .ensures .1 ∙ ap length (c .before .before .before .before .before .before .before .before .before .copied .ensures) ∙ c .before .before .before .before .before .before .before .before .before .before .before .before .before .before .before .before .before .pre .1 .3, c .before .before .before .before .before .before .before .before .before .before .before .before .before .before .before .before .before .pre .1 .4))
 
--- src/cycle.rt:205:32  Rest::Left(l) => body(t, widths, d, w, &inner, out, l), ⏎ Rest::Short => Turn::Short,
+-- src/cycle.rt:204:32  Rest::Left(l) => body(t, widths, d, w, &inner, out, l), ⏎ Rest::Short => Turn::Short,
 body-enum-told : (t : ℕ) → body-lts.Need-enum-told (
   way-at-reads.Asked,
   way-at-reads.Learnt,
@@ -402,7 +402,7 @@ body-enum-told : (t : ℕ) → body-lts.Need-enum-told (
 ) (body-at t) body.Post
 body-enum-told t c = search needs
 
--- src/cycle.rt:208:17  } ⏎ Way::If(a, b, c) => match single(t, widths, a, env, left) {
+-- src/cycle.rt:207:17  } ⏎ Way::If(a, b, c) => match single(t, widths, a, env, left) {
 body-enum-known-a-3 : (t : ℕ) → body-lts.Need-enum-known-a-3 (
   way-at-reads.Asked,
   way-at-reads.Learnt,
@@ -427,7 +427,7 @@ body-enum-known-a-3 : (t : ℕ) → body-lts.Need-enum-known-a-3 (
 ) (body-at t) body.Post
 body-enum-known-a-3 t c = search needs
 
--- src/cycle.rt:208:35  } ⏎ Way::If(a, b, c) => match single(t, widths, a, env, left) {
+-- src/cycle.rt:207:35  } ⏎ Way::If(a, b, c) => match single(t, widths, a, env, left) {
 body-single-requires : (t : ℕ) → body-lts.Need-single-requires (
   way-at-reads.Asked,
   way-at-reads.Learnt,
@@ -452,7 +452,7 @@ body-single-requires : (t : ℕ) → body-lts.Need-single-requires (
 ) (body-at t) body.Post
 body-single-requires t c κs = let k : BodyChildren (c .before .before .before .before .before .before .before .args .t .now) (c .before .before .before .before .before .before .before .args .widths .now) (c .before .before .before .before .before .before .before .args .r) (If (c .before .a3 .given .0 .0) (c .before .a3 .given .0 .1 .0) (c .before .a3 .given .0 .1 .1 .0)) = body-children (c .before .before .before .before .before .before .before .args .t .now) (c .before .before .before .before .before .before .before .args .widths .now) (c .before .before .before .before .before .before .before .args .r) (c .before .before .before .before .before .before .before .pre .1 .0) (If (c .before .a3 .given .0 .0) (c .before .a3 .given .0 .1 .0) (c .before .a3 .given .0 .1 .1 .0)) (shaped-as (shapeAt (c .before .before .before .before .before .before .before .args .t .now) (c .before .before .before .before .before .before .before .args .r)) (if-way (c .before .a3 .given .0 .0) (c .before .a3 .given .0 .1 .0) (c .before .a3 .given .0 .1 .1 .0)) (sym (c .before .a3 .given .1) ∙ c .before .before .before .way-at .ensures)) in let f : BodyNeeds (c .before .before .before .before .before .before .before .args .t .now) (c .before .before .before .before .before .before .before .args .widths .now) (c .before .before .before .before .before .before .before .args .r) (If (c .before .a3 .given .0 .0) (c .before .a3 .given .0 .1 .0) (c .before .a3 .given .0 .1 .1 .0)) = body-needs (c .before .before .before .before .before .before .before .args .t .now) (c .before .before .before .before .before .before .before .args .widths .now) (c .before .before .before .before .before .before .before .args .r) (c .before .before .before .before .before .before .before .pre .1 .0) (If (c .before .a3 .given .0 .0) (c .before .a3 .given .0 .1 .0) (c .before .a3 .given .0 .1 .1 .0)) (shaped-as (shapeAt (c .before .before .before .before .before .before .before .args .t .now) (c .before .before .before .before .before .before .before .args .r)) (if-way (c .before .a3 .given .0 .0) (c .before .a3 .given .0 .1 .0) (c .before .a3 .given .0 .1 .1 .0)) (sym (c .before .a3 .given .1) ∙ c .before .before .before .way-at .ensures)) in (omega (arith, k .0 .1), (k .0 .0, c .before .before .before .before .before .before .before .pre .1 .3, f .0))
 
--- src/cycle.rt:209:26  Way::If(a, b, c) => match single(t, widths, a, env, left) { ⏎ Single::Word(v, l) => match chosen(v) {
+-- src/cycle.rt:208:26  Way::If(a, b, c) => match single(t, widths, a, env, left) { ⏎ Single::Word(v, l) => match chosen(v) {
 body-enum-known-v : (t : ℕ) → body-lts.Need-enum-known-v (
   way-at-reads.Asked,
   way-at-reads.Learnt,
@@ -477,7 +477,7 @@ body-enum-known-v : (t : ℕ) → body-lts.Need-enum-known-v (
 ) (body-at t) body.Post
 body-enum-known-v t c = search needs
 
--- src/cycle.rt:209:41  Way::If(a, b, c) => match single(t, widths, a, env, left) { ⏎ Single::Word(v, l) => match chosen(v) {
+-- src/cycle.rt:208:41  Way::If(a, b, c) => match single(t, widths, a, env, left) { ⏎ Single::Word(v, l) => match chosen(v) {
 body-chosen-requires : (t : ℕ) → body-lts.Need-chosen-requires (
   way-at-reads.Asked,
   way-at-reads.Learnt,
@@ -502,7 +502,7 @@ body-chosen-requires : (t : ℕ) → body-lts.Need-chosen-requires (
 ) (body-at t) body.Post
 body-chosen-requires t c κs = search needs
 
--- src/cycle.rt:210:59  Single::Word(v, l) => match chosen(v) { ⏎ Sense::True => body(t, widths, b, w, env, out, l),
+-- src/cycle.rt:209:59  Single::Word(v, l) => match chosen(v) { ⏎ Sense::True => body(t, widths, b, w, env, out, l),
 body-enum-told-2 : (t : ℕ) → body-lts.Need-enum-told-2 (
   way-at-reads.Asked,
   way-at-reads.Learnt,
@@ -527,7 +527,7 @@ body-enum-told-2 : (t : ℕ) → body-lts.Need-enum-told-2 (
 ) (body-at t) body.Post
 body-enum-told-2 t c = search needs
 
--- src/cycle.rt:210:32  Single::Word(v, l) => match chosen(v) { ⏎ Sense::True => body(t, widths, b, w, env, out, l),
+-- src/cycle.rt:209:32  Single::Word(v, l) => match chosen(v) { ⏎ Sense::True => body(t, widths, b, w, env, out, l),
 body-body-requires-2 : (t : ℕ) → body-lts.Need-body-requires-2 (
   way-at-reads.Asked,
   way-at-reads.Learnt,
@@ -552,7 +552,7 @@ body-body-requires-2 : (t : ℕ) → body-lts.Need-body-requires-2 (
 ) (body-at t) body.Post
 body-body-requires-2 t c κs = let k : BodyChildren (c .before .before .before .before .before .before .before .before .before .before .before .before .before .before .before .args .t .now) (c .before .before .before .before .before .before .before .before .before .before .before .before .before .before .before .args .widths .now) (c .before .before .before .before .before .before .before .before .before .before .before .before .before .before .before .args .r) (If (c .before .before .before .before .before .before .before .before .before .a3 .given .0 .0) (c .before .before .before .before .before .before .before .before .before .a3 .given .0 .1 .0) (c .before .before .before .before .before .before .before .before .before .a3 .given .0 .1 .1 .0)) = body-children (c .before .before .before .before .before .before .before .before .before .before .before .before .before .before .before .args .t .now) (c .before .before .before .before .before .before .before .before .before .before .before .before .before .before .before .args .widths .now) (c .before .before .before .before .before .before .before .before .before .before .before .before .before .before .before .args .r) (c .before .before .before .before .before .before .before .before .before .before .before .before .before .before .before .pre .1 .0) (If (c .before .before .before .before .before .before .before .before .before .a3 .given .0 .0) (c .before .before .before .before .before .before .before .before .before .a3 .given .0 .1 .0) (c .before .before .before .before .before .before .before .before .before .a3 .given .0 .1 .1 .0)) (shaped-as (shapeAt (c .before .before .before .before .before .before .before .before .before .before .before .before .before .before .before .args .t .now) (c .before .before .before .before .before .before .before .before .before .before .before .before .before .before .before .args .r)) (if-way (c .before .before .before .before .before .before .before .before .before .a3 .given .0 .0) (c .before .before .before .before .before .before .before .before .before .a3 .given .0 .1 .0) (c .before .before .before .before .before .before .before .before .before .a3 .given .0 .1 .1 .0)) (sym (c .before .before .before .before .before .before .before .before .before .a3 .given .1) ∙ c .before .before .before .before .before .before .before .before .before .before .before .way-at .ensures)) in let f : BodyNeeds (c .before .before .before .before .before .before .before .before .before .before .before .before .before .before .before .args .t .now) (c .before .before .before .before .before .before .before .before .before .before .before .before .before .before .before .args .widths .now) (c .before .before .before .before .before .before .before .before .before .before .before .before .before .before .before .args .r) (If (c .before .before .before .before .before .before .before .before .before .a3 .given .0 .0) (c .before .before .before .before .before .before .before .before .before .a3 .given .0 .1 .0) (c .before .before .before .before .before .before .before .before .before .a3 .given .0 .1 .1 .0)) = body-needs (c .before .before .before .before .before .before .before .before .before .before .before .before .before .before .before .args .t .now) (c .before .before .before .before .before .before .before .before .before .before .before .before .before .before .before .args .widths .now) (c .before .before .before .before .before .before .before .before .before .before .before .before .before .before .before .args .r) (c .before .before .before .before .before .before .before .before .before .before .before .before .before .before .before .pre .1 .0) (If (c .before .before .before .before .before .before .before .before .before .a3 .given .0 .0) (c .before .before .before .before .before .before .before .before .before .a3 .given .0 .1 .0) (c .before .before .before .before .before .before .before .before .before .a3 .given .0 .1 .1 .0)) (shaped-as (shapeAt (c .before .before .before .before .before .before .before .before .before .before .before .before .before .before .before .args .t .now) (c .before .before .before .before .before .before .before .before .before .before .before .before .before .before .before .args .r)) (if-way (c .before .before .before .before .before .before .before .before .before .a3 .given .0 .0) (c .before .before .before .before .before .before .before .before .before .a3 .given .0 .1 .0) (c .before .before .before .before .before .before .before .before .before .a3 .given .0 .1 .1 .0)) (sym (c .before .before .before .before .before .before .before .before .before .a3 .given .1) ∙ c .before .before .before .before .before .before .before .before .before .before .before .way-at .ensures)) in (omega (arith, k .1 .1), (k .1 .0, f .1 (c .before .before .before .before .before .before .before .before .before .before .before .before .before .before .before .args .w) (c .before .before .before .before .before .before .before .before .before .before .before .before .before .before .before .pre .1 .1) .0, c .before .before .before .before .before .before .before .before .before .before .before .before .before .before .before .pre .1 .2, c .before .before .before .before .before .before .before .before .before .before .before .before .before .before .before .pre .1 .3, c .before .before .before .before .before .before .before .before .before .before .before .before .before .before .before .pre .1 .4))
 
--- src/cycle.rt:211:60  Sense::True => body(t, widths, b, w, env, out, l), ⏎ Sense::False => body(t, widths, c, w, env, out, l),
+-- src/cycle.rt:210:60  Sense::True => body(t, widths, b, w, env, out, l), ⏎ Sense::False => body(t, widths, c, w, env, out, l),
 body-enum-told-3 : (t : ℕ) → body-lts.Need-enum-told-3 (
   way-at-reads.Asked,
   way-at-reads.Learnt,
@@ -577,7 +577,7 @@ body-enum-told-3 : (t : ℕ) → body-lts.Need-enum-told-3 (
 ) (body-at t) body.Post
 body-enum-told-3 t c = search needs
 
--- src/cycle.rt:211:33  Sense::True => body(t, widths, b, w, env, out, l), ⏎ Sense::False => body(t, widths, c, w, env, out, l),
+-- src/cycle.rt:210:33  Sense::True => body(t, widths, b, w, env, out, l), ⏎ Sense::False => body(t, widths, c, w, env, out, l),
 body-body-requires-3 : (t : ℕ) → body-lts.Need-body-requires-3 (
   way-at-reads.Asked,
   way-at-reads.Learnt,
@@ -602,7 +602,7 @@ body-body-requires-3 : (t : ℕ) → body-lts.Need-body-requires-3 (
 ) (body-at t) body.Post
 body-body-requires-3 t c κs = let k : BodyChildren (c .before .before .before .before .before .before .before .before .before .before .before .before .before .before .before .args .t .now) (c .before .before .before .before .before .before .before .before .before .before .before .before .before .before .before .args .widths .now) (c .before .before .before .before .before .before .before .before .before .before .before .before .before .before .before .args .r) (If (c .before .before .before .before .before .before .before .before .before .a3 .given .0 .0) (c .before .before .before .before .before .before .before .before .before .a3 .given .0 .1 .0) (c .before .before .before .before .before .before .before .before .before .a3 .given .0 .1 .1 .0)) = body-children (c .before .before .before .before .before .before .before .before .before .before .before .before .before .before .before .args .t .now) (c .before .before .before .before .before .before .before .before .before .before .before .before .before .before .before .args .widths .now) (c .before .before .before .before .before .before .before .before .before .before .before .before .before .before .before .args .r) (c .before .before .before .before .before .before .before .before .before .before .before .before .before .before .before .pre .1 .0) (If (c .before .before .before .before .before .before .before .before .before .a3 .given .0 .0) (c .before .before .before .before .before .before .before .before .before .a3 .given .0 .1 .0) (c .before .before .before .before .before .before .before .before .before .a3 .given .0 .1 .1 .0)) (shaped-as (shapeAt (c .before .before .before .before .before .before .before .before .before .before .before .before .before .before .before .args .t .now) (c .before .before .before .before .before .before .before .before .before .before .before .before .before .before .before .args .r)) (if-way (c .before .before .before .before .before .before .before .before .before .a3 .given .0 .0) (c .before .before .before .before .before .before .before .before .before .a3 .given .0 .1 .0) (c .before .before .before .before .before .before .before .before .before .a3 .given .0 .1 .1 .0)) (sym (c .before .before .before .before .before .before .before .before .before .a3 .given .1) ∙ c .before .before .before .before .before .before .before .before .before .before .before .way-at .ensures)) in let f : BodyNeeds (c .before .before .before .before .before .before .before .before .before .before .before .before .before .before .before .args .t .now) (c .before .before .before .before .before .before .before .before .before .before .before .before .before .before .before .args .widths .now) (c .before .before .before .before .before .before .before .before .before .before .before .before .before .before .before .args .r) (If (c .before .before .before .before .before .before .before .before .before .a3 .given .0 .0) (c .before .before .before .before .before .before .before .before .before .a3 .given .0 .1 .0) (c .before .before .before .before .before .before .before .before .before .a3 .given .0 .1 .1 .0)) = body-needs (c .before .before .before .before .before .before .before .before .before .before .before .before .before .before .before .args .t .now) (c .before .before .before .before .before .before .before .before .before .before .before .before .before .before .before .args .widths .now) (c .before .before .before .before .before .before .before .before .before .before .before .before .before .before .before .args .r) (c .before .before .before .before .before .before .before .before .before .before .before .before .before .before .before .pre .1 .0) (If (c .before .before .before .before .before .before .before .before .before .a3 .given .0 .0) (c .before .before .before .before .before .before .before .before .before .a3 .given .0 .1 .0) (c .before .before .before .before .before .before .before .before .before .a3 .given .0 .1 .1 .0)) (shaped-as (shapeAt (c .before .before .before .before .before .before .before .before .before .before .before .before .before .before .before .args .t .now) (c .before .before .before .before .before .before .before .before .before .before .before .before .before .before .before .args .r)) (if-way (c .before .before .before .before .before .before .before .before .before .a3 .given .0 .0) (c .before .before .before .before .before .before .before .before .before .a3 .given .0 .1 .0) (c .before .before .before .before .before .before .before .before .before .a3 .given .0 .1 .1 .0)) (sym (c .before .before .before .before .before .before .before .before .before .a3 .given .1) ∙ c .before .before .before .before .before .before .before .before .before .before .before .way-at .ensures)) in (omega (arith, k .2 .1), (k .2 .0, f .1 (c .before .before .before .before .before .before .before .before .before .before .before .before .before .before .before .args .w) (c .before .before .before .before .before .before .before .before .before .before .before .before .before .before .before .pre .1 .1) .1, c .before .before .before .before .before .before .before .before .before .before .before .before .before .before .before .pre .1 .2, c .before .before .before .before .before .before .before .before .before .before .before .before .before .before .before .pre .1 .3, c .before .before .before .before .before .before .before .before .before .before .before .before .before .before .before .pre .1 .4))
 
--- src/cycle.rt:213:30  Sense::Neither => { ⏎ put_errs(out, 0, w);
+-- src/cycle.rt:212:30  Sense::Neither => { ⏎ put_errs(out, 0, w);
 body-enum-told-4 : (t : ℕ) → body-lts.Need-enum-told-4 (
   way-at-reads.Asked,
   way-at-reads.Learnt,
@@ -627,7 +627,7 @@ body-enum-told-4 : (t : ℕ) → body-lts.Need-enum-told-4 (
 ) (body-at t) body.Post
 body-enum-told-4 t c = search needs
 
--- src/cycle.rt:213:21  Sense::Neither => { ⏎ put_errs(out, 0, w);
+-- src/cycle.rt:212:21  Sense::Neither => { ⏎ put_errs(out, 0, w);
 body-put-errs-requires : (t : ℕ) → body-lts.Need-put-errs-requires (
   way-at-reads.Asked,
   way-at-reads.Learnt,
@@ -652,7 +652,7 @@ body-put-errs-requires : (t : ℕ) → body-lts.Need-put-errs-requires (
 ) (body-at t) body.Post
 body-put-errs-requires t c κs = search needs
 
--- src/cycle.rt:217:30  }, ⏎ Single::Short => Turn::Short,
+-- src/cycle.rt:216:30  }, ⏎ Single::Short => Turn::Short,
 body-enum-told-5 : (t : ℕ) → body-lts.Need-enum-told-5 (
   way-at-reads.Asked,
   way-at-reads.Learnt,
@@ -677,7 +677,7 @@ body-enum-told-5 : (t : ℕ) → body-lts.Need-enum-told-5 (
 ) (body-at t) body.Post
 body-enum-told-5 t c = search needs
 
--- src/cycle.rt:219:50  }, ⏎ Way::End => back(expr(t, widths, r, env, out, 0, left)),
+-- src/cycle.rt:218:50  }, ⏎ Way::End => back(expr(t, widths, r, env, out, 0, left)),
 body-enum-told-6 : (t : ℕ) → body-lts.Need-enum-told-6 (
   way-at-reads.Asked,
   way-at-reads.Learnt,
@@ -702,7 +702,7 @@ body-enum-told-6 : (t : ℕ) → body-lts.Need-enum-told-6 (
 ) (body-at t) body.Post
 body-enum-told-6 t c = search needs
 
--- src/cycle.rt:219:26  }, ⏎ Way::End => back(expr(t, widths, r, env, out, 0, left)),
+-- src/cycle.rt:218:26  }, ⏎ Way::End => back(expr(t, widths, r, env, out, 0, left)),
 body-expr-requires-3 : (t : ℕ) → body-lts.Need-expr-requires-3 (
   way-at-reads.Asked,
   way-at-reads.Learnt,
@@ -727,7 +727,7 @@ body-expr-requires-3 : (t : ℕ) → body-lts.Need-expr-requires-3 (
 ) (body-at t) body.Post
 body-expr-requires-3 t c κs = (omega arith, ((ending-row (c .before .before .before .before .before .before .before .args .t .now) (c .before .before .before .before .before .before .before .args .widths .now) (c .before .before .before .before .before .before .before .args .r) (c .before .before .before .before .before .before .before .pre .1 .0) (shaped-as (shapeAt (c .before .before .before .before .before .before .before .args .t .now) (c .before .before .before .before .before .before .before .args .r)) End (sym (c .before .enum-told6 .given .1) ∙ c .before .before .before .way-at .ensures))), c .before .before .before .before .before .before .before .pre .1 .3, omega (arith, narrow (c .before .before .before .before .before .before .before .args .t .now) (c .before .before .before .before .before .before .before .args .widths .now) (c .before .before .before .before .before .before .before .args .r) (ending-row (c .before .before .before .before .before .before .before .args .t .now) (c .before .before .before .before .before .before .before .args .widths .now) (c .before .before .before .before .before .before .before .args .r) (c .before .before .before .before .before .before .before .pre .1 .0) (shaped-as (shapeAt (c .before .before .before .before .before .before .before .args .t .now) (c .before .before .before .before .before .before .before .args .r)) End (sym (c .before .enum-told6 .given .1) ∙ c .before .before .before .way-at .ensures))), c .before .before .before .before .before .before .before .pre .1 .4)))
 
--- src/cycle.rt:219:21  }, ⏎ Way::End => back(expr(t, widths, r, env, out, 0, left)),
+-- src/cycle.rt:218:21  }, ⏎ Way::End => back(expr(t, widths, r, env, out, 0, left)),
 body-back-requires : (t : ℕ) → body-lts.Need-back-requires (
   way-at-reads.Asked,
   way-at-reads.Learnt,
@@ -752,7 +752,7 @@ body-back-requires : (t : ℕ) → body-lts.Need-back-requires (
 ) (body-at t) body.Post
 body-back-requires t c κs = search needs
 
--- src/cycle.rt:187:1  // `out`. ⏎ fn body(
+-- src/cycle.rt:186:1  // `out`. ⏎ fn body(
 body-same-length : (t : ℕ) → body-lts.Need-same-length (
   way-at-reads.Asked,
   way-at-reads.Learnt,
@@ -777,7 +777,7 @@ body-same-length : (t : ℕ) → body-lts.Need-same-length (
 ) (body-at t) body.Post
 body-same-length t c = search needs
 
--- src/cycle.rt:187:1  // `out`. ⏎ fn body(
+-- src/cycle.rt:186:1  // `out`. ⏎ fn body(
 body-returns : (t : ℕ) → body-lts.Need-returns (
   way-at-reads.Asked,
   way-at-reads.Learnt,
@@ -802,7 +802,7 @@ body-returns : (t : ℕ) → body-lts.Need-returns (
 ) (body-at t) body.Post
 body-returns t c = (subst (λ (z : Turn). ToldB (evalB (bodyOf (c .before .before .before .before .before .before .before .before .before .before .before .before .args .t .now) (c .before .before .before .before .before .before .before .before .before .before .before .before .args .r)) (c .before .before .before .before .before .before .before .before .before .before .before .before .args .w) (envOf (c .before .before .before .before .before .before .before .before .before .before .before .before .args .env .now)) (c .before .before .before .before .before .before .before .before .before .before .before .before .args .left)) z (c .before .before .before .before .before .before .before .before .before .before .before .before .args .out .now) (c .before .before .before .expr .last .1 .1 .1 .1 .0)) (sym (c .again .ensures)) (tell-iter (c .before .before .before .before .before .before .before .before .before .before .before .before .args .t .now) (c .before .before .before .before .before .before .before .before .before .before .before .before .args .widths .now) (c .before .before .before .before .before .before .before .before .before .before .before .before .args .r) (c .before .before .before .before .before .before .before .before .before .before .before .before .pre .1 .0) (c .before .before .before .before .before .before .before .before .before .before .before .before .args .w) (envOf (c .before .before .before .before .before .before .before .before .before .before .before .before .args .env .now)) (c .before .before .before .before .before .before .before .before .before .before .before .before .args .left) (c .before .before .before .before .before .before .before .before .before .before .before .before .args .out .now) (c .before .before .before .expr .last .1 .1 .1 .1 .0) (c .before .before .before .before .before .before .a .given .0 .0) (shaped-as (shapeAt (c .before .before .before .before .before .before .before .before .before .before .before .before .args .t .now) (c .before .before .before .before .before .before .before .before .before .before .before .before .args .r)) (iter-way (c .before .before .before .before .before .before .a .given .0 .0)) (sym (c .before .before .before .before .before .before .a .given .1) ∙ c .before .before .before .before .before .before .before .before .way-at .ensures)) (c .before .before .before .expr .result) (c .before .before .before .expr .ensures .0)), c .before .before .before .expr .ensures .1)
 
--- src/cycle.rt:187:1  // `out`. ⏎ fn body(
+-- src/cycle.rt:186:1  // `out`. ⏎ fn body(
 body-same-length-2 : (t : ℕ) → body-lts.Need-same-length-2 (
   way-at-reads.Asked,
   way-at-reads.Learnt,
@@ -827,7 +827,7 @@ body-same-length-2 : (t : ℕ) → body-lts.Need-same-length-2 (
 ) (body-at t) body.Post
 body-same-length-2 t c = search needs
 
--- src/cycle.rt:187:1  // `out`. ⏎ fn body(
+-- src/cycle.rt:186:1  // `out`. ⏎ fn body(
 body-returns-2 : (t : ℕ) → body-lts.Need-returns-2 (
   way-at-reads.Asked,
   way-at-reads.Learnt,
@@ -852,7 +852,7 @@ body-returns-2 : (t : ℕ) → body-lts.Need-returns-2 (
 ) (body-at t) body.Post
 body-returns-2 t c = (tell-let-B (c .before .before .before .before .before .before .before .before .before .before .before .before .before .before .before .before .before .before .before .before .args .t .now) (c .before .before .before .before .before .before .before .before .before .before .before .before .before .before .before .before .before .before .before .before .args .widths .now) (c .before .before .before .before .before .before .before .before .before .before .before .before .before .before .before .before .before .before .before .before .args .r) (c .before .before .before .before .before .before .before .before .before .before .before .before .before .before .before .before .before .before .before .before .pre .1 .0) (c .before .before .before .before .before .before .before .before .before .before .before .before .before .before .before .before .before .before .before .before .args .w) (envOf (c .before .before .before .before .before .before .before .before .before .before .before .before .before .before .before .before .before .before .before .before .args .env .now)) (c .before .before .before .before .before .before .before .before .before .before .before .before .before .before .before .before .before .before .before .before .args .left) (c .before .before .before .before .before .before .before .before .before .before .before .before .before .before .before .before .before .before .before .before .args .out .now) (c .before .before .body .last .1 .1 .1 .1 .1 .0) (c .before .before .before .before .before .before .before .before .before .before .before .before .before .before .a2 .given .0 .0) (c .before .before .before .before .before .before .before .before .before .before .before .before .before .before .a2 .given .0 .1 .0) (c .before .before .before .before .before .before .before .before .before .before .before .before .before .before .a2 .given .0 .1 .1 .0) (c .before .before .before .before .before .before .before .before .before .before .before .before .before .before .a2 .given .0 .1 .1 .1 .0) (shaped-as (shapeAt (c .before .before .before .before .before .before .before .before .before .before .before .before .before .before .before .before .before .before .before .before .args .t .now) (c .before .before .before .before .before .before .before .before .before .before .before .before .before .before .before .before .before .before .before .before .args .r)) (let-way (c .before .before .before .before .before .before .before .before .before .before .before .before .before .before .a2 .given .0 .0) (c .before .before .before .before .before .before .before .before .before .before .before .before .before .before .a2 .given .0 .1 .0) (c .before .before .before .before .before .before .before .before .before .before .before .before .before .before .a2 .given .0 .1 .1 .0) (c .before .before .before .before .before .before .before .before .before .before .before .before .before .before .a2 .given .0 .1 .1 .1 .0)) (sym (c .before .before .before .before .before .before .before .before .before .before .before .before .before .before .a2 .given .1) ∙ c .before .before .before .before .before .before .before .before .before .before .before .before .before .before .before .before .way-at .ensures)) (c .before .before .before .before .before .before .before .before .before .before .before .before .copied .result) (c .before .before .before .before .before .before .before .before .before .expr2 .last .1 .1 .1 .1 .0) (c .before .before .before .before .before .before .l .given .0 .0) (c .before .before .body .result) (ap envOf (c .before .before .before .before .before .before .before .before .before .before .before .before .copied .ensures)) (rw (c .before .before .before .before .before .before .before .before .before .before .wide .ensures, c .before .before .before .before .before .before .l .given .1) at (c .before .before .before .before .before .before .before .before .before .expr2 .ensures .0)) (c .before .before .body .ensures .0), c .before .before .body .ensures .1)
 
--- src/cycle.rt:187:1  // `out`. ⏎ fn body(
+-- src/cycle.rt:186:1  // `out`. ⏎ fn body(
 body-returns-3 : (t : ℕ) → body-lts.Need-returns-3 (
   way-at-reads.Asked,
   way-at-reads.Learnt,
@@ -877,7 +877,7 @@ body-returns-3 : (t : ℕ) → body-lts.Need-returns-3 (
 ) (body-at t) body.Post
 body-returns-3 t c = (tell-let-B-short (c .before .before .before .before .before .before .before .before .before .before .before .before .before .before .args .t .now) (c .before .before .before .before .before .before .before .before .before .before .before .before .before .before .args .widths .now) (c .before .before .before .before .before .before .before .before .before .before .before .before .before .before .args .r) (c .before .before .before .before .before .before .before .before .before .before .before .before .before .before .pre .1 .0) (c .before .before .before .before .before .before .before .before .before .before .before .before .before .before .args .w) (envOf (c .before .before .before .before .before .before .before .before .before .before .before .before .before .before .args .env .now)) (c .before .before .before .before .before .before .before .before .before .before .before .before .before .before .args .left) (c .before .before .before .before .before .before .before .before .before .before .before .before .before .before .args .out .now) (c .before .before .before .before .before .before .before .before .before .before .before .before .before .before .args .out .now) (c .before .before .before .before .before .before .before .before .a2 .given .0 .0) (c .before .before .before .before .before .before .before .before .a2 .given .0 .1 .0) (c .before .before .before .before .before .before .before .before .a2 .given .0 .1 .1 .0) (c .before .before .before .before .before .before .before .before .a2 .given .0 .1 .1 .1 .0) (shaped-as (shapeAt (c .before .before .before .before .before .before .before .before .before .before .before .before .before .before .args .t .now) (c .before .before .before .before .before .before .before .before .before .before .before .before .before .before .args .r)) (let-way (c .before .before .before .before .before .before .before .before .a2 .given .0 .0) (c .before .before .before .before .before .before .before .before .a2 .given .0 .1 .0) (c .before .before .before .before .before .before .before .before .a2 .given .0 .1 .1 .0) (c .before .before .before .before .before .before .before .before .a2 .given .0 .1 .1 .1 .0)) (sym (c .before .before .before .before .before .before .before .before .a2 .given .1) ∙ c .before .before .before .before .before .before .before .before .before .before .way-at .ensures)) (c .before .before .before .before .wide .result) (c .before .before .before .before .before .before .copied .result) (c .before .before .before .expr2 .last .1 .1 .1 .1 .0) (rw (c .enum-told .given .1) at (c .before .before .before .expr2 .ensures .0)), refl)
 
--- src/cycle.rt:187:1  // `out`. ⏎ fn body(
+-- src/cycle.rt:186:1  // `out`. ⏎ fn body(
 body-same-length-3 : (t : ℕ) → body-lts.Need-same-length-3 (
   way-at-reads.Asked,
   way-at-reads.Learnt,
@@ -902,7 +902,7 @@ body-same-length-3 : (t : ℕ) → body-lts.Need-same-length-3 (
 ) (body-at t) body.Post
 body-same-length-3 t c = search needs
 
--- src/cycle.rt:187:1  // `out`. ⏎ fn body(
+-- src/cycle.rt:186:1  // `out`. ⏎ fn body(
 body-returns-4 : (t : ℕ) → body-lts.Need-returns-4 (
   way-at-reads.Asked,
   way-at-reads.Learnt,
@@ -927,7 +927,7 @@ body-returns-4 : (t : ℕ) → body-lts.Need-returns-4 (
 ) (body-at t) body.Post
 body-returns-4 t c = (tell-first-B (c .before .before .before .before .before .before .before .before .before .before .before .before .before .before .before .before .before .before .args .t .now) (c .before .before .before .before .before .before .before .before .before .before .before .before .before .before .before .before .before .before .args .widths .now) (c .before .before .before .before .before .before .before .before .before .before .before .before .before .before .before .before .before .before .args .r) (c .before .before .before .before .before .before .before .before .before .before .before .before .before .before .before .before .before .before .pre .1 .0) (c .before .before .before .before .before .before .before .before .before .before .before .before .before .before .before .before .before .before .args .w) (envOf (c .before .before .before .before .before .before .before .before .before .before .before .before .before .before .before .before .before .before .args .env .now)) (c .before .before .before .before .before .before .before .before .before .before .before .before .before .before .before .before .before .before .args .left) (c .before .before .before .before .before .before .before .before .before .before .before .before .before .before .before .before .before .before .args .out .now) (c .before .before .body2 .last .1 .1 .1 .1 .1 .0) (c .before .before .before .before .before .before .before .before .before .before .before .before .a3 .given .0 .0) (c .before .before .before .before .before .before .before .before .before .before .before .before .a3 .given .0 .1 .0) (c .before .before .before .before .before .before .before .before .before .before .before .before .a3 .given .0 .1 .1 .0) (shaped-as (shapeAt (c .before .before .before .before .before .before .before .before .before .before .before .before .before .before .before .before .before .before .args .t .now) (c .before .before .before .before .before .before .before .before .before .before .before .before .before .before .before .before .before .before .args .r)) (if-way (c .before .before .before .before .before .before .before .before .before .before .before .before .a3 .given .0 .0) (c .before .before .before .before .before .before .before .before .before .before .before .before .a3 .given .0 .1 .0) (c .before .before .before .before .before .before .before .before .before .before .before .before .a3 .given .0 .1 .1 .0)) (sym (c .before .before .before .before .before .before .before .before .before .before .before .before .a3 .given .1) ∙ c .before .before .before .before .before .before .before .before .before .before .before .before .before .before .way-at .ensures)) (c .before .before .before .before .before .before .before .before .before .before .single .result) (c .before .before .before .before .before .before .before .before .before .before .single .ensures) (c .before .before .before .before .before .before .before .before .v .given .0 .0) (c .before .before .before .before .before .before .before .before .v .given .0 .1 .0) (c .before .before .before .before .before .before .before .before .v .given .1) (c .before .before .body2 .result) (sym (c .before .before .before .before .before .before .chosen .ensures) ∙ c .before .before .before .before .enum-told2 .given .1) (c .before .before .body2 .ensures .0), c .before .before .body2 .ensures .1)
 
--- src/cycle.rt:187:1  // `out`. ⏎ fn body(
+-- src/cycle.rt:186:1  // `out`. ⏎ fn body(
 body-same-length-4 : (t : ℕ) → body-lts.Need-same-length-4 (
   way-at-reads.Asked,
   way-at-reads.Learnt,
@@ -952,7 +952,7 @@ body-same-length-4 : (t : ℕ) → body-lts.Need-same-length-4 (
 ) (body-at t) body.Post
 body-same-length-4 t c = search needs
 
--- src/cycle.rt:187:1  // `out`. ⏎ fn body(
+-- src/cycle.rt:186:1  // `out`. ⏎ fn body(
 body-returns-5 : (t : ℕ) → body-lts.Need-returns-5 (
   way-at-reads.Asked,
   way-at-reads.Learnt,
@@ -977,7 +977,7 @@ body-returns-5 : (t : ℕ) → body-lts.Need-returns-5 (
 ) (body-at t) body.Post
 body-returns-5 t c = (tell-second-B (c .before .before .before .before .before .before .before .before .before .before .before .before .before .before .before .before .before .before .args .t .now) (c .before .before .before .before .before .before .before .before .before .before .before .before .before .before .before .before .before .before .args .widths .now) (c .before .before .before .before .before .before .before .before .before .before .before .before .before .before .before .before .before .before .args .r) (c .before .before .before .before .before .before .before .before .before .before .before .before .before .before .before .before .before .before .pre .1 .0) (c .before .before .before .before .before .before .before .before .before .before .before .before .before .before .before .before .before .before .args .w) (envOf (c .before .before .before .before .before .before .before .before .before .before .before .before .before .before .before .before .before .before .args .env .now)) (c .before .before .before .before .before .before .before .before .before .before .before .before .before .before .before .before .before .before .args .left) (c .before .before .before .before .before .before .before .before .before .before .before .before .before .before .before .before .before .before .args .out .now) (c .before .before .body3 .last .1 .1 .1 .1 .1 .0) (c .before .before .before .before .before .before .before .before .before .before .before .before .a3 .given .0 .0) (c .before .before .before .before .before .before .before .before .before .before .before .before .a3 .given .0 .1 .0) (c .before .before .before .before .before .before .before .before .before .before .before .before .a3 .given .0 .1 .1 .0) (shaped-as (shapeAt (c .before .before .before .before .before .before .before .before .before .before .before .before .before .before .before .before .before .before .args .t .now) (c .before .before .before .before .before .before .before .before .before .before .before .before .before .before .before .before .before .before .args .r)) (if-way (c .before .before .before .before .before .before .before .before .before .before .before .before .a3 .given .0 .0) (c .before .before .before .before .before .before .before .before .before .before .before .before .a3 .given .0 .1 .0) (c .before .before .before .before .before .before .before .before .before .before .before .before .a3 .given .0 .1 .1 .0)) (sym (c .before .before .before .before .before .before .before .before .before .before .before .before .a3 .given .1) ∙ c .before .before .before .before .before .before .before .before .before .before .before .before .before .before .way-at .ensures)) (c .before .before .before .before .before .before .before .before .before .before .single .result) (c .before .before .before .before .before .before .before .before .before .before .single .ensures) (c .before .before .before .before .before .before .before .before .v .given .0 .0) (c .before .before .before .before .before .before .before .before .v .given .0 .1 .0) (c .before .before .before .before .before .before .before .before .v .given .1) (c .before .before .body3 .result) (sym (c .before .before .before .before .before .before .chosen .ensures) ∙ c .before .before .before .before .enum-told3 .given .1) (c .before .before .body3 .ensures .0), c .before .before .body3 .ensures .1)
 
--- src/cycle.rt:187:1  // `out`. ⏎ fn body(
+-- src/cycle.rt:186:1  // `out`. ⏎ fn body(
 body-same-length-5 : (t : ℕ) → body-lts.Need-same-length-5 (
   way-at-reads.Asked,
   way-at-reads.Learnt,
@@ -1002,7 +1002,7 @@ body-same-length-5 : (t : ℕ) → body-lts.Need-same-length-5 (
 ) (body-at t) body.Post
 body-same-length-5 t c = search needs
 
--- src/cycle.rt:187:1  // `out`. ⏎ fn body(
+-- src/cycle.rt:186:1  // `out`. ⏎ fn body(
 body-returns-6 : (t : ℕ) → body-lts.Need-returns-6 (
   way-at-reads.Asked,
   way-at-reads.Learnt,
@@ -1027,7 +1027,7 @@ body-returns-6 : (t : ℕ) → body-lts.Need-returns-6 (
 ) (body-at t) body.Post
 body-returns-6 t c = (tell-neither-B (c .before .before .before .before .before .before .before .before .before .before .before .before .before .before .before .before .before .before .args .t .now) (c .before .before .before .before .before .before .before .before .before .before .before .before .before .before .before .before .before .before .args .widths .now) (c .before .before .before .before .before .before .before .before .before .before .before .before .before .before .before .before .before .before .args .r) (c .before .before .before .before .before .before .before .before .before .before .before .before .before .before .before .before .before .before .pre .1 .0) (c .before .before .before .before .before .before .before .before .before .before .before .before .before .before .before .before .before .before .args .w) (envOf (c .before .before .before .before .before .before .before .before .before .before .before .before .before .before .before .before .before .before .args .env .now)) (c .before .before .before .before .before .before .before .before .before .before .before .before .before .before .before .before .before .before .args .left) (c .before .before .before .before .before .before .before .before .before .before .before .before .before .before .before .before .before .before .args .out .now) (c .before .before .put-errs .last .0) (c .before .before .before .before .before .before .before .before .before .before .before .before .a3 .given .0 .0) (c .before .before .before .before .before .before .before .before .before .before .before .before .a3 .given .0 .1 .0) (c .before .before .before .before .before .before .before .before .before .before .before .before .a3 .given .0 .1 .1 .0) (shaped-as (shapeAt (c .before .before .before .before .before .before .before .before .before .before .before .before .before .before .before .before .before .before .args .t .now) (c .before .before .before .before .before .before .before .before .before .before .before .before .before .before .before .before .before .before .args .r)) (if-way (c .before .before .before .before .before .before .before .before .before .before .before .before .a3 .given .0 .0) (c .before .before .before .before .before .before .before .before .before .before .before .before .a3 .given .0 .1 .0) (c .before .before .before .before .before .before .before .before .before .before .before .before .a3 .given .0 .1 .1 .0)) (sym (c .before .before .before .before .before .before .before .before .before .before .before .before .a3 .given .1) ∙ c .before .before .before .before .before .before .before .before .before .before .before .before .before .before .way-at .ensures)) (c .before .before .before .before .before .before .before .before .before .before .single .result) (c .before .before .before .before .before .before .before .before .before .before .single .ensures) (c .before .before .before .before .before .before .before .before .v .given .0 .0) (c .before .before .before .before .before .before .before .before .v .given .0 .1 .0) (c .before .before .before .before .before .before .before .before .v .given .1) (sym (c .before .before .before .before .before .before .chosen .ensures) ∙ c .before .before .before .before .enum-told4 .given .1) (c .before .before .put-errs .ensures .0), c .before .before .put-errs .ensures .1)
 
--- src/cycle.rt:187:1  // `out`. ⏎ fn body(
+-- src/cycle.rt:186:1  // `out`. ⏎ fn body(
 body-returns-7 : (t : ℕ) → body-lts.Need-returns-7 (
   way-at-reads.Asked,
   way-at-reads.Learnt,
@@ -1052,7 +1052,7 @@ body-returns-7 : (t : ℕ) → body-lts.Need-returns-7 (
 ) (body-at t) body.Post
 body-returns-7 t c = (tell-untested-B (c .before .before .before .before .before .before .before .before .before .before .args .t .now) (c .before .before .before .before .before .before .before .before .before .before .args .widths .now) (c .before .before .before .before .before .before .before .before .before .before .args .r) (c .before .before .before .before .before .before .before .before .before .before .pre .1 .0) (c .before .before .before .before .before .before .before .before .before .before .args .w) (envOf (c .before .before .before .before .before .before .before .before .before .before .args .env .now)) (c .before .before .before .before .before .before .before .before .before .before .args .left) (c .before .before .before .before .before .before .before .before .before .before .args .out .now) (c .before .before .before .before .before .before .before .before .before .before .args .out .now) (c .before .before .before .before .a3 .given .0 .0) (c .before .before .before .before .a3 .given .0 .1 .0) (c .before .before .before .before .a3 .given .0 .1 .1 .0) (shaped-as (shapeAt (c .before .before .before .before .before .before .before .before .before .before .args .t .now) (c .before .before .before .before .before .before .before .before .before .before .args .r)) (if-way (c .before .before .before .before .a3 .given .0 .0) (c .before .before .before .before .a3 .given .0 .1 .0) (c .before .before .before .before .a3 .given .0 .1 .1 .0)) (sym (c .before .before .before .before .a3 .given .1) ∙ c .before .before .before .before .before .before .way-at .ensures)) (c .before .before .single .result) (c .before .before .single .ensures) (c .enum-told5 .given .1), refl)
 
--- src/cycle.rt:187:1  // `out`. ⏎ fn body(
+-- src/cycle.rt:186:1  // `out`. ⏎ fn body(
 body-same-length-6 : (t : ℕ) → body-lts.Need-same-length-6 (
   way-at-reads.Asked,
   way-at-reads.Learnt,
@@ -1077,7 +1077,7 @@ body-same-length-6 : (t : ℕ) → body-lts.Need-same-length-6 (
 ) (body-at t) body.Post
 body-same-length-6 t c = search needs
 
--- src/cycle.rt:187:1  // `out`. ⏎ fn body(
+-- src/cycle.rt:186:1  // `out`. ⏎ fn body(
 body-returns-8 : (t : ℕ) → body-lts.Need-returns-8 (
   way-at-reads.Asked,
   way-at-reads.Learnt,
@@ -2022,7 +2022,7 @@ by-kind-enum-told-8 : (t : ℕ) → by-kind-lts.Need-enum-told-8 (
 ) (by-kind-at t) by-kind.Post
 by-kind-enum-told-8 t c = search needs
 
--- src/cycle.rt:141:28  Shape::Identifier(_) => Rest::Short, ⏎ Shape::Whole(_) => Rest::Short,
+-- src/cycle.rt:141:34  Shape::Identifier(_) => Rest::Short, ⏎ Shape::Constant(_, _) => Rest::Short,
 by-kind-enum-told-9 : (t : ℕ) → by-kind-lts.Need-enum-told-9 (
   shape-at-reads.Asked,
   shape-at-reads.Learnt,
@@ -2045,7 +2045,7 @@ by-kind-enum-told-9 : (t : ℕ) → by-kind-lts.Need-enum-told-9 (
 ) (by-kind-at t) by-kind.Post
 by-kind-enum-told-9 t c = search needs
 
--- src/cycle.rt:142:28  Shape::Whole(_) => Rest::Short, ⏎ Shape::Truth(_) => Rest::Short,
+-- src/cycle.rt:142:34  Shape::Constant(_, _) => Rest::Short, ⏎ Shape::Operator(_, _) => Rest::Short,
 by-kind-enum-told-10 : (t : ℕ) → by-kind-lts.Need-enum-told-10 (
   shape-at-reads.Asked,
   shape-at-reads.Learnt,
@@ -2068,7 +2068,7 @@ by-kind-enum-told-10 : (t : ℕ) → by-kind-lts.Need-enum-told-10 (
 ) (by-kind-at t) by-kind.Post
 by-kind-enum-told-10 t c = search needs
 
--- src/cycle.rt:143:34  Shape::Truth(_) => Rest::Short, ⏎ Shape::Operator(_, _) => Rest::Short,
+-- src/cycle.rt:143:27  Shape::Operator(_, _) => Rest::Short, ⏎ Shape::Iter(_) => Rest::Short,
 by-kind-enum-told-11 : (t : ℕ) → by-kind-lts.Need-enum-told-11 (
   shape-at-reads.Asked,
   shape-at-reads.Learnt,
@@ -2090,29 +2090,6 @@ by-kind-enum-told-11 : (t : ℕ) → by-kind-lts.Need-enum-told-11 (
   rounds.Post,
 ) (by-kind-at t) by-kind.Post
 by-kind-enum-told-11 t c = search needs
-
--- src/cycle.rt:144:27  Shape::Operator(_, _) => Rest::Short, ⏎ Shape::Iter(_) => Rest::Short,
-by-kind-enum-told-12 : (t : ℕ) → by-kind-lts.Need-enum-told-12 (
-  shape-at-reads.Asked,
-  shape-at-reads.Learnt,
-  expr-below t,
-  expr.Post,
-  width-at-reads.Asked,
-  width-at-reads.Learnt,
-  copied-reads.Asked,
-  copied-reads.Learnt,
-  wide-reads.Asked,
-  wide-reads.Learnt,
-  single-below t,
-  single.Post,
-  chosen-reads.Asked,
-  chosen-reads.Learnt,
-  put-errs-reads.Asked,
-  put-errs-reads.Learnt,
-  rounds-below t,
-  rounds.Post,
-) (by-kind-at t) by-kind.Post
-by-kind-enum-told-12 t c = search needs
 
 -- src/cycle.rt:96:1  // Row r by its kind, where it is evaluated by its parts' rows: as expr. ⏎ fn by_kind(
 by-kind-same-length : (t : ℕ) → by-kind-lts.Need-same-length (
@@ -2597,29 +2574,6 @@ by-kind-returns-14 : (t : ℕ) → by-kind-lts.Need-returns-14 (
 ) (by-kind-at t) by-kind.Post
 by-kind-returns-14 t c = absurd (subst Compound (sym (c .before .before .shape-at .ensures) ∙ c .enum-told11 .given .1) (c .before .before .before .before .before .before .pre .1 .3))
 
--- src/cycle.rt:96:1  // Row r by its kind, where it is evaluated by its parts' rows: as expr. ⏎ fn by_kind(
-by-kind-returns-15 : (t : ℕ) → by-kind-lts.Need-returns-15 (
-  shape-at-reads.Asked,
-  shape-at-reads.Learnt,
-  expr-below t,
-  expr.Post,
-  width-at-reads.Asked,
-  width-at-reads.Learnt,
-  copied-reads.Asked,
-  copied-reads.Learnt,
-  wide-reads.Asked,
-  wide-reads.Learnt,
-  single-below t,
-  single.Post,
-  chosen-reads.Asked,
-  chosen-reads.Learnt,
-  put-errs-reads.Asked,
-  put-errs-reads.Learnt,
-  rounds-below t,
-  rounds.Post,
-) (by-kind-at t) by-kind.Post
-by-kind-returns-15 t c = absurd (subst Compound (sym (c .before .before .shape-at .ensures) ∙ c .enum-told12 .given .1) (c .before .before .before .before .before .before .pre .1 .3))
-
 -- src/cycle.rt:54:8  { ⏎ if width_at(widths, r) != 1 {
 expr-width-at-requires : (t : ℕ) → expr-lts.Need-width-at-requires (
   width-at-reads.Asked,
@@ -2769,7 +2723,7 @@ rounds-Inv-loop t widths d w a b inner₀ out₀ at left values₀ l₀ inner ou
 abbrev rounds-μ-loop : rounds-lts.MeasureT-loop
 rounds-μ-loop t widths d w a b inner₀ out₀ at left values₀ l₀ inner out values l = l
 
--- src/cycle.rt:167:5  let mut l = left; ⏎ while 0 < l {
+-- src/cycle.rt:166:5  let mut l = left; ⏎ while 0 < l {
 rounds-loop-holds : (t : ℕ) → rounds-lts.Need-loop-holds (
   body-below t,
   body.Post,
@@ -2778,7 +2732,7 @@ rounds-loop-holds : (t : ℕ) → rounds-lts.Need-loop-holds (
 ) (rounds-at t) rounds.Post rounds-Inv-loop rounds-μ-loop
 rounds-loop-holds t c = search needs
 
--- src/cycle.rt:168:44  while 0 < l { ⏎ match body(t, widths, d, w, inner, &mut values, l - 1) {
+-- src/cycle.rt:167:44  while 0 < l { ⏎ match body(t, widths, d, w, inner, &mut values, l - 1) {
 rounds-slice-aggregate-body : (t : ℕ) → rounds-lts.Need-slice-aggregate-body (
   body-below t,
   body.Post,
@@ -2787,7 +2741,7 @@ rounds-slice-aggregate-body : (t : ℕ) → rounds-lts.Need-slice-aggregate-body
 ) (rounds-at t) rounds.Post rounds-Inv-loop rounds-μ-loop
 rounds-slice-aggregate-body t c = search needs
 
--- src/cycle.rt:168:57  while 0 < l { ⏎ match body(t, widths, d, w, inner, &mut values, l - 1) {
+-- src/cycle.rt:167:57  while 0 < l { ⏎ match body(t, widths, d, w, inner, &mut values, l - 1) {
 rounds-sub-body : (t : ℕ) → rounds-lts.Need-sub-body (
   body-below t,
   body.Post,
@@ -2796,7 +2750,7 @@ rounds-sub-body : (t : ℕ) → rounds-lts.Need-sub-body (
 ) (rounds-at t) rounds.Post rounds-Inv-loop rounds-μ-loop
 rounds-sub-body t c = search needs
 
--- src/cycle.rt:168:15  while 0 < l { ⏎ match body(t, widths, d, w, inner, &mut values, l - 1) {
+-- src/cycle.rt:167:15  while 0 < l { ⏎ match body(t, widths, d, w, inner, &mut values, l - 1) {
 rounds-body-requires : (t : ℕ) → rounds-lts.Need-body-requires (
   body-below t,
   body.Post,
@@ -2805,7 +2759,7 @@ rounds-body-requires : (t : ℕ) → rounds-lts.Need-body-requires (
 ) (rounds-at t) rounds.Post rounds-Inv-loop rounds-μ-loop
 rounds-body-requires t c κs = search needs
 
--- src/cycle.rt:170:17  Turn::Short => { ⏎ return Rest::Short;
+-- src/cycle.rt:169:17  Turn::Short => { ⏎ return Rest::Short;
 rounds-enum-told : (t : ℕ) → rounds-lts.Need-enum-told (
   body-below t,
   body.Post,
@@ -2814,7 +2768,7 @@ rounds-enum-told : (t : ℕ) → rounds-lts.Need-enum-told (
 ) (rounds-at t) rounds.Post rounds-Inv-loop rounds-μ-loop
 rounds-enum-told t c = search needs
 
--- src/cycle.rt:170:17  Turn::Short => { ⏎ return Rest::Short;
+-- src/cycle.rt:169:17  Turn::Short => { ⏎ return Rest::Short;
 rounds-same-length : (t : ℕ) → rounds-lts.Need-same-length (
   body-below t,
   body.Post,
@@ -2823,7 +2777,7 @@ rounds-same-length : (t : ℕ) → rounds-lts.Need-same-length (
 ) (rounds-at t) rounds.Post rounds-Inv-loop rounds-μ-loop
 rounds-same-length t c = search needs
 
--- src/cycle.rt:170:17  Turn::Short => { ⏎ return Rest::Short;
+-- src/cycle.rt:169:17  Turn::Short => { ⏎ return Rest::Short;
 rounds-returns : (t : ℕ) → rounds-lts.Need-returns (
   body-below t,
   body.Post,
@@ -2832,7 +2786,7 @@ rounds-returns : (t : ℕ) → rounds-lts.Need-returns (
 ) (rounds-at t) rounds.Post rounds-Inv-loop rounds-μ-loop
 rounds-returns t c = (round-short (c .before .before .before .before .before .before .before .before .before .before .before .args .t .now) (c .before .before .before .before .before .before .before .before .before .before .before .args .widths .now) (c .before .before .before .before .before .before .before .before .before .before .before .args .d) (c .before .before .before .before .before .before .before .before .before .before .before .pre .1 .0) (c .before .before .before .before .before .before .before .before .before .before .before .args .a) (c .before .before .before .before .before .before .before .before .before .before .before .args .b) (c .before .before .before .before .before .before .before .before .before .before .before .args .w) (c .before .before .before .before .before .before .before .before .before .before .before .pre .1 .1) (c .before .before .before .before .before .before .before .before .before .before .before .pre .1 .2) (c .before .before .before .before .before .before .before .before .before .before .before .args .inner .now) (c .before .before .before .before .before .before .before .loop .inner) (c .before .before .before .before .before .before .before .before .before .before .before .args .left) (c .before .before .before .before .before .before .before .loop .l) (c .before .before .before .before .before .before .before .loop .inv .0) (c .before .before .before .before .before .before .loop-test .taken) (c .before .before .before .before .before .before .before .loop .values) (c .before .before .before .body .last .1 .1 .1 .1 .1 .0) (rw (c .enum-told .given .1) at (c .before .before .before .body .ensures .0)) (c .before .before .before .before .before .before .before .before .before .before .before .args .at) (c .before .before .before .before .before .before .before .before .before .before .before .args .out .now) (c .before .before .before .before .before .before .before .loop .out), ap length (c .before .before .before .before .before .before .before .loop .inv .3))
 
--- src/cycle.rt:172:24  } ⏎ Turn::Back(m) => {
+-- src/cycle.rt:171:24  } ⏎ Turn::Back(m) => {
 rounds-enum-known-m : (t : ℕ) → rounds-lts.Need-enum-known-m (
   body-below t,
   body.Post,
@@ -2841,7 +2795,7 @@ rounds-enum-known-m : (t : ℕ) → rounds-lts.Need-enum-known-m (
 ) (rounds-at t) rounds.Post rounds-Inv-loop rounds-μ-loop
 rounds-enum-known-m t c = search needs
 
--- src/cycle.rt:173:31  Turn::Back(m) => { ⏎ copy(out, at, &values, w);
+-- src/cycle.rt:172:31  Turn::Back(m) => { ⏎ copy(out, at, &values, w);
 rounds-slice-aggregate-copy : (t : ℕ) → rounds-lts.Need-slice-aggregate-copy (
   body-below t,
   body.Post,
@@ -2850,7 +2804,7 @@ rounds-slice-aggregate-copy : (t : ℕ) → rounds-lts.Need-slice-aggregate-copy
 ) (rounds-at t) rounds.Post rounds-Inv-loop rounds-μ-loop
 rounds-slice-aggregate-copy t c = search needs
 
--- src/cycle.rt:173:17  Turn::Back(m) => { ⏎ copy(out, at, &values, w);
+-- src/cycle.rt:172:17  Turn::Back(m) => { ⏎ copy(out, at, &values, w);
 rounds-copy-requires : (t : ℕ) → rounds-lts.Need-copy-requires (
   body-below t,
   body.Post,
@@ -2859,7 +2813,7 @@ rounds-copy-requires : (t : ℕ) → rounds-lts.Need-copy-requires (
 ) (rounds-at t) rounds.Post rounds-Inv-loop rounds-μ-loop
 rounds-copy-requires t c κs = (omega (arith, ap length (c .before .before .before .before .before .before .before .before .before .before .loop .inv .3), c .before .before .before .before .before .before .before .before .before .before .before .before .before .before .pre .1 .7), omega (arith, c .before .before .before .before .before .before .body .ensures .1, c .before .before .before .before .before .before .before .before .before .before .loop .inv .2, c .before .before .before .before .before .before .before .before .before .before .before .before .before .before .pre .1 .3))
 
--- src/cycle.rt:174:17  copy(out, at, &values, w); ⏎ return Rest::Left(m);
+-- src/cycle.rt:173:17  copy(out, at, &values, w); ⏎ return Rest::Left(m);
 rounds-same-length-2 : (t : ℕ) → rounds-lts.Need-same-length-2 (
   body-below t,
   body.Post,
@@ -2868,7 +2822,7 @@ rounds-same-length-2 : (t : ℕ) → rounds-lts.Need-same-length-2 (
 ) (rounds-at t) rounds.Post rounds-Inv-loop rounds-μ-loop
 rounds-same-length-2 t c = c .before .before .copy .ensures .1 ∙ ap length (c .before .before .before .before .before .before .before .before .before .before .before .before .before .loop .inv .3)
 
--- src/cycle.rt:174:17  copy(out, at, &values, w); ⏎ return Rest::Left(m);
+-- src/cycle.rt:173:17  copy(out, at, &values, w); ⏎ return Rest::Left(m);
 rounds-returns-2 : (t : ℕ) → rounds-lts.Need-returns-2 (
   body-below t,
   body.Post,
@@ -2877,7 +2831,7 @@ rounds-returns-2 : (t : ℕ) → rounds-lts.Need-returns-2 (
 ) (rounds-at t) rounds.Post rounds-Inv-loop rounds-μ-loop
 rounds-returns-2 t c = (subst (λ (z : List ℕ). Told (turns (bodyOf (c .before .before .before .before .before .before .before .before .before .before .before .before .before .before .before .before .before .args .t .now) (c .before .before .before .before .before .before .before .before .before .before .before .before .before .before .before .before .before .args .d)) (c .before .before .before .before .before .before .before .before .before .before .before .before .before .before .before .before .before .args .a) (c .before .before .before .before .before .before .before .before .before .before .before .before .before .before .before .before .before .args .b) (envOf (c .before .before .before .before .before .before .before .before .before .before .before .before .before .before .before .before .before .args .inner .now)) (envOf (c .before .before .before .before .before .before .before .before .before .before .before .before .before .before .before .before .before .args .inner .now)) (c .before .before .before .before .before .before .before .before .before .before .before .before .before .before .before .before .before .args .left)) (Left (c .before .before .before .before .before .before .m .given .0 .0)) (c .before .before .before .before .before .before .before .before .before .before .before .before .before .before .before .before .before .args .at) (c .before .before .before .before .before .before .before .before .before .before .before .before .before .before .before .before .before .args .out .now) z) (sym (c .before .before .copy .ensures .0 ∙ ap (λ (z : List ℕ). paste z (c .before .before .before .before .before .before .before .before .before .before .before .before .before .before .before .before .before .args .at) (c .before .before .before .before .before .before .before .before .before .body .last .1 .1 .1 .1 .1 .0) (c .before .before .before .before .before .before .before .before .before .before .before .before .before .before .before .before .before .args .w)) (c .before .before .before .before .before .before .before .before .before .before .before .before .before .loop .inv .3))) (round-back (c .before .before .before .before .before .before .before .before .before .before .before .before .before .before .before .before .before .args .t .now) (c .before .before .before .before .before .before .before .before .before .before .before .before .before .before .before .before .before .args .widths .now) (c .before .before .before .before .before .before .before .before .before .before .before .before .before .before .before .before .before .args .d) (c .before .before .before .before .before .before .before .before .before .before .before .before .before .before .before .before .before .pre .1 .0) (c .before .before .before .before .before .before .before .before .before .before .before .before .before .before .before .before .before .args .a) (c .before .before .before .before .before .before .before .before .before .before .before .before .before .before .before .before .before .args .b) (c .before .before .before .before .before .before .before .before .before .before .before .before .before .before .before .before .before .args .w) (c .before .before .before .before .before .before .before .before .before .before .before .before .before .before .before .before .before .pre .1 .1) (c .before .before .before .before .before .before .before .before .before .before .before .before .before .before .before .before .before .pre .1 .2) (c .before .before .before .before .before .before .before .before .before .before .before .before .before .before .before .before .before .args .inner .now) (c .before .before .before .before .before .before .before .before .before .before .before .before .before .loop .inner) (c .before .before .before .before .before .before .before .before .before .before .before .before .before .before .before .before .before .args .left) (c .before .before .before .before .before .before .before .before .before .before .before .before .before .loop .l) (c .before .before .before .before .before .before .before .before .before .before .before .before .before .loop .inv .0) (c .before .before .before .before .before .before .before .before .before .before .before .before .loop-test .taken) (c .before .before .before .before .before .before .before .before .before .before .before .before .before .loop .values) (c .before .before .before .before .before .before .before .before .before .body .last .1 .1 .1 .1 .1 .0) (c .before .before .before .before .before .before .m .given .0 .0) (rw (c .before .before .before .before .before .before .m .given .1) at (c .before .before .before .before .before .before .before .before .before .body .ensures .0)) (c .before .before .before .before .before .before .before .before .before .before .before .before .before .before .before .before .before .args .at) (c .before .before .before .before .before .before .before .before .before .before .before .before .before .before .before .before .before .args .out .now) (c .before .before .before .before .before .before .before .before .before .before .before .before .before .before .before .before .before .pre .1 .7) (omega (arith, c .before .before .before .before .before .before .before .before .before .body .ensures .1, c .before .before .before .before .before .before .before .before .before .before .before .before .before .loop .inv .2, c .before .before .before .before .before .before .before .before .before .before .before .before .before .before .before .before .before .pre .1 .3))), c .before .before .copy .ensures .1 ∙ ap length (c .before .before .before .before .before .before .before .before .before .before .before .before .before .loop .inv .3))
 
--- src/cycle.rt:176:25  } ⏎ Turn::Again(m) => {
+-- src/cycle.rt:175:25  } ⏎ Turn::Again(m) => {
 rounds-enum-known-m-2 : (t : ℕ) → rounds-lts.Need-enum-known-m-2 (
   body-below t,
   body.Post,
@@ -2886,7 +2840,7 @@ rounds-enum-known-m-2 : (t : ℕ) → rounds-lts.Need-enum-known-m-2 (
 ) (rounds-at t) rounds.Post rounds-Inv-loop rounds-μ-loop
 rounds-enum-known-m-2 t c = search needs
 
--- src/cycle.rt:177:32  Turn::Again(m) => { ⏎ copy(inner, a, &values, b);
+-- src/cycle.rt:176:32  Turn::Again(m) => { ⏎ copy(inner, a, &values, b);
 rounds-slice-aggregate-copy-2 : (t : ℕ) → rounds-lts.Need-slice-aggregate-copy-2 (
   body-below t,
   body.Post,
@@ -2895,7 +2849,7 @@ rounds-slice-aggregate-copy-2 : (t : ℕ) → rounds-lts.Need-slice-aggregate-co
 ) (rounds-at t) rounds.Post rounds-Inv-loop rounds-μ-loop
 rounds-slice-aggregate-copy-2 t c = search needs
 
--- src/cycle.rt:177:17  Turn::Again(m) => { ⏎ copy(inner, a, &values, b);
+-- src/cycle.rt:176:17  Turn::Again(m) => { ⏎ copy(inner, a, &values, b);
 rounds-copy-requires-2 : (t : ℕ) → rounds-lts.Need-copy-requires-2 (
   body-below t,
   body.Post,
@@ -2904,7 +2858,7 @@ rounds-copy-requires-2 : (t : ℕ) → rounds-lts.Need-copy-requires-2 (
 ) (rounds-at t) rounds.Post rounds-Inv-loop rounds-μ-loop
 rounds-copy-requires-2 t c κs = search needs
 
--- src/cycle.rt:167:5  let mut l = left; ⏎ while 0 < l {
+-- src/cycle.rt:166:5  let mut l = left; ⏎ while 0 < l {
 rounds-loop-less : (t : ℕ) → rounds-lts.Need-loop-less (
   body-below t,
   body.Post,
@@ -2913,7 +2867,7 @@ rounds-loop-less : (t : ℕ) → rounds-lts.Need-loop-less (
 ) (rounds-at t) rounds.Post rounds-Inv-loop rounds-μ-loop
 rounds-loop-less t c = round-again (c .before .before .before .before .before .before .before .before .before .before .before .before .before .before .before .args .t .now) (c .before .before .before .before .before .before .before .before .before .before .before .before .before .before .before .args .widths .now) (c .before .before .before .before .before .before .before .before .before .before .before .before .before .before .before .args .d) (c .before .before .before .before .before .before .before .before .before .before .before .before .before .before .before .pre .1 .0) (c .before .before .before .before .before .before .before .before .before .before .before .before .before .before .before .args .a) (c .before .before .before .before .before .before .before .before .before .before .before .before .before .before .before .args .b) (c .before .before .before .before .before .before .before .before .before .before .before .before .before .before .before .args .w) (c .before .before .before .before .before .before .before .before .before .before .before .before .before .before .before .pre .1 .1) (c .before .before .before .before .before .before .before .before .before .before .before .before .before .before .before .pre .1 .2) (c .before .before .before .before .before .before .before .before .before .before .before .before .before .before .before .args .inner .now) (c .before .before .before .before .before .before .before .before .before .before .before .loop .inner) (c .before .before .before .before .before .before .before .before .before .before .before .before .before .before .before .args .left) (c .before .before .before .before .before .before .before .before .before .before .before .loop .l) (c .before .before .before .before .before .before .before .before .before .before .before .loop .inv .0) (c .before .before .before .before .before .before .before .before .before .before .loop-test .taken) (c .before .before .before .before .before .before .before .before .before .before .before .loop .values) (c .before .before .before .before .before .before .before .body .last .1 .1 .1 .1 .1 .0) (c .before .before .before .before .m2 .given .0 .0) (rw (c .before .before .before .before .m2 .given .1) at (c .before .before .before .before .before .before .before .body .ensures .0)) (omega (arith, c .before .before .before .before .before .before .before .before .before .before .before .loop .inv .1, c .before .before .before .before .before .before .before .before .before .before .before .before .before .before .before .pre .1 .5)) (omega (arith, c .before .before .before .before .before .before .before .body .ensures .1, c .before .before .before .before .before .before .before .before .before .before .before .loop .inv .2, c .before .before .before .before .before .before .before .before .before .before .before .before .before .before .before .pre .1 .4)) .1
 
--- src/cycle.rt:167:5  let mut l = left; ⏎ while 0 < l {
+-- src/cycle.rt:166:5  let mut l = left; ⏎ while 0 < l {
 rounds-loop-again : (t : ℕ) → rounds-lts.Need-loop-again (
   body-below t,
   body.Post,
@@ -2922,7 +2876,7 @@ rounds-loop-again : (t : ℕ) → rounds-lts.Need-loop-again (
 ) (rounds-at t) rounds.Post rounds-Inv-loop rounds-μ-loop
 rounds-loop-again t c = (subst (λ (z : List ℕ). Turning (bodyOf (c .before .before .before .before .before .before .before .before .before .before .before .before .before .before .before .args .t .now) (c .before .before .before .before .before .before .before .before .before .before .before .before .before .before .before .args .d)) (c .before .before .before .before .before .before .before .before .before .before .before .before .before .before .before .args .a) (c .before .before .before .before .before .before .before .before .before .before .before .before .before .before .before .args .b) (c .before .before .before .before .before .before .before .before .before .before .before .before .before .before .before .args .inner .now) z (c .before .before .before .before .before .before .before .before .before .before .before .before .before .before .before .args .left) (c .before .before .before .before .m2 .given .0 .0)) (sym (c .copy2 .ensures .0)) (round-again (c .before .before .before .before .before .before .before .before .before .before .before .before .before .before .before .args .t .now) (c .before .before .before .before .before .before .before .before .before .before .before .before .before .before .before .args .widths .now) (c .before .before .before .before .before .before .before .before .before .before .before .before .before .before .before .args .d) (c .before .before .before .before .before .before .before .before .before .before .before .before .before .before .before .pre .1 .0) (c .before .before .before .before .before .before .before .before .before .before .before .before .before .before .before .args .a) (c .before .before .before .before .before .before .before .before .before .before .before .before .before .before .before .args .b) (c .before .before .before .before .before .before .before .before .before .before .before .before .before .before .before .args .w) (c .before .before .before .before .before .before .before .before .before .before .before .before .before .before .before .pre .1 .1) (c .before .before .before .before .before .before .before .before .before .before .before .before .before .before .before .pre .1 .2) (c .before .before .before .before .before .before .before .before .before .before .before .before .before .before .before .args .inner .now) (c .before .before .before .before .before .before .before .before .before .before .before .loop .inner) (c .before .before .before .before .before .before .before .before .before .before .before .before .before .before .before .args .left) (c .before .before .before .before .before .before .before .before .before .before .before .loop .l) (c .before .before .before .before .before .before .before .before .before .before .before .loop .inv .0) (c .before .before .before .before .before .before .before .before .before .before .loop-test .taken) (c .before .before .before .before .before .before .before .before .before .before .before .loop .values) (c .before .before .before .before .before .before .before .body .last .1 .1 .1 .1 .1 .0) (c .before .before .before .before .m2 .given .0 .0) (rw (c .before .before .before .before .m2 .given .1) at (c .before .before .before .before .before .before .before .body .ensures .0)) (omega (arith, c .before .before .before .before .before .before .before .before .before .before .before .loop .inv .1, c .before .before .before .before .before .before .before .before .before .before .before .before .before .before .before .pre .1 .5)) (omega (arith, c .before .before .before .before .before .before .before .body .ensures .1, c .before .before .before .before .before .before .before .before .before .before .before .loop .inv .2, c .before .before .before .before .before .before .before .before .before .before .before .before .before .before .before .pre .1 .4)) .0), c .copy2 .ensures .1 ∙ c .before .before .before .before .before .before .before .before .before .before .before .loop .inv .1, c .before .before .before .before .before .before .before .body .ensures .1 ∙ c .before .before .before .before .before .before .before .before .before .before .before .loop .inv .2, c .before .before .before .before .before .before .before .before .before .before .before .loop .inv .3)
 
--- src/cycle.rt:150:1  // w values go to the words of `out` from `at` on. ⏎ fn rounds(
+-- src/cycle.rt:149:1  // w values go to the words of `out` from `at` on. ⏎ fn rounds(
 rounds-same-length-3 : (t : ℕ) → rounds-lts.Need-same-length-3 (
   body-below t,
   body.Post,
@@ -2931,7 +2885,7 @@ rounds-same-length-3 : (t : ℕ) → rounds-lts.Need-same-length-3 (
 ) (rounds-at t) rounds.Post rounds-Inv-loop rounds-μ-loop
 rounds-same-length-3 t c = search needs
 
--- src/cycle.rt:150:1  // w values go to the words of `out` from `at` on. ⏎ fn rounds(
+-- src/cycle.rt:149:1  // w values go to the words of `out` from `at` on. ⏎ fn rounds(
 rounds-returns-3 : (t : ℕ) → rounds-lts.Need-returns-3 (
   body-below t,
   body.Post,
@@ -3698,7 +3652,6 @@ pub +body+by-kind+expr+rounds+single-spec : {M : Type 1} → statement M
     (by-kind-enum-told-9 t)
     (by-kind-enum-told-10 t)
     (by-kind-enum-told-11 t)
-    (by-kind-enum-told-12 t)
     (by-kind-same-length t)
     (by-kind-returns t)
     (by-kind-same-length-2 t)
@@ -3719,8 +3672,7 @@ pub +body+by-kind+expr+rounds+single-spec : {M : Type 1} → statement M
     (by-kind-returns-11 t)
     (by-kind-returns-12 t)
     (by-kind-returns-13 t)
-    (by-kind-returns-14 t)
-    (by-kind-returns-15 t))
+    (by-kind-returns-14 t))
     (λ t. expr-lts.spec (
       width-at-reads.Asked,
       width-at-reads.Learnt,

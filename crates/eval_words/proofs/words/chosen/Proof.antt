@@ -1,24 +1,23 @@
-use borrow.Author.Needs.{needs}
+-- The tests, as paths name them:
+--   tie if1  { ⏎ if w == value::bytes::TRUE {
+--   tie if2  } ⏎ if w == value::bytes::FALSE {
 use Rattle.eval_words.proofs.words.chosen.Statement.{statement}
 use Rattle.eval_words.proofs.words.chosen.Tie as tie
 use Rattle.eval_words.proofs.words.chosen.Reads as reads
 use Rattle.eval_words.proofs.words.chosen.Lts as lts
-use Rattle.eval_words.proofs.words.held.Reads as held-reads
-use Rattle.value.proofs.sense_of.Reads as sense-of-reads
-use mathlib.Core.Path.{_≡_, _∙_, ap}
-use Rattle.value.specs.Senses.{sense}
+use Rattle.eval_words.specs.Words.{word-true, word-false, word-neither}
 
--- src/words.rt:90:21  { ⏎ value::sense_of(held(w))
-held-requires : tie.Need-held-requires
-held-requires c κs = search needs
-
--- src/words.rt:90:5  { ⏎ value::sense_of(held(w))
-sense-of-requires : tie.Need-sense-of-requires
-sense-of-requires c κs = search needs
-
--- src/words.rt:87:1  // Which arm of an if the word of its test chooses: the first on true, the second on false. ⏎ pub fn chosen(w: u64) -> Sense
+-- src/words.rt:85:9  if w == value::bytes::TRUE { ⏎ return Sense::True;
 returns : tie.Need-returns
-returns c = c .sense-of .ensures ∙ ap sense (c .before .held .ensures)
+returns c = word-true (c .before .args .w) (c .if1 .taken)
+
+-- src/words.rt:88:9  if w == value::bytes::FALSE { ⏎ return Sense::False;
+returns-2 : tie.Need-returns-2
+returns-2 c = word-false (c .before .before .args .w) (c .if2 .taken)
+
+-- src/words.rt:81:1  // Which arm of an if the word of its test chooses: the first on true, the second on false. ⏎ pub fn chosen(w: u64) -> Sense
+returns-3 : tie.Need-returns-3
+returns-3 c = word-neither (c .before .before .args .w) (c .before .if1 .left) (c .if2 .left)
 
 pub chosen-spec : {M : Type 1} → statement M
-chosen-spec = tie.close (tie.spec held-requires sense-of-requires returns)
+chosen-spec = tie.close (tie.spec returns returns-2 returns-3)

@@ -8,27 +8,27 @@ use Rattle.eval_words.proofs.words.word.Reads as word-reads
 use Rattle.value.proofs.apply_code.Reads as apply-code-reads
 use mathlib.Core.Path.{_≡_, refl, sym, _∙_}
 
--- src/words.rt:48:28  { ⏎ word(value::apply_code(code as u8, held(a), held(b)))
+-- src/words.rt:47:28  { ⏎ word(value::apply_code(code as u8, held(a), held(b)))
 cast-apply-code : tie.Need-cast-apply-code
 cast-apply-code c = search needs
 
--- src/words.rt:48:40  { ⏎ word(value::apply_code(code as u8, held(a), held(b)))
+-- src/words.rt:47:40  { ⏎ word(value::apply_code(code as u8, held(a), held(b)))
 held-requires : tie.Need-held-requires
 held-requires c κs = search needs
 
--- src/words.rt:48:49  { ⏎ word(value::apply_code(code as u8, held(a), held(b)))
+-- src/words.rt:47:49  { ⏎ word(value::apply_code(code as u8, held(a), held(b)))
 held-requires-2 : tie.Need-held-requires-2
 held-requires-2 c κs = search needs
 
--- src/words.rt:48:10  { ⏎ word(value::apply_code(code as u8, held(a), held(b)))
+-- src/words.rt:47:10  { ⏎ word(value::apply_code(code as u8, held(a), held(b)))
 apply-code-requires : tie.Need-apply-code-requires
 apply-code-requires c κs = search needs
 
--- src/words.rt:48:5  { ⏎ word(value::apply_code(code as u8, held(a), held(b)))
+-- src/words.rt:47:5  { ⏎ word(value::apply_code(code as u8, held(a), held(b)))
 word-requires : tie.Need-word-requires
 word-requires c κs = search needs
 
--- src/words.rt:44:1  // A word of the operator of a code on the values of two words. ⏎ pub fn operated(code: u32, a: u64, b: u64) -> u64
+-- src/words.rt:43:1  // A word of the operator of a code on the values of two words. ⏎ pub fn operated(code: u32, a: u64, b: u64) -> u64
 returns : tie.Need-returns
 returns c = rw (sym (c .before .before .before .held .ensures), sym (c .before .before .held2 .ensures), sym (c .before .apply-code .ensures)) (c .word .ensures)
 

@@ -32,11 +32,11 @@ Inv-loop fields n places loops masks returned iterated ends operators₀ i₀ op
 abbrev μ-loop : tie.MeasureT-loop
 μ-loop fields n places loops masks returned iterated ends operators₀ i₀ operators i = n - i
 
--- src/count.rt:256:25  { ⏎ let mut operators = blank::numbers();
+-- src/count.rt:253:25  { ⏎ let mut operators = blank::numbers();
 numbers-requires : tie.Need-numbers-requires Inv-loop μ-loop
 numbers-requires c κs = search needs
 
--- src/count.rt:258:5  let mut i = 0; ⏎ while i < n {
+-- src/count.rt:255:5  let mut i = 0; ⏎ while i < n {
 loop-holds : tie.Need-loop-holds Inv-loop μ-loop
 loop-holds c = (
   omega arith,
@@ -45,27 +45,27 @@ loop-holds c = (
   ap length (c .numbers .ensures) ∙ length-replicate {A = ℕ} 200 0,
 )
 
--- src/count.rt:259:17  while i < n { ⏎ let r = i + 1;
+-- src/count.rt:256:17  while i < n { ⏎ let r = i + 1;
 add-r : tie.Need-add-r Inv-loop μ-loop
 add-r c = search needs
 
--- src/count.rt:260:13  let r = i + 1; ⏎ let s = shape_at(fields, r);
+-- src/count.rt:257:13  let r = i + 1; ⏎ let s = shape_at(fields, r);
 shape-at-requires : tie.Need-shape-at-requires Inv-loop μ-loop
 shape-at-requires c κs = let e = c .before .before .before .before .before .before .before .before .before .before .pre .ready .size in (omega arith, omega (arith, e))
 
--- src/count.rt:264:13  r, ⏎ places[i],
+-- src/count.rt:261:13  r, ⏎ places[i],
 shared-slice-read-own-of : tie.Need-shared-slice-read-own-of Inv-loop μ-loop
 shared-slice-read-own-of c = omega (arith, ready-length (c .before .before .before .before .before .before .before .before .before .before .before .before .args .fields .now) (c .before .before .before .before .before .before .before .before .before .before .before .before .args .n) (c .before .before .before .before .before .before .before .before .before .before .before .before .args .places .now) (c .before .before .before .before .before .before .before .before .before .before .before .before .pre .ready))
 
--- src/count.rt:265:13  places[i], ⏎ width_at(loops, r) as u32,
+-- src/count.rt:262:13  places[i], ⏎ width_at(loops, r) as u32,
 width-at-requires : tie.Need-width-at-requires Inv-loop μ-loop
 width-at-requires c κs = let e = loops-size (c .before .before .before .before .before .before .before .before .before .before .before .before .args .fields .now) (c .before .before .before .before .before .before .before .before .before .before .before .before .args .n) (c .before .before .before .before .before .before .before .before .before .before .before .before .args .places .now) (c .before .before .before .before .before .before .before .before .before .before .before .before .args .loops .now) (c .before .before .before .before .before .before .before .before .before .before .before .before .args .masks .now) (c .before .before .before .before .before .before .before .before .before .before .before .before .args .returned .now) (c .before .before .before .before .before .before .before .before .before .before .before .before .args .iterated .now) (c .before .before .before .before .before .before .before .before .before .before .before .before .args .ends .now) (c .before .before .before .before .before .before .before .before .before .before .before .before .pre) in (omega arith, omega (arith, e))
 
--- src/count.rt:265:13  places[i], ⏎ width_at(loops, r) as u32,
+-- src/count.rt:262:13  places[i], ⏎ width_at(loops, r) as u32,
 cast-own-of : tie.Need-cast-own-of Inv-loop μ-loop
 cast-own-of c = record { fits = omega (arith, c .width-at .ensures .1) }
 
--- src/count.rt:261:13  let s = shape_at(fields, r); ⏎ let own = own_of(
+-- src/count.rt:258:13  let s = shape_at(fields, r); ⏎ let own = own_of(
 own-of-requires : tie.Need-own-of-requires Inv-loop μ-loop
 own-of-requires c κs = (
   subst (λ z. AllBetween (c .before .before .before .before .loop .i + 1) (namedIn z)) (sym (c .before .before .shape-at .ensures)) (c .before .before .before .before .before .before .before .before .before .before .before .before .before .pre .ready .sound .named .names (c .before .before .before .before .loop .i + 1) (omega arith) (omega arith)),
@@ -77,15 +77,15 @@ own-of-requires c κs = (
   omega (arith, c .before .before .before .before .before .before .before .before .before .before .before .before .before .pre .ends-size),
 )
 
--- src/count.rt:271:57  ); ⏎ let total = operators_of(own, named_total(s, r, &operators[..i]));
+-- src/count.rt:268:57  ); ⏎ let total = operators_of(own, named_total(s, r, &operators[..i]));
 array-share-prefix-operators : tie.Need-array-share-prefix-operators Inv-loop μ-loop
 array-share-prefix-operators c = let f = c .before .before .before .before .before .before .before .before .before .before .before .before .before .before .pre .few in omega (arith, f)
 
--- src/count.rt:271:57  ); ⏎ let total = operators_of(own, named_total(s, r, &operators[..i]));
+-- src/count.rt:268:57  ); ⏎ let total = operators_of(own, named_total(s, r, &operators[..i]));
 slice-aggregate-named-total : tie.Need-slice-aggregate-named-total Inv-loop μ-loop
 slice-aggregate-named-total c = let f = c .before .before .before .before .before .before .before .before .before .before .before .before .before .before .before .pre .few in sym (length-take-le (c .before .before .before .before .before .before .loop .i) (c .before .before .before .before .before .before .loop .operators) (omega (arith, f)))
 
--- src/count.rt:271:39  ); ⏎ let total = operators_of(own, named_total(s, r, &operators[..i]));
+-- src/count.rt:268:39  ); ⏎ let total = operators_of(own, named_total(s, r, &operators[..i]));
 named-total-requires : tie.Need-named-total-requires Inv-loop μ-loop
 named-total-requires c κs =
     let f = c .before .before .before .before .before .before .before .before .before .before .before .before .before .before .before .pre .few in (
@@ -94,34 +94,34 @@ named-total-requires c κs =
       λ k. let b = bounded-take 1024 (c .before .before .before .before .before .before .loop .i) (c .before .before .before .before .before .before .loop .operators) (c .before .before .before .before .before .before .loop .inv .2) k in omega arith,
     )
 
--- src/count.rt:271:13  ); ⏎ let total = operators_of(own, named_total(s, r, &operators[..i]));
+-- src/count.rt:268:13  ); ⏎ let total = operators_of(own, named_total(s, r, &operators[..i]));
 operators-of-requires : tie.Need-operators-of-requires Inv-loop μ-loop
 operators-of-requires c κs = (c .before .before .own-of .ensures .1, c .named-total .ensures .1)
 
--- src/count.rt:273:13  if MOST_OPERATORS < total { ⏎ return Total::Over;
+-- src/count.rt:270:13  if MOST_OPERATORS < total { ⏎ return Total::Over;
 returns : tie.Need-returns Inv-loop μ-loop
 returns c =
     let tl = row-told (c .before .before .before .before .before .before .before .before .before .before .before .before .before .before .before .before .before .before .args .fields .now) (c .before .before .before .before .before .before .before .before .before .before .before .before .before .before .before .before .before .before .args .n) (c .before .before .before .before .before .before .before .before .before .before .before .before .before .before .before .before .before .before .args .places .now) (c .before .before .before .before .before .before .before .before .before .before .before .before .before .before .before .before .before .before .args .loops .now) (c .before .before .before .before .before .before .before .before .before .before .before .before .before .before .before .before .before .before .args .masks .now) (c .before .before .before .before .before .before .before .before .before .before .before .before .before .before .before .before .before .before .args .returned .now) (c .before .before .before .before .before .before .before .before .before .before .before .before .before .before .before .before .before .before .args .iterated .now) (c .before .before .before .before .before .before .before .before .before .before .before .before .before .before .before .before .before .before .args .ends .now) (c .before .before .before .before .before .before .before .before .before .before .before .before .before .before .before .before .before .before .pre) (c .before .before .before .before .before .before .before .before .before .loop .i) (c .before .before .before .before .before .before .before .before .loop-test .taken) (take (c .before .before .before .before .before .before .before .before .before .loop .i) (c .before .before .before .before .before .before .before .before .before .loop .operators)) (holds-take 0 (c .before .before .before .before .before .before .before .before .before .loop .operators) (c .before .before .before .before .before .before .before .before .before .loop .i) (λ k. countAt (c .before .before .before .before .before .before .before .before .before .before .before .before .before .before .before .before .before .before .args .fields .now) (c .before .before .before .before .before .before .before .before .before .before .before .before .before .before .before .before .before .before .args .places .now) (c .before .before .before .before .before .before .before .before .before .before .before .before .before .before .before .before .before .before .args .n) k .operators) (c .before .before .before .before .before .before .before .before .before .loop .inv .1)) (c .before .before .before .before .before .before .before .shape-at .result) (c .before .before .before .before .before .before .before .shape-at .ensures) (c .before .before .before .before .own-of .result) (c .before .before .before .before .own-of .ensures .0 ∙ ap (λ v. ownBy (getD (c .before .before .before .before .before .before .before .before .before .before .before .before .before .before .before .before .before .before .args .places .now) (c .before .before .before .before .before .before .before .before .before .loop .i) false) (λ k. getD (c .before .before .before .before .before .before .before .before .before .before .before .before .before .before .before .before .before .before .args .masks .now) (k - 1) 0) (λ k. getD (c .before .before .before .before .before .before .before .before .before .before .before .before .before .before .before .before .before .before .args .returned .now) (k - 1) 0) (λ k. getD (c .before .before .before .before .before .before .before .before .before .before .before .before .before .before .before .before .before .before .args .iterated .now) (k - 1) 0) (λ k. getD (c .before .before .before .before .before .before .before .before .before .before .before .before .before .before .before .before .before .before .args .ends .now) (k - 1) 0) v (c .before .before .before .before .before .before .before .shape-at .result)) (c .before .before .before .before .before .width-at .ensures .0)) in
     let u : countAt (c .before .before .before .before .before .before .before .before .before .before .before .before .before .before .before .before .before .before .args .fields .now) (c .before .before .before .before .before .before .before .before .before .before .before .before .before .before .before .before .before .before .args .places .now) (c .before .before .before .before .before .before .before .before .before .before .before .before .before .before .before .before .before .before .args .n) (c .before .before .before .before .before .before .before .before .before .loop .i + 1) .operators ≡ c .before .operators-of .result = tl .operators-are ∙ ap (λ j. ownOperators (c .before .before .before .before .own-of .result) + j) (sym (c .before .before .named-total .ensures .0)) ∙ sym (c .before .operators-of .ensures) in
     over (c .before .before .before .before .before .before .before .before .before .before .before .before .before .before .before .before .before .before .args .fields .now) (c .before .before .before .before .before .before .before .before .before .before .before .before .before .before .before .before .before .before .args .n) (c .before .before .before .before .before .before .before .before .before .before .before .before .before .before .before .before .before .before .args .places .now) (c .before .before .before .before .before .before .before .before .before .before .before .before .before .before .before .before .before .before .pre .ready) (c .before .before .before .before .before .before .before .before .before .loop .i + 1) (omega arith) (omega arith) (omega (arith, c .if1 .taken))
 
--- src/count.rt:275:9  } ⏎ operators[i] = total;
+-- src/count.rt:272:9  } ⏎ operators[i] = total;
 mul-operators : tie.Need-mul-operators Inv-loop μ-loop
 mul-operators c = search needs
 
--- src/count.rt:275:9  } ⏎ operators[i] = total;
+-- src/count.rt:272:9  } ⏎ operators[i] = total;
 array-write-operators : tie.Need-array-write-operators Inv-loop μ-loop
 array-write-operators c = search needs
 
--- src/count.rt:276:9  operators[i] = total; ⏎ i += 1;
+-- src/count.rt:273:9  operators[i] = total; ⏎ i += 1;
 add-i : tie.Need-add-i Inv-loop μ-loop
 add-i c = search needs
 
--- src/count.rt:258:5  let mut i = 0; ⏎ while i < n {
+-- src/count.rt:255:5  let mut i = 0; ⏎ while i < n {
 loop-less : tie.Need-loop-less Inv-loop μ-loop
 loop-less c = search needs
 
--- src/count.rt:258:5  let mut i = 0; ⏎ while i < n {
+-- src/count.rt:255:5  let mut i = 0; ⏎ while i < n {
 loop-again : tie.Need-loop-again Inv-loop μ-loop
 loop-again c =
     let f = c .before .before .before .before .before .before .before .before .before .before .before .before .before .before .before .before .before .before .pre .few in
@@ -133,19 +133,19 @@ loop-again c =
       length-set (c .before .before .before .before .before .before .before .before .before .loop .operators) (c .before .before .before .before .before .before .before .before .before .loop .i) (c .before .operators-of .result) ∙ c .before .before .before .before .before .before .before .before .before .loop .inv .3,
     )
 
--- src/count.rt:278:29  } ⏎ Total::Within(operators[n - 1])
+-- src/count.rt:275:29  } ⏎ Total::Within(operators[n - 1])
 sub-t24 : tie.Need-sub-t24 Inv-loop μ-loop
 sub-t24 c = search needs
 
--- src/count.rt:278:19  } ⏎ Total::Within(operators[n - 1])
+-- src/count.rt:275:19  } ⏎ Total::Within(operators[n - 1])
 mul-t25 : tie.Need-mul-t25 Inv-loop μ-loop
 mul-t25 c = search needs
 
--- src/count.rt:278:19  } ⏎ Total::Within(operators[n - 1])
+-- src/count.rt:275:19  } ⏎ Total::Within(operators[n - 1])
 array-read-t28 : tie.Need-array-read-t28 Inv-loop μ-loop
 array-read-t28 c = search needs
 
--- src/count.rt:243:1  // The operators of the last row with all below it; the tables have the rows' loop widths, masks, widths and ends. ⏎ fn count_rows(
+-- src/count.rt:240:1  // The operators of the last row with all below it; the tables have the rows' loop widths, masks, widths and ends. ⏎ fn count_rows(
 returns-2 : tie.Need-returns-2 Inv-loop μ-loop
 returns-2 c =
     let e : c .before .loop .i ≡ c .before .before .before .before .before .before .before .before .before .before .args .n = omega arith in

@@ -7,11 +7,11 @@ use Rattle.sheet_fields.proofs.shape.row_number.Reads as row-number-rea
 use borrow.Author.Tests.{ne-eqb}
 use Rattle.formula.specs.Sheet.{shapeOf}
 
--- src/shape.rt:35:26  3 => Shape::Truth(a), ⏎ 4 => Shape::Pair(row_number(a), row_number(b)),
+-- src/shape.rt:35:26  3 => Shape::Constant(kind, a), ⏎ 4 => Shape::Pair(row_number(a), row_number(b)),
 row-number-requires : tie.Need-row-number-requires
 row-number-requires c κs = search needs
 
--- src/shape.rt:35:41  3 => Shape::Truth(a), ⏎ 4 => Shape::Pair(row_number(a), row_number(b)),
+-- src/shape.rt:35:41  3 => Shape::Constant(kind, a), ⏎ 4 => Shape::Pair(row_number(a), row_number(b)),
 row-number-requires-2 : tie.Need-row-number-requires-2
 row-number-requires-2 c κs = search needs
 

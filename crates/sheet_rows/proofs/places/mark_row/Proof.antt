@@ -15,51 +15,51 @@ use Rattle.formula.specs.TreeLaws.{AllBetween, all-between}
 use Rattle.formula.specs.PlaceLaws.{bodies-between}
 use Rattle.sheet_rows.specs.Bodies.{listed}
 
--- src/places.rt:66:9  { ⏎ let bodies = bodies_of(s, in_body);
+-- src/places.rt:65:9  { ⏎ let bodies = bodies_of(s, in_body);
 bodies-of-requires : tie.Need-bodies-of-requires
 bodies-of-requires c κs = search needs
 
 enum-told : tie.Need-enum-told
 enum-told c = search needs
 
--- src/places.rt:69:21  Bodies::None => {} ⏎ Bodies::One(d) => {
+-- src/places.rt:68:21  Bodies::None => {} ⏎ Bodies::One(d) => {
 enum-known-bodies : tie.Need-enum-known-bodies
 enum-known-bodies c = search needs
 
--- src/places.rt:70:13  Bodies::One(d) => { ⏎ mark_one(places, d);
+-- src/places.rt:69:13  Bodies::One(d) => { ⏎ mark_one(places, d);
 mark-one-requires : tie.Need-mark-one-requires
 mark-one-requires c κs = let h = subst (AllBetween (c .before .before .before .before .before .before .args .r)) (sym (c .before .before .before .before .bodies-of .ensures) ∙ ap listed (c .before .before .bodies .given .1)) (bodies-between (c .before .before .before .before .before .before .args .r) (c .before .before .before .before .before .before .args .in-body) (c .before .before .before .before .before .before .args .s) (all-between (c .before .before .before .before .before .before .args .r) (namedIn (c .before .before .before .before .before .before .args .s)) (c .before .before .before .before .before .before .pre .1))) in omega (arith, h .0, c .before .before .before .before .before .before .pre .0)
 
--- src/places.rt:72:21  } ⏎ Bodies::Two(b, c) => {
+-- src/places.rt:71:21  } ⏎ Bodies::Two(b, c) => {
 enum-known-bodies-2 : tie.Need-enum-known-bodies-2
 enum-known-bodies-2 c = search needs
 
--- src/places.rt:73:13  Bodies::Two(b, c) => { ⏎ mark_one(places, b);
+-- src/places.rt:72:13  Bodies::Two(b, c) => { ⏎ mark_one(places, b);
 mark-one-requires-2 : tie.Need-mark-one-requires-2
 mark-one-requires-2 c κs = let h = subst (AllBetween (c .before .before .before .before .before .before .args .r)) (sym (c .before .before .before .before .bodies-of .ensures) ∙ ap listed (c .before .before .bodies2 .given .1)) (bodies-between (c .before .before .before .before .before .before .args .r) (c .before .before .before .before .before .before .args .in-body) (c .before .before .before .before .before .before .args .s) (all-between (c .before .before .before .before .before .before .args .r) (namedIn (c .before .before .before .before .before .before .args .s)) (c .before .before .before .before .before .before .pre .1))) in omega (arith, h .0, c .before .before .before .before .before .before .pre .0)
 
--- src/places.rt:74:13  mark_one(places, b); ⏎ mark_one(places, c);
+-- src/places.rt:73:13  mark_one(places, b); ⏎ mark_one(places, c);
 mark-one-requires-3 : tie.Need-mark-one-requires-3
 mark-one-requires-3 c κs = let h = subst (AllBetween (c .before .before .before .before .before .before .before .before .before .before .args .r)) (sym (c .before .before .before .before .before .before .before .before .bodies-of .ensures) ∙ ap listed (c .before .before .before .before .before .before .bodies2 .given .1)) (bodies-between (c .before .before .before .before .before .before .before .before .before .before .args .r) (c .before .before .before .before .before .before .before .before .before .before .args .in-body) (c .before .before .before .before .before .before .before .before .before .before .args .s) (all-between (c .before .before .before .before .before .before .before .before .before .before .args .r) (namedIn (c .before .before .before .before .before .before .before .before .before .before .args .s)) (c .before .before .before .before .before .before .before .before .before .before .pre .1))) in omega (arith, h .1 .0, c .before .before .before .before .before .before .before .before .before .before .pre .0, c .before .before .before .mark-one2 .kept)
 
--- src/places.rt:62:1  // The rows that row r, of shape s, names in body places. ⏎ fn mark_row(places: &mut [bool], s: Shape, r: usize, in_body: bool)
+-- src/places.rt:61:1  // The rows that row r, of shape s, names in body places. ⏎ fn mark_row(places: &mut [bool], s: Shape, r: usize, in_body: bool)
 returns : tie.Need-returns
 unfolding mark
 returns c = rw (sym (c .before .before .bodies-of .ensures), c .enum-told .given .1) refl
 
--- src/places.rt:62:1  // The rows that row r, of shape s, names in body places. ⏎ fn mark_row(places: &mut [bool], s: Shape, r: usize, in_body: bool)
+-- src/places.rt:61:1  // The rows that row r, of shape s, names in body places. ⏎ fn mark_row(places: &mut [bool], s: Shape, r: usize, in_body: bool)
 same-length : tie.Need-same-length
 same-length c = search needs
 
--- src/places.rt:62:1  // The rows that row r, of shape s, names in body places. ⏎ fn mark_row(places: &mut [bool], s: Shape, r: usize, in_body: bool)
+-- src/places.rt:61:1  // The rows that row r, of shape s, names in body places. ⏎ fn mark_row(places: &mut [bool], s: Shape, r: usize, in_body: bool)
 returns-2 : tie.Need-returns-2
 returns-2 c = rw (sym (c .before .before .before .before .before .before .before .bodies-of .ensures), c .before .before .before .before .before .bodies .given .1) (c .before .before .mark-one .ensures)
 
--- src/places.rt:62:1  // The rows that row r, of shape s, names in body places. ⏎ fn mark_row(places: &mut [bool], s: Shape, r: usize, in_body: bool)
+-- src/places.rt:61:1  // The rows that row r, of shape s, names in body places. ⏎ fn mark_row(places: &mut [bool], s: Shape, r: usize, in_body: bool)
 same-length-2 : tie.Need-same-length-2
 same-length-2 c = search needs
 
--- src/places.rt:62:1  // The rows that row r, of shape s, names in body places. ⏎ fn mark_row(places: &mut [bool], s: Shape, r: usize, in_body: bool)
+-- src/places.rt:61:1  // The rows that row r, of shape s, names in body places. ⏎ fn mark_row(places: &mut [bool], s: Shape, r: usize, in_body: bool)
 returns-3 : tie.Need-returns-3
 unfolding mark
 returns-3 c = rw (sym (c .before .before .before .before .before .before .before .before .before .before .before .bodies-of .ensures), c .before .before .before .before .before .before .before .before .before .bodies2 .given .1) (c .before .before .mark-one3 .ensures ∙ ap (mark (c .before .before .before .before .before .before .before .before .before .bodies2 .given .0 .1 .0 ∷ [])) (c .before .before .before .before .before .before .mark-one2 .ensures))

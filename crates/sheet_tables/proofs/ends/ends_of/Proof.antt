@@ -17,56 +17,52 @@ use Rattle.sheet_tables.specs.Ends.{endsBy}
 enum-told : tie.Need-enum-told
 enum-told c = search needs
 
--- src/ends.rt:49:28  Shape::Identifier(_) => RETURNS, ⏎ Shape::Whole(_) => RETURNS,
+-- src/ends.rt:49:34  Shape::Identifier(_) => RETURNS, ⏎ Shape::Constant(_, _) => RETURNS,
 enum-told-2 : tie.Need-enum-told-2
 enum-told-2 c = search needs
 
--- src/ends.rt:50:28  Shape::Whole(_) => RETURNS, ⏎ Shape::Truth(_) => RETURNS,
+-- src/ends.rt:50:30  Shape::Constant(_, _) => RETURNS, ⏎ Shape::Pair(_, _) => RETURNS,
 enum-told-3 : tie.Need-enum-told-3
 enum-told-3 c = search needs
 
--- src/ends.rt:51:30  Shape::Truth(_) => RETURNS, ⏎ Shape::Pair(_, _) => RETURNS,
+-- src/ends.rt:51:34  Shape::Pair(_, _) => RETURNS, ⏎ Shape::Operator(_, _) => RETURNS,
 enum-told-4 : tie.Need-enum-told-4
 enum-told-4 c = search needs
 
--- src/ends.rt:52:34  Shape::Pair(_, _) => RETURNS, ⏎ Shape::Operator(_, _) => RETURNS,
-enum-told-5 : tie.Need-enum-told-5
-enum-told-5 c = search needs
-
--- src/ends.rt:53:29  Shape::Operator(_, _) => RETURNS, ⏎ Shape::Let(_, _, _, d) => end_at(ends, d),
+-- src/ends.rt:52:29  Shape::Operator(_, _) => RETURNS, ⏎ Shape::Let(_, _, _, d) => end_at(ends, d),
 enum-known-s : tie.Need-enum-known-s
 enum-known-s c = search needs
 
--- src/ends.rt:53:35  Shape::Operator(_, _) => RETURNS, ⏎ Shape::Let(_, _, _, d) => end_at(ends, d),
+-- src/ends.rt:52:35  Shape::Operator(_, _) => RETURNS, ⏎ Shape::Let(_, _, _, d) => end_at(ends, d),
 end-at-requires : tie.Need-end-at-requires
 unfolding namedIn
 end-at-requires c κs = let h = subst (λ z. AllBetween (c .before .before .before .before .args .r) (namedIn z)) (c .before .s .given .1) (c .before .before .before .before .pre .0) in omega (arith, c .before .before .before .before .pre .1)
 
--- src/ends.rt:54:22  Shape::Let(_, _, _, d) => end_at(ends, d), ⏎ Shape::If(_, b, c) => arms_end(end_at(ends, b), end_at(ends, c)),
+-- src/ends.rt:53:22  Shape::Let(_, _, _, d) => end_at(ends, d), ⏎ Shape::If(_, b, c) => arms_end(end_at(ends, b), end_at(ends, c)),
 enum-known-s-2 : tie.Need-enum-known-s-2
 enum-known-s-2 c = search needs
 
--- src/ends.rt:54:40  Shape::Let(_, _, _, d) => end_at(ends, d), ⏎ Shape::If(_, b, c) => arms_end(end_at(ends, b), end_at(ends, c)),
+-- src/ends.rt:53:40  Shape::Let(_, _, _, d) => end_at(ends, d), ⏎ Shape::If(_, b, c) => arms_end(end_at(ends, b), end_at(ends, c)),
 end-at-requires-2 : tie.Need-end-at-requires-2
 unfolding namedIn
 end-at-requires-2 c κs = let h = subst (λ z. AllBetween (c .before .before .before .before .args .r) (namedIn z)) (c .before .s2 .given .1) (c .before .before .before .before .pre .0) in omega (arith, c .before .before .before .before .pre .1)
 
--- src/ends.rt:54:57  Shape::Let(_, _, _, d) => end_at(ends, d), ⏎ Shape::If(_, b, c) => arms_end(end_at(ends, b), end_at(ends, c)),
+-- src/ends.rt:53:57  Shape::Let(_, _, _, d) => end_at(ends, d), ⏎ Shape::If(_, b, c) => arms_end(end_at(ends, b), end_at(ends, c)),
 end-at-requires-3 : tie.Need-end-at-requires-3
 unfolding namedIn
 end-at-requires-3 c κs = let h = subst (λ z. AllBetween (c .before .before .before .before .before .args .r) (namedIn z)) (c .before .before .s2 .given .1) (c .before .before .before .before .before .pre .0) in omega (arith, c .before .before .before .before .before .pre .1)
 
--- src/ends.rt:54:31  Shape::Let(_, _, _, d) => end_at(ends, d), ⏎ Shape::If(_, b, c) => arms_end(end_at(ends, b), end_at(ends, c)),
+-- src/ends.rt:53:31  Shape::Let(_, _, _, d) => end_at(ends, d), ⏎ Shape::If(_, b, c) => arms_end(end_at(ends, b), end_at(ends, c)),
 arms-end-requires : tie.Need-arms-end-requires
 arms-end-requires c κs = search needs
 
--- src/ends.rt:55:35  Shape::If(_, b, c) => arms_end(end_at(ends, b), end_at(ends, c)), ⏎ Shape::For(_, _, _, _) => RETURNS,
+-- src/ends.rt:54:35  Shape::If(_, b, c) => arms_end(end_at(ends, b), end_at(ends, c)), ⏎ Shape::For(_, _, _, _) => RETURNS,
+enum-told-5 : tie.Need-enum-told-5
+enum-told-5 c = search needs
+
+-- src/ends.rt:55:27  Shape::For(_, _, _, _) => RETURNS, ⏎ Shape::Iter(_) => ITERATES,
 enum-told-6 : tie.Need-enum-told-6
 enum-told-6 c = search needs
-
--- src/ends.rt:56:27  Shape::For(_, _, _, _) => RETURNS, ⏎ Shape::Iter(_) => ITERATES,
-enum-told-7 : tie.Need-enum-told-7
-enum-told-7 c = search needs
 
 -- src/ends.rt:43:1  // How row r, of shape s, ends, by the ends of earlier rows. ⏎ fn ends_of(s: Shape, r: usize, ends: &[u8]) -> u8
 returns : tie.Need-returns
@@ -91,27 +87,22 @@ returns-4 c = rw (c .enum-told4 .given .1) refl
 -- src/ends.rt:43:1  // How row r, of shape s, ends, by the ends of earlier rows. ⏎ fn ends_of(s: Shape, r: usize, ends: &[u8]) -> u8
 returns-5 : tie.Need-returns-5
 unfolding endsBy
-returns-5 c = rw (c .enum-told5 .given .1) refl
+returns-5 c = rw (c .before .before .s .given .1, c .end-at .ensures) refl
 
 -- src/ends.rt:43:1  // How row r, of shape s, ends, by the ends of earlier rows. ⏎ fn ends_of(s: Shape, r: usize, ends: &[u8]) -> u8
 returns-6 : tie.Need-returns-6
 unfolding endsBy
-returns-6 c = rw (c .before .before .s .given .1, c .end-at .ensures) refl
+returns-6 c = rw (c .before .before .before .before .s2 .given .1, c .arms-end .ensures, c .before .before .end-at2 .ensures, c .before .end-at3 .ensures) refl
 
 -- src/ends.rt:43:1  // How row r, of shape s, ends, by the ends of earlier rows. ⏎ fn ends_of(s: Shape, r: usize, ends: &[u8]) -> u8
 returns-7 : tie.Need-returns-7
 unfolding endsBy
-returns-7 c = rw (c .before .before .before .before .s2 .given .1, c .arms-end .ensures, c .before .before .end-at2 .ensures, c .before .end-at3 .ensures) refl
+returns-7 c = rw (c .enum-told5 .given .1) refl
 
 -- src/ends.rt:43:1  // How row r, of shape s, ends, by the ends of earlier rows. ⏎ fn ends_of(s: Shape, r: usize, ends: &[u8]) -> u8
 returns-8 : tie.Need-returns-8
 unfolding endsBy
 returns-8 c = rw (c .enum-told6 .given .1) refl
-
--- src/ends.rt:43:1  // How row r, of shape s, ends, by the ends of earlier rows. ⏎ fn ends_of(s: Shape, r: usize, ends: &[u8]) -> u8
-returns-9 : tie.Need-returns-9
-unfolding endsBy
-returns-9 c = rw (c .enum-told7 .given .1) refl
 
 pub ends-of-spec : {M : Type 1} → statement M
 ends-of-spec =
@@ -121,15 +112,14 @@ ends-of-spec =
     enum-told-2
     enum-told-3
     enum-told-4
-    enum-told-5
     enum-known-s
     end-at-requires
     enum-known-s-2
     end-at-requires-2
     end-at-requires-3
     arms-end-requires
+    enum-told-5
     enum-told-6
-    enum-told-7
     returns
     returns-2
     returns-3
@@ -137,5 +127,4 @@ ends-of-spec =
     returns-5
     returns-6
     returns-7
-    returns-8
-    returns-9)
+    returns-8)

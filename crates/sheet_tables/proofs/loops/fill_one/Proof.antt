@@ -6,19 +6,19 @@ use Rattle.sheet_tables.proofs.loops.fill_one.Lts as lts
 use mathlib.Core.Path.{refl}
 use Rattle.sheet_tables.specs.Loops.{fill}
 
--- src/loops.rt:38:11  { ⏎ loops[r - 1] = v;
+-- src/loops.rt:37:11  { ⏎ loops[r - 1] = v;
 sub-loops : tie.Need-sub-loops
 sub-loops c = search needs
 
--- src/loops.rt:38:5  { ⏎ loops[r - 1] = v;
+-- src/loops.rt:37:5  { ⏎ loops[r - 1] = v;
 slice-write-loops : tie.Need-slice-write-loops
 slice-write-loops c = search needs
 
--- src/loops.rt:34:1  } ⏎ fn fill_one(loops: &mut [u8], r: usize, v: u8)
+-- src/loops.rt:33:1  } ⏎ fn fill_one(loops: &mut [u8], r: usize, v: u8)
 same-length : tie.Need-same-length
 same-length c = search needs
 
--- src/loops.rt:34:1  } ⏎ fn fill_one(loops: &mut [u8], r: usize, v: u8)
+-- src/loops.rt:33:1  } ⏎ fn fill_one(loops: &mut [u8], r: usize, v: u8)
 returns : tie.Need-returns
 unfolding fill
 returns c = refl

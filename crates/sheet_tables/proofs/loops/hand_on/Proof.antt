@@ -15,47 +15,43 @@ use Rattle.sheet_tables.specs.Loops.{handed}
 enum-told : tie.Need-enum-told
 enum-told c = search needs
 
--- src/loops.rt:23:28  Shape::Identifier(_) => w, ⏎ Shape::Whole(_) => w,
+-- src/loops.rt:23:34  Shape::Identifier(_) => w, ⏎ Shape::Constant(_, _) => w,
 enum-told-2 : tie.Need-enum-told-2
 enum-told-2 c = search needs
 
--- src/loops.rt:24:28  Shape::Whole(_) => w, ⏎ Shape::Truth(_) => w,
+-- src/loops.rt:24:30  Shape::Constant(_, _) => w, ⏎ Shape::Pair(_, _) => w,
 enum-told-3 : tie.Need-enum-told-3
 enum-told-3 c = search needs
 
--- src/loops.rt:25:30  Shape::Truth(_) => w, ⏎ Shape::Pair(_, _) => w,
+-- src/loops.rt:25:34  Shape::Pair(_, _) => w, ⏎ Shape::Operator(_, _) => w,
 enum-told-4 : tie.Need-enum-told-4
 enum-told-4 c = search needs
 
--- src/loops.rt:26:34  Shape::Pair(_, _) => w, ⏎ Shape::Operator(_, _) => w,
+-- src/loops.rt:26:35  Shape::Operator(_, _) => w, ⏎ Shape::Let(_, _, _, _) => w,
 enum-told-5 : tie.Need-enum-told-5
 enum-told-5 c = search needs
 
--- src/loops.rt:27:35  Shape::Operator(_, _) => w, ⏎ Shape::Let(_, _, _, _) => w,
+-- src/loops.rt:27:31  Shape::Let(_, _, _, _) => w, ⏎ Shape::If(_, _, _) => w,
 enum-told-6 : tie.Need-enum-told-6
 enum-told-6 c = search needs
 
--- src/loops.rt:28:31  Shape::Let(_, _, _, _) => w, ⏎ Shape::If(_, _, _) => w,
-enum-told-7 : tie.Need-enum-told-7
-enum-told-7 c = search needs
-
--- src/loops.rt:29:29  Shape::If(_, _, _) => w, ⏎ Shape::For(_, _, _, d) => returned[d - 1],
+-- src/loops.rt:28:29  Shape::If(_, _, _) => w, ⏎ Shape::For(_, _, _, d) => returned[d - 1],
 enum-known-s : tie.Need-enum-known-s
 enum-known-s c = search needs
 
--- src/loops.rt:29:44  Shape::If(_, _, _) => w, ⏎ Shape::For(_, _, _, d) => returned[d - 1],
+-- src/loops.rt:28:44  Shape::If(_, _, _) => w, ⏎ Shape::For(_, _, _, d) => returned[d - 1],
 sub-result : tie.Need-sub-result
 unfolding namedIn
 sub-result c = let h = subst (λ z. AllBetween (c .before .before .before .args .r) (namedIn z)) (c .before .s .given .1) (c .before .before .before .pre .0) in omega (arith, c .before .before .before .pre .1)
 
--- src/loops.rt:29:35  Shape::If(_, _, _) => w, ⏎ Shape::For(_, _, _, d) => returned[d - 1],
+-- src/loops.rt:28:35  Shape::If(_, _, _) => w, ⏎ Shape::For(_, _, _, d) => returned[d - 1],
 shared-slice-read-result : tie.Need-shared-slice-read-result
 unfolding namedIn
 shared-slice-read-result c = let h = subst (λ z. AllBetween (c .before .before .before .before .args .r) (namedIn z)) (c .before .before .s .given .1) (c .before .before .before .before .pre .0) in omega (arith, c .before .before .before .before .pre .1)
 
--- src/loops.rt:30:27  Shape::For(_, _, _, d) => returned[d - 1], ⏎ Shape::Iter(_) => w,
-enum-told-8 : tie.Need-enum-told-8
-enum-told-8 c = search needs
+-- src/loops.rt:29:27  Shape::For(_, _, _, d) => returned[d - 1], ⏎ Shape::Iter(_) => w,
+enum-told-7 : tie.Need-enum-told-7
+enum-told-7 c = search needs
 
 -- src/loops.rt:17:1  ghost use Rattle.sheet_tables.specs.Loops.{handed, fill, loopsOf}; ⏎ fn hand_on(s: Shape, r: usize, w: u8, returned: &[u8]) -> u8
 returns : tie.Need-returns
@@ -90,17 +86,12 @@ returns-6 c = rw (c .enum-told6 .given .1) refl
 -- src/loops.rt:17:1  ghost use Rattle.sheet_tables.specs.Loops.{handed, fill, loopsOf}; ⏎ fn hand_on(s: Shape, r: usize, w: u8, returned: &[u8]) -> u8
 returns-7 : tie.Need-returns-7
 unfolding handed
-returns-7 c = rw (c .enum-told7 .given .1) refl
+returns-7 c = rw (c .before .before .s .given .1) refl
 
 -- src/loops.rt:17:1  ghost use Rattle.sheet_tables.specs.Loops.{handed, fill, loopsOf}; ⏎ fn hand_on(s: Shape, r: usize, w: u8, returned: &[u8]) -> u8
 returns-8 : tie.Need-returns-8
 unfolding handed
-returns-8 c = rw (c .before .before .s .given .1) refl
-
--- src/loops.rt:17:1  ghost use Rattle.sheet_tables.specs.Loops.{handed, fill, loopsOf}; ⏎ fn hand_on(s: Shape, r: usize, w: u8, returned: &[u8]) -> u8
-returns-9 : tie.Need-returns-9
-unfolding handed
-returns-9 c = rw (c .enum-told8 .given .1) refl
+returns-8 c = rw (c .enum-told7 .given .1) refl
 
 pub hand-on-spec : {M : Type 1} → statement M
 hand-on-spec =
@@ -112,11 +103,10 @@ hand-on-spec =
     enum-told-4
     enum-told-5
     enum-told-6
-    enum-told-7
     enum-known-s
     sub-result
     shared-slice-read-result
-    enum-told-8
+    enum-told-7
     returns
     returns-2
     returns-3
@@ -124,5 +114,4 @@ hand-on-spec =
     returns-5
     returns-6
     returns-7
-    returns-8
-    returns-9)
+    returns-8)

@@ -28,74 +28,74 @@ Inv-loop fields n places masks₀ i₀ masks i = (i ≤ n) × (lowestFrom (i + 1
 abbrev μ-loop : tie.MeasureT-loop
 μ-loop fields n places masks₀ i₀ masks i = n - i
 
--- src/masks.rt:123:5  let mut i = 0; ⏎ while i < n {
+-- src/masks.rt:120:5  let mut i = 0; ⏎ while i < n {
 loop-holds : tie.Need-loop-holds Inv-loop μ-loop
 loop-holds c = (omega arith, starts (c .before .before .before .args .n) 0 (boundWell (c .before .before .before .args .fields .now) (c .before .before .before .args .places .now)), holds-none 0 (c .before .before .before .args .masks .now) 0 (λ k. mask (freeIn (nodeAt (c .before .before .before .args .fields .now) (c .before .before .before .args .places .now) k))), c .before .before .before .pre .1)
 
--- src/masks.rt:124:17  while i < n { ⏎ let r = i + 1;
+-- src/masks.rt:121:17  while i < n { ⏎ let r = i + 1;
 add-r : tie.Need-add-r Inv-loop μ-loop
 add-r c = search needs
 
--- src/masks.rt:125:13  let r = i + 1; ⏎ let s = shape_at(fields, r);
+-- src/masks.rt:122:13  let r = i + 1; ⏎ let s = shape_at(fields, r);
 shape-at-requires : tie.Need-shape-at-requires Inv-loop μ-loop
 shape-at-requires c κs = let e = c .before .before .before .before .before .pre .0 .size in (omega arith, omega (arith, e))
 
--- src/masks.rt:126:30  let s = shape_at(fields, r); ⏎ if !bound_well(s, r, &masks[..i]) {
+-- src/masks.rt:123:30  let s = shape_at(fields, r); ⏎ if !bound_well(s, r, &masks[..i]) {
 slice-reshare-prefix-bound-well : tie.Need-slice-reshare-prefix-bound-well Inv-loop μ-loop
 slice-reshare-prefix-bound-well c = omega arith
 
--- src/masks.rt:126:30  let s = shape_at(fields, r); ⏎ if !bound_well(s, r, &masks[..i]) {
+-- src/masks.rt:123:30  let s = shape_at(fields, r); ⏎ if !bound_well(s, r, &masks[..i]) {
 slice-aggregate-bound-well : tie.Need-slice-aggregate-bound-well Inv-loop μ-loop
 slice-aggregate-bound-well c = sym (length-take-le (c .before .before .before .loop .i) (c .before .before .before .loop .masks) (omega arith))
 
--- src/masks.rt:126:13  let s = shape_at(fields, r); ⏎ if !bound_well(s, r, &masks[..i]) {
+-- src/masks.rt:123:13  let s = shape_at(fields, r); ⏎ if !bound_well(s, r, &masks[..i]) {
 bound-well-requires : tie.Need-bound-well-requires Inv-loop μ-loop
 bound-well-requires c κs = (names-of (c .before .before .before .before .before .before .before .args .fields .now) (c .before .before .before .before .before .before .before .args .n) (c .before .before .before .before .before .before .before .args .places .now) (c .before .before .before .before .before .before .before .pre .0) (c .before .before .before .loop .i) (c .before .before .loop-test .taken) (take (c .before .before .before .loop .i) (c .before .before .before .loop .masks)) (holds-take 0 (c .before .before .before .loop .masks) (c .before .before .before .loop .i) (λ k. mask (freeIn (nodeAt (c .before .before .before .before .before .before .before .args .fields .now) (c .before .before .before .before .before .before .before .args .places .now) k))) (c .before .before .before .loop .inv .2)) (c .before .shape-at .result) (c .before .shape-at .ensures), ranged-of (c .before .before .before .before .before .before .before .args .fields .now) (c .before .before .before .before .before .before .before .args .n) (c .before .before .before .before .before .before .before .args .places .now) (c .before .before .before .before .before .before .before .pre .0) (c .before .before .before .loop .i) (c .before .before .loop-test .taken) (take (c .before .before .before .loop .i) (c .before .before .before .loop .masks)) (holds-take 0 (c .before .before .before .loop .masks) (c .before .before .before .loop .i) (λ k. mask (freeIn (nodeAt (c .before .before .before .before .before .before .before .args .fields .now) (c .before .before .before .before .before .before .before .args .places .now) k))) (c .before .before .before .loop .inv .2)) (c .before .shape-at .result) (c .before .shape-at .ensures), omega (arith, length-take-le (c .before .before .before .loop .i) (c .before .before .before .loop .masks) (omega arith)))
 
--- src/masks.rt:127:13  if !bound_well(s, r, &masks[..i]) { ⏎ return Check::Fault(r);
+-- src/masks.rt:124:13  if !bound_well(s, r, &masks[..i]) { ⏎ return Check::Fault(r);
 same-length : tie.Need-same-length Inv-loop μ-loop
 same-length c = c .before .before .before .before .before .loop .inv .3 ∙ sym (c .before .before .before .before .before .before .before .before .before .pre .1)
 
--- src/masks.rt:127:13  if !bound_well(s, r, &masks[..i]) { ⏎ return Check::Fault(r);
+-- src/masks.rt:124:13  if !bound_well(s, r, &masks[..i]) { ⏎ return Check::Fault(r);
 returns : tie.Need-returns Inv-loop μ-loop
 returns c = (
   sym (stops (c .before .before .before .before .before .before .before .before .before .args .n) (c .before .before .before .before .before .loop .i) (boundWell (c .before .before .before .before .before .before .before .before .before .args .fields .now) (c .before .before .before .before .before .before .before .before .before .args .places .now)) (c .before .before .before .before .loop-test .taken) (row-bound (c .before .before .before .before .before .before .before .before .before .args .fields .now) (c .before .before .before .before .before .before .before .before .before .args .n) (c .before .before .before .before .before .before .before .before .before .args .places .now) (c .before .before .before .before .before .before .before .before .before .pre .0) (c .before .before .before .before .before .loop .i) (c .before .before .before .before .loop-test .taken) (take (c .before .before .before .before .before .loop .i) (c .before .before .before .before .before .loop .masks)) (holds-take 0 (c .before .before .before .before .before .loop .masks) (c .before .before .before .before .before .loop .i) (λ k. mask (freeIn (nodeAt (c .before .before .before .before .before .before .before .before .before .args .fields .now) (c .before .before .before .before .before .before .before .before .before .args .places .now) k))) (c .before .before .before .before .before .loop .inv .2)) (c .before .before .before .shape-at .result) (c .before .before .before .shape-at .ensures) ∙ sym (c .before .bound-well .ensures) ∙ not-true (c .before .bound-well .result) (c .if1 .taken))) ∙ c .before .before .before .before .before .loop .inv .1,
   λ q. absurd (let z : _≡_ {A = ℕ} 0 1 = cc q in omega arith),
 )
 
--- src/masks.rt:129:34  } ⏎ masks[i] = mask_of(s, r, places[i], &masks[..i]);
+-- src/masks.rt:126:34  } ⏎ masks[i] = mask_of(s, r, places[i], &masks[..i]);
 shared-slice-read-mask-of : tie.Need-shared-slice-read-mask-of Inv-loop μ-loop
 shared-slice-read-mask-of c = omega (arith, ready-length (c .before .before .before .before .before .before .before .before .before .before .args .fields .now) (c .before .before .before .before .before .before .before .before .before .before .args .n) (c .before .before .before .before .before .before .before .before .before .before .args .places .now) (c .before .before .before .before .before .before .before .before .before .before .pre .0))
 
--- src/masks.rt:129:45  } ⏎ masks[i] = mask_of(s, r, places[i], &masks[..i]);
+-- src/masks.rt:126:45  } ⏎ masks[i] = mask_of(s, r, places[i], &masks[..i]);
 slice-reshare-prefix-mask-of : tie.Need-slice-reshare-prefix-mask-of Inv-loop μ-loop
 slice-reshare-prefix-mask-of c = omega arith
 
--- src/masks.rt:129:45  } ⏎ masks[i] = mask_of(s, r, places[i], &masks[..i]);
+-- src/masks.rt:126:45  } ⏎ masks[i] = mask_of(s, r, places[i], &masks[..i]);
 slice-aggregate-mask-of : tie.Need-slice-aggregate-mask-of Inv-loop μ-loop
 slice-aggregate-mask-of c = sym (length-take-le (c .before .before .before .before .before .before .before .loop .i) (c .before .before .before .before .before .before .before .loop .masks) (omega arith))
 
--- src/masks.rt:129:20  } ⏎ masks[i] = mask_of(s, r, places[i], &masks[..i]);
+-- src/masks.rt:126:20  } ⏎ masks[i] = mask_of(s, r, places[i], &masks[..i]);
 mask-of-requires : tie.Need-mask-of-requires Inv-loop μ-loop
 mask-of-requires c κs = (names-of (c .before .before .before .before .before .before .before .before .before .before .before .args .fields .now) (c .before .before .before .before .before .before .before .before .before .before .before .args .n) (c .before .before .before .before .before .before .before .before .before .before .before .args .places .now) (c .before .before .before .before .before .before .before .before .before .before .before .pre .0) (c .before .before .before .before .before .before .before .loop .i) (c .before .before .before .before .before .before .loop-test .taken) (take (c .before .before .before .before .before .before .before .loop .i) (c .before .before .before .before .before .before .before .loop .masks)) (holds-take 0 (c .before .before .before .before .before .before .before .loop .masks) (c .before .before .before .before .before .before .before .loop .i) (λ k. mask (freeIn (nodeAt (c .before .before .before .before .before .before .before .before .before .before .before .args .fields .now) (c .before .before .before .before .before .before .before .before .before .before .before .args .places .now) k))) (c .before .before .before .before .before .before .before .loop .inv .2)) (c .before .before .before .before .before .shape-at .result) (c .before .before .before .before .before .shape-at .ensures), ranged-of (c .before .before .before .before .before .before .before .before .before .before .before .args .fields .now) (c .before .before .before .before .before .before .before .before .before .before .before .args .n) (c .before .before .before .before .before .before .before .before .before .before .before .args .places .now) (c .before .before .before .before .before .before .before .before .before .before .before .pre .0) (c .before .before .before .before .before .before .before .loop .i) (c .before .before .before .before .before .before .loop-test .taken) (take (c .before .before .before .before .before .before .before .loop .i) (c .before .before .before .before .before .before .before .loop .masks)) (holds-take 0 (c .before .before .before .before .before .before .before .loop .masks) (c .before .before .before .before .before .before .before .loop .i) (λ k. mask (freeIn (nodeAt (c .before .before .before .before .before .before .before .before .before .before .before .args .fields .now) (c .before .before .before .before .before .before .before .before .before .before .before .args .places .now) k))) (c .before .before .before .before .before .before .before .loop .inv .2)) (c .before .before .before .before .before .shape-at .result) (c .before .before .before .before .before .shape-at .ensures), omega (arith, length-take-le (c .before .before .before .before .before .before .before .loop .i) (c .before .before .before .before .before .before .before .loop .masks) (omega arith)))
 
--- src/masks.rt:129:9  } ⏎ masks[i] = mask_of(s, r, places[i], &masks[..i]);
+-- src/masks.rt:126:9  } ⏎ masks[i] = mask_of(s, r, places[i], &masks[..i]);
 mul-masks : tie.Need-mul-masks Inv-loop μ-loop
 mul-masks c = search needs
 
--- src/masks.rt:129:9  } ⏎ masks[i] = mask_of(s, r, places[i], &masks[..i]);
+-- src/masks.rt:126:9  } ⏎ masks[i] = mask_of(s, r, places[i], &masks[..i]);
 slice-write-masks : tie.Need-slice-write-masks Inv-loop μ-loop
 slice-write-masks c = omega arith
 
--- src/masks.rt:130:9  masks[i] = mask_of(s, r, places[i], &masks[..i]); ⏎ i += 1;
+-- src/masks.rt:127:9  masks[i] = mask_of(s, r, places[i], &masks[..i]); ⏎ i += 1;
 add-i : tie.Need-add-i Inv-loop μ-loop
 add-i c = search needs
 
--- src/masks.rt:123:5  let mut i = 0; ⏎ while i < n {
+-- src/masks.rt:120:5  let mut i = 0; ⏎ while i < n {
 loop-less : tie.Need-loop-less Inv-loop μ-loop
 loop-less c = search needs
 
--- src/masks.rt:123:5  let mut i = 0; ⏎ while i < n {
+-- src/masks.rt:120:5  let mut i = 0; ⏎ while i < n {
 loop-again : tie.Need-loop-again Inv-loop μ-loop
 loop-again c = (
   omega arith,
@@ -104,11 +104,11 @@ loop-again c = (
   length-set (c .before .before .before .before .before .before .before .before .loop .masks) (c .before .before .before .before .before .before .before .before .loop .i) (c .mask-of .result) ∙ c .before .before .before .before .before .before .before .before .loop .inv .3,
 )
 
--- src/masks.rt:117:1  // Test 9. The rows before the first fault have their masks in the table. ⏎ pub fn test_bound(fields: &[u32], n: usize, places: &[bool], masks: &mut [u64]) -> Check
+-- src/masks.rt:114:1  // Test 9. The rows before the first fault have their masks in the table. ⏎ pub fn test_bound(fields: &[u32], n: usize, places: &[bool], masks: &mut [u64]) -> Check
 same-length-2 : tie.Need-same-length-2 Inv-loop μ-loop
 same-length-2 c = c .before .loop .inv .3 ∙ sym (c .before .before .before .before .before .pre .1)
 
--- src/masks.rt:117:1  // Test 9. The rows before the first fault have their masks in the table. ⏎ pub fn test_bound(fields: &[u32], n: usize, places: &[bool], masks: &mut [u64]) -> Check
+-- src/masks.rt:114:1  // Test 9. The rows before the first fault have their masks in the table. ⏎ pub fn test_bound(fields: &[u32], n: usize, places: &[bool], masks: &mut [u64]) -> Check
 returns-2 : tie.Need-returns-2 Inv-loop μ-loop
 returns-2 c =
     let e : c .before .loop .i ≡ c .before .before .before .before .before .args .n = omega arith in (

@@ -29,39 +29,39 @@ Inv-loop fields n places returned₀ iterated₀ i₀ returned iterated i = (i �
 abbrev μ-loop : tie.MeasureT-loop
 μ-loop fields n places returned₀ iterated₀ i₀ returned iterated i = n - i
 
--- src/widths.rt:168:5  let mut i = 0; ⏎ while i < n {
+-- src/widths.rt:167:5  let mut i = 0; ⏎ while i < n {
 loop-holds : tie.Need-loop-holds Inv-loop μ-loop
 loop-holds c = (omega arith, starts (c .before .before .before .before .args .n) 0 (widthsWell (c .before .before .before .before .args .fields .now) (c .before .before .before .before .args .places .now)), holds-none 0 (c .before .before .before .before .args .returned .now) 0 (λ k. returnedIn (nodeAt (c .before .before .before .before .args .fields .now) (c .before .before .before .before .args .places .now) k)), holds-none 0 (c .before .before .before .before .args .iterated .now) 0 (λ k. iteratedIn (nodeAt (c .before .before .before .before .args .fields .now) (c .before .before .before .before .args .places .now) k)), c .before .before .before .before .pre .1, c .before .before .before .before .pre .2)
 
--- src/widths.rt:169:17  while i < n { ⏎ let r = i + 1;
+-- src/widths.rt:168:17  while i < n { ⏎ let r = i + 1;
 add-r : tie.Need-add-r Inv-loop μ-loop
 add-r c = search needs
 
--- src/widths.rt:171:13  let w = widths_of( ⏎ shape_at(fields, r),
+-- src/widths.rt:170:13  let w = widths_of( ⏎ shape_at(fields, r),
 shape-at-requires : tie.Need-shape-at-requires Inv-loop μ-loop
 shape-at-requires c κs = let e = c .before .before .before .before .before .before .pre .0 .size in (omega arith, omega (arith, e))
 
--- src/widths.rt:173:13  r, ⏎ places[i],
+-- src/widths.rt:172:13  r, ⏎ places[i],
 shared-slice-read-widths-of : tie.Need-shared-slice-read-widths-of Inv-loop μ-loop
 shared-slice-read-widths-of c = omega (arith, ready-length (c .before .before .before .before .before .before .before .before .args .fields .now) (c .before .before .before .before .before .before .before .before .args .n) (c .before .before .before .before .before .before .before .before .args .places .now) (c .before .before .before .before .before .before .before .before .pre .0))
 
--- src/widths.rt:174:13  places[i], ⏎ &returned[..i],
+-- src/widths.rt:173:13  places[i], ⏎ &returned[..i],
 slice-reshare-prefix-widths-of : tie.Need-slice-reshare-prefix-widths-of Inv-loop μ-loop
 slice-reshare-prefix-widths-of c = omega arith
 
--- src/widths.rt:174:13  places[i], ⏎ &returned[..i],
+-- src/widths.rt:173:13  places[i], ⏎ &returned[..i],
 slice-aggregate-widths-of : tie.Need-slice-aggregate-widths-of Inv-loop μ-loop
 slice-aggregate-widths-of c = sym (length-take-le (c .before .before .before .before .loop .i) (c .before .before .before .before .loop .returned) (omega arith))
 
--- src/widths.rt:175:13  &returned[..i], ⏎ &iterated[..i],
+-- src/widths.rt:174:13  &returned[..i], ⏎ &iterated[..i],
 slice-reshare-prefix-widths-of-2 : tie.Need-slice-reshare-prefix-widths-of-2 Inv-loop μ-loop
 slice-reshare-prefix-widths-of-2 c = omega arith
 
--- src/widths.rt:175:13  &returned[..i], ⏎ &iterated[..i],
+-- src/widths.rt:174:13  &returned[..i], ⏎ &iterated[..i],
 slice-aggregate-widths-of-2 : tie.Need-slice-aggregate-widths-of-2 Inv-loop μ-loop
 slice-aggregate-widths-of-2 c = sym (length-take-le (c .before .before .before .before .before .loop .i) (c .before .before .before .before .before .loop .iterated) (omega arith))
 
--- src/widths.rt:170:13  let r = i + 1; ⏎ let w = widths_of(
+-- src/widths.rt:169:13  let r = i + 1; ⏎ let w = widths_of(
 widths-of-requires : tie.Need-widths-of-requires Inv-loop μ-loop
 widths-of-requires c κs = (
   subst (λ z. AllBetween (c .before .before .before .before .before .loop .i + 1) (namedIn z)) (sym (c .before .before .before .shape-at .ensures)) (c .before .before .before .before .before .before .before .before .before .before .pre .0 .sound .named .names (c .before .before .before .before .before .loop .i + 1) (omega arith) (omega arith)),
@@ -69,19 +69,19 @@ widths-of-requires c κs = (
   omega (arith, length-take-le (c .before .before .before .before .before .loop .i) (c .before .before .before .before .before .loop .iterated) (omega arith)),
 )
 
--- src/widths.rt:177:13  ); ⏎ if !widths_well(w) {
+-- src/widths.rt:176:13  ); ⏎ if !widths_well(w) {
 widths-well-requires : tie.Need-widths-well-requires Inv-loop μ-loop
 widths-well-requires c κs = search needs
 
--- src/widths.rt:178:13  if !widths_well(w) { ⏎ return Check::Fault(r);
+-- src/widths.rt:177:13  if !widths_well(w) { ⏎ return Check::Fault(r);
 same-length : tie.Need-same-length Inv-loop μ-loop
 same-length c = c .before .before .before .before .before .before .before .before .loop .inv .4 ∙ sym (c .before .before .before .before .before .before .before .before .before .before .before .before .before .pre .1)
 
--- src/widths.rt:178:13  if !widths_well(w) { ⏎ return Check::Fault(r);
+-- src/widths.rt:177:13  if !widths_well(w) { ⏎ return Check::Fault(r);
 same-length-2 : tie.Need-same-length-2 Inv-loop μ-loop
 same-length-2 c = c .before .before .before .before .before .before .before .before .loop .inv .5 ∙ sym (c .before .before .before .before .before .before .before .before .before .before .before .before .before .pre .2)
 
--- src/widths.rt:178:13  if !widths_well(w) { ⏎ return Check::Fault(r);
+-- src/widths.rt:177:13  if !widths_well(w) { ⏎ return Check::Fault(r);
 returns : tie.Need-returns Inv-loop μ-loop
 returns c =
     let tl = row-told (c .before .before .before .before .before .before .before .before .before .before .before .before .before .args .fields .now) (c .before .before .before .before .before .before .before .before .before .before .before .before .before .args .n) (c .before .before .before .before .before .before .before .before .before .before .before .before .before .args .places .now) (c .before .before .before .before .before .before .before .before .before .before .before .before .before .pre .0) (c .before .before .before .before .before .before .before .before .loop .i) (c .before .before .before .before .before .before .before .loop-test .taken) (take (c .before .before .before .before .before .before .before .before .loop .i) (c .before .before .before .before .before .before .before .before .loop .returned)) (take (c .before .before .before .before .before .before .before .before .loop .i) (c .before .before .before .before .before .before .before .before .loop .iterated)) (holds-take 0 (c .before .before .before .before .before .before .before .before .loop .returned) (c .before .before .before .before .before .before .before .before .loop .i) (λ k. returnedIn (nodeAt (c .before .before .before .before .before .before .before .before .before .before .before .before .before .args .fields .now) (c .before .before .before .before .before .before .before .before .before .before .before .before .before .args .places .now) k)) (c .before .before .before .before .before .before .before .before .loop .inv .2)) (holds-take 0 (c .before .before .before .before .before .before .before .before .loop .iterated) (c .before .before .before .before .before .before .before .before .loop .i) (λ k. iteratedIn (nodeAt (c .before .before .before .before .before .before .before .before .before .before .before .before .before .args .fields .now) (c .before .before .before .before .before .before .before .before .before .before .before .before .before .args .places .now) k)) (c .before .before .before .before .before .before .before .before .loop .inv .3)) (c .before .before .before .before .before .before .shape-at .result) (c .before .before .before .before .before .before .shape-at .ensures) (c .before .before .widths-of .result) (c .before .before .widths-of .ensures) in
@@ -90,37 +90,37 @@ returns c =
       λ q. absurd (let z : _≡_ {A = ℕ} 0 1 = cc q in omega arith),
     )
 
--- src/widths.rt:180:23  } ⏎ returned[i] = w.returned as u8;
+-- src/widths.rt:179:23  } ⏎ returned[i] = w.returned as u8;
 cast-returned : tie.Need-cast-returned Inv-loop μ-loop
 cast-returned c =
     let h = well-bounds (c .before .before .before .widths-of .result) (sym (c .before .before .widths-well .ensures) ∙ not-false (c .before .before .widths-well .result) (c .before .if1 .left)) in
     let k : c .before .before .before .widths-of .result .returned < 2 ^ 8 = omega arith in
     record { fits = k }
 
--- src/widths.rt:180:9  } ⏎ returned[i] = w.returned as u8;
+-- src/widths.rt:179:9  } ⏎ returned[i] = w.returned as u8;
 slice-write-returned : tie.Need-slice-write-returned Inv-loop μ-loop
 slice-write-returned c = omega arith
 
--- src/widths.rt:181:23  returned[i] = w.returned as u8; ⏎ iterated[i] = w.iterated as u8;
+-- src/widths.rt:180:23  returned[i] = w.returned as u8; ⏎ iterated[i] = w.iterated as u8;
 cast-iterated : tie.Need-cast-iterated Inv-loop μ-loop
 cast-iterated c =
     let h = well-bounds (c .before .before .before .before .widths-of .result) (sym (c .before .before .before .widths-well .ensures) ∙ not-false (c .before .before .before .widths-well .result) (c .before .before .if1 .left)) in
     let k : c .before .before .before .before .widths-of .result .iterated < 2 ^ 8 = omega arith in
     record { fits = k }
 
--- src/widths.rt:181:9  returned[i] = w.returned as u8; ⏎ iterated[i] = w.iterated as u8;
+-- src/widths.rt:180:9  returned[i] = w.returned as u8; ⏎ iterated[i] = w.iterated as u8;
 slice-write-iterated : tie.Need-slice-write-iterated Inv-loop μ-loop
 slice-write-iterated c = omega arith
 
--- src/widths.rt:182:9  iterated[i] = w.iterated as u8; ⏎ i += 1;
+-- src/widths.rt:181:9  iterated[i] = w.iterated as u8; ⏎ i += 1;
 add-i : tie.Need-add-i Inv-loop μ-loop
 add-i c = search needs
 
--- src/widths.rt:168:5  let mut i = 0; ⏎ while i < n {
+-- src/widths.rt:167:5  let mut i = 0; ⏎ while i < n {
 loop-less : tie.Need-loop-less Inv-loop μ-loop
 loop-less c = search needs
 
--- src/widths.rt:168:5  let mut i = 0; ⏎ while i < n {
+-- src/widths.rt:167:5  let mut i = 0; ⏎ while i < n {
 loop-again : tie.Need-loop-again Inv-loop μ-loop
 loop-again c =
     let tl = row-told (c .before .before .before .before .before .before .before .before .before .before .before .before .before .before .before .args .fields .now) (c .before .before .before .before .before .before .before .before .before .before .before .before .before .before .before .args .n) (c .before .before .before .before .before .before .before .before .before .before .before .before .before .before .before .args .places .now) (c .before .before .before .before .before .before .before .before .before .before .before .before .before .before .before .pre .0) (c .before .before .before .before .before .before .before .before .before .before .loop .i) (c .before .before .before .before .before .before .before .before .before .loop-test .taken) (take (c .before .before .before .before .before .before .before .before .before .before .loop .i) (c .before .before .before .before .before .before .before .before .before .before .loop .returned)) (take (c .before .before .before .before .before .before .before .before .before .before .loop .i) (c .before .before .before .before .before .before .before .before .before .before .loop .iterated)) (holds-take 0 (c .before .before .before .before .before .before .before .before .before .before .loop .returned) (c .before .before .before .before .before .before .before .before .before .before .loop .i) (λ k. returnedIn (nodeAt (c .before .before .before .before .before .before .before .before .before .before .before .before .before .before .before .args .fields .now) (c .before .before .before .before .before .before .before .before .before .before .before .before .before .before .before .args .places .now) k)) (c .before .before .before .before .before .before .before .before .before .before .loop .inv .2)) (holds-take 0 (c .before .before .before .before .before .before .before .before .before .before .loop .iterated) (c .before .before .before .before .before .before .before .before .before .before .loop .i) (λ k. iteratedIn (nodeAt (c .before .before .before .before .before .before .before .before .before .before .before .before .before .before .before .args .fields .now) (c .before .before .before .before .before .before .before .before .before .before .before .before .before .before .before .args .places .now) k)) (c .before .before .before .before .before .before .before .before .before .before .loop .inv .3)) (c .before .before .before .before .before .before .before .before .shape-at .result) (c .before .before .before .before .before .before .before .before .shape-at .ensures) (c .before .before .before .before .widths-of .result) (c .before .before .before .before .widths-of .ensures) in
@@ -133,15 +133,15 @@ loop-again c =
       length-set (c .before .before .before .before .before .before .before .before .before .before .loop .iterated) (c .before .before .before .before .before .before .before .before .before .before .loop .i) (c .before .before .before .before .widths-of .result .iterated) ∙ c .before .before .before .before .before .before .before .before .before .before .loop .inv .5,
     )
 
--- src/widths.rt:156:1  // Test 8. The rows before the first fault have their widths in the tables. ⏎ pub fn test_widths(
+-- src/widths.rt:155:1  // Test 8. The rows before the first fault have their widths in the tables. ⏎ pub fn test_widths(
 same-length-3 : tie.Need-same-length-3 Inv-loop μ-loop
 same-length-3 c = c .before .loop .inv .4 ∙ sym (c .before .before .before .before .before .before .pre .1)
 
--- src/widths.rt:156:1  // Test 8. The rows before the first fault have their widths in the tables. ⏎ pub fn test_widths(
+-- src/widths.rt:155:1  // Test 8. The rows before the first fault have their widths in the tables. ⏎ pub fn test_widths(
 same-length-4 : tie.Need-same-length-4 Inv-loop μ-loop
 same-length-4 c = c .before .loop .inv .5 ∙ sym (c .before .before .before .before .before .before .pre .2)
 
--- src/widths.rt:156:1  // Test 8. The rows before the first fault have their widths in the tables. ⏎ pub fn test_widths(
+-- src/widths.rt:155:1  // Test 8. The rows before the first fault have their widths in the tables. ⏎ pub fn test_widths(
 returns-2 : tie.Need-returns-2 Inv-loop μ-loop
 returns-2 c =
     let e : c .before .loop .i ≡ c .before .before .before .before .before .before .args .n = omega arith in (

@@ -7,15 +7,15 @@ use Rattle.sheet_tables.proofs.widths.widths_well.Reads as reads
 use Rattle.sheet_tables.proofs.widths.widths_well.Lts as lts
 use borrow.Author.Tests.{lt-leb, le-leb}
 
--- src/widths.rt:147:9  if WIDEST < w.iterated { ⏎ return false;
+-- src/widths.rt:146:9  if WIDEST < w.iterated { ⏎ return false;
 returns : tie.Need-returns
 returns c = simp (lt-leb (c .before .before .args .w .iterated) 16 (c .if1 .taken))
 
--- src/widths.rt:150:9  if WIDEST < w.returned { ⏎ return false;
+-- src/widths.rt:149:9  if WIDEST < w.returned { ⏎ return false;
 returns-2 : tie.Need-returns-2
 returns-2 c = simp (le-leb (c .before .before .before .before .args .w .iterated) 16 (c .before .before .if1 .left), lt-leb (c .before .before .before .before .args .w .returned) 16 (c .if2 .taken))
 
--- src/widths.rt:143:1  // Test 8 of a row's widths. ⏎ fn widths_well(w: Widths) -> bool
+-- src/widths.rt:142:1  // Test 8 of a row's widths. ⏎ fn widths_well(w: Widths) -> bool
 returns-3 : tie.Need-returns-3
 returns-3 c = simp (le-leb (c .before .before .before .before .args .w .iterated) 16 (c .before .before .if1 .left), le-leb (c .before .before .before .before .args .w .returned) 16 (c .if2 .left))
 
