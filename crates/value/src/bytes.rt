@@ -1,13 +1,14 @@
 // The byte form of a value (specs/Bytes): five bytes, read and written as one word below 2^40.
 // Tokens in memory and the sets that the firmware lends have this form. Assumes of a place that five bytes lie there.
 use crate::Decoded;
+use crate::Reason;
 use crate::Value;
 ghost use mathlib.Core.Path.{_≡_};
 ghost use Prim.Native.Nat.{ℕ, _+_, _*_, _≤_, _<_};
 ghost use lib.ListN.{length};
 ghost use mir.Syntax.{w32};
 ghost use mir.Val.{toZ, ofZ};
-ghost use Rattle.value.specs.Bytes.{InRange, wordOf, valueOf, decoded, isSome, wordOr, wordAt, stored, wholeOf, truthOf, errOf};
+ghost use Rattle.value.specs.Bytes.{InRange, wordOf, valueOf, decoded, isSome, wordOr, wordAt, stored, reasonBits, wholeOf, truthOf, errOf};
 
 // The words of no token, true, false and the plain err.
 pub const NONE: u64 = 0;
@@ -39,6 +40,16 @@ fn bits_of(z: i32) -> u32
     4294967295 - low
 }
 
+fn reason_bits(r: Reason) -> u64
+    ensures { λ n. ⌜ n ≡ reasonBits r ⌝ }
+{
+    match r {
+        Reason::Other => 0,
+        Reason::ZeroDivisor => 1,
+        Reason::OutOfRange => 2,
+    }
+}
+
 // The word of a value; and whoever hands in a value learns that it is in range.
 pub fn to_word(v: Value) -> u64
     ensures { λ r. ⌜ (r ≡ wordOf v) × InRange v ⌝ }
@@ -51,7 +62,7 @@ pub fn to_word(v: Value) -> u64
             }
             2
         }
-        Value::Err => 3,
+        Value::Err(r) => 3 + 256 * reason_bits(r),
     }
 }
 
@@ -79,10 +90,12 @@ fn from_truth(bits: u64) -> Decoded
 fn from_err(bits: u64) -> Decoded
     ensures { λ r. ⌜ r ≡ decoded (errOf bits) ⌝ }
 {
-    if bits == 0 {
-        return Decoded::Valid(Value::Err);
+    match bits {
+        0 => Decoded::Valid(Value::Err(Reason::Other)),
+        1 => Decoded::Valid(Value::Err(Reason::ZeroDivisor)),
+        2 => Decoded::Valid(Value::Err(Reason::OutOfRange)),
+        _ => Decoded::Invalid,
     }
-    Decoded::Invalid
 }
 
 // The value that a word is the byte form of, or none.
@@ -107,7 +120,7 @@ pub fn is_value(w: u64) -> bool
     match w % 256 {
         1 => bits < 4294967296,
         2 => bits < 2,
-        3 => bits == 0,
+        3 => bits < 3,
         _ => false,
     }
 }
