@@ -36,111 +36,111 @@ abbrev greatest : Value
 greatest = Whole (pos 2147483647)
 
 -- the errs by their letters
-abbrev E : Value
-E = Err Other
+abbrev errE : Value
+errE = Err Other
 
-abbrev Z : Value
-Z = Err ZeroDivisor
+abbrev errZ : Value
+errZ = Err ZeroDivisor
 
-abbrev V : Value
-V = Err OutOfRange
+abbrev errV : Value
+errV = Err OutOfRange
 
 abbrev pub cases : List Case
 cases =
     at 1 (n 2) (n 3) (n 5)
-    ∷ at 1 greatest (n 1) V
-    ∷ at 1 least (minus 0) V
+    ∷ at 1 greatest (n 1) errV
+    ∷ at 1 least (minus 0) errV
     ∷ at 1 greatest least (minus 0)
     ∷ at 2 (n 2) (n 3) (minus 0)
-    ∷ at 2 least (n 1) V
-    ∷ at 2 greatest (minus 0) V
+    ∷ at 2 least (n 1) errV
+    ∷ at 2 greatest (minus 0) errV
     ∷ at 2 (minus 0) least greatest
     ∷ at 3 (minus 6) (n 6) (minus 41)
-    ∷ at 3 (n 65536) (n 32768) V
+    ∷ at 3 (n 65536) (n 32768) errV
     ∷ at 3 (n 65536) (minus 32767) least
-    ∷ at 3 (n 65536) (minus 32768) V
-    ∷ at 3 least (minus 0) V
+    ∷ at 3 (n 65536) (minus 32768) errV
+    ∷ at 3 least (minus 0) errV
     ∷ at 4 (minus 6) (n 2) (minus 2)
     ∷ at 4 (n 7) (minus 1) (minus 2)
-    ∷ at 4 (n 1) (n 0) Z
-    ∷ at 4 least (minus 0) V
+    ∷ at 4 (n 1) (n 0) errZ
+    ∷ at 4 least (minus 0) errV
     ∷ at 4 least (n 1) least
     ∷ at 5 (minus 6) (n 2) (minus 0)
     ∷ at 5 (n 7) (minus 1) (n 1)
-    ∷ at 5 (n 1) (n 0) Z
+    ∷ at 5 (n 1) (n 0) errZ
     ∷ at 5 least (minus 0) (n 0)
     ∷ at 6 least greatest (Truth true)
     ∷ at 6 (n 3) (n 3) (Truth false)
     ∷ at 6 (minus 1) (minus 0) (Truth true)
-    ∷ at 6 (Truth false) (Truth true) E
+    ∷ at 6 (Truth false) (Truth true) errE
     ∷ at 7 (minus 3) (minus 3) (Truth true)
     ∷ at 7 (n 3) (minus 3) (Truth false)
-    ∷ at 7 (Truth true) (Truth true) E
+    ∷ at 7 (Truth true) (Truth true) errE
     ∷ at 8 (Truth true) (Truth true) (Truth true)
     ∷ at 8 (Truth true) (Truth false) (Truth false)
-    ∷ at 8 (Truth true) E E
+    ∷ at 8 (Truth true) errE errE
     ∷ at 8 (Truth false) (Truth true) (Truth false)
     ∷ at 8 (Truth false) (Truth false) (Truth false)
-    ∷ at 8 (Truth false) E (Truth false)
-    ∷ at 8 E (Truth true) E
-    ∷ at 8 E (Truth false) (Truth false)
-    ∷ at 8 E E E
-    ∷ at 8 (n 1) (Truth false) E
-    ∷ at 8 (Truth false) (n 0) E
-    ∷ at 8 E (n 1) E
-    ∷ at 8 (n 0) (Truth true) E
+    ∷ at 8 (Truth false) errE (Truth false)
+    ∷ at 8 errE (Truth true) errE
+    ∷ at 8 errE (Truth false) (Truth false)
+    ∷ at 8 errE errE errE
+    ∷ at 8 (n 1) (Truth false) errE
+    ∷ at 8 (Truth false) (n 0) errE
+    ∷ at 8 errE (n 1) errE
+    ∷ at 8 (n 0) (Truth true) errE
     ∷ at 9 (Truth true) (Truth true) (Truth true)
     ∷ at 9 (Truth true) (Truth false) (Truth true)
-    ∷ at 9 (Truth true) E (Truth true)
+    ∷ at 9 (Truth true) errE (Truth true)
     ∷ at 9 (Truth false) (Truth true) (Truth true)
     ∷ at 9 (Truth false) (Truth false) (Truth false)
-    ∷ at 9 (Truth false) E E
-    ∷ at 9 E (Truth true) (Truth true)
-    ∷ at 9 E (Truth false) E
-    ∷ at 9 E E E
-    ∷ at 9 (n 1) (Truth true) E
-    ∷ at 9 (Truth true) (n 0) E
-    ∷ at 9 E (n 1) E
-    ∷ at 9 (n 0) (Truth false) E
-    ∷ at 10 (Truth true) E (Truth false)
-    ∷ at 10 (n 0) (n 0) E
+    ∷ at 9 (Truth false) errE errE
+    ∷ at 9 errE (Truth true) (Truth true)
+    ∷ at 9 errE (Truth false) errE
+    ∷ at 9 errE errE errE
+    ∷ at 9 (n 1) (Truth true) errE
+    ∷ at 9 (Truth true) (n 0) errE
+    ∷ at 9 errE (n 1) errE
+    ∷ at 9 (n 0) (Truth false) errE
+    ∷ at 10 (Truth true) errE (Truth false)
+    ∷ at 10 (n 0) (n 0) errE
     ∷ at 11 (n 5) (Truth true) (minus 4)
-    ∷ at 11 (n 0) E (n 0)
-    ∷ at 11 least E V
-    ∷ at 11 greatest E (minus 2147483646)
-    ∷ at 11 E (n 1) E
-    ∷ at 1 Z V Z
-    ∷ at 1 V Z V
-    ∷ at 1 E Z E
-    ∷ at 1 (n 1) V V
-    ∷ at 1 (Truth true) Z Z
-    ∷ at 1 Z (Truth true) Z
-    ∷ at 1 (Truth true) (n 1) E
-    ∷ at 3 V (n 0) V
-    ∷ at 4 (Truth true) (n 0) E
-    ∷ at 4 V (n 0) V
-    ∷ at 5 (Truth true) (n 0) E
-    ∷ at 5 (n 0) (n 0) Z
-    ∷ at 6 (n 1) Z Z
-    ∷ at 7 V V V
-    ∷ at 8 (Truth false) Z (Truth false)
-    ∷ at 8 V (Truth false) (Truth false)
-    ∷ at 8 (Truth true) Z Z
-    ∷ at 8 Z (Truth true) Z
-    ∷ at 8 V Z V
-    ∷ at 8 (n 7) Z Z
-    ∷ at 8 Z (n 7) Z
-    ∷ at 9 (Truth true) V (Truth true)
-    ∷ at 9 Z (Truth true) (Truth true)
-    ∷ at 9 (Truth false) V V
-    ∷ at 9 Z V Z
-    ∷ at 9 V (n 7) V
-    ∷ at 10 Z V Z
-    ∷ at 10 (n 0) Z E
-    ∷ at 11 V Z V
-    ∷ at 11 (Truth true) Z E
-    ∷ at 0 (n 1) (n 1) E
-    ∷ at 12 (n 1) (n 1) E
+    ∷ at 11 (n 0) errE (n 0)
+    ∷ at 11 least errE errV
+    ∷ at 11 greatest errE (minus 2147483646)
+    ∷ at 11 errE (n 1) errE
+    ∷ at 1 errZ errV errZ
+    ∷ at 1 errV errZ errV
+    ∷ at 1 errE errZ errE
+    ∷ at 1 (n 1) errV errV
+    ∷ at 1 (Truth true) errZ errZ
+    ∷ at 1 errZ (Truth true) errZ
+    ∷ at 1 (Truth true) (n 1) errE
+    ∷ at 3 errV (n 0) errV
+    ∷ at 4 (Truth true) (n 0) errE
+    ∷ at 4 errV (n 0) errV
+    ∷ at 5 (Truth true) (n 0) errE
+    ∷ at 5 (n 0) (n 0) errZ
+    ∷ at 6 (n 1) errZ errZ
+    ∷ at 7 errV errV errV
+    ∷ at 8 (Truth false) errZ (Truth false)
+    ∷ at 8 errV (Truth false) (Truth false)
+    ∷ at 8 (Truth true) errZ errZ
+    ∷ at 8 errZ (Truth true) errZ
+    ∷ at 8 errV errZ errV
+    ∷ at 8 (n 7) errZ errZ
+    ∷ at 8 errZ (n 7) errZ
+    ∷ at 9 (Truth true) errV (Truth true)
+    ∷ at 9 errZ (Truth true) (Truth true)
+    ∷ at 9 (Truth false) errV errV
+    ∷ at 9 errZ errV errZ
+    ∷ at 9 errV (n 7) errV
+    ∷ at 10 errZ errV errZ
+    ∷ at 10 (n 0) errZ errE
+    ∷ at 11 errV errZ errV
+    ∷ at 11 (Truth true) errZ errE
+    ∷ at 0 (n 1) (n 1) errE
+    ∷ at 12 (n 1) (n 1) errE
     ∷ []
 
 abbrev got : Case → Value
@@ -165,9 +165,9 @@ forms =
     ∷ record { value = least; bytes = 1 ∷ 0 ∷ 0 ∷ 0 ∷ 128 ∷ [] }
     ∷ record { value = Truth false; bytes = 2 ∷ 0 ∷ 0 ∷ 0 ∷ 0 ∷ [] }
     ∷ record { value = Truth true; bytes = 2 ∷ 1 ∷ 0 ∷ 0 ∷ 0 ∷ [] }
-    ∷ record { value = E; bytes = 3 ∷ 0 ∷ 0 ∷ 0 ∷ 0 ∷ [] }
-    ∷ record { value = Z; bytes = 3 ∷ 1 ∷ 0 ∷ 0 ∷ 0 ∷ [] }
-    ∷ record { value = V; bytes = 3 ∷ 2 ∷ 0 ∷ 0 ∷ 0 ∷ [] }
+    ∷ record { value = errE; bytes = 3 ∷ 0 ∷ 0 ∷ 0 ∷ 0 ∷ [] }
+    ∷ record { value = errZ; bytes = 3 ∷ 1 ∷ 0 ∷ 0 ∷ 0 ∷ [] }
+    ∷ record { value = errV; bytes = 3 ∷ 2 ∷ 0 ∷ 0 ∷ 0 ∷ [] }
     ∷ []
 
 pub bytes-of-forms : map (λ f. bytesOf (f .value)) forms ≡ map (λ f. f .bytes) forms

@@ -8,9 +8,9 @@ ghost use Prim.Native.Nat.{ℕ, _+_, _*_, _≤_, _<_};
 ghost use lib.ListN.{length};
 ghost use mir.Syntax.{w32};
 ghost use mir.Val.{toZ, ofZ};
-ghost use Rattle.value.specs.Bytes.{InRange, wordOf, valueOf, decoded, isSome, wordOr, wordAt, stored, reasonBits, wholeOf, truthOf, errOf};
+ghost use Rattle.value.specs.Bytes.{InRange, wordOf, valueOf, decoded, isSome, wordOr, wordAt, stored, wholeOf, truthOf, errOf};
 
-// The words of no token, true, false and the plain err.
+// The words of no token, true, false, and of the errs: the plain one and those with a reason.
 pub const NONE: u64 = 0;
 
 pub const TRUE: u64 = 258;
@@ -18,6 +18,10 @@ pub const TRUE: u64 = 258;
 pub const FALSE: u64 = 2;
 
 pub const ERR: u64 = 3;
+
+pub const ZERO_DIVISOR: u64 = 259;
+
+pub const OUT_OF_RANGE: u64 = 515;
 
 // A whole number from its 32 bits, two's complement.
 fn signed_of(bits: u32) -> i32
@@ -40,13 +44,13 @@ fn bits_of(z: i32) -> u32
     4294967295 - low
 }
 
-fn reason_bits(r: Reason) -> u64
-    ensures { λ n. ⌜ n ≡ reasonBits r ⌝ }
+fn err_word(r: Reason) -> u64
+    ensures { λ w. ⌜ w ≡ wordOf (Value.Err r) ⌝ }
 {
     match r {
-        Reason::Other => 0,
-        Reason::ZeroDivisor => 1,
-        Reason::OutOfRange => 2,
+        Reason::Other => ERR,
+        Reason::ZeroDivisor => ZERO_DIVISOR,
+        Reason::OutOfRange => OUT_OF_RANGE,
     }
 }
 
@@ -62,7 +66,7 @@ pub fn to_word(v: Value) -> u64
             }
             2
         }
-        Value::Err(r) => 3 + 256 * reason_bits(r),
+        Value::Err(r) => err_word(r),
     }
 }
 
@@ -90,12 +94,16 @@ fn from_truth(bits: u64) -> Decoded
 fn from_err(bits: u64) -> Decoded
     ensures { λ r. ⌜ r ≡ decoded (errOf bits) ⌝ }
 {
-    match bits {
-        0 => Decoded::Valid(Value::Err(Reason::Other)),
-        1 => Decoded::Valid(Value::Err(Reason::ZeroDivisor)),
-        2 => Decoded::Valid(Value::Err(Reason::OutOfRange)),
-        _ => Decoded::Invalid,
+    if bits == 0 {
+        return Decoded::Valid(Value::Err(Reason::Other));
     }
+    if bits == 1 {
+        return Decoded::Valid(Value::Err(Reason::ZeroDivisor));
+    }
+    if bits == 2 {
+        return Decoded::Valid(Value::Err(Reason::OutOfRange));
+    }
+    Decoded::Invalid
 }
 
 // The value that a word is the byte form of, or none.
