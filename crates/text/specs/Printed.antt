@@ -35,13 +35,14 @@ numberField n = shown false 6 n
 unfoldable pub letterField : ℕ → List ℕ
 letterField c = replicate 10 32 ++ (c ∷ [])
 
--- Document 02, Job 5: "An err now has a reason: Z zero divisor, V answer out of range, E all else".
+-- Document 02, Job 5: "An err now has a reason: Z zero divisor, V answer out of range, E all else"
 abbrev pub letterOf : Reason → ℕ
 letterOf ZeroDivisor = 90
 letterOf OutOfRange = 86
 letterOf Other = 69
 
--- "one 11-character field a value, right-justified .. a decimal number as in the sheet, with "-" for negatives (no -0), or T, F, E"; "Set and result fields may hold Z and V".
+-- "one 11-character field a value, right-justified .. a decimal number as in the sheet, with "-" for negatives (no -0), or T, F, E"; "Set and
+-- result fields may hold Z and V"
 unfoldable pub valueField : Value → List ℕ
 unfolding shown letterField
 valueField (Whole (pos n)) = shown false 11 n
@@ -50,7 +51,7 @@ valueField (Truth true) = letterField 84
 valueField (Truth false) = letterField 70
 valueField (Err r) = letterField (letterOf r)
 
--- A word of the byte form; one that is no value is never handed out, and shows as err.
+-- A word of the byte form; one that is no value is never handed out, and shows as the plain err.
 unfoldable pub optionField : Option Value → List ℕ
 unfolding valueField
 optionField (some v) = valueField v
