@@ -145,6 +145,7 @@ pub fn put_value(out: &mut [u8], at: usize, word: u64)
         put_letter(out, at, b'V');
         return;
     }
+    // the plain err, or no value
     put_letter(out, at, b'E');
 }
 

@@ -1,5 +1,5 @@
 -- And, or beside an err: document 02, Job 2, as laws of `apply`, each for both codes and both orders of the operands.
--- Together they speak of every pair of operands; which err is given is Job 5's (Reasons). Assumes nothing.
+-- Together they speak of every pair of operands, and name each err by its reason, as Job 5 asks. Assumes nothing.
 use Prim.Native.Nat.{ℕ}
 use mathlib.Core.Path.{_≡_, refl}
 use mathlib.Core.Bool.{Bool, true, false, _&&_, _||_}
@@ -51,7 +51,7 @@ decides or (Truth true) h = (refl, refl)
 decides or (Truth false) h = (refl, refl)
 decides or (Err r) h = (refl, refl)
 
--- "Both operands must still be truths or err; a whole number gives err": also beside the truth that decides.
+-- "Both operands must still be truths or err; a whole number gives err": also beside the truth that decides. Beside an err: `undecided`.
 pub whole-among : (o : Connective) (z : ℤ) (v : Value) → NoErr v → Give o (Whole z) v (Err Other)
 unfolding apply
 whole-among and z (Truth a) h = (refl, refl)

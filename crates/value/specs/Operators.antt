@@ -1,6 +1,6 @@
 -- The meaning of each operator: document 01, "Values and operators", in its order; and, or with document 02, Job 2, errs with Job 5.
--- Other crates ask `apply` (code, first operand, second operand) and cite its laws in AndOr and proofs/Codes, or unfold it to
--- compute; the pieces before it are for this crate's functions. Assumes nothing.
+-- Other crates ask `apply` (code, first operand, second operand) and cite its laws in AndOr, Reasons and proofs/Codes, or unfold it
+-- to compute; the pieces before it are for this crate's functions. Assumes nothing.
 use Prim.Native.Nat.{ℕ, zero, suc}
 use mathlib.Core.Bool.{Bool, true, false, _&&_, not, _||_}
 use lib.IntN.{ℤ, pos, negsuc, _+ℤ_, _-ℤ_, _*ℤ_, negℤ}
@@ -115,7 +115,7 @@ logical d f (Truth a) (Truth b) = f a b
 logical d f (Truth a) (Err s) = besideErr d a s
 logical d f (Err r) (Truth b) = besideErr d b r
 logical d f (Err r) (Err s) = handOn (Err r) (Err s)
--- "Both operands must still be truths or err; a whole number gives err."
+-- "Both operands must still be truths or err; a whole number gives err": the leftmost err, where there is one.
 logical d f (Whole a) b = handOn (Whole a) b
 logical d f (Truth a) (Whole b) = handOn (Truth a) (Whole b)
 logical d f (Err r) (Whole b) = handOn (Err r) (Whole b)

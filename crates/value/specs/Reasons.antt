@@ -23,12 +23,12 @@ reasonIn (Whole z) = none
 reasonIn (Truth a) = none
 reasonIn (Err r) = some r
 
-abbrev pub isWhole : Value → Bool
+abbrev isWhole : Value → Bool
 isWhole (Whole z) = true
 isWhole (Truth a) = false
 isWhole (Err r) = false
 
-abbrev pub isTruth : Value → Bool
+abbrev isTruth : Value → Bool
 isTruth (Whole z) = false
 isTruth (Truth a) = true
 isTruth (Err r) = false
@@ -80,7 +80,7 @@ allWanted c (v ∷ vs) = wanted c v && allWanted c vs
 abbrev zeroDivisor : ℕ → ℤ → Bool
 zeroDivisor c y = (eqb c 4 || eqb c 5) && isZero y
 
--- The exact answer of the operators that give a number.
+-- The exact answer of the operators that give a number; 0, which is in range, for those that give a truth.
 abbrev exact : ℕ → ℤ → ℤ → ℤ
 exact c x y =
     pick (eqb c 1) (x +ℤ y)
@@ -207,12 +207,12 @@ unfolding apply reasonOf operands remainderOf
 of-remainder a b = of-wholes remainderOf (ofNumbers 5) (λ x y. divided y (remZ x y)) a b
 
 of-less : Has-reason 6
-unfolding apply reasonOf operands lessOf
-of-less a b = of-wholes lessOf (ofNumbers 6) (λ x y. refl) a b
+unfolding apply reasonOf operands lessOf equalOf
+of-less a b = of-wholes _ (ofNumbers 6) (λ x y. refl) a b
 
 of-equal : Has-reason 7
-unfolding apply reasonOf operands equalOf
-of-equal a b = of-wholes equalOf (ofNumbers 7) (λ x y. refl) a b
+unfolding apply reasonOf operands lessOf equalOf
+of-equal a b = of-wholes _ (ofNumbers 7) (λ x y. refl) a b
 
 of-and : Has-reason 8
 unfolding apply reasonOf operands andOf
@@ -261,7 +261,7 @@ from c k l h above = go (eqb c k) refl
     go false e = let n = eqb-false c k e in above (omega (arith, n))
 
 -- The reason of every operator's answer, whatever its operands, is the one that the request's sentences give.
-pub answer-reason : (c : ℕ) → Has-reason c
+pub answer-reason : (c : ℕ) (a b : Value) → reasonIn (apply c a b) ≡ reasonOf c a b
 answer-reason zero = of-none 0 (inl (omega arith))
 answer-reason (suc c) =
     from (suc c) 1 (omega arith) of-add (λ l2.

@@ -62,9 +62,9 @@ pub fn to_word(v: Value) -> u64
         Value::Whole(z) => 1 + 256 * (bits_of(z) as u64),
         Value::Truth(b) => {
             if b {
-                return 258;
+                return TRUE;
             }
-            2
+            FALSE
         }
         Value::Err(r) => err_word(r),
     }

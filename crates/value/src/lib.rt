@@ -50,7 +50,7 @@ pub fn sense_of(v: Value) -> Sense
     }
 }
 
-// The plain err, which all but operators give.
+// The plain err, the only one that anything but an operator makes.
 pub fn err() -> Value
     ensures { λ r. ⌜ r ≡ err ⌝ }
 {
@@ -181,14 +181,14 @@ fn reason_or(v: Value, given: Reason) -> Reason
     }
 }
 
-// Two operands that an operator cannot take: the leftmost err is handed on.
+// Two operands that an operator cannot take: the leftmost err is handed on, and without one a wrong kind gives E.
 fn hand_on(a: Value, b: Value) -> Value
     ensures { λ r. ⌜ r ≡ handOn a b ⌝ }
 {
     Value::Err(reason_or(a, reason_or(b, Reason::Other)))
 }
 
-// An operand that its operator cannot take.
+// An operand that its operator cannot take: handed on if it is an err, else E.
 fn hand_on_one(a: Value) -> Value
     ensures { λ r. ⌜ r ≡ handOnOne a ⌝ }
 {

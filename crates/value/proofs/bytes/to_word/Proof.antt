@@ -37,7 +37,7 @@ add-result c = search needs
 enum-known-v-2 : tie.Need-enum-known-v-2
 enum-known-v-2 c = search needs
 
--- src/bytes.rt:65:17  if b { ⏎ return 258;
+-- src/bytes.rt:65:17  if b { ⏎ return TRUE;
 returns : tie.Need-returns
 unfolding wordOf
 returns c = (rw (c .before .before .v2 .given .1, c .if1 .taken) refl, rw (c .before .before .v2 .given .1) tt)
