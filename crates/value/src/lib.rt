@@ -6,7 +6,7 @@ ghost use mathlib.Core.Path.{_≡_};
 ghost use Prim.Native.Nat.{ℕ, _+_, _*_, _≤_, _<_};
 ghost use lib.IntN.{pos, negsuc, _+ℤ_, _-ℤ_, _*ℤ_};
 ghost use Rattle.value.specs.Operators.{fitOf, addOf, subtractOf, multiplyOf, divideOf, remainderOf, lessOf, equalOf, andOf, orOf, besideErr, reasonOr, handOn, handOnOne, negateOf, apply};
-ghost use Rattle.value.specs.Senses.{sense, err};
+ghost use Rattle.value.specs.Senses.{err};
 
 // "An err now has a reason: Z zero divisor, V answer out of range, E all else."
 pub enum Reason {
@@ -33,21 +33,6 @@ pub enum Sense {
 pub enum Decoded {
     Valid(Value),
     Invalid,
-}
-
-pub fn sense_of(v: Value) -> Sense
-    ensures { λ r. ⌜ r ≡ sense v ⌝ }
-{
-    match v {
-        Value::Whole(_) => Sense::Neither,
-        Value::Truth(b) => {
-            if b {
-                return Sense::True;
-            }
-            Sense::False
-        }
-        Value::Err(_) => Sense::Neither,
-    }
 }
 
 // The plain err, the only one that anything but an operator makes.
@@ -195,6 +180,20 @@ fn hand_on_one(a: Value) -> Value
     Value::Err(reason_or(a, Reason::Other))
 }
 
+// Codes 1 to 7.
+pub fn apply_numbers(code: u8, a: Value, b: Value) -> Value
+    requires { ⌜ (1 ≤ code) × (code ≤ 7) ⌝ }
+    ensures { λ r. ⌜ r ≡ apply code a b ⌝ }
+{
+    let Value::Whole(x) = a else {
+        return hand_on(a, b);
+    };
+    let Value::Whole(y) = b else {
+        return hand_on(a, b);
+    };
+    apply_wholes(code, x, y)
+}
+
 // A truth beside an err, where the truth d decides.
 fn beside_err(d: bool, a: bool, reason: Reason) -> Value
     ensures { λ r. ⌜ r ≡ besideErr d a reason ⌝ }
@@ -241,15 +240,7 @@ pub fn apply_code(code: u8, a: Value, b: Value) -> Value
     ensures { λ r. ⌜ r ≡ apply code a b ⌝ }
 {
     match code {
-        1..=7 => {
-            let Value::Whole(x) = a else {
-                return hand_on(a, b);
-            };
-            let Value::Whole(y) = b else {
-                return hand_on(a, b);
-            };
-            apply_wholes(code, x, y)
-        }
+        1..=7 => apply_numbers(code, a, b),
         8..=9 => apply_logical(code, a, b),
         10 => {
             let Value::Truth(x) = a else {
