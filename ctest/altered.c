@@ -38,7 +38,7 @@ static const uint8_t two_values[] = {BENCH_WHOLE, 5, 0, 0, 0, BENCH_TRUTH, 1, 0,
 
 /* What is no value and no register's 'none' either. */
 static const uint8_t no_values[][BENCH_VALUE_BYTES] = {
-    {BENCH_ERR + 1, 0, 0, 0, 0}, {BENCH_TRUTH, 2, 0, 0, 0}, {BENCH_TRUTH, 0, 1, 0, 0}, {BENCH_ERR, 1, 0, 0, 0}, {0, 1, 0, 0, 0}};
+    {BENCH_ERR + 1, 0, 0, 0, 0}, {BENCH_TRUTH, 2, 0, 0, 0}, {BENCH_TRUTH, 0, 1, 0, 0}, {BENCH_ERR, BENCH_ERR_OUT_OF_RANGE + 1, 0, 0, 0}, {0, 1, 0, 0, 0}};
 
 static uint8_t *memory;
 static size_t length;
@@ -217,6 +217,23 @@ static void operators(void) {
     }
 }
 
+/* A waiting token that is an err of each reason, and of none. */
+static void errs_at(size_t token) {
+    uint8_t held[BENCH_VALUE_BYTES];
+    memcpy(held, memory + token, sizeof held);
+    for (size_t b = 0; b < sizeof no_reasons / sizeof no_reasons[0]; b++) {
+        memcpy(memory + token, no_reasons[b], BENCH_VALUE_BYTES);
+        all_refuse("a token that is an err of no reason", BENCH_ALTERED);
+    }
+    memset(memory + token, 0, BENCH_VALUE_BYTES);
+    memory[token] = BENCH_ERR;
+    for (uint8_t reason = BENCH_ERR_OTHER; reason <= BENCH_ERR_OUT_OF_RANGE; reason++) {
+        memory[token + 1] = reason;
+        stands("a token that is an err");
+    }
+    memcpy(memory + token, held, sizeof held);
+}
+
 static void link_of(size_t at) {
     uint8_t held[STRETCH];
     memcpy(held, memory + at, STRETCH);
@@ -231,7 +248,8 @@ static void link_of(size_t at) {
         bad_byte("tag 0", token, 0);
         bad_byte("a tag past the last", token, BENCH_ERR + 1);
         bad_byte("a truth that is neither", token, BENCH_TRUTH);
-        bad_byte("an err with a payload", token, BENCH_ERR);
+        bad_byte("an err of reason 5", token, BENCH_ERR);
+        errs_at(token);
     }
     memory[at] = 1;
     memset(memory + at + 1 + BENCH_VALUE_BYTES, 0xee, BENCH_VALUE_BYTES);
@@ -323,6 +341,9 @@ static void orders(void) {
     begin(factorial, CAPACITY);
     memory[UNTAKEN_AT] = MOST_UNTAKEN;
     expect("12 before 32", bench_push(memory, length, bad, sizeof bad).refusal, BENCH_SET);
+    for (size_t i = 0; i < sizeof no_reasons / sizeof no_reasons[0]; i++) {
+        expect("an err of no reason", bench_push(memory, length, no_reasons[i], BENCH_VALUE_BYTES).refusal, BENCH_SET);
+    }
     expect("a set too long", bench_push(memory, length, two_values, sizeof two_values).refusal, BENCH_SET);
     expect("a set too short", bench_push(memory, length, five, sizeof five - 1).refusal, BENCH_SET);
     expect("an empty set", bench_push(memory, length, five, 0).refusal, BENCH_SET);
@@ -392,9 +413,9 @@ static void sixteen(void) {
 }
 
 /* What may wait first on a link: nothing, or a token of each sort. */
-enum sort { NOTHING, TRUE_TOKEN, FALSE_TOKEN, WHOLE_TOKEN, ERR_TOKEN, SORTS };
+enum sort { NOTHING, TRUE_TOKEN, FALSE_TOKEN, WHOLE_TOKEN, E_TOKEN, Z_TOKEN, V_TOKEN, SORTS };
 static const uint8_t tokens[SORTS][BENCH_VALUE_BYTES] = {
-    [TRUE_TOKEN] = {BENCH_TRUTH, 1}, [FALSE_TOKEN] = {BENCH_TRUTH, 0}, [WHOLE_TOKEN] = {BENCH_WHOLE, 5}, [ERR_TOKEN] = {BENCH_ERR}};
+    [TRUE_TOKEN] = TRUE_VALUE, [FALSE_TOKEN] = FALSE_VALUE, [WHOLE_TOKEN] = WHOLE(5), [E_TOKEN] = E_VALUE, [Z_TOKEN] = Z_VALUE, [V_TOKEN] = V_VALUE};
 
 static size_t stretch_at(size_t name) {
     return STRETCHES_AT + STRETCH * (size_t)figure(name);
@@ -420,16 +441,19 @@ static const struct row rows[] = {
     {TRUE_TOKEN, FALSE_TOKEN, FALSE_TOKEN, NOTHING, TRUE_TOKEN},
     {FALSE_TOKEN, TRUE_TOKEN, TRUE_TOKEN, FALSE_TOKEN, NOTHING},
     {FALSE_TOKEN, FALSE_TOKEN, FALSE_TOKEN, NOTHING, FALSE_TOKEN},
-    {ERR_TOKEN, NOTHING, FALSE_TOKEN, NOTHING, ERR_TOKEN},
+    {E_TOKEN, NOTHING, FALSE_TOKEN, NOTHING, E_TOKEN},
 };
 
-/* The row for the tokens that wait, NULL where the gate is not able: a control that is no truth is like an err, a chosen input that is no truth like false. */
+/* A sort as it is, and all that are no truths as one. */
+static enum sort unless_truth(enum sort sort, enum sort one) {
+    return sort == NOTHING || sort == TRUE_TOKEN || sort == FALSE_TOKEN ? sort : one;
+}
+
+/* The row for the tokens that wait, NULL where the gate is not able: a control that is no truth is like E, a chosen input that is no truth like false. */
 static const struct row *row_of(enum sort control, enum sort second, enum sort third) {
     enum sort chosen = control == TRUE_TOKEN ? second : control == FALSE_TOKEN ? third : NOTHING;
     for (size_t r = 0; r < sizeof rows / sizeof rows[0]; r++) {
-        enum sort wanted = control == WHOLE_TOKEN ? ERR_TOKEN : control;
-        enum sort read = chosen == WHOLE_TOKEN || chosen == ERR_TOKEN ? FALSE_TOKEN : chosen;
-        if (rows[r].control == wanted && rows[r].chosen == read) {
+        if (rows[r].control == unless_truth(control, E_TOKEN) && rows[r].chosen == unless_truth(chosen, FALSE_TOKEN)) {
             return &rows[r];
         }
     }
@@ -493,8 +517,31 @@ static void loop_join(void) {
     join_when_full(operator);
 }
 
+/* Sets and results with reasons through push, run and take; the same sets as in an evaluation. */
+static void errs_with_reasons(void) {
+    for (size_t i = 0; i < sizeof reasons / sizeof reasons[0]; i++) {
+        const char *what = reasons[i].what;
+        uint8_t out[BENCH_RESULT_BYTES];
+        begin(reasons[i].sheet, 1);
+        expect(what, bench_push(memory, length, reasons[i].set[0], sizeof reasons[i].set).refusal, BENCH_ACCEPTED);
+        expect(what, bench_run(memory, length, 100).refusal, BENCH_ACCEPTED);
+        expect(what, bench_take(memory, length, out, sizeof out).count, 2);
+        expect(what, (uint32_t)memcmp(out, reasons[i].result, sizeof reasons[i].result), 0);
+    }
+    static const uint8_t sets[][BENCH_VALUE_BYTES] = {WHOLE(13), Z_VALUE, V_VALUE}, results[][BENCH_VALUE_BYTES] = {V_VALUE, E_VALUE, E_VALUE};
+    begin(factorial, CAPACITY);
+    for (size_t i = 0; i < sizeof sets / sizeof sets[0]; i++) {
+        uint8_t out[BENCH_RESULT_BYTES];
+        expect("factorial of 13, Z, V", bench_push(memory, length, sets[i], BENCH_VALUE_BYTES).refusal, BENCH_ACCEPTED);
+        expect("factorial of 13, Z, V", bench_run(memory, length, 10000).refusal, BENCH_ACCEPTED);
+        expect("factorial of 13, Z, V", bench_take(memory, length, out, sizeof out).count, 1);
+        expect("factorial of 13, Z, V", (uint32_t)memcmp(out, results[i], BENCH_VALUE_BYTES), 0);
+    }
+}
+
 int main(void) {
     loop_join();
+    errs_with_reasons();
     lengths();
     starts();
     orders();

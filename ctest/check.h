@@ -1,4 +1,4 @@
-/* What the C programs that test the calls share: counted checks, and two sheets. */
+/* What the C programs that test the calls share: counted checks, sheets, and errs by their reasons. */
 #ifndef CHECK_H
 #define CHECK_H
 
@@ -52,5 +52,66 @@ static const char pair[] =
     "     1     0     0     0     0\n"
     "     1     1     0     0     0\n"
     "     4     1     2     0     0\n";
+
+/* "x0 / x1, x0 + x1" */
+static const char quotient_and_sum[] =
+    "     1     0     0     0     0\n"
+    "     1     1     0     0     0\n"
+    "     4     1     2     0     0\n"
+    "     5     4     3     0     0\n"
+    "     1     0     0     0     0\n"
+    "     1     1     0     0     0\n"
+    "     4     5     6     0     0\n"
+    "     5     1     7     0     0\n"
+    "     4     4     8     0     0\n";
+
+/* "if x0 then x1, x0 else x0, x1" */
+static const char chosen_pair[] =
+    "     1     0     0     0     0\n"
+    "     1     1     0     0     0\n"
+    "     1     0     0     0     0\n"
+    "     4     2     3     0     0\n"
+    "     1     0     0     0     0\n"
+    "     1     1     0     0     0\n"
+    "     4     5     6     0     0\n"
+    "     7     1     4     7     0\n";
+
+/* Values as bytes. */
+#define LEAST {BENCH_WHOLE, 0, 0, 0, 0x80}
+#define GREATEST {BENCH_WHOLE, 0xff, 0xff, 0xff, 0x7f}
+#define MINUS_ONE {BENCH_WHOLE, 0xff, 0xff, 0xff, 0xff}
+#define WHOLE(n) {BENCH_WHOLE, n, 0, 0, 0}
+#define TRUE_VALUE {BENCH_TRUTH, 1, 0, 0, 0}
+#define FALSE_VALUE {BENCH_TRUTH, 0, 0, 0, 0}
+#define E_VALUE {BENCH_ERR, BENCH_ERR_OTHER, 0, 0, 0}
+#define Z_VALUE {BENCH_ERR, BENCH_ERR_ZERO_DIVISOR, 0, 0, 0}
+#define V_VALUE {BENCH_ERR, BENCH_ERR_OUT_OF_RANGE, 0, 0, 0}
+
+/* Two inputs and two results each: where a reason comes from, which of two is handed on, and that a test takes none along. */
+static const struct {
+    const char *what, *sheet;
+    uint8_t set[2][BENCH_VALUE_BYTES], result[2][BENCH_VALUE_BYTES];
+} reasons[] = {
+    {"a zero divisor", quotient_and_sum, {WHOLE(7), WHOLE(0)}, {Z_VALUE, WHOLE(7)}},
+    {"a wrong kind beside a zero divisor", quotient_and_sum, {TRUE_VALUE, WHOLE(0)}, {E_VALUE, E_VALUE}},
+    {"least by -1", quotient_and_sum, {LEAST, MINUS_ONE}, {V_VALUE, V_VALUE}},
+    {"a sum out of range", quotient_and_sum, {GREATEST, WHOLE(1)}, {GREATEST, V_VALUE}},
+    {"Z, V", quotient_and_sum, {Z_VALUE, V_VALUE}, {Z_VALUE, Z_VALUE}},
+    {"V, Z", quotient_and_sum, {V_VALUE, Z_VALUE}, {V_VALUE, V_VALUE}},
+    {"E, Z", quotient_and_sum, {E_VALUE, Z_VALUE}, {E_VALUE, E_VALUE}},
+    {"a wrong kind beside Z", quotient_and_sum, {TRUE_VALUE, Z_VALUE}, {Z_VALUE, Z_VALUE}},
+    {"V beside a wrong kind", quotient_and_sum, {V_VALUE, TRUE_VALUE}, {V_VALUE, V_VALUE}},
+    {"Z as a divisor", quotient_and_sum, {WHOLE(7), Z_VALUE}, {Z_VALUE, Z_VALUE}},
+    {"Z, V as they are", pair, {Z_VALUE, V_VALUE}, {Z_VALUE, V_VALUE}},
+    {"V, E as they are", pair, {V_VALUE, E_VALUE}, {V_VALUE, E_VALUE}},
+    {"V behind a true test", chosen_pair, {TRUE_VALUE, V_VALUE}, {V_VALUE, TRUE_VALUE}},
+    {"Z behind a false test", chosen_pair, {FALSE_VALUE, Z_VALUE}, {FALSE_VALUE, Z_VALUE}},
+    {"a test that is Z", chosen_pair, {Z_VALUE, V_VALUE}, {E_VALUE, E_VALUE}},
+    {"a test that is V", chosen_pair, {V_VALUE, WHOLE(7)}, {E_VALUE, E_VALUE}},
+};
+
+/* An err whose reason is none. */
+static const uint8_t no_reasons[][BENCH_VALUE_BYTES] = {
+    {BENCH_ERR, BENCH_ERR_OUT_OF_RANGE + 1, 0, 0, 0}, {BENCH_ERR, 0xff, 0, 0, 0}, {BENCH_ERR, 0, 1, 0, 0}, {BENCH_ERR, 1, 0, 0, 1}};
 
 #endif

@@ -50,7 +50,7 @@ static void show(const uint8_t *value) {
         printf(" %c", bits == 1 ? 'T' : 'F');
         break;
     default:
-        printf(" E");
+        printf(" %c", bits == BENCH_ERR_ZERO_DIVISOR ? 'Z' : bits == BENCH_ERR_OUT_OF_RANGE ? 'V' : 'E');
     }
 }
 

@@ -63,7 +63,7 @@ static value truth(uint32_t bit) {
 }
 
 static value err(void) {
-    return of(BENCH_ERR, 0);
+    return of(BENCH_ERR, BENCH_ERR_OTHER);
 }
 
 /* A copy of some bytes at its exact length; of no bytes it may be NULL. */
@@ -175,7 +175,7 @@ static void worked_examples(void) {
         expect_one("the lesser of two", evaluate(lesser_of_two, sets[i], 2, 0), results[i], 0);
     }
     expect_read("x + x", doubled, 4, 2, 1, 1);
-    value n[] = {whole(5), whole(0), whole(12), whole(13), err()};
+    value n[] = {whole(5), whole(0), whole(12), whole(13), err(), of(BENCH_ERR, BENCH_ERR_ZERO_DIVISOR)};
     expect_read("factorial", factorial, 20, 32, 1, 1);
     expect_one("factorial of 5", evaluate(factorial, &n[0], 1, 5), whole(120), 5);
     expect_one("more rounds than needed", evaluate(factorial, &n[0], 1, UINT32_MAX), whole(120), 5);
@@ -183,8 +183,19 @@ static void worked_examples(void) {
     expect_refused("no rounds", evaluate(factorial, &n[0], 1, 0), BENCH_UNFINISHED, 0);
     expect_one("factorial of 0", evaluate(factorial, &n[1], 1, 1), whole(1), 1);
     expect_one("factorial of 12", evaluate(factorial, &n[2], 1, 12), whole(479001600), 12);
-    expect_one("factorial of 13", evaluate(factorial, &n[3], 1, 13), err(), 13);
-    expect_one("factorial of err", evaluate(factorial, &n[4], 1, 1), err(), 1);
+    expect_one("factorial of 13", evaluate(factorial, &n[3], 1, 13), of(BENCH_ERR, BENCH_ERR_OUT_OF_RANGE), 13);
+    expect_one("factorial of E", evaluate(factorial, &n[4], 1, 1), err(), 1);
+    expect_one("factorial of Z", evaluate(factorial, &n[5], 1, 1), err(), 1);
+}
+
+static void errs_with_reasons(void) {
+    for (size_t i = 0; i < sizeof reasons / sizeof reasons[0]; i++) {
+        const char *what = reasons[i].what, *sheet = reasons[i].sheet;
+        evaluated got = evaluate_bytes(sheet, strlen(sheet), reasons[i].set, sizeof reasons[i].set, 0, BENCH_RESULT_BYTES);
+        expect(what, got.answer.refusal, BENCH_ACCEPTED);
+        expect(what, got.answer.width, 2);
+        expect(what, (uint32_t)memcmp(got.out, reasons[i].result, sizeof reasons[i].result), 0);
+    }
 }
 
 /* A row at its place in a sheet. */
@@ -222,12 +233,15 @@ static void long_sheets(void) {
 
 static void sets(void) {
     value two[] = {whole(5), truth(1)}, result[] = {whole(5), truth(1), err()};
-    value bad[] = {of(0, 0), of(BENCH_ERR + 1, 0), of(BENCH_TRUTH, 2), of(BENCH_TRUTH, 256), of(BENCH_ERR, 1)};
+    value bad[] = {of(0, 0), of(BENCH_ERR + 1, 0), of(BENCH_TRUTH, 2), of(BENCH_TRUTH, 256)};
     expect_refused("a value too few", evaluate(pair, two, 1, 0), BENCH_SET, 0);
     expect_refused("a byte too few", evaluate_bytes(pair, sizeof pair - 1, two, sizeof two - 1, 0, BENCH_RESULT_BYTES), BENCH_SET, 0);
     expect_refused("a value too many", evaluate(factorial, two, 2, 9), BENCH_SET, 0);
     for (size_t i = 0; i < sizeof bad / sizeof bad[0]; i++) {
         expect_refused("no value, and 12 before 36", evaluate(factorial, &bad[i], 1, 0), BENCH_SET, 0);
+    }
+    for (size_t i = 0; i < sizeof no_reasons / sizeof no_reasons[0]; i++) {
+        expect_refused("an err of no reason", evaluate_bytes(factorial, sizeof factorial - 1, no_reasons[i], BENCH_VALUE_BYTES, 9, BENCH_RESULT_BYTES), BENCH_SET, 0);
     }
     evaluated both = evaluate_bytes(pair, sizeof pair - 1, two, sizeof two, 0, sizeof both.out);
     expect("two results", both.answer.refusal, BENCH_ACCEPTED);
@@ -255,6 +269,7 @@ int main(void) {
     for (size_t i = 0; i < sizeof refused / sizeof refused[0]; i++) {
         expect_unread(refused[i].what, refused[i].sheet, strlen(refused[i].sheet), refused[i].refusal, refused[i].row);
     }
+    errs_with_reasons();
     long_sheets();
     sets();
     nothing_lent();

@@ -14,7 +14,7 @@
  * BENCH_UNFINISHED, which keeps its firings and gives their count.
  *
  * Values. A value is BENCH_VALUE_BYTES bytes: a tag (BENCH_WHOLE, BENCH_TRUTH or BENCH_ERR) and four bytes, lowest first: a whole number as
- * int32_t, a truth as 0 or 1, an err as 0. Nothing else is a value.
+ * int32_t, a truth as 0 or 1, an err as its reason, one of BENCH_ERR_... below. Nothing else is a value.
  *
  * Sets. The inputs are the identifiers that are free in the formula, and a set is one value for each, one after another, by rising identifier:
  * a formula in which 3 and 17 are free takes the value of 3, then that of 17. Results stand in the order of the formula's values.
@@ -32,6 +32,16 @@ extern "C" {
 /* The tags of a value, and its length. */
 enum { BENCH_WHOLE = 1, BENCH_TRUTH = 2, BENCH_ERR = 3 };
 #define BENCH_VALUE_BYTES 5
+
+/*
+ * The reason of an err, as its four bytes. Whether a value is an err its tag alone says. An operator with err operands hands on the leftmost err;
+ * a test that is no truth gives BENCH_ERR_OTHER, whatever reason it carried.
+ */
+enum {
+    BENCH_ERR_OTHER = 0,        /* E: all else; also every place of a result set past its width */
+    BENCH_ERR_ZERO_DIVISOR = 1, /* Z */
+    BENCH_ERR_OUT_OF_RANGE = 2  /* V: an exact answer outside the range of whole numbers */
+};
 
 /* Said of what was handed in. `row` counts from 1 for 3 to 9 and is 0 for the others. */
 enum {
@@ -78,7 +88,7 @@ typedef struct {
 typedef struct {
     uint32_t refusal;
     uint32_t row;
-    uint32_t width;  /* how many of the sixteen values are the formula's; the others are err */
+    uint32_t width;  /* how many of the sixteen values are the formula's; the others are E */
     uint32_t rounds; /* rounds used */
 } bench_evaluate_answer;
 
@@ -99,7 +109,7 @@ typedef struct {
 bench_read_answer bench_read(const uint8_t *sheet, size_t sheet_bytes);
 
 /*
- * Evaluates a sheet on a set within the lent rounds; a round is one entry into a loop's body. Writes sixteen values to `out`, err past the
+ * Evaluates a sheet on a set within the lent rounds; a round is one entry into a loop's body. Writes sixteen values to `out`, E past the
  * width; bytes of `out` past 80 are left alone. Refusals, in this order: 11 (`out` shorter than 80 bytes), 1 to 10, 12, 36.
  */
 bench_evaluate_answer bench_evaluate(const uint8_t *sheet, size_t sheet_bytes, const uint8_t *set, size_t set_bytes, uint32_t rounds,
@@ -132,7 +142,7 @@ bench_answer bench_fire(uint8_t *memory, size_t memory_bytes, uint32_t operator_
 bench_answer bench_run(uint8_t *memory, size_t memory_bytes, uint32_t firings);
 
 /*
- * Takes the result set of the oldest set untaken: sixteen values into `out`, err past the width, which is the answer's count; bytes of
+ * Takes the result set of the oldest set untaken: sixteen values into `out`, E past the width, which is the answer's count; bytes of
  * `out` past 80 are left alone. Refusals, in this order: 11 (also where `out` is shorter than 80 bytes), 31, 35.
  */
 bench_answer bench_take(uint8_t *memory, size_t memory_bytes, uint8_t *out, size_t out_bytes);

@@ -4,7 +4,7 @@
 use crate::graph;
 use crate::machine::Machine;
 use crate::sheet::{self, refuse, Refusal, Sheet};
-use crate::value::Value;
+use crate::value::{Reason, Value};
 use std::fmt::Write;
 
 pub const CAPACITY: usize = 2;
@@ -51,13 +51,16 @@ fn read_line(line: &[u8], inputs: usize) -> Option<Vec<Value>> {
     fields.chunks_exact(FIELD).map(read_value).collect()
 }
 
-/// "a decimal number as in the sheet, with "-" for negatives (no -0), or T, F, E".
+/// "a decimal number as in the sheet, with "-" for negatives (no -0), or T, F, E"; document 02, Job 5: "Set and result
+/// fields may hold Z and V".
 fn read_value(field: &[u8]) -> Option<Value> {
     let blanks = field.iter().take_while(|&&byte| byte == b' ').count();
     match &field[blanks..] {
         b"T" => Some(Value::Truth(true)),
         b"F" => Some(Value::Truth(false)),
-        b"E" => Some(Value::Err),
+        b"E" => Some(Value::E),
+        b"Z" => Some(Value::Z),
+        b"V" => Some(Value::V),
         b"0" => Some(Value::Whole(0)),
         [b'-', digits @ ..] => read_number(digits).and_then(|number| whole(-number)),
         digits => read_number(digits).and_then(whole),
@@ -115,7 +118,9 @@ pub fn write_set(set: &[Value]) -> String {
             Value::Whole(number) => number.to_string(),
             Value::Truth(true) => "T".into(),
             Value::Truth(false) => "F".into(),
-            Value::Err => "E".into(),
+            Value::Err(Reason::Other) => "E".into(),
+            Value::Err(Reason::ZeroDivisor) => "Z".into(),
+            Value::Err(Reason::OutOfRange) => "V".into(),
         };
         write!(text, "{field:>FIELD$}").expect("a string takes text");
     }

@@ -1,10 +1,10 @@
 // The calls that the firmware makes, over byte memory: a value is a tag byte, 1 whole number, 2 truth, 3 err,
-// and 32 bits little-endian. Document 01 leaves this form free; it is the product's, and only this file knows it.
-// A truth's bits are 0 or 1, an err's are 0.
+// and 32 bits little-endian. Documents 01 and 02 leave this form free; it is the product's, and only this file knows it.
+// A truth's bits are 0 or 1, an err's 0, 1 or 2 for E, Z or V.
 
 use crate::eval;
 use crate::sheet::{self, Refusal};
-use crate::value::{ResultSet, Value, PLACES};
+use crate::value::{Reason, ResultSet, Value, PLACES};
 
 pub const VALUE_BYTES: usize = 5;
 pub const OUT_BYTES: usize = PLACES * VALUE_BYTES;
@@ -67,10 +67,18 @@ pub fn encode(value: Value) -> [u8; VALUE_BYTES] {
     let (tag, bits) = match value {
         Value::Whole(number) => (1, number as u32),
         Value::Truth(truth) => (2, u32::from(truth)),
-        Value::Err => (3, 0),
+        Value::Err(reason) => (3, reason_bits(reason)),
     };
     let [a, b, c, d] = bits.to_le_bytes();
     [tag, a, b, c, d]
+}
+
+fn reason_bits(reason: Reason) -> u32 {
+    match reason {
+        Reason::Other => 0,
+        Reason::ZeroDivisor => 1,
+        Reason::OutOfRange => 2,
+    }
 }
 
 pub fn encode_set(set: &[Value]) -> Vec<u8> {
@@ -90,7 +98,9 @@ pub fn decode(bytes: &[u8]) -> Option<Value> {
     match (bytes[0], bits) {
         (1, _) => Some(Value::Whole(bits as i32)),
         (2, 0 | 1) => Some(Value::Truth(bits == 1)),
-        (3, 0) => Some(Value::Err),
+        (3, 0) => Some(Value::E),
+        (3, 1) => Some(Value::Z),
+        (3, 2) => Some(Value::V),
         _ => None,
     }
 }
@@ -109,10 +119,15 @@ mod tests {
 
     #[test]
     fn a_value_is_read_back_as_it_was_written() {
-        let values = [Value::Whole(i32::MIN), Value::Whole(-1), Value::Truth(true), Value::Truth(false), Value::Err];
-        assert_eq!(decode_set(&encode_set(&values)), Some(values.to_vec()));
+        let others = [Value::Whole(i32::MIN), Value::Whole(-1), Value::Truth(true), Value::Truth(false)];
+        let values = [&others[..], &Value::ERRS].concat();
+        assert_eq!(decode_set(&encode_set(&values)), Some(values));
         assert_eq!(encode(Value::Whole(-2)), [1, 0xfe, 0xff, 0xff, 0xff]);
-        for bad in [[0, 0, 0, 0, 0], [4, 0, 0, 0, 0], [2, 2, 0, 0, 0], [2, 1, 0, 0, 1], [3, 1, 0, 0, 0]] {
+        for (err, bits) in [(Value::E, 0), (Value::Z, 1), (Value::V, 2)] {
+            assert_eq!(encode(err), [3, bits, 0, 0, 0]);
+        }
+        let bad_errs = [[3, 3, 0, 0, 0], [3, 255, 0, 0, 0], [3, 1, 1, 0, 0], [3, 0, 0, 0, 1]];
+        for bad in [[0, 0, 0, 0, 0], [4, 0, 0, 0, 0], [2, 2, 0, 0, 0], [2, 1, 0, 0, 1]].into_iter().chain(bad_errs) {
             assert_eq!(decode_set(&bad), None);
         }
         assert_eq!(decode_set(&[1, 0, 0, 0]), None);

@@ -35,7 +35,7 @@ pub fn evaluate(sheet: &Sheet, set: &[Value], rounds: u32) -> Result<Evaluated, 
     if set.len() != sheet.figures.inputs as usize {
         return refuse(12, 0);
     }
-    let mut bindings = [Value::Err; 32];
+    let mut bindings = [Value::E; 32];
     for (name, &value) in sheet.inputs().zip(set) {
         bindings[name as usize] = value;
     }
@@ -144,7 +144,7 @@ impl Evaluator<'_> {
     }
 
     fn errs(&mut self, width: u8) {
-        self.stack.resize(self.stack.len() + usize::from(width), Value::Err);
+        self.stack.resize(self.stack.len() + usize::from(width), Value::E);
     }
 
     /// Binds identifiers by position to the topmost values, which give their places to the former bindings.

@@ -18,7 +18,7 @@ struct Queue {
 }
 
 impl Queue {
-    const EMPTY: Queue = Queue { places: [Value::Err; MOST_CAPACITY], first: 0, waiting: 0 };
+    const EMPTY: Queue = Queue { places: [Value::E; MOST_CAPACITY], first: 0, waiting: 0 };
 
     fn oldest(&self) -> Option<Value> {
         (self.waiting > 0).then(|| self.places[self.first])
@@ -85,7 +85,7 @@ impl<'a> Machine<'a> {
             capacity,
             queues: vec![Queue::EMPTY; graph.links],
             fired: vec![false; graph.operators.len()],
-            memory: vec![Value::Err; graph.operators.len()],
+            memory: vec![Value::E; graph.operators.len()],
             putter,
             taker,
             untaken: 0,
@@ -220,7 +220,7 @@ impl<'a> Machine<'a> {
             Kind::M => merge(token(0)?, token(1), token(2)),
             Kind::E => match token(0)? {
                 Value::Truth(_) => Some(emit([true, true, false], token(1)?)),
-                _ => Some(emit([true, false, false], Value::Err)),
+                _ => Some(emit([true, false, false], Value::E)),
             },
             Kind::IC => join_control(token(0)?, token(1), token(2)),
             Kind::FM if !self.fired[number] => Some(emit([false, false, true], token(2)?)),
@@ -274,7 +274,7 @@ fn merge(control: Value, second: Option<Value>, third: Option<Value>) -> Option<
     match control {
         Value::Truth(true) => Some(emit([true, true, false], second?)),
         Value::Truth(false) => Some(emit([true, false, true], third?)),
-        _ => Some(emit([true, false, false], Value::Err)),
+        _ => Some(emit([true, false, false], Value::E)),
     }
 }
 
@@ -284,7 +284,7 @@ fn join_control(control: Value, yes: Option<Value>, no: Option<Value>) -> Option
         Value::Truth(true) => ([true, true, false], yes?),
         Value::Truth(false) => ([true, false, true], no?),
         _ => {
-            let emits = [Some(Value::Truth(false)), None, Some(Value::Err)];
+            let emits = [Some(Value::Truth(false)), None, Some(Value::E)];
             return Some(firing([true, false, false], emits));
         }
     };
@@ -299,10 +299,13 @@ fn join_control(control: Value, yes: Option<Value>, no: Option<Value>) -> Option
 mod tests {
     use super::*;
     use crate::graph::Operator;
-    use Value::{Err, Truth, Whole};
+    use Value::{Truth, Whole};
 
     const YES: Value = Truth(true);
     const NO: Value = Truth(false);
+    const E: Value = Value::E;
+    const Z: Value = Value::Z;
+    const V: Value = Value::V;
 
     /// One operator with links of its own, the inputs first.
     fn alone(kind: Kind, inputs: usize, outputs: usize) -> Graph {
@@ -329,43 +332,43 @@ mod tests {
 
     #[test]
     fn t_and_f_take_control_and_data() {
-        let (control, data) = ([YES, NO, Err, Whole(1)], wholes(&[1, 2, 3, 4]));
-        assert_eq!(fired(Kind::T, &[&control, &data], 1), [vec![], vec![], wholes(&[1])]);
+        let (control, data) = ([YES, NO, E, Whole(1), Z, YES], [Whole(1), Whole(2), Whole(3), Whole(4), Whole(5), V]);
+        assert_eq!(fired(Kind::T, &[&control, &data], 1), [vec![], vec![], vec![Whole(1), V]]);
         assert_eq!(fired(Kind::F, &[&control, &data], 1), [vec![], vec![], wholes(&[2])]);
         assert_eq!(fired(Kind::T, &[&[NO], &[]], 1), [vec![NO], vec![], vec![]]);
     }
 
     #[test]
     fn m_takes_the_chosen_input_or_only_its_control() {
-        let control = [YES, NO, Err, NO, YES, YES];
-        let got = fired(Kind::M, &[&control, &wholes(&[1, 2]), &wholes(&[11, 12, 13])], 1);
-        let passed = vec![Whole(1), Whole(11), Err, Whole(12), Whole(2)];
+        let control = [YES, NO, E, Z, NO, V, YES, YES];
+        let got = fired(Kind::M, &[&control, &[Whole(1), Z], &wholes(&[11, 12, 13])], 1);
+        let passed = vec![Whole(1), Whole(11), E, E, Whole(12), E, Z];
         assert_eq!(got, [vec![YES], vec![], wholes(&[13]), passed]);
     }
 
     #[test]
     fn e_takes_no_data_on_a_bad_test() {
-        let got = fired(Kind::E, &[&[Err, YES, Whole(0), NO, NO], &wholes(&[1, 2])], 1);
-        assert_eq!(got, [vec![NO], vec![], vec![Err, Whole(1), Err, Whole(2)]]);
+        let got = fired(Kind::E, &[&[V, YES, Whole(0), Z, NO, NO], &[Whole(1), Z]], 1);
+        assert_eq!(got, [vec![NO], vec![], vec![E, Whole(1), E, E, Z]]);
     }
 
     #[test]
     fn ic_goes_by_brocks_table() {
-        let got = fired(Kind::IC, &[&[YES, YES, NO, NO, Err, YES], &[YES, NO], &[YES, NO, NO]], 3);
-        let (iter, second, third) = (vec![YES, NO, YES, NO, NO], vec![YES, NO], vec![YES, NO, Err]);
+        let got = fired(Kind::IC, &[&[YES, YES, NO, NO, Z, V, YES], &[YES, NO], &[YES, NO, NO]], 3);
+        let (iter, second, third) = (vec![YES, NO, YES, NO, NO, NO], vec![YES, NO], vec![YES, NO, E, E]);
         assert_eq!(got, [vec![YES], vec![], vec![NO], iter, second, third]);
     }
 
     #[test]
     fn fm_starts_with_its_third_input() {
-        let got = fired(Kind::FM, &[&[YES, NO, NO], &wholes(&[1]), &wholes(&[11, 12])], 1);
-        assert_eq!(got, [vec![NO], vec![], vec![], wholes(&[11, 1, 12])]);
+        let got = fired(Kind::FM, &[&[YES, NO, NO], &[Z], &[Whole(11), V]], 1);
+        assert_eq!(got, [vec![NO], vec![], vec![], vec![Whole(11), Z, V]]);
     }
 
     #[test]
     fn fs_remembers_on_every_false() {
-        let got = fired(Kind::FS, &[&[YES, YES, NO, YES, NO], &wholes(&[1, 2])], 1);
-        assert_eq!(got, [vec![NO], vec![], wholes(&[1, 1, 1, 2, 2])]);
+        let got = fired(Kind::FS, &[&[YES, YES, NO, YES, NO], &[Whole(1), Z]], 1);
+        assert_eq!(got, [vec![NO], vec![], vec![Whole(1), Whole(1), Whole(1), Z, Z]]);
     }
 
     /// "each link it emits on has a free place": in this firing.
@@ -379,7 +382,7 @@ mod tests {
         }
         let graph = alone(Kind::IC, 3, 3);
         let mut machine = Machine::start(&graph, 1).expect("a capacity in its range");
-        machine.queues[5].append(Err);
+        machine.queues[5].append(E);
         machine.push(&[YES, YES, NO]).expect("free input links");
         assert_eq!(machine.fire(0), Ok(()));
         machine.queues[0].append(NO);

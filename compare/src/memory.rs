@@ -292,7 +292,7 @@ impl<'a> Machine<'a> {
             }
             17 => match token(0)? {
                 Value::Truth(_) => passing([true, true, false], token(1)?, register),
-                _ => passing([true, false, false], Value::Err, register),
+                _ => passing([true, false, false], Value::E, register),
             },
             18 => joined(token(0)?, token(1), token(2), register),
             19 if register.is_none() => passing([false, false, true], token(2)?, Some(Value::Truth(true))),
@@ -365,7 +365,7 @@ fn merged(control: Value, second: Option<Value>, third: Option<Value>, register:
     match control {
         Value::Truth(true) => passing([true, true, false], second?, register),
         Value::Truth(false) => passing([true, false, true], third?, register),
-        _ => passing([true, false, false], Value::Err, register),
+        _ => passing([true, false, false], Value::E, register),
     }
 }
 
@@ -374,7 +374,7 @@ fn joined(control: Value, yes: Option<Value>, no: Option<Value>, register: Optio
         Value::Truth(true) => ([true, true, false], yes?),
         Value::Truth(false) => ([true, false, true], no?),
         _ => {
-            let emits = [Some(Value::Truth(false)), None, Some(Value::Err)];
+            let emits = [Some(Value::Truth(false)), None, Some(Value::E)];
             return Some(Firing { takes: [true, false, false], emits, register });
         }
     };
@@ -426,7 +426,7 @@ pub fn push(mem: &mut [u8], set: &[u8]) -> Answer {
         return refuse(33);
     }
     for (value, &link) in set.chunks_exact(VALUE_BYTES).zip(&links[1..]) {
-        machine.append(link, decode(value).unwrap_or(Value::Err));
+        machine.append(link, decode(value).unwrap_or(Value::E));
     }
     if links[0] != NO_LINK {
         machine.append(links[0], Value::Truth(true));
@@ -474,7 +474,7 @@ pub fn take(mem: &mut [u8], out: &mut [u8]) -> Answer {
     }
     let tokens = links.iter().map(|&link| machine.oldest(link)).chain(std::iter::repeat(None));
     for (place, token) in out[..OUT_BYTES].chunks_exact_mut(VALUE_BYTES).zip(tokens) {
-        place.copy_from_slice(&encode(token.unwrap_or(Value::Err)));
+        place.copy_from_slice(&encode(token.unwrap_or(Value::E)));
     }
     links.iter().for_each(|&link| machine.remove(link));
     machine.mem[7] -= 1;

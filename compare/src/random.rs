@@ -8,6 +8,7 @@ pub mod sheets;
 pub mod tree;
 pub mod turns;
 
+use crate::bytes::VALUE_BYTES;
 use crate::sheet::Sheet;
 use crate::value::Value;
 pub use formulas::Sort;
@@ -59,12 +60,17 @@ pub fn random_set(made: &Made, sheet: &Sheet, rng: &mut Rng) -> Vec<Value> {
 pub fn random_value(sort: Sort, rng: &mut Rng) -> Value {
     let sort = if rng.chance(4) { rng.pick(&[Sort::Whole, Sort::Truth]) } else { sort };
     match (rng.below(100), sort) {
-        (0..=4, _) => Value::Err,
+        (0..=4, _) => rng.pick(&Value::ERRS),
         (_, Sort::Truth) => Value::Truth(rng.chance(50)),
         (5..=84, Sort::Whole) => Value::Whole(rng.between(0, 14) as i32 - 3),
         (85..=94, Sort::Whole) => Value::Whole(rng.pick(&[i32::MIN, i32::MIN + 1, i32::MAX, i32::MAX - 1, -1, 0])),
         _ => Value::Whole(rng.number() as i32),
     }
+}
+
+/// The bytes of an err of any reason, or of none, which is no value.
+pub fn random_err(rng: &mut Rng) -> [u8; VALUE_BYTES] {
+    [3, rng.pick(&[0, 1, 2, 3, 4, 255]), 0, 0, rng.pick(&[0, 0, 0, 1])]
 }
 
 /// One to three small changes anywhere in the bytes.
@@ -107,5 +113,24 @@ fn random_field(rows: usize, rng: &mut Rng) -> usize {
         6 | 7 => rng.below(13),
         8 => rng.between(30, 33),
         _ => rng.below(1_000_000),
+    }
+}
+
+#[cfg(test)]
+mod tests {
+    use super::*;
+    use crate::bytes::decode;
+
+    #[test]
+    fn errs_of_every_reason_occur() {
+        let mut rng = Rng::new(5);
+        let errs: Vec<Option<Value>> = (0..200).map(|_| decode(&random_err(&mut rng))).collect();
+        for err in Value::ERRS.map(Some).into_iter().chain([None]) {
+            assert!(errs.contains(&err), "{err:?}");
+        }
+        let values: Vec<Value> = (0..2_000).map(|_| random_value(Sort::Whole, &mut rng)).collect();
+        for err in Value::ERRS {
+            assert!(values.iter().filter(|&&value| value == err).count() > 10, "{err:?}");
+        }
     }
 }

@@ -1,12 +1,33 @@
-// Values and the eleven operators (document 01, "Values and operators"; and, or beside an err: document 02, Job 2).
+// Values and the eleven operators (document 01, "Values and operators"; and, or beside an err: document 02, Job 2; which err: Job 5).
 // Arithmetic is exact in 64 bits and then held to the range; assumes nothing.
+
+/// "An err now has a reason: Z zero divisor, V answer out of range, E all else".
+#[derive(Clone, Copy, PartialEq, Eq, Debug)]
+pub enum Reason {
+    ZeroDivisor,
+    OutOfRange,
+    Other,
+}
 
 /// A whole number of 32 bits, a truth, or err.
 #[derive(Clone, Copy, PartialEq, Eq, Debug)]
 pub enum Value {
     Whole(i32),
     Truth(bool),
-    Err,
+    Err(Reason),
+}
+
+impl Value {
+    pub const Z: Value = Err(Reason::ZeroDivisor);
+    pub const V: Value = Err(Reason::OutOfRange);
+    pub const E: Value = Err(Reason::Other);
+
+    /// The errs, one of each reason.
+    pub const ERRS: [Value; 3] = [Value::Z, Value::V, Value::E];
+
+    pub fn is_err(self) -> bool {
+        matches!(self, Err(_))
+    }
 }
 
 use Value::{Err, Truth, Whole};
@@ -22,7 +43,7 @@ pub struct ResultSet {
 }
 
 impl ResultSet {
-    pub const EMPTY: ResultSet = ResultSet { values: [Err; PLACES], width: 0 };
+    pub const EMPTY: ResultSet = ResultSet { values: [Value::E; PLACES], width: 0 };
 
     pub fn of(values: &[Value]) -> ResultSet {
         let mut set = ResultSet::EMPTY;
@@ -34,7 +55,7 @@ impl ResultSet {
 
     /// An err for each of so many values.
     pub fn errs(width: usize) -> ResultSet {
-        ResultSet { values: [Err; PLACES], width }
+        ResultSet { values: [Value::E; PLACES], width }
     }
 
     pub fn push(&mut self, value: Value) {
@@ -64,11 +85,12 @@ pub fn operate(code: u32, operand: &[Value]) -> Value {
         (8, &[Truth(x), Truth(y)]) => Truth(x && y),
         (9, &[Truth(x), Truth(y)]) => Truth(x || y),
         // Document 02, Job 2: "false and err is false, true or err is true, whichever side the err stands".
-        (8, &[Truth(false), Err] | &[Err, Truth(false)]) => Truth(false),
-        (9, &[Truth(true), Err] | &[Err, Truth(true)]) => Truth(true),
+        (8, &[Truth(false), Err(_)] | &[Err(_), Truth(false)]) => Truth(false),
+        (9, &[Truth(true), Err(_)] | &[Err(_), Truth(true)]) => Truth(true),
         (10, &[Truth(x)]) => Truth(!x),
         (11, &[Whole(x)]) => in_range(-i64::from(x)),
-        _ => Err,
+        // Job 5: "An operator with err operands hands on the leftmost err, also beside an operand of a wrong kind"; "a wrong kind gives E".
+        _ => operand.iter().copied().find(|value| value.is_err()).unwrap_or(Value::E),
     }
 }
 
@@ -77,7 +99,7 @@ fn on_wholes(code: u32, x: i64, y: i64) -> Value {
         1 => in_range(x + y),
         2 => in_range(x - y),
         3 => in_range(x * y),
-        4 | 5 if y == 0 => Err,
+        4 | 5 if y == 0 => Value::Z,
         4 => in_range(x / y),
         5 => in_range(x % y),
         6 => Truth(x < y),
@@ -86,7 +108,7 @@ fn on_wholes(code: u32, x: i64, y: i64) -> Value {
 }
 
 fn in_range(exact: i64) -> Value {
-    i32::try_from(exact).map_or(Err, Whole)
+    i32::try_from(exact).map_or(Value::V, Whole)
 }
 
 #[cfg(test)]
@@ -100,12 +122,12 @@ mod tests {
     #[test]
     fn sums_stay_in_the_range() {
         assert_eq!(two(1, 2, 3), Whole(5));
-        assert_eq!(two(1, i32::MAX, 1), Err);
-        assert_eq!(two(2, i32::MIN, 1), Err);
+        assert_eq!(two(1, i32::MAX, 1), Value::V);
+        assert_eq!(two(2, i32::MIN, 1), Value::V);
         assert_eq!(two(2, 3, 5), Whole(-2));
-        assert_eq!(two(3, 65_536, 32_768), Err);
+        assert_eq!(two(3, 65_536, 32_768), Value::V);
         assert_eq!(two(3, -65_536, 32_768), Whole(i32::MIN));
-        assert_eq!(operate(11, &[Whole(i32::MIN)]), Err);
+        assert_eq!(operate(11, &[Whole(i32::MIN)]), Value::V);
         assert_eq!(operate(11, &[Whole(7)]), Whole(-7));
     }
 
@@ -115,9 +137,9 @@ mod tests {
         assert_eq!(two(4, 7, -2), Whole(-3));
         assert_eq!(two(5, -7, 2), Whole(-1));
         assert_eq!(two(5, 7, -2), Whole(1));
-        assert_eq!(two(4, 1, 0), Err);
-        assert_eq!(two(5, 1, 0), Err);
-        assert_eq!(two(4, i32::MIN, -1), Err);
+        assert_eq!(two(4, 1, 0), Value::Z);
+        assert_eq!(two(5, 0, 0), Value::Z);
+        assert_eq!(two(4, i32::MIN, -1), Value::V);
         assert_eq!(two(5, i32::MIN, -1), Whole(0));
     }
 
@@ -126,8 +148,8 @@ mod tests {
         assert_eq!(two(6, 1, 2), Truth(true));
         assert_eq!(two(6, 2, 2), Truth(false));
         assert_eq!(two(7, 2, 2), Truth(true));
-        assert_eq!(operate(7, &[Truth(true), Truth(true)]), Err);
-        assert_eq!(operate(6, &[Whole(1), Truth(true)]), Err);
+        assert_eq!(operate(7, &[Truth(true), Truth(true)]), Value::E);
+        assert_eq!(operate(6, &[Whole(1), Truth(true)]), Value::E);
     }
 
     #[test]
@@ -135,30 +157,59 @@ mod tests {
         assert_eq!(operate(8, &[Truth(true), Truth(false)]), Truth(false));
         assert_eq!(operate(9, &[Truth(true), Truth(false)]), Truth(true));
         assert_eq!(operate(10, &[Truth(true)]), Truth(false));
-        assert_eq!(operate(9, &[Truth(true), Whole(1)]), Err);
-        assert_eq!(operate(10, &[Whole(1)]), Err);
-        assert_eq!(operate(11, &[Truth(true)]), Err);
-        assert_eq!(two(8, 1, 1), Err);
+        assert_eq!(operate(9, &[Truth(true), Whole(1)]), Value::E);
+        assert_eq!(operate(10, &[Whole(1)]), Value::E);
+        assert_eq!(operate(11, &[Truth(true)]), Value::E);
+        assert_eq!(two(8, 1, 1), Value::E);
     }
 
     #[test]
     fn false_decides_and_and_true_decides_or_beside_an_err() {
         for (code, decides) in [(8, false), (9, true)] {
-            for (truth, gives) in [(decides, Truth(decides)), (!decides, Err)] {
-                assert_eq!(operate(code, &[Truth(truth), Err]), gives);
-                assert_eq!(operate(code, &[Err, Truth(truth)]), gives);
+            for err in Value::ERRS {
+                for (truth, gives) in [(decides, Truth(decides)), (!decides, err)] {
+                    assert_eq!(operate(code, &[Truth(truth), err]), gives);
+                    assert_eq!(operate(code, &[err, Truth(truth)]), gives);
+                }
             }
-            assert_eq!(operate(code, &[Err, Err]), Err);
         }
     }
 
     #[test]
-    fn a_whole_number_in_and_or_gives_err() {
+    fn a_whole_number_in_and_or_gives_e() {
         for code in [8, 9] {
-            for value in [Truth(false), Truth(true), Err, Whole(0)] {
-                assert_eq!(operate(code, &[Whole(1), value]), Err);
-                assert_eq!(operate(code, &[value, Whole(1)]), Err);
+            for value in [Truth(false), Truth(true), Whole(0)] {
+                assert_eq!(operate(code, &[Whole(1), value]), Value::E);
+                assert_eq!(operate(code, &[value, Whole(1)]), Value::E);
             }
+        }
+    }
+
+    #[test]
+    fn a_wrong_kind_gives_e_beside_a_zero_divisor() {
+        for code in [4, 5] {
+            assert_eq!(operate(code, &[Truth(true), Whole(0)]), Value::E);
+            assert_eq!(operate(code, &[Whole(0), Truth(false)]), Value::E);
+        }
+    }
+
+    #[test]
+    fn the_leftmost_err_is_handed_on_beside_every_kind() {
+        for err in Value::ERRS {
+            for code in 1..=9 {
+                for other in Value::ERRS {
+                    assert_eq!(operate(code, &[err, other]), err);
+                }
+                // Truths decide with codes 8 and 9 or not, as above.
+                for value in [Whole(0), Whole(7), Truth(true), Truth(false)] {
+                    if code <= 7 || matches!(value, Whole(_)) {
+                        assert_eq!(operate(code, &[err, value]), err);
+                        assert_eq!(operate(code, &[value, err]), err);
+                    }
+                }
+            }
+            assert_eq!(operate(10, &[err]), err);
+            assert_eq!(operate(11, &[err]), err);
         }
     }
 }

@@ -103,7 +103,7 @@ fn every_order_of_calls_gives_what_evaluation_gives() {
     let mut values = 0;
     for round in 0..1500 {
         let case = case(false, &mut rng);
-        values += case.expected.iter().flatten().filter(|set| set.values[0] != Value::Err).count();
+        values += case.expected.iter().flatten().filter(|set| !set.values[0].is_err()).count();
         let capacity = round % 16 + 1;
         let calls = rng.pick(&[20, 200, 1000]);
         held += follow(&case, capacity, calls, &mut rng);

@@ -1,11 +1,15 @@
-// The worked examples and the marked cases of document 01, and cases that its sentences decide one by one.
+// The worked examples and the marked cases of document 01, and cases that its sentences and document 02's decide one by one.
 
 use compare::bench::bench;
 use compare::eval::evaluate;
 use compare::graph::build;
 use compare::machine::Machine;
 use compare::sheet::{read, write, Figures, Refusal, Sheet};
-use compare::value::Value::{self, Err, Truth, Whole};
+use compare::value::Value::{self, Truth, Whole};
+
+const E: Value = Value::E;
+const Z: Value = Value::Z;
+const V: Value = Value::V;
 
 const LESSER: &str = "     1     0     0     0     0
      1     1     0     0     0
@@ -80,7 +84,7 @@ fn the_lesser_of_two_has_eight_operators_and_its_four_results() {
     assert_eq!(sheet.figures, Figures { rows: 7, operators: 8, inputs: 2, results: 1 });
     assert_eq!(build(&sheet).operators.len(), 8);
     let sets = [([Whole(3), Whole(5)], Whole(3)), ([Whole(7), Whole(7)], Whole(7))];
-    let errs = [([Err, Whole(2)], Err), ([Truth(true), Whole(1)], Err)];
+    let errs = [([E, Whole(2)], E), ([Truth(true), Whole(1)], E)];
     for (set, result) in sets.into_iter().chain(errs) {
         assert_eq!(values(&sheet, &set), [result]);
         assert_eq!(worked(&sheet, &set), [result]);
@@ -99,14 +103,14 @@ fn factorial_as_marked() {
     let sheet = accepted(&factorial());
     let five = evaluate(&sheet, &[Whole(5)], 5).expect("five rounds are enough");
     assert_eq!((five.set.used(), five.rounds), ([Whole(120)].as_slice(), 5));
-    assert_eq!(evaluate(&sheet, &[Whole(5)], 4), Result::Err(Refusal { number: 36, row: 0 }));
-    let cases = [(Whole(0), Whole(1)), (Whole(12), Whole(479_001_600)), (Whole(13), Err), (Err, Err)];
+    assert_eq!(evaluate(&sheet, &[Whole(5)], 4), Err(Refusal { number: 36, row: 0 }));
+    let cases = [(Whole(0), Whole(1)), (Whole(12), Whole(479_001_600)), (Whole(13), V), (E, E), (Z, E)];
     for (set, result) in cases {
         assert_eq!(values(&sheet, &[set]), [result]);
         assert_eq!(worked(&sheet, &[set]), [result]);
     }
-    assert_eq!(evaluate(&sheet, &[Err], 1).expect("one round is enough").rounds, 1);
-    assert_eq!(evaluate(&sheet, &[Err], 0), Result::Err(Refusal { number: 36, row: 0 }));
+    assert_eq!(evaluate(&sheet, &[E], 1).expect("one round is enough").rounds, 1);
+    assert_eq!(evaluate(&sheet, &[E], 0), Err(Refusal { number: 36, row: 0 }));
 }
 
 /// By hand: constants 1, 1, 1 and true, false; less, subtract, multiply: 8. T on i, y, trigger and F on y, trigger: 5.
@@ -160,7 +164,7 @@ fn sixteen_pushes_pass_and_the_seventeenth_gets_32() {
 }
 
 fn refusal<T>(number: u32) -> Result<T, Refusal> {
-    Result::Err(Refusal { number, row: 0 })
+    Err(Refusal { number, row: 0 })
 }
 
 #[test]
@@ -221,14 +225,75 @@ fn an_if_of_two_iters_ends_with_errs_on_a_bad_test() {
     for (set, result) in [
         ([Whole(0), Truth(true)], [Whole(3), Whole(3)]),
         ([Whole(0), Truth(false)], [Whole(4), Whole(4)]),
-        ([Whole(0), Err], [Err, Err]),
-        ([Whole(0), Whole(1)], [Err, Err]),
-        ([Whole(9), Err], [Whole(9), Whole(9)]),
-        ([Err, Truth(true)], [Err, Err]),
+        ([Whole(0), E], [E, E]),
+        ([Whole(0), Whole(1)], [E, E]),
+        ([Whole(9), E], [Whole(9), Whole(9)]),
+        ([E, Truth(true)], [E, E]),
+        ([Whole(0), Z], [E, E]),
+        ([V, Truth(true)], [E, E]),
     ] {
         assert_eq!(values(&sheet, &set), result);
         assert_eq!(worked(&sheet, &set), result);
     }
+}
+
+/// Document 02, Job 5: "A test that is no truth gives E, whatever reason it carried."
+#[test]
+fn a_test_that_is_an_err_gives_e_in_an_expression_too() {
+    // if 1 / x0 < 2 then x1, 1 / x0 else 1, 2
+    let rows = [
+        [2, 1, 0, 0, 0],
+        [1, 0, 0, 0, 0],
+        [4, 1, 2, 0, 0],
+        [5, 4, 3, 0, 0],
+        [2, 2, 0, 0, 0],
+        [4, 4, 5, 0, 0],
+        [5, 6, 6, 0, 0],
+        [1, 1, 0, 0, 0],
+        [2, 1, 0, 0, 0],
+        [1, 0, 0, 0, 0],
+        [4, 9, 10, 0, 0],
+        [5, 4, 11, 0, 0],
+        [4, 8, 12, 0, 0],
+        [2, 1, 0, 0, 0],
+        [2, 2, 0, 0, 0],
+        [4, 14, 15, 0, 0],
+        [7, 7, 13, 16, 0],
+    ];
+    let sheet = accepted(&rows);
+    for (set, result) in [
+        ([Whole(0), Whole(7)], [E, E]),
+        ([V, Whole(7)], [E, E]),
+        ([Whole(1), Z], [Z, Whole(1)]),
+        ([Whole(2), V], [V, Whole(0)]),
+    ] {
+        assert_eq!(values(&sheet, &set), result);
+        assert_eq!(worked(&sheet, &set), result);
+    }
+}
+
+/// "Set and result fields may hold Z and V": the quotient x0 / x1, their sum and x0 itself.
+#[test]
+fn bench_reads_and_prints_the_reasons() {
+    let pair = [[1, 0, 0, 0, 0], [1, 1, 0, 0, 0]];
+    let halves =
+        [pair[0], pair[1], [4, 1, 2, 0, 0], [5, 4, 3, 0, 0], pair[0], pair[1], [4, 5, 6, 0, 0], [5, 1, 7, 0, 0]];
+    let rows = [&halves[..], &[pair[0], [4, 8, 9, 0, 0], [4, 4, 10, 0, 0]]].concat();
+    let line = |fields: &[&str]| fields.iter().map(|field| format!("{field:>11}")).collect::<String>() + "\n";
+    let cases = [
+        (["7", "0"], ["Z", "7", "7"]),
+        (["T", "0"], ["E", "E", "T"]),
+        (["-2147483648", "-1"], ["V", "V", "-2147483648"]),
+        (["Z", "V"], ["Z", "Z", "Z"]),
+        (["V", "Z"], ["V", "V", "V"]),
+        (["E", "Z"], ["E", "E", "E"]),
+        (["T", "V"], ["V", "V", "T"]),
+        (["Z", "F"], ["Z", "Z", "Z"]),
+    ];
+    let sets: String = cases.iter().map(|(set, _)| line(set)).collect();
+    let printed: String = cases.iter().map(|(_, results)| line(results)).collect();
+    let got = String::from_utf8(bench(&write(&rows), sets.as_bytes())).unwrap();
+    assert_eq!(got, format!("     2     3     8\n{printed}"));
 }
 
 #[test]
@@ -274,6 +339,9 @@ fn bench_refusals() {
             "    12     2\n",
             "{bad}"
         );
+    }
+    for bad in ["          z", "          v", "         ZV", "         -Z", "Z          ", "         Z0"] {
+        assert_eq!(print(&identity, format!("          Z\n{bad}\n").as_bytes()), "    12     2\n", "{bad}");
     }
     for bad in ["99999999999", "         +1", "-0000000001", "          -", "          1          1", "", "\n"] {
         assert_eq!(print(&identity, format!("{bad}\n").as_bytes()), "    12     1\n", "{bad}");

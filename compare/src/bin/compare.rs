@@ -6,8 +6,9 @@ use compare::arguments::Cases;
 use compare::bytes::{self, EvaluateAnswer, OUT_BYTES, VALUE_BYTES};
 use compare::product;
 use compare::random::turns::random_sheet;
-use compare::random::{random_set, random_value, Made, Rng, Sort};
+use compare::random::{random_err, random_set, random_value, Made, Rng, Sort};
 use compare::sheet;
+use compare::value::Value;
 use std::collections::BTreeMap;
 use std::{env, process};
 
@@ -33,7 +34,6 @@ fn main() {
             process::exit(1);
         }
     }
-    note_err_bits();
     let list: Vec<String> = counts.iter().map(|(kind, count)| format!("{kind} {count}")).collect();
     println!("no difference; compared: {}", list.join(", "));
 }
@@ -94,8 +94,7 @@ fn compare_evaluate(made: &Made, counts: &mut Counts, rng: &mut Rng) -> Result<(
     let their_out = after.middle();
     *counts.entry(format!("evaluated with {:2}", ours.refusal)).or_default() += 1;
     if ours == theirs && our_out == their_out {
-        let proper = ours.refusal == 0 && our_out[..OUT_BYTES].chunks(VALUE_BYTES).any(|value| value[0] != 3);
-        *counts.entry("evaluated to more than errs".into()).or_default() += u64::from(proper);
+        count_results(&ours, &our_out, counts);
         return Ok(());
     }
     let lent = format!("set {set:02x?}\nrounds lent {rounds}, room {room} holding {held:02x?}");
@@ -105,6 +104,15 @@ fn compare_evaluate(made: &Made, counts: &mut Counts, rng: &mut Rng) -> Result<(
         show(ours, &our_out),
         show(theirs, their_out)
     ))
+}
+
+/// How many accepted evaluations have a result that is no err, and how many a Z or a V.
+fn count_results(answer: &EvaluateAnswer, out: &[u8], counts: &mut Counts) {
+    let results = || out.chunks_exact(VALUE_BYTES).take(answer.width as usize).filter_map(bytes::decode);
+    let mut count = |kind: &str, found: bool| *counts.entry(kind.into()).or_default() += u64::from(found);
+    count("evaluated to more than errs", results().any(|value| !value.is_err()));
+    count("evaluated to Z", results().any(|value| value == Value::Z));
+    count("evaluated to V", results().any(|value| value == Value::V));
 }
 
 /// Mostly a set that fits the sheet; else one with a value or a byte too many or too few, or with a bad value.
@@ -129,6 +137,10 @@ fn random_set_bytes(made: &Made, rng: &mut Rng) -> Vec<u8> {
             set[place] = 2;
             set[place + rng.between(1, 4)] = rng.pick(&[2, 3, 255]);
         }
+        6 if !set.is_empty() => {
+            let place = rng.below(values.len()) * VALUE_BYTES;
+            set[place..place + VALUE_BYTES].copy_from_slice(&random_err(rng));
+        }
         _ => {}
     }
     set
@@ -141,11 +153,4 @@ fn random_rounds(sheet: &[u8], set: &[u8], rng: &mut Rng) -> u32 {
         0 => rng.pick(&[0, answer.rounds.saturating_sub(1), answer.rounds, answer.rounds + 1, ROUNDS, u32::MAX]),
         _ => rng.below(ROUNDS as usize) as u32,
     }
-}
-
-/// Whether an err with other bits than 0 is a good value is the byte form's decision, not document 01's.
-fn note_err_bits() {
-    let identity = sheet::write(&[[1, 0, 0, 0, 0]]);
-    let answer = product::evaluate(&identity, &[3, 1, 0, 0, 0], 0, &mut [0; OUT_BYTES]);
-    println!("note: an err whose bits are not 0 gets {} (not compared)", answer.refusal);
 }

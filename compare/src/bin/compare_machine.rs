@@ -7,7 +7,7 @@ use compare::arguments::Cases;
 use compare::bytes::{self, OUT_BYTES, VALUE_BYTES};
 use compare::memory::{self, Answer, MOST_LINKS};
 use compare::random::faults::plant;
-use compare::random::{accepted_sheet, heavy_sheet, random_set, random_value, Made, Rng, Sort};
+use compare::random::{accepted_sheet, heavy_sheet, random_err, random_set, random_value, Made, Rng, Sort};
 use compare::sheet::{self, Sheet};
 use compare::{eval, product};
 use std::collections::{BTreeMap, VecDeque};
@@ -168,6 +168,10 @@ impl Run<'_> {
             let at = rng.below(set.len());
             set[at] = rng.pick(&[0, 1, 2, 3, 4, 255]);
         }
+        if rng.chance(3) && !values.is_empty() {
+            let at = rng.below(values.len()) * VALUE_BYTES;
+            set[at..at + VALUE_BYTES].copy_from_slice(&random_err(rng));
+        }
         if rng.chance(2) {
             set.pop();
         }
@@ -205,13 +209,14 @@ fn alter(mem: &mut [u8], length: usize, rng: &mut Rng) {
         6 => mem[16_640 + 5 * operator + rng.below(5)] = rng.pick(&[0, 1, 2, 3, 4, 255]),
         7 | 8 => mem[link] = rng.pick(&[0, 1, 2, 15, 16, 17, 255]),
         9 | 10 => {
+            let err = random_err(rng);
             let value = rng.pick(&[
                 [1, 5, 0, 0, 0],
                 [2, 0, 0, 0, 0],
                 [2, 1, 0, 0, 0],
                 [2, 2, 0, 0, 0],
-                [3, 0, 0, 0, 0],
-                [3, 1, 0, 0, 0],
+                err,
+                err,
                 [0; 5],
                 [4, 0, 0, 0, 0],
             ]);

@@ -96,7 +96,7 @@ fn part_long(sets: &mut Vec<Vec<Value>>, sheet: &Sheet, rng: &mut Rng) {
     }
 }
 
-const BAD_FIELDS: [&[u8; FIELD]; 20] = [
+const BAD_FIELDS: [&[u8; FIELD]; 23] = [
     b"         -0",
     b"         +1",
     b"         01",
@@ -105,6 +105,9 @@ const BAD_FIELDS: [&[u8; FIELD]; 20] = [
     b"          t",
     b"         TT",
     b"         -T",
+    b"          z",
+    b"         ZV",
+    b"         -V",
     b"1          ",
     b"\t         1",
     b"         1\t",
@@ -143,9 +146,9 @@ fn spoil(text: &mut Vec<u8>, line: usize, rng: &mut Rng) -> &'static str {
     let fault = rng.pick(&FAULTS[..if line > 1 { 9 } else { 8 }]);
     match fault {
         "unended" => drop(text.pop()),
-        "a byte changed" => text[place] = rng.pick(b" 0123456789-TFE\n\r\0x"),
+        "a byte changed" => text[place] = rng.pick(b" 0123456789-TFEZV\n\r\0x"),
         "a byte left out" => drop(text.remove(place)),
-        "a byte too many" => text.insert(place, rng.pick(b" 019-TFE\n")),
+        "a byte too many" => text.insert(place, rng.pick(b" 019-TFEZV\n")),
         "filled up" => text.resize(rng.pick(&[MOST_SET_BYTES, MOST_SET_BYTES + 1, 200_000]), b'\n'),
         "CR LF" => *text = String::from_utf8_lossy(text).replace('\n', "\r\n").into_bytes(),
         "two lines in one" => drop(text.remove(rng.below(lines) * line + line - 1)),

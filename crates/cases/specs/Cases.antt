@@ -1,5 +1,5 @@
--- Document 01's marked examples (p), "one list of definitions' outcomes with one proof over the list", and the verdict that document 02,
--- Job 2, asks for. A case is a question and what it gives; a question that a later part answers is one constructor more, in `Question`, `Answer` and `got`.
+-- Document 01's marked examples (p), "one list of definitions' outcomes with one proof over the list", and what document 02 asks for: the verdict
+-- of Job 2 and the reasons of Job 5. A case is a question and what it gives; a question that a later part answers is one constructor more, in `Question`, `Answer` and `got`.
 use Prim.Native.Nat.{ℕ}
 use mathlib.Core.Path.{_≡_, refl}
 use mathlib.Core.Bool.{Bool, true, false}
@@ -7,8 +7,9 @@ use mathlib.Core.List.{List, [], _∷_, _++_, map}
 use native.Mathlib.Decide.{ℕ-discrete}
 use lib.IntN.{pos, negsuc}
 use lib.ListN.{length, replicate}
+use Rattle.value.specs.declared.Reason.the-variants.{ZeroDivisor, OutOfRange}
 use Rattle.value.specs.declared.Value.{Value}
-use Rattle.value.specs.declared.Value.the-variants.{Whole, Truth}
+use Rattle.value.specs.declared.Value.the-variants.{Whole, Truth, Err}
 use Rattle.value.specs.Bytes.{bytesOf}
 use Rattle.value.specs.Senses.{err}
 use Rattle.formula.specs.declared.Verdict.{Verdict}
@@ -29,7 +30,7 @@ use Rattle.theory_reference.specs.Marks.{marks}
 use Rattle.theory_verdicts.specs.Running.{startOf}
 use Rattle.demand_ends.specs.ResultBytes.{spelled}
 use Rattle.demand.specs.Pushes.{pushRefusals}
-use Rattle.examples.specs.Sheets.{bytes, lesser, twice, factorial, verdict, iterAlone, letUnused, alike, constantRow}
+use Rattle.examples.specs.Sheets.{bytes, lesser, twice, factorial, verdict, zeroDivided, iterAlone, letUnused, alike, constantRow}
 
 -- What can be asked of the definitions.
 pub data Question : Type 0 where
@@ -93,6 +94,10 @@ number n = Whole (pos n)
 abbrev one : Value → ℕ → Answer
 one v k = evaluates 0 0 1 k (cell v ∷ replicate 15 (cell err))
 
+-- Two values without a round.
+abbrev two : Value → Value → Answer
+two v w = evaluates 0 0 2 0 (cell v ∷ cell w ∷ replicate 14 (cell err))
+
 -- A verdict and its two margins.
 abbrev three : Value → Value → Value → Answer
 three v a b = evaluates 0 0 3 0 (cell v ∷ cell a ∷ cell b ∷ replicate 13 (cell err))
@@ -101,11 +106,17 @@ three v a b = evaluates 0 0 3 0 (cell v ∷ cell a ∷ cell b ∷ replicate 13 (
 abbrev refusal : ℕ → Answer
 refusal n = evaluates n 0 0 0 (replicate 16 (cell err))
 
+abbrev zeroDivisor : Value
+zeroDivisor = Err ZeroDivisor
+
+abbrev outOfRange : Value
+outOfRange = Err OutOfRange
+
 abbrev pub threeAndFive : List Value
 threeAndFive = number 3 ∷ number 5 ∷ []
 
 unfoldable pub cases : List Case
-unfolding bytes lesser twice factorial verdict iterAlone letUnused alike constantRow
+unfolding bytes lesser twice factorial verdict zeroDivided iterAlone letUnused alike constantRow
 cases =
     -- "sixteen pushes at capacity 16 pass, the seventeenth gives 32": on the links; the same on the machine's memory is Pushed's
     case (pushes (bytes lesser) 16 threeAndFive 17) (refusals (replicate 16 0 ++ 32 ∷ []))
@@ -129,9 +140,16 @@ cases =
     -- "n = 0 gives 1", "n = E gives E"
     ∷ case (evaluation (bytes factorial) (number 0 ∷ []) 1) (one (number 1) 1)
     ∷ case (evaluation (bytes factorial) (err ∷ []) 1) (one err 1)
-    -- "n = 12 gives 479,001,600", "n = 13 gives E"
+    -- "n = 12 gives 479,001,600"; document 02: "factorial of 13 gives V"
     ∷ case (evaluation (bytes factorial) (number 12 ∷ []) 12) (one (number 479001600) 12)
-    ∷ case (evaluation (bytes factorial) (number 13 ∷ []) 13) (one err 13)
+    ∷ case (evaluation (bytes factorial) (number 13 ∷ []) 13) (one outOfRange 13)
+    -- "Z zero divisor"; "A test that is no truth gives E, whatever reason it carried": in an expression and in a loop's body
+    ∷ case (evaluation (bytes zeroDivided) [] 0) (two zeroDivisor err)
+    ∷ case (evaluation (bytes factorial) (zeroDivisor ∷ []) 1) (one err 1)
+    -- Z and V in a set: each operator hands on the leftmost, and where false decides it still decides
+    ∷ case (evaluation (bytes verdict) (zeroDivisor ∷ outOfRange ∷ []) 0) (three zeroDivisor zeroDivisor outOfRange)
+    ∷ case (evaluation (bytes verdict) (number 1450 ∷ outOfRange ∷ []) 0) (three outOfRange (number 550) outOfRange)
+    ∷ case (evaluation (bytes verdict) (zeroDivisor ∷ number 3900 ∷ []) 0) (three (Truth false) zeroDivisor (Whole (negsuc 99)))
     -- "A beacon that fails on range" with a battery reading that is E fails; with a good range there is no verdict, as before
     ∷ case (evaluation (bytes verdict) (err ∷ number 3900 ∷ []) 0) (three (Truth false) err (Whole (negsuc 99)))
     ∷ case (evaluation (bytes verdict) (err ∷ number 4500 ∷ []) 0) (three err err (number 500))

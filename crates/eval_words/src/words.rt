@@ -39,12 +39,16 @@ pub fn put_word(out: &mut [u64], at: usize, w: u64)
     out[at] = w;
 }
 
-// A word of the operator of a code on the values of two words.
+// A word of the operator of a code on the values of two words. The operators on numbers are called apart: they are what loops count with.
 pub fn operated(code: u32, a: u64, b: u64) -> u64
     requires { ⌜ code < 256 ⌝ }
     ensures { λ w. ⌜ heldOf w ≡ apply code (heldOf a) (heldOf b) ⌝ }
 {
-    word(value::apply_code(code as u8, held(a), held(b)))
+    let c = code as u8;
+    match c {
+        1..=7 => word(value::apply_numbers(c, held(a), held(b))),
+        _ => word(value::apply_code(c, held(a), held(b))),
+    }
 }
 
 // The operator of a code on one operand.

@@ -1,4 +1,4 @@
--- The example sheets of document 01, "Program and readings" and "Marked for proof", and that of examples/verdict, as text. Assumes nothing.
+-- The example sheets of document 01, "Program and readings" and "Marked for proof", that of examples/verdict, and one that divides by zero, as text. Assumes nothing.
 use Prim.Native.Nat.{ℕ, zero, suc}
 use Prim.Native.String.{String, [] as endS, _∷_ as _∷S_}
 use Prim.Native.Char as Char
@@ -25,6 +25,10 @@ factorial = "     1     0     0     0     0\n     2     1     0     0     0\n   
 -- range are identifiers 0 and 1.
 unfoldable pub verdict : String
 verdict = "     1     0     0     0     0\n     2   900     0     0     0\n     4     1     2     0     0\n     5     6     3     0     0\n     5    10     4     0     0\n     1     1     0     0     0\n     2  4000     0     0     0\n     4     6     7     0     0\n     5     6     8     0     0\n     5    10     9     0     0\n     4     5    10     0     0\n     5     8    11     0     0\n     1     0     0     0     0\n     2   900     0     0     0\n     4    13    14     0     0\n     5     2    15     0     0\n     1     1     0     0     0\n     2  4000     0     0     0\n     4    17    18     0     0\n     5     2    19     0     0\n     4    16    20     0     0\n     4    12    21     0     0\n"
+
+-- 1 / 0, and if 1 / 0 < 2 then 3 else 4
+unfoldable pub zeroDivided : String
+zeroDivided = "     2     1     0     0     0\n     2     0     0     0     0\n     4     1     2     0     0\n     5     4     3     0     0\n     2     1     0     0     0\n     2     0     0     0     0\n     4     5     6     0     0\n     5     4     7     0     0\n     2     2     0     0     0\n     4     8     9     0     0\n     5     6    10     0     0\n     2     3     0     0     0\n     2     4     0     0     0\n     7    11    12    13     0\n     4     4    14     0     0\n"
 
 -- An iter as the formula.
 unfoldable pub iterAlone : String

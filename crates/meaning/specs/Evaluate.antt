@@ -1,6 +1,6 @@
 -- Document 01, "Direct evaluation is lent rounds and tells those used", "A result set is sixteen values carried whole, with
 -- its width; places past the width hold err", and the refusals of evaluation in their order: 1 to 10, 12, 36. A set is lent
--- in the byte form (sets' specs/Sets). Assumes nothing.
+-- in the byte form (value_sets' specs/Sets). Assumes nothing.
 use Prim.Native.Nat.{ℕ, _-_}
 use mathlib.Core.List.{List, _++_, map}
 use mathlib.Core.Option.{Option, some, none}

@@ -1,5 +1,5 @@
 -- The worked example of document 01, "Program and readings", as text: the four set lines of the lesser of two, and the five lines that it prints. Beside
--- them the ends of the values' range, fields that are no value, and a refusal. They hold the definitions to the paper. Assumes nothing.
+-- them the ends of the values' range, errs with a reason, fields that are no value, and a refusal. They hold the definitions to the papers. Assumes nothing.
 use Prim.Native.Nat.{ℕ, zero, suc}
 use Prim.Native.String.{String}
 use mathlib.Core.Path.{_≡_, refl}
@@ -53,6 +53,12 @@ truth = 2 ∷ 1 ∷ 0 ∷ 0 ∷ 0 ∷ []
 abbrev err : List ℕ
 err = 3 ∷ 0 ∷ 0 ∷ 0 ∷ 0 ∷ []
 
+abbrev zeroDivisor : List ℕ
+zeroDivisor = 3 ∷ 1 ∷ 0 ∷ 0 ∷ 0 ∷ []
+
+abbrev outOfRange : List ℕ
+outOfRange = 3 ∷ 2 ∷ 0 ∷ 0 ∷ 0 ∷ []
+
 abbrev least : List ℕ
 least = 1 ∷ 0 ∷ 0 ∷ 0 ∷ 128 ∷ []
 
@@ -76,6 +82,12 @@ cases =
     ∷ case (printing 0 4 ((least ++ greatest ++ small 0 ++ falsehood ++ errs 12) ∷ (small 10 ++ small 200 ++ truth ++ err ++ errs 12) ∷ []))
     (prints (bytes "     0     4     2\n-2147483648 2147483647          0          F\n         10        200          T          E\n"))
     ∷ case (reading 4 "-2147483648 2147483647          0          F\n") (reads (sets ((least ++ greatest ++ small 0 ++ falsehood) ∷ [])))
+    -- "Set and result fields may hold Z and V", alone as every letter, and right-justified
+    ∷ case (reading 3 "          E          Z          V\n") (reads (sets ((err ++ zeroDivisor ++ outOfRange) ∷ [])))
+    ∷ case (printing 3 3 ((err ++ zeroDivisor ++ outOfRange ++ errs 13) ∷ [])) (prints (bytes "     3     3     1\n          E          Z          V\n"))
+    ∷ case (reading 1 "          Z\n         ZV\n") (reads (badLine 2))
+    ∷ case (reading 1 "         Z \n") (reads (badLine 1))
+    ∷ case (reading 1 "          z\n") (reads (badLine 1))
     -- past either end, "no -0", "no leading zeros", not right-justified
     ∷ case (reading 1 "          1\n-2147483649\n") (reads (badLine 2))
     ∷ case (reading 1 " 2147483648\n") (reads (badLine 1))

@@ -10,6 +10,8 @@ use borrow.Author.Tests.{le-leb, lt-leb, eq-eqb, ne-eqb, eqb-true, eqb-false}
 use lib.ListN.{length, getD}
 use lib.Seq.{slice, slice-cons, slice-empty}
 use lib.Dec.{eqb, leb}
+use Rattle.value.specs.declared.Reason.{Reason}
+use Rattle.value.specs.declared.Reason.the-variants.{ZeroDivisor, OutOfRange, Other}
 use Rattle.value.specs.declared.Value.{Value}
 use Rattle.value.specs.declared.Value.the-variants.{Whole, Truth, Err}
 use Rattle.value.specs.Operators.{pick}
@@ -19,6 +21,7 @@ use Rattle.formula.specs.declared.Field.{Field}
 use Rattle.formula.specs.Sheet.{digitsOf, fieldOf, zeroOf}
 use Rattle.sheet_fields.proofs.FieldLaws.{field-zero, zero-end, zero-more}
 use Rattle.text.specs.Fields.{positive, negative, behindMinus, alone, fieldValue, wordBy}
+use Rattle.text.specs.Printed.{letterOf}
 
 -- ---- numbers
 
@@ -105,20 +108,22 @@ module _ (s : List ℕ) (i end : ℕ) (h : i < end) (k : end ≤ length s) where
   unfolding fieldValue
   value-false p = ap fieldValue cons ∙ rw p refl
 
-  pub value-err : getD s i 0 ≡ 69 → fieldValue (slice i end s) ≡ alone (slice (i + 1) end s) Err
+  pub value-err : (r : Reason) → getD s i 0 ≡ letterOf r → fieldValue (slice i end s) ≡ alone (slice (i + 1) end s) (Err r)
   unfolding fieldValue
-  value-err p = ap fieldValue cons ∙ rw p refl
+  value-err Other p = ap fieldValue cons ∙ rw p refl
+  value-err ZeroDivisor p = ap fieldValue cons ∙ rw p refl
+  value-err OutOfRange p = ap fieldValue cons ∙ rw p refl
 
   pub value-minus : getD s i 0 ≡ 45 → fieldValue (slice i end s) ≡ behindMinus (slice (i + 1) end s)
   unfolding fieldValue
   value-minus p = ap fieldValue cons ∙ rw p refl
 
-  pub value-number : (getD s i 0 ≡ 32 → ⊥) → (getD s i 0 ≡ 84 → ⊥) → (getD s i 0 ≡ 70 → ⊥) → (getD s i 0 ≡ 69 → ⊥) → (getD s i 0 ≡ 45 → ⊥)
-      → fieldValue (slice i end s) ≡ positive (fieldOf (slice i end s))
+  pub value-number : (getD s i 0 ≡ 32 → ⊥) → (getD s i 0 ≡ 84 → ⊥) → (getD s i 0 ≡ 70 → ⊥) → (getD s i 0 ≡ 69 → ⊥) → (getD s i 0 ≡ 90 → ⊥)
+      → (getD s i 0 ≡ 86 → ⊥) → (getD s i 0 ≡ 45 → ⊥) → fieldValue (slice i end s) ≡ positive (fieldOf (slice i end s))
   unfolding fieldValue
-  value-number a b c d e =
+  value-number space t f e z v minus =
       rw cons
-      (simp (ne-eqb (getD s i 0) 32 a, ne-eqb (getD s i 0) 84 b, ne-eqb (getD s i 0) 70 c, ne-eqb (getD s i 0) 69 d, ne-eqb (getD s i 0) 45 e))
+      (simp (ne-eqb (getD s i 0) 32 space, ne-eqb (getD s i 0) 84 t, ne-eqb (getD s i 0) 70 f, ne-eqb (getD s i 0) 69 e, ne-eqb (getD s i 0) 90 z, ne-eqb (getD s i 0) 86 v, ne-eqb (getD s i 0) 45 minus))
 
   -- "zero is one digit 0"
   pub zero-word : getD s i 0 ≡ 48 → wordBy (positive (fieldOf (slice i end s))) ≡ pick (eqb (i + 1) end) 1 0

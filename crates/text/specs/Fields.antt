@@ -1,11 +1,13 @@
 -- A value field of a set line (document 01, "Program and readings"): "one 11-character field a value, right-justified ..: a decimal number as in the
--- sheet, with "-" for negatives (no -0), or T, F, E". A number outside the values' range is a bad field. Assumes nothing.
+-- sheet, with "-" for negatives (no -0), or T, F, E"; document 02, Job 5: "An err now has a reason: Z zero divisor, V answer out of range, E all else",
+-- "Set and result fields may hold Z and V". A number outside the values' range is a bad field. Assumes nothing.
 use Prim.Native.Nat.{ℕ, zero, suc, _+_, _*_, _-_}
 use mathlib.Core.Bool.{Bool, true, false, cond, _&&_}
 use mathlib.Core.List.{List, [], _∷_}
 use mathlib.Core.Option.{Option, some, none}
 use lib.IntN.{pos, negsuc}
 use lib.Dec.{eqb, leb}
+use Rattle.value.specs.declared.Reason.the-variants.{ZeroDivisor, OutOfRange, Other}
 use Rattle.value.specs.declared.Value.{Value}
 use Rattle.value.specs.declared.Value.the-variants.{Whole, Truth, Err}
 use Rattle.value.specs.Operators.{pick}
@@ -44,9 +46,11 @@ fieldValue (b ∷ s) =
     cond (eqb b 32) (fieldValue s)
     (cond (eqb b 84) (alone s (Truth true))
     (cond (eqb b 70) (alone s (Truth false))
-    (cond (eqb b 69) (alone s Err)
+    (cond (eqb b 69) (alone s (Err Other))
+    (cond (eqb b 90) (alone s (Err ZeroDivisor))
+    (cond (eqb b 86) (alone s (Err OutOfRange))
     (cond (eqb b 45) (behindMinus s)
-    (positive (fieldOf (b ∷ s)))))))
+    (positive (fieldOf (b ∷ s)))))))))
 
 -- The word of a value's byte form; 0 for none.
 abbrev pub wordBy : Option Value → ℕ

@@ -6,19 +6,22 @@ use mathlib.Core.List.{List, [], _∷_, _++_, append-assoc, append-nil}
 use mathlib.Core.Option.{Option, some, none}
 use native.Mathlib.Omega.{arith}
 use native.Mathlib.Numerals.{add-one}
-use borrow.Author.Tests.{lt-ltb, le-ltb, eq-eqb, ne-eqb}
+use borrow.Author.Tests.{lt-ltb, le-ltb, eq-eqb, ne-eqb, eqb-true}
 use lib.IntN.{pos, negsuc}
 use lib.ListN.{length, take, drop, set, getD, replicate, length-append, length-replicate, length-set, length-take, length-drop, replicate-append-replicate}
 use lib.Seq.{sets, sets-eq, length-sets, take-at, drop-at, set-split, take-add, take-suc, take-append-le, drop-append-le, take-all, take-set-le, drop-set-lt, drop-cons, take-take, drop-drop, length-take-le, set-append-seam, take-length, set-at, take-suc-set, drop-length}
 use lib.Dec.{ltb, eqb}
 use mir.Syntax.{w32}
 use mir.Val.{toZ}
+use Rattle.value.specs.declared.Reason.{Reason}
+use Rattle.value.specs.declared.Reason.the-variants.{ZeroDivisor, OutOfRange, Other}
 use Rattle.value.specs.declared.Value.{Value}
 use Rattle.value.specs.declared.Value.the-variants.{Whole, Truth, Err}
 use Rattle.value.specs.Operators.{pick}
-use Rattle.value.specs.Bytes.{valueOf, wholeOf, truthOf, errOf, wordAt}
+use Rattle.value.specs.Senses.{err}
+use Rattle.value.specs.Bytes.{wordOf, valueOf, wholeOf, truthOf, errOf, wordAt}
 use Rattle.value.proofs.Sign.{high, low-z}
-use Rattle.text.specs.Printed.{led, shown, numberField, letterField, valueField, optionField, wordField, resultFields, resultLine, headLine, refusalLine}
+use Rattle.text.specs.Printed.{led, shown, numberField, letterField, letterOf, valueField, optionField, wordField, resultFields, resultLine, headLine, refusalLine}
 
 -- ---- lengths
 
@@ -54,12 +57,12 @@ value-length (Whole (pos n)) = shown-length false 11 n
 value-length (Whole (negsuc n)) = shown-length true 11 (suc n)
 value-length (Truth true) = refl
 value-length (Truth false) = refl
-value-length Err = refl
+value-length (Err r) = refl
 
 option-length : (o : Option Value) → length (optionField o) ≡ 11
 unfolding optionField
 option-length (some v) = value-length v
-option-length none = value-length Err
+option-length none = value-length err
 
 pub word-length : (w : ℕ) → length (wordField w) ≡ 11
 unfolding wordField
@@ -147,14 +150,25 @@ module _ (w : ℕ) where
   unfolding wordField valueOf
   word-truth e = rw e refl
 
-  pub word-other : (w % 256 ≡ 1 → ⊥) → (w % 256 ≡ 2 → ⊥) → wordField w ≡ letterField 69
-  unfolding wordField optionField valueField valueOf errOf
-  word-other p q = rw (ne-eqb (w % 256) 1 p, ne-eqb (w % 256) 2 q) (go (eqb (w % 256) 3) (eqb (w / 256) 0))
+  pub word-err : (r : Reason) → w ≡ wordOf (Err r) → wordField w ≡ letterField (letterOf r)
+  unfolding wordOf wordField optionField valueField valueOf errOf
+  word-err ZeroDivisor e = rw e refl
+  word-err OutOfRange e = rw e refl
+  word-err Other e = rw e refl
+
+  pub word-other : (w % 256 ≡ 1 → ⊥) → (w % 256 ≡ 2 → ⊥) → (w ≡ wordOf (Err ZeroDivisor) → ⊥) → (w ≡ wordOf (Err OutOfRange) → ⊥) → wordField w ≡ letterField 69
+  unfolding wordOf wordField optionField valueField valueOf errOf
+  word-other p q z v = rw (ne-eqb (w % 256) 1 p, ne-eqb (w % 256) 2 q) (go (eqb (w % 256) 3) refl)
     where
-      go : (a b : Bool) → optionField (pick a (pick b (some Err) none) none) ≡ letterField 69
-      go true true = refl
-      go true false = refl
-      go false b = refl
+      plain : (b : Bool) → optionField (pick b (some err) none) ≡ letterField 69
+      plain true = refl
+      plain false = refl
+
+      go : (a : Bool) → eqb (w % 256) 3 ≡ a → optionField (pick a (errOf (w / 256)) none) ≡ letterField 69
+      go true e =
+          let t = eqb-true (w % 256) 3 e in
+          rw (ne-eqb (w / 256) 1 (λ k. z (omega arith)), ne-eqb (w / 256) 2 (λ k. v (omega arith))) (plain (eqb (w / 256) 0))
+      go false e = refl
 
 -- ---- parts written one behind another
 

@@ -7,9 +7,12 @@ use mathlib.Core.Option.{Option, some, none}
 use lib.IntN.{pos, negsuc}
 use lib.ListN.{replicate}
 use lib.Dec.{ltb}
+use Rattle.value.specs.declared.Reason.{Reason}
+use Rattle.value.specs.declared.Reason.the-variants.{ZeroDivisor, OutOfRange, Other}
 use Rattle.value.specs.declared.Value.{Value}
 use Rattle.value.specs.declared.Value.the-variants.{Whole, Truth, Err}
 use Rattle.value.specs.Operators.{pick}
+use Rattle.value.specs.Senses.{err}
 use Rattle.value.specs.Bytes.{valueOf, wordAt}
 
 -- What stands in front of a number's first digit: spaces, "with "-" for negatives".
@@ -32,20 +35,27 @@ numberField n = shown false 6 n
 unfoldable pub letterField : ℕ → List ℕ
 letterField c = replicate 10 32 ++ (c ∷ [])
 
--- "one 11-character field a value, right-justified .. a decimal number as in the sheet, with "-" for negatives (no -0), or T, F, E"
+-- Document 02, Job 5: "An err now has a reason: Z zero divisor, V answer out of range, E all else"
+abbrev pub letterOf : Reason → ℕ
+letterOf ZeroDivisor = 90
+letterOf OutOfRange = 86
+letterOf Other = 69
+
+-- "one 11-character field a value, right-justified .. a decimal number as in the sheet, with "-" for negatives (no -0), or T, F, E"; "Set and
+-- result fields may hold Z and V"
 unfoldable pub valueField : Value → List ℕ
 unfolding shown letterField
 valueField (Whole (pos n)) = shown false 11 n
 valueField (Whole (negsuc n)) = shown true 11 (suc n)
 valueField (Truth true) = letterField 84
 valueField (Truth false) = letterField 70
-valueField Err = letterField 69
+valueField (Err r) = letterField (letterOf r)
 
--- A word of the byte form; one that is no value is never handed out, and shows as err.
+-- A word of the byte form; one that is no value is never handed out, and shows as the plain err.
 unfoldable pub optionField : Option Value → List ℕ
 unfolding valueField
 optionField (some v) = valueField v
-optionField none = valueField Err
+optionField none = valueField err
 
 unfoldable pub wordField : ℕ → List ℕ
 unfolding optionField

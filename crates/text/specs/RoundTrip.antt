@@ -12,8 +12,10 @@ use borrow.Author.Tests.{le-leb, eq-eqb, ne-eqb}
 use lib.IntN.{pos, negsuc}
 use lib.ListN.{length, getD, take, drop, replicate, length-append}
 use lib.Seq.{take-at, drop-at, getD-at, take-suc, take-length, drop-append-add}
+use Rattle.value.specs.declared.Reason.the-variants.{ZeroDivisor, OutOfRange, Other}
 use Rattle.value.specs.declared.Value.{Value}
 use Rattle.value.specs.declared.Value.the-variants.{Whole, Truth, Err}
+use Rattle.value.specs.Senses.{err}
 use Rattle.value.specs.Bytes.{InRange, wordOf, wordBytes, bytesOf, wordAt}
 use Rattle.value.proofs.Words.{value-of-word, word-lt, stored-parts, word-stored}
 use Rattle.formula.specs.declared.Field.{Field}
@@ -153,7 +155,7 @@ blanks-skipped (suc k) s = blanks-skipped k s
 digit-first : (b : ℕ) (s : List ℕ) → 48 ≤ b → b ≤ 57 → fieldValue (b ∷ s) ≡ positive (fieldOf (b ∷ s))
 unfolding fieldValue
 digit-first b s l h =
-    simp (ne-eqb b 32 (λ e. omega arith), ne-eqb b 84 (λ e. omega arith), ne-eqb b 70 (λ e. omega arith), ne-eqb b 69 (λ e. omega arith), ne-eqb b 45 (λ e. omega arith))
+    simp (ne-eqb b 32 (λ e. omega arith), ne-eqb b 84 (λ e. omega arith), ne-eqb b 70 (λ e. omega arith), ne-eqb b 69 (λ e. omega arith), ne-eqb b 90 (λ e. omega arith), ne-eqb b 86 (λ e. omega arith), ne-eqb b 45 (λ e. omega arith))
 
 minus-first : (b : ℕ) (s : List ℕ) → 49 ≤ b → b ≤ 57 → fieldValue (45 ∷ b ∷ s) ≡ negative (digitsOf (b - 48) s)
 unfolding fieldValue behindMinus
@@ -190,7 +192,9 @@ value-reads-back (Whole (pos n)) h = positive-reads-back 10 n (omega arith) ∙ 
 value-reads-back (Whole (negsuc n)) h = negative-reads-back 10 (suc n) (omega arith) (omega arith) ∙ rw (le-leb n 2147483647 (omega arith)) refl
 value-reads-back (Truth true) h = refl
 value-reads-back (Truth false) h = refl
-value-reads-back Err h = refl
+value-reads-back (Err ZeroDivisor) h = refl
+value-reads-back (Err OutOfRange) h = refl
+value-reads-back (Err Other) h = refl
 
 -- ---- a line of values
 
@@ -211,7 +215,7 @@ abbrev pub AllInRange : List Value → Type 0
 AllInRange [] = Unit
 AllInRange (v ∷ vs) = InRange v × AllInRange vs
 
-range-at : (vs : List Value) (j : ℕ) → AllInRange vs → InRange (getD vs j Err)
+range-at : (vs : List Value) (j : ℕ) → AllInRange vs → InRange (getD vs j err)
 range-at [] j r = tt
 range-at (v ∷ vs) zero r = r .0
 range-at (v ∷ vs) (suc j) r = range-at vs j (r .1)
@@ -235,19 +239,19 @@ unfolding spelled
 spelled-append [] us = refl
 spelled-append (v ∷ vs) us = ap (λ (x : List ℕ). bytesOf v ++ x) (spelled-append vs us) ∙ sym (append-assoc (bytesOf v) (spelled vs) (spelled us))
 
-printed-more : (vs : List Value) (k : ℕ) → k < length vs → printed (take (suc k) vs) ≡ printed (take k vs) ++ valueField (getD vs k Err)
+printed-more : (vs : List Value) (k : ℕ) → k < length vs → printed (take (suc k) vs) ≡ printed (take k vs) ++ valueField (getD vs k err)
 unfolding printed
 printed-more vs k h =
-    ap printed (take-suc vs k Err h) ∙ printed-append (take k vs) (getD vs k Err ∷ [])
-    ∙ ap (λ (x : List ℕ). printed (take k vs) ++ x) (append-nil (valueField (getD vs k Err)))
+    ap printed (take-suc vs k err h) ∙ printed-append (take k vs) (getD vs k err ∷ [])
+    ∙ ap (λ (x : List ℕ). printed (take k vs) ++ x) (append-nil (valueField (getD vs k err)))
 
-spelled-more : (vs : List Value) (k : ℕ) → k < length vs → spelled (take (suc k) vs) ≡ spelled (take k vs) ++ bytesOf (getD vs k Err)
+spelled-more : (vs : List Value) (k : ℕ) → k < length vs → spelled (take (suc k) vs) ≡ spelled (take k vs) ++ bytesOf (getD vs k err)
 unfolding spelled
 spelled-more vs k h =
-    ap spelled (take-suc vs k Err h) ∙ spelled-append (take k vs) (getD vs k Err ∷ [])
-    ∙ ap (λ (x : List ℕ). spelled (take k vs) ++ x) (append-nil (bytesOf (getD vs k Err)))
+    ap spelled (take-suc vs k err h) ∙ spelled-append (take k vs) (getD vs k err ∷ [])
+    ∙ ap (λ (x : List ℕ). spelled (take k vs) ++ x) (append-nil (bytesOf (getD vs k err)))
 
-field-part : (vs : List Value) (t : List ℕ) (j : ℕ) → j < length vs → take 11 (drop (11 * j) (printed vs ++ t)) ≡ valueField (getD vs j Err)
+field-part : (vs : List Value) (t : List ℕ) (j : ℕ) → j < length vs → take 11 (drop (11 * j) (printed vs ++ t)) ≡ valueField (getD vs j err)
 unfolding printed
 field-part [] t j h = absurd (omega arith)
 field-part (v ∷ vs) t zero h =
@@ -260,11 +264,11 @@ field-part (v ∷ vs) t (suc j) h =
     ∙ field-part vs t j (omega arith)
 
 module _ (vs : List Value) (r : AllInRange vs) where
-  value-at : (j : ℕ) → j < length vs → fieldValue (fieldAt (printedLine vs) j) ≡ some (getD vs j Err)
+  value-at : (j : ℕ) → j < length vs → fieldValue (fieldAt (printedLine vs) j) ≡ some (getD vs j err)
   unfolding printedLine
   value-at j h =
       ap fieldValue (drop-take (11 * j) 11 (printed vs ++ (10 ∷ [])) ∙ field-part vs (10 ∷ []) j h)
-      ∙ value-reads-back (getD vs j Err) (range-at vs j r)
+      ∙ value-reads-back (getD vs j err) (range-at vs j r)
 
   wells-printed : (k : ℕ) → k ≤ length vs → fieldsWell k (printedLine vs) ≡ true
   unfolding fieldsWell
@@ -306,7 +310,7 @@ word-later w t i =
         let f : at ≡ suc (suc (suc (suc (suc j)))) = omega arith in
         ap (λ (n : ℕ). getD (wordBytes w ++ t) n 0) f
 
-word-spelled : (vs : List Value) (t : List ℕ) (j : ℕ) → j < length vs → AllInRange vs → wordAt (spelled vs ++ t) (5 * j) ≡ wordOf (getD vs j Err)
+word-spelled : (vs : List Value) (t : List ℕ) (j : ℕ) → j < length vs → AllInRange vs → wordAt (spelled vs ++ t) (5 * j) ≡ wordOf (getD vs j err)
 unfolding spelled bytesOf
 word-spelled [] t j h r = absurd (omega arith)
 word-spelled (v ∷ vs) t zero h r =
@@ -328,7 +332,7 @@ module _ (vs : List Value) (t : List ℕ) (r : AllInRange vs) where
   unfolding resultFields printed
   fields-printed zero h = refl
   fields-printed (suc k) h =
-      rw (fields-printed k (omega arith), word-spelled vs t k (omega arith) r, field-of-word (getD vs k Err) (range-at vs k r))
+      rw (fields-printed k (omega arith), word-spelled vs t k (omega arith) r, field-of-word (getD vs k err) (range-at vs k r))
       (sym (printed-more vs k (omega arith)))
 
   pub results-printed : resultLine (length vs) (spelled vs ++ t) ≡ printedLine vs

@@ -11,6 +11,7 @@ use borrow.Author.Tests.{eqb-true, eqb-false, leb-true, leb-false, eq-eqb, ne-eq
 use lib.ListN.{length, getD, take, drop, length-append, length-take, length-drop, drop-of-length-le}
 use lib.Seq.{slice, sets, sets-eq, take-take, drop-drop, take-add, take-at, drop-at, getD-take, getD-drop, length-take-le, take-suc, split-at, drop-append-add, take-nil, drop-nil}
 use lib.Dec.{eqb, leb}
+use Rattle.value.specs.declared.Reason.the-variants.{ZeroDivisor, OutOfRange, Other}
 use Rattle.value.specs.declared.Value.{Value}
 use Rattle.value.specs.declared.Value.the-variants.{Truth, Err}
 use Rattle.value.specs.Operators.{pick}
@@ -103,17 +104,27 @@ alone-no-feed (b ∷ s) v e = false-true e
 value-no-feed : (s : List ℕ) → isSome (fieldValue s) ≡ true → NoFeed s
 unfolding fieldValue
 value-no-feed [] e = tt
-value-no-feed (b ∷ s) e = go (λ r. value-no-feed s r) (eqb b 32) refl (eqb b 84) refl (eqb b 70) refl (eqb b 69) refl (eqb b 45) refl e
+value-no-feed (b ∷ s) e =
+    go (λ r. value-no-feed s r) (eqb b 32) refl (eqb b 84) refl (eqb b 70) refl (eqb b 69) refl (eqb b 90) refl (eqb b 86) refl (eqb b 45) refl e
   where
-    go : (isSome (fieldValue s) ≡ true → NoFeed s) → (u : Bool) → eqb b 32 ≡ u → (v : Bool) → eqb b 84 ≡ v → (w : Bool) → eqb b 70 ≡ w → (x : Bool) → eqb b 69 ≡ x → (y : Bool) → eqb b 45 ≡ y
-        → isSome (cond u (fieldValue s) (cond v (alone s (Truth true)) (cond w (alone s (Truth false)) (cond x (alone s Err) (cond y (behindMinus s) (positive (fieldOf (b ∷ s)))))))) ≡ true
+    letter : (c : ℕ) (v : Value) → 10 < c → eqb b c ≡ true → isSome (alone s v) ≡ true → NoFeed (b ∷ s)
+    letter c v h p f = (ne-eqb b 10 (λ k. omega (arith, k, h, eqb-true b c p)), alone-no-feed s v f)
+
+    go : (isSome (fieldValue s) ≡ true → NoFeed s) → (space : Bool) → eqb b 32 ≡ space → (t : Bool) → eqb b 84 ≡ t → (f : Bool) → eqb b 70 ≡ f
+        → (e : Bool) → eqb b 69 ≡ e → (z : Bool) → eqb b 90 ≡ z → (v : Bool) → eqb b 86 ≡ v → (minus : Bool) → eqb b 45 ≡ minus
+        → isSome (cond space (fieldValue s)
+        (cond t (alone s (Truth true)) (cond f (alone s (Truth false))
+        (cond e (alone s (Err Other)) (cond z (alone s (Err ZeroDivisor)) (cond v (alone s (Err OutOfRange))
+        (cond minus (behindMinus s) (positive (fieldOf (b ∷ s)))))))))) ≡ true
         → NoFeed (b ∷ s)
-    go later true p v q w r x t y o f = (ne-eqb b 10 (λ h. omega (arith, h, eqb-true b 32 p)), later f)
-    go later false p true q w r x t y o f = (ne-eqb b 10 (λ h. omega (arith, h, eqb-true b 84 q)), alone-no-feed s (Truth true) f)
-    go later false p false q true r x t y o f = (ne-eqb b 10 (λ h. omega (arith, h, eqb-true b 70 r)), alone-no-feed s (Truth false) f)
-    go later false p false q false r true t y o f = (ne-eqb b 10 (λ h. omega (arith, h, eqb-true b 69 t)), alone-no-feed s Err f)
-    go later false p false q false r false t true o f = (ne-eqb b 10 (λ h. omega (arith, h, eqb-true b 45 o)), minus-no-feed s f)
-    go later false p false q false r false t false o f = field-no-feed (b ∷ s) (positive-formed (fieldOf (b ∷ s)) f)
+    go later true p t _ f _ e _ z _ v _ m _ k = (ne-eqb b 10 (λ h. omega (arith, h, eqb-true b 32 p)), later k)
+    go later false _ true p f _ e _ z _ v _ m _ k = letter 84 (Truth true) (omega arith) p k
+    go later false _ false _ true p e _ z _ v _ m _ k = letter 70 (Truth false) (omega arith) p k
+    go later false _ false _ false _ true p z _ v _ m _ k = letter 69 (Err Other) (omega arith) p k
+    go later false _ false _ false _ false _ true p v _ m _ k = letter 90 (Err ZeroDivisor) (omega arith) p k
+    go later false _ false _ false _ false _ false _ true p m _ k = letter 86 (Err OutOfRange) (omega arith) p k
+    go later false _ false _ false _ false _ false _ false _ true p k = (ne-eqb b 10 (λ h. omega (arith, h, eqb-true b 45 p)), minus-no-feed s k)
+    go later false _ false _ false _ false _ false _ false _ false _ k = field-no-feed (b ∷ s) (positive-formed (fieldOf (b ∷ s)) k)
 
 -- ---- a word is 0 for a bad field alone
 

@@ -11,6 +11,7 @@ use borrow.Author.Tests.{leb-true}
 use lib.IntN.{pos, negsuc}
 use lib.Dec.{eqb, leb}
 use lib.ListN.{length, drop, replicate, length-append, length-drop, length-replicate, drop-of-length-le, List·getD-append}
+use Rattle.value.specs.declared.Reason.the-variants.{ZeroDivisor, OutOfRange, Other}
 use Rattle.value.specs.declared.Value.{Value}
 use Rattle.value.specs.declared.Value.the-variants.{Whole, Truth, Err}
 use Rattle.value.specs.Operators.{pick}
@@ -61,17 +62,22 @@ alone-in-range (b ∷ s) u v i e = absurd (Option·none-ne-some v e)
 field-in-range : (s : List ℕ) (v : Value) → fieldValue s ≡ some v → InRange v
 unfolding fieldValue
 field-in-range [] v e = absurd (Option·none-ne-some v e)
-field-in-range (b ∷ s) v e = go (λ q. field-in-range s v q) (eqb b 32) (eqb b 84) (eqb b 70) (eqb b 69) (eqb b 45) e
+field-in-range (b ∷ s) v e = go (λ q. field-in-range s v q) (eqb b 32) (eqb b 84) (eqb b 70) (eqb b 69) (eqb b 90) (eqb b 86) (eqb b 45) e
   where
-    go : (fieldValue s ≡ some v → InRange v) → (x y z u w : Bool)
-        → cond x (fieldValue s) (cond y (alone s (Truth true)) (cond z (alone s (Truth false)) (cond u (alone s Err) (cond w (behindMinus s) (positive (fieldOf (b ∷ s))))))) ≡ some v
+    go : (fieldValue s ≡ some v → InRange v) → (space t f e z o minus : Bool)
+        → cond space (fieldValue s)
+        (cond t (alone s (Truth true)) (cond f (alone s (Truth false))
+        (cond e (alone s (Err Other)) (cond z (alone s (Err ZeroDivisor)) (cond o (alone s (Err OutOfRange))
+        (cond minus (behindMinus s) (positive (fieldOf (b ∷ s))))))))) ≡ some v
         → InRange v
-    go later true y z u w q = later q
-    go later false true z u w q = alone-in-range s (Truth true) v tt q
-    go later false false true u w q = alone-in-range s (Truth false) v tt q
-    go later false false false true w q = alone-in-range s Err v tt q
-    go later false false false false true q = minus-in-range s v q
-    go later false false false false false q = positive-in-range (fieldOf (b ∷ s)) v q
+    go later true t f e z o m q = later q
+    go later false true f e z o m q = alone-in-range s (Truth true) v tt q
+    go later false false true e z o m q = alone-in-range s (Truth false) v tt q
+    go later false false false true z o m q = alone-in-range s (Err Other) v tt q
+    go later false false false false true o m q = alone-in-range s (Err ZeroDivisor) v tt q
+    go later false false false false false true m q = alone-in-range s (Err OutOfRange) v tt q
+    go later false false false false false false true q = minus-in-range s v q
+    go later false false false false false false false q = positive-in-range (fieldOf (b ∷ s)) v q
 
 -- ---- the words of a line's fields
 

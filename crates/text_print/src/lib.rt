@@ -3,6 +3,8 @@
 use text::NUMBER_FIELD;
 use text::VALUE_BYTES;
 use text::VALUE_FIELD;
+use value::bytes::OUT_OF_RANGE;
+use value::bytes::ZERO_DIVISOR;
 ghost use mathlib.Core.Path.{_≡_};
 ghost use Prim.Native.Nat.{_+_, _*_, _≤_, _<_};
 ghost use lib.ListN.{length, replicate};
@@ -135,6 +137,15 @@ pub fn put_value(out: &mut [u8], at: usize, word: u64)
         put_truth(out, at, bits);
         return;
     }
+    if word == ZERO_DIVISOR {
+        put_letter(out, at, b'Z');
+        return;
+    }
+    if word == OUT_OF_RANGE {
+        put_letter(out, at, b'V');
+        return;
+    }
+    // the plain err, or no value
     put_letter(out, at, b'E');
 }
 

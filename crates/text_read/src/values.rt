@@ -2,6 +2,11 @@
 // byte form; 0 is a bad field.
 use text::Digits;
 use text::VALUE_FIELD;
+use value::bytes::ERR;
+use value::bytes::FALSE;
+use value::bytes::OUT_OF_RANGE;
+use value::bytes::TRUE;
+use value::bytes::ZERO_DIVISOR;
 ghost use mathlib.Core.Path.{_≡_};
 ghost use mathlib.Core.Bool.{Bool};
 ghost use Prim.Native.Nat.{_+_, _-_, _≤_, _<_};
@@ -19,16 +24,10 @@ const LEAST: u64 = 2147483648;
 
 const WRAP: u64 = 4294967296;
 
-// The words of the values that a single character stands for (value/specs/Bytes): a tag, and 256 times the bits.
+// The words of no value and of the number 0; those of the letters' values are the byte form's own.
 const NO_VALUE: u64 = 0;
 
 const ZERO: u64 = 1;
-
-const FALSE: u64 = 2;
-
-const TRUE: u64 = 258;
-
-const ERR: u64 = 3;
 
 fn digit(b: u8) -> u64
     requires { ⌜ 48 ≤ b ⌝ }
@@ -128,6 +127,12 @@ fn unspaced(s: &[u8], i: usize, end: usize) -> u64
     }
     if b == b'E' {
         return alone(i + 1, end, ERR);
+    }
+    if b == b'Z' {
+        return alone(i + 1, end, ZERO_DIVISOR);
+    }
+    if b == b'V' {
+        return alone(i + 1, end, OUT_OF_RANGE);
     }
     if b == b'-' {
         return behind_minus(s, i + 1, end);

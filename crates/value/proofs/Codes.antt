@@ -1,9 +1,9 @@
--- Laws of `apply` and `operands`: document 01, "Values and operators". The table of codes is gone through once, in
+-- Laws of `apply`: document 01, "Values and operators". The table of codes is gone through once, in
 -- `apply-cases`; every other law is an instance of it. Assumes nothing.
 use mathlib.Core.Path.{_≡_, refl}
 use mathlib.Core.List.{_∷_, []}
 use mathlib.Core.Logic.{⊎-elim, _⊎_, inl, inr}
-use mathlib.Core.Bool.{Bool, true, false, _||_}
+use mathlib.Core.Bool.{Bool, true, false}
 use Prim.Native.Nat.{ℕ, zero, suc, _≤_, _<_}
 use native.Mathlib.Omega.{arith}
 use borrow.Author.Tests.{eqb-true, eqb-false}
@@ -14,10 +14,12 @@ use types.Run.{OneOf}
 use denote.Enum.Declared.{tagOf}
 use Rattle.value.proofs.Value.{the-type}
 use Rattle.value.proofs.Whole.{fit-in-range, divided-in-range}
+use Rattle.value.specs.declared.Reason.{Reason}
 use Rattle.value.specs.declared.Value.{Value}
 use Rattle.value.specs.declared.Value.the-variants.{Whole, Truth, Err}
 use Rattle.value.specs.Bytes.{InRange}
-use Rattle.value.specs.Operators.{pick, apply, operands, wholes, besideErr, logical, truth, whole, addOf, subtractOf, multiplyOf, divideOf, remainderOf, lessOf, equalOf, andOf, orOf, notOf, negateOf}
+use Rattle.value.specs.Senses.{err}
+use Rattle.value.specs.Operators.{pick, apply, handOn, handOnOne, wholes, besideErr, logical, truth, whole, addOf, subtractOf, multiplyOf, divideOf, remainderOf, lessOf, equalOf, andOf, orOf, notOf, negateOf}
 
 by-test : (P : Value → Type 0) (t : Bool) (x y : Value) → (t ≡ true → P x) → (t ≡ false → P y) → P (pick t x y)
 by-test P true x y h k = h refl
@@ -32,7 +34,7 @@ next c k h e = let n = eqb-false c k e in omega (arith, n)
 pub apply-cases : (P : Value → Type 0) (c : ℕ) (a b : Value)
     → (1 ≤ c → c ≤ 7 → (f : ℤ → ℤ → Value) → ((x y : ℤ) → InRange (f x y)) → P (wholes f a b))
     → (8 ≤ c → c ≤ 9 → (d : Bool) (f : Bool → Bool → Value) → ((x y : Bool) → InRange (f x y)) → P (logical d f a b))
-    → (c ≡ 10 → P (truth notOf a)) → (c ≡ 11 → P (whole negateOf a)) → ((c < 1) ⊎ (12 ≤ c) → P Err)
+    → (c ≡ 10 → P (truth notOf a)) → (c ≡ 11 → P (whole negateOf a)) → ((c < 1) ⊎ (12 ≤ c) → P err)
     → P (apply c a b)
 unfolding apply
 apply-cases P zero a b w t n g z = z (inl (omega arith))
@@ -51,97 +53,51 @@ apply-cases P (suc d) a b w t n g z =
     by-test P (eqb c 10) _ _ (λ e. n (eqb-true c 10 e)) (λ e10. let h11 = next c 10 h10 e10 in
     by-test P (eqb c 11) _ _ (λ e. g (eqb-true c 11 e)) (λ e11. z (inr (next c 11 h11 e11)))))))))))))
 
--- ---- what callers cite
-
-one-or-two : (c : ℕ) → operands c ≡ 1 → (c ≡ 10) ⊎ (c ≡ 11)
-unfolding operands
-one-or-two c h = go (eqb c 10) refl (eqb c 11) refl h
-  where
-    go : (s : Bool) → eqb c 10 ≡ s → (t : Bool) → eqb c 11 ≡ t → _≡_ {A = ℕ} (pick (s || t) 1 2) 1 → (c ≡ 10) ⊎ (c ≡ 11)
-    go true p t q h = inl (eqb-true c 10 p)
-    go false p true q h = inr (eqb-true c 11 q)
-    go false p false q h = absurd (omega arith)
-
--- 10 and 11 take one operand: they do not look at the second
-pub apply-one : (c : ℕ) (a b d : Value) → operands c ≡ 1 → apply c a b ≡ apply c a d
-unfolding apply
-apply-one c a b d h = ⊎-elim (λ (e : c ≡ 10). rw e refl) (λ (e : c ≡ 11). rw e refl) (one-or-two c h)
-
-wholes-err : (f : ℤ → ℤ → Value) (a : Value) → wholes f a Err ≡ Err
-unfolding wholes
-wholes-err f (Whole x) = refl
-wholes-err f (Truth x) = refl
-wholes-err f Err = refl
-
-pub operands-not : operands 10 ≡ 1
-unfolding operands
-operands-not = refl
-
-pub operands-negate : operands 11 ≡ 1
-unfolding operands
-operands-negate = refl
-
--- "An err operand .. gives err": every code but 8 and 9, of which specs/AndOr speaks
-module _ (c : ℕ) (strict : (c < 8) ⊎ (10 ≤ c)) where
-  not-logical : 8 ≤ c → c ≤ 9 → ⊥
-  not-logical l u = ⊎-elim (λ (e : c < 8). omega arith) (λ (e : 10 ≤ c). omega arith) strict
-
-  pub err-left : (b : Value) → apply c Err b ≡ Err
-  unfolding wholes truth whole
-  err-left b = apply-cases (λ (v : Value). v ≡ Err) c Err b (λ _ _ f _. refl) (λ l u d f _. absurd (not-logical l u)) (λ _. refl) (λ _. refl) (λ _. refl)
-
-  pub err-right : (a : Value) → operands c ≡ 2 → apply c a Err ≡ Err
-  err-right a h =
-      apply-cases (λ (v : Value). v ≡ Err) c a Err (λ _ _ f _. wholes-err f a) (λ l u d f _. absurd (not-logical l u))
-      (λ e. let k : operands 10 ≡ 2 = rw e at h in absurd (omega (arith, k, operands-not)))
-      (λ e. let k : operands 11 ≡ 2 = rw e at h in absurd (omega (arith, k, operands-negate)))
-      (λ _. refl)
+known : {c : ℕ} → (c < 1) ⊎ (12 ≤ c) → 1 ≤ c → c ≤ 11 → ⊥
+known h l u = ⊎-elim (λ e. omega arith) (λ e. omega arith) h
 
 -- a code that has no operator
-pub apply-unknown : (c : ℕ) (a b : Value) → (c < 1) ⊎ (12 ≤ c) → apply c a b ≡ Err
+pub apply-unknown : (c : ℕ) (a b : Value) → (c < 1) ⊎ (12 ≤ c) → apply c a b ≡ err
 apply-unknown c a b h =
-    apply-cases (λ (v : Value). v ≡ Err) c a b (λ l u f _. absurd (not-known l (omega arith))) (λ l u d f _. absurd (not-known (omega arith) (omega arith)))
-    (λ e. absurd (not-known (omega arith) (omega arith))) (λ e. absurd (not-known (omega arith) (omega arith))) (λ _. refl)
-  where
-    not-known : 1 ≤ c → c ≤ 11 → ⊥
-    not-known l u = ⊎-elim (λ (e : c < 1). omega arith) (λ (e : 12 ≤ c). omega arith) h
+    apply-cases (λ (v : Value). v ≡ err) c a b (λ l u f _. absurd (known h l (omega arith))) (λ l u d f _. absurd (known h (omega arith) (omega arith)))
+    (λ e. absurd (known h (omega arith) (omega arith))) (λ e. absurd (known h (omega arith) (omega arith))) (λ _. refl)
 
 wholes-in-range : (f : ℤ → ℤ → Value) → ((x y : ℤ) → InRange (f x y)) → (a b : Value) → InRange (wholes f a b)
-unfolding wholes
+unfolding wholes handOn
 wholes-in-range f h (Whole x) (Whole y) = h x y
 wholes-in-range f h (Whole x) (Truth y) = tt
-wholes-in-range f h (Whole x) Err = tt
+wholes-in-range f h (Whole x) (Err s) = tt
 wholes-in-range f h (Truth x) b = tt
-wholes-in-range f h Err b = tt
+wholes-in-range f h (Err r) b = tt
 
-beside-err-in-range : (d a : Bool) → InRange (besideErr d a)
+beside-err-in-range : (d a : Bool) (r : Reason) → InRange (besideErr d a r)
 unfolding besideErr
-beside-err-in-range false false = tt
-beside-err-in-range true true = tt
-beside-err-in-range false true = tt
-beside-err-in-range true false = tt
+beside-err-in-range false false r = tt
+beside-err-in-range true true r = tt
+beside-err-in-range false true r = tt
+beside-err-in-range true false r = tt
 
 logical-in-range : (d : Bool) (f : Bool → Bool → Value) → ((x y : Bool) → InRange (f x y)) → (a b : Value) → InRange (logical d f a b)
-unfolding logical
+unfolding logical handOn
 logical-in-range d f h (Truth x) (Truth y) = h x y
-logical-in-range d f h (Truth x) Err = beside-err-in-range d x
-logical-in-range d f h Err (Truth y) = beside-err-in-range d y
-logical-in-range d f h Err Err = tt
+logical-in-range d f h (Truth x) (Err s) = beside-err-in-range d x s
+logical-in-range d f h (Err r) (Truth y) = beside-err-in-range d y r
+logical-in-range d f h (Err r) (Err s) = tt
 logical-in-range d f h (Whole x) b = tt
 logical-in-range d f h (Truth x) (Whole y) = tt
-logical-in-range d f h Err (Whole y) = tt
+logical-in-range d f h (Err r) (Whole y) = tt
 
 not-in-range : (a : Value) → InRange (truth notOf a)
-unfolding truth notOf
+unfolding truth notOf handOnOne
 not-in-range (Truth x) = tt
 not-in-range (Whole x) = tt
-not-in-range Err = tt
+not-in-range (Err r) = tt
 
 negate-in-range : (a : Value) → InRange (whole negateOf a)
-unfolding whole negateOf
+unfolding whole negateOf handOnOne
 negate-in-range (Whole x) = fit-in-range (negℤ x)
 negate-in-range (Truth x) = tt
-negate-in-range Err = tt
+negate-in-range (Err r) = tt
 
 -- whatever the operands, an operator's answer is in range
 pub apply-in-range : (c : ℕ) (a b : Value) → InRange (apply c a b)
@@ -151,43 +107,47 @@ apply-in-range c a b =
 
 -- ---- what this crate's functions cite: a value whose variant was tested and is not the one wanted
 
-not-whole : (f : ℤ → ℤ → Value) (a b : Value) → OneOf (1 ∷ 2 ∷ []) (tagOf the-type a) → wholes f a b ≡ Err
+not-whole : (f : ℤ → ℤ → Value) (a b : Value) → OneOf (1 ∷ 2 ∷ []) (tagOf the-type a) → wholes f a b ≡ handOn a b
 unfolding wholes
 not-whole f (Whole x) b h = absurd (⊎-elim (λ (e : _≡_ {A = ℕ} 0 1). omega arith) (λ (e : _≡_ {A = ℕ} 0 2). omega arith) h)
 not-whole f (Truth x) b h = refl
-not-whole f Err b h = refl
+not-whole f (Err r) b h = refl
 
-not-whole-right : (f : ℤ → ℤ → Value) (a b : Value) → OneOf (1 ∷ 2 ∷ []) (tagOf the-type b) → wholes f a b ≡ Err
+not-whole-right : (f : ℤ → ℤ → Value) (a b : Value) → OneOf (1 ∷ 2 ∷ []) (tagOf the-type b) → wholes f a b ≡ handOn a b
 unfolding wholes
 not-whole-right f a (Whole y) h = absurd (⊎-elim (λ (e : _≡_ {A = ℕ} 0 1). omega arith) (λ (e : _≡_ {A = ℕ} 0 2). omega arith) h)
 not-whole-right f (Whole x) (Truth y) h = refl
-not-whole-right f (Whole x) Err h = refl
+not-whole-right f (Whole x) (Err s) h = refl
 not-whole-right f (Truth x) (Truth y) h = refl
-not-whole-right f (Truth x) Err h = refl
-not-whole-right f Err (Truth y) h = refl
-not-whole-right f Err Err h = refl
+not-whole-right f (Truth x) (Err s) h = refl
+not-whole-right f (Err r) (Truth y) h = refl
+not-whole-right f (Err r) (Err s) h = refl
 
 module _ (c : ℕ) (a b : Value) where
-  pub wants-wholes : 1 ≤ c → c ≤ 7 → ((f : ℤ → ℤ → Value) → wholes f a b ≡ Err) → apply c a b ≡ Err
-  wants-wholes l u h = apply-cases (λ (v : Value). v ≡ Err) c a b (λ _ _ f _. h f) (λ low high d f _. absurd (omega arith)) (λ e. absurd (omega arith)) (λ e. absurd (omega arith)) (λ _. refl)
+  wants-wholes : 1 ≤ c → c ≤ 7 → ((f : ℤ → ℤ → Value) → wholes f a b ≡ handOn a b) → apply c a b ≡ handOn a b
+  wants-wholes l u h =
+      apply-cases (λ (v : Value). v ≡ handOn a b) c a b (λ _ _ f _. h f) (λ low high d f _. absurd (omega arith)) (λ e. absurd (omega arith)) (λ e. absurd (omega arith))
+      (λ n. absurd (known n (omega arith) (omega arith)))
 
-  pub logical-err : 8 ≤ c → c ≤ 9 → ((d : Bool) (f : Bool → Bool → Value) → logical d f a b ≡ Err) → apply c a b ≡ Err
-  logical-err l u h = apply-cases (λ (v : Value). v ≡ Err) c a b (λ low high f _. absurd (omega arith)) (λ _ _ d f _. h d f) (λ e. absurd (omega arith)) (λ e. absurd (omega arith)) (λ _. refl)
+  pub logical-err : 8 ≤ c → c ≤ 9 → ((d : Bool) (f : Bool → Bool → Value) → logical d f a b ≡ handOn a b) → apply c a b ≡ handOn a b
+  logical-err l u h =
+      apply-cases (λ (v : Value). v ≡ handOn a b) c a b (λ low high f _. absurd (omega arith)) (λ _ _ d f _. h d f) (λ e. absurd (omega arith)) (λ e. absurd (omega arith))
+      (λ n. absurd (known n (omega arith) (omega arith)))
 
-  pub first-no-whole : 1 ≤ c → c < 8 → OneOf (1 ∷ 2 ∷ []) (tagOf the-type a) → apply c a b ≡ Err
+  pub first-no-whole : 1 ≤ c → c < 8 → OneOf (1 ∷ 2 ∷ []) (tagOf the-type a) → apply c a b ≡ handOn a b
   first-no-whole l u h = wants-wholes l (omega arith) (λ f. not-whole f a b h)
 
-  pub second-no-whole : 1 ≤ c → c < 8 → OneOf (1 ∷ 2 ∷ []) (tagOf the-type b) → apply c a b ≡ Err
+  pub second-no-whole : 1 ≤ c → c < 8 → OneOf (1 ∷ 2 ∷ []) (tagOf the-type b) → apply c a b ≡ handOn a b
   second-no-whole l u h = wants-wholes l (omega arith) (λ f. not-whole-right f a b h)
 
-pub not-no-truth : (a b : Value) → OneOf (0 ∷ 2 ∷ []) (tagOf the-type a) → apply 10 a b ≡ Err
+pub not-no-truth : (a b : Value) → OneOf (0 ∷ 2 ∷ []) (tagOf the-type a) → apply 10 a b ≡ handOnOne a
 unfolding apply
 not-no-truth (Truth x) b h = absurd (⊎-elim (λ (e : _≡_ {A = ℕ} 1 0). omega arith) (λ (e : _≡_ {A = ℕ} 1 2). omega arith) h)
 not-no-truth (Whole x) b h = refl
-not-no-truth Err b h = refl
+not-no-truth (Err r) b h = refl
 
-pub negate-no-whole : (a b : Value) → OneOf (1 ∷ 2 ∷ []) (tagOf the-type a) → apply 11 a b ≡ Err
+pub negate-no-whole : (a b : Value) → OneOf (1 ∷ 2 ∷ []) (tagOf the-type a) → apply 11 a b ≡ handOnOne a
 unfolding apply
 negate-no-whole (Whole x) b h = absurd (⊎-elim (λ (e : _≡_ {A = ℕ} 0 1). omega arith) (λ (e : _≡_ {A = ℕ} 0 2). omega arith) h)
 negate-no-whole (Truth x) b h = refl
-negate-no-whole Err b h = refl
+negate-no-whole (Err r) b h = refl

@@ -5,9 +5,11 @@ use mathlib.Core.Path.{_≡_, refl, sym, ap, _∙_}
 use mathlib.Core.Bool.{Bool, true, false}
 use mathlib.Core.Option.{Option, some, none}
 use native.Mathlib.Omega.{arith}
+use Rattle.value.specs.declared.Reason.the-variants.{ZeroDivisor, OutOfRange, Other}
 use Rattle.value.specs.declared.Value.{Value}
 use Rattle.value.specs.declared.Value.the-variants.{Whole, Truth, Err}
 use Rattle.value.specs.Operators.{pick}
+use Rattle.value.specs.Senses.{err}
 use Rattle.value.specs.Bytes.{wordOf, valueOf, isSome, decoded, wordOr}
 use Rattle.value.proofs.Words.{value-of-word, word-of-value, value-in-range, no-value}
 
@@ -16,21 +18,23 @@ unfolding wordOf
 only-true (Whole z) e = absurd (omega arith)
 only-true (Truth true) e = refl
 only-true (Truth false) e = absurd (omega arith)
-only-true Err e = absurd (omega arith)
+only-true (Err r) e = absurd (omega arith)
 
 pub only-false : (v : Value) → wordOf v ≡ 2 → v ≡ Truth false
 unfolding wordOf
 only-false (Whole z) e = absurd (omega arith)
 only-false (Truth true) e = absurd (omega arith)
 only-false (Truth false) e = refl
-only-false Err e = absurd (omega arith)
+only-false (Err r) e = absurd (omega arith)
 
-pub only-err : (v : Value) → wordOf v ≡ 3 → v ≡ Err
+pub only-err : (v : Value) → wordOf v ≡ 3 → v ≡ err
 unfolding wordOf
 only-err (Whole z) e = absurd (omega arith)
 only-err (Truth true) e = absurd (omega arith)
 only-err (Truth false) e = absurd (omega arith)
-only-err Err e = refl
+only-err (Err Other) e = refl
+only-err (Err ZeroDivisor) e = absurd (omega arith)
+only-err (Err OutOfRange) e = absurd (omega arith)
 
 -- the word of a token that was read is the word itself where it is a value, else 0
 pub word-of-token : (w : ℕ) → wordOr (decoded (valueOf w)) ≡ pick (isSome (valueOf w)) w 0

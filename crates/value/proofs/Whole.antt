@@ -11,6 +11,7 @@ use borrow.Author.Tests.{ltb-true, ltb-false, le-leb, lt-leb, ne-eqb, eqb-true, 
 use mir.Syntax.{w32, w64}
 use mir.Val.{SFits, toZ, ofZ}
 use mir.Facts.{toZ-ofZ, sfits-widen}
+use Rattle.value.specs.declared.Reason.the-variants.{ZeroDivisor, OutOfRange}
 use Rattle.value.specs.declared.Value.the-variants.{Whole, Err}
 use Rattle.value.specs.Bytes.{InRange}
 use Rattle.value.specs.Operators.{pick, inRange, fitOf, dividedBy, isZero, eqZ}
@@ -79,12 +80,12 @@ and-true : (t : Bool) → t && true ≡ t
 and-true true = refl
 and-true false = refl
 
-lower : (z : ℤ) → ltZ z (negsuc 2147483647) ≡ true → Err ≡ fitOf z
+lower : (z : ℤ) → ltZ z (negsuc 2147483647) ≡ true → Err OutOfRange ≡ fitOf z
 unfolding fitOf
 lower (pos n) h = let e : _≡_ {A = ℕ} 0 1 = cc in absurd (omega arith)
 lower (negsuc n) h = simp (lt-leb n 2147483647 (ltb-true _ _ h))
 
-upper : (z : ℤ) → ltZ (pos 2147483647) z ≡ true → Err ≡ fitOf z
+upper : (z : ℤ) → ltZ (pos 2147483647) z ≡ true → Err OutOfRange ≡ fitOf z
 unfolding fitOf
 upper (pos n) h = simp (lt-leb n 2147483647 (ltb-true _ _ h))
 upper (negsuc n) h = let e : _≡_ {A = ℕ} 0 1 = cc in absurd (omega arith)
@@ -98,7 +99,7 @@ unfolding fitOf
 inside (pos n) h = simp (le-leb n 2147483647 (omega arith))
 inside (negsuc n) h = simp (le-leb n 2147483647 (omega arith))
 
-fitted : (z : ℤ) (t : Bool) → inRange z ≡ t → InRange (pick t (Whole z) Err)
+fitted : (z : ℤ) (t : Bool) → inRange z ≡ t → InRange (pick t (Whole z) (Err OutOfRange))
 fitted z false e = tt
 fitted (pos n) true e = omega (arith, leb-true n 2147483647 e)
 fitted (negsuc n) true e = omega (arith, leb-true n 2147483647 (sym (and-true (leb n 2147483647)) ∙ e))
@@ -112,15 +113,15 @@ pub divided-in-range : (b z : ℤ) → InRange (dividedBy b z)
 unfolding dividedBy
 divided-in-range b z = go (isZero b)
   where
-    go : (t : Bool) → InRange (pick t Err (fitOf z))
+    go : (t : Bool) → InRange (pick t (Err ZeroDivisor) (fitOf z))
     go true = tt
     go false = fit-in-range z
 
 module _ (z : ℤ) (f : SFits w64 z) where
-  pub too-low : ltZ (toZ w64 (ofZ w64 z)) (negsuc 2147483647) ≡ true → Err ≡ fitOf z
+  pub too-low : ltZ (toZ w64 (ofZ w64 z)) (negsuc 2147483647) ≡ true → Err OutOfRange ≡ fitOf z
   too-low h = lower z (rw (toZ-ofZ f) at h)
 
-  pub too-high : ltZ (pos 2147483647) (toZ w64 (ofZ w64 z)) ≡ true → Err ≡ fitOf z
+  pub too-high : ltZ (pos 2147483647) (toZ w64 (ofZ w64 z)) ≡ true → Err OutOfRange ≡ fitOf z
   too-high h = upper z (rw (toZ-ofZ f) at h)
 
   pub whole-fits : ltZ (toZ w64 (ofZ w64 z)) (negsuc 2147483647) ≡ false → ltZ (pos 2147483647) (toZ w64 (ofZ w64 z)) ≡ false → SFits w32 z

@@ -16,10 +16,12 @@ use lib.Seq.{sets, length-sets, sets-eq, getD-drop, drop-at, length-take-le, get
 use mir.Syntax.{w32}
 use mir.Val.{Fits, SFits, toZ, ofZ}
 use mir.Facts.{toZ-ofZ, ofZ-toZ, fits-ofZ, sfits-toZ}
+use Rattle.value.specs.declared.Reason.{Reason}
+use Rattle.value.specs.declared.Reason.the-variants.{ZeroDivisor, OutOfRange, Other}
 use Rattle.value.specs.declared.Value.{Value}
 use Rattle.value.specs.declared.Value.the-variants.{Whole, Truth, Err}
 use Rattle.value.specs.Operators.{pick}
-use Rattle.value.specs.Bytes.{InRange, bitOf, wordOf, valueOf, wholeOf, truthOf, errOf, isSome, wordBytes, wordAt, stored}
+use Rattle.value.specs.Bytes.{InRange, bitOf, reasonBits, wordOf, valueOf, wholeOf, truthOf, errOf, isSome, wordBytes, wordAt, stored}
 
 -- ---- the tests of the code
 
@@ -41,13 +43,16 @@ module _ (w : ℕ) where
       go (suc zero) = refl
       go (suc (suc n)) = simp (le-ltb (suc (suc n)) 2 (omega arith), ne-eqb (suc (suc n)) 0 (λ e. omega arith), ne-eqb (suc (suc n)) 1 (λ e. omega arith))
 
-  pub err-valid : w % 256 ≡ 3 → eqb (w / 256) 0 ≡ isSome (valueOf w)
+  pub err-valid : w % 256 ≡ 3 → ltb (w / 256) 3 ≡ isSome (valueOf w)
   unfolding valueOf
-  err-valid h = rw h (go (eqb (w / 256) 0))
+  err-valid h = rw h (go (w / 256))
     where
-      go : (t : Bool) → t ≡ isSome (pick t (some Err) none)
-      go true = refl
-      go false = refl
+      go : (n : ℕ) → ltb n 3 ≡ isSome (pick (eqb n 0) (some (Err Other)) (pick (eqb n 1) (some (Err ZeroDivisor)) (pick (eqb n 2) (some (Err OutOfRange)) none)))
+      go zero = refl
+      go (suc zero) = refl
+      go (suc (suc zero)) = refl
+      go (suc (suc (suc n))) =
+          simp (le-ltb (suc (suc (suc n))) 3 (omega arith), ne-eqb (suc (suc (suc n))) 0 (λ e. omega arith), ne-eqb (suc (suc (suc n))) 1 (λ e. omega arith), ne-eqb (suc (suc (suc n))) 2 (λ e. omega arith))
 
   pub no-tag : (w % 256 ≡ 1 → ⊥) → (w % 256 ≡ 2 → ⊥) → (w % 256 ≡ 3 → ⊥) → valueOf w ≡ none
   unfolding valueOf
@@ -81,13 +86,15 @@ value-of-word (Whole z) h =
     whole-word (ofZ w32 z) (fits-ofZ f .fits) ∙ ap (λ (y : ℤ). some (Whole y)) (toZ-ofZ f)
 value-of-word (Truth true) h = refl
 value-of-word (Truth false) h = refl
-value-of-word Err h = refl
+value-of-word (Err Other) h = refl
+value-of-word (Err ZeroDivisor) h = refl
+value-of-word (Err OutOfRange) h = refl
 
 -- A word that is a value's byte form, by its tag.
 pub data Form (w : ℕ) (v : Value) : Type 0 where
   is-whole : w % 256 ≡ 1 → w / 256 < 4294967296 → v ≡ Whole (toZ w32 (w / 256)) → Form w v
   is-truth : (b : Bool) → w ≡ 2 + 256 * bitOf b → v ≡ Truth b → Form w v
-  is-err : w ≡ 3 → v ≡ Err → Form w v
+  is-err : (r : Reason) → w ≡ 3 + 256 * reasonBits r → v ≡ Err r → Form w v
 
 never : {v : Value} → _≡_ {A = Option Value} none (some v) → ⊥
 never {v} h = Option·none-ne-some v h
@@ -105,9 +112,12 @@ module _ (w : ℕ) (v : Value) where
   truth-form e false p true q h = is-truth true (omega (arith, eqb-true (w / 256) 1 q)) (same h)
   truth-form e false p false q h = absurd (never h)
 
-  err-form : w % 256 ≡ 3 → (t : Bool) → eqb (w / 256) 0 ≡ t → pick t (some Err) none ≡ some v → Form w v
-  err-form e true p h = is-err (omega (arith, eqb-true (w / 256) 0 p)) (same h)
-  err-form e false p h = absurd (never h)
+  err-form : w % 256 ≡ 3 → (a : Bool) → eqb (w / 256) 0 ≡ a → (b : Bool) → eqb (w / 256) 1 ≡ b → (c : Bool) → eqb (w / 256) 2 ≡ c
+      → pick a (some (Err Other)) (pick b (some (Err ZeroDivisor)) (pick c (some (Err OutOfRange)) none)) ≡ some v → Form w v
+  err-form e true p b q c r h = is-err Other (omega (arith, eqb-true (w / 256) 0 p)) (same h)
+  err-form e false p true q c r h = is-err ZeroDivisor (omega (arith, eqb-true (w / 256) 1 q)) (same h)
+  err-form e false p false q true r h = is-err OutOfRange (omega (arith, eqb-true (w / 256) 2 r)) (same h)
+  err-form e false p false q false r h = absurd (never h)
 
   pub form : valueOf w ≡ some v → Form w v
   unfolding valueOf
@@ -117,7 +127,7 @@ module _ (w : ℕ) (v : Value) where
           → pick a (wholeOf (w / 256)) (pick b (truthOf (w / 256)) (pick c (errOf (w / 256)) none)) ≡ some v → Form w v
       go true p b q c r h = whole-form (eqb-true (w % 256) 1 p) _ refl h
       go false p true q c r h = truth-form (eqb-true (w % 256) 2 q) _ refl _ refl h
-      go false p false q true r h = err-form (eqb-true (w % 256) 3 r) _ refl h
+      go false p false q true r h = err-form (eqb-true (w % 256) 3 r) _ refl _ refl _ refl h
       go false p false q false r h = absurd (never h)
 
 word-of-form : (w : ℕ) (v : Value) → Form w v → w ≡ wordOf v
@@ -126,14 +136,14 @@ word-of-form w v (is-whole e l p) =
     let f : Fits w32 (w / 256) = record { fits = l } in
     rw (p, ofZ-toZ f) (omega arith)
 word-of-form w v (is-truth b e p) = rw p e
-word-of-form w v (is-err e p) = rw p e
+word-of-form w v (is-err r e p) = rw p e
 
 in-range-of-form : (w : ℕ) (v : Value) → Form w v → InRange v
 in-range-of-form w v (is-whole e l p) =
     let f : Fits w32 (w / 256) = record { fits = l } in
     rw p (sfits-toZ f .sfits)
 in-range-of-form w v (is-truth b e p) = rw p tt
-in-range-of-form w v (is-err e p) = rw p tt
+in-range-of-form w v (is-err r e p) = rw p tt
 
 -- a value has one word only
 pub word-of-value : (w : ℕ) (v : Value) → valueOf w ≡ some v → w ≡ wordOf v
@@ -151,7 +161,7 @@ pub word-pos : (v : Value) → 1 ≤ wordOf v
 unfolding wordOf
 word-pos (Whole z) = omega arith
 word-pos (Truth b) = omega arith
-word-pos Err = omega arith
+word-pos (Err r) = omega arith
 
 pub word-lt : (v : Value) → InRange v → wordOf v < 1099511627776
 unfolding wordOf
@@ -160,7 +170,9 @@ word-lt (Whole z) h =
     omega (arith, fits-ofZ f .fits)
 word-lt (Truth true) h = omega arith
 word-lt (Truth false) h = omega arith
-word-lt Err h = omega arith
+word-lt (Err Other) h = omega arith
+word-lt (Err ZeroDivisor) h = omega arith
+word-lt (Err OutOfRange) h = omega arith
 
 -- ---- a word and its bytes
 

@@ -11,6 +11,8 @@ use lib.ListN.{getD}
 use lib.Seq.{sets}
 use mir.Syntax.{w32}
 use mir.Val.{toZ, ofZ}
+use Rattle.value.specs.declared.Reason.{Reason}
+use Rattle.value.specs.declared.Reason.the-variants.{ZeroDivisor, OutOfRange, Other}
 use Rattle.value.specs.declared.Value.{Value}
 use Rattle.value.specs.declared.Value.the-variants.{Whole, Truth, Err}
 use Rattle.value.specs.declared.Decoded.{Decoded}
@@ -21,22 +23,28 @@ use Rattle.value.specs.Operators.{pick}
 abbrev pub InRange : Value → Type 0
 InRange (Whole z) = mag z < 2147483648
 InRange (Truth b) = Unit
-InRange Err = Unit
+InRange (Err r) = Unit
 
--- Tag 1 a whole number in 32 bits, two's complement; tag 2 a truth, 0 or 1; tag 3 err, 0.
+-- Tag 1 a whole number in 32 bits, two's complement; tag 2 a truth, 0 or 1; tag 3 err, its reason: 0 all else, 1 zero
+-- divisor, 2 out of range. A reason is no tag of its own, so whoever asks whether a value is an err looks at the tag alone.
 abbrev pub tagOf : Value → ℕ
 tagOf (Whole z) = 1
 tagOf (Truth b) = 2
-tagOf Err = 3
+tagOf (Err r) = 3
 
 abbrev pub bitOf : Bool → ℕ
 bitOf true = 1
 bitOf false = 0
 
+abbrev pub reasonBits : Reason → ℕ
+reasonBits Other = 0
+reasonBits ZeroDivisor = 1
+reasonBits OutOfRange = 2
+
 abbrev pub bitsOf : Value → ℕ
 bitsOf (Whole z) = ofZ w32 z
 bitsOf (Truth b) = bitOf b
-bitsOf Err = 0
+bitsOf (Err r) = reasonBits r
 
 -- The five bytes as one number below 2^40, lowest first. The word 0 is no value.
 unfoldable pub wordOf : Value → ℕ
@@ -49,9 +57,13 @@ unfoldable pub truthOf : ℕ → Option Value
 truthOf bits = pick (eqb bits 0) (some (Truth false)) (pick (eqb bits 1) (some (Truth true)) none)
 
 unfoldable pub errOf : ℕ → Option Value
-errOf bits = pick (eqb bits 0) (some Err) none
+errOf bits =
+    pick (eqb bits 0) (some (Err Other))
+    (pick (eqb bits 1) (some (Err ZeroDivisor))
+    (pick (eqb bits 2) (some (Err OutOfRange))
+    none))
 
--- Which words are values: any other tag, a truth that is neither, an err with a payload are none.
+-- Which words are values: any other tag, a truth that is neither, an err of no reason are none.
 unfoldable pub valueOf : ℕ → Option Value
 unfolding wholeOf truthOf errOf
 valueOf w =

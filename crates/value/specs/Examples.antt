@@ -1,12 +1,13 @@
 -- Outcomes that hold the definitions to the papers, each kind one list with one proof: of operators, which document 01,
--- "Values and operators", states or whose words decide them at the ends of the range, and of and, or every pair of truths
--- and errs, which document 02, Job 2, decides; and of byte forms. Assumes nothing.
+-- "Values and operators", states or whose words decide them at the ends of the range, of and, or every pair of truths and
+-- errs, which document 02, Job 2, decides, and of errs by their reasons, Job 5; and of byte forms. Assumes nothing.
 use Prim.Native.Nat.{ℕ, _+_, _*_}
 use mathlib.Core.Path.{_≡_, refl}
 use mathlib.Core.Bool.{true, false}
 use mathlib.Core.List.{List, [], _∷_, map}
 use mathlib.Core.Option.{some, none}
 use lib.IntN.{pos, negsuc}
+use Rattle.value.specs.declared.Reason.the-variants.{ZeroDivisor, OutOfRange, Other}
 use Rattle.value.specs.declared.Value.{Value}
 use Rattle.value.specs.declared.Value.the-variants.{Whole, Truth, Err}
 use Rattle.value.specs.Operators.{apply}
@@ -34,72 +35,112 @@ least = Whole (negsuc 2147483647)
 abbrev greatest : Value
 greatest = Whole (pos 2147483647)
 
+-- the errs by their letters
+abbrev errE : Value
+errE = Err Other
+
+abbrev errZ : Value
+errZ = Err ZeroDivisor
+
+abbrev errV : Value
+errV = Err OutOfRange
+
 abbrev pub cases : List Case
 cases =
     at 1 (n 2) (n 3) (n 5)
-    ∷ at 1 greatest (n 1) Err
-    ∷ at 1 least (minus 0) Err
+    ∷ at 1 greatest (n 1) errV
+    ∷ at 1 least (minus 0) errV
     ∷ at 1 greatest least (minus 0)
     ∷ at 2 (n 2) (n 3) (minus 0)
-    ∷ at 2 least (n 1) Err
-    ∷ at 2 greatest (minus 0) Err
+    ∷ at 2 least (n 1) errV
+    ∷ at 2 greatest (minus 0) errV
     ∷ at 2 (minus 0) least greatest
     ∷ at 3 (minus 6) (n 6) (minus 41)
-    ∷ at 3 (n 65536) (n 32768) Err
+    ∷ at 3 (n 65536) (n 32768) errV
     ∷ at 3 (n 65536) (minus 32767) least
-    ∷ at 3 (n 65536) (minus 32768) Err
-    ∷ at 3 least (minus 0) Err
+    ∷ at 3 (n 65536) (minus 32768) errV
+    ∷ at 3 least (minus 0) errV
     ∷ at 4 (minus 6) (n 2) (minus 2)
     ∷ at 4 (n 7) (minus 1) (minus 2)
-    ∷ at 4 (n 1) (n 0) Err
-    ∷ at 4 least (minus 0) Err
+    ∷ at 4 (n 1) (n 0) errZ
+    ∷ at 4 least (minus 0) errV
     ∷ at 4 least (n 1) least
     ∷ at 5 (minus 6) (n 2) (minus 0)
     ∷ at 5 (n 7) (minus 1) (n 1)
-    ∷ at 5 (n 1) (n 0) Err
+    ∷ at 5 (n 1) (n 0) errZ
     ∷ at 5 least (minus 0) (n 0)
     ∷ at 6 least greatest (Truth true)
     ∷ at 6 (n 3) (n 3) (Truth false)
     ∷ at 6 (minus 1) (minus 0) (Truth true)
-    ∷ at 6 (Truth false) (Truth true) Err
+    ∷ at 6 (Truth false) (Truth true) errE
     ∷ at 7 (minus 3) (minus 3) (Truth true)
     ∷ at 7 (n 3) (minus 3) (Truth false)
-    ∷ at 7 (Truth true) (Truth true) Err
+    ∷ at 7 (Truth true) (Truth true) errE
     ∷ at 8 (Truth true) (Truth true) (Truth true)
     ∷ at 8 (Truth true) (Truth false) (Truth false)
-    ∷ at 8 (Truth true) Err Err
+    ∷ at 8 (Truth true) errE errE
     ∷ at 8 (Truth false) (Truth true) (Truth false)
     ∷ at 8 (Truth false) (Truth false) (Truth false)
-    ∷ at 8 (Truth false) Err (Truth false)
-    ∷ at 8 Err (Truth true) Err
-    ∷ at 8 Err (Truth false) (Truth false)
-    ∷ at 8 Err Err Err
-    ∷ at 8 (n 1) (Truth false) Err
-    ∷ at 8 (Truth false) (n 0) Err
-    ∷ at 8 Err (n 1) Err
-    ∷ at 8 (n 0) (Truth true) Err
+    ∷ at 8 (Truth false) errE (Truth false)
+    ∷ at 8 errE (Truth true) errE
+    ∷ at 8 errE (Truth false) (Truth false)
+    ∷ at 8 errE errE errE
+    ∷ at 8 (n 1) (Truth false) errE
+    ∷ at 8 (Truth false) (n 0) errE
+    ∷ at 8 errE (n 1) errE
+    ∷ at 8 (n 0) (Truth true) errE
     ∷ at 9 (Truth true) (Truth true) (Truth true)
     ∷ at 9 (Truth true) (Truth false) (Truth true)
-    ∷ at 9 (Truth true) Err (Truth true)
+    ∷ at 9 (Truth true) errE (Truth true)
     ∷ at 9 (Truth false) (Truth true) (Truth true)
     ∷ at 9 (Truth false) (Truth false) (Truth false)
-    ∷ at 9 (Truth false) Err Err
-    ∷ at 9 Err (Truth true) (Truth true)
-    ∷ at 9 Err (Truth false) Err
-    ∷ at 9 Err Err Err
-    ∷ at 9 (n 1) (Truth true) Err
-    ∷ at 9 (Truth true) (n 0) Err
-    ∷ at 9 Err (n 1) Err
-    ∷ at 9 (n 0) (Truth false) Err
-    ∷ at 10 (Truth true) Err (Truth false)
-    ∷ at 10 (n 0) (n 0) Err
+    ∷ at 9 (Truth false) errE errE
+    ∷ at 9 errE (Truth true) (Truth true)
+    ∷ at 9 errE (Truth false) errE
+    ∷ at 9 errE errE errE
+    ∷ at 9 (n 1) (Truth true) errE
+    ∷ at 9 (Truth true) (n 0) errE
+    ∷ at 9 errE (n 1) errE
+    ∷ at 9 (n 0) (Truth false) errE
+    ∷ at 10 (Truth true) errE (Truth false)
+    ∷ at 10 (n 0) (n 0) errE
     ∷ at 11 (n 5) (Truth true) (minus 4)
-    ∷ at 11 (n 0) Err (n 0)
-    ∷ at 11 least Err Err
-    ∷ at 11 greatest Err (minus 2147483646)
-    ∷ at 11 Err (n 1) Err
-    ∷ at 0 (n 1) (n 1) Err
-    ∷ at 12 (n 1) (n 1) Err
+    ∷ at 11 (n 0) errE (n 0)
+    ∷ at 11 least errE errV
+    ∷ at 11 greatest errE (minus 2147483646)
+    ∷ at 11 errE (n 1) errE
+    ∷ at 1 errZ errV errZ
+    ∷ at 1 errV errZ errV
+    ∷ at 1 errE errZ errE
+    ∷ at 1 (n 1) errV errV
+    ∷ at 1 (Truth true) errZ errZ
+    ∷ at 1 errZ (Truth true) errZ
+    ∷ at 1 (Truth true) (n 1) errE
+    ∷ at 3 errV (n 0) errV
+    ∷ at 4 (Truth true) (n 0) errE
+    ∷ at 4 errV (n 0) errV
+    ∷ at 5 (Truth true) (n 0) errE
+    ∷ at 5 (n 0) (n 0) errZ
+    ∷ at 6 (n 1) errZ errZ
+    ∷ at 7 errV errV errV
+    ∷ at 8 (Truth false) errZ (Truth false)
+    ∷ at 8 errV (Truth false) (Truth false)
+    ∷ at 8 (Truth true) errZ errZ
+    ∷ at 8 errZ (Truth true) errZ
+    ∷ at 8 errV errZ errV
+    ∷ at 8 (n 7) errZ errZ
+    ∷ at 8 errZ (n 7) errZ
+    ∷ at 9 (Truth true) errV (Truth true)
+    ∷ at 9 errZ (Truth true) (Truth true)
+    ∷ at 9 (Truth false) errV errV
+    ∷ at 9 errZ errV errZ
+    ∷ at 9 errV (n 7) errV
+    ∷ at 10 errZ errV errZ
+    ∷ at 10 (n 0) errZ errE
+    ∷ at 11 errV errZ errV
+    ∷ at 11 (Truth true) errZ errE
+    ∷ at 0 (n 1) (n 1) errE
+    ∷ at 12 (n 1) (n 1) errE
     ∷ []
 
 abbrev got : Case → Value
@@ -124,7 +165,9 @@ forms =
     ∷ record { value = least; bytes = 1 ∷ 0 ∷ 0 ∷ 0 ∷ 128 ∷ [] }
     ∷ record { value = Truth false; bytes = 2 ∷ 0 ∷ 0 ∷ 0 ∷ 0 ∷ [] }
     ∷ record { value = Truth true; bytes = 2 ∷ 1 ∷ 0 ∷ 0 ∷ 0 ∷ [] }
-    ∷ record { value = Err; bytes = 3 ∷ 0 ∷ 0 ∷ 0 ∷ 0 ∷ [] }
+    ∷ record { value = errE; bytes = 3 ∷ 0 ∷ 0 ∷ 0 ∷ 0 ∷ [] }
+    ∷ record { value = errZ; bytes = 3 ∷ 1 ∷ 0 ∷ 0 ∷ 0 ∷ [] }
+    ∷ record { value = errV; bytes = 3 ∷ 2 ∷ 0 ∷ 0 ∷ 0 ∷ [] }
     ∷ []
 
 pub bytes-of-forms : map (λ f. bytesOf (f .value)) forms ≡ map (λ f. f .bytes) forms
@@ -135,7 +178,7 @@ pub values-of-forms : map (λ f. valueOf (wordAt (f .bytes) 0)) forms ≡ map (�
 unfolding valueOf wordAt
 values-of-forms = refl
 
--- no value: an unknown tag, a truth that is neither, an err with a payload, a whole number of more than 32 bits
-pub no-values : map valueOf (0 ∷ 4 ∷ 255 ∷ 514 ∷ (2 + 256 * 4294967295) ∷ 259 ∷ (1 + 256 * 4294967296) ∷ []) ≡ none ∷ none ∷ none ∷ none ∷ none ∷ none ∷ none ∷ []
+-- no value: an unknown tag, a truth that is neither, an err of no reason, a whole number of more than 32 bits
+pub no-values : map valueOf (0 ∷ 4 ∷ 255 ∷ 514 ∷ (2 + 256 * 4294967295) ∷ (3 + 256 * 3) ∷ (1 + 256 * 4294967296) ∷ []) ≡ none ∷ none ∷ none ∷ none ∷ none ∷ none ∷ none ∷ []
 unfolding valueOf
 no-values = refl

@@ -1,11 +1,13 @@
--- The meaning of each operator: document 01, "Values and operators", in its order; and, or with document 02, Job 2.
--- Other crates ask `apply` (code, first operand, second operand) and cite its laws in AndOr and proofs/Codes, or unfold it to
--- compute; the pieces before it are for this crate's functions. Assumes nothing.
+-- The meaning of each operator: document 01, "Values and operators", in its order; and, or with document 02, Job 2, errs with Job 5.
+-- Other crates ask `apply` (code, first operand, second operand) and cite its laws in AndOr, Reasons and proofs/Codes, or unfold it
+-- to compute; the pieces before it are for this crate's functions. Assumes nothing.
 use Prim.Native.Nat.{ℕ, zero, suc}
 use mathlib.Core.Bool.{Bool, true, false, _&&_, not, _||_}
 use lib.IntN.{ℤ, pos, negsuc, _+ℤ_, _-ℤ_, _*ℤ_, negℤ}
 use lib.Signed.{leZ, ltZ, quotZ, remZ}
 use lib.Dec.{eqb}
+use Rattle.value.specs.declared.Reason.{Reason}
+use Rattle.value.specs.declared.Reason.the-variants.{ZeroDivisor, OutOfRange, Other}
 use Rattle.value.specs.declared.Value.{Value}
 use Rattle.value.specs.declared.Value.the-variants.{Whole, Truth, Err}
 
@@ -18,9 +20,9 @@ pick false a b = b
 abbrev pub inRange : ℤ → Bool
 inRange z = leZ (negsuc 2147483647) z && leZ z (pos 2147483647)
 
--- "an exact answer outside the range gives err"
+-- "an exact answer outside the range gives err": "V answer out of range"
 unfoldable pub fitOf : ℤ → Value
-fitOf z = pick (inRange z) (Whole z) Err
+fitOf z = pick (inRange z) (Whole z) (Err OutOfRange)
 
 abbrev pub isZero : ℤ → Bool
 isZero (pos zero) = true
@@ -33,9 +35,9 @@ eqZ (pos a) (negsuc b) = false
 eqZ (negsuc a) (pos b) = false
 eqZ (negsuc a) (negsuc b) = eqb a b
 
--- "a zero divisor .. gives err"
+-- "a zero divisor .. gives err": "Z zero divisor"
 unfoldable pub dividedBy : ℤ → ℤ → Value
-dividedBy b z = pick (isZero b) Err (fitOf z)
+dividedBy b z = pick (isZero b) (Err ZeroDivisor) (fitOf z)
 
 -- The exact function of each operator, over all integers.
 unfoldable pub addOf : ℤ → ℤ → Value
@@ -74,49 +76,64 @@ notOf a = Truth (not a)
 unfoldable pub negateOf : ℤ → Value
 negateOf a = fitOf (negℤ a)
 
--- "An err operand, a wrong kind .. gives err": the operands that an operator wants, and err beside them.
+-- The reason of an operand that is an err, or the one given.
+abbrev pub reasonOr : Value → Reason → Reason
+reasonOr (Whole a) given = given
+reasonOr (Truth a) given = given
+reasonOr (Err r) given = r
+
+-- "An err operand, a wrong kind .. gives err": "hands on the leftmost err, also beside an operand of a wrong kind"; without an err
+-- "a wrong kind gives E".
+unfoldable pub handOn : Value → Value → Value
+handOn a b = Err (reasonOr a (reasonOr b Other))
+
+-- The same of the operators that take one operand.
+unfoldable pub handOnOne : Value → Value
+handOnOne a = Err (reasonOr a Other)
+
+-- The operands that an operator wants, and what it gives with others.
 unfoldable pub wholes : (ℤ → ℤ → Value) → Value → Value → Value
 wholes f (Whole a) (Whole b) = f a b
-wholes f (Whole a) (Truth b) = Err
-wholes f (Whole a) Err = Err
-wholes f (Truth a) b = Err
-wholes f Err b = Err
+wholes f (Whole a) (Truth b) = handOn (Whole a) (Truth b)
+wholes f (Whole a) (Err s) = handOn (Whole a) (Err s)
+wholes f (Truth a) b = handOn (Truth a) b
+wholes f (Err r) b = handOn (Err r) b
 
 -- A truth beside an err, where the truth d decides: document 02, Job 2.
-unfoldable pub besideErr : Bool → Bool → Value
--- "false and err is false", "true or err is true"
-besideErr false false = Truth false
-besideErr true true = Truth true
+unfoldable pub besideErr : Bool → Bool → Reason → Value
+-- "false and err is false", "true or err is true"; "Where false or true decides in Job 2's rule, it still decides."
+besideErr false false r = Truth false
+besideErr true true r = Truth true
 -- "Otherwise an err operand of codes 8 and 9 still gives err"
-besideErr false true = Err
-besideErr true false = Err
+besideErr false true r = Err r
+besideErr true false r = Err r
 
 -- And, or: f of two truths; beside an err the truth d decides.
 unfoldable pub logical : Bool → (Bool → Bool → Value) → Value → Value → Value
 logical d f (Truth a) (Truth b) = f a b
 -- "whichever side the err stands"
-logical d f (Truth a) Err = besideErr d a
-logical d f Err (Truth b) = besideErr d b
-logical d f Err Err = Err
--- "Both operands must still be truths or err; a whole number gives err."
-logical d f (Whole a) b = Err
-logical d f (Truth a) (Whole b) = Err
-logical d f Err (Whole b) = Err
+logical d f (Truth a) (Err s) = besideErr d a s
+logical d f (Err r) (Truth b) = besideErr d b r
+logical d f (Err r) (Err s) = handOn (Err r) (Err s)
+-- "Both operands must still be truths or err; a whole number gives err": the leftmost err, where there is one.
+logical d f (Whole a) b = handOn (Whole a) b
+logical d f (Truth a) (Whole b) = handOn (Truth a) (Whole b)
+logical d f (Err r) (Whole b) = handOn (Err r) (Whole b)
 
 unfoldable pub truth : (Bool → Value) → Value → Value
 truth f (Truth a) = f a
-truth f (Whole a) = Err
-truth f Err = Err
+truth f (Whole a) = handOnOne (Whole a)
+truth f (Err r) = handOnOne (Err r)
 
 unfoldable pub whole : (ℤ → Value) → Value → Value
 whole f (Whole a) = f a
-whole f (Truth a) = Err
-whole f Err = Err
+whole f (Truth a) = handOnOne (Truth a)
+whole f (Err r) = handOnOne (Err r)
 
 -- "1 add, 2 subtract, 3 multiply, 4 divide, 5 remainder, 6 less, 7 equal, 8 and, 9 or, 10 not, 11 negate."
--- "8 to 10 want truths, the others whole numbers". False decides and, true decides or. A code that is none of these has no operator, and gives err.
+-- "8 to 10 want truths, the others whole numbers". False decides and, true decides or. A code that is none of these has no operator: "E all else".
 unfoldable pub apply : ℕ → Value → Value → Value
-unfolding fitOf dividedBy addOf subtractOf multiplyOf divideOf remainderOf lessOf equalOf andOf orOf notOf negateOf wholes besideErr logical truth whole
+unfolding fitOf dividedBy addOf subtractOf multiplyOf divideOf remainderOf lessOf equalOf andOf orOf notOf negateOf handOn handOnOne wholes besideErr logical truth whole
 apply c a b =
     pick (eqb c 1) (wholes addOf a b)
     (pick (eqb c 2) (wholes subtractOf a b)
@@ -129,7 +146,7 @@ apply c a b =
     (pick (eqb c 9) (logical true orOf a b)
     (pick (eqb c 10) (truth notOf a)
     (pick (eqb c 11) (whole negateOf a)
-    Err))))))))))
+    (Err Other)))))))))))
 
 -- "10 and 11 take one operand, the rest two."
 unfoldable pub operands : ℕ → ℕ

@@ -1,6 +1,7 @@
 // The byte form of a value (specs/Bytes): five bytes, read and written as one word below 2^40.
 // Tokens in memory and the sets that the firmware lends have this form. Assumes of a place that five bytes lie there.
 use crate::Decoded;
+use crate::Reason;
 use crate::Value;
 ghost use mathlib.Core.Path.{_≡_};
 ghost use Prim.Native.Nat.{ℕ, _+_, _*_, _≤_, _<_};
@@ -9,7 +10,7 @@ ghost use mir.Syntax.{w32};
 ghost use mir.Val.{toZ, ofZ};
 ghost use Rattle.value.specs.Bytes.{InRange, wordOf, valueOf, decoded, isSome, wordOr, wordAt, stored, wholeOf, truthOf, errOf};
 
-// The words of no token, true, false and the plain err.
+// The words of no token, true, false, and of the errs: the plain one and those with a reason.
 pub const NONE: u64 = 0;
 
 pub const TRUE: u64 = 258;
@@ -17,6 +18,10 @@ pub const TRUE: u64 = 258;
 pub const FALSE: u64 = 2;
 
 pub const ERR: u64 = 3;
+
+pub const ZERO_DIVISOR: u64 = 259;
+
+pub const OUT_OF_RANGE: u64 = 515;
 
 // A whole number from its 32 bits, two's complement.
 fn signed_of(bits: u32) -> i32
@@ -39,6 +44,16 @@ fn bits_of(z: i32) -> u32
     4294967295 - low
 }
 
+fn err_word(r: Reason) -> u64
+    ensures { λ w. ⌜ w ≡ wordOf (Value.Err r) ⌝ }
+{
+    match r {
+        Reason::Other => ERR,
+        Reason::ZeroDivisor => ZERO_DIVISOR,
+        Reason::OutOfRange => OUT_OF_RANGE,
+    }
+}
+
 // The word of a value; and whoever hands in a value learns that it is in range.
 pub fn to_word(v: Value) -> u64
     ensures { λ r. ⌜ (r ≡ wordOf v) × InRange v ⌝ }
@@ -47,11 +62,11 @@ pub fn to_word(v: Value) -> u64
         Value::Whole(z) => 1 + 256 * (bits_of(z) as u64),
         Value::Truth(b) => {
             if b {
-                return 258;
+                return TRUE;
             }
-            2
+            FALSE
         }
-        Value::Err => 3,
+        Value::Err(r) => err_word(r),
     }
 }
 
@@ -80,7 +95,13 @@ fn from_err(bits: u64) -> Decoded
     ensures { λ r. ⌜ r ≡ decoded (errOf bits) ⌝ }
 {
     if bits == 0 {
-        return Decoded::Valid(Value::Err);
+        return Decoded::Valid(Value::Err(Reason::Other));
+    }
+    if bits == 1 {
+        return Decoded::Valid(Value::Err(Reason::ZeroDivisor));
+    }
+    if bits == 2 {
+        return Decoded::Valid(Value::Err(Reason::OutOfRange));
     }
     Decoded::Invalid
 }
@@ -107,7 +128,7 @@ pub fn is_value(w: u64) -> bool
     match w % 256 {
         1 => bits < 4294967296,
         2 => bits < 2,
-        3 => bits == 0,
+        3 => bits < 3,
         _ => false,
     }
 }

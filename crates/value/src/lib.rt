@@ -5,14 +5,21 @@ pub mod bytes; // bytes.rt: a value as a tag byte and four bytes
 ghost use mathlib.Core.Path.{_≡_};
 ghost use Prim.Native.Nat.{ℕ, _+_, _*_, _≤_, _<_};
 ghost use lib.IntN.{pos, negsuc, _+ℤ_, _-ℤ_, _*ℤ_};
-ghost use Rattle.value.specs.Operators.{fitOf, addOf, subtractOf, multiplyOf, divideOf, remainderOf, lessOf, equalOf, andOf, orOf, besideErr, negateOf, apply};
-ghost use Rattle.value.specs.Senses.{sense, err};
+ghost use Rattle.value.specs.Operators.{fitOf, addOf, subtractOf, multiplyOf, divideOf, remainderOf, lessOf, equalOf, andOf, orOf, besideErr, reasonOr, handOn, handOnOne, negateOf, apply};
+ghost use Rattle.value.specs.Senses.{err};
+
+// "An err now has a reason: Z zero divisor, V answer out of range, E all else."
+pub enum Reason {
+    ZeroDivisor,
+    OutOfRange,
+    Other,
+}
 
 // "A value is a whole number .., a truth, or err."
 pub enum Value {
     Whole(i32),
     Truth(bool),
-    Err,
+    Err(Reason),
 }
 
 // What a value is as a control or a test.
@@ -28,37 +35,22 @@ pub enum Decoded {
     Invalid,
 }
 
-pub fn sense_of(v: Value) -> Sense
-    ensures { λ r. ⌜ r ≡ sense v ⌝ }
-{
-    match v {
-        Value::Whole(_) => Sense::Neither,
-        Value::Truth(b) => {
-            if b {
-                return Sense::True;
-            }
-            Sense::False
-        }
-        Value::Err => Sense::Neither,
-    }
-}
-
-// The plain err, which all but operators give.
+// The plain err, the only one that anything but an operator makes.
 pub fn err() -> Value
     ensures { λ r. ⌜ r ≡ err ⌝ }
 {
-    Value::Err
+    Value::Err(Reason::Other)
 }
 
-// The whole number z, or err outside the range.
+// The whole number z, or the err of an answer outside the range.
 fn fit(z: i64) -> Value
     ensures { λ r. ⌜ r ≡ fitOf z ⌝ }
 {
     if z < -2147483648 {
-        return Value::Err;
+        return Value::Err(Reason::OutOfRange);
     }
     if 2147483647 < z {
-        return Value::Err;
+        return Value::Err(Reason::OutOfRange);
     }
     Value::Whole(z as i32)
 }
@@ -86,7 +78,7 @@ fn divide(a: i32, b: i32) -> Value
     ensures { λ r. ⌜ r ≡ divideOf a b ⌝ }
 {
     if b == 0 {
-        return Value::Err;
+        return Value::Err(Reason::ZeroDivisor);
     }
     fit(a as i64 / b as i64)
 }
@@ -95,7 +87,7 @@ fn remainder(a: i32, b: i32) -> Value
     ensures { λ r. ⌜ r ≡ remainderOf a b ⌝ }
 {
     if b == 0 {
-        return Value::Err;
+        return Value::Err(Reason::ZeroDivisor);
     }
     fit(a as i64 % b as i64)
 }
@@ -163,24 +155,63 @@ fn apply_truths(code: u8, a: bool, b: bool) -> Value
     }
 }
 
+// The reason of an err operand, or the one given where it is no err.
+fn reason_or(v: Value, given: Reason) -> Reason
+    ensures { λ r. ⌜ r ≡ reasonOr v given ⌝ }
+{
+    match v {
+        Value::Whole(_) => given,
+        Value::Truth(_) => given,
+        Value::Err(r) => r,
+    }
+}
+
+// Two operands that an operator cannot take: the leftmost err is handed on, and without one a wrong kind gives E.
+fn hand_on(a: Value, b: Value) -> Value
+    ensures { λ r. ⌜ r ≡ handOn a b ⌝ }
+{
+    Value::Err(reason_or(a, reason_or(b, Reason::Other)))
+}
+
+// An operand that its operator cannot take: handed on if it is an err, else E.
+fn hand_on_one(a: Value) -> Value
+    ensures { λ r. ⌜ r ≡ handOnOne a ⌝ }
+{
+    Value::Err(reason_or(a, Reason::Other))
+}
+
+// Codes 1 to 7.
+pub fn apply_numbers(code: u8, a: Value, b: Value) -> Value
+    requires { ⌜ (1 ≤ code) × (code ≤ 7) ⌝ }
+    ensures { λ r. ⌜ r ≡ apply code a b ⌝ }
+{
+    let Value::Whole(x) = a else {
+        return hand_on(a, b);
+    };
+    let Value::Whole(y) = b else {
+        return hand_on(a, b);
+    };
+    apply_wholes(code, x, y)
+}
+
 // A truth beside an err, where the truth d decides.
-fn beside_err(d: bool, a: bool) -> Value
-    ensures { λ r. ⌜ r ≡ besideErr d a ⌝ }
+fn beside_err(d: bool, a: bool, reason: Reason) -> Value
+    ensures { λ r. ⌜ r ≡ besideErr d a reason ⌝ }
 {
     if a == d {
         return Value::Truth(d);
     }
-    Value::Err
+    Value::Err(reason)
 }
 
 // Codes 8 and 9 of a truth and an err, whichever side the err stands: false decides an and, true an or.
-fn apply_beside_err(code: u8, a: bool) -> Value
+fn apply_beside_err(code: u8, a: bool, reason: Reason) -> Value
     requires { ⌜ (8 ≤ code) × (code ≤ 9) ⌝ }
-    ensures { λ r. ⌜ (r ≡ apply code (Value.Truth a) Value.Err) × (r ≡ apply code Value.Err (Value.Truth a)) ⌝ }
+    ensures { λ r. ⌜ (r ≡ apply code (Value.Truth a) (Value.Err reason)) × (r ≡ apply code (Value.Err reason) (Value.Truth a)) ⌝ }
 {
     match code {
-        8 => beside_err(false, a),
-        _ => beside_err(true, a),
+        8 => beside_err(false, a, reason),
+        _ => beside_err(true, a, reason),
     }
 }
 
@@ -192,15 +223,15 @@ fn apply_logical(code: u8, a: Value, b: Value) -> Value
     match a {
         Value::Truth(x) => match b {
             Value::Truth(y) => apply_truths(code, x, y),
-            Value::Err => apply_beside_err(code, x),
-            Value::Whole(_) => Value::Err,
+            Value::Err(s) => apply_beside_err(code, x, s),
+            Value::Whole(_) => hand_on(a, b),
         },
-        Value::Err => match b {
-            Value::Truth(y) => apply_beside_err(code, y),
-            Value::Err => Value::Err,
-            Value::Whole(_) => Value::Err,
+        Value::Err(r) => match b {
+            Value::Truth(y) => apply_beside_err(code, y, r),
+            Value::Err(_) => hand_on(a, b),
+            Value::Whole(_) => hand_on(a, b),
         },
-        Value::Whole(_) => Value::Err,
+        Value::Whole(_) => hand_on(a, b),
     }
 }
 
@@ -209,28 +240,20 @@ pub fn apply_code(code: u8, a: Value, b: Value) -> Value
     ensures { λ r. ⌜ r ≡ apply code a b ⌝ }
 {
     match code {
-        1..=7 => {
-            let Value::Whole(x) = a else {
-                return Value::Err;
-            };
-            let Value::Whole(y) = b else {
-                return Value::Err;
-            };
-            apply_wholes(code, x, y)
-        }
+        1..=7 => apply_numbers(code, a, b),
         8..=9 => apply_logical(code, a, b),
         10 => {
             let Value::Truth(x) = a else {
-                return Value::Err;
+                return hand_on_one(a);
             };
             Value::Truth(!x)
         }
         11 => {
             let Value::Whole(x) = a else {
-                return Value::Err;
+                return hand_on_one(a);
             };
             negate(x)
         }
-        _ => Value::Err,
+        _ => err(),
     }
 }

@@ -15,31 +15,31 @@ use Rattle.value.specs.Bytes.{wholeOf, truthOf, wordAt}
 use Rattle.text.specs.Printed.{led, shown, numberField, letterField, optionField, wordField, resultFields, resultLine, headLine, refusalLine}
 use Rattle.text.specs.PrintLaws.{led-length, shown-length, number-length, letter-length, word-length, line-length, space-more, sign-put, sign-empty, led-spaces, digit-last, digit-more, number-start, shown-none, number-put, spaces-put, letter-parts, refusal-parts, head-parts, results-none, results-more, results-end, whole-positive, whole-negative, whole-outside, truth-false, truth-true, truth-neither, word-whole, word-truth, word-other}
 
--- src/lib.rt:149:5  { ⏎ put_number(out, at, number);
+-- src/lib.rt:181:5  { ⏎ put_number(out, at, number);
 put-number-requires : tie.Need-put-number-requires
 put-number-requires c κs = search needs
 
--- src/lib.rt:150:21  put_number(out, at, number); ⏎ put_number(out, at + 6, row);
+-- src/lib.rt:182:21  put_number(out, at, number); ⏎ put_number(out, at + NUMBER_FIELD, row);
 add-put-number : tie.Need-add-put-number
 add-put-number c = search needs
 
--- src/lib.rt:150:5  put_number(out, at, number); ⏎ put_number(out, at + 6, row);
+-- src/lib.rt:182:5  put_number(out, at, number); ⏎ put_number(out, at + NUMBER_FIELD, row);
 put-number-requires-2 : tie.Need-put-number-requires-2
 put-number-requires-2 c κs = search needs
 
--- src/lib.rt:151:9  put_number(out, at + 6, row); ⏎ out[at + 12] = 10;
+-- src/lib.rt:183:9  put_number(out, at + NUMBER_FIELD, row); ⏎ out[at + REFUSAL_END] = b'\n';
 add-out : tie.Need-add-out
 add-out c = search needs
 
--- src/lib.rt:151:5  put_number(out, at + 6, row); ⏎ out[at + 12] = 10;
+-- src/lib.rt:183:5  put_number(out, at + NUMBER_FIELD, row); ⏎ out[at + REFUSAL_END] = b'\n';
 slice-write-out : tie.Need-slice-write-out
 slice-write-out c = search needs
 
--- src/lib.rt:145:1  // A refusal's number and row, in two fields. ⏎ pub fn put_refusal(out: &mut [u8], at: usize, number: u32, row: u32)
+-- src/lib.rt:177:1  // A refusal's number and row, in two fields. ⏎ pub fn put_refusal(out: &mut [u8], at: usize, number: u32, row: u32)
 same-length : tie.Need-same-length
 same-length c = length-set (c .before .before .put-number2 .last .0) (c .before .before .before .before .before .before .before .before .before .args .at + 12) 10 ∙ c .before .before .put-number2 .kept .0 ∙ c .before .before .before .before .before .before .put-number .kept .0
 
--- src/lib.rt:145:1  // A refusal's number and row, in two fields. ⏎ pub fn put_refusal(out: &mut [u8], at: usize, number: u32, row: u32)
+-- src/lib.rt:177:1  // A refusal's number and row, in two fields. ⏎ pub fn put_refusal(out: &mut [u8], at: usize, number: u32, row: u32)
 returns : tie.Need-returns
 returns c = ap (λ (x : List ℕ). set x (c .before .before .before .before .before .before .before .before .before .args .at + 12) 10) (c .before .before .put-number2 .ensures ∙ ap (λ (x : List ℕ). sets x (c .before .before .before .before .before .before .before .before .before .args .at + 6) (numberField (c .before .before .before .before .before .before .before .before .before .args .row))) (c .before .before .before .before .before .before .put-number .ensures)) ∙ refusal-parts (c .before .before .before .before .before .before .before .before .before .args .out .now) (c .before .before .before .before .before .before .before .before .before .args .at) (c .before .before .before .before .before .before .before .before .before .args .number) (c .before .before .before .before .before .before .before .before .before .args .row) (c .before .before .before .before .before .before .before .before .before .pre)
 

@@ -1,6 +1,8 @@
 -- The tests, as paths name them:
---   tie if1  let bits = word / 256; ⏎ if tag == 1 {
---   tie if2  } ⏎ if tag == 2 {
+--   tie if1  let bits = word / 256; ⏎ if tag == WHOLE {
+--   tie if2  } ⏎ if tag == TRUTH {
+--   tie if3  } ⏎ if word == ZERO_DIVISOR {
+--   tie if4  } ⏎ if word == OUT_OF_RANGE {
 use borrow.Author.Needs.{needs}
 use Rattle.text_print.proofs.put_value.Statement.{statement}
 use Rattle.text_print.proofs.put_value.Tie as tie
@@ -9,52 +11,74 @@ use Rattle.text_print.proofs.put_value.Lts as lts
 use Rattle.text_print.proofs.put_letter.Reads as put-letter-reads
 use Rattle.text_print.proofs.put_truth.Reads as put-truth-reads
 use Rattle.text_print.proofs.put_whole.Reads as put-whole-reads
-use native.Mathlib.Omega.{arith}
-use Prim.Native.Nat.{ℕ, suc, _+_, _-_, _*_, _/_, _%_, _^_, _≤_, _<_}
-use mathlib.Core.Path.{_≡_, sym, _∙_, ap, refl}
-use mathlib.Core.List.{List, [], _∷_, _++_}
-use mathlib.Core.Bool.{Bool, true, false}
-use lib.ListN.{length, getD, take, drop, set, replicate, length-set, length-append, length-take, length-drop, length-replicate}
-use lib.Seq.{slice, sets, length-sets, length-front, length-take-le}
-use Rattle.value.specs.Bytes.{wholeOf, truthOf, wordAt}
-use Rattle.text.specs.Printed.{led, shown, numberField, letterField, optionField, wordField, resultFields, resultLine, headLine, refusalLine}
-use Rattle.text.specs.PrintLaws.{led-length, shown-length, number-length, letter-length, word-length, line-length, space-more, sign-put, sign-empty, led-spaces, digit-last, digit-more, number-start, shown-none, number-put, spaces-put, letter-parts, refusal-parts, head-parts, results-none, results-more, results-end, whole-positive, whole-negative, whole-outside, truth-false, truth-true, truth-neither, word-whole, word-truth, word-other}
+use mathlib.Core.Path.{sym, _∙_, ap}
+use lib.Seq.{sets}
+use Rattle.value.specs.declared.Reason.the-variants.{ZeroDivisor, OutOfRange}
+use Rattle.value.specs.Bytes.{wordOf}
+use Rattle.text.specs.PrintLaws.{word-whole, word-truth, word-err, word-other}
 
--- src/lib.rt:109:9  if tag == 1 { ⏎ put_whole(out, at, bits);
+-- src/lib.rt:133:9  if tag == WHOLE { ⏎ put_whole(out, at, bits);
 put-whole-requires : tie.Need-put-whole-requires
 put-whole-requires c κs = search needs
 
--- src/lib.rt:110:9  put_whole(out, at, bits); ⏎ return;
+-- src/lib.rt:134:9  put_whole(out, at, bits); ⏎ return;
 same-length : tie.Need-same-length
 same-length c = search needs
 
--- src/lib.rt:110:9  put_whole(out, at, bits); ⏎ return;
+-- src/lib.rt:134:9  put_whole(out, at, bits); ⏎ return;
 returns : tie.Need-returns
 returns c = c .before .before .put-whole .ensures ∙ ap (sets (c .before .before .before .before .before .before .args .out .now) (c .before .before .before .before .before .before .args .at)) (sym (word-whole (c .before .before .before .before .before .before .args .word) (c .before .before .before .before .if1 .taken)))
 
--- src/lib.rt:113:9  if tag == 2 { ⏎ put_truth(out, at, bits);
+-- src/lib.rt:137:9  if tag == TRUTH { ⏎ put_truth(out, at, bits);
 put-truth-requires : tie.Need-put-truth-requires
 put-truth-requires c κs = search needs
 
--- src/lib.rt:114:9  put_truth(out, at, bits); ⏎ return;
+-- src/lib.rt:138:9  put_truth(out, at, bits); ⏎ return;
 same-length-2 : tie.Need-same-length-2
 same-length-2 c = search needs
 
--- src/lib.rt:114:9  put_truth(out, at, bits); ⏎ return;
+-- src/lib.rt:138:9  put_truth(out, at, bits); ⏎ return;
 returns-2 : tie.Need-returns-2
 returns-2 c = c .before .before .put-truth .ensures ∙ ap (sets (c .before .before .before .before .before .before .before .args .out .now) (c .before .before .before .before .before .before .before .args .at)) (sym (word-truth (c .before .before .before .before .before .before .before .args .word) (c .before .before .before .before .if2 .taken)))
 
--- src/lib.rt:116:5  } ⏎ put_letter(out, at, 69);
+-- src/lib.rt:141:9  if word == ZERO_DIVISOR { ⏎ put_letter(out, at, b'Z');
 put-letter-requires : tie.Need-put-letter-requires
 put-letter-requires c κs = search needs
 
--- src/lib.rt:102:1  // The value of a word in eleven characters. ⏎ pub fn put_value(out: &mut [u8], at: usize, word: u64)
+-- src/lib.rt:142:9  put_letter(out, at, b'Z'); ⏎ return;
 same-length-3 : tie.Need-same-length-3
 same-length-3 c = search needs
 
--- src/lib.rt:102:1  // The value of a word in eleven characters. ⏎ pub fn put_value(out: &mut [u8], at: usize, word: u64)
+-- src/lib.rt:142:9  put_letter(out, at, b'Z'); ⏎ return;
 returns-3 : tie.Need-returns-3
-returns-3 c = c .before .before .put-letter .ensures ∙ ap (sets (c .before .before .before .before .before .before .before .args .out .now) (c .before .before .before .before .before .before .before .args .at)) (sym (word-other (c .before .before .before .before .before .before .before .args .word) (c .before .before .before .before .before .if1 .left) (c .before .before .before .before .if2 .left)))
+unfolding wordOf
+returns-3 c = c .before .before .put-letter .ensures ∙ ap (sets (c .before .before .before .before .before .before .before .before .args .out .now) (c .before .before .before .before .before .before .before .before .args .at)) (sym (word-err (c .before .before .before .before .before .before .before .before .args .word) ZeroDivisor (c .before .before .before .before .if3 .taken)))
+
+-- src/lib.rt:145:9  if word == OUT_OF_RANGE { ⏎ put_letter(out, at, b'V');
+put-letter-requires-2 : tie.Need-put-letter-requires-2
+put-letter-requires-2 c κs = search needs
+
+-- src/lib.rt:146:9  put_letter(out, at, b'V'); ⏎ return;
+same-length-4 : tie.Need-same-length-4
+same-length-4 c = search needs
+
+-- src/lib.rt:146:9  put_letter(out, at, b'V'); ⏎ return;
+returns-4 : tie.Need-returns-4
+unfolding wordOf
+returns-4 c = c .before .before .put-letter2 .ensures ∙ ap (sets (c .before .before .before .before .before .before .before .before .before .args .out .now) (c .before .before .before .before .before .before .before .before .before .args .at)) (sym (word-err (c .before .before .before .before .before .before .before .before .before .args .word) OutOfRange (c .before .before .before .before .if4 .taken)))
+
+-- src/lib.rt:148:5  } ⏎ put_letter(out, at, b'E');
+put-letter-requires-3 : tie.Need-put-letter-requires-3
+put-letter-requires-3 c κs = search needs
+
+-- src/lib.rt:126:1  // The value of a word in eleven characters. ⏎ pub fn put_value(out: &mut [u8], at: usize, word: u64)
+same-length-5 : tie.Need-same-length-5
+same-length-5 c = search needs
+
+-- src/lib.rt:126:1  // The value of a word in eleven characters. ⏎ pub fn put_value(out: &mut [u8], at: usize, word: u64)
+returns-5 : tie.Need-returns-5
+unfolding wordOf
+returns-5 c = c .before .before .put-letter3 .ensures ∙ ap (sets (c .before .before .before .before .before .before .before .before .before .args .out .now) (c .before .before .before .before .before .before .before .before .before .args .at)) (sym (word-other (c .before .before .before .before .before .before .before .before .before .args .word) (c .before .before .before .before .before .before .before .if1 .left) (c .before .before .before .before .before .before .if2 .left) (c .before .before .before .before .before .if3 .left) (c .before .before .before .before .if4 .left)))
 
 pub put-value-spec : {M : Type 1} → statement M
 put-value-spec =
@@ -68,4 +92,10 @@ put-value-spec =
     returns-2
     put-letter-requires
     same-length-3
-    returns-3)
+    returns-3
+    put-letter-requires-2
+    same-length-4
+    returns-4
+    put-letter-requires-3
+    same-length-5
+    returns-5)

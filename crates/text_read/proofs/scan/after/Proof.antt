@@ -1,5 +1,5 @@
 -- The tests, as paths name them:
---   tie if1  let length = one_more(x.length); ⏎ if x.column < 30 {
+--   tie if1  let length = one_more(x.length); ⏎ if x.column < LAST_COLUMN {
 use borrow.Author.Needs.{needs}
 use Rattle.text_read.proofs.scan.after.Statement.{statement}
 use Rattle.text_read.proofs.scan.after.Tie as tie
@@ -18,24 +18,24 @@ use lib.ListN.{length, getD, take, drop, set}
 use Rattle.value.specs.Operators.{pick}
 use Rattle.text.specs.Scan.{seen, after}
 
--- src/scan.rt:31:9  { ⏎ let length = one_more(x.length);
+-- src/scan.rt:33:9  { ⏎ let length = one_more(x.length);
 one-more-requires : tie.Need-one-more-requires
 one-more-requires c κs = search needs
 
--- src/scan.rt:35:21  length, ⏎ column: x.column + 1,
+-- src/scan.rt:37:21  length, ⏎ column: x.column + 1,
 add-t5 : tie.Need-add-t5
 add-t5 c = search needs
 
--- src/scan.rt:33:9  if x.column < 30 { ⏎ return Seen {
+-- src/scan.rt:35:9  if x.column < LAST_COLUMN { ⏎ return Seen {
 returns : tie.Need-returns
 unfolding after
 returns c = rw (c .before .before .before .one-more .ensures, lt-ltb (c .before .before .before .before .args .x .column) 30 (c .before .if1 .taken)) refl
 
--- src/scan.rt:42:16  column: 0, ⏎ ended: row_ended(x.ended, b),
+-- src/scan.rt:44:16  column: 0, ⏎ ended: row_ended(x.ended, b),
 row-ended-requires : tie.Need-row-ended-requires
 row-ended-requires c κs = search needs
 
--- src/scan.rt:28:1  // One byte more. ⏎ fn after(x: Seen, b: u8) -> Seen
+-- src/scan.rt:30:1  // One byte more. ⏎ fn after(x: Seen, b: u8) -> Seen
 returns-2 : tie.Need-returns-2
 unfolding after
 returns-2 c = rw (c .before .before .before .one-more .ensures, c .row-ended .ensures, le-ltb (c .before .before .before .before .args .x .column) 30 (c .before .if1 .left)) refl

@@ -1,5 +1,5 @@
 -- The tests, as paths name them:
---   tie if1  { ⏎ if length < 6201 { length + 1 } else { length }
+--   tie if1  { ⏎ if length < COUNTED { length + 1 } else { length }
 use borrow.Author.Needs.{needs}
 use Rattle.text_read.proofs.scan.one_more.Statement.{statement}
 use Rattle.text_read.proofs.scan.one_more.Tie as tie
@@ -15,15 +15,15 @@ use lib.Dec.{eqb, ltb}
 use lib.ListN.{length, getD, take, drop, set}
 use Rattle.value.specs.Operators.{pick}
 
--- src/scan.rt:24:24  { ⏎ if length < 6201 { length + 1 } else { length }
+-- src/scan.rt:26:27  { ⏎ if length < COUNTED { length + 1 } else { length }
 add-result : tie.Need-add-result
 add-result c = search needs
 
--- src/scan.rt:21:1  } ⏎ fn one_more(length: usize) -> usize
+-- src/scan.rt:23:1  } ⏎ fn one_more(length: usize) -> usize
 returns : tie.Need-returns
 returns c = rw (lt-ltb (c .before .args .length) 6201 (c .if1 .taken)) refl
 
--- src/scan.rt:21:1  } ⏎ fn one_more(length: usize) -> usize
+-- src/scan.rt:23:1  } ⏎ fn one_more(length: usize) -> usize
 returns-2 : tie.Need-returns-2
 returns-2 c = rw (le-ltb (c .before .args .length) 6201 (c .if1 .left)) refl
 

@@ -1,5 +1,5 @@
 -- The tests, as paths name them:
---   tie if1  { ⏎ if before { b == 10 } else { false }
+--   tie if1  { ⏎ if before { b == b'\n' } else { false }
 use borrow.Author.Needs.{needs}
 use Rattle.text_read.proofs.scan.row_ended.Statement.{statement}
 use Rattle.text_read.proofs.scan.row_ended.Tie as tie
@@ -15,11 +15,11 @@ use lib.Dec.{eqb, ltb}
 use lib.ListN.{length, getD, take, drop, set}
 use Rattle.value.specs.Operators.{pick}
 
--- src/scan.rt:50:1  } ⏎ fn row_ended(before: bool, b: u8) -> bool
+-- src/scan.rt:48:1  } ⏎ fn row_ended(before: bool, b: u8) -> bool
 returns : tie.Need-returns
 returns c = rw (c .if1 .taken) refl
 
--- src/scan.rt:50:1  } ⏎ fn row_ended(before: bool, b: u8) -> bool
+-- src/scan.rt:48:1  } ⏎ fn row_ended(before: bool, b: u8) -> bool
 returns-2 : tie.Need-returns-2
 returns-2 c = rw (c .if1 .left) refl
 

@@ -17,17 +17,17 @@ use lib.ListN.{length, getD, take, drop, set}
 use Rattle.value.specs.Operators.{pick}
 use Rattle.text.specs.Scan.{seenLaidOut}
 
--- src/scan.rt:74:9  if x.length == 0 { ⏎ return false;
+-- src/scan.rt:72:9  if x.length == 0 { ⏎ return false;
 returns : tie.Need-returns
 unfolding seenLaidOut
 returns c = rw (eq-eqb (c .before .before .args .x .length) 0 (c .if1 .taken)) refl
 
--- src/scan.rt:77:9  if x.column != 0 { ⏎ return false;
+-- src/scan.rt:75:9  if x.column != 0 { ⏎ return false;
 returns-2 : tie.Need-returns-2
 unfolding seenLaidOut
 returns-2 c = rw (ne-eqb (c .before .before .before .before .args .x .length) 0 (c .before .before .if1 .left), ne-eqb (c .before .before .before .before .args .x .column) 0 (c .if2 .taken)) refl
 
--- src/scan.rt:70:1  // Test 1 of all that was seen. ⏎ pub fn seen_laid_out(x: Seen) -> bool
+-- src/scan.rt:68:1  // Test 1 of all that was seen. ⏎ pub fn seen_laid_out(x: Seen) -> bool
 returns-3 : tie.Need-returns-3
 unfolding seenLaidOut
 returns-3 c = rw (ne-eqb (c .before .before .before .before .args .x .length) 0 (c .before .before .if1 .left), eq-eqb (c .before .before .before .before .args .x .column) 0 (c .if2 .left)) refl

@@ -1,5 +1,5 @@
 -- The tests, as paths name them:
---   tie if1  { ⏎ if i == end { word } else { 0 }
+--   tie if1  { ⏎ if i == end { word } else { NO_VALUE }
 use Rattle.text_read.proofs.values.alone.Statement.{statement}
 use Rattle.text_read.proofs.values.alone.Tie as tie
 use Rattle.text_read.proofs.values.alone.Reads as reads
@@ -12,11 +12,11 @@ use lib.ListN.{length, getD}
 use lib.Seq.{slice}
 use borrow.Author.Tests.{eq-eqb, ne-eqb}
 
--- src/values.rt:92:1  } ⏎ fn alone(i: usize, end: usize, word: u64) -> u64
+-- src/values.rt:110:1  } ⏎ fn alone(i: usize, end: usize, word: u64) -> u64
 returns : tie.Need-returns
 returns c = rw (eq-eqb (c .before .args .i) (c .before .args .end) (c .if1 .taken)) refl
 
--- src/values.rt:92:1  } ⏎ fn alone(i: usize, end: usize, word: u64) -> u64
+-- src/values.rt:110:1  } ⏎ fn alone(i: usize, end: usize, word: u64) -> u64
 returns-2 : tie.Need-returns-2
 returns-2 c = rw (ne-eqb (c .before .args .i) (c .before .args .end) (c .if1 .left)) refl
 

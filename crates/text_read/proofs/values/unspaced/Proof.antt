@@ -1,11 +1,13 @@
 -- The tests, as paths name them:
---   tie if1  let b = s[i]; ⏎ if b == 84 {
---   tie if2  } ⏎ if b == 70 {
---   tie if3  } ⏎ if b == 69 {
---   tie if4  } ⏎ if b == 45 {
---   tie if5  } ⏎ if b == 48 {
---   tie if6  } ⏎ if b < 48 {
---   tie if7  } ⏎ if 57 < b {
+--   tie if1  let b = s[i]; ⏎ if b == b'T' {
+--   tie if2  } ⏎ if b == b'F' {
+--   tie if3  } ⏎ if b == b'E' {
+--   tie if4  } ⏎ if b == b'Z' {
+--   tie if5  } ⏎ if b == b'V' {
+--   tie if6  } ⏎ if b == b'-' {
+--   tie if7  } ⏎ if b == b'0' {
+--   tie if8  } ⏎ if b < b'0' {
+--   tie if9  } ⏎ if b'9' < b {
 use borrow.Author.Needs.{needs}
 use Rattle.text_read.proofs.values.unspaced.Statement.{statement}
 use Rattle.text_read.proofs.values.unspaced.Tie as tie
@@ -17,115 +19,139 @@ use Rattle.text_read.proofs.values.digit.Reads as digit-reads
 use Rattle.text_read.proofs.values.digits.Reads as digits-reads
 use Rattle.text_read.proofs.values.positive.Reads as positive-reads
 use native.Mathlib.Omega.{arith}
-use Prim.Native.Nat.{ℕ, suc, _+_, _-_, _*_, _/_, _%_, _^_, _≤_, _<_}
-use mathlib.Core.Path.{_≡_, sym, _∙_, ap, refl}
-use mathlib.Core.List.{List, [], _∷_, _++_}
-use mathlib.Core.Bool.{Bool, true, false}
-use lib.ListN.{length, getD, take, drop, set, replicate, length-set, length-append}
+use Prim.Native.Nat.{ℕ, _+_}
+use mathlib.Core.Path.{sym, _∙_, ap}
+use mathlib.Core.Bool.{true, false}
 use lib.Seq.{slice}
-use Rattle.value.specs.declared.Value.the-variants.{Whole, Truth, Err}
+use Rattle.value.specs.declared.Reason.the-variants.{ZeroDivisor, OutOfRange, Other}
+use Rattle.value.specs.declared.Value.the-variants.{Truth, Err}
 use Rattle.value.specs.Bytes.{wordOf}
-use Rattle.formula.specs.Sheet.{digitsOf, fieldOf, zeroOf}
+use Rattle.formula.specs.Sheet.{digitsOf}
 use Rattle.formula.specs.declared.Field.{Field}
-use Rattle.formula.specs.declared.Field.the-variants.{Number}
-use Rattle.sheet_fields.proofs.FieldLaws.{field-zero, field-low, field-high, field-digit, zero-end, zero-more}
-use Rattle.text.specs.Fields.{positive, fieldValue, wordBy, alone}
+use Rattle.sheet_fields.proofs.FieldLaws.{field-low, field-high, field-digit}
+use Rattle.text.specs.Fields.{positive, wordBy}
 use Rattle.text.specs.FieldLaws.{alone-word, value-true, value-false, value-err, value-minus, value-number, zero-word, positive-malformed}
 
--- src/values.rt:103:13  { ⏎ let b = s[i];
+-- src/values.rt:121:13  { ⏎ let b = s[i];
 shared-slice-read-b : tie.Need-shared-slice-read-b
 shared-slice-read-b c = omega arith
 
--- src/values.rt:105:22  if b == 84 { ⏎ return alone(i + 1, end, 258);
+-- src/values.rt:123:22  if b == b'T' { ⏎ return alone(i + 1, end, TRUE);
 add-alone : tie.Need-add-alone
 add-alone c = search needs
 
--- src/values.rt:105:9  if b == 84 { ⏎ return alone(i + 1, end, 258);
+-- src/values.rt:123:9  if b == b'T' { ⏎ return alone(i + 1, end, TRUE);
 alone-requires : tie.Need-alone-requires
 alone-requires c κs = search needs
 
--- src/values.rt:105:9  if b == 84 { ⏎ return alone(i + 1, end, 258);
+-- src/values.rt:123:9  if b == b'T' { ⏎ return alone(i + 1, end, TRUE);
 returns : tie.Need-returns
 unfolding wordOf
 returns c = c .alone .ensures ∙ sym (ap wordBy (value-true (c .before .before .before .before .args .s .now) (c .before .before .before .before .args .i) (c .before .before .before .before .args .end) (omega arith) (omega arith) (c .before .if1 .taken)) ∙ alone-word (c .before .before .before .before .args .s .now) (c .before .before .before .before .args .i + 1) (c .before .before .before .before .args .end) (Truth true) (omega arith) (omega arith))
 
--- src/values.rt:108:22  if b == 70 { ⏎ return alone(i + 1, end, 2);
+-- src/values.rt:126:22  if b == b'F' { ⏎ return alone(i + 1, end, FALSE);
 add-alone-2 : tie.Need-add-alone-2
 add-alone-2 c = search needs
 
--- src/values.rt:108:9  if b == 70 { ⏎ return alone(i + 1, end, 2);
+-- src/values.rt:126:9  if b == b'F' { ⏎ return alone(i + 1, end, FALSE);
 alone-requires-2 : tie.Need-alone-requires-2
 alone-requires-2 c κs = search needs
 
--- src/values.rt:108:9  if b == 70 { ⏎ return alone(i + 1, end, 2);
+-- src/values.rt:126:9  if b == b'F' { ⏎ return alone(i + 1, end, FALSE);
 returns-2 : tie.Need-returns-2
 unfolding wordOf
 returns-2 c = c .alone2 .ensures ∙ sym (ap wordBy (value-false (c .before .before .before .before .before .args .s .now) (c .before .before .before .before .before .args .i) (c .before .before .before .before .before .args .end) (omega arith) (omega arith) (c .before .if2 .taken)) ∙ alone-word (c .before .before .before .before .before .args .s .now) (c .before .before .before .before .before .args .i + 1) (c .before .before .before .before .before .args .end) (Truth false) (omega arith) (omega arith))
 
--- src/values.rt:111:22  if b == 69 { ⏎ return alone(i + 1, end, 3);
+-- src/values.rt:129:22  if b == b'E' { ⏎ return alone(i + 1, end, ERR);
 add-alone-3 : tie.Need-add-alone-3
 add-alone-3 c = search needs
 
--- src/values.rt:111:9  if b == 69 { ⏎ return alone(i + 1, end, 3);
+-- src/values.rt:129:9  if b == b'E' { ⏎ return alone(i + 1, end, ERR);
 alone-requires-3 : tie.Need-alone-requires-3
 alone-requires-3 c κs = search needs
 
--- src/values.rt:111:9  if b == 69 { ⏎ return alone(i + 1, end, 3);
+-- src/values.rt:129:9  if b == b'E' { ⏎ return alone(i + 1, end, ERR);
 returns-3 : tie.Need-returns-3
 unfolding wordOf
-returns-3 c = c .alone3 .ensures ∙ sym (ap wordBy (value-err (c .before .before .before .before .before .before .args .s .now) (c .before .before .before .before .before .before .args .i) (c .before .before .before .before .before .before .args .end) (omega arith) (omega arith) (c .before .if3 .taken)) ∙ alone-word (c .before .before .before .before .before .before .args .s .now) (c .before .before .before .before .before .before .args .i + 1) (c .before .before .before .before .before .before .args .end) Err (omega arith) (omega arith))
+returns-3 c = c .alone3 .ensures ∙ sym (ap wordBy (value-err (c .before .before .before .before .before .before .args .s .now) (c .before .before .before .before .before .before .args .i) (c .before .before .before .before .before .before .args .end) (omega arith) (omega arith) Other (c .before .if3 .taken)) ∙ alone-word (c .before .before .before .before .before .before .args .s .now) (c .before .before .before .before .before .before .args .i + 1) (c .before .before .before .before .before .before .args .end) (Err Other) (omega arith) (omega arith))
 
--- src/values.rt:114:32  if b == 45 { ⏎ return behind_minus(s, i + 1, end);
-add-behind-minus : tie.Need-add-behind-minus
-add-behind-minus c = search needs
-
--- src/values.rt:114:9  if b == 45 { ⏎ return behind_minus(s, i + 1, end);
-behind-minus-requires : tie.Need-behind-minus-requires
-behind-minus-requires c κs = omega arith
-
--- src/values.rt:114:9  if b == 45 { ⏎ return behind_minus(s, i + 1, end);
-returns-4 : tie.Need-returns-4
-returns-4 c = c .behind-minus .ensures ∙ sym (ap wordBy (value-minus (c .before .before .before .before .before .before .before .args .s .now) (c .before .before .before .before .before .before .before .args .i) (c .before .before .before .before .before .before .before .args .end) (omega arith) (omega arith) (c .before .if4 .taken)))
-
--- src/values.rt:117:22  if b == 48 { ⏎ return alone(i + 1, end, 1);
+-- src/values.rt:132:22  if b == b'Z' { ⏎ return alone(i + 1, end, ZERO_DIVISOR);
 add-alone-4 : tie.Need-add-alone-4
 add-alone-4 c = search needs
 
--- src/values.rt:117:9  if b == 48 { ⏎ return alone(i + 1, end, 1);
+-- src/values.rt:132:9  if b == b'Z' { ⏎ return alone(i + 1, end, ZERO_DIVISOR);
 alone-requires-4 : tie.Need-alone-requires-4
 alone-requires-4 c κs = search needs
 
--- src/values.rt:117:9  if b == 48 { ⏎ return alone(i + 1, end, 1);
+-- src/values.rt:132:9  if b == b'Z' { ⏎ return alone(i + 1, end, ZERO_DIVISOR);
+returns-4 : tie.Need-returns-4
+unfolding wordOf
+returns-4 c = c .alone4 .ensures ∙ sym (ap wordBy (value-err (c .before .before .before .before .before .before .before .args .s .now) (c .before .before .before .before .before .before .before .args .i) (c .before .before .before .before .before .before .before .args .end) (omega arith) (omega arith) ZeroDivisor (c .before .if4 .taken)) ∙ alone-word (c .before .before .before .before .before .before .before .args .s .now) (c .before .before .before .before .before .before .before .args .i + 1) (c .before .before .before .before .before .before .before .args .end) (Err ZeroDivisor) (omega arith) (omega arith))
+
+-- src/values.rt:135:22  if b == b'V' { ⏎ return alone(i + 1, end, OUT_OF_RANGE);
+add-alone-5 : tie.Need-add-alone-5
+add-alone-5 c = search needs
+
+-- src/values.rt:135:9  if b == b'V' { ⏎ return alone(i + 1, end, OUT_OF_RANGE);
+alone-requires-5 : tie.Need-alone-requires-5
+alone-requires-5 c κs = search needs
+
+-- src/values.rt:135:9  if b == b'V' { ⏎ return alone(i + 1, end, OUT_OF_RANGE);
 returns-5 : tie.Need-returns-5
-returns-5 c = c .alone4 .ensures ∙ sym (ap wordBy (value-number (c .before .before .before .before .before .before .before .before .args .s .now) (c .before .before .before .before .before .before .before .before .args .i) (c .before .before .before .before .before .before .before .before .args .end) (omega arith) (omega arith) (c .before .before .before .before .before .before .before .before .pre .3) (c .before .before .before .before .before .if1 .left) (c .before .before .before .before .if2 .left) (c .before .before .before .if3 .left) (c .before .before .if4 .left)) ∙ zero-word (c .before .before .before .before .before .before .before .before .args .s .now) (c .before .before .before .before .before .before .before .before .args .i) (c .before .before .before .before .before .before .before .before .args .end) (omega arith) (omega arith) (c .before .if5 .taken))
+unfolding wordOf
+returns-5 c = c .alone5 .ensures ∙ sym (ap wordBy (value-err (c .before .before .before .before .before .before .before .before .args .s .now) (c .before .before .before .before .before .before .before .before .args .i) (c .before .before .before .before .before .before .before .before .args .end) (omega arith) (omega arith) OutOfRange (c .before .if5 .taken)) ∙ alone-word (c .before .before .before .before .before .before .before .before .args .s .now) (c .before .before .before .before .before .before .before .before .args .i + 1) (c .before .before .before .before .before .before .before .before .args .end) (Err OutOfRange) (omega arith) (omega arith))
 
--- src/values.rt:120:9  if b < 48 { ⏎ return 0;
+-- src/values.rt:138:32  if b == b'-' { ⏎ return behind_minus(s, i + 1, end);
+add-behind-minus : tie.Need-add-behind-minus
+add-behind-minus c = search needs
+
+-- src/values.rt:138:9  if b == b'-' { ⏎ return behind_minus(s, i + 1, end);
+behind-minus-requires : tie.Need-behind-minus-requires
+behind-minus-requires c κs = omega arith
+
+-- src/values.rt:138:9  if b == b'-' { ⏎ return behind_minus(s, i + 1, end);
 returns-6 : tie.Need-returns-6
-returns-6 c = sym (ap wordBy (value-number (c .before .before .before .before .before .before .before .before .args .s .now) (c .before .before .before .before .before .before .before .before .args .i) (c .before .before .before .before .before .before .before .before .args .end) (omega arith) (omega arith) (c .before .before .before .before .before .before .before .before .pre .3) (c .before .before .before .before .before .if1 .left) (c .before .before .before .before .if2 .left) (c .before .before .before .if3 .left) (c .before .before .if4 .left)) ∙ ap (λ (f : Field). wordBy (positive f)) (sym (field-low (c .before .before .before .before .before .before .before .before .args .s .now) (c .before .before .before .before .before .before .before .before .args .i) (c .before .before .before .before .before .before .before .before .args .end) (omega arith) (omega arith) (c .before .before .before .before .before .before .before .before .pre .3) (c .if6 .taken))) ∙ positive-malformed)
+returns-6 c = c .behind-minus .ensures ∙ sym (ap wordBy (value-minus (c .before .before .before .before .before .before .before .before .before .args .s .now) (c .before .before .before .before .before .before .before .before .before .args .i) (c .before .before .before .before .before .before .before .before .before .args .end) (omega arith) (omega arith) (c .before .if6 .taken)))
 
--- src/values.rt:123:9  if 57 < b { ⏎ return 0;
+-- src/values.rt:141:22  if b == b'0' { ⏎ return alone(i + 1, end, ZERO);
+add-alone-6 : tie.Need-add-alone-6
+add-alone-6 c = search needs
+
+-- src/values.rt:141:9  if b == b'0' { ⏎ return alone(i + 1, end, ZERO);
+alone-requires-6 : tie.Need-alone-requires-6
+alone-requires-6 c κs = search needs
+
+-- src/values.rt:141:9  if b == b'0' { ⏎ return alone(i + 1, end, ZERO);
 returns-7 : tie.Need-returns-7
-returns-7 c = sym (ap wordBy (value-number (c .before .before .before .before .before .before .before .before .before .args .s .now) (c .before .before .before .before .before .before .before .before .before .args .i) (c .before .before .before .before .before .before .before .before .before .args .end) (omega arith) (omega arith) (c .before .before .before .before .before .before .before .before .before .pre .3) (c .before .before .before .before .before .before .if1 .left) (c .before .before .before .before .before .if2 .left) (c .before .before .before .before .if3 .left) (c .before .before .before .if4 .left)) ∙ ap (λ (f : Field). wordBy (positive f)) (sym (field-high (c .before .before .before .before .before .before .before .before .before .args .s .now) (c .before .before .before .before .before .before .before .before .before .args .i) (c .before .before .before .before .before .before .before .before .before .args .end) (omega arith) (omega arith) (c .if7 .taken))) ∙ positive-malformed)
+returns-7 c = c .alone6 .ensures ∙ sym (ap wordBy (value-number (c .before .before .before .before .before .before .before .before .before .before .args .s .now) (c .before .before .before .before .before .before .before .before .before .before .args .i) (c .before .before .before .before .before .before .before .before .before .before .args .end) (omega arith) (omega arith) (c .before .before .before .before .before .before .before .before .before .before .pre .3) (c .before .before .before .before .before .before .before .if1 .left) (c .before .before .before .before .before .before .if2 .left) (c .before .before .before .before .before .if3 .left) (c .before .before .before .before .if4 .left) (c .before .before .before .if5 .left) (c .before .before .if6 .left)) ∙ zero-word (c .before .before .before .before .before .before .before .before .before .before .args .s .now) (c .before .before .before .before .before .before .before .before .before .before .args .i) (c .before .before .before .before .before .before .before .before .before .before .args .end) (omega arith) (omega arith) (c .before .if7 .taken))
 
--- src/values.rt:125:24  } ⏎ positive(digits(s, i + 1, end, digit(b)))
+-- src/values.rt:144:9  if b < b'0' { ⏎ return NO_VALUE;
+returns-8 : tie.Need-returns-8
+returns-8 c = sym (ap wordBy (value-number (c .before .before .before .before .before .before .before .before .before .before .args .s .now) (c .before .before .before .before .before .before .before .before .before .before .args .i) (c .before .before .before .before .before .before .before .before .before .before .args .end) (omega arith) (omega arith) (c .before .before .before .before .before .before .before .before .before .before .pre .3) (c .before .before .before .before .before .before .before .if1 .left) (c .before .before .before .before .before .before .if2 .left) (c .before .before .before .before .before .if3 .left) (c .before .before .before .before .if4 .left) (c .before .before .before .if5 .left) (c .before .before .if6 .left)) ∙ ap (λ (f : Field). wordBy (positive f)) (sym (field-low (c .before .before .before .before .before .before .before .before .before .before .args .s .now) (c .before .before .before .before .before .before .before .before .before .before .args .i) (c .before .before .before .before .before .before .before .before .before .before .args .end) (omega arith) (omega arith) (c .before .before .before .before .before .before .before .before .before .before .pre .3) (c .if8 .taken))) ∙ positive-malformed)
+
+-- src/values.rt:147:9  if b'9' < b { ⏎ return NO_VALUE;
+returns-9 : tie.Need-returns-9
+returns-9 c = sym (ap wordBy (value-number (c .before .before .before .before .before .before .before .before .before .before .before .args .s .now) (c .before .before .before .before .before .before .before .before .before .before .before .args .i) (c .before .before .before .before .before .before .before .before .before .before .before .args .end) (omega arith) (omega arith) (c .before .before .before .before .before .before .before .before .before .before .before .pre .3) (c .before .before .before .before .before .before .before .before .if1 .left) (c .before .before .before .before .before .before .before .if2 .left) (c .before .before .before .before .before .before .if3 .left) (c .before .before .before .before .before .if4 .left) (c .before .before .before .before .if5 .left) (c .before .before .before .if6 .left)) ∙ ap (λ (f : Field). wordBy (positive f)) (sym (field-high (c .before .before .before .before .before .before .before .before .before .before .before .args .s .now) (c .before .before .before .before .before .before .before .before .before .before .before .args .i) (c .before .before .before .before .before .before .before .before .before .before .before .args .end) (omega arith) (omega arith) (c .if9 .taken))) ∙ positive-malformed)
+
+-- src/values.rt:149:24  } ⏎ positive(digits(s, i + 1, end, digit(b)))
 add-digits : tie.Need-add-digits
 add-digits c = search needs
 
--- src/values.rt:125:36  } ⏎ positive(digits(s, i + 1, end, digit(b)))
+-- src/values.rt:149:36  } ⏎ positive(digits(s, i + 1, end, digit(b)))
 digit-requires : tie.Need-digit-requires
 digit-requires c κs = search needs
 
--- src/values.rt:125:14  } ⏎ positive(digits(s, i + 1, end, digit(b)))
+-- src/values.rt:149:14  } ⏎ positive(digits(s, i + 1, end, digit(b)))
 digits-requires : tie.Need-digits-requires
-digits-requires c κs = omega (arith, c .digit .ensures, c .before .if7 .left)
+digits-requires c κs = omega (arith, c .digit .ensures, c .before .if9 .left)
 
--- src/values.rt:125:5  } ⏎ positive(digits(s, i + 1, end, digit(b)))
+-- src/values.rt:149:5  } ⏎ positive(digits(s, i + 1, end, digit(b)))
 positive-requires : tie.Need-positive-requires
 positive-requires c κs = search needs
 
--- src/values.rt:99:1  // A field behind its spaces. ⏎ fn unspaced(s: &[u8], i: usize, end: usize) -> u64
-returns-8 : tie.Need-returns-8
-returns-8 c = c .positive .ensures ∙ ap (λ (f : Field). wordBy (positive f)) (c .before .digits .ensures ∙ ap (λ (n : ℕ). digitsOf n (slice (c .before .before .before .before .before .before .before .before .before .before .before .before .args .i + 1) (c .before .before .before .before .before .before .before .before .before .before .before .before .args .end) (c .before .before .before .before .before .before .before .before .before .before .before .before .args .s .now))) (c .before .before .digit .ensures) ∙ sym (field-digit (c .before .before .before .before .before .before .before .before .before .before .before .before .args .s .now) (c .before .before .before .before .before .before .before .before .before .before .before .before .args .i) (c .before .before .before .before .before .before .before .before .before .before .before .before .args .end) (omega arith) (omega arith) (c .before .before .before .before .before .if5 .left) (c .before .before .before .before .if6 .left) (c .before .before .before .if7 .left))) ∙ sym (ap wordBy (value-number (c .before .before .before .before .before .before .before .before .before .before .before .before .args .s .now) (c .before .before .before .before .before .before .before .before .before .before .before .before .args .i) (c .before .before .before .before .before .before .before .before .before .before .before .before .args .end) (omega arith) (omega arith) (c .before .before .before .before .before .before .before .before .before .before .before .before .pre .3) (c .before .before .before .before .before .before .before .before .before .if1 .left) (c .before .before .before .before .before .before .before .before .if2 .left) (c .before .before .before .before .before .before .before .if3 .left) (c .before .before .before .before .before .before .if4 .left)))
+-- src/values.rt:117:1  // A field behind its spaces. ⏎ fn unspaced(s: &[u8], i: usize, end: usize) -> u64
+returns-10 : tie.Need-returns-10
+returns-10 c = c .positive .ensures ∙ ap (λ (f : Field). wordBy (positive f)) (c .before .digits .ensures ∙ ap (λ (n : ℕ). digitsOf n (slice (c .before .before .before .before .before .before .before .before .before .before .before .before .before .before .args .i + 1) (c .before .before .before .before .before .before .before .before .before .before .before .before .before .before .args .end) (c .before .before .before .before .before .before .before .before .before .before .before .before .before .before .args .s .now))) (c .before .before .digit .ensures) ∙ sym (field-digit (c .before .before .before .before .before .before .before .before .before .before .before .before .before .before .args .s .now) (c .before .before .before .before .before .before .before .before .before .before .before .before .before .before .args .i) (c .before .before .before .before .before .before .before .before .before .before .before .before .before .before .args .end) (omega arith) (omega arith) (c .before .before .before .before .before .if7 .left) (c .before .before .before .before .if8 .left) (c .before .before .before .if9 .left))) ∙ sym (ap wordBy (value-number (c .before .before .before .before .before .before .before .before .before .before .before .before .before .before .args .s .now) (c .before .before .before .before .before .before .before .before .before .before .before .before .before .before .args .i) (c .before .before .before .before .before .before .before .before .before .before .before .before .before .before .args .end) (omega arith) (omega arith) (c .before .before .before .before .before .before .before .before .before .before .before .before .before .before .pre .3) (c .before .before .before .before .before .before .before .before .before .before .before .if1 .left) (c .before .before .before .before .before .before .before .before .before .before .if2 .left) (c .before .before .before .before .before .before .before .before .before .if3 .left) (c .before .before .before .before .before .before .before .before .if4 .left) (c .before .before .before .before .before .before .before .if5 .left) (c .before .before .before .before .before .before .if6 .left)))
 
 pub unspaced-spec : {M : Type 1} → statement M
 unspaced-spec =
@@ -141,16 +167,22 @@ unspaced-spec =
     add-alone-3
     alone-requires-3
     returns-3
-    add-behind-minus
-    behind-minus-requires
-    returns-4
     add-alone-4
     alone-requires-4
+    returns-4
+    add-alone-5
+    alone-requires-5
     returns-5
+    add-behind-minus
+    behind-minus-requires
     returns-6
+    add-alone-6
+    alone-requires-6
     returns-7
+    returns-8
+    returns-9
     add-digits
     digit-requires
     digits-requires
     positive-requires
-    returns-8)
+    returns-10)
