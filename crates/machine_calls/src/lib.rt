@@ -34,7 +34,7 @@ fn refused(r: Refusal) -> Answer
 }
 
 // 11 or 31, or 0 where the memory stands well.
-fn standing_of(mem: &[u8]) -> u32
+pub fn standing_of(mem: &[u8]) -> u32
     ensures { λ r. ⌜ r ≡ standing (now (mem .entry)) ⌝ }
 {
     let capacity = machine_layout::capacity(mem);

@@ -1,1 +1,2 @@
 pub mod Tray
+pub mod TrayLaws
