@@ -7,13 +7,13 @@ use mathlib.Core.Logic.{_≢_}
 use mathlib.Core.List.{List, [], _∷_, _++_, foldl}
 use native.Mathlib.Omega.{arith}
 use native.Mathlib.Decide.{ℕ-discrete}
-use borrow.Author.Tests.{eq-eqb, ne-eqb}
+use borrow.Author.Tests.{ne-eqb}
 use lib.Dec.{eqb, ltb}
 use lib.ListN.{take, drop}
 use Rattle.value.specs.Operators.{pick}
 use Rattle.machine_layout.specs.Layout.{inputsOf, untakenOf}
 use Rattle.value_sets.specs.Sets.{setOk}
-use Rattle.machine_calls.specs.Calls.{Outcome, outcome, answers, sizeIn, standing, roomsOk, pushedMemory, pushed}
+use Rattle.machine_calls.specs.Calls.{Outcome, outcome, answers, sizeIn, standing, roomsOk, pushed}
 use Rattle.machine_tray.specs.Tray.{setBytes, pushedInTurn, trayed, cut, wentIn}
 use Rattle.machine_tray.specs.TrayLaws.{turn-refused, turn-accepted, turns-over, tray-of-none, tray-in-turn}
 
@@ -57,7 +57,8 @@ one-by-one m s (suc n) h = tray-in-turn m s n (setBytes m) (λ e. refl) ∙ turn
 
 -- ---- a refused push
 
-either : {A : Type 0} (P : A → Type 0) (b : Bool) (x y : A) → P x → P y → P (pick b x y)
+-- What holds of both of two things holds of the one that a test picks.
+pub either : {A : Type 0} (P : A → Type 0) (b : Bool) (x y : A) → P x → P y → P (pick b x y)
 either P true x y p q = p
 either P false x y p q = q
 

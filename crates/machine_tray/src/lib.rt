@@ -2,7 +2,7 @@
 // contract is an equation on the answer and on every lent byte, and asks nothing of the caller.
 use machine_calls::Answer;
 ghost use mathlib.Core.Path.{_≡_};
-ghost use Prim.Native.Nat.{ℕ, _≤_, _<_};
+ghost use Prim.Native.Nat.{_≤_, _<_};
 ghost use Rattle.machine_calls.specs.Calls.{outcome, standing};
 ghost use Rattle.machine_tray.specs.Tray.{setBytes, trayed};
 ghost use Rattle.machine_tray.specs.TrayLaws.{Ends};

@@ -11,7 +11,6 @@ use native.Mathlib.Decide.{ℕ-discrete}
 use lib.Dec.{leb, ltb, eqb}
 use lib.ListN.{length}
 use Rattle.value.specs.declared.Value.{Value}
-use Rattle.value.specs.Operators.{pick}
 use Rattle.formula.specs.declared.Refusal.the-variants.{Memory, Capacity, Unfinished}
 use Rattle.formula.specs.declared.Verdict.{Verdict}
 use Rattle.formula.specs.declared.Verdict.the-variants.{Passed as passed, Refused as refused}
@@ -35,15 +34,11 @@ use Rattle.machine_calls.specs.Calls.{Outcome, Handed, outcome, handed, answers
 use Rattle.machine_calls.specs.CallLaws.{ran-refused}
 use Rattle.machine_tray.specs.Tray.{setBytes, trayed, cut, wentIn}
 use Rattle.machine_tray.specs.TrayLaws.{tray-of-none}
-use Rattle.machine_tray.specs.OneByOne.{push-leaves, Pushes, Stops, went-in, refused-set}
+use Rattle.machine_tray.specs.OneByOne.{either, push-leaves, Pushes, Stops, went-in, refused-set}
 use Rattle.machine_start.specs.Start.{Begun, byVerdict, started}
 use Rattle.refusals.specs.Conditions.{no-room, short-asked}
 use Rattle.refusals.specs.Rows.{RowTold, VerdictRow, verdict-row}
 use Rattle.refusals.specs.RunCount.{Firings, run-is, run-counts}
-
-either : {A : Type 0} (P : A → Type 0) (b : Bool) (x y : A) → P x → P y → P (pick b x y)
-either P true x y p q = p
-either P false x y p q = q
 
 -- A refusal with count 0 that leaves the memory, or an acceptance.
 abbrev Keeps : List ℕ → Outcome → Type 0
