@@ -1,0 +1,3 @@
+pub mod Tray
+pub mod TrayLaws
+pub mod OneByOne
