@@ -2,7 +2,11 @@ pub mod MemoryCalls
 pub mod Claim
 pub mod Evaluations
 pub mod Agree
-pub mod Follow
+pub mod Followed
+pub mod FollowPush
+pub mod FollowFire
+pub mod FollowRun
+pub mod FollowTake
 pub mod FollowAll
 pub mod OnMemory
 pub mod Agreed

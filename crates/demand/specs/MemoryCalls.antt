@@ -18,22 +18,6 @@ pub data Call : Type 0 where
   run : ℕ → ℕ → Call
   take : ℕ → List ℕ → Call
 
--- ---- one call on the memory that the call before left
-
--- Its answer: the refusal's number, 0 where accepted, and its count.
-unfoldable pub answerOf : Call → List ℕ → Answer
-answerOf (push lent set) m = pushed (firstOf lent m) set .answer
-answerOf (fire lent operator) m = fired (firstOf lent m) operator .answer
-answerOf (run lent firings) m = ran (firstOf lent m) firings .answer
-answerOf (take lent out) m = taken (firstOf lent m) out .answer
-
--- The memory as it leaves it: what it was not lent stays, "and nothing else writes it meanwhile".
-unfoldable pub memoryAfter : Call → List ℕ → List ℕ
-memoryAfter (push lent set) m = pushed (firstOf lent m) set .mem ++ drop lent m
-memoryAfter (fire lent operator) m = fired (firstOf lent m) operator .mem ++ drop lent m
-memoryAfter (run lent firings) m = ran (firstOf lent m) firings .mem ++ drop lent m
-memoryAfter (take lent out) m = taken (firstOf lent m) out .mem ++ drop lent m
-
 -- A result as the firmware gets it: the width that take's answer counts, and the eighty bytes of its sixteen values.
 pub record Result : Type 0 where
   pub width : ℕ
@@ -42,26 +26,53 @@ pub record Result : Type 0 where
 abbrev pub result : ℕ → List ℕ → Result
 result w b = record { width = w; bytes = b }
 
+-- ---- one call on the memory that the call before left
+
+-- Its answer, with the refusal's number, 0 where accepted, and its count; the memory as it leaves it; the sets that it pushed and the results that it took.
+pub record Done : Type 0 where
+  pub answer : Answer
+  pub memory : List ℕ
+  pub sets : List (List ℕ)
+  pub results : List Result
+
+abbrev doing : Answer → List ℕ → List (List ℕ) → List Result → Done
+doing a m s r = record { answer = a; memory = m; sets = s; results = r }
+
 unfoldable pub accepted : Answer → Bool
 accepted a = eqb (a .refusal) 0
 
--- "Count by the calls and by whether each was accepted: an accepted push adds its set, an accepted take takes the oldest untaken, every other call, run's 36
--- included, does neither."
-unfoldable pub setOf : Call → List ℕ → List (List ℕ)
+-- What a call was not lent stays, "and nothing else writes it meanwhile". "Count by the calls and by whether each was accepted: an accepted push adds its set,
+-- an accepted take takes the oldest untaken, every other call, run's 36 included, does neither."
+unfoldable pub done : Call → List ℕ → Done
 unfolding accepted
-setOf (push lent set) m = cond (accepted (pushed (firstOf lent m) set .answer)) (set ∷ []) []
-setOf (fire lent operator) m = []
-setOf (run lent firings) m = []
-setOf (take lent out) m = []
+done (push lent set) m =
+    let o = pushed (firstOf lent m) set in
+    doing (o .answer) (o .mem ++ drop lent m) (cond (accepted (o .answer)) (set ∷ []) []) []
+done (fire lent operator) m =
+    let o = fired (firstOf lent m) operator in
+    doing (o .answer) (o .mem ++ drop lent m) [] []
+done (run lent firings) m =
+    let o = ran (firstOf lent m) firings in
+    doing (o .answer) (o .mem ++ drop lent m) [] []
+done (take lent out) m =
+    let h = taken (firstOf lent m) out in
+    doing (h .answer) (h .mem ++ drop lent m) [] (cond (accepted (h .answer)) (result (h .answer .count) (firstOf 80 (h .out)) ∷ []) [])
+
+unfoldable pub answerOf : Call → List ℕ → Answer
+unfolding done
+answerOf c m = done c m .answer
+
+unfoldable pub memoryAfter : Call → List ℕ → List ℕ
+unfolding done
+memoryAfter c m = done c m .memory
+
+unfoldable pub setOf : Call → List ℕ → List (List ℕ)
+unfolding done
+setOf c m = done c m .sets
 
 unfoldable pub resultOf : Call → List ℕ → List Result
-unfolding accepted
-resultOf (push lent set) m = []
-resultOf (fire lent operator) m = []
-resultOf (run lent firings) m = []
-resultOf (take lent out) m =
-    let h = taken (firstOf lent m) out in
-    cond (accepted (h .answer)) (result (h .answer .count) (firstOf 80 (h .out)) ∷ []) []
+unfolding done
+resultOf c m = done c m .results
 
 -- ---- a list of calls from a memory
 
