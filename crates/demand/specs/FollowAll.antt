@@ -13,10 +13,11 @@ use Rattle.graph.specs.Translation.{madeOf}
 use Rattle.machine_calls.specs.Calls.{answers}
 use Rattle.theory_verdicts.specs.Running.{afterSteps, stepsFrom}
 use Rattle.demand_view.specs.Stands.{Stands}
-use Rattle.demand.specs.MemoryCalls.{Call, push, fire, run, take, answerOf, memoryAfter, setOf, resultOf, memoryAfterAll, answersOf, setsPushed, resultsTaken}
+use Rattle.demand.specs.MemoryCalls.{Call, push, tray, fire, run, take, answerOf, memoryAfter, setOf, resultOf, memoryAfterAll, answersOf, setsPushed, resultsTaken}
 use Rattle.demand.specs.Agree.{CallsAgree}
 use Rattle.demand.specs.Followed.{Follows, Unaltered, follows-none, follows-then}
 use Rattle.demand.specs.FollowPush.{push-follows}
+use Rattle.demand.specs.FollowTray.{tray-follows}
 use Rattle.demand.specs.FollowFire.{fire-follows}
 use Rattle.demand.specs.FollowRun.{run-follows}
 use Rattle.demand.specs.FollowTake.{take-follows}
@@ -27,6 +28,7 @@ module _ (x : Exp) (capacity : ℕ) (low : 1 ≤ capacity) (high : capacity ≤ 
       → Follows x capacity q (memoryAfter c m) (setOf c m) (resultOf c m) × Unaltered (answerOf c m .refusal)
   unfolding memoryAfter setOf resultOf answerOf
   call-follows m q H (push lent set) = push-follows x capacity low high A m q H lent set
+  call-follows m q H (tray lent sets number) = tray-follows x capacity low high A m q H lent sets number
   call-follows m q H (fire lent operator) = fire-follows x capacity low high A m q H lent operator
   call-follows m q H (run lent firings) = run-follows x capacity low high A m q H lent firings
   call-follows m q H (take lent out) = take-follows x capacity low high A m q H lent out

@@ -4,6 +4,7 @@ pub mod Evaluations
 pub mod Agree
 pub mod Followed
 pub mod FollowPush
+pub mod FollowTray
 pub mod FollowFire
 pub mod FollowRun
 pub mod FollowTake
@@ -16,5 +17,6 @@ pub mod Oldest
 pub mod ByHistory
 pub mod Evaluated
 pub mod Onward
+pub mod Trays
 pub mod Pushes
 pub mod LesserStarts

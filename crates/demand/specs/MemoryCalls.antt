@@ -1,6 +1,7 @@
--- Lists of calls on real memory (document 01, "Running": "Demand 3 is one claim over every list of these calls"): pushes, fires, runs and takes, each with
--- the bytes and numbers that the firmware lends it. What a call does is machine_calls/specs/Calls (`pushed`, `fired`, `ran`, `taken`), the very definitions with
--- which the contracts of bench_push, bench_fire, bench_run and bench_take are equations. Definitions only; assumes nothing.
+-- Lists of calls on real memory (document 01, "Running": "Demand 3 is one claim over every list of these calls"): pushes, trays of sets (document 02, Job 1),
+-- fires, runs and takes, each with the bytes and numbers that the firmware lends it. What a call does is machine_calls/specs/Calls (`pushed`, `fired`, `ran`,
+-- `taken`) and machine_tray/specs/Tray (`trayed`), the very definitions with which the contracts of bench_push, bench_push_tray, bench_fire, bench_run and
+-- bench_take are equations. Definitions only; assumes nothing.
 use Prim.Native.Nat.{ℕ}
 use mathlib.Core.Bool.{Bool, cond}
 use mathlib.Core.List.{List, [], _∷_, _++_}
@@ -8,12 +9,14 @@ use lib.Dec.{eqb}
 use lib.ListN.{drop, take as firstOf}
 use Rattle.machine_calls.specs.declared.Answer.{Answer}
 use Rattle.machine_calls.specs.Calls.{pushed, fired, ran, taken}
+use Rattle.machine_tray.specs.Tray.{trayed, wentIn}
 
 -- "each push, fire, run or take is lent that memory as the call before left it (a call lent too little gets 11 and is one of the refused)": the first number
--- says how many bytes, counted from the memory's first; a call lent more than there is gets all. Then come push's set, fire's operator, run's firings
--- and the bytes into which take writes.
+-- says how many bytes, counted from the memory's first; a call lent more than there is gets all. Then come push's set, a tray's bytes
+-- and the number of its sets, fire's operator, run's firings and the bytes into which take writes.
 pub data Call : Type 0 where
   push : ℕ → List ℕ → Call
+  tray : ℕ → List ℕ → ℕ → Call
   fire : ℕ → ℕ → Call
   run : ℕ → ℕ → Call
   take : ℕ → List ℕ → Call
@@ -42,12 +45,16 @@ unfoldable pub accepted : Answer → Bool
 accepted a = eqb (a .refusal) 0
 
 -- What a call was not lent stays, "and nothing else writes it meanwhile". "Count by the calls and by whether each was accepted: an accepted push adds its set,
--- an accepted take takes the oldest untaken, every other call, run's 36 included, does neither."
+-- an accepted take takes the oldest untaken, every other call, run's 36 included, does neither." Of a tray "demand 3 counts each set that went in as an accepted
+-- push, also where the call then gives a refusal".
 unfoldable pub done : Call → List ℕ → Done
 unfolding accepted
 done (push lent set) m =
     let o = pushed (firstOf lent m) set in
     doing (o .answer) (o .mem ++ drop lent m) (cond (accepted (o .answer)) (set ∷ []) []) []
+done (tray lent sets number) m =
+    let o = trayed (firstOf lent m) sets number in
+    doing (o .answer) (o .mem ++ drop lent m) (wentIn (firstOf lent m) sets number) []
 done (fire lent operator) m =
     let o = fired (firstOf lent m) operator in
     doing (o .answer) (o .mem ++ drop lent m) [] []
