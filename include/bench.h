@@ -134,10 +134,9 @@ bench_start_answer bench_start(const uint8_t *sheet, size_t sheet_bytes, uint32_
 bench_answer bench_push(uint8_t *memory, size_t memory_bytes, const uint8_t *set, size_t set_bytes);
 
 /*
- * Pushes `number` sets that lie behind each other, each of BENCH_VALUE_BYTES for each input, one by one: answer and memory are those of as many
- * calls of bench_push. Stops at the first set that is refused and gives its refusal; the count says how many went in, also beside a refusal. A set
- * not wholly lent is 12. Bytes past the last set are left aside, where bench_push gives 12. A tray of none tests 11 and 31 only. Refusals, in this
- * order: 11, 31, then for each set 12, 32, 33.
+ * Pushes `number` sets that lie behind each other, each of BENCH_VALUE_BYTES for each input: memory and refusal are those of calls of bench_push,
+ * one a set, up to the first that is refused. The count says how many went in, also beside a refusal. A set not wholly lent is 12. Bytes past the
+ * last set are left aside, where bench_push gives 12. Refusals, in this order: for each set 11, 31, 12, 32, 33; for a tray of none 11, 31.
  */
 bench_answer bench_push_tray(uint8_t *memory, size_t memory_bytes, const uint8_t *sets, size_t sets_bytes, uint32_t number);
 
