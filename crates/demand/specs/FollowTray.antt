@@ -1,13 +1,11 @@
 -- A tray of sets on bytes is as many pushes of the abstract machine as sets went in, "also where the call then gives a refusal": by induction on the sets' number
 -- from the single push (FollowPush). It answers no 31. Assumes the laws of `CallsAgree`.
 use Prim.Native.Nat.{ℕ, zero, suc, _+_, _≤_, _<_}
-use mathlib.Core.Path.{_≡_, refl, sym, ap, subst, _∙_}
-use mathlib.Core.Logic.{_≢_}
+use mathlib.Core.Path.{_≡_, sym, ap, subst, _∙_}
 use mathlib.Core.Bool.{Bool, true, false, cond}
 use mathlib.Core.List.{List, [], _∷_, _++_, append-nil}
 use native.Mathlib.Omega.{arith}
 use native.Mathlib.Decide.{decLt}
-use borrow.Author.Tests.{eq-eqb, ne-eqb}
 use lib.Dec.{eqb}
 use lib.ListN.{length, drop, take as firstOf, take-append-drop}
 use lib.Seq.{take-length, drop-length}
@@ -18,8 +16,9 @@ use Rattle.formula.specs.declared.Refusal.the-variants.{Memory, Altered}
 use Rattle.formula.specs.Refusals.{numberOf}
 use Rattle.graph.specs.Translation.{madeOf}
 use Rattle.machine_layout.specs.Layout.{sizeOf, need}
-use Rattle.machine_calls.specs.Calls.{Outcome, outcome, answers, standing, pushed}
+use Rattle.machine_calls.specs.Calls.{Outcome, outcome, answers, pushed}
 use Rattle.machine_tray.specs.Tray.{setBytes, pushedInTurn, trayed, cut, wentIn}
+use Rattle.machine_tray.specs.TrayLaws.{trayed-refused, trayed-in-turn}
 use Rattle.theory_verdicts.specs.Running.{afterSteps, stepsFrom}
 use Rattle.demand_view.specs.Stands.{Stands}
 use Rattle.demand.specs.MemoryCalls.{accepted}
@@ -27,14 +26,6 @@ use Rattle.demand_begin.specs.Lent.{stands-lent, stands-behind, short-refused}
 use Rattle.demand.specs.Agree.{CallsAgree}
 use Rattle.demand.specs.Followed.{Follows, Unaltered, follows-none, follows-then}
 use Rattle.demand.specs.FollowPush.{push-follows}
-
-trayed-refused : (m s : List ℕ) (number : ℕ) → standing m ≢ 0 → trayed m s number ≡ outcome (answers (standing m) 0) m
-unfolding trayed
-trayed-refused m s number n = rw (ne-eqb (standing m) 0 n) refl
-
-trayed-in-turn : (m s : List ℕ) (number : ℕ) → standing m ≡ 0 → trayed m s number ≡ pushedInTurn number (setBytes m) m s 0
-unfolding trayed
-trayed-in-turn m s number z = rw (eq-eqb (standing m) 0 z) refl
 
 module _ (x : Exp) (capacity : ℕ) (low : 1 ≤ capacity) (high : capacity ≤ 16) (A : CallsAgree x capacity) where
   -- ---- set by set, on a memory with nothing behind it

@@ -1,16 +1,12 @@
 -- What a tray of sets adds to the sets pushed, in the reader's words (document 02, Job 1): "demand 3 counts each set that went in as an accepted push, also where
 -- the call then gives a refusal". Assumes nothing.
-use Prim.Native.Nat.{ℕ, zero, suc}
-use mathlib.Core.Path.{_≡_, refl, ap}
+use Prim.Native.Nat.{ℕ}
+use mathlib.Core.Path.{_≡_, refl}
 use mathlib.Core.List.{List}
-use lib.ListN.{length, drop, take as firstOf}
-use Rattle.machine_tray.specs.Tray.{setBytes, trayed, cut, wentIn}
+use lib.ListN.{length, take as firstOf}
+use Rattle.machine_tray.specs.Tray.{setBytes, trayed, wentIn}
+use Rattle.machine_tray.specs.TrayLaws.{length-cut}
 use Rattle.demand.specs.MemoryCalls.{tray, answerOf, setOf}
-
-length-cut : (n k : ℕ) (s : List ℕ) → length (cut n k s) ≡ n
-unfolding cut
-length-cut zero k s = refl
-length-cut (suc n) k s = ap suc (length-cut n k (drop k s))
 
 -- The sets pushed by a tray are those that went in, as many as its answer counts, whatever its refusal.
 pub tray-counts : (lent : ℕ) (sets : List ℕ) (number : ℕ) (m : List ℕ)

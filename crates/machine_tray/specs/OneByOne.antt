@@ -27,7 +27,7 @@ counted c o = outcome (answers (o .answer .refusal) (pick (eqb (o .answer .refus
 abbrev pub next : Outcome → List ℕ → Outcome
 next o set = pick (eqb (o .answer .refusal) 0) (counted (o .answer .count) (pushed (o .mem) set)) o
 
-after-refusal : (o : Outcome) (sets : List (List ℕ)) → o .answer .refusal ≢ 0 → foldl next o sets ≡ o
+pub after-refusal : (o : Outcome) (sets : List (List ℕ)) → o .answer .refusal ≢ 0 → foldl next o sets ≡ o
 after-refusal o [] h = refl
 after-refusal o (s ∷ ss) h =
     let e : next o s ≡ o = simp (ne-eqb (o .answer .refusal) 0 h) in

@@ -10,7 +10,7 @@ use lib.ListN.{length, take, drop, length-drop, drop-of-length-le}
 use lib.Seq.{take-all, drop-drop}
 use Rattle.machine_calls.specs.Calls.{Outcome, outcome, answers, standing, pushed}
 use Rattle.machine_calls.specs.CallLaws.{pushed-refused}
-use Rattle.machine_tray.specs.Tray.{setBytes, pushedInTurn, trayed}
+use Rattle.machine_tray.specs.Tray.{setBytes, pushedInTurn, trayed, cut}
 
 -- ---- one set of a tray
 
@@ -30,28 +30,40 @@ pub turns-over : (k : ℕ) (m s : List ℕ) (c : ℕ) → pushedInTurn 0 k m s c
 unfolding pushedInTurn
 turns-over k m s c = refl
 
+pub length-cut : (n k : ℕ) (s : List ℕ) → length (cut n k s) ≡ n
+unfolding cut
+length-cut zero k s = refl
+length-cut (suc n) k s = ap suc (length-cut n k (drop k s))
+
 -- ---- the whole tray
+
+-- 11 and 31 of the memory as lent
+pub trayed-refused : (m s : List ℕ) (number : ℕ) → standing m ≢ 0 → trayed m s number ≡ outcome (answers (standing m) 0) m
+unfolding trayed
+trayed-refused m s number n = rw (ne-eqb (standing m) 0 n) refl
+
+pub trayed-in-turn : (m s : List ℕ) (number : ℕ) → standing m ≡ 0 → trayed m s number ≡ pushedInTurn number (setBytes m) m s 0
+unfolding trayed
+trayed-in-turn m s number z = rw (eq-eqb (standing m) 0 z) refl
 
 -- "a tray of none tests 11 and 31 only"
 pub tray-of-none : (m s : List ℕ) → trayed m s 0 ≡ outcome (answers (standing m) 0) m
-unfolding trayed pushedInTurn
 tray-of-none m s = go (ℕ-discrete (standing m) 0)
   where
     go : Dec (standing m ≡ 0) → trayed m s 0 ≡ outcome (answers (standing m) 0) m
-    go (yes e) = rw e refl
-    go (no n) = simp (ne-eqb (standing m) 0 n)
+    go (yes e) = trayed-in-turn m s 0 e ∙ turns-over (setBytes m) m s 0 ∙ rw e refl
+    go (no n) = trayed-refused m s 0 n
 
 -- 11 and 31 are the first push's own.
 pub tray-in-turn : (m s : List ℕ) (n k : ℕ) → (standing m ≡ 0 → k ≡ setBytes m) → trayed m s (suc n) ≡ pushedInTurn (suc n) k m s 0
-unfolding trayed
 tray-in-turn m s n k h = go (ℕ-discrete (standing m) 0)
   where
     go : Dec (standing m ≡ 0) → trayed m s (suc n) ≡ pushedInTurn (suc n) k m s 0
-    go (yes e) = rw (h e, e) refl
+    go (yes e) = rw (h e) (trayed-in-turn m s (suc n) e)
     go (no q) =
         let r = pushed-refused m (take k s) q in
         let i : pushed m (take k s) .answer .refusal ≡ standing m = ap (λ (o : Outcome). o .answer .refusal) r in
-        simp (ne-eqb (standing m) 0 q) (sym (turn-refused k m s n 0 (λ z. q (sym i ∙ z)) ∙ rw r refl))
+        trayed-refused m s (suc n) q ∙ sym (turn-refused k m s n 0 (λ z. q (sym i ∙ z)) ∙ rw r refl)
 
 -- ---- the loop
 

@@ -2,7 +2,7 @@
 // contract is an equation on the answer and on every lent byte, and asks nothing of the caller.
 use machine_calls::Answer;
 ghost use mathlib.Core.Path.{_≡_};
-ghost use Prim.Native.Nat.{_≤_, _<_};
+ghost use Prim.Native.Nat.{_≤_};
 ghost use Rattle.machine_calls.specs.Calls.{outcome, standing};
 ghost use Rattle.machine_tray.specs.Tray.{setBytes, trayed};
 ghost use Rattle.machine_tray.specs.TrayLaws.{Ends};
@@ -13,7 +13,7 @@ const VALUE_BYTES: usize = 5;
 // The bytes of a set. Memory too short to tell the inputs counts as having none: no push on it is
 // accepted.
 fn set_bytes(mem: &[u8]) -> usize
-    ensures { λ r. ⌜ (standing (now (mem .entry)) ≡ 0 → r ≡ setBytes (now (mem .entry))) × (r < 1280) ⌝ }
+    ensures { λ r. ⌜ (standing (now (mem .entry)) ≡ 0 → r ≡ setBytes (now (mem .entry))) ⌝ }
 {
     if mem.len() < machine_layout::RECORDS_AT {
         return 0;

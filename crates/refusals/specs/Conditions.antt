@@ -1,6 +1,6 @@
 -- The refusals of each call as an ordered table, each condition by name: document 01, "Said by what was handed in" and "Said by how the machine stands",
 -- "11 comes before all", "Order: 11, 31, 12, then these", "14 .. (start: after 11, before 1)". Definitions only; assumes nothing.
-use Prim.Native.Nat.{ℕ, zero, suc, _-_}
+use Prim.Native.Nat.{ℕ, zero, suc, _-_, _*_}
 use mathlib.Core.Bool.{Bool, true, false, not, _&&_}
 use mathlib.Core.List.{List, [], _∷_, _++_}
 use mathlib.Core.Option.{Option, some, none}
@@ -23,7 +23,6 @@ use Rattle.machine_valid.specs.Below.{allBelow}
 use Rattle.machine_valid.specs.Valid.{valid}
 use Rattle.machine_runs.specs.Run.{runs, stillAt}
 use Rattle.machine_calls.specs.Calls.{sizeIn, roomsOk, pushed, resultReady}
-use Rattle.machine_tray.specs.Tray.{setBytes}
 use Rattle.refusals.specs.FirstRefusal.{Row}
 
 -- ---- how the machine stands
@@ -79,13 +78,13 @@ abbrev pub turnTable : ℕ → ℕ → List ℕ → List ℕ → List Row
 turnTable zero k m sets = []
 turnTable (suc n) k m sets = pushTable m (take k sets) ++ turnTable n k (pushed m (take k sets) .mem) (drop k sets)
 
--- "a tray of none tests 11 and 31 only"
+-- "a tray of none tests 11 and 31 only"; else "a given number of sets .., each as long as the inputs ask": five bytes a value
 abbrev pub trayTable : List ℕ → List ℕ → ℕ → List Row
 trayTable m sets zero =
     (short m, Memory)
     ∷ (altered m, Altered)
     ∷ []
-trayTable m sets (suc n) = turnTable (suc n) (setBytes m) m sets
+trayTable m sets (suc n) = turnTable (suc n) (5 * inputsOf m) m sets
 
 abbrev pub fireTable : List ℕ → ℕ → List Row
 fireTable m i =

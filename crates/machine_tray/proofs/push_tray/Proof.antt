@@ -41,7 +41,7 @@ set-bytes-requires c κs = search needs
 
 -- src/lib.rt:48:5  let mut count = 0; ⏎ while count < number {
 loop-holds : tie.Need-loop-holds Inv-loop μ-loop
-loop-holds c = (refl, omega arith, underway-first (c .before .before .before .before .before .args .mem .now) (c .before .before .before .before .before .args .sets .now) (c .before .before .before .before .before .args .number) (c .set-bytes .result) (c .before .before .if1 .left) (c .set-bytes .ensures .0))
+loop-holds c = (refl, omega arith, underway-first (c .before .before .before .before .before .args .mem .now) (c .before .before .before .before .before .args .sets .now) (c .before .before .before .before .before .args .number) (c .set-bytes .result) (c .before .before .if1 .left) (c .set-bytes .ensures))
 
 -- src/lib.rt:49:13  while count < number { ⏎ let end = end_of(at, size, sets.len());
 end-of-requires : tie.Need-end-of-requires Inv-loop μ-loop

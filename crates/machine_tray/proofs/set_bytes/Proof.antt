@@ -11,7 +11,7 @@ use Rattle.machine_calls.specs.CallLaws.{standing-good}
 
 -- src/lib.rt:19:9  if mem.len() < machine_layout::RECORDS_AT { ⏎ return 0;
 returns : tie.Need-returns
-returns c = (λ st. absurd (omega (arith, standing-good (c .before .before .args .mem .now) st .0)), omega arith)
+returns c = λ st. absurd (omega (arith, standing-good (c .before .before .args .mem .now) st .0))
 
 -- src/lib.rt:21:19  } ⏎ VALUE_BYTES * machine_layout::inputs(mem)
 inputs-requires : tie.Need-inputs-requires
