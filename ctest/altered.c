@@ -1,33 +1,14 @@
 /*
  * The calls through the C interface on memory that something else has altered, on memory of every length, and with every number: each refusal in its
- * order, and every byte afterwards. The layout is docs/MEMORY.md's. A machine's memory is allocated at its exact length, so that a tool which
- * watches memory sees an access past its ends.
+ * order, and every byte afterwards. The layout is docs/MEMORY.md's.
  */
-#include <stdlib.h>
-
-#include "check.h"
+#include "machine.h"
 
 /* The capacity of most machines here, and the length of a link's stretch at it. */
 enum { CAPACITY = 2, STRETCH = BENCH_VALUE_BYTES * CAPACITY + 1 };
 
-/* Where the figures of a memory stand. */
-enum {
-    CAPACITY_AT = 0,
-    OPERATORS_AT = 1,
-    LINKS_AT = 3,
-    INPUTS_AT = 5,
-    RESULTS_AT = 6,
-    UNTAKEN_AT = 7,
-    TRIGGER_LINK_AT = 8,
-    INPUT_LINKS_AT = 10,
-    RESULT_LINKS_AT = 74,
-    RECORDS_AT = 256,
-    REGISTERS_AT = 16640,
-    STRETCHES_AT = 21760
-};
-
 /* Bounds of the figures; a link's figure is two bytes long, a record sixteen, with its links from its third byte on. */
-enum { MOST_OPERATORS = 1024, MOST_LINKS = 3105, MOST_INPUTS = 32, MOST_RESULTS = 16, MOST_UNTAKEN = 16, MOST_CAPACITY = 16 };
+enum { MOST_OPERATORS = 1024, MOST_LINKS = 3105, MOST_INPUTS = 32, MOST_RESULTS = 16 };
 enum { NO_LINK = 65535, FIGURE_BYTES = 2, RECORD_BYTES = 16, PORTS_AT = 2, PORTS = 6, INPUT_PORTS = 3 };
 
 /* The kinds by which something differs: 1 to 9 have two inputs; 10, 11, constants and copies one. */
@@ -40,20 +21,6 @@ static const uint8_t two_values[] = {BENCH_WHOLE, 5, 0, 0, 0, BENCH_TRUTH, 1, 0,
 static const uint8_t no_values[][BENCH_VALUE_BYTES] = {
     {BENCH_ERR + 1, 0, 0, 0, 0}, {BENCH_TRUTH, 2, 0, 0, 0}, {BENCH_TRUTH, 0, 1, 0, 0}, {BENCH_ERR, BENCH_ERR_OUT_OF_RANGE + 1, 0, 0, 0}, {0, 1, 0, 0, 0}};
 
-static uint8_t *memory;
-static size_t length;
-
-static void begin(const char *sheet, uint32_t capacity) {
-    free(memory);
-    length = BENCH_MACHINE_BYTES(capacity);
-    memory = malloc(length);
-    if (memory == NULL) {
-        exit(2);
-    }
-    memset(memory, 0xa5, length);
-    expect("start", bench_start((const uint8_t *)sheet, strlen(sheet), capacity, memory, length).refusal, BENCH_ACCEPTED);
-}
-
 static unsigned figure(size_t at) {
     return memory[at] + 256u * memory[at + 1];
 }
@@ -63,7 +30,7 @@ static void put_figure(size_t at, unsigned x) {
     memory[at + 1] = (uint8_t)(x / 256);
 }
 
-/* All four calls give this refusal for the memory as it stands, and leave every byte. */
+/* All calls on a machine give this refusal for the memory as it stands, and leave every byte. */
 static void all_refuse(const char *what, uint32_t refusal) {
     uint8_t *before = malloc(length + 1);
     uint8_t out[BENCH_RESULT_BYTES], held[BENCH_RESULT_BYTES];
@@ -75,11 +42,13 @@ static void all_refuse(const char *what, uint32_t refusal) {
     memcpy(held, out, sizeof out);
     bench_answer answers[] = {
         bench_push(memory, length, five, sizeof five),
+        bench_push_tray(memory, length, five, sizeof five, 1),
+        bench_push_tray(memory, length, NULL, 0, 0),
         bench_fire(memory, length, 0),
         bench_run(memory, length, 10),
         bench_take(memory, length, out, sizeof out),
     };
-    for (int i = 0; i < 4; i++) {
+    for (size_t i = 0; i < sizeof answers / sizeof answers[0]; i++) {
         expect(what, answers[i].refusal, refusal);
         expect(what, answers[i].count, 0);
     }
@@ -272,6 +241,7 @@ static void links_and_tokens(void) {
 static void lengths(void) {
     uint8_t out[BENCH_RESULT_BYTES] = {0};
     expect("push, no memory", bench_push(NULL, 0, five, sizeof five).refusal, BENCH_MEMORY);
+    expect("a tray, no memory", bench_push_tray(NULL, 0, five, sizeof five, 1).refusal, BENCH_MEMORY);
     expect("fire, no memory", bench_fire(NULL, 0, 0).refusal, BENCH_MEMORY);
     expect("run, no memory", bench_run(NULL, 0, 1).refusal, BENCH_MEMORY);
     expect("take, no memory", bench_take(NULL, 0, out, sizeof out).refusal, BENCH_MEMORY);

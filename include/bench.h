@@ -10,8 +10,9 @@
  * a call touches none outside of them.
  *
  * Refusals. `refusal` is 0 where a call is accepted, else one of the numbers below, the first that applies in the order each call gives.
- * A refused call leaves every lent byte as it was, and its other numbers are 0, save `row` where it names a row, and a run refused with
- * BENCH_UNFINISHED, which keeps its firings and gives their count.
+ * A refused call leaves every lent byte as it was, and its other numbers are 0, save `row` where it names a row, a run refused with
+ * BENCH_UNFINISHED, which keeps its firings and gives their count, and a tray, which keeps the sets that went in before the refused one and gives
+ * their count.
  *
  * Values. A value is BENCH_VALUE_BYTES bytes: a tag (BENCH_WHOLE, BENCH_TRUTH or BENCH_ERR) and four bytes, lowest first: a whole number as
  * int32_t, a truth as 0 or 1, an err as its reason, one of BENCH_ERR_... below. Nothing else is a value.
@@ -102,7 +103,7 @@ typedef struct {
 
 typedef struct {
     uint32_t refusal;
-    uint32_t count; /* a run's firings, a taken result set's width, else 0 */
+    uint32_t count; /* a run's firings, a taken result set's width, a tray's sets that went in, else 0 */
 } bench_answer;
 
 /* Reads a formula sheet. Refusals, in this order: 1 to 10. */
@@ -131,6 +132,13 @@ bench_start_answer bench_start(const uint8_t *sheet, size_t sheet_bytes, uint32_
  * whether it goes on. Refusals, in this order: 11, 31, 12, 32, 33.
  */
 bench_answer bench_push(uint8_t *memory, size_t memory_bytes, const uint8_t *set, size_t set_bytes);
+
+/*
+ * Pushes `number` sets that lie behind each other, each of BENCH_VALUE_BYTES for each input: memory and refusal are those of calls of bench_push,
+ * one a set, up to the first that is refused. The count says how many went in, also beside a refusal. A set not wholly lent is 12. Bytes past the
+ * last set are left aside, where bench_push gives 12. Refusals, in this order: for each set 11, 31, 12, 32, 33; for a tray of none 11, 31.
+ */
+bench_answer bench_push_tray(uint8_t *memory, size_t memory_bytes, const uint8_t *sets, size_t sets_bytes, uint32_t number);
 
 /* Fires one operator, counted from 0. Refusals, in this order: 11, 31, 34. */
 bench_answer bench_fire(uint8_t *memory, size_t memory_bytes, uint32_t operator_number);

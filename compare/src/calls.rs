@@ -8,17 +8,24 @@ use crate::memory::{self, Answer, StartAnswer};
 pub struct Calls {
     pub start: fn(&[u8], u32, &mut [u8]) -> StartAnswer,
     pub push: fn(&mut [u8], &[u8]) -> Answer,
+    pub push_tray: fn(&mut [u8], &[u8], u32) -> Answer,
     pub run: fn(&mut [u8], u32) -> Answer,
     pub take: fn(&mut [u8], &mut [u8]) -> Answer,
 }
 
-pub const PLAIN: Calls = Calls { start: memory::start, push: memory::push, run: memory::run, take: memory::take };
+pub const PLAIN: Calls = Calls {
+    start: memory::start,
+    push: memory::push,
+    push_tray: memory::push_tray,
+    run: memory::run,
+    take: memory::take,
+};
 
 /// The product's, where it is linked.
 #[cfg(feature = "product")]
 pub fn product() -> Option<Calls> {
-    use crate::product::{push, run, start, take};
-    Some(Calls { start, push, run, take })
+    use crate::product::{push, push_tray, run, start, take};
+    Some(Calls { start, push, push_tray, run, take })
 }
 
 #[cfg(not(feature = "product"))]

@@ -1,5 +1,6 @@
-// The calls on a machine's memory, over the bytes that docs/MEMORY.md lays out: start, push, fire, run and take with the checks of refusals 11 and 31.
-// Plain code for the same memory as the product's, to compare every byte and to measure against. The graph and its numbering are those here.
+// The calls on a machine's memory, over the bytes that docs/MEMORY.md lays out: start, push, a tray, fire, run and take, with the checks
+// of refusals 11 and 31. Plain code for the same memory as the product's, to compare every byte and to measure against. The graph and its numbering
+// are those here.
 
 use crate::bytes::{decode, encode, OUT_BYTES, VALUE_BYTES};
 use crate::graph::{self, Graph, Kind};
@@ -13,7 +14,7 @@ pub const MOST_OPERATORS: usize = 1_024;
 pub const MOST_LINKS: usize = 3_105;
 pub const NO_LINK: usize = 65_535;
 
-/// What push, fire, run and take answer.
+/// What push, a tray, fire, run and take answer.
 #[repr(C)]
 #[derive(Clone, Copy, PartialEq, Eq, Debug, Default)]
 pub struct Answer {
@@ -433,6 +434,27 @@ pub fn push(mem: &mut [u8], set: &[u8]) -> Answer {
     }
     machine.mem[7] += 1;
     Answer::default()
+}
+
+/// "a given number of sets lying behind each other, each as long as the inputs ask"
+pub fn push_tray(mem: &mut [u8], sets: &[u8], number: u32) -> Answer {
+    // "a tray of none tests 11 and 31 only"
+    let length = match Machine::of(mem) {
+        Ok(machine) => VALUE_BYTES * usize::from(machine.mem[5]),
+        Err(answer) => return answer,
+    };
+    // "bytes past the last are left aside"
+    let mut rest = sets;
+    for count in 0..number {
+        // "A set not wholly lent gets 12": what there is of it is too short a set
+        let (set, behind) = rest.split_at(length.min(rest.len()));
+        // "It stops at the first that is refused, says how many went in and gives that refusal's number."
+        match push(mem, set).refusal {
+            0 => rest = behind,
+            refusal => return Answer { refusal, count },
+        }
+    }
+    Answer { refusal: 0, count: number }
 }
 
 pub fn fire(mem: &mut [u8], operator: u32) -> Answer {

@@ -17,6 +17,7 @@ extern "C" {
     ) -> EvaluateAnswer;
     fn bench_start(sheet: *const u8, sheet_len: usize, capacity: u32, mem: *mut u8, mem_len: usize) -> StartAnswer;
     fn bench_push(mem: *mut u8, mem_len: usize, set: *const u8, set_len: usize) -> Answer;
+    fn bench_push_tray(mem: *mut u8, mem_len: usize, sets: *const u8, sets_len: usize, number: u32) -> Answer;
     fn bench_fire(mem: *mut u8, mem_len: usize, operator: u32) -> Answer;
     fn bench_run(mem: *mut u8, mem_len: usize, firings: u32) -> Answer;
     fn bench_take(mem: *mut u8, mem_len: usize, out: *mut u8, out_len: usize) -> Answer;
@@ -38,6 +39,10 @@ pub fn start(sheet: &[u8], capacity: u32, mem: &mut [u8]) -> StartAnswer {
 
 pub fn push(mem: &mut [u8], set: &[u8]) -> Answer {
     unsafe { bench_push(mem.as_mut_ptr(), mem.len(), set.as_ptr(), set.len()) }
+}
+
+pub fn push_tray(mem: &mut [u8], sets: &[u8], number: u32) -> Answer {
+    unsafe { bench_push_tray(mem.as_mut_ptr(), mem.len(), sets.as_ptr(), sets.len(), number) }
 }
 
 pub fn fire(mem: &mut [u8], operator: u32) -> Answer {

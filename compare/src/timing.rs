@@ -3,7 +3,8 @@
 use std::hint::black_box;
 use std::time::{Duration, Instant};
 
-const BATCHES: usize = 200;
+/// The batches of a figure in the tables of single calls.
+pub const BATCHES: usize = 200;
 const BATCH: Duration = Duration::from_millis(1);
 
 /// A call to be timed; the number it gives is looked at by nobody.

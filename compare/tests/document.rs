@@ -1,9 +1,11 @@
 // The worked examples and the marked cases of document 01, and cases that its sentences and document 02's decide one by one.
 
 use compare::bench::bench;
+use compare::bytes::{encode_set, OUT_BYTES, VALUE_BYTES};
 use compare::eval::evaluate;
 use compare::graph::build;
 use compare::machine::Machine;
+use compare::memory::{self, Answer};
 use compare::sheet::{read, write, Figures, Refusal, Sheet};
 use compare::value::Value::{self, Truth, Whole};
 
@@ -191,6 +193,44 @@ fn the_machines_refusals_in_a_small_case() {
     assert_eq!((one.refusal, one.count), (0, 1));
     assert_eq!(machine.take().expect("a whole result").used(), [Whole(-5)]);
     assert_eq!(machine.untaken(), 0);
+}
+
+/// Document 02, "A tray of beacons at one go".
+#[test]
+fn a_tray_stops_at_the_first_refused_and_says_how_many_went_in() {
+    let wholes: Vec<Value> = (0..20).map(Whole).collect();
+    let sets = encode_set(&wholes);
+    let tray = |capacity: u32, sets: &[u8], number: u32| {
+        let mut mem = vec![0; memory::need(capacity as usize)];
+        assert_eq!(memory::start(&write(&negations(2)), capacity, &mut mem).refusal, 0);
+        let Answer { refusal, count } = memory::push_tray(&mut mem, sets, number);
+        memory::run(&mut mem, 1000);
+        let mut out = [0; OUT_BYTES];
+        for negative in wholes.iter().take(count as usize).map(|value| negated(*value)) {
+            assert_eq!(memory::take(&mut mem, &mut out).refusal, 0);
+            assert_eq!(out[..VALUE_BYTES], encode_set(&[negative]));
+            memory::run(&mut mem, 1000);
+        }
+        assert_eq!(memory::take(&mut mem, &mut out).refusal, 35);
+        (refusal, count)
+    };
+    assert_eq!(tray(16, &sets, 16), (0, 16));
+    assert_eq!(tray(16, &sets, 17), (32, 16));
+    assert_eq!(tray(1, &sets, 2), (33, 1));
+    assert_eq!(tray(16, &sets, 0), (0, 0));
+    // not wholly lent; bytes past the last; a bad value in the middle
+    assert_eq!(tray(16, &sets[..14], 3), (12, 2));
+    assert_eq!(tray(16, &sets[..19], 3), (0, 3));
+    assert_eq!(tray(16, &[&sets[..10], &[4; 5], &sets[15..]].concat(), u32::MAX), (12, 2));
+    let mut none = vec![];
+    assert_eq!(memory::push_tray(&mut none, &sets, 0).refusal, 11);
+}
+
+fn negated(value: Value) -> Value {
+    match value {
+        Whole(number) => Whole(-number),
+        other => other,
+    }
 }
 
 /// A body if whose arms are both iters, on a test that is no truth: "each is a copy of that third output".

@@ -1,6 +1,7 @@
 // Runs random lists of calls through the product's machine and through the plain one here, on the same bytes, and stops at the first difference, which it
-// prints. After every call the answers and every byte must agree; bytes past the lent ones must be as they were. Where nothing but calls wrote the
-// memory, each result taken must also be what direct evaluation gives for the set pushed (demand 3).
+// prints. After every call the answers and every byte must agree; bytes past the lent ones must be as they were. A tray must answer and leave what the
+// product's pushes one by one do. Where nothing but calls wrote the memory, each result taken must also be what direct evaluation gives for the set
+// pushed (demand 3).
 // Usage: compare_machine CASES SEED [FIRST]. `compare_machine 1 SEED NUMBER` makes a case again.
 
 use compare::arguments::Cases;
@@ -18,6 +19,12 @@ const ROUNDS: u32 = 2_000;
 
 /// Bytes behind the lent ones.
 const MARGIN: usize = 32;
+
+/// Where a memory has its number of inputs.
+const INPUTS_AT: usize = 5;
+
+/// No more sets go in at once: after sixteen untaken ones comes 32.
+const MOST_UNTAKEN: usize = 16;
 
 type Counts = BTreeMap<String, u64>;
 
@@ -59,6 +66,29 @@ struct Run<'a> {
     counts: &'a mut Counts,
 }
 
+/// What a call is lent on one side: so many bytes of a memory, and room for a result.
+#[derive(PartialEq)]
+struct Side {
+    mem: Vec<u8>,
+    lent: usize,
+    out: Vec<u8>,
+    room: usize,
+}
+
+impl Side {
+    fn memory(&mut self) -> &mut [u8] {
+        &mut self.mem[..self.lent]
+    }
+}
+
+/// A call's answers here and in the product, and its sets: of a push the one pushed, of a tray those that went in.
+struct Called {
+    name: &'static str,
+    ours: Answer,
+    theirs: Answer,
+    sets: Vec<Vec<u8>>,
+}
+
 fn compare_case(number: u64, made: &Made, counts: &mut Counts, rng: &mut Rng) -> Result<(), String> {
     let capacity = if rng.chance(95) { rng.between(1, 16) as u32 } else { rng.pick(&[0, 17, 255, 256, 257, u32::MAX]) };
     let need = memory::need(capacity as usize);
@@ -93,57 +123,75 @@ fn compare_case(number: u64, made: &Made, counts: &mut Counts, rng: &mut Rng) ->
 impl Run<'_> {
     fn call(&mut self, length: usize, rng: &mut Rng) -> Result<(), String> {
         let lent = if rng.chance(97) { length } else { rng.pick(&[0, 1, 8, length - 1 - length / 3, length - 3]) };
-        let (mut plain, mut mem) = (self.mem.clone(), self.mem.clone());
-        let (mut plain_out, mut out) = (vec![0x55; 90], vec![0x55; 90]);
         let room = if rng.chance(97) { OUT_BYTES + rng.below(3) } else { rng.pick(&[0, 79]) };
-        let (name, ours, theirs, set) = match rng.below(10) {
-            0..=2 => {
-                let set = self.random_set(rng);
-                ("push", memory::push(&mut plain[..lent], &set), product::push(&mut mem[..lent], &set), set)
-            }
-            3 | 4 => {
+        let side = || Side { mem: self.mem.clone(), lent, out: vec![0x55; 90], room };
+        let (mut plain, mut product) = (side(), side());
+        let Called { name, ours, theirs, sets } = match rng.below(12) {
+            0..=4 => self.push_both(&mut plain, &mut product, rng)?,
+            _ => self.drive_both(&mut plain, &mut product, rng),
+        };
+        *self.counts.entry(format!("{name} with {:2}", ours.refusal)).or_default() += 1;
+        if ours != theirs || product != plain {
+            return Err(format!("{name}: {}", difference(ours, theirs, &plain.mem, &product.mem)));
+        }
+        let keeps = (ours.refusal == 36 || name == "tray") && ours.count > 0;
+        if ours.refusal != 0 && !keeps && (product.mem != self.mem || product.out != [0x55; 90]) {
+            return Err(format!("{name} refused with {} altered its memory", ours.refusal));
+        }
+        if ours.refusal == 31 && !self.altered {
+            return Err(format!("{name} gives 31 for memory that only calls wrote"));
+        }
+        self.mem = product.mem;
+        self.follow(name, ours, sets, &product.out)
+    }
+
+    /// A push or a tray.
+    fn push_both(&mut self, plain: &mut Side, product: &mut Side, rng: &mut Rng) -> Result<Called, String> {
+        if rng.chance(60) {
+            let set = self.random_set(rng);
+            let (ours, theirs) = (memory::push(plain.memory(), &set), product::push(product.memory(), &set));
+            return Ok(Called { name: "push", ours, theirs, sets: vec![set] });
+        }
+        let (bytes, number) = self.random_tray(rng);
+        let ours = memory::push_tray(plain.memory(), &bytes, number);
+        let theirs = product::push_tray(product.memory(), &bytes, number);
+        let sets = self.one_by_one(&bytes, number, theirs, product)?;
+        Ok(Called { name: "tray", ours, theirs, sets })
+    }
+
+    /// A fire, a run or a take.
+    fn drive_both(&self, plain: &mut Side, product: &mut Side, rng: &mut Rng) -> Called {
+        let (name, ours, theirs) = match rng.below(7) {
+            0 | 1 => {
                 let operators = self.sheet.figures.operators.max(1);
                 let number = if rng.chance(90) {
                     rng.below(operators as usize) as u32
                 } else {
                     rng.pick(&[0, operators - 1, operators, u32::MAX])
                 };
-                ("fire", memory::fire(&mut plain[..lent], number), product::fire(&mut mem[..lent], number), vec![])
+                ("fire", memory::fire(plain.memory(), number), product::fire(product.memory(), number))
             }
-            5 | 6 => {
+            2 | 3 => {
                 let firings = rng.pick(&[0, 1, 2, 7, 50, 1000, 20_000]);
-                ("run", memory::run(&mut plain[..lent], firings), product::run(&mut mem[..lent], firings), vec![])
+                ("run", memory::run(plain.memory(), firings), product::run(product.memory(), firings))
             }
             _ => {
-                let ours = memory::take(&mut plain[..lent], &mut plain_out[..room]);
-                ("take", ours, product::take(&mut mem[..lent], &mut out[..room]), vec![])
+                let ours = memory::take(&mut plain.mem[..plain.lent], &mut plain.out[..plain.room]);
+                ("take", ours, product::take(&mut product.mem[..product.lent], &mut product.out[..product.room]))
             }
         };
-        *self.counts.entry(format!("{name} with {:2}", ours.refusal)).or_default() += 1;
-        if ours != theirs || mem != plain || out != plain_out {
-            return Err(format!("{name}: {}", difference(ours, theirs, &plain, &mem)));
-        }
-        let unaltered =
-            ours.refusal == 0 || (ours.refusal == 36 && ours.count > 0) || (mem == self.mem && out == [0x55; 90]);
-        if !unaltered {
-            return Err(format!("{name} refused with {} altered its memory", ours.refusal));
-        }
-        if ours.refusal == 31 && !self.altered {
-            return Err(format!("{name} gives 31 for memory that only calls wrote"));
-        }
-        self.mem = mem;
-        self.follow(name, ours, set, &out)
+        Called { name, ours, theirs, sets: vec![] }
     }
 
-    /// Demand 3: the result taken is that of the oldest set untaken.
-    fn follow(&mut self, name: &str, answer: Answer, set: Vec<u8>, out: &[u8]) -> Result<(), String> {
-        if self.altered || answer.refusal != 0 {
+    /// Demand 3: the result taken is that of the oldest set untaken. A tray's sets that went in are pushed, also beside a refusal.
+    fn follow(&mut self, name: &str, answer: Answer, sets: Vec<Vec<u8>>, out: &[u8]) -> Result<(), String> {
+        if self.altered {
             return Ok(());
         }
-        if name == "push" {
-            self.pushed.push_back(set);
+        if name == "tray" || (name == "push" && answer.refusal == 0) {
+            self.pushed.extend(sets);
         }
-        if name != "take" {
+        if name != "take" || answer.refusal != 0 {
             return Ok(());
         }
         let set = self.pushed.pop_front().ok_or("a result was taken that no set was pushed for")?;
@@ -155,6 +203,53 @@ impl Run<'_> {
             }
         }
         Ok(())
+    }
+
+    /// The product's tray answered and left what its pushes of the same sets one by one do, up to the first refused. Gives the sets that went in.
+    fn one_by_one(&mut self, sets: &[u8], number: u32, tray: Answer, left: &Side) -> Result<Vec<Vec<u8>>, String> {
+        let (mut mem, lent) = (self.mem.clone(), left.lent);
+        // A firing of no operator gives 11, 31 or 34, and leaves all.
+        let mut refusal = Some(product::fire(&mut mem[..lent], u32::MAX).refusal).filter(|&refusal| refusal != 34);
+        let mut went_in = vec![];
+        let mut rest = sets;
+        while refusal.is_none() && went_in.len() < number as usize {
+            let (set, behind) = rest.split_at(rest.len().min(VALUE_BYTES * usize::from(mem[INPUTS_AT])));
+            match product::push(&mut mem[..lent], set).refusal {
+                0 => went_in.push(set.to_vec()),
+                given => refusal = Some(given),
+            }
+            rest = behind;
+        }
+        let pushes = Answer { refusal: refusal.unwrap_or(0), count: went_in.len() as u32 };
+        self.count_tray(number, pushes);
+        match pushes == tray && mem == left.mem {
+            true => Ok(went_in),
+            false => Err(format!("a tray of {number}: {}", difference(pushes, tray, &mem, &left.mem))),
+        }
+    }
+
+    fn count_tray(&mut self, number: u32, answer: Answer) {
+        let inputs = if self.mem[INPUTS_AT] == 0 { "without inputs" } else { "of inputs" };
+        let kind = match (number, answer.refusal, answer.count) {
+            (0, ..) => "none",
+            (_, 0, _) => "all in",
+            (_, _, 0) => "the first refused",
+            _ => "a later one refused",
+        };
+        *self.counts.entry(format!("trays {inputs}, {kind}")).or_default() += 1;
+    }
+
+    /// Sets behind each other and their number; now and then a bad set in the middle, the last not wholly lent, bytes behind it, more sets told than lent.
+    fn random_tray(&self, rng: &mut Rng) -> (Vec<u8>, u32) {
+        let number = if rng.chance(70) { rng.below(4) } else { rng.below(MOST_UNTAKEN + 5) };
+        let mut sets: Vec<u8> = (0..number).flat_map(|_| self.random_set(rng)).collect();
+        match rng.below(10) {
+            0 => sets.truncate(sets.len() - rng.below(sets.len().min(2 * VALUE_BYTES) + 1)),
+            1 => sets.extend((0..rng.between(1, 12)).map(|_| rng.number() as u8)),
+            2 => return (sets, rng.pick(&[0, 16, 17, 65_536, u32::MAX - 1, u32::MAX])),
+            _ => {}
+        }
+        (sets, number as u32)
     }
 
     /// Mostly a set that fits.

@@ -1,16 +1,18 @@
 // Times the reader, the evaluator and the machine's calls here and, with the feature `product`, the product's beside them in the same run. Prints
-// the first table of docs/BENCHMARKS.md. The last column is the product's speed over ours: 1.00 is as fast, 0.50 takes twice as long.
+// the first two tables of docs/BENCHMARKS.md. The last column of the first is the product's speed over ours: 1.00 is as fast, 0.50 takes twice as long;
+// of the second, that of a tray over as many pushes.
 
-use compare::bytes::{self, OUT_BYTES};
+use compare::bytes::{self, OUT_BYTES, VALUE_BYTES};
 use compare::calls::{self, Calls, PLAIN};
 use compare::examples::{factorial, lesser, many_operators, negations};
 use compare::memory;
 use compare::random::{random_set, Rng};
 use compare::sheet;
 use compare::table::{grouped, head, row, speed};
-use compare::timing::{side_by_side, Call};
+use compare::timing::{in_turns, side_by_side, Call, BATCHES};
 use compare::value::Value;
 use std::hint::black_box;
+use std::time::Duration;
 
 fn main() {
     head(&["call", "plain, ns", "product, ns", "speed"]);
@@ -25,6 +27,17 @@ fn main() {
     }
     for (name, bytes, set, _) in evaluations() {
         machine(&name, &bytes, &set);
+    }
+    head(&[
+        "sixteen sets at capacity 16",
+        "plain tray, ns",
+        "pushes, ns",
+        "tray, ns",
+        "to the plain tray",
+        "to the pushes",
+    ]);
+    for (name, bytes, set, _) in evaluations() {
+        tray(&name, &bytes, &set);
     }
 }
 
@@ -74,6 +87,42 @@ fn machine(name: &str, sheet: &[u8], set: &[u8]) {
 }
 
 const FIRINGS: u32 = 1_000_000;
+
+/// A tray of as many sets as an empty machine of capacity 16 takes, here and the product's, beside the product's pushes one by one.
+fn tray(name: &str, sheet: &[u8], set: &[u8]) {
+    let calls = calls::product().unwrap_or(PLAIN);
+    let mut fresh = vec![0; memory::need(16)];
+    if (calls.start)(sheet, 16, &mut fresh).refusal != 0 {
+        return;
+    }
+    let sets = set.repeat(SETS as usize);
+    let (mut plain, mut pushes, mut tray) = (fresh.clone(), fresh.clone(), fresh);
+    let times = in_turns(
+        &mut [
+            &mut || emptied(&mut plain, |mem| memory::push_tray(mem, &sets, SETS).count),
+            &mut || emptied(&mut pushes, |mem| (0..SETS).map(|_| (calls.push)(mem, set).refusal).sum()),
+            &mut || emptied(&mut tray, |mem| (calls.push_tray)(mem, &sets, SETS).count),
+        ],
+        BATCHES,
+        Duration::ZERO,
+    );
+    let [plain, pushes, tray] = [times[0], times[1], times[2]];
+    row(&[name.into(), grouped(plain), grouped(pushes), grouped(tray), speed(plain, tray), speed(pushes, tray)]);
+}
+
+const SETS: u32 = 16;
+
+/// A call on a machine whose input links and trigger's link are made empty first, as they are after start.
+fn emptied(mem: &mut [u8], call: impl FnOnce(&mut [u8]) -> u32) -> u32 {
+    mem[7] = 0;
+    for place in 0..=usize::from(mem[5]) {
+        let link = usize::from(u16::from_le_bytes([mem[8 + 2 * place], mem[9 + 2 * place]]));
+        if link != memory::NO_LINK {
+            mem[21_760 + link * (1 + VALUE_BYTES * usize::from(mem[0]))] = 0;
+        }
+    }
+    call(mem)
+}
 
 fn starting(calls: Calls, sheet: &[u8]) -> Call<'_> {
     let mut mem = vec![0; memory::need(2)];

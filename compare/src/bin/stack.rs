@@ -14,7 +14,7 @@ const PATTERN: u8 = 0xa5;
 const ROUNDS: u32 = 1000;
 const FIRINGS: u32 = 10_000;
 const MOST_ROWS: usize = 200;
-const CALLS: [&str; 7] = ["read", "evaluate", "start", "push", "fire", "run", "take"];
+const CALLS: [&str; 8] = ["read", "evaluate", "start", "push", "tray", "fire", "run", "take"];
 
 type Row = [u32; 5];
 
@@ -50,11 +50,13 @@ fn measure(sheet: &[u8], value: Value) -> [usize; CALLS.len()] {
     let read = below(|| product::read(sheet).refusal);
     let evaluate = below(|| product::evaluate(sheet, &set, ROUNDS, &mut out).refusal);
     let start = below(|| product::start(sheet, 1, &mut mem).refusal);
+    let mut copy = mem.clone();
+    let tray = below(|| product::push_tray(&mut copy, &set, 1).refusal);
     let push = below(|| product::push(&mut mem, &set).refusal);
     let fire = deepest_fire(&mem, product::start(sheet, 1, &mut mem.clone()).operators);
     let run = below(|| product::run(&mut mem, FIRINGS).refusal);
     let take = below(|| product::take(&mut mem, &mut out).refusal);
-    [read, evaluate, start, push, fire, run, take]
+    [read, evaluate, start, push, tray, fire, run, take]
 }
 
 /// The most that firing any one operator takes, able or not.

@@ -1,6 +1,6 @@
 -- DEMAND 3 ON REAL MEMORY. "A beacon's verdict comes from its own readings and nobody else's." What it says of a list of calls is the record `OwnVerdicts`
--- (Claim), field by field in the demand's words. What the calls do to the lent bytes are the definitions that the contracts of bench_push, bench_fire, bench_run
--- and bench_take cite; start is machine_start/specs/Start `started`. Assumes an accepted start and nothing else.
+-- (Claim), field by field in the demand's words. What the calls do to the lent bytes are the definitions that the contracts of bench_push, bench_push_tray,
+-- bench_fire, bench_run and bench_take cite; start is machine_start/specs/Start `started`. Assumes an accepted start and nothing else.
 use Prim.Native.Nat.{ℕ, _≤_}
 use mathlib.Core.Path.{_≡_, subst}
 use mathlib.Core.List.{List, [], _++_, append-nil}

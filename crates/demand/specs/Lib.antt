@@ -2,7 +2,12 @@ pub mod MemoryCalls
 pub mod Claim
 pub mod Evaluations
 pub mod Agree
-pub mod Follow
+pub mod Followed
+pub mod FollowPush
+pub mod FollowTray
+pub mod FollowFire
+pub mod FollowRun
+pub mod FollowTake
 pub mod FollowAll
 pub mod OnMemory
 pub mod Agreed
@@ -12,5 +17,6 @@ pub mod Oldest
 pub mod ByHistory
 pub mod Evaluated
 pub mod Onward
+pub mod Trays
 pub mod Pushes
 pub mod LesserStarts

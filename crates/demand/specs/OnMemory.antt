@@ -29,7 +29,7 @@ use Rattle.machine_layout.specs.Layout.{operatorsOf, sizeOf, need}
 use Rattle.machine_firing.specs.Fire.{ableAt}
 use Rattle.machine_valid.specs.Below.{allBelow}
 use Rattle.machine_calls.specs.declared.Answer.{Answer}
-use Rattle.machine_calls.specs.Calls.{answers, resultReady, fired, taken}
+use Rattle.machine_calls.specs.Calls.{answers, resultReady, fired}
 use Rattle.machine_calls.specs.CallLaws.{fired-accepted, taken-accepted}
 use Rattle.theory_verdicts.specs.Results.{EndsWith}
 use Rattle.theory_verdicts.specs.ResultSets.{valuesIn}
@@ -43,8 +43,8 @@ use Rattle.demand.specs.Evaluations.{shown, enough-yields, yields-enough
 use Rattle.demand_begin.specs.Lent.{stands-lent}
 use Rattle.demand_view.specs.FireCall.{stands-size}
 use Rattle.demand.specs.Agree.{CallsAgree}
-use Rattle.demand.specs.Follow.{shownTokens, Follows}
-use Rattle.demand.specs.FollowAll.{calls-follow, calls-unaltered, read-count, read-at}
+use Rattle.demand.specs.Followed.{shownTokens, Follows, read-count, read-at}
+use Rattle.demand.specs.FollowAll.{calls-follow, calls-unaltered}
 
 -- ---- a call that can be made, and one that cannot
 
@@ -76,7 +76,7 @@ module _ (sheet : List ℕ) (ok : Admissible sheet) (capacity : ℕ) (low : 1 �
   abbrev x : Exp
   x = formulaOf sheet
 
-  pub F : Follows x capacity low high A (startOf x) (memoryAfterAll calls start) (setsPushed calls start) (resultsTaken calls start)
+  pub F : Follows x capacity (startOf x) (memoryAfterAll calls start) (setsPushed calls start) (resultsTaken calls start)
   F = calls-follow x capacity low high A calls start (startOf x) H
 
   abbrev sets : List (List Value)
@@ -95,15 +95,15 @@ module _ (sheet : List ℕ) (ok : Admissible sheet) (capacity : ℕ) (low : 1 �
   abstractly = Verdicts.demand-3 sheet ok capacity low high (F .calls)
 
   pub as-many-results : length (resultsTaken calls start) ≡ length results
-  as-many-results = ap length (F .shows) ∙ length-map results (shownTokens x capacity low high A)
+  as-many-results = ap length (F .shows) ∙ length-map results shownTokens
 
   pub as-many-sets : length (setsPushed calls start) ≡ length sets
-  as-many-sets = read-count x capacity low high A (setsPushed calls start) sets (F .reads)
+  as-many-sets = read-count x capacity (setsPushed calls start) sets (F .reads)
 
   read : (j : ℕ) → j < length sets → setValues (length (inputsOf x)) (getD (setsPushed calls start) j []) ≡ some (getD sets j [])
   read j l =
       subst (λ (n : ℕ). setValues n (getD (setsPushed calls start) j []) ≡ some (getD sets j [])) (made-inputs x)
-      (read-at x capacity low high A (setsPushed calls start) sets (F .reads) j l)
+      (read-at x capacity (setsPushed calls start) sets (F .reads) j l)
 
   -- ---- the k-th result
 
@@ -115,7 +115,7 @@ module _ (sheet : List ℕ) (ok : Admissible sheet) (capacity : ℕ) (low : 1 �
       let many = abstractly .none-invented in
       let y = enough-yields sheet ok (getD (setsPushed calls start) k []) (getD sets k []) (read k (omega arith)) rounds enough in
       ap (λ (z : List Result). getD z k (result 0 [])) (F .shows)
-      ∙ result-at (shownTokens x capacity low high A) results (result 0 []) k lt
+      ∙ result-at shownTokens results (result 0 []) k lt
       ∙ ap (λ (ts : List Token). shown (valuesIn ts)) (abstractly .own k lt (each many) (y .0) (y .1))
       ∙ ap shown (tokens-shown (y .0))
       ∙ sym (y .2)

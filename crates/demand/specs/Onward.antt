@@ -24,7 +24,7 @@ use Rattle.machine_start.specs.Start.{started}
 use Rattle.demand_begin.specs.StartedStands.{accepted-stands}
 use Rattle.demand.specs.MemoryCalls.{Call, push, fire, answerOf, memoryAfterAll, setsPushed, resultsTaken}
 use Rattle.demand.specs.Agree.{CallsAgree}
-use Rattle.demand.specs.Follow.{Follows}
+use Rattle.demand.specs.Followed.{Follows}
 use Rattle.demand.specs.OnMemory.{F as bytes-follow, as-many-results, as-many-sets, no-step}
 use Rattle.demand.specs.Agreed.{calls-agree}
 use Rattle.machine_start.specs.StartLaws.{AcceptedStart, accepted-start}
@@ -45,7 +45,7 @@ module _ (sheet : List ℕ) (capacity : ℕ) (memory : List ℕ) (h : started sh
   agree : CallsAgree x capacity
   agree = calls-agree sheet (begun .admissible) capacity (begun .some) (begun .most)
 
-  abbrev followed : Follows x capacity (begun .some) (begun .most) agree (startOf x) now (setsPushed calls start) (resultsTaken calls start)
+  abbrev followed : Follows x capacity (startOf x) now (setsPushed calls start) (resultsTaken calls start)
   followed = bytes-follow sheet (begun .admissible) capacity (begun .some) (begun .most) agree start (accepted-stands sheet capacity memory h) calls
 
   abbrev links : Links

@@ -11,6 +11,7 @@ ghost use Rattle.sheet_read.specs.Reading.{answerOf};
 ghost use Rattle.eval_sheet.specs.Handed.{handed as evaluationHanded, handedOut};
 ghost use Rattle.machine_start.specs.Start.{begun, started};
 ghost use Rattle.machine_calls.specs.Calls.{outcome, handed, pushed, fired, ran, taken};
+ghost use Rattle.machine_tray.specs.Tray.{trayed};
 
 #[no_mangle]
 pub extern "C" fn bench_read(sheet: &[u8]) -> ReadAnswer
@@ -43,6 +44,13 @@ pub extern "C" fn bench_push(mem: &mut [u8], set: &[u8]) -> Answer
     ensures { λ a. ⌜ outcome a (now (mem .exit)) ≡ pushed (now (mem .entry)) (now (set .entry)) ⌝ }
 {
     machine_calls::push(mem, set)
+}
+
+#[no_mangle]
+pub extern "C" fn bench_push_tray(mem: &mut [u8], sets: &[u8], number: u32) -> Answer
+    ensures { λ a. ⌜ outcome a (now (mem .exit)) ≡ trayed (now (mem .entry)) (now (sets .entry)) number ⌝ }
+{
+    machine_tray::push_tray(mem, sets, number)
 }
 
 #[no_mangle]

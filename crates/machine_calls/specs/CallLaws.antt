@@ -1,16 +1,18 @@
--- What a memory in good standing is, and what push and take leave as it was below the links. Assumes nothing.
+-- What a memory in good standing is, what push and take leave as it was below the links, and that a push keeps the memory's length. Assumes nothing.
 use Prim.Native.Nat.{ℕ, zero, suc, _+_, _*_, _≤_, _<_}
-use mathlib.Core.Path.{_≡_, refl, sym, ap, _∙_}
+use mathlib.Core.Path.{_≡_, refl, sym, ap, subst, _∙_}
 use mathlib.Core.Bool.{Bool, true, false, _&&_}
 use mathlib.Core.List.{List}
 use native.Mathlib.Omega.{arith}
+use native.Mathlib.Decide.{ℕ-discrete}
 use mathlib.Core.Logic.{_≢_}
 use borrow.Author.Tests.{ltb-true, ltb-false, ne-eqb, le-ltb, lt-ltb}
 use lib.Dec.{ltb, eqb}
-use lib.ListN.{length, getD}
+use lib.ListN.{length, getD, length-set}
 use Rattle.value.specs.Operators.{pick}
-use Rattle.value.specs.Bytes.{wordAt}
-use Rattle.machine_layout.specs.Layout.{number16, nameAt, need, operatorsOf, inputsOf, resultsOf, untakenOf, inputLink, resultLink}
+use Rattle.value.specs.Bytes.{wordOf, wordAt}
+use Rattle.network.specs.Values.{true-value}
+use Rattle.machine_layout.specs.Layout.{number16, nameAt, need, untakenAt, operatorsOf, inputsOf, resultsOf, untakenOf, triggerOf, inputLink, resultLink}
 use Rattle.machine_firing.specs.Links.{removedAt, appendedAt}
 use Rattle.machine_firing.specs.LinkLaws.{length-removed, low-removed, length-appended, low-appended}
 use Rattle.machine_firing.specs.Fire.{ableAt, firedAt}
@@ -23,7 +25,7 @@ use Rattle.formula.specs.declared.Refusal.the-variants.{Memory, Set, Untaken, F
 use Rattle.formula.specs.Refusals.{numberOf}
 use native.Mathlib.Numerals.{add-one}
 use Rattle.value.specs.Bytes.{stored}
-use Rattle.machine_calls.specs.Calls.{Outcome, Handed, outcome, handed, answers, refusal, sizeIn, standing, roomsOk, entered, pushedMemory, pushed, fired, ended, ran, resultReady, emptied, written, resultWord, takenMemory, taken}
+use Rattle.machine_calls.specs.Calls.{Outcome, Handed, outcome, handed, answers, refusal, sizeIn, standing, roomsOk, entered, triggered, pushedMemory, pushed, fired, ended, ran, resultReady, emptied, written, resultWord, takenMemory, taken}
 use Rattle.value_sets.specs.Sets.{setOk}
 
 pub standing-good : (m : List ℕ) → standing m ≡ 0 → (need (sizeIn m) ≤ length m) × (valid m ≡ true)
@@ -180,3 +182,42 @@ module _ (m : List ℕ) where
       -- fewer firings than lent: nothing can fire
       pub ran-early : c < b → ran m b ≡ outcome (answers 0 c) m′
       ran-early h = ran-still (rw (← e) at (runs-below (sizeIn m) (operatorsOf m) b m 0 (rw (← e) (omega arith))))
+
+-- ---- every push, accepted or not, keeps the memory's length and counts none
+
+module _ (m s : List ℕ) where
+  abbrev Plain : Outcome → Type 0
+  Plain o = (length (o .mem) ≡ length m) × (o .answer .count ≡ 0)
+
+  plain-accepted : need (sizeIn m) ≤ length m → Plain (outcome (answers 0 0) (pushedMemory m s))
+  unfolding pushedMemory triggered
+  plain-accepted h =
+      let k = entered-keeps m (sizeIn m) h s (inputsOf m) .size in
+      let z : need (sizeIn m) ≤ length (entered (inputsOf m) m (sizeIn m) s) = omega (arith, k) in (
+        length-set (triggered m s) untakenAt (untakenOf m + 1)
+            ∙ length-appended (entered (inputsOf m) m (sizeIn m) s) (sizeIn m) z (triggerOf m) (wordOf true-value) ∙ k,
+        refl,
+      )
+
+  plain-refused : (r : ℕ) → pushed m s ≡ outcome (answers r 0) m → Plain (pushed m s)
+  plain-refused r e = subst Plain (sym e) (refl, refl)
+
+  plain-tested : standing m ≡ 0 → (a : Bool) → setOk (inputsOf m) s ≡ a → (b : Bool) → ltb (untakenOf m) 16 ≡ b
+      → (c : Bool) → roomsOk m (sizeIn m) (inputsOf m) ≡ c → Plain (pushed m s)
+  plain-tested st false e b f c g = plain-refused (numberOf Set) (pushed-no-set m st s e)
+  plain-tested st true e false f c g = plain-refused (numberOf Untaken) (pushed-untaken m st s e f)
+  plain-tested st true e true f false g = plain-refused (numberOf Full) (pushed-full m st s e f g)
+  plain-tested st true e true f true g = subst Plain (sym (pushed-accepted m st s e f g)) (plain-accepted (standing-good m st .0))
+
+  plain : Plain (pushed m s)
+  plain = go (ℕ-discrete (standing m) 0)
+    where
+      go : Dec (standing m ≡ 0) → Plain (pushed m s)
+      go (yes st) = plain-tested st (setOk (inputsOf m) s) refl (ltb (untakenOf m) 16) refl (roomsOk m (sizeIn m) (inputsOf m)) refl
+      go (no n) = plain-refused (standing m) (pushed-refused m s n)
+
+  pub pushed-length : length (pushed m s .mem) ≡ length m
+  pushed-length = plain .0
+
+  pub pushed-count : pushed m s .answer .count ≡ 0
+  pushed-count = plain .1

@@ -10,8 +10,8 @@ ghost use Rattle.machine_layout.specs.Layout.{mostInputs, mostResults, leastSiz
 ghost use Rattle.machine_valid.specs.Below.{allBelow};
 ghost use Rattle.machine_calls.specs.Calls.{outcome, handed, answers, refusal, standing, roomsOk, entered, resultReady, resultWord, resultBytes, written, emptied, pushed, fired, ran, taken};
 
-// A call's answer: document 01's number of a refusal, 0 where accepted; the firings of a run or the
-// width of a taken result set, else 0.
+// A call's answer: document 01's number of a refusal, 0 where accepted; the firings of a run, the
+// width of a taken result set or the sets of a tray that went in (machine_tray), else 0.
 #[repr(C)]
 pub struct Answer {
     pub refusal: u32,
@@ -34,7 +34,7 @@ fn refused(r: Refusal) -> Answer
 }
 
 // 11 or 31, or 0 where the memory stands well.
-fn standing_of(mem: &[u8]) -> u32
+pub fn standing_of(mem: &[u8]) -> u32
     ensures { λ r. ⌜ r ≡ standing (now (mem .entry)) ⌝ }
 {
     let capacity = machine_layout::capacity(mem);

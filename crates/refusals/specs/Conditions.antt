@@ -1,11 +1,11 @@
 -- The refusals of each call as an ordered table, each condition by name: document 01, "Said by what was handed in" and "Said by how the machine stands",
 -- "11 comes before all", "Order: 11, 31, 12, then these", "14 .. (start: after 11, before 1)". Definitions only; assumes nothing.
-use Prim.Native.Nat.{ℕ, _-_}
+use Prim.Native.Nat.{ℕ, zero, suc, _-_, _*_}
 use mathlib.Core.Bool.{Bool, true, false, not, _&&_}
 use mathlib.Core.List.{List, [], _∷_, _++_}
 use mathlib.Core.Option.{Option, some, none}
 use lib.Dec.{leb, ltb}
-use lib.ListN.{length}
+use lib.ListN.{length, take, drop}
 use Rattle.value.specs.declared.Value.{Value}
 use Rattle.formula.specs.declared.Refusal.the-variants.{Layout, Rows, Malformed, Range, Naming, Named, StrayIter, Width, Unused, Operators, Memory, Set, Capacity, Altered, Untaken, Full, NotAble, NoResult, Unfinished}
 use Rattle.formula.specs.declared.Check.{Check}
@@ -22,7 +22,7 @@ use Rattle.machine_firing.specs.Fire.{ableAt}
 use Rattle.machine_valid.specs.Below.{allBelow}
 use Rattle.machine_valid.specs.Valid.{valid}
 use Rattle.machine_runs.specs.Run.{runs, stillAt}
-use Rattle.machine_calls.specs.Calls.{sizeIn, roomsOk, resultReady}
+use Rattle.machine_calls.specs.Calls.{sizeIn, roomsOk, pushed, resultReady}
 use Rattle.refusals.specs.FirstRefusal.{Row}
 
 -- ---- how the machine stands
@@ -72,6 +72,19 @@ pushTable m set =
     ∷ (sixteen-untaken m, Untaken)
     ∷ (link-full m, Full)
     ∷ []
+
+-- n sets of k bytes behind each other: the first set's table, then the others' on the memory after its push
+abbrev pub turnTable : ℕ → ℕ → List ℕ → List ℕ → List Row
+turnTable zero k m sets = []
+turnTable (suc n) k m sets = pushTable m (take k sets) ++ turnTable n k (pushed m (take k sets) .mem) (drop k sets)
+
+-- "a tray of none tests 11 and 31 only"; else "a given number of sets .., each as long as the inputs ask": five bytes a value
+abbrev pub trayTable : List ℕ → List ℕ → ℕ → List Row
+trayTable m sets zero =
+    (short m, Memory)
+    ∷ (altered m, Altered)
+    ∷ []
+trayTable m sets (suc n) = turnTable (suc n) (5 * inputsOf m) m sets
 
 abbrev pub fireTable : List ℕ → ℕ → List Row
 fireTable m i =
@@ -168,6 +181,9 @@ sheetNumbers = 1 ∷ 2 ∷ 3 ∷ 4 ∷ 5 ∷ 6 ∷ 7 ∷ 8 ∷ 9 ∷ 10 ∷ []
 
 abbrev pub pushNumbers : List ℕ
 pushNumbers = 11 ∷ 31 ∷ 12 ∷ 32 ∷ 33 ∷ []
+
+abbrev pub trayNumbers : List ℕ
+trayNumbers = pushNumbers
 
 abbrev pub fireNumbers : List ℕ
 fireNumbers = 11 ∷ 31 ∷ 34 ∷ []

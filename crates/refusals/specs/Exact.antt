@@ -189,7 +189,7 @@ start-exact sheet capacity m =
 -- ---- evaluation
 
 -- A table behind another: looked at where the other gives nothing.
-behind-none : (cs ds : List Row) → first-refusal cs ≡ 0 → first-refusal (cs ++ ds) ≡ first-refusal ds
+pub behind-none : (cs ds : List Row) → first-refusal cs ≡ 0 → first-refusal (cs ++ ds) ≡ first-refusal ds
 unfolding first-refusal
 behind-none [] ds h = refl
 behind-none (c ∷ cs) ds h = go (c .0) h (behind-none cs ds)
@@ -199,7 +199,7 @@ behind-none (c ∷ cs) ds h = go (c .0) h (behind-none cs ds)
     go true e ih = absurd (omega (arith, number-positive (c .1)))
     go false e ih = ih e
 
-behind-some : (cs ds : List Row) (n : ℕ) → 1 ≤ n → n ≡ first-refusal cs → n ≡ first-refusal (cs ++ ds)
+pub behind-some : (cs ds : List Row) (n : ℕ) → 1 ≤ n → n ≡ first-refusal cs → n ≡ first-refusal (cs ++ ds)
 unfolding first-refusal
 behind-some [] ds n p h = absurd (omega arith)
 behind-some (c ∷ cs) ds n p h = go (c .0) h (behind-some cs ds n p)

@@ -1,16 +1,17 @@
--- What a refused call says and hands back, call by call: demand 1, "hands every lent byte back unaltered, save a run that has used up its lent firings";
--- document 01, "A refusal's counts and rows are 0 unless stated". Here without the refusals' names, which Refused adds. Assumes nothing.
-use Prim.Native.Nat.{ℕ}
+-- What a refused call says and hands back, call by call: demand 1, "hands every lent byte back unaltered, save a run that has used up its lent firings"; a tray of
+-- sets is the other exception, of which "the rule on unaltered memory speaks of the refused set alone" (document 02, Job 1); document 01, "A refusal's counts and rows are 0
+-- unless stated". Here without the refusals' names, which Refused adds. Assumes nothing.
+use Prim.Native.Nat.{ℕ, zero, suc}
 use mathlib.Core.Path.{_≡_, refl, ap, subst}
 use mathlib.Core.Bool.{Bool, true, false, _&&_}
 use mathlib.Core.Logic.{_⊎_, inl, inr, _≢_}
 use mathlib.Core.List.{List}
 use mathlib.Core.Option.{Option, some, none}
+use native.Mathlib.Omega.{arith}
 use native.Mathlib.Decide.{ℕ-discrete}
 use lib.Dec.{leb, ltb, eqb}
 use lib.ListN.{length}
 use Rattle.value.specs.declared.Value.{Value}
-use Rattle.value.specs.Operators.{pick}
 use Rattle.formula.specs.declared.Refusal.the-variants.{Memory, Capacity, Unfinished}
 use Rattle.formula.specs.declared.Verdict.{Verdict}
 use Rattle.formula.specs.declared.Verdict.the-variants.{Passed as passed, Refused as refused}
@@ -24,22 +25,21 @@ use Rattle.sheet_read.specs.Reading.{answerOf}
 use Rattle.meaning.specs.Meaning.{Outcome as Ended, yields, inputsHold, evalE}
 use Rattle.meaning.specs.declared.Evaluation.{Evaluation}
 use Rattle.meaning.specs.Evaluate.{concluded, evaluatedWith, evaluated, afterVerdict, evaluationOf}
-use Rattle.value_sets.specs.Sets.{setValues, setOk}
+use Rattle.value_sets.specs.Sets.{setValues}
 use Rattle.eval_sheet.specs.Handed.{told, handedOut, Handed as Evaluated}
-use Rattle.machine_layout.specs.Layout.{operatorsOf, inputsOf, resultsOf, untakenOf}
+use Rattle.machine_layout.specs.Layout.{operatorsOf, resultsOf, untakenOf}
 use Rattle.machine_firing.specs.Fire.{ableAt, firedAt}
 use Rattle.machine_valid.specs.Below.{allBelow}
 use Rattle.machine_runs.specs.Run.{runs, stillAt}
-use Rattle.machine_calls.specs.Calls.{Outcome, Handed, outcome, handed, answers, refusal, sizeIn, standing, roomsOk, pushedMemory, pushed, fired, ran, resultReady, taken}
+use Rattle.machine_calls.specs.Calls.{Outcome, Handed, outcome, handed, answers, refusal, sizeIn, standing, pushed, fired, ran, resultReady, taken}
 use Rattle.machine_calls.specs.CallLaws.{ran-refused}
+use Rattle.machine_tray.specs.Tray.{setBytes, trayed, cut, wentIn}
+use Rattle.machine_tray.specs.TrayLaws.{tray-of-none}
+use Rattle.machine_tray.specs.OneByOne.{either, push-leaves, Pushes, Stops, went-in, refused-set}
 use Rattle.machine_start.specs.Start.{Begun, byVerdict, started}
 use Rattle.refusals.specs.Conditions.{no-room, short-asked}
 use Rattle.refusals.specs.Rows.{RowTold, VerdictRow, verdict-row}
 use Rattle.refusals.specs.RunCount.{Firings, run-is, run-counts}
-
-either : {A : Type 0} (P : A → Type 0) (b : Bool) (x y : A) → P x → P y → P (pick b x y)
-either P true x y p q = p
-either P false x y p q = q
 
 -- A refusal with count 0 that leaves the memory, or an acceptance.
 abbrev Keeps : List ℕ → Outcome → Type 0
@@ -52,17 +52,19 @@ keeps-accepted : (m m′ : List ℕ) (c : ℕ) → Keeps m (outcome (answers 0 c
 keeps-accepted m m′ c h = absurd (h refl)
 
 pub push-keeps : (m set : List ℕ) → pushed m set .answer .refusal ≢ 0 → (pushed m set .answer .count ≡ 0) × (pushed m set .mem ≡ m)
-unfolding pushed
-push-keeps m set =
-    either (Keeps m) (eqb (standing m) 0) _ _
-    (either (Keeps m) (setOk (inputsOf m) set) _ _
-    (either (Keeps m) (ltb (untakenOf m) 16) _ _
-    (either (Keeps m) (roomsOk m (sizeIn m) (inputsOf m)) _ _
-    (keeps-accepted m (pushedMemory m set) 0)
-    (keeps-refused m 33))
-    (keeps-refused m 32))
-    (keeps-refused m 12))
-    (keeps-refused m (standing m))
+push-keeps m set h = let e = push-leaves m set h in (ap (λ (o : Outcome). o .answer .count) e, ap (λ (o : Outcome). o .mem) e)
+
+-- A tray of sets: "For this call the rule on unaltered memory speaks of the refused set alone." The memory is the one after the sets that went in, each
+-- an accepted push, and the push of the set behind them gives the refusal and changes nothing.
+abbrev pub SetRefused : List ℕ → List ℕ → ℕ → Type 0
+SetRefused m sets number =
+    Pushes (wentIn m sets number) m (trayed m sets number .mem) × Stops (cut number (setBytes m) sets) (wentIn m sets number) (trayed m sets number)
+
+-- 11 and 31 of a tray of none leave the memory.
+pub tray-keeps : (m sets : List ℕ) (number : ℕ) → trayed m sets number .answer .refusal ≢ 0
+    → ((trayed m sets number .answer .count ≡ 0) × (trayed m sets number .mem ≡ m)) ⊎ SetRefused m sets number
+tray-keeps m sets zero h = let e = tray-of-none m sets in inl (ap (λ (o : Outcome). o .answer .count) e, ap (λ (o : Outcome). o .mem) e)
+tray-keeps m sets (suc n) h = inr (went-in m sets (suc n), refused-set m sets (suc n) (omega arith) h)
 
 pub fire-keeps : (m : List ℕ) (i : ℕ) → fired m i .answer .refusal ≢ 0 → (fired m i .answer .count ≡ 0) × (fired m i .mem ≡ m)
 unfolding fired

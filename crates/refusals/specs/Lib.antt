@@ -1,6 +1,7 @@
 pub mod FirstRefusal
 pub mod Conditions
 pub mod Exact
+pub mod TrayExact
 pub mod RunCount
 pub mod Rows
 pub mod Kept

@@ -1,7 +1,7 @@
 -- DEMAND 1, second sentence: "A refused call names one of the refusals in document 01 and hands every lent byte back unaltered, save a run that has used up its
 -- lent firings", as `refused-call` over all calls; and demand 2, "A call is refused exactly when document 01 gives it a refusal, and with the first in the
--- order there", as `call-exact`. The calls are the definitions that the contracts of their entry points cite; a sheet or a set is lent for reading
--- only. Assumes nothing.
+-- order there", as `call-exact`. Of a tray of sets "the rule on unaltered memory speaks of the refused set alone" (document 02, Job 1). The calls are the
+-- definitions that the contracts of their entry points cite; a sheet or a set is lent for reading only. Assumes nothing.
 use Prim.Native.Nat.{ℕ}
 use mathlib.Core.Path.{_≡_, refl, sym, _∙_, subst}
 use mathlib.Core.Logic.{_⊎_, inl, inr, _≢_, _↔_}
@@ -12,18 +12,21 @@ use Rattle.formula.specs.Tests.{readingOf}
 use Rattle.sheet_read.specs.Reading.{answerOf}
 use Rattle.eval_sheet.specs.Handed.{handedOut}
 use Rattle.machine_calls.specs.Calls.{pushed, fired, ran, taken}
+use Rattle.machine_tray.specs.Tray.{trayed}
 use Rattle.machine_start.specs.Start.{started}
 use Rattle.refusals.specs.FirstRefusal.{Row, first-refusal, Named, Among, numbers, NoneHolds, FirstHolds, accepted-exactly, refused-exactly, first-among, first-named}
-use Rattle.refusals.specs.Conditions.{pushTable, fireTable, runTable, takeTable, sheetTable, startTable, evaluateTable, sheetNumbers, pushNumbers, fireNumbers, runNumbers, takeNumbers, startNumbers, evaluateNumbers}
+use Rattle.refusals.specs.Conditions.{pushTable, trayTable, fireTable, runTable, takeTable, sheetTable, startTable, evaluateTable, sheetNumbers, pushNumbers, trayNumbers, fireNumbers, runNumbers, takeNumbers, startNumbers, evaluateNumbers}
 use Rattle.refusals.specs.Rows.{RowTold}
 use Rattle.refusals.specs.Exact.{push-exact, fire-exact, run-exact, take-exact, read-exact, start-exact, evaluate-exact}
-use Rattle.refusals.specs.Kept.{UsedUpFirings, read-keeps, start-keeps, push-keeps, fire-keeps, run-keeps, take-keeps, evaluate-keeps}
+use Rattle.refusals.specs.TrayExact.{tray-exact, tray-numbers}
+use Rattle.refusals.specs.Kept.{UsedUpFirings, SetRefused, read-keeps, start-keeps, push-keeps, tray-keeps, fire-keeps, run-keeps, take-keeps, evaluate-keeps}
 
 -- The firmware's entry points with what each is lent, in the order of their parameters.
 pub data Call : Type 0 where
   read : List ℕ → Call
   start : List ℕ → ℕ → List ℕ → Call
   push : List ℕ → List ℕ → Call
+  tray : List ℕ → List ℕ → ℕ → Call
   fire : List ℕ → ℕ → Call
   run : List ℕ → ℕ → Call
   take : List ℕ → List ℕ → Call
@@ -33,6 +36,7 @@ unfoldable pub refusalOf : Call → ℕ
 refusalOf (read sheet) = answerOf (readingOf sheet) .refusal
 refusalOf (start sheet capacity m) = started sheet capacity m .answer .refusal
 refusalOf (push m set) = pushed m set .answer .refusal
+refusalOf (tray m sets number) = trayed m sets number .answer .refusal
 refusalOf (fire m operator) = fired m operator .answer .refusal
 refusalOf (run m firings) = ran m firings .answer .refusal
 refusalOf (take m out) = taken m out .answer .refusal
@@ -43,6 +47,7 @@ unfoldable pub countsOf : Call → List ℕ
 countsOf (read sheet) = let a = answerOf (readingOf sheet) in a .rows ∷ a .operators ∷ a .inputs ∷ a .results ∷ []
 countsOf (start sheet capacity m) = let a = started sheet capacity m .answer in a .operators ∷ a .inputs ∷ a .results ∷ []
 countsOf (push m set) = pushed m set .answer .count ∷ []
+countsOf (tray m sets number) = trayed m sets number .answer .count ∷ []
 countsOf (fire m operator) = fired m operator .answer .count ∷ []
 countsOf (run m firings) = ran m firings .answer .count ∷ []
 countsOf (take m out) = taken m out .answer .count ∷ []
@@ -53,6 +58,7 @@ unfoldable pub lent : Call → List (List ℕ)
 lent (read sheet) = []
 lent (start sheet capacity m) = m ∷ []
 lent (push m set) = m ∷ []
+lent (tray m sets number) = m ∷ []
 lent (fire m operator) = m ∷ []
 lent (run m firings) = m ∷ []
 lent (take m out) = m ∷ out ∷ []
@@ -62,6 +68,7 @@ unfoldable pub handed-back : Call → List (List ℕ)
 handed-back (read sheet) = []
 handed-back (start sheet capacity m) = started sheet capacity m .mem ∷ []
 handed-back (push m set) = pushed m set .mem ∷ []
+handed-back (tray m sets number) = trayed m sets number .mem ∷ []
 handed-back (fire m operator) = fired m operator .mem ∷ []
 handed-back (run m firings) = ran m firings .mem ∷ []
 handed-back (take m out) = taken m out .mem ∷ taken m out .out ∷ []
@@ -72,6 +79,7 @@ unfoldable pub tableOf : Call → List Row
 tableOf (read sheet) = sheetTable sheet
 tableOf (start sheet capacity m) = startTable sheet capacity m
 tableOf (push m set) = pushTable m set
+tableOf (tray m sets number) = trayTable m sets number
 tableOf (fire m operator) = fireTable m operator
 tableOf (run m firings) = runTable m firings
 tableOf (take m out) = takeTable m out
@@ -81,6 +89,7 @@ unfoldable pub numbersOf : Call → List ℕ
 numbersOf (read sheet) = sheetNumbers
 numbersOf (start sheet capacity m) = startNumbers
 numbersOf (push m set) = pushNumbers
+numbersOf (tray m sets number) = trayNumbers
 numbersOf (fire m operator) = fireNumbers
 numbersOf (run m firings) = runNumbers
 numbersOf (take m out) = takeNumbers
@@ -95,16 +104,29 @@ abbrev pub UsedUp : Call → Type 0
 UsedUp (read sheet) = ⊥
 UsedUp (start sheet capacity m) = ⊥
 UsedUp (push m set) = ⊥
+UsedUp (tray m sets number) = ⊥
 UsedUp (fire m operator) = ⊥
 UsedUp (run m firings) = UsedUpFirings m firings
 UsedUp (take m out) = ⊥
 UsedUp (evaluate sheet set rounds out) = ⊥
+
+-- "For this call the rule on unaltered memory speaks of the refused set alone": a tray of sets (document 02, Job 1).
+abbrev pub SetAlone : Call → Type 0
+SetAlone (read sheet) = ⊥
+SetAlone (start sheet capacity m) = ⊥
+SetAlone (push m set) = ⊥
+SetAlone (tray m sets number) = SetRefused m sets number
+SetAlone (fire m operator) = ⊥
+SetAlone (run m firings) = ⊥
+SetAlone (take m out) = ⊥
+SetAlone (evaluate sheet set rounds out) = ⊥
 
 -- The row of the answers that have one.
 abbrev pub RowSaid : Call → Type 0
 RowSaid (read sheet) = RowTold sheet (answerOf (readingOf sheet) .refusal) (answerOf (readingOf sheet) .row)
 RowSaid (start sheet capacity m) = RowTold sheet (started sheet capacity m .answer .refusal) (started sheet capacity m .answer .row)
 RowSaid (push m set) = Unit {0}
+RowSaid (tray m sets number) = Unit {0}
 RowSaid (fire m operator) = Unit {0}
 RowSaid (run m firings) = Unit {0}
 RowSaid (take m out) = Unit {0}
@@ -116,6 +138,7 @@ unfolding refusalOf tableOf
 call-exact (read sheet) = read-exact sheet
 call-exact (start sheet capacity m) = start-exact sheet capacity m
 call-exact (push m set) = push-exact m set
+call-exact (tray m sets number) = tray-exact m sets number
 call-exact (fire m operator) = fire-exact m operator
 call-exact (run m firings) = run-exact m firings
 call-exact (take m out) = take-exact m out
@@ -136,14 +159,15 @@ pub record RefusedCall (c : Call) : Type 0 where
   pub own : Among (refusalOf c) (numbersOf c)
   -- "3 to 9 give the lowest row at fault, others row 0"
   pub row : RowSaid c
-  -- "hands every lent byte back unaltered, save a run that has used up its lent firings"
-  pub back : ((handed-back c ≡ lent c) × AllZero (countsOf c)) ⊎ UsedUp c
+  -- "hands every lent byte back unaltered, save a run that has used up its lent firings", and a tray by its refused set alone
+  pub back : ((handed-back c ≡ lent c) × AllZero (countsOf c)) ⊎ (UsedUp c ⊎ SetAlone c)
 
 table-numbers : (c : Call) (n : ℕ) → Among n (numbers (tableOf c)) → Among n (numbersOf c)
 unfolding tableOf numbersOf
 table-numbers (read sheet) n a = a
 table-numbers (start sheet capacity m) n a = a
 table-numbers (push m set) n a = a
+table-numbers (tray m sets number) n a = tray-numbers m sets number n a
 table-numbers (fire m operator) n a = a
 table-numbers (run m firings) n a = a
 table-numbers (take m out) n (inl e) = inl e
@@ -161,24 +185,32 @@ unfolding refusalOf
 row-said (read sheet) h = read-keeps sheet h .0
 row-said (start sheet capacity m) h = start-keeps sheet capacity m h .0
 row-said (push m set) h = tt
+row-said (tray m sets number) h = tt
 row-said (fire m operator) h = tt
 row-said (run m firings) h = tt
 row-said (take m out) h = tt
 row-said (evaluate sheet set rounds out) h = evaluate-keeps sheet set rounds out h .0
 
-bytes-back : (c : Call) → refusalOf c ≢ 0 → ((handed-back c ≡ lent c) × AllZero (countsOf c)) ⊎ UsedUp c
+bytes-back : (c : Call) → refusalOf c ≢ 0 → ((handed-back c ≡ lent c) × AllZero (countsOf c)) ⊎ (UsedUp c ⊎ SetAlone c)
 unfolding refusalOf handed-back lent countsOf
 bytes-back (read sheet) h = let k = read-keeps sheet h in inl (refl, (k .1, (k .2, (k .3, (k .4, tt)))))
 bytes-back (start sheet capacity m) h = let k = start-keeps sheet capacity m h in inl (one (k .4), (k .1, (k .2, (k .3, tt))))
 bytes-back (push m set) h = let k = push-keeps m set h in inl (one (k .1), (k .0, tt))
+bytes-back (tray m sets number) h = go (tray-keeps m sets number h)
+  where
+    go : ((trayed m sets number .answer .count ≡ 0) × (trayed m sets number .mem ≡ m)) ⊎ SetRefused m sets number
+        → ((handed-back (tray m sets number) ≡ lent (tray m sets number)) × AllZero (countsOf (tray m sets number)))
+        ⊎ (UsedUp (tray m sets number) ⊎ SetAlone (tray m sets number))
+    go (inl k) = inl (one (k .1), (k .0, tt))
+    go (inr k) = inr (inr k)
 bytes-back (fire m operator) h = let k = fire-keeps m operator h in inl (one (k .1), (k .0, tt))
 bytes-back (run m firings) h = go (run-keeps m firings h)
   where
     go : ((ran m firings .answer .count ≡ 0) × (ran m firings .mem ≡ m))
         ⊎ UsedUpFirings m firings
-        → ((handed-back (run m firings) ≡ lent (run m firings)) × AllZero (countsOf (run m firings))) ⊎ UsedUp (run m firings)
+        → ((handed-back (run m firings) ≡ lent (run m firings)) × AllZero (countsOf (run m firings))) ⊎ (UsedUp (run m firings) ⊎ SetAlone (run m firings))
     go (inl k) = inl (one (k .1), (k .0, tt))
-    go (inr k) = inr k
+    go (inr k) = inr (inl k)
 bytes-back (take m out) h = let k = take-keeps m out h in inl (two (k .1) (k .2), (k .0, tt))
 bytes-back (evaluate sheet set rounds out) h = let k = evaluate-keeps sheet set rounds out h in inl (one (k .3), (k .1, (k .2, tt)))
 

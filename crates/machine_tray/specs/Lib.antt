@@ -1,0 +1,4 @@
+pub mod Tray
+pub mod TrayLaws
+pub mod OneByOne
+pub mod Lent
