@@ -15,3 +15,5 @@ pub mod Admitted
 pub mod PlaceLaws
 pub mod CountLaws
 pub mod Acceptance
+pub mod Kinds
+pub mod Faults
