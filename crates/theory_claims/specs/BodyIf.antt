@@ -25,7 +25,7 @@ use Rattle.theory_claims.specs.Claims.{truths, Claims}
 use Rattle.theory_claims.specs.TypedGraphs.{claimsOf, at, Typed}
 use Rattle.theory_claims.specs.KindClaims.{claimsFor, length-claims, returnedFor}
 use Rattle.theory_claims.specs.Rows.{over, over-in, over-keeps}
-use Rattle.theory_claims.specs.Joins.{table, table-iter, table-join, table-iterated, table-returned, arm-claims}
+use Rattle.theory_claims.specs.IfNames.{table, table-iter, table-join, table-iterated, table-returned, arm-claims}
 use Rattle.theory_claims.specs.BodyJoins.{iterFor, thirdFor, IC-joined, joinI-typed, joinR-typed}
 use Rattle.theory_claims.specs.FormulaParts.{iterated-length, returnedBy, bodyClaims, returned-fit, length-returned-by, length-iterated, returns-no-kinds}
 

@@ -1,5 +1,5 @@
--- Claims for the parts of a formula's graph, from the kinds of its rows (formula/specs/Kinds): where a let or for binds identifiers, and at the
--- two kinds of if. An arm is assumed to have the claims that its kinds give, whatever is told of the names that no row has.
+-- The claims of a formula's names and of a body's outputs, from the kinds of rows (formula/specs/Kinds): what a let or for binds has the kinds of
+-- row c, and a body's outputs are iter?, the iterated and the returned results. Assumes that identifiers are bound as test 4 says.
 use Prim.Native.Nat.{ℕ, _+_, _-_, _≤_, _<_}
 use mathlib.Core.Path.{_≡_, refl, sym, _∙_, ap}
 use mathlib.Core.Logic.{_⊎_, inl, inr}

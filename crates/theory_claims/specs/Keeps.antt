@@ -43,7 +43,7 @@ waiting-tail : (P : Value → Type 0) (ts : List Token) → Waiting P ts → Wai
 waiting-tail P [] h = tt
 waiting-tail P (t ∷ ts) h = h .1
 
-waiting-head : (P : Value → Type 0) (ts : List Token) → 0 < length ts → Waiting P ts → P (value-of (head ts))
+pub waiting-head : (P : Value → Type 0) (ts : List Token) → 0 < length ts → Waiting P ts → P (value-of (head ts))
 waiting-head P [] l h = absurd (omega arith)
 waiting-head P (t ∷ ts) l h = h .0
 
@@ -83,7 +83,7 @@ append-keeps K q l t m h j = go (ℕ-discrete j l)
 
 module _ (K : Claims) where
   -- What is put meets the claims.
-  abbrev Fine : List (ℕ × Token) → Type 0
+  abbrev pub Fine : List (ℕ × Token) → Type 0
   Fine [] = Unit {0}
   Fine (e ∷ es) = Meets (K (e .0)) (value-of (e .1)) × Fine es
 
@@ -91,7 +91,7 @@ module _ (K : Claims) where
   fine-append [] fs p q = q
   fine-append (e ∷ es) fs p q = (p .0, fine-append es fs (p .1) q)
 
-  appends-keep : (es : List (ℕ × Token)) (q : Links) → Fine es → Clean K q → Clean K (appends es q)
+  pub appends-keep : (es : List (ℕ × Token)) (q : Links) → Fine es → Clean K q → Clean K (appends es q)
   appends-keep [] q f h = h
   appends-keep (e ∷ es) q f h = appends-keep es (append (e .0) (e .1) q) (f .1) (append-keeps K q (e .0) (e .1) (f .0) h)
 

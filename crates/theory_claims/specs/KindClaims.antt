@@ -1,4 +1,4 @@
--- The claims that kinds give (formula/specs/Kinds): of values, of what a body returns, and of its iter?. Assumes nothing.
+-- The claims that kinds give (formula/specs/Kinds): of values, and of what a body returns. Assumes nothing.
 use Prim.Native.Nat.{ℕ, zero, suc, _≤_, _<_}
 use mathlib.Core.Path.{_≡_, refl, sym, _∙_, ap, subst}
 use mathlib.Core.Bool.{true}

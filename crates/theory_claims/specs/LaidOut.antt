@@ -68,7 +68,7 @@ laid-out (bind ns a b) F C cs T n env S N M =
     laid-out a (F .0) C (claimsOf D ns) (T .2) m e₁ S₁ (first-named f g n env C S small N) (share-marked f g n env C S small N M) in
     let B : Laid b (m + linksOf a) link cs (A .told) =
     laid-out b (F .1) D cs (T .3) (m + linksOf a) link (A .told)
-    (bound-named ns f (free b) (secondUse f g n env) m (m + linksOf a) C D oa S₁ (A .told) (T .1) (second-named f g n env C S small N) (A .agree) (A .outs)
+    (bound-named ns (free b) (secondUse f g n env) m (m + linksOf a) C D oa S₁ (A .told) (T .1) (second-named f g n env C S small N) (A .agree) (A .outs)
     (up m (linksOf a))) (A .marked) in
     record {
       told = B .told;

@@ -68,7 +68,7 @@ module _ (f : Names) (g : Names) (a b : Graph) (n : ℕ) (env e : Env) (C : Clai
 
 -- ---- the names of the second part
 
-module _ (ns : List ℕ) (f h : Names) (env : Env) (n k : ℕ) (C D : Claims) (ls : List ℕ) (S U : Telling) (only : Binds-only ns C D)
+module _ (ns : List ℕ) (h : Names) (env : Env) (n k : ℕ) (C D : Claims) (ls : List ℕ) (S U : Telling) (only : Binds-only ns C D)
     (N : Named (without h (memberOf ns)) env n S C) (a : Agree n S U) (O : Outs k U ls (claimsOf D ns)) (le : n ≤ k) where
   -- The names bound to outputs have the links and claims of those, the others their own.
   pub bound-named : Named h (named ns ls env) k U D

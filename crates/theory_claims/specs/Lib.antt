@@ -9,7 +9,7 @@ pub mod LoopLaid
 pub mod LaidOut
 pub mod KindClaims
 pub mod Rows
-pub mod Joins
+pub mod IfNames
 pub mod BodyJoins
 pub mod FormulaParts
 pub mod BodyIf

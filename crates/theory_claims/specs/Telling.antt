@@ -1,5 +1,5 @@
 -- A claim for each link number and for the register of the gate whose first output it is, told from below upwards: a part of a graph tells
--- of its own links and leaves what is told of those before them. Here for the copies of names that two parts share. Assumes nothing.
+-- of its own links and leaves what is told of those before them. Assumes nothing.
 use Prim.Native.Nat.{ℕ, zero, suc, _+_, _-_, _≤_, _<_}
 use mathlib.Core.Path.{_≡_, refl, _∙_, ap}
 use mathlib.Core.Bool.{Bool, true, false, cond}

@@ -37,7 +37,7 @@ use Rattle.theory_claims.specs.TypedGraphs.{claimsOf, at, Typed}
 use Rattle.theory_claims.specs.Parts.{same-under, claims-nil}
 use Rattle.theory_claims.specs.KindClaims.{claimsFor, length-claims, claims-append, all-under, one-wanted, claims-err, returned-some}
 use Rattle.theory_claims.specs.Rows.{constant-typed, merge-typed, choice-typed}
-use Rattle.theory_claims.specs.Joins.{table, table-low, table-test, table-returned, returned-claims}
+use Rattle.theory_claims.specs.IfNames.{table, table-low, table-test, table-returned, returned-claims}
 use Rattle.theory_claims.specs.BodyJoins.{iterFor}
 use Rattle.theory_claims.specs.FormulaParts.{Kinded-names, same-names, boundClaims, bound-claims, bound-only, bound-kinded, returnedBy, bodyClaims}
 use Rattle.theory_claims.specs.BodyIf.{ifTable, first-claims, second-claims, joined-typed}

@@ -1,5 +1,5 @@
--- The claims of the names in an if: of its test, of each arm's iter?, iterated and returned results, and of the three outputs of IC; and, from
--- them, claims for the joins of a body's if (graph/specs/Translation). Assumes at most sixteen results of each.
+-- The claims of the names in an if (graph/specs/Translation), as one table: of its test, of each arm's iter?, iterated and returned results, and of
+-- the three outputs of IC. Assumes at most sixteen results of each.
 use Prim.Native.Nat.{ℕ, _+_, _-_, _≤_, _<_}
 use mathlib.Core.Path.{_≡_, refl}
 use mathlib.Core.Bool.{Bool, true, false, cond}
