@@ -9,6 +9,7 @@ pub mod Count
 pub mod Places
 pub mod Tests
 pub mod TestLaws
+pub mod Verdicts
 pub mod SheetLaws
 pub mod TreeLaws
 pub mod Admitted
