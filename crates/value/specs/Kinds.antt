@@ -1,20 +1,26 @@
 -- Kinds of values: document 02, Job 6. What kinds an operator and a test want, and which kind an operator gives, by document 01,
--- "Values and operators"; and that an operator's answer is of that kind or an err. Assumes nothing.
+-- "Values and operators"; that an operator's answer is of that kind or an err, and that the kinds wanted are those of the operators:
+-- where they are got, no err comes from a wrong kind. Assumes nothing.
 use Prim.Native.Nat.{ℕ}
-use mathlib.Core.Path.{_≡_, refl, sym, subst}
-use mathlib.Core.Bool.{Bool, true, false, _&&_}
+use mathlib.Core.Path.{_≡_, refl, sym, ap, _∙_, subst}
+use mathlib.Core.Bool.{Bool, true, false, _&&_, not, false≢true}
 use mathlib.Core.List.{List, [], _∷_}
+use mathlib.Core.Option.{Option, some, none}
 use lib.IntN.{ℤ, _+ℤ_, _-ℤ_, _*ℤ_, negℤ}
 use lib.Signed.{quotZ, remZ}
 use lib.Dec.{eqb, leb}
 use borrow.Author.Tests.{eqb-true}
 use Rattle.value.specs.declared.Reason.{Reason}
-use Rattle.value.specs.declared.Reason.the-variants.{ZeroDivisor, OutOfRange}
+use Rattle.value.specs.declared.Reason.the-variants.{ZeroDivisor, OutOfRange, Other}
 use Rattle.value.specs.declared.Value.{Value}
 use Rattle.value.specs.declared.Value.the-variants.{Whole, Truth, Err}
+use Rattle.value.specs.declared.Sense.{Sense}
+use Rattle.value.specs.declared.Sense.the-variants.{True, False, Neither}
 use Rattle.value.specs.declared.ValueKind.{ValueKind}
 use Rattle.value.specs.declared.ValueKind.the-variants.{Whole as whole-kind, Truth as truth-kind}
-use Rattle.value.specs.Operators.{pick, inRange, isZero, fitOf, dividedBy, addOf, subtractOf, multiplyOf, divideOf, remainderOf, lessOf, equalOf, andOf, orOf, notOf, negateOf, handOn, handOnOne, wholes, besideErr, logical, truth, whole, apply}
+use Rattle.value.specs.Operators.{pick, inRange, isZero, operands, fitOf, dividedBy, addOf, subtractOf, multiplyOf, divideOf, remainderOf, lessOf, equalOf, andOf, orOf, notOf, negateOf, handOn, handOnOne, wholes, besideErr, logical, truth, whole, apply}
+use Rattle.value.specs.Reasons.{isErr, numberIn, taken, decided, leftmost, isWanted, allWanted, ofNumbers, reasonOf}
+use Rattle.value.specs.Senses.{sense}
 
 abbrev pub sameKind : ValueKind → ValueKind → Bool
 sameKind whole-kind whole-kind = true
@@ -46,7 +52,8 @@ wanted c ks = allOf (wants c) ks
 unfoldable pub wantedTest : List ValueKind → Bool
 wantedTest ks = allOf truth-kind ks
 
--- "6 and 7 give a truth", and so do and, or, not; the others a whole number.
+-- "6 and 7 give a truth", and so do and, or, not; the others a whole number. None looks at the kinds that it gets; an operator on
+-- numbers of more kinds than one, as floats, would.
 unfoldable pub given : ℕ → List ValueKind → ValueKind
 given c ks = pick (leb 6 c && leb c 10) truth-kind whole-kind
 
@@ -129,3 +136,63 @@ module _ (c : ℕ) (ks : List ValueKind) where
       (coded 10 _ _ (not-gives a)
       (coded 11 _ _ (negate-gives a)
       refl))))))))))
+
+-- ---- an operator that gets the kinds it wants gives no err from a wrong kind
+
+abbrev All-suit : ValueKind → List Value → Type 0
+All-suit k [] = Unit {0}
+All-suit k (v ∷ vs) = (suits k v ≡ true) × All-suit k vs
+
+module _ (c : ℕ) where
+  whole-wanted : (z : ℤ) → suits (wants c) (Whole z) ≡ true → isWanted c (Whole z) ≡ true
+  whole-wanted z = go (leb 8 c && leb c 10)
+    where
+      go : (t : Bool) → suits (pick t truth-kind whole-kind) (Whole z) ≡ true → pick t false true ≡ true
+      go true h = h
+      go false h = h
+
+  truth-wanted : (x : Bool) → suits (wants c) (Truth x) ≡ true → isWanted c (Truth x) ≡ true
+  truth-wanted x = go (leb 8 c && leb c 10)
+    where
+      go : (t : Bool) → suits (pick t truth-kind whole-kind) (Truth x) ≡ true → pick t true false ≡ true
+      go true h = h
+      go false h = h
+
+  -- Behind the leftmost err no operand of a wrong kind is left.
+  none-wrong : (vs : List Value) (o : Option Reason) → All-suit (wants c) vs
+      → leftmost vs (pick (not (allWanted c vs)) (some Other) o) ≡ leftmost vs o
+  none-wrong [] o h = refl
+  none-wrong (Err r ∷ vs) o h = refl
+  none-wrong (Whole z ∷ vs) o h =
+      ap (λ (t : Bool). leftmost vs (pick (not (t && allWanted c vs)) (some Other) o)) (whole-wanted z (h .0)) ∙ none-wrong vs o (h .1)
+  none-wrong (Truth x ∷ vs) o h =
+      ap (λ (t : Bool). leftmost vs (pick (not (t && allWanted c vs)) (some Other) o)) (truth-wanted x (h .0)) ∙ none-wrong vs o (h .1)
+
+  -- The reason of such an operator's answer (Reasons: answer-reason) is what it is without the sentence on wrong kinds.
+  pub kinds-wanted : leb 1 c && leb c 11 ≡ true → (a b : Value) → suits (wants c) a ≡ true → suits (wants c) b ≡ true
+      → reasonOf c a b ≡ pick (decided c a b) none (leftmost (taken c a b) (ofNumbers c (numberIn a) (numberIn b)))
+  unfolding reasonOf
+  kinds-wanted code a b h i =
+      ap (λ (t : Bool). pick (not t) (some Other) (pick (decided c a b) none (leftmost (taken c a b) (pick (not (allWanted c (taken c a b))) (some Other) numbers)))) code
+      ∙ ap (λ (o : Option Reason). pick (decided c a b) none o) (none-wrong (taken c a b) numbers (both (eqb (operands c) 1)))
+    where
+      numbers : Option Reason
+      numbers = ofNumbers c (numberIn a) (numberIn b)
+
+      both : (one : Bool) → All-suit (wants c) (pick one (a ∷ []) (a ∷ b ∷ []))
+      both true = (h, tt)
+      both false = (h, (i, tt))
+
+-- ---- a test that gets a truth or an err
+
+abbrev Is-neither : Sense → Type 0
+Is-neither True = ⊥
+Is-neither False = ⊥
+Is-neither Neither = Unit {0}
+
+-- "a test that is neither truth nor err": where the test is of its kind, neither true nor false is an err.
+pub test-wanted : (v : Value) → suits truth-kind v ≡ true → sense v ≡ Neither → isErr v ≡ true
+test-wanted (Whole z) h e = absurd (false≢true h)
+test-wanted (Truth true) h e = absurd (subst Is-neither (sym e) tt)
+test-wanted (Truth false) h e = absurd (subst Is-neither (sym e) tt)
+test-wanted (Err r) h e = refl
