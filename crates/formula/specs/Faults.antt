@@ -1,10 +1,11 @@
 -- Document 02, Job 6: the rows that break the kinds, "lowest row given", and the kinds line. The kinds of a row's identifiers come
--- from the rows above it and those of a let's row c from below, so the rows are gone through as the tree of the formula has them;
--- each is met once, since each is named once. The rule is a parameter. Assumes nothing.
-use Prim.Native.Nat.{ℕ, zero, suc, _+_}
+-- from the rows that name it, and those of a let's row c from the rows below that, so the rows are gone through as the tree of the
+-- formula has them; each is met once, since each is named once. The rule is a parameter, as a later request holds rows to another
+-- rule. Assumes nothing.
+use Prim.Native.Nat.{ℕ, zero, suc}
 use mathlib.Core.Bool.{Bool, true, false, cond, _&&_, _||_}
 use mathlib.Core.List.{List, [], _∷_, _++_}
-use lib.ListN.{length, getD}
+use lib.ListN.{getD}
 use lib.Dec.{eqb, leb}
 use Rattle.value.specs.declared.ValueKind.{ValueKind}
 use Rattle.value.specs.declared.ValueKind.the-variants.{Whole as whole-kind, Truth as truth-kind}

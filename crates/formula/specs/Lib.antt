@@ -17,4 +17,5 @@ pub mod PlaceLaws
 pub mod CountLaws
 pub mod Acceptance
 pub mod Kinds
+pub mod KindWidths
 pub mod Faults

@@ -234,16 +234,16 @@ module _ (k : ValueKind) (l : List ℕ) (n : ℕ) where
       let z : n - i ≡ 0 = omega arith in
       ap (λ (m : ℕ). allOf k (stretch (kindsIn l) i m)) z
 
+pub never : (x : Bool) → x && false ≡ false
+never true = refl
+never false = refl
+
 pub differ : (f g : Kinds) (i j n m : ℕ) → (n ≡ m → ⊥) → sameKinds (stretch f i n) (stretch g j m) ≡ false
 differ f g i j zero zero h = absurd (h refl)
 differ f g i j zero (suc m) h = refl
 differ f g i j (suc n) zero h = refl
 differ f g i j (suc n) (suc m) h =
     ap (λ (x : Bool). sameKind (f i) (g j) && x) (differ f g (suc i) (suc j) n m (λ e. h (ap suc e))) ∙ never (sameKind (f i) (g j))
-  where
-    never : (x : Bool) → x && false ≡ false
-    never true = refl
-    never false = refl
 
 module _ (f g : Kinds) where
   pub agree-second : (n m : ℕ) → m ≡ 0 → agreeKinds (stretch f 0 n) (stretch g 0 m) ≡ true

@@ -16,13 +16,9 @@ use Rattle.formula.specs.Tree.{Exp}
 use Rattle.formula.specs.TreeLaws.{and-true}
 use Rattle.formula.specs.Free.{freeE, inputsOf}
 use Rattle.formula.specs.Faults.{isLetter, kindOfLetter, lineWell, inputKinds}
-use Rattle.sheet_kinds.specs.Bytes.{kindOfByte, kindsIn}
+use Rattle.sheet_kinds.specs.Bytes.{never, kindOfByte, kindsIn}
 
 -- ---- letter by letter
-
-never : (x : Bool) → x && false ≡ false
-never true = refl
-never false = refl
 
 -- "another length"
 pub other-length : (inputs : ℕ) (line : List ℕ) → (length line ≡ suc inputs → ⊥) → lineWell inputs line ≡ false

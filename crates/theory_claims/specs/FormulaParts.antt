@@ -14,10 +14,10 @@ use Rattle.formula.specs.Tree.{Body, ret, iter, letB, ifB}
 use Rattle.formula.specs.Widths.{returned, iterated}
 use Rattle.formula.specs.Count.{returns}
 use Rattle.formula.specs.Kinds.{Kinds, bindKinds, kindsE, returnedKinds, iteratedKinds}
+use Rattle.formula.specs.KindWidths.{either-length, kinds-length, returned-length}
 use Rattle.graph.specs.Assembly.{memberOf, upFrom}
 use Rattle.graph.specs.Translation.{testName}
 use Rattle.meaning.specs.WidthLaws.{Suits}
-use Rattle.theory_kinds.specs.KindLaws.{kinds-length, returned-length, either-length}
 use Rattle.theory_reference.specs.NameSets.{either}
 use Rattle.theory_yields.specs.Naming.{within-upFrom, above-upFrom, member-upFrom}
 use Rattle.theory_yields.specs.BodyWidths.{iteratedOutputs, returnedOutputs, iterated-outputs}

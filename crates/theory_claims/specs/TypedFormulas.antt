@@ -21,12 +21,13 @@ use Rattle.formula.specs.Free.{freeE, freeB}
 use Rattle.formula.specs.Count.{returns}
 use Rattle.formula.specs.Admitted.{AdmittedE, AdmittedB}
 use Rattle.formula.specs.Kinds.{Kinds, bindKinds, kindOfConstant, kindsE, returnedKinds, iteratedKinds}
+use Rattle.formula.specs.KindWidths.{kinds-length, returned-length}
 use Rattle.graph.specs.Assembly.{gateOutputs, free, memberOf, upFrom}
 use Rattle.graph.specs.Fit.{gateInputs}
 use Rattle.graph.specs.Translation.{testName, returnedName, mergeRow, armNames, joined, graphE, graphB}
 use Rattle.meaning.specs.WidthLaws.{operator-fits, let-fits, if-fits, for-fits, let-fits-B, if-fits-B}
 use Rattle.theory_kinds.specs.Kinded.{AllE, AllB}
-use Rattle.theory_kinds.specs.KindLaws.{kinds-length, returned-length, constant-suited}
+use Rattle.theory_kinds.specs.KindLaws.{constant-suited}
 use Rattle.theory_kinds.specs.KindsHold.{operator-rule, if-rule, for-rule, if-rule-B}
 use Rattle.theory_yields.specs.Naming.{within-upFrom}
 use Rattle.theory_yields.specs.BodyWidths.{wide-enough, not-too-wide, returns-some}

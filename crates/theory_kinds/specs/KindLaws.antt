@@ -1,13 +1,11 @@
--- Values of given kinds, place by place, and laws of the kinds of a tree: there are as many as its width says, and what they give where
--- values are joined, bound or looked at. Assumes nothing of the tree.
+-- Values of given kinds, place by place, and what kinds give where values are joined, bound or looked at. Assumes nothing.
 use Prim.Native.Nat.{ℕ, zero, suc, _-_, _≤_}
-use mathlib.Core.Path.{_≡_, refl, sym, subst, _∙_}
+use mathlib.Core.Path.{_≡_, refl, sym, subst}
 use mathlib.Core.Bool.{Bool, true, false, cond, false≢true}
 use mathlib.Core.List.{List, [], _∷_, _++_}
 use lib.IntN.{pos}
 use lib.Dec.{eqb}
-use lib.ListN.{length, getD, replicate, length-append}
-use borrow.Author.Tests.{ne-eqb}
+use lib.ListN.{length, getD, replicate}
 use native.Mathlib.Omega.{arith}
 use Rattle.value.specs.declared.Value.{Value}
 use Rattle.value.specs.declared.Value.the-variants.{Whole, Truth}
@@ -16,37 +14,10 @@ use Rattle.value.specs.declared.ValueKind.the-variants.{Whole as whole-kind, Tr
 use Rattle.value.specs.Senses.{err}
 use Rattle.value.specs.Kinds.{sameKind, suits, allOf}
 use Rattle.names.specs.Names.{range}
-use Rattle.formula.specs.Tree.{Exp, identifier, constant, pair, operator, letE, ifE, forE, Body, ret, iter, letB, ifB}
 use Rattle.formula.specs.TreeLaws.{and-true}
-use Rattle.formula.specs.Widths.{width, returned, either}
 use Rattle.formula.specs.Constants.{constantValue}
-use Rattle.formula.specs.Kinds.{Kinds, bindKinds, kindOfConstant, eitherKinds, sameKinds, agreeKinds, kindsE, returnedKinds}
+use Rattle.formula.specs.Kinds.{Kinds, bindKinds, kindOfConstant, eitherKinds, sameKinds, agreeKinds}
 use Rattle.meaning.specs.Meaning.{Env, bind}
-
--- ---- as many kinds as values
-
-pub either-length : (ks ls : List ValueKind) → length (eitherKinds ks ls) ≡ either (length ks) (length ls)
-either-length [] ls = refl
-either-length (k ∷ ks) ls = simp (ne-eqb (suc (length ks)) 0 (λ e. omega arith))
-
-mutual
-  unfolding kindsE width
-
-  pub kinds-length : (x : Exp) (kinds : Kinds) → length (kindsE x kinds) ≡ width x
-  kinds-length (identifier a) kinds = refl
-  kinds-length (constant k a) kinds = refl
-  kinds-length (pair x y) kinds = length-append (kindsE x kinds) (kindsE y kinds) ∙ rw (kinds-length x kinds, kinds-length y kinds) refl
-  kinds-length (operator k x) kinds = refl
-  kinds-length (letE a b x y) kinds = kinds-length y (bindKinds a b (kindsE x kinds) kinds)
-  kinds-length (ifE t x y) kinds = kinds-length x kinds
-  kinds-length (forE a b x y) kinds = returned-length y (bindKinds a b (kindsE x kinds) kinds)
-
-  pub returned-length : (y : Body) (kinds : Kinds) → length (returnedKinds y kinds) ≡ returned y
-  returned-length (ret x) kinds = kinds-length x kinds
-  returned-length (iter x) kinds = refl
-  returned-length (letB a b x y) kinds = returned-length y (bindKinds a b (kindsE x kinds) kinds)
-  returned-length (ifB t x y) kinds =
-      either-length (returnedKinds x kinds) (returnedKinds y kinds) ∙ rw (returned-length x kinds, returned-length y kinds) refl
 
 -- ---- kinds that agree
 

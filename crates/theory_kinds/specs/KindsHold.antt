@@ -21,11 +21,12 @@ use Rattle.formula.specs.Tree.{Exp, identifier, constant, pair, operator, letE,
 use Rattle.formula.specs.TreeLaws.{and-true}
 use Rattle.formula.specs.Widths.{width, returned}
 use Rattle.formula.specs.Kinds.{Kinds, bindKinds, eitherKinds, sameKinds, agreeKinds, kindsE, returnedKinds, iteratedKinds, kindedE, kindedB}
+use Rattle.formula.specs.KindWidths.{kinds-length, returned-length}
 use Rattle.meaning.specs.Meaning.{Env, bind, Outcome, yields, Ending, again, returns, then, thenB, after, enter, loop, branch, evalE, evalB}
 use Rattle.meaning.specs.WidthLaws.{SoundE, SoundB, positive}
 use Rattle.theory_kinds.specs.Strict.{operandsWanted, testWanted, guard, thenS, thenBS, afterS, enterS, loopS, strictE, strictB}
 use Rattle.theory_kinds.specs.Kinded.{AllE, AllB}
-use Rattle.theory_kinds.specs.KindLaws.{kinds-length, returned-length, same-kinds, Suited-list, suited-append, errs-suited, all-suited, constant-suited, Env-suits, bound-suits, Some-suited, first-arm, second-arm}
+use Rattle.theory_kinds.specs.KindLaws.{same-kinds, Suited-list, suited-append, errs-suited, all-suited, constant-suited, Env-suits, bound-suits, Some-suited, first-arm, second-arm}
 
 -- ---- what the rule says of a node
 
