@@ -40,7 +40,7 @@ use Rattle.sheet_kinds.proofs.checks.lower.Reads as lower-reads
 use Rattle.sheet_kinds.proofs.checks.own.Reads as own-reads
 use Rattle.sheet_kinds.proofs.walk.+arms+body_kinds+codes+exp_kinds+fors+ifs.{statement}
 use Rattle.sheet_kinds.proofs.walk.+arms+body_kinds+codes+exp_kinds+fors+ifs.Tie.{close}
-use Prim.Native.Nat.{ℕ, _+_, _*_}
+use Prim.Native.Nat.{ℕ, _+_, _*_, _<_}
 use mathlib.Core.Path.{_≡_, refl, sym, ap, _∙_, subst}
 use mathlib.Core.Bool.{Bool, true, _&&_}
 use mathlib.Core.List.{[], _∷_}
