@@ -1,30 +1,31 @@
 -- Document 01, "Said by what was handed in": a sheet is accepted if and only if each of the ten tests passes, spelled out
 -- over the whole sheet and over its rows.
-use Prim.Native.Nat.{ℕ, zero, suc, _+_, _-_, _≤_, _<_}
+use Prim.Native.Nat.{ℕ, _-_, _≤_}
 use mathlib.Core.Path.{_≡_, refl, sym, ap, _∙_}
-use mathlib.Core.Bool.{Bool, true, false, cond}
+use mathlib.Core.Bool.{Bool, true, false}
 use mathlib.Core.Logic.{_↔_}
-use mathlib.Core.List.{List}
+use mathlib.Core.List.{List, [], _∷_}
 use native.Mathlib.Omega.{arith}
 use lib.Dec.{leb}
 use borrow.Author.Tests.{leb-true, le-leb}
 use Rattle.names.specs.Names.{without, one, trigger}
 use Rattle.names.proofs.Sets.{length-members, size-le}
-use Rattle.formula.specs.declared.Check.{Check}
-use Rattle.formula.specs.declared.Check.the-variants.{Passed, Fault}
+use Rattle.formula.specs.declared.Check.the-variants.{Fault}
 use Rattle.formula.specs.declared.Refusal.{Refusal}
-use Rattle.formula.specs.declared.Refusal.the-variants.{Layout, Rows, Malformed, Range, Naming, Named, StrayIter, Width, Unused, Operators}
+use Rattle.formula.specs.declared.Refusal.the-variants.{Layout, Rows}
 use Rattle.formula.specs.declared.Verdict.{Verdict}
 use Rattle.formula.specs.declared.Verdict.the-variants.{Passed as passed, Refused}
 use Rattle.formula.specs.declared.Figures.{Figures}
 use Rattle.formula.specs.declared.Reading.the-variants.{Accepted, Rejected}
+use Rattle.formula.specs.Refusals.{numberOf}
 use Rattle.formula.specs.Sheet.{rowCount, linesOf, fieldsOf, namedIn, shapeAt}
 use Rattle.formula.specs.Tree.{expOf, formulaOf}
 use Rattle.formula.specs.Places.{placesOf, inBody, nodeIn}
 use Rattle.formula.specs.Widths.{width, wideE, fittingE}
 use Rattle.formula.specs.Free.{freeE, inputsOf}
-use Rattle.formula.specs.Tests.{allBetween, lowestFrom, lowest, whole, laidOut, fewRows, fieldsWell, rangesWell, namesWell, namedOnce, allNamed, placedWell, wideNode, widthsWell, boundWell, operatorsOf, afterCheck, verdictBy, verdictOf, tests, rowTests, formulaTests, graphTests, sheetOf, figuresOf, answerBy, readingOf}
-use Rattle.formula.specs.TestLaws.{passed-each, each-passed}
+use Rattle.formula.specs.Tests.{Test, allBetween, lowest, whole, laidOut, fewRows, fieldsWell, rangesWell, namesWell, namedOnce, allNamed, placedWell, wideNode, widthsWell, boundWell, operatorsOf, afterCheck, verdictBy, verdictOf, tests, rowTests, formulaTests, graphTests, sheetOf, figuresOf, answerBy, readingOf}
+use Rattle.formula.specs.TestLaws.{passed-each, each-passed, lowest-fault, whole-true, whole-zero}
+use Rattle.formula.specs.Verdicts.{Each, _also_, Passes, FaultSays, all-pass, refusal-says}
 use Rattle.formula.specs.TreeLaws.{Named as Naming-well, all-between, and-true}
 use Rattle.formula.specs.PlaceLaws.{last-place}
 
@@ -46,19 +47,6 @@ pub record Admissible (s : List ℕ) : Type 0 where
   -- 10
   pub operators : operatorsOf (fieldsOf s) (rowCount s) ≤ 1024
 
-after-passed : (r : Refusal) (c : Check) (later : Verdict) → afterCheck r c later ≡ passed → (c ≡ Passed) × (later ≡ passed)
-unfolding afterCheck
-after-passed r Passed later h = (refl, h)
-after-passed r (Fault row) later h = absurd (let z : _≡_ {A = ℕ} 0 1 = cc h in omega arith)
-
-passed-after : (r : Refusal) (c : Check) (later : Verdict) → c ≡ Passed → later ≡ passed → afterCheck r c later ≡ passed
-unfolding afterCheck
-passed-after r c later e f = ap (λ (x : Check). afterCheck r x later) e ∙ f
-
-whole-true : (b : Bool) → whole b ≡ Passed → b ≡ true
-whole-true true h = refl
-whole-true false h = absurd (let z : _≡_ {A = ℕ} 0 1 = cc h in omega arith)
-
 module _ (s : List ℕ) where
   abbrev t : List ℕ
   t = fieldsOf s
@@ -69,75 +57,41 @@ module _ (s : List ℕ) where
   abbrev p : List Bool
   p = placesOf t n
 
-  abbrev v10 : Verdict
-  v10 = afterCheck Operators (whole (leb (operatorsOf t n) 1024)) passed
-
-  abbrev v9 : Verdict
-  v9 = afterCheck Unused (lowest n (boundWell t p)) v10
-
-  abbrev v8 : Verdict
-  v8 = afterCheck Width (lowest n (widthsWell t p)) v9
-
-  abbrev v7 : Verdict
-  v7 = afterCheck StrayIter (lowest n (placedWell t p)) v8
-
-  abbrev v6 : Verdict
-  v6 = afterCheck Named (lowest (n - 1) (λ r. namedOnce (allNamed t n) r)) v7
-
-  abbrev v5 : Verdict
-  v5 = afterCheck Naming (lowest n (namesWell t)) v6
-
-  abbrev v4 : Verdict
-  v4 = afterCheck Range (lowest n (rangesWell t)) v5
-
-  abbrev v3 : Verdict
-  v3 = afterCheck Malformed (lowest n (fieldsWell (linesOf s))) v4
-
-  abbrev v2 : Verdict
-  v2 = afterCheck Rows (whole (fewRows s)) v3
-
-  verdict-is : verdictOf s ≡ afterCheck Layout (whole (laidOut s (linesOf s))) v2
-  unfolding verdictOf verdictBy tests rowTests formulaTests graphTests sheetOf
-  verdict-is = refl
-
-  pub passed-admissible : verdictOf s ≡ passed → Admissible s
-  passed-admissible h =
-      let a = after-passed Layout (whole (laidOut s (linesOf s))) v2 (sym verdict-is ∙ h) in
-      let b = after-passed Rows (whole (fewRows s)) v3 (a .1) in
-      let c = after-passed Malformed (lowest n (fieldsWell (linesOf s))) v4 (b .1) in
-      let d = after-passed Range (lowest n (rangesWell t)) v5 (c .1) in
-      let e = after-passed Naming (lowest n (namesWell t)) v6 (d .1) in
-      let f = after-passed Named (lowest (n - 1) (λ r. namedOnce (allNamed t n) r)) v7 (e .1) in
-      let g = after-passed StrayIter (lowest n (placedWell t p)) v8 (f .1) in
-      let i = after-passed Width (lowest n (widthsWell t p)) v9 (g .1) in
-      let j = after-passed Unused (lowest n (boundWell t p)) v10 (i .1) in
-      let k = after-passed Operators (whole (leb (operatorsOf t n) 1024)) passed (j .1) in
+  each-admissible : Each (Passes (sheetOf s)) tests → Admissible s
+  unfolding tests rowTests formulaTests graphTests sheetOf
+  each-admissible (first, (second, (third, (fourth, (fifth, (sixth, (seventh, (eighth, (ninth, (tenth, end)))))))))) =
       record {
-        laid = whole-true (laidOut s (linesOf s)) (a .0);
-        few = leb-true n 200 (whole-true (fewRows s) (b .0));
-        formed = passed-each n (fieldsWell (linesOf s)) (c .0);
-        ranged = passed-each n (rangesWell t) (d .0);
-        names = passed-each n (namesWell t) (e .0);
-        named = passed-each (n - 1) (λ r. namedOnce (allNamed t n) r) (f .0);
-        placed = passed-each n (placedWell t p) (g .0);
-        wide = passed-each n (widthsWell t p) (i .0);
-        bound = passed-each n (boundWell t p) (j .0);
-        operators = leb-true (operatorsOf t n) 1024 (whole-true (leb (operatorsOf t n) 1024) (k .0));
+        laid = whole-true (laidOut s (linesOf s)) first;
+        few = leb-true n 200 (whole-true (fewRows s) second);
+        formed = passed-each n (fieldsWell (linesOf s)) third;
+        ranged = passed-each n (rangesWell t) fourth;
+        names = passed-each n (namesWell t) fifth;
+        named = passed-each (n - 1) (λ r. namedOnce (allNamed t n) r) sixth;
+        placed = passed-each n (placedWell t p) seventh;
+        wide = passed-each n (widthsWell t p) eighth;
+        bound = passed-each n (boundWell t p) ninth;
+        operators = leb-true (operatorsOf t n) 1024 (whole-true (leb (operatorsOf t n) 1024) tenth);
       }
 
+  pub passed-admissible : verdictOf s ≡ passed → Admissible s
+  unfolding verdictOf
+  passed-admissible h = each-admissible (all-pass (sheetOf s) tests .0 h)
+
   pub admissible-passed : Admissible s → verdictOf s ≡ passed
+  unfolding verdictOf tests rowTests formulaTests graphTests sheetOf
   admissible-passed h =
-      verdict-is
-      ∙ passed-after Layout (whole (laidOut s (linesOf s))) v2 (ap whole (h .laid))
-      (passed-after Rows (whole (fewRows s)) v3 (ap whole (le-leb n 200 (h .few)))
-      (passed-after Malformed (lowest n (fieldsWell (linesOf s))) v4 (each-passed n (fieldsWell (linesOf s)) (h .formed))
-      (passed-after Range (lowest n (rangesWell t)) v5 (each-passed n (rangesWell t) (h .ranged))
-      (passed-after Naming (lowest n (namesWell t)) v6 (each-passed n (namesWell t) (h .names))
-      (passed-after Named (lowest (n - 1) (λ r. namedOnce (allNamed t n) r)) v7 (each-passed (n - 1) (λ r. namedOnce (allNamed t n) r) (h .named))
-      (passed-after StrayIter (lowest n (placedWell t p)) v8 (each-passed n (placedWell t p) (h .placed))
-      (passed-after Width (lowest n (widthsWell t p)) v9 (each-passed n (widthsWell t p) (h .wide))
-      (passed-after Unused (lowest n (boundWell t p)) v10 (each-passed n (boundWell t p) (h .bound))
-      (passed-after Operators (whole (leb (operatorsOf t n) 1024)) passed (ap whole (le-leb (operatorsOf t n) 1024 (h .operators))) refl)))))))))
+      all-pass (sheetOf s) tests .1
+      (ap whole (h .laid)
+      also ap whole (le-leb n 200 (h .few))
+      also each-passed n (fieldsWell (linesOf s)) (h .formed)
+      also each-passed n (rangesWell t) (h .ranged)
+      also each-passed n (namesWell t) (h .names)
+      also each-passed (n - 1) (λ r. namedOnce (allNamed t n) r) (h .named)
+      also each-passed n (placedWell t p) (h .placed)
+      also each-passed n (widthsWell t p) (h .wide)
+      also each-passed n (boundWell t p) (h .bound)
+      also ap whole (le-leb (operatorsOf t n) 1024 (h .operators))
+      also tt)
 
   by-verdict : (v : Verdict) (f g : Figures) → answerBy v f ≡ Accepted g → v ≡ passed
   unfolding answerBy
@@ -180,61 +134,54 @@ module _ (s : List ℕ) where
   unfolding readingOf
   accepted-iff = (λ h. passed-admissible (by-verdict (verdictOf s) (figuresOf s) (figuresOf s) h), λ h. reading-passed (admissible-passed h))
 
+-- Document 01's numbers, in its order.
+abbrev numbersOf : List Test → List ℕ
+numbersOf [] = []
+numbersOf (x ∷ xs) = numberOf (x .refusal) ∷ numbersOf xs
+
+pub test-numbers : numbersOf tests ≡ 1 ∷ 2 ∷ 3 ∷ 4 ∷ 5 ∷ 6 ∷ 7 ∷ 8 ∷ 9 ∷ 10 ∷ []
+unfolding tests rowTests formulaTests graphTests
+test-numbers = refl
+
 -- ---- the numbers of an answer are small
 
-lowest-row : (k r : ℕ) (well : ℕ → Bool) (row : ℕ) → lowestFrom r k well ≡ Fault row → row < r + k
-unfolding lowestFrom
-lowest-row zero r well row h = absurd (let z : _≡_ {A = ℕ} 0 1 = cc h in omega arith)
-lowest-row (suc k) r well row h = go (well r) h (λ (e : lowestFrom (suc r) k well ≡ Fault row). lowest-row k (suc r) well row e)
-  where
-    go : (b : Bool) → cond b (lowestFrom (suc r) k well) (Fault r) ≡ Fault row → (lowestFrom (suc r) k well ≡ Fault row → row < suc r + k) → row < r + suc k
-    go true e ih = let i = ih e in omega arith
-    go false e ih = let i : r ≡ row = cc e in omega arith
-
--- A fault within 200 rows.
-abbrev Near : Check → Type 0
-Near c = (row : ℕ) → c ≡ Fault row → row ≤ 200
-
+-- A refusal within 200 rows.
 abbrev Low : Verdict → Type 0
 Low v = (k : Refusal) (row : ℕ) → v ≡ Refused k row → row ≤ 200
 
-near-rows : (m : ℕ) (well : ℕ → Bool) → m ≤ 200 → Near (lowest m well)
-near-rows m well h row e = let i = lowest-row m 1 well row e in omega arith
+-- A refusal's row is 0 or one of the sheet's.
+in-sheet : (s : List ℕ) → Each (FaultSays (λ r row. row ≤ rowCount s) (sheetOf s)) tests
+unfolding tests rowTests formulaTests graphTests sheetOf
+in-sheet s =
+    none (laidOut s (linesOf s)) also none (fewRows s) also rows _ also rows _ also rows _
+    also but-last _ also rows _ also rows _ also rows _
+    also none (leb (operatorsOf (fieldsOf s) (rowCount s)) 1024) also tt
+  where
+    none : (b : Bool) (row : ℕ) → whole b ≡ Fault row → row ≤ rowCount s
+    none b row e = omega (arith, whole-zero b row e)
 
-near-whole : (b : Bool) → Near (whole b)
-near-whole true row e = absurd (let z : _≡_ {A = ℕ} 0 1 = cc e in omega arith)
-near-whole false row e = let i : 0 ≡ row = cc e in omega arith
+    rows : (well : ℕ → Bool) (row : ℕ) → lowest (rowCount s) well ≡ Fault row → row ≤ rowCount s
+    rows well row e = lowest-fault (rowCount s) well row e .1
 
-low-after : (r : Refusal) (c : Check) (later : Verdict) → Near c → Low later → Low (afterCheck r c later)
-unfolding afterCheck
-low-after r Passed later a b k row e = b k row e
-low-after r (Fault x) later a b k row e = let i : x ≡ row = cc e in let j = a x refl in omega arith
+    but-last : (well : ℕ → Bool) (row : ℕ) → lowest (rowCount s - 1) well ≡ Fault row → row ≤ rowCount s
+    but-last well row e = omega (arith, lowest-fault (rowCount s - 1) well row e .1)
 
-low-passed : Low passed
-low-passed k row e = absurd (let z : _≡_ {A = ℕ} 0 1 = cc e in omega arith)
+pub layout-refused : (s : List ℕ) → laidOut s (linesOf s) ≡ false → verdictOf s ≡ Refused Layout 0
+unfolding verdictOf verdictBy afterCheck tests rowTests sheetOf
+layout-refused s e = rw e refl
 
-over : (later : Verdict) → afterCheck Rows (Fault 0) later ≡ afterCheck Rows (Fault 0) passed
-unfolding afterCheck
-over later = refl
+pub rows-refused : (s : List ℕ) → laidOut s (linesOf s) ≡ true → fewRows s ≡ false → verdictOf s ≡ Refused Rows 0
+unfolding verdictOf verdictBy afterCheck tests rowTests sheetOf
+rows-refused s e f = rw (e, f) refl
 
 pub low-row : (s : List ℕ) → Low (verdictOf s)
-low-row s k row e =
-    low-after Layout (whole (laidOut s (linesOf s))) (v2 s) (near-whole (laidOut s (linesOf s))) (second (fewRows s) refl) k row (sym (verdict-is s) ∙ e)
+unfolding verdictOf
+low-row s k row e = go (laidOut s (linesOf s)) (fewRows s) refl refl
   where
-    rest : n s ≤ 200 → Low (v3 s)
-    rest h =
-        low-after Malformed (lowest (n s) (fieldsWell (linesOf s))) (v4 s) (near-rows (n s) (fieldsWell (linesOf s)) h)
-        (low-after Range (lowest (n s) (rangesWell (t s))) (v5 s) (near-rows (n s) (rangesWell (t s)) h)
-        (low-after Naming (lowest (n s) (namesWell (t s))) (v6 s) (near-rows (n s) (namesWell (t s)) h)
-        (low-after Named (lowest (n s - 1) (λ r. namedOnce (allNamed (t s) (n s)) r)) (v7 s) (near-rows (n s - 1) (λ r. namedOnce (allNamed (t s) (n s)) r) (omega arith))
-        (low-after StrayIter (lowest (n s) (placedWell (t s) (p s))) (v8 s) (near-rows (n s) (placedWell (t s) (p s)) h)
-        (low-after Width (lowest (n s) (widthsWell (t s) (p s))) (v9 s) (near-rows (n s) (widthsWell (t s) (p s)) h)
-        (low-after Unused (lowest (n s) (boundWell (t s) (p s))) (v10 s) (near-rows (n s) (boundWell (t s) (p s)) h)
-        (low-after Operators (whole (leb (operatorsOf (t s) (n s)) 1024)) passed (near-whole (leb (operatorsOf (t s) (n s)) 1024)) low-passed)))))))
-
-    second : (b : Bool) → fewRows s ≡ b → Low (v2 s)
-    second true h = low-after Rows (whole (fewRows s)) (v3 s) (near-whole (fewRows s)) (rest (leb-true (n s) 200 h))
-    second false h = λ k row e. low-after Rows (Fault 0) passed (near-whole false) low-passed k row (sym (over (v3 s)) ∙ sym (ap (λ (x : Bool). afterCheck Rows (whole x) (v3 s)) h) ∙ e)
+    go : (a b : Bool) → laidOut s (linesOf s) ≡ a → fewRows s ≡ b → row ≤ 200
+    go a true p q = let i = refusal-says (sheetOf s) (λ r x. x ≤ rowCount s) tests (in-sheet s) k row e in omega (arith, i, leb-true (rowCount s) 200 q)
+    go false false p q = let i : 0 ≡ row = cc (sym (layout-refused s p) ∙ e) in omega arith
+    go true false p q = let i : 0 ≡ row = cc (sym (rows-refused s p q) ∙ e) in omega arith
 
 wide-last : (s : List ℕ) → 1 ≤ rowCount s → Admissible s → width (formulaOf s) ≤ 16
 unfolding formulaOf widthsWell wideNode nodeIn wideE namesWell

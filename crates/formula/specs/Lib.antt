@@ -9,9 +9,13 @@ pub mod Count
 pub mod Places
 pub mod Tests
 pub mod TestLaws
+pub mod Verdicts
 pub mod SheetLaws
 pub mod TreeLaws
 pub mod Admitted
 pub mod PlaceLaws
 pub mod CountLaws
 pub mod Acceptance
+pub mod Kinds
+pub mod KindWidths
+pub mod Faults

@@ -8,7 +8,7 @@ use native.Mathlib.Numerals.{add-one}
 use native.Mathlib.Nat.{not-suc-le-zero}
 use native.Mathlib.Decide.{ℕ-discrete}
 use Rattle.formula.specs.declared.Check.the-variants.{Passed, Fault}
-use Rattle.formula.specs.Tests.{lowestFrom, lowest}
+use Rattle.formula.specs.Tests.{lowestFrom, lowest, whole}
 
 -- A pass that has seen i of n rows: a row that is well goes on, one that is not is the answer.
 module _ (n i : ℕ) (well : ℕ → Bool) where
@@ -64,3 +64,37 @@ same-from (suc k) r f g h =
 -- Two tests that say the same of each row have the same lowest row at fault.
 pub same-lowest : (n : ℕ) (f g : ℕ → Bool) → ((r : ℕ) → 1 ≤ r → r ≤ n → f r ≡ g r) → lowest n f ≡ lowest n g
 same-lowest n f g h = same-from n 1 f g λ j a b. h j a (omega arith)
+
+-- A fault is the lowest row that is not well.
+lowest-from : (k r : ℕ) (well : ℕ → Bool) (row : ℕ) → lowestFrom r k well ≡ Fault row
+    → (r ≤ row) × (row < r + k) × (well row ≡ false) × ((j : ℕ) → r ≤ j → j < row → well j ≡ true)
+unfolding lowestFrom
+lowest-from zero r well row h = absurd (let z : _≡_ {A = ℕ} 0 1 = cc h in omega arith)
+lowest-from (suc k) r well row h = go (well r) refl h (lowest-from k (suc r) well row)
+  where
+    go : (b : Bool) → well r ≡ b → cond b (lowestFrom (suc r) k well) (Fault r) ≡ Fault row
+        → (lowestFrom (suc r) k well ≡ Fault row → (suc r ≤ row) × (row < suc r + k) × (well row ≡ false) × ((j : ℕ) → suc r ≤ j → j < row → well j ≡ true))
+        → (r ≤ row) × (row < r + suc k) × (well row ≡ false) × ((j : ℕ) → r ≤ j → j < row → well j ≡ true)
+    go true e f ih =
+        let i = ih f in
+        (omega (arith, i .0), omega (arith, i .1), i .2, λ j a b. each j a b (ℕ-discrete j r) (i .3))
+      where
+        each : (j : ℕ) → r ≤ j → j < row → Dec (j ≡ r) → ((j : ℕ) → suc r ≤ j → j < row → well j ≡ true) → well j ≡ true
+        each j a b (yes p) later = ap well p ∙ e
+        each j a b (no q) later = later j (omega arith) b
+    go false e f ih =
+        let i : r ≡ row = cc f in
+        (omega arith, omega arith, ap well (sym i) ∙ e, λ j a b. absurd (omega arith))
+
+pub lowest-fault : (n : ℕ) (well : ℕ → Bool) (row : ℕ) → lowest n well ≡ Fault row
+    → (1 ≤ row) × (row ≤ n) × (well row ≡ false) × ((j : ℕ) → 1 ≤ j → j < row → well j ≡ true)
+lowest-fault n well row h = let i = lowest-from n 1 well row h in (i .0, omega (arith, i .1), i .2, i .3)
+
+-- The tests that are not about rows.
+pub whole-true : (b : Bool) → whole b ≡ Passed → b ≡ true
+whole-true true h = refl
+whole-true false h = absurd (let z : _≡_ {A = ℕ} 0 1 = cc h in omega arith)
+
+pub whole-zero : (b : Bool) (row : ℕ) → whole b ≡ Fault row → row ≡ 0
+whole-zero true row h = absurd (let z : _≡_ {A = ℕ} 0 1 = cc h in omega arith)
+whole-zero false row h = let i : 0 ≡ row = cc h in sym i

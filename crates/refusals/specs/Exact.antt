@@ -12,8 +12,7 @@ use lib.Dec.{leb, ltb, eqb}
 use lib.ListN.{length}
 use Rattle.value.specs.declared.Value.{Value}
 use Rattle.value.specs.Operators.{pick}
-use Rattle.formula.specs.declared.Refusal.{Refusal}
-use Rattle.formula.specs.declared.Refusal.the-variants.{Layout, Rows, Malformed, Range, Naming, Named, StrayIter, Width, Unused, Operators, Memory, Set, Capacity, Altered, Untaken, Full, NotAble, NoResult, Unfinished}
+use Rattle.formula.specs.declared.Refusal.the-variants.{Memory, Set, Capacity, Altered, Untaken, Full, NotAble, NoResult, Unfinished}
 use Rattle.formula.specs.declared.Check.{Check}
 use Rattle.formula.specs.declared.Check.the-variants.{Passed, Fault}
 use Rattle.formula.specs.declared.Verdict.{Verdict}
@@ -21,10 +20,9 @@ use Rattle.formula.specs.declared.Verdict.the-variants.{Passed as passed, Refus
 use Rattle.formula.specs.declared.Figures.{Figures}
 use Rattle.formula.specs.Refusals.{numberOf, number-positive}
 use Rattle.formula.specs.Sheet.{rowCount, linesOf, fieldsOf}
-use Rattle.formula.specs.Places.{placesOf}
 use Rattle.formula.specs.Tree.{Exp, formulaOf}
 use Rattle.formula.specs.Free.{freeE, inputsOf as inputsIn}
-use Rattle.formula.specs.Tests.{whole, lowest, laidOut, fewRows, fieldsWell, rangesWell, namesWell, namedOnce, allNamed, placedWell, widthsWell, boundWell, operatorsOf as operatorsIn, afterCheck, verdictBy, verdictOf, tests, rowTests, formulaTests, graphTests, sheetOf, figuresOf, answerBy, readingOf}
+use Rattle.formula.specs.Tests.{Sheet, Test, whole, laidOut, fewRows, operatorsOf as operatorsIn, afterCheck, verdictBy, verdictOf, tests, rowTests, formulaTests, graphTests, sheetOf, figuresOf, answerBy, readingOf}
 use Rattle.sheet_read.specs.Reading.{answerOf}
 use Rattle.meaning.specs.Meaning.{Outcome, yields, inputsHold, evalE}
 use Rattle.meaning.specs.declared.Evaluation.{Evaluation}
@@ -128,37 +126,33 @@ abbrev pub numberIn : Verdict → ℕ
 numberIn passed = 0
 numberIn (Refused r row) = numberOf r
 
-after-row : (r : Refusal) (c : Check) (later : Verdict) (cs : List Row) → numberIn later ≡ first-refusal cs
-    → numberIn (afterCheck r c later) ≡ first-refusal ((failed c, r) ∷ cs)
-unfolding afterCheck first-refusal
-after-row r Passed later cs h = h
-after-row r (Fault row) later cs h = refl
+-- The table of a list of tests: the number of their verdict is its first refusal.
+abbrev tableBy : List Test → Sheet → List Row
+tableBy [] x = []
+tableBy (t ∷ ts) x = (failed (t .check x), t .refusal) ∷ tableBy ts x
 
-after-whole : (r : Refusal) (b : Bool) (later : Verdict) (cs : List Row) → numberIn later ≡ first-refusal cs
-    → numberIn (afterCheck r (whole b) later) ≡ first-refusal ((not b, r) ∷ cs)
-unfolding afterCheck first-refusal
-after-whole r true later cs h = h
-after-whole r false later cs h = refl
+first-by : (ts : List Test) (x : Sheet) → numberIn (verdictBy ts x) ≡ first-refusal (tableBy ts x)
+unfolding verdictBy afterCheck first-refusal
+first-by [] x = refl
+first-by (t ∷ ts) x = go (t .check x) (first-by ts x)
+  where
+    go : (c : Check) → numberIn (verdictBy ts x) ≡ first-refusal (tableBy ts x)
+        → numberIn (afterCheck (t .refusal) c (verdictBy ts x)) ≡ cond (failed c) (numberOf (t .refusal)) (first-refusal (tableBy ts x))
+    go Passed ih = ih
+    go (Fault row) ih = refl
 
-none-left : numberIn passed ≡ first-refusal []
-unfolding first-refusal
-none-left = refl
+failed-whole : (b : Bool) → failed (whole b) ≡ not b
+failed-whole true = refl
+failed-whole false = refl
+
+table-is : (s : List ℕ) → tableBy tests (sheetOf s) ≡ sheetTable s
+unfolding tests rowTests formulaTests graphTests sheetOf
+table-is s = rw (failed-whole (laidOut s (linesOf s)), failed-whole (fewRows s), failed-whole (leb (operatorsIn (fieldsOf s) (rowCount s)) 1024)) refl
 
 -- 1 to 10
 pub sheet-exact : (s : List ℕ) → numberIn (verdictOf s) ≡ first-refusal (sheetTable s)
-unfolding verdictOf verdictBy tests rowTests formulaTests graphTests sheetOf
-sheet-exact s =
-    after-whole Layout (laidOut s (linesOf s)) _ _
-    (after-whole Rows (fewRows s) _ _
-    (after-row Malformed (lowest (rowCount s) (fieldsWell (linesOf s))) _ _
-    (after-row Range (lowest (rowCount s) (rangesWell (fieldsOf s))) _ _
-    (after-row Naming (lowest (rowCount s) (namesWell (fieldsOf s))) _ _
-    (after-row Named (lowest (rowCount s - 1) (λ r. namedOnce (allNamed (fieldsOf s) (rowCount s)) r)) _ _
-    (after-row StrayIter (lowest (rowCount s) (placedWell (fieldsOf s) (placesOf (fieldsOf s) (rowCount s)))) _ _
-    (after-row Width (lowest (rowCount s) (widthsWell (fieldsOf s) (placesOf (fieldsOf s) (rowCount s)))) _ _
-    (after-row Unused (lowest (rowCount s) (boundWell (fieldsOf s) (placesOf (fieldsOf s) (rowCount s)))) _ _
-    (after-whole Operators (leb (operatorsIn (fieldsOf s) (rowCount s)) 1024) _ _
-    none-left)))))))))
+unfolding verdictOf
+sheet-exact s = first-by tests (sheetOf s) ∙ ap first-refusal (table-is s)
 
 reads : (v : Verdict) (f : Figures) → answerOf (answerBy v f) .refusal ≡ numberIn v
 unfolding answerBy

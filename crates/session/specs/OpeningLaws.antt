@@ -1,15 +1,14 @@
 -- Laws of the opening: each way in which it ends, from what the code has found out. Assumes nothing.
-use Prim.Native.Nat.{ℕ, zero, suc, _+_, _*_, _/_, _%_, _≤_, _<_}
+use Prim.Native.Nat.{ℕ, _+_, _%_, _≤_, _<_}
 use mathlib.Core.Path.{_≡_, refl, sym, ap, subst, _∙_}
 use mathlib.Core.Logic.{_⊎_, inl, inr}
-use mathlib.Core.Bool.{Bool, true, false, not, _&&_}
+use mathlib.Core.Bool.{true, false, not, _&&_}
 use mathlib.Core.List.{List, [], _∷_, _++_, append-nil}
 use native.Mathlib.Omega.{arith}
 use borrow.Author.Tests.{lt-ltb, le-ltb, lt-leb, le-leb, eqb-true}
 use lib.Dec.{eqb, ltb}
 use lib.ListN.{length, take, drop, length-append}
 use lib.Seq.{sets, drop-length}
-use Rattle.value.specs.Operators.{pick}
 use Rattle.formula.specs.declared.Refusal.{Refusal}
 use Rattle.formula.specs.declared.Refusal.the-variants.{Layout, Rows, Set, SetFile}
 use Rattle.formula.specs.declared.Verdict.{Verdict}
@@ -17,28 +16,27 @@ use Rattle.formula.specs.declared.Verdict.the-variants.{Passed, Refused}
 use Rattle.formula.specs.Refusals.{numberOf}
 use Rattle.formula.specs.Sheet.{linesOf, rowCount}
 use Rattle.formula.specs.Tree.{formulaOf}
-use Rattle.formula.specs.Tests.{verdictOf, verdictBy, afterCheck, tests, rowTests, sheetOf, laidOut, fewRows, figuresOf, is-passed, lowest, endedAt}
-use Rattle.machine_layout.specs.Layout.{need, sizeOf, capacityIn}
+use Rattle.formula.specs.Tests.{verdictOf, laidOut, figuresOf, is-passed, lowest, endedAt}
+use Rattle.formula.specs.TreeLaws.{and-true}
+use Rattle.formula.specs.Acceptance.{layout-refused, rows-refused}
+use Rattle.machine_layout.specs.Layout.{need, sizeOf}
 use Rattle.graph.specs.Translation.{madeOf}
 use Rattle.machine_start.specs.declared.StartAnswer.{StartAnswer}
 use Rattle.machine_start.specs.Start.{Begun, begun, refusal, accepted, startedMemory, byVerdict, started}
 use Rattle.machine_start.specs.StartLaws.{AcceptedStart, accepted-start, started-read, capacity-in}
 use Rattle.demand_begin.specs.MadeSound.{made-sound, same-figures}
 use Rattle.text.specs.declared.Seen.{Seen}
-use Rattle.text.specs.declared.Lines.{Lines}
 use Rattle.text.specs.declared.Lines.the-variants.{Sets as counted, Bad as bad}
 use Rattle.text.specs.Printed.{headLine, refusalLine}
 use Rattle.text.specs.PrintLaws.{refusal-length, head-length, written-front}
-use Rattle.text.specs.Scan.{seenOf, seenLaidOut}
+use Rattle.text.specs.Scan.{seenLaidOut}
 use Rattle.text.specs.ScanLaws.{seen-laid-out, seen-many, seen-few}
 use Rattle.text.specs.SetLines.{SetFile as File, sets as setsIn, badLine, setsOf, setsFrom, countOf}
 use Rattle.text.specs.SetLines.{linesOf as fileLines}
 use Rattle.text.specs.SetLineLaws.{no-line, Few, file-few}
-use Rattle.session.specs.declared.Stage.{Stage}
 use Rattle.session.specs.declared.Opened.{Opened}
 use Rattle.session.specs.Passes.{outBytes, passes}
 use Rattle.session.specs.PassLaws.{behind-written}
-use Rattle.session.specs.Waiting.{Waiting}
 use Rattle.session.specs.Onward.{Going, over, on}
 use Rattle.session.specs.Output.{allFirings, linkCapacity, mostSetBytes, mostSheetBytes, judged, outputBy, outputIn, blankMemory, benchOutput}
 use Rattle.session.specs.OutputLaws.{starts, underway, any-memory}
@@ -127,28 +125,11 @@ begins-refused formula file at-hand r m′ out number row p e =
 
 -- ---- the sheet's tests
 
-layout-refused : (s : List ℕ) → laidOut s (linesOf s) ≡ false → verdictOf s ≡ Refused Layout 0
-unfolding verdictOf verdictBy afterCheck tests rowTests sheetOf
-layout-refused s e = rw e refl
-
-rows-refused : (s : List ℕ) → laidOut s (linesOf s) ≡ true → fewRows s ≡ false → verdictOf s ≡ Refused Rows 0
-unfolding verdictOf verdictBy afterCheck tests rowTests sheetOf
-rows-refused s e f = rw (e, f) refl
-
-and-left : (a b : Bool) → a && b ≡ true → a ≡ true
-and-left true b e = refl
-and-left false b e = e
-
-and-right : (a b : Bool) → a && b ≡ true → b ≡ true
-and-right true b e = e
-and-right false b e = let z : _≡_ {A = ℕ} 0 1 = cc in absurd (omega arith)
-
 whole-rows : (s : List ℕ) → laidOut s (linesOf s) ≡ true → length s % 31 ≡ 0
 unfolding laidOut
 whole-rows s e =
-    eqb-true (length s % 31) 0
-    (and-right (not (eqb (length s) 0)) (eqb (length s % 31) 0)
-    (and-left (not (eqb (length s) 0) && eqb (length s % 31) 0) (is-passed (lowest (rowCount s) (endedAt (linesOf s)))) e))
+    let both = and-true (not (eqb (length s) 0) && eqb (length s % 31) 0) (is-passed (lowest (rowCount s) (endedAt (linesOf s)))) e in
+    eqb-true (length s % 31) 0 (and-true (not (eqb (length s) 0)) (eqb (length s % 31) 0) (both .0) .1)
 
 no-more : (first more : List ℕ) → length (first ++ more) ≤ mostSheetBytes → (more ≡ []) ⊎ (mostSheetBytes ≤ length first) → more ≡ []
 no-more first more h (inl e) = e

@@ -1,11 +1,11 @@
 -- The tests in order: what passes says what the next test may rest on, and the first fault is the verdict.
-use Prim.Native.Nat.{ℕ, zero, suc, _+_, _*_, _-_, _/_, _%_, _≤_, _<_}
+use Prim.Native.Nat.{ℕ, _+_, _*_, _-_, _%_, _≤_}
 use mathlib.Core.Path.{_≡_, refl, sym, ap, subst, _∙_}
 use mathlib.Core.Bool.{Bool, true, false, not, cond, _&&_, false≢true}
-use mathlib.Core.List.{List, [], _∷_, _++_}
+use mathlib.Core.List.{List, _++_}
 use native.Mathlib.Omega.{arith}
 use lib.Dec.{leb, eqb}
-use lib.ListN.{length, getD, take, drop, replicate}
+use lib.ListN.{length, take}
 use lib.Seq.{paste, take-paste, take-all}
 use borrow.Author.Tests.{leb-true, eqb-true, eqb-false, not-true}
 use Rattle.formula.specs.declared.Check.{Check}
@@ -17,9 +17,9 @@ use Rattle.formula.specs.declared.Verdict.the-variants.{Passed as passed, Refus
 use Rattle.formula.specs.Sheet.{rowCount, linesOf, fieldsOf}
 use Rattle.formula.specs.SheetLaws.{fields-length}
 use Rattle.formula.specs.Places.{placesOf}
-use Rattle.formula.specs.PlaceLaws.{Sound}
 use Rattle.formula.specs.Tests.{afterCheck, whole, is-passed, lowest, endedAt, laidOut, fewRows, fieldsWell, rangesWell, namesWell, namedOnce, allNamed, placedWell, widthsWell, boundWell, operatorsOf, verdictOf, verdictBy, tests, rowTests, formulaTests, graphTests, sheetOf}
-use Rattle.formula.specs.TestLaws.{passed-each}
+use Rattle.formula.specs.TestLaws.{passed-each, whole-true}
+use Rattle.formula.specs.Verdicts.{Each, Passes, then, all-pass, then-behind}
 use Rattle.formula.specs.TreeLaws.{and-true}
 use Rattle.sheet_fields.specs.Decoding.{seen}
 use Rattle.names.specs.Names.{mask}
@@ -28,40 +28,10 @@ use Rattle.sheet_tables.specs.Ready.{Ready}
 use Rattle.sheet_count.specs.declared.count.Total.{Total}
 use Rattle.sheet_count.specs.declared.count.Total.the-variants.{Within, Over}
 use Rattle.sheet_count.specs.Counts.{totalOf}
-use Rattle.sheet_read.specs.Reading.{rowVerdict, placeVerdict, tableVerdict, formulaVerdict, Rowed}
+use Rattle.sheet_read.specs.Reading.{rowVerdict, tableVerdict, formulaVerdict, Rowed}
 use Rattle.sheet_rows.proofs.RowLaws.{named-by}
 
--- All tests in their order.
-pub verdict-is : (s : List ℕ) → verdictOf s
-    ≡ rowVerdict s (formulaVerdict (fieldsOf s) (rowCount s))
-unfolding verdictOf verdictBy tests rowTests formulaTests graphTests sheetOf rowVerdict placeVerdict tableVerdict formulaVerdict
-verdict-is s = refl
-
--- A verdict that goes on where it passed.
-abbrev pub then : Verdict → Verdict → Verdict
-then passed later = later
-then (Refused r row) later = Refused r row
-
--- Tests 1 to 5 by what each says.
-abbrev pub five : Verdict → Check → Check → Check → Check → Check → Verdict
-five later a b c d e = afterCheck Layout a (afterCheck Rows b (afterCheck Malformed c (afterCheck Range d (afterCheck Naming e later))))
-
-five-then : (a b c d e : Check) (later : Verdict) → five later a b c d e ≡ then (five passed a b c d e) later
-unfolding afterCheck
-five-then Passed Passed Passed Passed Passed later = refl
-five-then Passed Passed Passed Passed (Fault r) later = refl
-five-then Passed Passed Passed (Fault r) e later = refl
-five-then Passed Passed (Fault r) d e later = refl
-five-then Passed (Fault r) c d e later = refl
-five-then (Fault r) b c d e later = refl
-
 module _ (s : List ℕ) where
-  abbrev first : Check
-  first = whole (laidOut s (linesOf s))
-
-  abbrev second : Check
-  second = whole (fewRows s)
-
   abbrev third : Check
   third = lowest (rowCount s) (fieldsWell (linesOf s))
 
@@ -71,44 +41,33 @@ module _ (s : List ℕ) where
   abbrev fifth : Check
   fifth = lowest (rowCount s) (namesWell (fieldsOf s))
 
-  pub rows-by : (later : Verdict) (a b c d e : Check) → first ≡ a → second ≡ b → third ≡ c → fourth ≡ d → fifth ≡ e → rowVerdict s later ≡ five later a b c d e
-  unfolding rowVerdict
-  rows-by later a b c d e p q u v w =
-      ap (λ (x : Check). five later x second third fourth fifth) p ∙ ap (λ (x : Check). five later a x third fourth fifth) q
-      ∙ ap (λ (x : Check). five later a b x fourth fifth) u ∙ ap (λ (x : Check). five later a b c x fifth) v ∙ ap (λ (x : Check). five later a b c d x) w
+  pub fault-first : laidOut s (linesOf s) ≡ false → Refused Layout 0 ≡ rowVerdict s
+  unfolding rowVerdict verdictBy afterCheck rowTests sheetOf
+  fault-first p = rw p refl
 
-  pub row-then : (later : Verdict) → rowVerdict s later ≡ then (rowVerdict s passed) later
-  row-then later =
-      rows-by later first second third fourth fifth refl refl refl refl refl ∙ five-then first second third fourth fifth later
-      ∙ ap (λ (v : Verdict). then v later) (sym (rows-by passed first second third fourth fifth refl refl refl refl refl))
-
-  pub fault-first : laidOut s (linesOf s) ≡ false → Refused Layout 0 ≡ rowVerdict s passed
-  unfolding afterCheck
-  fault-first p = sym (rows-by passed (Fault 0) second third fourth fifth (ap whole p) refl refl refl refl)
-
-  pub fault-second : laidOut s (linesOf s) ≡ true → fewRows s ≡ false → Refused Rows 0 ≡ rowVerdict s passed
-  unfolding afterCheck
-  fault-second p q = sym (rows-by passed Passed (Fault 0) third fourth fifth (ap whole p) (ap whole q) refl refl refl)
+  pub fault-second : laidOut s (linesOf s) ≡ true → fewRows s ≡ false → Refused Rows 0 ≡ rowVerdict s
+  unfolding rowVerdict verdictBy afterCheck rowTests sheetOf
+  fault-second p q = rw (p, q) refl
 
   module _ (p : laidOut s (linesOf s) ≡ true) (q : fewRows s ≡ true) where
     pub rows-few : rowCount s ≤ 200
     rows-few = leb-true (rowCount s) 200 q
 
-    pub fault-third : (r : ℕ) → third ≡ Fault r → Refused Malformed r ≡ rowVerdict s passed
-    unfolding afterCheck
-    fault-third r u = sym (rows-by passed Passed Passed (Fault r) fourth fifth (ap whole p) (ap whole q) u refl refl)
+    pub fault-third : (r : ℕ) → third ≡ Fault r → Refused Malformed r ≡ rowVerdict s
+    unfolding rowVerdict verdictBy afterCheck rowTests sheetOf
+    fault-third r u = rw (p, q, u) refl
 
-    pub fault-fourth : third ≡ Passed → (r : ℕ) → fourth ≡ Fault r → Refused Range r ≡ rowVerdict s passed
-    unfolding afterCheck
-    fault-fourth u r v = sym (rows-by passed Passed Passed Passed (Fault r) fifth (ap whole p) (ap whole q) u v refl)
+    pub fault-fourth : third ≡ Passed → (r : ℕ) → fourth ≡ Fault r → Refused Range r ≡ rowVerdict s
+    unfolding rowVerdict verdictBy afterCheck rowTests sheetOf
+    fault-fourth u r v = rw (p, q, u, v) refl
 
-    pub fault-fifth : third ≡ Passed → fourth ≡ Passed → (r : ℕ) → fifth ≡ Fault r → Refused Naming r ≡ rowVerdict s passed
-    unfolding afterCheck
-    fault-fifth u v r w = sym (rows-by passed Passed Passed Passed Passed (Fault r) (ap whole p) (ap whole q) u v w)
+    pub fault-fifth : third ≡ Passed → fourth ≡ Passed → (r : ℕ) → fifth ≡ Fault r → Refused Naming r ≡ rowVerdict s
+    unfolding rowVerdict verdictBy afterCheck rowTests sheetOf
+    fault-fifth u v r w = rw (p, q, u, v, w) refl
 
-    pub rows-pass : third ≡ Passed → fourth ≡ Passed → fifth ≡ Passed → passed ≡ rowVerdict s passed
-    unfolding afterCheck
-    rows-pass u v w = sym (rows-by passed Passed Passed Passed Passed Passed (ap whole p) (ap whole q) u v w)
+    pub rows-pass : third ≡ Passed → fourth ≡ Passed → fifth ≡ Passed → passed ≡ rowVerdict s
+    unfolding rowVerdict verdictBy afterCheck rowTests sheetOf
+    rows-pass u v w = rw (p, q, u, v, w) refl
 
   -- What an accepted layout and the tests of rows say.
   pub record Rowwise : Type 0 where
@@ -117,23 +76,13 @@ module _ (s : List ℕ) where
     pub ranged : fourth ≡ Passed
     pub named : fifth ≡ Passed
 
-  whole-passed : (b : Bool) → whole b ≡ Passed → b ≡ true
-  whole-passed true h = refl
-  whole-passed false h = absurd (let z : _≡_ {A = ℕ} 0 1 = cc h in omega arith)
+  each-row : Each (Passes (sheetOf s)) rowTests → Rowwise
+  unfolding rowTests sheetOf
+  each-row (a, (b, (c, (d, (e, end))))) = record { laid = whole-true (laidOut s (linesOf s)) a; few = whole-true (fewRows s) b; ranged = d; named = e }
 
-  five-passed : (a b c d e : Check) → five passed a b c d e ≡ passed → (a ≡ Passed) × (b ≡ Passed) × (d ≡ Passed) × (e ≡ Passed)
-  unfolding afterCheck
-  five-passed Passed Passed Passed Passed Passed h = (refl, refl, refl, refl)
-  five-passed Passed Passed Passed Passed (Fault r) h = absurd (let z : _≡_ {A = ℕ} 0 1 = cc h in omega arith)
-  five-passed Passed Passed Passed (Fault r) e h = absurd (let z : _≡_ {A = ℕ} 0 1 = cc h in omega arith)
-  five-passed Passed Passed (Fault r) d e h = absurd (let z : _≡_ {A = ℕ} 0 1 = cc h in omega arith)
-  five-passed Passed (Fault r) c d e h = absurd (let z : _≡_ {A = ℕ} 0 1 = cc h in omega arith)
-  five-passed (Fault r) b c d e h = absurd (let z : _≡_ {A = ℕ} 0 1 = cc h in omega arith)
-
-  pub rowwise : rowVerdict s passed ≡ passed → Rowwise
-  rowwise h =
-      let q = five-passed first second third fourth fifth (sym (rows-by passed first second third fourth fifth refl refl refl refl refl) ∙ h) in
-      record { laid = whole-passed (laidOut s (linesOf s)) (q .0); few = whole-passed (fewRows s) (q .1); ranged = q .2; named = q .3 }
+  pub rowwise : rowVerdict s ≡ passed → Rowwise
+  unfolding rowVerdict
+  rowwise h = each-row (all-pass (sheetOf s) rowTests .0 h)
 
   pub some-rows : laidOut s (linesOf s) ≡ true → 1 ≤ rowCount s
   unfolding laidOut
@@ -163,23 +112,17 @@ module _ (t : List ℕ) (n : ℕ) where
   abbrev seventh : Check
   seventh = lowest n (placedWell t (placesOf t n))
 
-  places-by : (a b : Check) → sixth ≡ a → seventh ≡ b → formulaVerdict t n ≡ afterCheck Named a (afterCheck StrayIter b (tableVerdict t (placesOf t n) n))
-  unfolding formulaVerdict placeVerdict
-  places-by a b e f =
-      ap (λ (x : Check). afterCheck Named x (afterCheck StrayIter seventh (tableVerdict t (placesOf t n) n))) e
-      ∙ ap (λ (x : Check). afterCheck Named a (afterCheck StrayIter x (tableVerdict t (placesOf t n) n))) f
-
   pub fault-sixth : (r : ℕ) → sixth ≡ Fault r → Refused Named r ≡ formulaVerdict t n
-  unfolding afterCheck
-  fault-sixth r u = sym (places-by (Fault r) seventh u refl)
+  unfolding formulaVerdict verdictBy afterCheck formulaTests
+  fault-sixth r u = rw u refl
 
   pub fault-seventh : sixth ≡ Passed → (r : ℕ) → seventh ≡ Fault r → Refused StrayIter r ≡ formulaVerdict t n
-  unfolding afterCheck
-  fault-seventh u r v = sym (places-by Passed (Fault r) u v)
+  unfolding formulaVerdict verdictBy afterCheck formulaTests
+  fault-seventh u r v = rw (u, v) refl
 
   pub places-pass : sixth ≡ Passed → seventh ≡ Passed → tableVerdict t (placesOf t n) n ≡ formulaVerdict t n
-  unfolding afterCheck
-  places-pass u v = sym (places-by Passed Passed u v)
+  unfolding formulaVerdict tableVerdict verdictBy afterCheck formulaTests
+  places-pass u v = rw (u, v) refl
 
   -- What tests 4 to 7 say together.
   pub ready : length t ≡ 5 * n → lowest n (rangesWell t) ≡ Passed → lowest n (namesWell t) ≡ Passed → sixth ≡ Passed → seventh ≡ Passed → Ready t n (placesOf t n)
@@ -225,43 +168,34 @@ module _ (t : List ℕ) (n : ℕ) (p : List Bool) where
   abbrev ninth : Check
   ninth = lowest n (boundWell t p)
 
-  abbrev tenth : Check
-  tenth = whole (leb (operatorsOf t n) 1024)
-
-  tables-by : (a b c : Check) → eighth ≡ a → ninth ≡ b → tenth ≡ c → tableVerdict t p n ≡ afterCheck Width a (afterCheck Unused b (afterCheck Operators c passed))
-  unfolding tableVerdict
-  tables-by a b c e f g =
-      ap (λ (x : Check). afterCheck Width x (afterCheck Unused ninth (afterCheck Operators tenth passed))) e
-      ∙ ap (λ (x : Check). afterCheck Width a (afterCheck Unused x (afterCheck Operators tenth passed))) f
-      ∙ ap (λ (x : Check). afterCheck Width a (afterCheck Unused b (afterCheck Operators x passed))) g
-
   pub fault-eighth : (r : ℕ) → eighth ≡ Fault r → Refused Width r ≡ tableVerdict t p n
-  unfolding afterCheck
-  fault-eighth r u = sym (tables-by (Fault r) ninth tenth u refl refl)
+  unfolding tableVerdict verdictBy afterCheck formulaTests
+  fault-eighth r u = rw u refl
 
   module _ (u : eighth ≡ Passed) where
     pub fault-ninth : (r : ℕ) → ninth ≡ Fault r → Refused Unused r ≡ tableVerdict t p n
-    unfolding afterCheck
-    fault-ninth r v = sym (tables-by Passed (Fault r) tenth u v refl)
+    unfolding tableVerdict verdictBy afterCheck formulaTests
+    fault-ninth r v = rw (u, v) refl
 
     pub fault-tenth : ninth ≡ Passed → (x : Total) → x ≡ totalOf (operatorsOf t n) → x ≡ Over → Refused Operators 0 ≡ tableVerdict t p n
-    unfolding afterCheck
-    fault-tenth v x e f = sym (tables-by Passed Passed (Fault 0) u v (tenth-over (operatorsOf t n) (sym e ∙ f)))
+    unfolding tableVerdict verdictBy afterCheck formulaTests graphTests
+    fault-tenth v x e f = rw (u, v, tenth-over (operatorsOf t n) (sym e ∙ f)) refl
 
     pub tables-pass : ninth ≡ Passed → (x : Total) → x ≡ totalOf (operatorsOf t n) → (k : ℕ) → x ≡ Within k → passed ≡ tableVerdict t p n
-    unfolding afterCheck
-    tables-pass v x e k f = sym (tables-by Passed Passed Passed u v (tenth-within (operatorsOf t n) k (sym e ∙ f) .0))
+    unfolding tableVerdict verdictBy afterCheck formulaTests graphTests
+    tables-pass v x e k f = rw (u, v, tenth-within (operatorsOf t n) k (sym e ∙ f) .0) refl
 
 -- ---- all tests
 
 module _ (s : List ℕ) where
-  all-then : verdictOf s ≡ then (rowVerdict s passed) (formulaVerdict (fieldsOf s) (rowCount s))
-  all-then = verdict-is s ∙ row-then s (formulaVerdict (fieldsOf s) (rowCount s))
+  all-then : verdictOf s ≡ then (rowVerdict s) (formulaVerdict (fieldsOf s) (rowCount s))
+  unfolding verdictOf tests formulaTests graphTests verdictBy sheetOf rowVerdict formulaVerdict
+  all-then = then-behind (sheetOf s) rowTests (formulaTests ++ graphTests)
 
-  pub rows-refuse : (v : Verdict) (r : Refusal) (row : ℕ) → v ≡ rowVerdict s passed → v ≡ Refused r row → Refused r row ≡ verdictOf s
+  pub rows-refuse : (v : Verdict) (r : Refusal) (row : ℕ) → v ≡ rowVerdict s → v ≡ Refused r row → Refused r row ≡ verdictOf s
   rows-refuse v r row e f = sym (all-then ∙ ap (λ (x : Verdict). then x (formulaVerdict (fieldsOf s) (rowCount s))) (sym e ∙ f))
 
-  pub formula-decides : (v : Verdict) → v ≡ rowVerdict s passed → v ≡ passed → formulaVerdict (fieldsOf s) (rowCount s) ≡ verdictOf s
+  pub formula-decides : (v : Verdict) → v ≡ rowVerdict s → v ≡ passed → formulaVerdict (fieldsOf s) (rowCount s) ≡ verdictOf s
   formula-decides v e f = sym (all-then ∙ ap (λ (x : Verdict). then x (formulaVerdict (fieldsOf s) (rowCount s))) (sym e ∙ f))
 
 -- ---- tables

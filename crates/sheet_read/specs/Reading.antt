@@ -1,21 +1,18 @@
 -- What reading gives: the tests in their order as the passes make them, the tables of an accepted sheet, and the answer for
 -- the firmware (document 01, "Said by what was handed in", 1 to 10).
-use Prim.Native.Nat.{ℕ, zero, suc, _+_, _*_, _-_, _≤_}
+use Prim.Native.Nat.{ℕ, _*_, _≤_}
 use mathlib.Core.Path.{_≡_, sym, _∙_}
 use mathlib.Core.Bool.{Bool}
-use mathlib.Core.List.{List}
-use lib.ListN.{take, length}
-use lib.Dec.{leb}
-use Rattle.formula.specs.declared.Refusal.{Refusal}
-use Rattle.formula.specs.declared.Refusal.the-variants.{Layout, Rows, Malformed, Range, Naming, Named, StrayIter, Width, Unused, Operators}
+use mathlib.Core.List.{List, [], _++_}
+use lib.ListN.{take, drop, length}
 use Rattle.formula.specs.declared.Verdict.{Verdict}
 use Rattle.formula.specs.declared.Verdict.the-variants.{Passed as passed, Refused as refused}
 use Rattle.formula.specs.declared.Reading.{Reading}
 use Rattle.formula.specs.declared.Reading.the-variants.{Accepted, Rejected}
 use Rattle.formula.specs.Refusals.{numberOf}
-use Rattle.formula.specs.Sheet.{rowCount, linesOf, fieldsOf}
+use Rattle.formula.specs.Sheet.{rowCount, fieldsOf}
 use Rattle.formula.specs.Places.{placesOf}
-use Rattle.formula.specs.Tests.{afterCheck, whole, lowest, laidOut, fewRows, fieldsWell, rangesWell, namesWell, namedOnce, allNamed, placedWell, widthsWell, boundWell, operatorsOf, verdictOf}
+use Rattle.formula.specs.Tests.{Sheet, operatorsOf, sheetOf, rowTests, formulaTests, graphTests, verdictBy, verdictOf}
 use Rattle.formula.specs.Acceptance.{Admissible, passed-admissible}
 use Rattle.sheet_read.specs.declared.read.ReadAnswer.{ReadAnswer}
 use Rattle.sheet_read.specs.declared.read.Tested.{Tested}
@@ -24,38 +21,24 @@ use Rattle.names.specs.Names.{mask}
 use Rattle.sheet_tables.specs.Nodes.{nodeAt, returnedIn, freeIn, Holds}
 use Rattle.sheet_tables.specs.Ready.{Ready}
 
--- Tests 1 to 5, then what later tests say.
-unfoldable pub rowVerdict : List ℕ → Verdict → Verdict
-unfolding afterCheck laidOut fieldsWell rangesWell namesWell
-rowVerdict s later =
-    afterCheck Layout (whole (laidOut s (linesOf s)))
-    (afterCheck Rows (whole (fewRows s))
-    (afterCheck Malformed (lowest (rowCount s) (fieldsWell (linesOf s)))
-    (afterCheck Range (lowest (rowCount s) (rangesWell (fieldsOf s)))
-    (afterCheck Naming (lowest (rowCount s) (namesWell (fieldsOf s)))
-    later))))
+-- Tests 1 to 5.
+unfoldable pub rowVerdict : List ℕ → Verdict
+unfolding verdictBy rowTests sheetOf
+rowVerdict s = verdictBy rowTests (sheetOf s)
 
--- Tests 6 and 7 of n rows with the fields t, then what later tests say.
-unfoldable pub placeVerdict : List ℕ → ℕ → Verdict → Verdict
-unfolding afterCheck placesOf allNamed placedWell
-placeVerdict t n later =
-    afterCheck Named (lowest (n - 1) (λ k. namedOnce (allNamed t n) k))
-    (afterCheck StrayIter (lowest n (placedWell t (placesOf t n)))
-    later)
-
--- Tests 8 to 10; p has the rows' places.
-unfoldable pub tableVerdict : List ℕ → List Bool → ℕ → Verdict
-unfolding afterCheck widthsWell boundWell operatorsOf
-tableVerdict t p n =
-    afterCheck Width (lowest n (widthsWell t p))
-    (afterCheck Unused (lowest n (boundWell t p))
-    (afterCheck Operators (whole (leb (operatorsOf t n) 1024))
-    passed))
+-- n rows with the fields t in the places p, as the tests behind 5 look at them.
+abbrev pub rowsIn : List ℕ → List Bool → ℕ → Sheet
+rowsIn t p n = record { text = []; rows = n; lines = []; fields = t; places = p }
 
 -- Tests 6 to 10.
 unfoldable pub formulaVerdict : List ℕ → ℕ → Verdict
-unfolding placeVerdict tableVerdict
-formulaVerdict t n = placeVerdict t n (tableVerdict t (placesOf t n) n)
+unfolding verdictBy formulaTests graphTests placesOf
+formulaVerdict t n = verdictBy (formulaTests ++ graphTests) (rowsIn t (placesOf t n) n)
+
+-- Tests 8 to 10: those behind 6 and 7.
+unfoldable pub tableVerdict : List ℕ → List Bool → ℕ → Verdict
+unfolding verdictBy formulaTests graphTests
+tableVerdict t p n = verdictBy (drop 2 (formulaTests ++ graphTests)) (rowsIn t p n)
 
 -- What the tests say, and the operators of an accepted sheet's formula.
 abbrev pub verdictIn : Tested → Verdict

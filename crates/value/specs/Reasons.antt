@@ -33,7 +33,7 @@ isTruth (Whole z) = false
 isTruth (Truth a) = true
 isTruth (Err r) = false
 
-abbrev isErr : Value → Bool
+abbrev pub isErr : Value → Bool
 isErr (Whole z) = false
 isErr (Truth a) = false
 isErr (Err r) = true
@@ -45,36 +45,36 @@ isThe d (Truth a) = Bool·beq a d
 isThe d (Err r) = false
 
 -- the whole number of a value, 0 where it is none
-abbrev numberIn : Value → ℤ
+abbrev pub numberIn : Value → ℤ
 numberIn (Whole z) = z
 numberIn (Truth a) = pos 0
 numberIn (Err r) = pos 0
 
 -- "10 and 11 take one operand, the rest two", from left to right.
-abbrev taken : ℕ → Value → Value → List Value
+abbrev pub taken : ℕ → Value → Value → List Value
 taken c a b = pick (eqb (operands c) 1) (a ∷ []) (a ∷ b ∷ [])
 
 -- "Where false or true decides in Job 2's rule, it still decides": false an and, true an or, both operands truths or errs.
 abbrev decidedBy : Bool → Value → Value → Bool
 decidedBy d a b = (isThe d a && (isTruth b || isErr b)) || (isThe d b && (isTruth a || isErr a))
 
-abbrev decided : ℕ → Value → Value → Bool
+abbrev pub decided : ℕ → Value → Value → Bool
 decided c a b = pick (eqb c 8) (decidedBy false a b) (pick (eqb c 9) (decidedBy true a b) false)
 
 -- "hands on the leftmost err"
-abbrev leftmost : List Value → Option Reason → Option Reason
+abbrev pub leftmost : List Value → Option Reason → Option Reason
 leftmost [] otherwise = otherwise
 leftmost (Whole z ∷ vs) otherwise = leftmost vs otherwise
 leftmost (Truth a ∷ vs) otherwise = leftmost vs otherwise
 leftmost (Err r ∷ vs) otherwise = some r
 
 -- "8 to 10 want truths, the others whole numbers"
-abbrev wanted : ℕ → Value → Bool
-wanted c v = pick (leb 8 c && leb c 10) (isTruth v) (isWhole v)
+abbrev pub isWanted : ℕ → Value → Bool
+isWanted c v = pick (leb 8 c && leb c 10) (isTruth v) (isWhole v)
 
-abbrev allWanted : ℕ → List Value → Bool
+abbrev pub allWanted : ℕ → List Value → Bool
 allWanted c [] = true
-allWanted c (v ∷ vs) = wanted c v && allWanted c vs
+allWanted c (v ∷ vs) = isWanted c v && allWanted c vs
 
 -- "Z zero divisor"
 abbrev zeroDivisor : ℕ → ℤ → Bool
@@ -96,7 +96,7 @@ abbrev outOfRange : ℕ → ℤ → ℤ → Bool
 outOfRange c x y = not (inRange (exact c x y))
 
 -- Of operands that are wanted.
-abbrev ofNumbers : ℕ → ℤ → ℤ → Option Reason
+abbrev pub ofNumbers : ℕ → ℤ → ℤ → Option Reason
 ofNumbers c x y =
     pick (zeroDivisor c y) (some ZeroDivisor)
     (pick (outOfRange c x y) (some OutOfRange)

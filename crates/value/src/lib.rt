@@ -22,6 +22,12 @@ pub enum Value {
     Err(Reason),
 }
 
+// The kind that a value is told beforehand to have; an err suits every kind.
+pub enum ValueKind {
+    Whole,
+    Truth,
+}
+
 // What a value is as a control or a test.
 pub enum Sense {
     True,

@@ -1,0 +1,31 @@
+-- The tests, as paths name them:
+--   tie if1  { ⏎ if line.len() <= i {
+--   tie if2  } ⏎ if line[i] == b'T' {
+use borrow.Author.Needs.{needs}
+use Rattle.sheet_kinds.proofs.line.kind_at.Statement.{statement}
+use Rattle.sheet_kinds.proofs.line.kind_at.Tie as tie
+use Rattle.sheet_kinds.proofs.line.kind_at.Reads as reads
+use Rattle.sheet_kinds.proofs.line.kind_at.Lts as lts
+use mathlib.Core.Path.{sym, ap}
+use lib.ListN.{getD, List·getD-eq-default}
+use borrow.Author.Tests.{ne-eqb}
+use Rattle.formula.specs.Faults.{kindOfLetter}
+
+-- src/line.rt:59:9  if line.len() <= i { ⏎ return WHOLE;
+returns : tie.Need-returns
+returns c = sym (ap kindOfLetter (List·getD-eq-default (c .before .args .line .now) 0 (c .if1 .taken)))
+
+-- src/line.rt:61:8  } ⏎ if line[i] == b'T' {
+shared-slice-read-if2 : tie.Need-shared-slice-read-if2
+shared-slice-read-if2 c = search needs
+
+-- src/line.rt:62:9  if line[i] == b'T' { ⏎ return TRUTH;
+returns-2 : tie.Need-returns-2
+returns-2 c = sym (ap kindOfLetter (c .if2 .taken))
+
+-- src/line.rt:55:1  // The kind of letter i of a line, a whole number where there is none. ⏎ fn kind_at(line: &[u8], i: usize) -> u8
+returns-3 : tie.Need-returns-3
+returns-3 c = simp (ne-eqb (getD (c .before .before .before .args .line .now) (c .before .before .before .args .i) 0) 84 (c .if2 .left))
+
+pub kind-at-spec : {M : Type 1} → statement M
+kind-at-spec = tie.close (tie.spec returns shared-slice-read-if2 returns-2 returns-3)

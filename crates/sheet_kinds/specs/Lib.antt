@@ -1,0 +1,7 @@
+pub mod Bytes
+pub mod Checks
+pub mod FaultLaws
+pub mod KindWidths
+pub mod Line
+pub mod Walk
+pub mod WalkBody

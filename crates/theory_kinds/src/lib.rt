@@ -1,0 +1,1 @@
+// Nothing runs here: the crate holds theory only (specs/): in direct evaluation no err comes from a wrong kind or a bad test.
