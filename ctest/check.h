@@ -1,9 +1,10 @@
-/* What the C programs that test the calls share: counted checks, sheets, and errs by their reasons. */
+/* What the C programs that test the calls share: counted checks, bytes to lend, sheets, and errs by their reasons. */
 #ifndef CHECK_H
 #define CHECK_H
 
 #include <inttypes.h>
 #include <stdio.h>
+#include <stdlib.h>
 #include <string.h>
 
 #include "bench.h"
@@ -22,6 +23,18 @@ static void expect(const char *what, uint32_t got, uint32_t wanted) {
 static int tell(void) {
     printf("%u checks, %u failed\n", checks, failures);
     return failures == 0 ? 0 : 1;
+}
+
+/* A copy of some bytes at its exact length; of no bytes it may be NULL. */
+static inline uint8_t *lend(const void *bytes, size_t length) {
+    uint8_t *copy = malloc(length);
+    if (copy == NULL && length > 0) {
+        exit(2);
+    }
+    if (length > 0) {
+        memcpy(copy, bytes, length);
+    }
+    return copy;
 }
 
 /* "for i, y = n, 1 do if 1 < i then iter i - 1, y * i else y": constants, copies, T, F, M or E, IC, FM and FS gates. */

@@ -3,8 +3,6 @@
  * lent for the result set. Sheets, sets and result sets are allocated at their exact length, so that a tool which watches memory sees an access past
  * their ends.
  */
-#include <stdlib.h>
-
 #include "check.h"
 
 enum { ROW_BYTES = 31, MOST_ROWS = 200, HELD = 0x5a };
@@ -64,18 +62,6 @@ static value truth(uint32_t bit) {
 
 static value err(void) {
     return of(BENCH_ERR, BENCH_ERR_OTHER);
-}
-
-/* A copy of some bytes at its exact length; of no bytes it may be NULL. */
-static uint8_t *lend(const void *bytes, size_t length) {
-    uint8_t *copy = malloc(length);
-    if (copy == NULL && length > 0) {
-        exit(2);
-    }
-    if (length > 0) {
-        memcpy(copy, bytes, length);
-    }
-    return copy;
 }
 
 static bench_read_answer read_bytes(const void *bytes, size_t length) {

@@ -20,17 +20,6 @@ static void fill_sets(void) {
     }
 }
 
-static uint8_t *copied(const uint8_t *from, size_t bytes) {
-    uint8_t *copy = malloc(bytes);
-    if (copy == NULL && bytes > 0) {
-        exit(2);
-    }
-    if (bytes > 0) {
-        memcpy(copy, from, bytes);
-    }
-    return copy;
-}
-
 /* The same sets by single pushes, until one is refused; of none 11 and 31 alone, which a firing of no operator tells. */
 static bench_answer one_by_one(uint8_t *mem, const uint8_t *from, size_t bytes, uint32_t number) {
     bench_answer answer = bench_fire(mem, length, UINT32_MAX);
@@ -56,7 +45,7 @@ static bench_answer one_by_one(uint8_t *mem, const uint8_t *from, size_t bytes, 
 
 /* A tray of the first so many bytes of `from`, lent at their exact length. */
 static void tray(const char *what, const uint8_t *from, size_t bytes, uint32_t number, uint32_t refusal, uint32_t count) {
-    uint8_t *copy = copied(memory, length), *lent = copied(from, bytes);
+    uint8_t *copy = lend(memory, length), *lent = lend(from, bytes);
     bench_answer answer = bench_push_tray(memory, length, lent, bytes, number);
     expect(what, answer.refusal, refusal);
     expect(what, answer.count, count);
@@ -71,7 +60,7 @@ static void tray(const char *what, const uint8_t *from, size_t bytes, uint32_t n
 
 /* Like that, and no byte of the memory changes. */
 static void tray_leaves_all(const char *what, const uint8_t *from, size_t bytes, uint32_t number, uint32_t refusal) {
-    uint8_t *before = copied(memory, length);
+    uint8_t *before = lend(memory, length);
     tray(what, from, bytes, number, refusal, 0);
     expect(what, memcmp(memory, before, length) == 0, 1);
     free(before);
