@@ -123,13 +123,13 @@ lesser-set-suits zero = refl
 lesser-set-suits (suc zero) = refl
 lesser-set-suits (suc (suc i)) = refl
 
-lesser-verdict : verdictOf (bytes lesser) ≡ passed
+lesser-verdict : verdictOf (bytes lesser) (bytes "WW\n") ≡ passed
 unfolding verdictOf bytes lesser
 lesser-verdict = refl
 
 lesser-holds : (rounds : ℕ) → strict lesserOfTwo (number 3 ∷ number 5 ∷ []) rounds ≡ some (evalE lesserOfTwo (inputsHold (freeE lesserOfTwo) (number 3 ∷ number 5 ∷ [])) rounds)
 lesser-holds rounds =
-    sheet-kinds-hold (bytes lesser) (bytes "WW\n") (number 3 ∷ number 5 ∷ []) (passed-admissible (bytes lesser) lesser-verdict) lesser-passes lesser-set-suits rounds .0
+    sheet-kinds-hold (bytes lesser) (bytes "WW\n") (number 3 ∷ number 5 ∷ []) (passed-admissible (bytes lesser) (bytes "WW\n") lesser-verdict) lesser-passes lesser-set-suits rounds .0
 
 -- An err stops nothing: the less gives an err, and so does the if.
 lesser-err : strict lesserOfTwo (err ∷ number 2 ∷ []) 0 ≡ some (yields (err ∷ []) 0)

@@ -1,0 +1,2 @@
+pub mod RightKinds
+pub mod LesserKinds
