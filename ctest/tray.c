@@ -167,10 +167,10 @@ static void memories(void) {
         tray_leaves_all("no memory", sets, sizeof sets, numbers[i], BENCH_MEMORY);
     }
     /* A stored number of inputs that is another: a set is as long as it asks. */
-    static const uint8_t numbers[][BENCH_VALUE_BYTES] = {WHOLE(1), WHOLE(2)};
+    static const uint8_t wholes[][BENCH_VALUE_BYTES] = {WHOLE(1), WHOLE(2)};
     begin(&pair, 2);
     memory[INPUTS_AT] = 1;
-    tray("one input", numbers[0], sizeof numbers, 2, BENCH_ACCEPTED, 2);
+    tray("one input", wholes[0], sizeof wholes, 2, BENCH_ACCEPTED, 2);
 }
 
 /* Sets of no bytes go in until the trigger's link is full, sixteen are untaken, or as many as asked. */
