@@ -18,7 +18,7 @@ use Rattle.formula.specs.TreeLaws.{AllBetween, Named}
 use Rattle.formula.specs.Kinds.{Kinds, Rule}
 use Rattle.formula.specs.Faults.{faultsBelow, faultsIn, lower, lowestOf, kindCheck}
 
-abbrev pub Among : ℕ → List ℕ → Type 0
+abbrev pub Among : {A : Type 0} → A → List A → Type 0
 Among k [] = ⊥
 Among k (r ∷ rs) = (k ≡ r) ⊎ Among k rs
 

@@ -1,0 +1,144 @@
+-- Document 02, Job 6, 18: "when a row breaks the kinds, lowest row given", said of the sheet's rows: each row stands in one place with one kind
+-- for each identifier, and the row given is the lowest that breaks its rule there. Rests on test 5, a row names only rows before it, and,
+-- where each row is to stand somewhere and in one place only, on test 6, each is named once.
+use Prim.Native.Nat.{ℕ, zero, suc, _+_, _≤_, _<_}
+use mathlib.Core.Path.{_≡_, refl, sym, ap, subst, _∙_}
+use mathlib.Core.Logic.{_↔_, _⊎_, inl, inr}
+use mathlib.Core.Bool.{Bool, true, false, cond}
+use mathlib.Core.List.{List, [], _∷_, _++_, map, append-nil}
+use lib.Dec.{eqb}
+use borrow.Author.Tests.{eq-eqb, ne-eqb}
+use native.Mathlib.Omega.{arith}
+use native.Mathlib.Decide.{ℕ-discrete}
+use Rattle.formula.specs.declared.Shape.{Shape}
+use Rattle.formula.specs.declared.Shape.the-variants.{Identifier, Constant, Pair, Operator, Let, If, For, Iter}
+use Rattle.formula.specs.declared.Check.{Check}
+use Rattle.formula.specs.declared.Check.the-variants.{Passed, Fault}
+use Rattle.formula.specs.Sheet.{shapeAt, namedIn}
+use Rattle.formula.specs.Tree.{expOf}
+use Rattle.formula.specs.Places.{inBody, placesOf, nodeIn}
+use Rattle.formula.specs.Kinds.{Kinds, Rule, bindKinds, kindsE}
+use Rattle.formula.specs.Faults.{faultsBelow, faultsIn, kindCheck}
+use Rattle.formula.specs.Tests.{occurrences}
+use Rattle.formula.specs.TreeLaws.{AllBetween, Named}
+use Rattle.formula.specs.FaultRows.{Among, lowest-given}
+use Rattle.formula.specs.FaultLaws.{faultsAt, faults-as}
+use Rattle.formula.specs.PlaceLaws.{Sound, fieldPlaces, places-named, only-namer, namer, last-place}
+
+-- A row, whether it stands in a body place, and the kinds of its identifiers.
+pub record Placed : Type 0 where
+  pub row : ℕ
+  pub body : Bool
+  pub kinds : Kinds
+
+abbrev pub standing : ℕ → Bool → Kinds → Placed
+standing r b ks = record { row = r; body = b; kinds = ks }
+
+-- The rows that a row names, field by field; b says whether the row itself is in a body place. Document 01: "Body places are d of a for,
+-- and, of a row in a body place, d of a let and b, c of an if. All other places are expression places." A let's and a for's row d has
+-- "identifiers a to a+b-1, bound to row c" or "started from row c": they have the kinds of row c's values, document 02, Job 6.
+unfoldable pub namedAt : List ℕ → Bool → Kinds → Shape → List Placed
+unfolding bindKinds kindsE expOf
+namedAt t b ks (Identifier i) = []
+namedAt t b ks (Constant k i) = []
+namedAt t b ks (Pair x y) = standing x false ks ∷ standing y false ks ∷ []
+namedAt t b ks (Operator k x) = standing x false ks ∷ []
+namedAt t b ks (Let i k x y) = standing x false ks ∷ standing y b (bindKinds i k (kindsE (expOf t x) ks) ks) ∷ []
+namedAt t b ks (If x y z) = standing x false ks ∷ standing y b ks ∷ standing z b ks ∷ []
+namedAt t b ks (For i k x y) = standing x false ks ∷ standing y true (bindKinds i k (kindsE (expOf t x) ks) ks) ∷ []
+namedAt t b ks (Iter x) = standing x false ks ∷ []
+
+-- The rows of a formula in their places: "the last is the formula", with the kinds of its inputs, and so on by the rows that a row names.
+pub data Met (t : List ℕ) (n : ℕ) (kinds : Kinds) : ℕ → Bool → Kinds → Type 0 where
+  the-formula : Met t n kinds n false kinds
+  below : (r : ℕ) (b : Bool) (ks : Kinds) → Met t n kinds r b ks → (p : Placed) → Among p (namedAt t b ks (shapeAt t r))
+      → Met t n kinds (p .row) (p .body) (p .kinds)
+
+-- The lowest row that breaks the rule where it stands.
+pub record LowestBroken (rule : Rule) (t : List ℕ) (n : ℕ) (kinds : Kinds) (row : ℕ) : Type 0 where
+  pub first : 1 ≤ row
+  pub last : row ≤ n
+  pub fault : (b : Bool) × (ks : Kinds) × Met t n kinds row b ks × (rule (nodeIn b t row) ks ≡ false)
+  pub lower : (j : ℕ) → j < row → (b : Bool) (ks : Kinds) → Met t n kinds j b ks → rule (nodeIn b t j) ks ≡ true
+
+-- ---- lists
+
+among-parts : {A : Type 0} (x : A) (l m : List A) → Among x (l ++ m) → Among x l ⊎ Among x m
+among-parts x [] m h = inr h
+among-parts x (y ∷ l) m (inl e) = inl (inl e)
+among-parts x (y ∷ l) m (inr h) = go (among-parts x l m h)
+  where
+    go : Among x l ⊎ Among x m → ((x ≡ y) ⊎ Among x l) ⊎ Among x m
+    go (inl a) = inl (inr a)
+    go (inr a) = inr a
+
+among-first : {A : Type 0} (x : A) (l m : List A) → Among x l → Among x (l ++ m)
+among-first x [] m h = absurd h
+among-first x (y ∷ l) m (inl e) = inl e
+among-first x (y ∷ l) m (inr h) = inr (among-first x l m h)
+
+among-second : {A : Type 0} (x : A) (l m : List A) → Among x m → Among x (l ++ m)
+among-second x [] m h = h
+among-second x (y ∷ l) m h = inr (among-second x l m h)
+
+-- ---- the rows that a row names
+
+rowsOf : List Placed → List ℕ
+rowsOf ps = map (λ p. p .row) ps
+
+-- They are those of test 5, in the places of tests 7 to 9.
+pub rows-named : (t : List ℕ) (b : Bool) (ks : Kinds) (s : Shape) → map (λ p. p .row) (namedAt t b ks s) ≡ namedIn s
+unfolding namedAt namedIn
+rows-named t b ks (Identifier i) = refl
+rows-named t b ks (Constant k i) = refl
+rows-named t b ks (Pair x y) = refl
+rows-named t b ks (Operator k x) = refl
+rows-named t b ks (Let i k x y) = refl
+rows-named t b ks (If x y z) = refl
+rows-named t b ks (For i k x y) = refl
+rows-named t b ks (Iter x) = refl
+
+pub bodies-named : (t : List ℕ) (b : Bool) (ks : Kinds) (s : Shape) → map (λ p. p .body) (namedAt t b ks s) ≡ fieldPlaces b s
+unfolding namedAt fieldPlaces
+bodies-named t b ks (Identifier i) = refl
+bodies-named t b ks (Constant k i) = refl
+bodies-named t b ks (Pair x y) = refl
+bodies-named t b ks (Operator k x) = refl
+bodies-named t b ks (Let i k x y) = refl
+bodies-named t b ks (If x y z) = refl
+bodies-named t b ks (For i k x y) = refl
+bodies-named t b ks (Iter x) = refl
+
+-- The rows at fault below a row are those at the rows that it names.
+module _ (F : Bool → Kinds → ℕ → List ℕ) where
+  abbrev at : Placed → List ℕ
+  at p = F (p .body) (p .kinds) (p .row)
+
+  abbrev gathered : List Placed → List ℕ
+  gathered [] = []
+  gathered (p ∷ ps) = at p ++ gathered ps
+
+  below-gathered : (t : List ℕ) (b : Bool) (ks : Kinds) (s : Shape) → faultsBelow F t b ks s ≡ gathered (namedAt t b ks s)
+  unfolding faultsBelow namedAt
+  below-gathered t b ks (Identifier i) = refl
+  below-gathered t b ks (Constant k i) = refl
+  below-gathered t b ks (Pair x y) = ap (λ (l : List ℕ). F false ks x ++ l) (sym (append-nil _))
+  below-gathered t b ks (Operator k x) = sym (append-nil _)
+  below-gathered t b ks (Let i k x y) = ap (λ (l : List ℕ). F false ks x ++ l) (sym (append-nil _))
+  below-gathered t b ks (If x y z) = ap (λ (l : List ℕ). F false ks x ++ (F b ks y ++ l)) (sym (append-nil _))
+  below-gathered t b ks (For i k x y) = ap (λ (l : List ℕ). F false ks x ++ l) (sym (append-nil _))
+  below-gathered t b ks (Iter x) = sym (append-nil _)
+
+  gathered-from : (r : ℕ) (ps : List Placed) → Among r (gathered ps) → (p : Placed) × Among p ps × Among r (at p)
+  gathered-from r [] h = absurd h
+  gathered-from r (p ∷ ps) h = go (among-parts r (at p) (gathered ps) h) (gathered-from r ps)
+    where
+      go : Among r (at p) ⊎ Among r (gathered ps) → (Among r (gathered ps) → (q : Placed) × Among q ps × Among r (at q))
+          → (q : Placed) × ((q ≡ p) ⊎ Among q ps) × Among r (at q)
+      go (inl a) ih = (p, inl refl, a)
+      go (inr a) ih = let f = ih a in (f .0, inr (f .1), f .2)
+
+  from-gathered : (r : ℕ) (ps : List Placed) (p : Placed) → Among p ps → Among r (at p) → Among r (gathered ps)
+  from-gathered r [] p h a = absurd h
+  from-gathered r (q ∷ ps) p (inl e) a = among-first r (at q) (gathered ps) (subst (λ (z : Placed). Among r (at z)) e a)
+  from-gathered r (q ∷ ps) p (inr h) a = among-second r (at q) (gathered ps) (from-gathered r ps p h a)
