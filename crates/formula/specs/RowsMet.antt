@@ -83,9 +83,6 @@ among-second x (y ∷ l) m h = inr (among-second x l m h)
 
 -- ---- the rows that a row names
 
-rowsOf : List Placed → List ℕ
-rowsOf ps = map (λ p. p .row) ps
-
 -- They are those of test 5, in the places of tests 7 to 9.
 pub rows-named : (t : List ℕ) (b : Bool) (ks : Kinds) (s : Shape) → map (λ p. p .row) (namedAt t b ks s) ≡ namedIn s
 unfolding namedAt namedIn
@@ -142,3 +139,88 @@ module _ (F : Bool → Kinds → ℕ → List ℕ) where
   from-gathered r [] p h a = absurd h
   from-gathered r (q ∷ ps) p (inl e) a = among-first r (at q) (gathered ps) (subst (λ (z : Placed). Among r (at z)) e a)
   from-gathered r (q ∷ ps) p (inr h) a = among-second r (at q) (gathered ps) (from-gathered r ps p h a)
+
+each-between : (r : ℕ) (ps : List Placed) → AllBetween r (map (λ p. p .row) ps) → (p : Placed) → Among p ps → (1 ≤ p .row) × (p .row < r)
+each-between r [] h p a = absurd a
+each-between r (q ∷ ps) h p (inl e) = subst (λ (z : Placed). (1 ≤ z .row) × (z .row < r)) (sym e) (h .0)
+each-between r (q ∷ ps) h p (inr a) = each-between r ps (h .1) p a
+
+-- ---- the rows at fault are the rows met that break the rule
+
+-- A row that breaks the rule where it stands.
+abbrev pub Broken : Rule → List ℕ → ℕ → Kinds → ℕ → Type 0
+Broken rule t n kinds r = (b : Bool) × (ks : Kinds) × Met t n kinds r b ks × (rule (nodeIn b t r) ks ≡ false)
+
+module _ (t : List ℕ) (n : ℕ) (kinds : Kinds) where
+  from-faults : (rule : Rule) (depth r : ℕ) (b : Bool) (ks : Kinds) → Met t n kinds r b ks → (x : ℕ) → Among x (faultsIn rule depth t b ks r)
+      → Broken rule t n kinds x
+  unfolding faultsIn
+  from-faults rule zero r b ks m x h = absurd h
+  from-faults rule (suc depth) r b ks m x h =
+      go (from-faults rule depth) (among-parts x (cond (rule (nodeIn b t r) ks) [] (r ∷ [])) (faultsBelow F t b ks (shapeAt t r)) h)
+    where
+      F : Bool → Kinds → ℕ → List ℕ
+      F c ls k = faultsIn rule depth t c ls k
+
+      own : (kept : Bool) → rule (nodeIn b t r) ks ≡ kept → Among x (cond kept [] (r ∷ [])) → Broken rule t n kinds x
+      own true e a = absurd a
+      own false e (inl q) = subst (Broken rule t n kinds) (sym q) (b, ks, m, e)
+      own false e (inr a) = absurd a
+
+      go : ((k : ℕ) (c : Bool) (ls : Kinds) → Met t n kinds k c ls → (y : ℕ) → Among y (F c ls k) → Broken rule t n kinds y)
+          → Among x (cond (rule (nodeIn b t r) ks) [] (r ∷ [])) ⊎ Among x (faultsBelow F t b ks (shapeAt t r)) → Broken rule t n kinds x
+      go ih (inl a) = own (rule (nodeIn b t r) ks) refl a
+      go ih (inr a) =
+          let f = gathered-from F x (namedAt t b ks (shapeAt t r)) (subst (Among x) (below-gathered F t b ks (shapeAt t r)) a) in
+          ih (f .0 .row) (f .0 .body) (f .0 .kinds) (below r b ks m (f .0) (f .1)) x (f .2)
+
+  module _ (ok : Named t n) (some : 1 ≤ n) where
+    -- They are rows of the sheet.
+    pub met-row : (r : ℕ) (b : Bool) (ks : Kinds) → Met t n kinds r b ks → (1 ≤ r) × (r ≤ n)
+    met-row r b ks the-formula = (some, omega arith)
+    met-row r b ks (below k c ls m p a) =
+        let i = met-row k c ls m in
+        let j = each-between k (namedAt t c ls (shapeAt t k)) (subst (AllBetween k) (sym (rows-named t c ls (shapeAt t k))) (ok .names k (i .0) (i .1))) p a in
+        (j .0, omega (arith, i .1, j .1))
+
+    module _ (rule : Rule) where
+      into-faults : (r : ℕ) (b : Bool) (ks : Kinds) → Met t n kinds r b ks → (x : ℕ) → Among x (faultsAt rule t b ks r) → Among x (faultsAt rule t false kinds n)
+      into-faults r b ks the-formula x h = h
+      into-faults r b ks (below k c ls m p a) x h =
+          let i = met-row k c ls m in
+          let e = faults-as rule t n ok k (i .0) (i .1) c ls (shapeAt t k) refl ∙ ap (λ (l : List ℕ). cond (rule (nodeIn c t k) ls) [] (k ∷ []) ++ l) (below-gathered (faultsAt rule t) t c ls (shapeAt t k)) in
+          into-faults k c ls m x
+          (subst (Among x) (sym e) (among-second x (cond (rule (nodeIn c t k) ls) [] (k ∷ [])) _ (from-gathered (faultsAt rule t) x (namedAt t c ls (shapeAt t k)) p a h)))
+
+      own-fault : (r : ℕ) (b : Bool) (ks : Kinds) → (1 ≤ r) × (r ≤ n) → rule (nodeIn b t r) ks ≡ false → Among r (faultsAt rule t b ks r)
+      own-fault r b ks i e =
+          let f = faults-as rule t n ok r (i .0) (i .1) b ks (shapeAt t r) refl ∙ ap (λ (z : Bool). cond z [] (r ∷ []) ++ faultsBelow (faultsAt rule t) t b ks (shapeAt t r)) e in
+          subst (Among r) (sym f) (inl refl)
+
+      -- The rows at fault are those that break the rule where they stand.
+      pub broken-iff : (r : ℕ) → Among r (faultsIn rule n t false kinds n) ↔ Broken rule t n kinds r
+      broken-iff r = (
+        from-faults rule n n false kinds the-formula r,
+        λ f. into-faults r (f .0) (f .1) (f .2) r (own-fault r (f .0) (f .1) (met-row r (f .0) (f .1) (f .2)) (f .3)),
+      )
+
+      -- Of 18 the lowest of them is given.
+      pub lowest-broken : (row : ℕ) → kindCheck rule t n kinds ≡ Fault row → LowestBroken rule t n kinds row
+      unfolding kindCheck
+      lowest-broken row h = record { first = i .0; last = i .1; fault = f; lower = kept }
+        where
+          g : Among row (faultsIn rule n t false kinds n) × ((k : ℕ) → Among k (faultsIn rule n t false kinds n) → row ≤ k)
+          g = lowest-given (faultsIn rule n t false kinds n) row h
+
+          f : Broken rule t n kinds row
+          f = broken-iff row .0 (g .0)
+
+          i : (1 ≤ row) × (row ≤ n)
+          i = met-row row (f .0) (f .1) (f .2)
+
+          kept : (j : ℕ) → j < row → (b : Bool) (ks : Kinds) → Met t n kinds j b ks → rule (nodeIn b t j) ks ≡ true
+          kept j l b ks m = by (rule (nodeIn b t j) ks) refl
+            where
+              by : (z : Bool) → rule (nodeIn b t j) ks ≡ z → z ≡ true
+              by true e = refl
+              by false e = absurd (omega (arith, g .1 j (broken-iff j .1 (b, ks, m, e))))
