@@ -23,7 +23,7 @@ use Rattle.formula.specs.Tests.{occurrences}
 use Rattle.formula.specs.TreeLaws.{AllBetween, Named}
 use Rattle.formula.specs.FaultRows.{Among, lowest-given}
 use Rattle.formula.specs.FaultLaws.{faultsAt, faults-as}
-use Rattle.formula.specs.PlaceLaws.{Sound, fieldPlaces, places-named, only-namer, namer, last-place}
+use Rattle.formula.specs.PlaceLaws.{Sound, fieldPlaces, places-named, named-once, only-namer, Namer, namer, last-place}
 
 -- A row, whether it stands in a body place, and the kinds of its identifiers.
 pub record Placed : Type 0 where
@@ -54,11 +54,15 @@ pub data Met (t : List ℕ) (n : ℕ) (kinds : Kinds) : ℕ → Bool → Kinds �
   below : (r : ℕ) (b : Bool) (ks : Kinds) → Met t n kinds r b ks → (p : Placed) → Among p (namedAt t b ks (shapeAt t r))
       → Met t n kinds (p .row) (p .body) (p .kinds)
 
--- The lowest row that breaks the rule where it stands.
+-- A row that breaks the rule where it stands.
+abbrev pub Broken : Rule → List ℕ → ℕ → Kinds → ℕ → Type 0
+Broken rule t n kinds r = (b : Bool) × (ks : Kinds) × Met t n kinds r b ks × (rule (nodeIn b t r) ks ≡ false)
+
+-- The lowest such row.
 pub record LowestBroken (rule : Rule) (t : List ℕ) (n : ℕ) (kinds : Kinds) (row : ℕ) : Type 0 where
   pub first : 1 ≤ row
   pub last : row ≤ n
-  pub fault : (b : Bool) × (ks : Kinds) × Met t n kinds row b ks × (rule (nodeIn b t row) ks ≡ false)
+  pub fault : Broken rule t n kinds row
   pub lower : (j : ℕ) → j < row → (b : Bool) (ks : Kinds) → Met t n kinds j b ks → rule (nodeIn b t j) ks ≡ true
 
 -- ---- lists
@@ -147,10 +151,6 @@ each-between r (q ∷ ps) h p (inr a) = each-between r ps (h .1) p a
 
 -- ---- the rows at fault are the rows met that break the rule
 
--- A row that breaks the rule where it stands.
-abbrev pub Broken : Rule → List ℕ → ℕ → Kinds → ℕ → Type 0
-Broken rule t n kinds r = (b : Bool) × (ks : Kinds) × Met t n kinds r b ks × (rule (nodeIn b t r) ks ≡ false)
-
 module _ (t : List ℕ) (n : ℕ) (kinds : Kinds) where
   from-faults : (rule : Rule) (depth r : ℕ) (b : Bool) (ks : Kinds) → Met t n kinds r b ks → (x : ℕ) → Among x (faultsIn rule depth t b ks r)
       → Broken rule t n kinds x
@@ -224,3 +224,122 @@ module _ (t : List ℕ) (n : ℕ) (kinds : Kinds) where
               by : (z : Bool) → rule (nodeIn b t j) ks ≡ z → z ≡ true
               by true e = refl
               by false e = absurd (omega (arith, g .1 j (broken-iff j .1 (b, ks, m, e))))
+
+-- ---- each row is met, in one place with the same kinds
+
+row-among : (x : ℕ) (ps : List Placed) → 1 ≤ occurrences x (map (λ p. p .row) ps) → (p : Placed) × Among p ps × (p .row ≡ x)
+unfolding occurrences
+row-among x [] h = absurd (omega arith)
+row-among x (q ∷ ps) h = go (ℕ-discrete (q .row) x) (row-among x ps)
+  where
+    go : Dec (q .row ≡ x) → (1 ≤ occurrences x (map (λ p. p .row) ps) → (p : Placed) × Among p ps × (p .row ≡ x))
+        → (p : Placed) × ((p ≡ q) ⊎ Among p ps) × (p .row ≡ x)
+    go (yes e) later = (q, inl refl, e)
+    go (no e) later =
+        let z : cond {A = ℕ} (eqb (q .row) x) 1 0 ≡ 0 = rw (ne-eqb (q .row) x e) refl in
+        let f = later (omega arith) in
+        (f .0, inr (f .1), f .2)
+
+among-counted : (x : ℕ) (ps : List Placed) (p : Placed) → Among p ps → p .row ≡ x → 1 ≤ occurrences x (map (λ q. q .row) ps)
+unfolding occurrences
+among-counted x [] p a e = absurd a
+among-counted x (q ∷ ps) p (inl f) e =
+    let z : cond {A = ℕ} (eqb (q .row) x) 1 0 ≡ 1 = rw (eq-eqb (q .row) x (ap (λ (y : Placed). y .row) (sym f) ∙ e)) refl in
+    omega arith
+among-counted x (q ∷ ps) p (inr a) e = let i = among-counted x ps p a e in omega arith
+
+once-among : (x : ℕ) (ps : List Placed) → occurrences x (map (λ p. p .row) ps) ≤ 1 → (p q : Placed) → Among p ps → Among q ps → p .row ≡ x → q .row ≡ x
+    → p ≡ q
+unfolding occurrences
+once-among x [] h p q a c e f = absurd a
+once-among x (y ∷ ps) h p q (inl a) (inl c) e f = a ∙ sym c
+once-among x (y ∷ ps) h p q (inl a) (inr c) e f =
+    let z : cond {A = ℕ} (eqb (y .row) x) 1 0 ≡ 1 = rw (eq-eqb (y .row) x (ap (λ (w : Placed). w .row) (sym a) ∙ e)) refl in
+    absurd (let i = among-counted x ps q c f in omega arith)
+once-among x (y ∷ ps) h p q (inr a) (inl c) e f =
+    let z : cond {A = ℕ} (eqb (y .row) x) 1 0 ≡ 1 = rw (eq-eqb (y .row) x (ap (λ (w : Placed). w .row) (sym c) ∙ f)) refl in
+    absurd (let i = among-counted x ps p a e in omega arith)
+once-among x (y ∷ ps) h p q (inr a) (inr c) e f = once-among x ps (omega arith) p q a c e f
+
+place-among : (f : ℕ → Bool) (ps : List Placed) → map f (map (λ p. p .row) ps) ≡ map (λ p. p .body) ps → (p : Placed) → Among p ps → f (p .row) ≡ p .body
+place-among f [] h p a = absurd a
+place-among f (q ∷ ps) h p (inl e) = subst (λ (z : Placed). f (z .row) ≡ z .body) (sym e) (cc h)
+place-among f (q ∷ ps) h p (inr a) = place-among f ps (cc h) p a
+
+module _ (t : List ℕ) (n : ℕ) (kinds : Kinds) (ok : Sound t n) (some : 1 ≤ n) where
+  Somewhere : ℕ → Type 0
+  Somewhere r = (b : Bool) × (ks : Kinds) × Met t n kinds r b ks
+
+  at-last : (r : ℕ) → r ≡ n → Somewhere r
+  unfolding Somewhere
+  at-last r e = subst (λ (k : ℕ). (b : Bool) × (ks : Kinds) × Met t n kinds k b ks) (sym e) (false, kinds, the-formula)
+
+  -- A row stands where the row that names it has it.
+  by-namer : (r : ℕ) (w : Namer t n r) → Somewhere (w .row) → Somewhere r
+  unfolding Somewhere
+  by-namer r w (b, ks, m) =
+      let f = row-among r (namedAt t b ks (shapeAt t (w .row))) (subst (λ (l : List ℕ). 1 ≤ occurrences r l) (sym (rows-named t b ks (shapeAt t (w .row)))) (w .names)) in
+      subst (λ (k : ℕ). (c : Bool) × (ls : Kinds) × Met t n kinds k c ls) (f .2) (f .0 .body, f .0 .kinds, below (w .row) b ks m (f .0) (f .1))
+
+  met-down : (d r : ℕ) → 1 ≤ r → r ≤ n → n ≤ r + d → Somewhere r
+  met-down zero r l u h = at-last r (omega arith)
+  met-down (suc d) r l u h = go (met-down d) (ℕ-discrete r n)
+    where
+      go : ((k : ℕ) → 1 ≤ k → k ≤ n → n ≤ k + d → Somewhere k) → Dec (r ≡ n) → Somewhere r
+      go ih (yes e) = at-last r e
+      go ih (no e) =
+          let w = namer t n ok r l (omega arith) in
+          by-namer r w (ih (w .row) (omega (arith, w .later)) (w .inside) (omega (arith, w .later)))
+
+  pub each-met : (r : ℕ) → 1 ≤ r → r ≤ n → (b : Bool) × (ks : Kinds) × Met t n kinds r b ks
+  unfolding Somewhere
+  each-met r l u = met-down n r l u (omega arith)
+
+  -- In the place of tests 7 to 9.
+  pub met-place : (r : ℕ) (b : Bool) (ks : Kinds) → Met t n kinds r b ks → b ≡ inBody (placesOf t n) r
+  met-place r b ks the-formula = sym (last-place t n (ok .named) some)
+  met-place r b ks (below k c ls m p a) =
+      let i = met-row t n kinds (ok .named) some k c ls m in
+      sym (place-among (λ x. inBody (placesOf t n) x) (namedAt t c ls (shapeAt t k))
+      (ap (map (λ x. inBody (placesOf t n) x)) (rows-named t c ls (shapeAt t k)) ∙ places-named t n ok k (i .0) (i .1)
+      ∙ ap (λ (z : Bool). fieldPlaces z (shapeAt t k)) (sym (met-place k c ls m)) ∙ sym (bodies-named t c ls (shapeAt t k)))
+      p a)
+
+  named-by : (k : ℕ) (c : Bool) (ls : Kinds) → Met t n kinds k c ls → (p : Placed) → Among p (namedAt t c ls (shapeAt t k))
+      → (1 ≤ k) × (k ≤ n) × (1 ≤ p .row) × (p .row < k) × (1 ≤ occurrences (p .row) (namedIn (shapeAt t k)))
+  named-by k c ls m p a =
+      let i = met-row t n kinds (ok .named) some k c ls m in
+      let e = rows-named t c ls (shapeAt t k) in
+      let j = each-between k (namedAt t c ls (shapeAt t k)) (subst (AllBetween k) (sym e) (ok .named .names k (i .0) (i .1))) p a in
+      (i .0, i .1, j .0, j .1, subst (λ (l : List ℕ). 1 ≤ occurrences (p .row) l) e (among-counted (p .row) (namedAt t c ls (shapeAt t k)) p a refl))
+
+  -- Two meetings of a row have the same namer, and that names it once.
+  pub met-once : (r s : ℕ) (b c : Bool) (ks ls : Kinds) → r ≡ s → Met t n kinds r b ks → Met t n kinds s c ls → (b ≡ c) × (ks ≡ ls)
+  met-once r s b c ks ls e the-formula the-formula = (refl, refl)
+  met-once r s b c ks ls e the-formula (below k d ms m p a) = absurd (let i = named-by k d ms m p a in omega (arith, i .1, i .3))
+  met-once r s b c ks ls e (below k d ms m p a) the-formula = absurd (let i = named-by k d ms m p a in omega (arith, i .1, i .3))
+  met-once r s b c ks ls e (below k d ms m p a) (below j f os o q g) = go (ℕ-discrete k j) (λ (x : k ≡ j). met-once k j d f ms os x m o)
+    where
+      i : (1 ≤ k) × (k ≤ n) × (1 ≤ p .row) × (p .row < k) × (1 ≤ occurrences (p .row) (namedIn (shapeAt t k)))
+      i = named-by k d ms m p a
+
+      h : (1 ≤ j) × (j ≤ n) × (1 ≤ q .row) × (q .row < j) × (1 ≤ occurrences (q .row) (namedIn (shapeAt t j)))
+      h = named-by j f os o q g
+
+      single : occurrences (p .row) (map (λ z. z .row) (namedAt t d ms (shapeAt t k))) ≡ 1
+      single = ap (λ (l : List ℕ). occurrences (p .row) l) (rows-named t d ms (shapeAt t k)) ∙ named-once t n ok k (i .0) (i .1) (p .row) (i .2) (i .3) (i .4)
+
+      alike : k ≡ j → (d ≡ f) × (ms ≡ os) → Among q (namedAt t d ms (shapeAt t k))
+      alike x y =
+          subst (λ (z : Bool). Among q (namedAt t z ms (shapeAt t k))) (sym (y .0))
+          (subst (λ (z : Kinds). Among q (namedAt t f z (shapeAt t k))) (sym (y .1))
+          (subst (λ (z : ℕ). Among q (namedAt t f os (shapeAt t z))) (sym x) g))
+
+      go : Dec (k ≡ j) → (k ≡ j → (d ≡ f) × (ms ≡ os)) → (p .body ≡ q .body) × (p .kinds ≡ q .kinds)
+      go (yes x) ih =
+          let same = once-among (p .row) (namedAt t d ms (shapeAt t k)) (omega (arith, single)) p q a (alike x (ih x)) refl (sym e) in
+          (ap (λ (z : Placed). z .body) same, ap (λ (z : Placed). z .kinds) same)
+      go (no x) ih =
+          absurd (let z = only-namer t n ok k (i .0) (i .1) (p .row) (i .2) (i .3) (i .4) j (h .0) (h .1) (λ (w : j ≡ k). x (sym w)) in
+          let y = subst (λ (w : ℕ). 1 ≤ occurrences w (namedIn (shapeAt t j))) (sym e) (h .4) in
+          omega (arith, z, y))
