@@ -18,10 +18,10 @@ use Rattle.formula.specs.Sheet.{shapeAt, namedIn}
 use Rattle.formula.specs.Tree.{expOf}
 use Rattle.formula.specs.Places.{inBody, placesOf, nodeIn}
 use Rattle.formula.specs.Kinds.{Kinds, Rule, bindKinds, kindsE}
-use Rattle.formula.specs.Faults.{faultsBelow, faultsIn, kindCheck}
+use Rattle.formula.specs.Faults.{faultsBelow, ownFault, faultsIn, lowestOf, kindCheck}
 use Rattle.formula.specs.Tests.{occurrences}
 use Rattle.formula.specs.TreeLaws.{AllBetween, Named}
-use Rattle.formula.specs.FaultRows.{Among, lowest-given}
+use Rattle.formula.specs.FaultRows.{Among, Given, lowest-given}
 use Rattle.formula.specs.FaultLaws.{faultsAt, faults-as}
 use Rattle.formula.specs.PlaceLaws.{Sound, fieldPlaces, places-named, named-once, only-namer, Namer, namer, last-place}
 
@@ -157,18 +157,18 @@ module _ (t : List ℕ) (n : ℕ) (kinds : Kinds) where
   unfolding faultsIn
   from-faults rule zero r b ks m x h = absurd h
   from-faults rule (suc depth) r b ks m x h =
-      go (from-faults rule depth) (among-parts x (cond (rule (nodeIn b t r) ks) [] (r ∷ [])) (faultsBelow F t b ks (shapeAt t r)) h)
+      go (from-faults rule depth) (among-parts x (ownFault r (rule (nodeIn b t r) ks)) (faultsBelow F t b ks (shapeAt t r)) h)
     where
       F : Bool → Kinds → ℕ → List ℕ
       F c ls k = faultsIn rule depth t c ls k
 
-      own : (kept : Bool) → rule (nodeIn b t r) ks ≡ kept → Among x (cond kept [] (r ∷ [])) → Broken rule t n kinds x
+      own : (kept : Bool) → rule (nodeIn b t r) ks ≡ kept → Among x (ownFault r kept) → Broken rule t n kinds x
       own true e a = absurd a
       own false e (inl q) = subst (Broken rule t n kinds) (sym q) (b, ks, m, e)
       own false e (inr a) = absurd a
 
       go : ((k : ℕ) (c : Bool) (ls : Kinds) → Met t n kinds k c ls → (y : ℕ) → Among y (F c ls k) → Broken rule t n kinds y)
-          → Among x (cond (rule (nodeIn b t r) ks) [] (r ∷ [])) ⊎ Among x (faultsBelow F t b ks (shapeAt t r)) → Broken rule t n kinds x
+          → Among x (ownFault r (rule (nodeIn b t r) ks)) ⊎ Among x (faultsBelow F t b ks (shapeAt t r)) → Broken rule t n kinds x
       go ih (inl a) = own (rule (nodeIn b t r) ks) refl a
       go ih (inr a) =
           let f = gathered-from F x (namedAt t b ks (shapeAt t r)) (subst (Among x) (below-gathered F t b ks (shapeAt t r)) a) in
@@ -188,13 +188,13 @@ module _ (t : List ℕ) (n : ℕ) (kinds : Kinds) where
       into-faults r b ks the-formula x h = h
       into-faults r b ks (below k c ls m p a) x h =
           let i = met-row k c ls m in
-          let e = faults-as rule t n ok k (i .0) (i .1) c ls (shapeAt t k) refl ∙ ap (λ (l : List ℕ). cond (rule (nodeIn c t k) ls) [] (k ∷ []) ++ l) (below-gathered (faultsAt rule t) t c ls (shapeAt t k)) in
+          let e = faults-as rule t n ok k (i .0) (i .1) c ls (shapeAt t k) refl ∙ ap (λ (l : List ℕ). ownFault k (rule (nodeIn c t k) ls) ++ l) (below-gathered (faultsAt rule t) t c ls (shapeAt t k)) in
           into-faults k c ls m x
-          (subst (Among x) (sym e) (among-second x (cond (rule (nodeIn c t k) ls) [] (k ∷ [])) _ (from-gathered (faultsAt rule t) x (namedAt t c ls (shapeAt t k)) p a h)))
+          (subst (Among x) (sym e) (among-second x (ownFault k (rule (nodeIn c t k) ls)) _ (from-gathered (faultsAt rule t) x (namedAt t c ls (shapeAt t k)) p a h)))
 
       own-fault : (r : ℕ) (b : Bool) (ks : Kinds) → (1 ≤ r) × (r ≤ n) → rule (nodeIn b t r) ks ≡ false → Among r (faultsAt rule t b ks r)
       own-fault r b ks i e =
-          let f = faults-as rule t n ok r (i .0) (i .1) b ks (shapeAt t r) refl ∙ ap (λ (z : Bool). cond z [] (r ∷ []) ++ faultsBelow (faultsAt rule t) t b ks (shapeAt t r)) e in
+          let f = faults-as rule t n ok r (i .0) (i .1) b ks (shapeAt t r) refl ∙ ap (λ (z : Bool). ownFault r z ++ faultsBelow (faultsAt rule t) t b ks (shapeAt t r)) e in
           subst (Among r) (sym f) (inl refl)
 
       -- The rows at fault are those that break the rule where they stand.
@@ -204,26 +204,36 @@ module _ (t : List ℕ) (n : ℕ) (kinds : Kinds) where
         λ f. into-faults r (f .0) (f .1) (f .2) r (own-fault r (f .0) (f .1) (met-row r (f .0) (f .1) (f .2)) (f .3)),
       )
 
-      -- Of 18 the lowest of them is given.
-      pub lowest-broken : (row : ℕ) → kindCheck rule t n kinds ≡ Fault row → LowestBroken rule t n kinds row
-      unfolding kindCheck
-      lowest-broken row h = record { first = i .0; last = i .1; fault = f; lower = kept }
-        where
-          g : Among row (faultsIn rule n t false kinds n) × ((k : ℕ) → Among k (faultsIn rule n t false kinds n) → row ≤ k)
-          g = lowest-given (faultsIn rule n t false kinds n) row h
+-- A row is given where there is one.
+some-row : (rule : Rule) (t : List ℕ) (n : ℕ) (kinds : Kinds) (row : ℕ) → kindCheck rule t n kinds ≡ Fault row → 1 ≤ n
+unfolding kindCheck faultsIn lowestOf
+some-row rule t zero kinds row h = absurd (let z : _≡_ {A = ℕ} 0 1 = cc h in omega arith)
+some-row rule t (suc n) kinds row h = omega arith
 
-          f : Broken rule t n kinds row
-          f = broken-iff row .0 (g .0)
+-- Of 18 the lowest row that breaks the rule where it stands is given.
+pub lowest-broken : (rule : Rule) (t : List ℕ) (n : ℕ) → Named t n → (kinds : Kinds) (row : ℕ) → kindCheck rule t n kinds ≡ Fault row
+    → LowestBroken rule t n kinds row
+unfolding kindCheck
+lowest-broken rule t n ok kinds row h = record { first = i .0; last = i .1; fault = f; lower = kept }
+  where
+    some : 1 ≤ n
+    some = some-row rule t n kinds row h
 
-          i : (1 ≤ row) × (row ≤ n)
-          i = met-row row (f .0) (f .1) (f .2)
+    g : Given row (faultsIn rule n t false kinds n)
+    g = lowest-given (faultsIn rule n t false kinds n) row h
 
-          kept : (j : ℕ) → j < row → (b : Bool) (ks : Kinds) → Met t n kinds j b ks → rule (nodeIn b t j) ks ≡ true
-          kept j l b ks m = by (rule (nodeIn b t j) ks) refl
-            where
-              by : (z : Bool) → rule (nodeIn b t j) ks ≡ z → z ≡ true
-              by true e = refl
-              by false e = absurd (omega (arith, g .1 j (broken-iff j .1 (b, ks, m, e))))
+    f : Broken rule t n kinds row
+    f = broken-iff t n kinds ok some rule row .0 (g .0)
+
+    i : (1 ≤ row) × (row ≤ n)
+    i = met-row t n kinds ok some row (f .0) (f .1) (f .2)
+
+    kept : (j : ℕ) → j < row → (b : Bool) (ks : Kinds) → Met t n kinds j b ks → rule (nodeIn b t j) ks ≡ true
+    kept j l b ks m = by (rule (nodeIn b t j) ks) refl
+      where
+        by : (z : Bool) → rule (nodeIn b t j) ks ≡ z → z ≡ true
+        by true e = refl
+        by false e = absurd (omega (arith, g .1 j (broken-iff t n kinds ok some rule j .1 (b, ks, m, e))))
 
 -- ---- each row is met, in one place with the same kinds
 
