@@ -24,6 +24,9 @@ pub const ZERO_DIVISOR: u64 = 259;
 
 pub const OUT_OF_RANGE: u64 = 515;
 
+// How many reasons an err can have.
+const REASONS: u64 = 3;
+
 // The letter of the kind of truths in a kinds line; every other is that of whole numbers.
 pub const TRUTH_LETTER: u8 = 84;
 
@@ -132,7 +135,7 @@ pub fn is_value(w: u64) -> bool
     match w % 256 {
         1 => bits < 4294967296,
         2 => bits < 2,
-        3 => bits < 3,
+        3 => bits < REASONS,
         _ => false,
     }
 }
@@ -145,7 +148,7 @@ pub fn is_of_kind(letter: u8, w: u64) -> bool
     match w % 256 {
         1 => whole_in(letter, bits),
         2 => truth_in(letter, bits),
-        3 => bits < 3,
+        3 => bits < REASONS,
         _ => false,
     }
 }
