@@ -197,7 +197,7 @@ module _ (s : List ℕ) where
   unfolding namesWell
   naming-from h = record { names = λ r a b. all-between r (namedIn (shapeAt (fieldsOf s) r)) (h r a b) }
 
-  each-naming : Each (Passes (sheetOf s)) rowTests → Naming-well (fieldsOf s) (rowCount s)
+  pub each-naming : Each (Passes (sheetOf s)) rowTests → Naming-well (fieldsOf s) (rowCount s)
   unfolding rowTests sheetOf
   each-naming (first, (second, (third, (fourth, (fifth, end))))) = naming-from (passed-each (rowCount s) (namesWell (fieldsOf s)) fifth)
 

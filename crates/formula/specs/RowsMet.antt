@@ -12,8 +12,7 @@ use native.Mathlib.Omega.{arith}
 use native.Mathlib.Decide.{ℕ-discrete}
 use Rattle.formula.specs.declared.Shape.{Shape}
 use Rattle.formula.specs.declared.Shape.the-variants.{Identifier, Constant, Pair, Operator, Let, If, For, Iter}
-use Rattle.formula.specs.declared.Check.{Check}
-use Rattle.formula.specs.declared.Check.the-variants.{Passed, Fault}
+use Rattle.formula.specs.declared.Check.the-variants.{Fault}
 use Rattle.formula.specs.Sheet.{shapeAt, namedIn}
 use Rattle.formula.specs.Tree.{expOf}
 use Rattle.formula.specs.Places.{inBody, placesOf, nodeIn}
@@ -54,6 +53,9 @@ pub data Met (t : List ℕ) (n : ℕ) (kinds : Kinds) : ℕ → Bool → Kinds �
   below : (r : ℕ) (b : Bool) (ks : Kinds) → Met t n kinds r b ks → (p : Placed) → Among p (namedAt t b ks (shapeAt t r))
       → Met t n kinds (p .row) (p .body) (p .kinds)
 
+abbrev pub Somewhere : List ℕ → ℕ → Kinds → ℕ → Type 0
+Somewhere t n kinds r = (b : Bool) × (ks : Kinds) × Met t n kinds r b ks
+
 -- A row that breaks the rule where it stands.
 abbrev pub Broken : Rule → List ℕ → ℕ → Kinds → ℕ → Type 0
 Broken rule t n kinds r = (b : Bool) × (ks : Kinds) × Met t n kinds r b ks × (rule (nodeIn b t r) ks ≡ false)
@@ -88,27 +90,27 @@ among-second x (y ∷ l) m h = inr (among-second x l m h)
 -- ---- the rows that a row names
 
 -- They are those of test 5, in the places of tests 7 to 9.
-pub rows-named : (t : List ℕ) (b : Bool) (ks : Kinds) (s : Shape) → map (λ p. p .row) (namedAt t b ks s) ≡ namedIn s
+rows-listed : (t : List ℕ) (b : Bool) (ks : Kinds) (s : Shape) → map (λ p. p .row) (namedAt t b ks s) ≡ namedIn s
 unfolding namedAt namedIn
-rows-named t b ks (Identifier i) = refl
-rows-named t b ks (Constant k i) = refl
-rows-named t b ks (Pair x y) = refl
-rows-named t b ks (Operator k x) = refl
-rows-named t b ks (Let i k x y) = refl
-rows-named t b ks (If x y z) = refl
-rows-named t b ks (For i k x y) = refl
-rows-named t b ks (Iter x) = refl
+rows-listed t b ks (Identifier i) = refl
+rows-listed t b ks (Constant k i) = refl
+rows-listed t b ks (Pair x y) = refl
+rows-listed t b ks (Operator k x) = refl
+rows-listed t b ks (Let i k x y) = refl
+rows-listed t b ks (If x y z) = refl
+rows-listed t b ks (For i k x y) = refl
+rows-listed t b ks (Iter x) = refl
 
-pub bodies-named : (t : List ℕ) (b : Bool) (ks : Kinds) (s : Shape) → map (λ p. p .body) (namedAt t b ks s) ≡ fieldPlaces b s
+places-listed : (t : List ℕ) (b : Bool) (ks : Kinds) (s : Shape) → map (λ p. p .body) (namedAt t b ks s) ≡ fieldPlaces b s
 unfolding namedAt fieldPlaces
-bodies-named t b ks (Identifier i) = refl
-bodies-named t b ks (Constant k i) = refl
-bodies-named t b ks (Pair x y) = refl
-bodies-named t b ks (Operator k x) = refl
-bodies-named t b ks (Let i k x y) = refl
-bodies-named t b ks (If x y z) = refl
-bodies-named t b ks (For i k x y) = refl
-bodies-named t b ks (Iter x) = refl
+places-listed t b ks (Identifier i) = refl
+places-listed t b ks (Constant k i) = refl
+places-listed t b ks (Pair x y) = refl
+places-listed t b ks (Operator k x) = refl
+places-listed t b ks (Let i k x y) = refl
+places-listed t b ks (If x y z) = refl
+places-listed t b ks (For i k x y) = refl
+places-listed t b ks (Iter x) = refl
 
 -- The rows at fault below a row are those at the rows that it names.
 module _ (F : Bool → Kinds → ℕ → List ℕ) where
@@ -180,7 +182,7 @@ module _ (t : List ℕ) (n : ℕ) (kinds : Kinds) where
     met-row r b ks the-formula = (some, omega arith)
     met-row r b ks (below k c ls m p a) =
         let i = met-row k c ls m in
-        let j = each-between k (namedAt t c ls (shapeAt t k)) (subst (AllBetween k) (sym (rows-named t c ls (shapeAt t k))) (ok .names k (i .0) (i .1))) p a in
+        let j = each-between k (namedAt t c ls (shapeAt t k)) (subst (AllBetween k) (sym (rows-listed t c ls (shapeAt t k))) (ok .names k (i .0) (i .1))) p a in
         (j .0, omega (arith, i .1, j .1))
 
     module _ (rule : Rule) where
@@ -277,53 +279,48 @@ place-among f (q ∷ ps) h p (inl e) = subst (λ (z : Placed). f (z .row) ≡ z 
 place-among f (q ∷ ps) h p (inr a) = place-among f ps (cc h) p a
 
 module _ (t : List ℕ) (n : ℕ) (kinds : Kinds) (ok : Sound t n) (some : 1 ≤ n) where
-  Somewhere : ℕ → Type 0
-  Somewhere r = (b : Bool) × (ks : Kinds) × Met t n kinds r b ks
-
-  at-last : (r : ℕ) → r ≡ n → Somewhere r
-  unfolding Somewhere
-  at-last r e = subst (λ (k : ℕ). (b : Bool) × (ks : Kinds) × Met t n kinds k b ks) (sym e) (false, kinds, the-formula)
+  at-last : (r : ℕ) → r ≡ n → Somewhere t n kinds r
+  at-last r e = subst (Somewhere t n kinds) (sym e) (false, kinds, the-formula)
 
   -- A row stands where the row that names it has it.
-  by-namer : (r : ℕ) (w : Namer t n r) → Somewhere (w .row) → Somewhere r
-  unfolding Somewhere
+  by-namer : (r : ℕ) (w : Namer t n r) → Somewhere t n kinds (w .row) → Somewhere t n kinds r
   by-namer r w (b, ks, m) =
-      let f = row-among r (namedAt t b ks (shapeAt t (w .row))) (subst (λ (l : List ℕ). 1 ≤ occurrences r l) (sym (rows-named t b ks (shapeAt t (w .row)))) (w .names)) in
-      subst (λ (k : ℕ). (c : Bool) × (ls : Kinds) × Met t n kinds k c ls) (f .2) (f .0 .body, f .0 .kinds, below (w .row) b ks m (f .0) (f .1))
+      let f = row-among r (namedAt t b ks (shapeAt t (w .row))) (subst (λ (l : List ℕ). 1 ≤ occurrences r l) (sym (rows-listed t b ks (shapeAt t (w .row)))) (w .names)) in
+      subst (Somewhere t n kinds) (f .2) (f .0 .body, f .0 .kinds, below (w .row) b ks m (f .0) (f .1))
 
-  met-down : (d r : ℕ) → 1 ≤ r → r ≤ n → n ≤ r + d → Somewhere r
+  met-down : (d r : ℕ) → 1 ≤ r → r ≤ n → n ≤ r + d → Somewhere t n kinds r
   met-down zero r l u h = at-last r (omega arith)
   met-down (suc d) r l u h = go (met-down d) (ℕ-discrete r n)
     where
-      go : ((k : ℕ) → 1 ≤ k → k ≤ n → n ≤ k + d → Somewhere k) → Dec (r ≡ n) → Somewhere r
+      go : ((k : ℕ) → 1 ≤ k → k ≤ n → n ≤ k + d → Somewhere t n kinds k) → Dec (r ≡ n) → Somewhere t n kinds r
       go ih (yes e) = at-last r e
       go ih (no e) =
           let w = namer t n ok r l (omega arith) in
           by-namer r w (ih (w .row) (omega (arith, w .later)) (w .inside) (omega (arith, w .later)))
 
-  pub each-met : (r : ℕ) → 1 ≤ r → r ≤ n → (b : Bool) × (ks : Kinds) × Met t n kinds r b ks
-  unfolding Somewhere
+  -- Each row stands somewhere,
+  pub each-met : (r : ℕ) → 1 ≤ r → r ≤ n → Somewhere t n kinds r
   each-met r l u = met-down n r l u (omega arith)
 
-  -- In the place of tests 7 to 9.
+  -- in the place of tests 7 to 9,
   pub met-place : (r : ℕ) (b : Bool) (ks : Kinds) → Met t n kinds r b ks → b ≡ inBody (placesOf t n) r
   met-place r b ks the-formula = sym (last-place t n (ok .named) some)
   met-place r b ks (below k c ls m p a) =
       let i = met-row t n kinds (ok .named) some k c ls m in
       sym (place-among (λ x. inBody (placesOf t n) x) (namedAt t c ls (shapeAt t k))
-      (ap (map (λ x. inBody (placesOf t n) x)) (rows-named t c ls (shapeAt t k)) ∙ places-named t n ok k (i .0) (i .1)
-      ∙ ap (λ (z : Bool). fieldPlaces z (shapeAt t k)) (sym (met-place k c ls m)) ∙ sym (bodies-named t c ls (shapeAt t k)))
+      (ap (map (λ x. inBody (placesOf t n) x)) (rows-listed t c ls (shapeAt t k)) ∙ places-named t n ok k (i .0) (i .1)
+      ∙ ap (λ (z : Bool). fieldPlaces z (shapeAt t k)) (sym (met-place k c ls m)) ∙ sym (places-listed t c ls (shapeAt t k)))
       p a)
 
   named-by : (k : ℕ) (c : Bool) (ls : Kinds) → Met t n kinds k c ls → (p : Placed) → Among p (namedAt t c ls (shapeAt t k))
       → (1 ≤ k) × (k ≤ n) × (1 ≤ p .row) × (p .row < k) × (1 ≤ occurrences (p .row) (namedIn (shapeAt t k)))
   named-by k c ls m p a =
       let i = met-row t n kinds (ok .named) some k c ls m in
-      let e = rows-named t c ls (shapeAt t k) in
+      let e = rows-listed t c ls (shapeAt t k) in
       let j = each-between k (namedAt t c ls (shapeAt t k)) (subst (AllBetween k) (sym e) (ok .named .names k (i .0) (i .1))) p a in
       (i .0, i .1, j .0, j .1, subst (λ (l : List ℕ). 1 ≤ occurrences (p .row) l) e (among-counted (p .row) (namedAt t c ls (shapeAt t k)) p a refl))
 
-  -- Two meetings of a row have the same namer, and that names it once.
+  -- and nowhere else: two meetings of a row have the same namer, which names it once.
   pub met-once : (r s : ℕ) (b c : Bool) (ks ls : Kinds) → r ≡ s → Met t n kinds r b ks → Met t n kinds s c ls → (b ≡ c) × (ks ≡ ls)
   met-once r s b c ks ls e the-formula the-formula = (refl, refl)
   met-once r s b c ks ls e the-formula (below k d ms m p a) = absurd (let i = named-by k d ms m p a in omega (arith, i .1, i .3))
@@ -337,7 +334,7 @@ module _ (t : List ℕ) (n : ℕ) (kinds : Kinds) (ok : Sound t n) (some : 1 ≤
       h = named-by j f os o q g
 
       single : occurrences (p .row) (map (λ z. z .row) (namedAt t d ms (shapeAt t k))) ≡ 1
-      single = ap (λ (l : List ℕ). occurrences (p .row) l) (rows-named t d ms (shapeAt t k)) ∙ named-once t n ok k (i .0) (i .1) (p .row) (i .2) (i .3) (i .4)
+      single = ap (λ (l : List ℕ). occurrences (p .row) l) (rows-listed t d ms (shapeAt t k)) ∙ named-once t n ok k (i .0) (i .1) (p .row) (i .2) (i .3) (i .4)
 
       alike : k ≡ j → (d ≡ f) × (ms ≡ os) → Among q (namedAt t d ms (shapeAt t k))
       alike x y =
