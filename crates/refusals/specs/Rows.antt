@@ -3,7 +3,7 @@
 use Prim.Native.Nat.{ℕ, _-_, _≤_, _<_}
 use mathlib.Core.Path.{_≡_, refl}
 use mathlib.Core.Bool.{Bool, true, false}
-use mathlib.Core.List.{List}
+use mathlib.Core.List.{List, _++_}
 use lib.Dec.{leb}
 use Rattle.formula.specs.declared.Refusal.{Refusal}
 use Rattle.formula.specs.declared.Refusal.the-variants.{Layout, Rows, Malformed, Range, Naming, Named, StrayIter, Width, Unused, Operators, Memory, Set, SetFile, Capacity, KindsLine, KindsBroken, Altered, Untaken, Full, NotAble, NoResult, Unfinished}
@@ -17,10 +17,12 @@ use Rattle.formula.specs.Tests.{lowest, laidOut, fewRows, fieldsWell, rangesWel
 use Rattle.formula.specs.Tree.{expOf}
 use Rattle.formula.specs.Free.{freeE}
 use Rattle.formula.specs.Kinds.{kinded}
-use Rattle.formula.specs.Faults.{faultsIn, inputKinds, kindCheck}
-use Rattle.formula.specs.FaultRows.{Given, lowest-given}
+use Rattle.formula.specs.Faults.{inputKinds}
+use Rattle.formula.specs.TreeLaws.{Named as Naming-well}
+use Rattle.formula.specs.RowsMet.{LowestBroken, lowest-broken}
+use Rattle.formula.specs.Acceptance.{each-naming}
 use Rattle.formula.specs.TestLaws.{lowest-fault, whole-zero}
-use Rattle.formula.specs.Verdicts.{Each, _also_, FaultSays, refusal-says}
+use Rattle.formula.specs.Verdicts.{Each, _also_, FaultSays, later-says}
 
 -- The lowest of n rows that is not well.
 pub record LowestAt (n : ℕ) (well : ℕ → Bool) (row : ℕ) : Type 0 where
@@ -29,9 +31,10 @@ pub record LowestAt (n : ℕ) (well : ℕ → Bool) (row : ℕ) : Type 0 where
   pub fault : well row ≡ false
   pub lower : (j : ℕ) → 1 ≤ j → j < row → well j ≡ true
 
--- The rows that break the kinds that a line tells (formula/specs/Faults).
-abbrev pub broken : List ℕ → List ℕ → List ℕ
-broken s line = faultsIn kinded (rowCount s) (fieldsOf s) false (inputKinds (freeE (expOf (fieldsOf s) (rowCount s))) line) (rowCount s)
+-- The lowest row that breaks, where it stands, the kinds that a line tells. In a sheet that passed test 6 each row stands in one place with
+-- one kind for each identifier (formula/specs/RowsMet).
+abbrev pub LowestOfKinds : List ℕ → List ℕ → ℕ → Type 0
+LowestOfKinds s line row = LowestBroken kinded (fieldsOf s) (rowCount s) (inputKinds (freeE (expOf (fieldsOf s) (rowCount s))) line) row
 
 -- The row that goes with a refusal of a sheet with a kinds line.
 abbrev pub RowOf : List ℕ → List ℕ → Refusal → ℕ → Type 0
@@ -45,7 +48,7 @@ RowOf s line StrayIter row = LowestAt (rowCount s) (placedWell (fieldsOf s) (pla
 RowOf s line Width row = LowestAt (rowCount s) (widthsWell (fieldsOf s) (placesOf (fieldsOf s) (rowCount s))) row
 RowOf s line Unused row = LowestAt (rowCount s) (boundWell (fieldsOf s) (placesOf (fieldsOf s) (rowCount s))) row
 RowOf s line KindsLine row = row ≡ 0
-RowOf s line KindsBroken row = Given row (broken s line)
+RowOf s line KindsBroken row = LowestOfKinds s line row
 RowOf s line Operators row = row ≡ 0
 RowOf s line Memory row = row ≡ 0
 RowOf s line Set row = row ≡ 0
@@ -73,15 +76,23 @@ by-refusal s line (refused r row) h = h r row refl
 pub lowest-at : (n : ℕ) (well : ℕ → Bool) (row : ℕ) → lowest n well ≡ Fault row → LowestAt n well row
 lowest-at n well row h = let i = lowest-fault n well row h in record { first = i .0; last = i .1; fault = i .2; lower = i .3 }
 
-fault-rows : (s line : List ℕ) → Each (FaultSays (RowOf s line) (sheetOf s)) (tests line)
-unfolding tests rowTests formulaTests kindTests graphTests sheetOf kindsKept kindCheck
-fault-rows s line =
-    whole-zero (laidOut s (linesOf s)) also whole-zero (fewRows s) also lowest-at _ _ also lowest-at _ _ also lowest-at _ _
-    also lowest-at _ _ also lowest-at _ _ also lowest-at _ _ also lowest-at _ _
-    also whole-zero (lineFits (fieldsOf s) (rowCount s) line) also lowest-given (broken s line)
+row-faults : (s line : List ℕ) → Each (FaultSays (RowOf s line) (sheetOf s)) rowTests
+unfolding rowTests sheetOf
+row-faults s line =
+    whole-zero (laidOut s (linesOf s)) also whole-zero (fewRows s) also lowest-at _ _ also lowest-at _ _ also lowest-at _ _ also tt
+
+-- Behind test 5, which says that the rows named are the sheet's.
+later-faults : (s line : List ℕ) → Naming-well (fieldsOf s) (rowCount s) → Each (FaultSays (RowOf s line) (sheetOf s)) (formulaTests ++ (kindTests line ++ graphTests))
+unfolding formulaTests kindTests graphTests sheetOf kindsKept
+later-faults s line ok =
+    lowest-at _ _ also lowest-at _ _ also lowest-at _ _ also lowest-at _ _
+    also whole-zero (lineFits (fieldsOf s) (rowCount s) line) also lowest-broken kinded (fieldsOf s) (rowCount s) ok _
     also whole-zero (leb (operatorsOf (fieldsOf s) (rowCount s)) 1024) also tt
 
 -- What reading says of a sheet has the row that goes with it.
 pub verdict-row : (s line : List ℕ) → VerdictRow s line (verdictOf s line)
-unfolding verdictOf
-verdict-row s line = by-refusal s line (verdictOf s line) (refusal-says (sheetOf s) (RowOf s line) (tests line) (fault-rows s line))
+unfolding verdictOf tests
+verdict-row s line =
+    by-refusal s line (verdictOf s line)
+    (later-says (sheetOf s) (RowOf s line) rowTests (formulaTests ++ (kindTests line ++ graphTests)) (row-faults s line)
+    (λ h. later-faults s line (each-naming s h)))
