@@ -83,16 +83,20 @@ impl Checker<'_> {
                 // "the first arm's [..] kinds hold"
                 yes
             }
-            8 => {
-                let inner = self.bound(&row, names);
-                let body = self.body(d, inner);
-                // "row c's kinds hold": the identifiers keep them, whatever the rounds iterate.
-                let started = (inner & bound_names(&row)) >> a;
-                self.demand(number, body.iterated == Some(started));
-                body.returned.expect("a for has a returned width")
-            }
+            8 => self.repeated(number, names),
             _ => unreachable!("an iter in an expression place"),
         }
+    }
+
+    /// What a for's body returns, whose rounds must agree with row c.
+    fn repeated(&mut self, number: u32, names: Truths) -> Truths {
+        let row = self.line(number).row;
+        // "row c's kinds hold": the identifiers keep them, whatever the rounds iterate.
+        let inner = self.bound(&row, names);
+        let body = self.body(row.d, inner);
+        let started = (inner & bound_names(&row)) >> row.a;
+        self.demand(number, body.iterated == Some(started));
+        body.returned.expect("a for has a returned width")
     }
 
     /// The identifiers' kinds inside a let or a for: those bound have the kinds of row c.
