@@ -117,6 +117,30 @@ static const struct {
      "     5     6     4     0     0\n     3     1     0     0     0\n     9     6     0     0     0\n     1     0     0     0     0\n"
      "     7     5     7     8     0\n     8     0     1     1     9\n",
      "W\n", 10},
+    /* for x0 = x0 do if x1 then iter x0 else x0 */
+    {"a loop's test of kind W",
+     "     1     0     0     0     0\n     1     1     0     0     0\n     1     0     0     0     0\n     9     3     0     0     0\n"
+     "     1     0     0     0     0\n     7     2     4     5     0\n     8     0     1     1     6\n",
+     "WW\n", 6},
+    /* for x0 = x0 do if x1 then (if x1 then iter 1 else iter true) else x0 */
+    {"iters of two kinds",
+     "     1     0     0     0     0\n     1     1     0     0     0\n     1     1     0     0     0\n     2     1     0     0     0\n"
+     "     9     4     0     0     0\n     3     1     0     0     0\n     9     6     0     0     0\n     7     3     5     7     0\n"
+     "     1     0     0     0     0\n     7     2     8     9     0\n     8     0     1     1    10\n",
+     "WT\n", 8},
+    /* let x1 = (for x1 = 1 do if x0 then (if x0 then 1 else true) else iter x1) in (not or minus) x1: the first of the returning arms holds */
+    {"returned values of two kinds",
+     "     1     1     0     0     0\n     5    11     1     0     0\n     2     1     0     0     0\n     1     0     0     0     0\n"
+     "     1     0     0     0     0\n     2     1     0     0     0\n     3     1     0     0     0\n     7     5     6     7     0\n"
+     "     1     1     0     0     0\n     9     9     0     0     0\n     7     4     8    10     0\n     8     1     1     3    11\n"
+     "     6     1     1    12     2\n",
+     "T\n", 8},
+    {"returned values of two kinds, and not of them",
+     "     1     1     0     0     0\n     5    10     1     0     0\n     2     1     0     0     0\n     1     0     0     0     0\n"
+     "     1     0     0     0     0\n     2     1     0     0     0\n     3     1     0     0     0\n     7     5     6     7     0\n"
+     "     1     1     0     0     0\n     9     9     0     0     0\n     7     4     8    10     0\n     8     1     1     3    11\n"
+     "     6     1     1    12     2\n",
+     "T\n", 2},
     /* let x1 = (if x0 then true else 1) in -x1: the first arm's kinds hold, so that the negation is at fault too, in a lower row */
     {"a row below the one that causes it",
      "     1     1     0     0     0\n     5    11     1     0     0\n     1     0     0     0     0\n     3     1     0     0     0\n"

@@ -21,6 +21,9 @@ const ROUNDS: u32 = 2_000;
 /// Bytes behind the lent ones.
 const MARGIN: usize = 32;
 
+/// How many bytes a memory has before its links.
+const FIGURES: usize = 8;
+
 /// Where a memory has its number of inputs.
 const INPUTS_AT: usize = 5;
 
@@ -106,6 +109,9 @@ fn compare_case(number: u64, made: &Made, counts: &mut Counts, rng: &mut Rng) ->
         return Ok(());
     }
     let sheet = sheet::read(&made.bytes, &made.kinds).map_err(|refusal| format!("{refusal:?}"))?;
+    if fixed_figures(&plain) != fixed_figures(&mem) {
+        return Err("start stores other figures or letters than those here".into());
+    }
     // The product's own graph, and now and then the one made here: the calls must do with both.
     let mem = if number % 4 == 3 { plain } else { mem };
     let mut run = Run { sheet: &sheet, mem, pushed: VecDeque::new(), altered: false, counts };
@@ -118,6 +124,11 @@ fn compare_case(number: u64, made: &Made, counts: &mut Counts, rng: &mut Rng) ->
         run.call(length, rng)?;
     }
     Ok(())
+}
+
+/// What a start stores whatever the numbering is: the header's figures before the links, and the letters.
+fn fixed_figures(mem: &[u8]) -> (&[u8], &[u8]) {
+    (&mem[..FIGURES], &mem[LETTERS..LETTERS + usize::from(mem[INPUTS_AT])])
 }
 
 impl Run<'_> {
