@@ -6,7 +6,7 @@ use Prim.Native.Nat.{ℕ, zero, suc, _+_, _*_}
 use mathlib.Core.Bool.{Bool, true, false, cond, _&&_}
 use mathlib.Core.List.{List, [], _∷_, _++_}
 use mathlib.Core.Option.{Option, some, none}
-use lib.ListN.{length, getD}
+use lib.ListN.{length, getD, take, drop}
 use lib.Seq.{slice}
 use lib.Dec.{eqb}
 use Rattle.value.specs.Operators.{pick}
@@ -26,6 +26,10 @@ unfoldable pub linesOf : List ℕ → List (List ℕ)
 unfolding before
 linesOf [] = []
 linesOf (b ∷ s) = cond (eqb b 10) ((10 ∷ []) ∷ linesOf s) (before b (linesOf s))
+
+-- What stands in a file from a place on, as long as a line of values of these kinds.
+abbrev pub lineAt : List ℕ → List ℕ → ℕ → List ℕ
+lineAt kinds s at = take (11 * length kinds + 1) (drop at s)
 
 -- "one 11-character field a value": field j of a line, from 0 on.
 abbrev pub fieldAt : List ℕ → ℕ → List ℕ
