@@ -142,7 +142,14 @@ pub fn run(formula: &[u8], kinds: &[u8], file: &[u8]) {
     let told = load(kinds, &mut line);
     let n = load(file, &mut sets);
     let length = sheet.length;
-    let opened = open(&first[..length], sheet.seen, &line[..told], &sets[..n], &mut mem, &mut out);
+    let opened = open(
+        &first[..length],
+        sheet.seen,
+        &line[..told],
+        &sets[..n],
+        &mut mem,
+        &mut out,
+    );
     let inputs = opened.inputs;
     repeat(&mut mem, &sets[..n], &line[..inputs], opened, &mut out);
 }

@@ -36,7 +36,14 @@ fn refused(number: u32, row: u32, end: usize, out: &mut [u8]) -> Opened
 
 // `first` has the sheet's first bytes, up to 6,200; `seen` is what was kept of all of them. `line` has the kinds line's
 // first bytes, up to 64, and `sets` the set file's, up to 65,537.
-pub fn open(first: &[u8], seen: Seen, line: &[u8], sets: &[u8], mem: &mut [u8], out: &mut [u8]) -> Opened
+pub fn open(
+    first: &[u8],
+    seen: Seen,
+    line: &[u8],
+    sets: &[u8],
+    mem: &mut [u8],
+    out: &mut [u8],
+) -> Opened
     requires { ⌜ (need (sizeOf linkCapacity) ≤ length (now mem)) × (outBytes ≤ length (now out)) × (length (now sets) ≤ mostSetBytes + 1) ⌝ }
     ensures { λ r. ⌜ OpensTo (now (first .entry)) seen (now (line .entry)) (now (sets .entry)) r (now (mem .exit)) (now (out .exit)) ⌝ }
     ensures { λ r. ⌜ Within (now (line .entry)) (length (now (sets .entry))) r
