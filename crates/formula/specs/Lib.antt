@@ -19,5 +19,4 @@ pub mod Admitted
 pub mod PlaceLaws
 pub mod CountLaws
 pub mod Acceptance
-pub mod LongLines
 pub mod KindWidths

@@ -20,7 +20,7 @@ use Rattle.formula.specs.Faults.{lettersOf}
 use Rattle.formula.specs.Tests.{verdictOf, laidOut, figuresOf, is-passed, lowest, endedAt}
 use Rattle.formula.specs.TreeLaws.{and-true}
 use Rattle.formula.specs.Acceptance.{layout-refused, rows-refused}
-use Rattle.formula.specs.LongLines.{told-length, verdict-behind, passed-short}
+use Rattle.session.specs.LongLines.{told-length, verdict-behind, passed-short}
 use Rattle.machine_layout.specs.Layout.{need, sizeOf}
 use Rattle.graph.specs.Translation.{madeOf}
 use Rattle.machine_start.specs.declared.StartAnswer.{StartAnswer}

@@ -1,37 +1,26 @@
 -- A kinds line has one letter an input, of which there are at most 33, and a line feed. So what stands behind as many bytes makes no difference: the line has
 -- another length, and 17 or an earlier refusal comes. Assumes nothing.
-use Prim.Native.Nat.{ℕ, zero, suc, _+_, _≤_, _<_}
+use Prim.Native.Nat.{ℕ, suc, _≤_, _<_}
 use mathlib.Core.Path.{_≡_, refl, sym, ap, _∙_}
-use mathlib.Core.Bool.{Bool, true, false, false≢true, _&&_}
-use mathlib.Core.List.{List, [], _∷_, _++_}
+use mathlib.Core.Bool.{Bool, true, false}
+use mathlib.Core.List.{List, _++_}
 use native.Mathlib.Omega.{arith}
 use lib.ListN.{length, length-append}
-use Rattle.value.specs.Kinds.{isLetter}
 use Rattle.names.specs.Names.{without, one, trigger}
 use Rattle.names.proofs.Sets.{length-members, size-le}
 use Rattle.formula.specs.declared.Refusal.the-variants.{KindsLine}
-use Rattle.formula.specs.declared.Verdict.{Verdict}
 use Rattle.formula.specs.declared.Verdict.the-variants.{Passed as passed, Refused}
 use Rattle.formula.specs.Sheet.{rowCount, fieldsOf}
 use Rattle.formula.specs.Tree.{Exp, expOf}
 use Rattle.formula.specs.Free.{freeE, inputsOf}
-use Rattle.formula.specs.Faults.{lineWell}
 use Rattle.formula.specs.Tests.{lineFits, afterCheck, verdictBy, verdictOf, tests, rowTests, formulaTests, kindTests, graphTests, sheetOf}
 use Rattle.formula.specs.Verdicts.{then, then-behind}
-use Rattle.formula.specs.TreeLaws.{and-true}
 use Rattle.formula.specs.Acceptance.{passed-kinded}
+use Rattle.sheet_kinds.specs.Line.{well-length}
 
 -- The bytes of the longest kinds line.
 abbrev pub longestKinds : ℕ
 longestKinds = 34
-
-well-length : (inputs : ℕ) (line : List ℕ) → lineWell inputs line ≡ true → length line ≡ suc inputs
-unfolding lineWell
-well-length zero [] h = absurd (false≢true h)
-well-length zero (b ∷ []) h = refl
-well-length zero (b ∷ (c ∷ s)) h = absurd (false≢true h)
-well-length (suc inputs) [] h = absurd (false≢true h)
-well-length (suc inputs) (b ∷ s) h = ap suc (well-length inputs s (and-true (isLetter b) (lineWell inputs s) h .1))
 
 inputs-few : (x : Exp) → length (inputsOf x) ≤ 33
 unfolding inputsOf
