@@ -1,6 +1,6 @@
--- Start: from a sheet, a capacity and the lent memory to the answer and every lent byte at its end. Document 01, "Running": "Start takes a link capacity
--- of 1 to 16"; "Reading, start and evaluation make 1 to 10", and document 02, Job 6, 17 and 18 with the kinds line; "11 comes before all"; "14 capacity outside 1..16 (start: after 11, before 1)". A
--- refused start leaves every byte as it was. The layout is machine_layout/specs/Layout. Assumes nothing.
+-- Start: from a sheet, its kinds line, a capacity and the lent memory to the answer and every lent byte at its end. Document 01, "Running": "Start takes a link
+-- capacity of 1 to 16"; "Reading, start and evaluation make 1 to 10", and document 02, Job 6, 17 and 18 with the kinds line; "11 comes before all"; "14
+-- capacity outside 1..16 (start: after 11, before 1)". A refused start leaves every byte as it was. The layout is machine_layout/specs/Layout. Assumes nothing.
 use Prim.Native.Nat.{ℕ, zero, suc, _+_, _*_, _/_, _%_}
 use mathlib.Core.Bool.{cond, _&&_}
 use mathlib.Core.List.{List, [], _∷_}

@@ -1,31 +1,31 @@
 -- The tests, as paths name them:
 --   tie if1  { ⏎ if names::has(m, k as u32) {
+use native.Mathlib.Omega.{arith}
 use borrow.Author.Needs.{needs}
-use Rattle.eval_sheet.proofs.row.next.Statement.{statement}
-use Rattle.eval_sheet.proofs.row.next.Tie as tie
-use Rattle.eval_sheet.proofs.row.next.Reads as reads
-use Rattle.eval_sheet.proofs.row.next.Lts as lts
+use Rattle.eval_words.proofs.inputs.next.Statement.{statement}
+use Rattle.eval_words.proofs.inputs.next.Tie as tie
+use Rattle.eval_words.proofs.inputs.next.Reads as reads
+use Rattle.eval_words.proofs.inputs.next.Lts as lts
 use Rattle.names.proofs.has.Reads as has-reads
 use mathlib.Core.Path.{refl, sym}
-use native.Mathlib.Omega.{arith}
 
--- src/evaluate.rt:72:22  { ⏎ if names::has(m, k as u32) {
+-- src/inputs.rt:19:22  { ⏎ if names::has(m, k as u32) {
 cast-has : tie.Need-cast-has
 cast-has c = search needs
 
--- src/evaluate.rt:72:8  { ⏎ if names::has(m, k as u32) {
+-- src/inputs.rt:19:8  { ⏎ if names::has(m, k as u32) {
 has-requires : tie.Need-has-requires
 has-requires c κs = search needs
 
--- src/evaluate.rt:73:16  if names::has(m, k as u32) { ⏎ return i + 1;
+-- src/inputs.rt:20:16  if names::has(m, k as u32) { ⏎ return i + 1;
 add-result : tie.Need-add-result
 add-result c = search needs
 
--- src/evaluate.rt:73:9  if names::has(m, k as u32) { ⏎ return i + 1;
+-- src/inputs.rt:20:9  if names::has(m, k as u32) { ⏎ return i + 1;
 returns : tie.Need-returns
 returns c = (rw (sym (c .before .has .ensures), c .if1 .taken) refl, omega arith)
 
--- src/evaluate.rt:68:1  // One more than i where k is in the mask. ⏎ fn next(m: u64, k: usize, i: usize) -> usize
+-- src/inputs.rt:15:1  // One more than i where name k is in the mask. ⏎ pub fn next(m: u64, k: usize, i: usize) -> usize
 returns-2 : tie.Need-returns-2
 returns-2 c = (rw (sym (c .before .has .ensures), c .if1 .left) (omega arith), omega arith)
 
