@@ -1,7 +1,7 @@
 -- The one bridge between the machine's memory and the network (network/specs/Net): `Stands g kinds capacity m q` says that the memory m holds the machine of
--- the graph g, whose inputs have kinds with these letters, at a capacity, with the tokens of q waiting on its links. Header, operators' records and stretches: machine_layout/specs/Layout. The links of q
--- beyond the graph's own are the registers of FM and FS gates (theory_reference/specs/Plugged) and the credit link, one token for each set untaken
--- (theory_verdicts/specs/Owed). Definitions only; assumes nothing.
+-- the graph g, whose inputs have kinds with these letters, at a capacity, with the tokens of q waiting on its links. Header, operators' records and stretches:
+-- machine_layout/specs/Layout. The links of q beyond the graph's own are the registers of FM and FS gates (theory_reference/specs/Plugged) and the credit link,
+-- one token for each set untaken (theory_verdicts/specs/Owed). Definitions only; assumes nothing.
 use Prim.Native.Nat.{ℕ, _+_, _*_, _≤_, _<_}
 use mathlib.Core.Path.{_≡_}
 use mathlib.Core.Bool.{true, cond}

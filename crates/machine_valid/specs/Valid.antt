@@ -42,7 +42,7 @@ resultOk m at p = ltb (nameAt m at p) (linksOf m) && freshAt m at p
 unfoldable pub inputOk : List ℕ → ℕ → Bool
 inputOk m p = (ltb (nameAt m triggerAt p) (linksOf m) || eqb p 0) && freshAt m triggerAt p
 
--- "a stored kind out of range": each input has a letter of a kind
+-- the kind of each input is stored as its letter (document 02, Job 6)
 unfoldable pub letterOk : List ℕ → ℕ → Bool
 letterOk m j = isLetter (getD m (inputKindsAt + j) 0)
 
