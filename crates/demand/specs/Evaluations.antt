@@ -1,6 +1,6 @@
 -- Direct evaluation of bytes (meaning/specs/Evaluate `evaluationOf`) beside the abstract machine's verdicts (theory_verdicts/specs/Results `EndsWith`): for an accepted
 -- sheet and a set that can be read, a number of rounds is enough if and only if the formula yields values with it, and they are the result set's. Assumes
--- an admissible sheet.
+-- an admissible sheet with a kinds line that passes 17 and 18.
 use Prim.Native.Nat.{ℕ}
 use mathlib.Core.Path.{_≡_, refl, sym, ap, subst, _∙_}
 use mathlib.Core.List.{List}

@@ -2,7 +2,7 @@
 -- and takes what is ready (Claim `ready`) is refused no good set. And neither 11 nor 31 comes of
 -- the whole memory after any list of calls (document 01, "Running"). Assumes an accepted start and nothing else.
 use Prim.Native.Nat.{ℕ, _≤_, _<_}
-use mathlib.Core.Path.{_≡_, ap, subst, _∙_}
+use mathlib.Core.Path.{_≡_, ap, _∙_}
 use mathlib.Core.Bool.{true}
 use mathlib.Core.List.{List}
 use native.Mathlib.Omega.{arith}
@@ -13,7 +13,7 @@ use Rattle.formula.specs.declared.Refusal.the-variants.{NotAble}
 use Rattle.formula.specs.Refusals.{numberOf}
 use Rattle.formula.specs.Tree.{Exp, formulaOf}
 use Rattle.graph.specs.Translation.{madeOf}
-use Rattle.machine_layout.specs.Layout.{operatorsOf, sizeOf, need, storedKinds}
+use Rattle.machine_layout.specs.Layout.{operatorsOf, sizeOf, need}
 use Rattle.machine_calls.specs.Calls.{standing}
 use Rattle.value_sets.specs.Sets.{setOk, set-values}
 use Rattle.theory_verdicts.specs.Running as Abstract
@@ -68,12 +68,12 @@ module _ (sheet line : List ℕ) (capacity : ℕ) (memory : List ℕ) (h : start
   -- A machine at rest with nothing untaken takes the next set.
   pub push-accepted-when-still : ((i : ℕ) → i < operatorsOf now → answerOf (fire (length now) i) now .refusal ≡ numberOf NotAble)
       → length (resultsTaken calls start) ≡ length (setsPushed calls start)
-      → (lent : ℕ) (set : List ℕ) → need (sizeOf capacity) ≤ lent → setOk (storedKinds now) set ≡ true
+      → (lent : ℕ) (set : List ℕ) → need (sizeOf capacity) ≤ lent → setOk kinds set ≡ true
       → answerOf (push lent set) now .refusal ≡ 0
   unfolding answerOf
   push-accepted-when-still still all lent set long good =
       let L = stands-lent (madeOf x) (agree .sound) kinds capacity now links (followed .stands) lent long in
-      let v = set-values kinds set (subst (λ (ks : List ℕ). setOk ks set ≡ true) (followed .stands .kinds-are) good) in
+      let v = set-values kinds set good in
       let can = pushable-when-quiet sheet (begun .admissible) capacity (begun .some) (followed .calls)
       (no-step sheet line (begun .admissible) (begun .kinded) capacity (begun .some) (begun .most) agree start (accepted-stands sheet line capacity memory h) calls still)
       (omega (arith, results-counted, sets-counted)) (v .0) (v .1 .count ∙ followed .stands .kinds-count) in

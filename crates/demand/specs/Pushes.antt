@@ -157,7 +157,7 @@ module _ (x : Exp) (S : Sound (madeOf x)) (kinds : List ℕ) (capacity : ℕ) (l
       (pushes-answered lent h k (pushed (firstOf lent m) set .mem ++ drop lent m) (afterPush x capacity v q)
       (stands-behind (madeOf x) S kinds capacity (pushed (firstOf lent m) set .mem) (afterPush x capacity v q) (A .stands) (drop lent m)))
 
--- From an accepted start on, whatever the set.
+-- From an accepted start on, for any set that passes 12.
 pub pushes-from-start : (sheet line : List ℕ) (capacity : ℕ) (memory : List ℕ) → started sheet line capacity memory .answer .refusal ≡ 0
     → (set : List ℕ) (v : List Value) → setValues (lettersOf (formulaOf sheet) line) set ≡ some v → (lent : ℕ) → need (sizeOf capacity) ≤ lent → (k : ℕ)
     → pushAnswers lent k set (started sheet line capacity memory .mem) ≡ pushRefusals (formulaOf sheet) capacity v k (startOf (formulaOf sheet))

@@ -1,2 +1,3 @@
+pub mod RefusedSets
 pub mod RightKinds
 pub mod LesserKinds

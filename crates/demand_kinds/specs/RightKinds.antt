@@ -3,10 +3,10 @@
 -- an operator is of the kind that the operator wants there or an err, every one before a gate's control a truth or err; so no firing, of any order, computes on a
 -- wrong kind, also for sets that never end. And every result taken is of its kinds, place by place, or err. Assumes an accepted start and nothing else: push
 -- refuses other sets with 12.
-use Prim.Native.Nat.{ℕ, zero, suc, _+_, _*_, _<_}
+use Prim.Native.Nat.{ℕ, zero, suc, _+_, _*_, _≤_, _<_}
 use mathlib.Core.Path.{_≡_, refl, sym, ap, subst, _∙_}
-use mathlib.Core.Bool.{Bool, true, false, true≢false}
-use mathlib.Core.List.{List, [], _∷_, map}
+use mathlib.Core.Bool.{Bool, true, false}
+use mathlib.Core.List.{List, [], _∷_, _++_, map}
 use mathlib.Core.Option.{Option, some, none, Option·some-injective, Option·none-ne-some}
 use lib.ListN.{length, getD}
 use native.Mathlib.Omega.{arith}
@@ -24,6 +24,7 @@ use Rattle.formula.specs.Tree.{Exp, formulaOf}
 use Rattle.formula.specs.Free.{freeE}
 use Rattle.formula.specs.Faults.{inputKinds, lettersOf}
 use Rattle.formula.specs.Kinds.{kindsE}
+use Rattle.formula.specs.Acceptance.{Admissible, Kinded}
 use Rattle.machine_queue.specs.Stretch.{waiting}
 use Rattle.machine_layout.specs.Layout.{linksOf, portOf, sizeOf}
 use Rattle.machine_firing.specs.LinkLaws.{linkPart}
@@ -42,6 +43,8 @@ use Rattle.demand_view.specs.Sound.{Ith}
 use Rattle.demand_view.specs.Stands.{Waits, Recorded, Stands}
 use Rattle.machine_start.specs.Start.{started}
 use Rattle.machine_start.specs.StartLaws.{AcceptedStart, accepted-start}
+use Rattle.demand_begin.specs.MadeSound.{made-sound}
+use Rattle.demand_begin.specs.Lent.{stands-behind}
 use Rattle.demand_begin.specs.StartedStands.{accepted-stands}
 use Rattle.demand.specs.MemoryCalls.{Call, Result, result, memoryAfterAll, setsPushed, resultsTaken}
 use Rattle.demand.specs.Evaluations.{shown}
@@ -146,6 +149,19 @@ wanted-waits o kind q = go kind
     go FS-gate h zero k e = same truth-kind k (link-of (o .in1)) e h
     go FS-gate h (suc p) k e = absurd (Option·none-ne-some k e)
 
+-- No operator has more than three inputs.
+none-behind : (kind : Kind) (p : ℕ) (k : ValueKind) → wantedAt kind (suc (suc (suc p))) ≡ some k → ⊥
+none-behind (operator code) p k e = Option·none-ne-some k e
+none-behind constant p k e = Option·none-ne-some k e
+none-behind copy p k e = Option·none-ne-some k e
+none-behind IC-gate p k e = Option·none-ne-some k e
+none-behind T-gate p k e = Option·none-ne-some k e
+none-behind F-gate p k e = Option·none-ne-some k e
+none-behind M-gate p k e = Option·none-ne-some k e
+none-behind E-gate p k e = Option·none-ne-some k e
+none-behind FM-gate p k e = Option·none-ne-some k e
+none-behind FS-gate p k e = Option·none-ne-some k e
+
 each-ith : (P : Operator → Type 0) (os : List Operator) → Each P os → (i : ℕ) (o : Operator) → Ith os i o → P o
 each-ith P [] h i o m = absurd m
 each-ith P (x ∷ os) h zero o m = subst P m (h .0)
@@ -169,25 +185,21 @@ length-shown : (tss : List (List Token)) → length (map shownTokens tss) ≡ le
 length-shown [] = refl
 length-shown (ts ∷ tss) = ap suc (length-shown tss)
 
--- ---- after any list of calls
+-- ---- after any list of calls, from a memory in which the machine stands as started
 
-module _ (sheet line : List ℕ) (capacity : ℕ) (memory : List ℕ) (h : started sheet line capacity memory .answer .refusal ≡ 0) (calls : List Call) where
+module _ (sheet line : List ℕ) (ok : Admissible sheet) (told : Kinded sheet line) (capacity : ℕ) (low : 1 ≤ capacity) (high : capacity ≤ 16) (start : List ℕ)
+    (H : Stands (madeOf (formulaOf sheet)) (lettersOf (formulaOf sheet) line) capacity start (startOf (formulaOf sheet))) (calls : List Call) where
   abbrev x : Exp
   x = formulaOf sheet
 
   abbrev kinds : List ℕ
   kinds = lettersOf (formulaOf sheet) line
 
-  abbrev start : List ℕ
-  start = started sheet line capacity memory .mem
+  abbrev now : List ℕ
+  now = memoryAfterAll calls start
 
-  begun : AcceptedStart sheet line capacity memory
-  begun = accepted-start sheet line capacity memory h
-
-  followed : Follows x kinds capacity (startOf x) (memoryAfterAll calls start) (setsPushed calls start) (resultsTaken calls start)
-  followed =
-      bytes-follow sheet line (begun .admissible) (begun .kinded) capacity (begun .some) (begun .most)
-      (calls-agree sheet (begun .admissible) kinds capacity (begun .some) (begun .most)) start (accepted-stands sheet line capacity memory h) calls
+  followed : Follows x kinds capacity (startOf x) now (setsPushed calls start) (resultsTaken calls start)
+  followed = bytes-follow sheet line ok told capacity low high (calls-agree sheet ok kinds capacity low high) start H calls
 
   all-suit : (sets : List (List ℕ)) (vss : List (List Value)) → EachRead x kinds capacity sets vss → All-suit line vss
   all-suit [] [] r = tt
@@ -201,47 +213,55 @@ module _ (sheet line : List ℕ) (capacity : ℕ) (memory : List ℕ) (h : start
   never : Each (λ o. Wanted (o .kind) (portsOf o) links) (madeOf x .operators)
       × Results-of-kinds (Abstract.taken x capacity (followed .calls)) (kindsE x (inputKinds (freeE x) line))
   never =
-      sheet-never-a-wrong-kind sheet line (begun .admissible) (kinds-kept sheet line (begun .kinded)) capacity (followed .calls)
+      sheet-never-a-wrong-kind sheet line ok (kinds-kept sheet line told) capacity (followed .calls)
       (all-suit (setsPushed calls start) (Abstract.pushed x capacity (followed .calls)) (followed .reads))
 
-  -- NO WRONG KIND BEFORE ANY OPERATOR of the machine.
-  pub never-a-wrong-kind : (i : ℕ) (o : Operator) → Ith (madeOf x .operators) i o → Rightly (memoryAfterAll calls start) capacity i o
-  never-a-wrong-kind i o m = record { recorded = R; inputs = inputs }
+  rightly-from : (i : ℕ) (o : Operator) → Ith (madeOf x .operators) i o → Rightly now capacity i o
+  rightly-from i o m = record { recorded = R; inputs = inputs }
     where
-      R : Recorded (memoryAfterAll calls start) i o
+      R : Recorded now i o
       R = followed .stands .recorded i o m
 
-      named : (p : ℕ) (k : ValueKind) → wantedAt (o .kind) p ≡ some k → portOf (memoryAfterAll calls start) i p ≡ linkIn o p
+      named : (p : ℕ) (k : ValueKind) → wantedAt (o .kind) p ≡ some k → portOf now i p ≡ linkIn o p
       named zero k e = R .in1
       named (suc zero) k e = R .in2
       named (suc (suc zero)) k e = R .in3
-      named (suc (suc (suc p))) k e = absurd (past (o .kind) e)
-        where
-          past : (kind : Kind) → wantedAt kind (suc (suc (suc p))) ≡ some k → ⊥
-          past (operator code) e = Option·none-ne-some k e
-          past constant e = Option·none-ne-some k e
-          past copy e = Option·none-ne-some k e
-          past IC-gate e = Option·none-ne-some k e
-          past T-gate e = Option·none-ne-some k e
-          past F-gate e = Option·none-ne-some k e
-          past M-gate e = Option·none-ne-some k e
-          past E-gate e = Option·none-ne-some k e
-          past FM-gate e = Option·none-ne-some k e
-          past FS-gate e = Option·none-ne-some k e
+      named (suc (suc (suc p))) k e = absurd (none-behind (o .kind) p k e)
 
-      inputs : (p : ℕ) (k : ValueKind) → wantedAt (o .kind) p ≡ some k → portOf (memoryAfterAll calls start) i p < linksOf (memoryAfterAll calls start)
-          → WaitsOf k (linkPart (memoryAfterAll calls start) (sizeOf capacity) (portOf (memoryAfterAll calls start) i p))
+      inputs : (p : ℕ) (k : ValueKind) → wantedAt (o .kind) p ≡ some k → portOf now i p < linksOf now → WaitsOf k (linkPart now (sizeOf capacity) (portOf now i p))
       inputs p k e l =
           let n = named p k e in
-          subst (λ (a : ℕ). WaitsOf k (linkPart (memoryAfterAll calls start) (sizeOf capacity) a)) (sym n)
-          (waits-of k capacity (linkPart (memoryAfterAll calls start) (sizeOf capacity) (linkIn o p)) (links (linkIn o p))
+          subst (λ (a : ℕ). WaitsOf k (linkPart now (sizeOf capacity) a)) (sym n)
+          (waits-of k capacity (linkPart now (sizeOf capacity) (linkIn o p)) (links (linkIn o p))
           (followed .stands .waits (linkIn o p) (omega (arith, l, n, followed .stands .links-are)))
           (wanted-waits o (o .kind) links (each-ith (λ z. Wanted (z .kind) (portsOf z) links) (madeOf x .operators) (never .0) i o m) p k e))
 
-  -- EVERY RESULT TAKEN IS OF ITS KINDS, those of the formula's values under the line's.
-  pub taken-of-kind : (n : ℕ) → n < length (resultsTaken calls start) → OfKinds (kindsE x (inputKinds (freeE x) line)) (getD (resultsTaken calls start) n (result 0 []))
-  taken-of-kind n l =
+  of-kind-from : (n : ℕ) → n < length (resultsTaken calls start) → OfKinds (kindsE x (inputKinds (freeE x) line)) (getD (resultsTaken calls start) n (result 0 []))
+  of-kind-from n l =
       let tss = Abstract.taken x capacity (followed .calls) in
       let e : resultsTaken calls start ≡ map shownTokens tss = followed .shows in
       subst (λ (rs : List Result). OfKinds (kindsE x (inputKinds (freeE x) line)) (getD rs n (result 0 []))) (sym e)
       (results-at tss (kindsE x (inputKinds (freeE x) line)) (never .1) n (omega (arith, ap length e, length-shown tss)))
+
+-- ---- from an accepted start, with any bytes behind what it was lent
+
+module _ (sheet line : List ℕ) (capacity : ℕ) (memory : List ℕ) (h : started sheet line capacity memory .answer .refusal ≡ 0) (rest : List ℕ) (calls : List Call) where
+  abbrev begun : List ℕ
+  begun = started sheet line capacity memory .mem ++ rest
+
+  accepted : AcceptedStart sheet line capacity memory
+  accepted = accepted-start sheet line capacity memory h
+
+  stands : Stands (madeOf (formulaOf sheet)) (lettersOf (formulaOf sheet) line) capacity begun (startOf (formulaOf sheet))
+  stands =
+      stands-behind (madeOf (formulaOf sheet)) (made-sound sheet (accepted .admissible)) (lettersOf (formulaOf sheet) line) capacity (started sheet line capacity memory .mem)
+      (startOf (formulaOf sheet)) (accepted-stands sheet line capacity memory h) rest
+
+  -- NO WRONG KIND BEFORE ANY OPERATOR of the machine. A run of k firings is among the calls, so between the firings of a run too.
+  pub never-a-wrong-kind : (i : ℕ) (o : Operator) → Ith (madeOf (formulaOf sheet) .operators) i o → Rightly (memoryAfterAll calls begun) capacity i o
+  never-a-wrong-kind = rightly-from sheet line (accepted .admissible) (accepted .kinded) capacity (accepted .some) (accepted .most) begun stands calls
+
+  -- EVERY RESULT TAKEN IS OF ITS KINDS, those of the formula's values under the line's.
+  pub taken-of-kind : (n : ℕ) → n < length (resultsTaken calls begun)
+      → OfKinds (kindsE (formulaOf sheet) (inputKinds (freeE (formulaOf sheet)) line)) (getD (resultsTaken calls begun) n (result 0 []))
+  taken-of-kind = of-kind-from sheet line (accepted .admissible) (accepted .kinded) capacity (accepted .some) (accepted .most) begun stands calls

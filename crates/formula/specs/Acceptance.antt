@@ -25,11 +25,11 @@ use Rattle.formula.specs.Widths.{width, wideE, fittingE}
 use Rattle.formula.specs.Free.{freeE, inputsOf}
 use Rattle.formula.specs.Tests.{Test, allBetween, lowest, whole, laidOut, fewRows, fieldsWell, rangesWell, namesWell, namedOnce, allNamed, placedWell, wideNode, widthsWell, boundWell, lineFits, kindsKept, operatorsOf, afterCheck, verdictBy, verdictOf, tests, rowTests, formulaTests, kindTests, graphTests, sheetOf, figuresOf, answerBy, readingOf}
 use Rattle.formula.specs.TestLaws.{passed-each, each-passed, lowest-fault, whole-true, whole-zero}
-use Rattle.formula.specs.Verdicts.{Each, _also_, Passes, FaultSays, then, all-pass, then-behind, refusal-says}
-use Rattle.formula.specs.FaultRows.{fault-within}
+use Rattle.formula.specs.Verdicts.{Each, _also_, Passes, FaultSays, all-pass, later-says}
 use Rattle.formula.specs.Kinds.{kinded}
 use Rattle.formula.specs.TreeLaws.{Named as Naming-well, all-between, and-true}
 use Rattle.formula.specs.PlaceLaws.{last-place}
+use Rattle.formula.specs.RowsMet.{lowest-broken}
 
 -- What the ten tests ask.
 pub record Admissible (s : List ℕ) : Type 0 where
@@ -190,29 +190,23 @@ module _ (s : List ℕ) where
   unfolding formulaTests kindTests graphTests sheetOf kindsKept
   later-in-sheet ok line =
       but-last _ also one-of-rows _ also one-of-rows _ also one-of-rows _
-      also none-at-fault (lineFits (fieldsOf s) (rowCount s) line) also fault-within kinded (fieldsOf s) (rowCount s) ok _
+      also none-at-fault (lineFits (fieldsOf s) (rowCount s) line) also (λ row e. lowest-broken kinded (fieldsOf s) (rowCount s) ok _ row e .last)
       also none-at-fault (leb (operatorsOf (fieldsOf s) (rowCount s)) 1024) also tt
 
   naming-from : ((r : ℕ) → 1 ≤ r → r ≤ rowCount s → namesWell (fieldsOf s) r ≡ true) → Naming-well (fieldsOf s) (rowCount s)
   unfolding namesWell
   naming-from h = record { names = λ r a b. all-between r (namedIn (shapeAt (fieldsOf s) r)) (h r a b) }
 
-  each-naming : Each (Passes (sheetOf s)) rowTests → Naming-well (fieldsOf s) (rowCount s)
+  pub each-naming : Each (Passes (sheetOf s)) rowTests → Naming-well (fieldsOf s) (rowCount s)
   unfolding rowTests sheetOf
   each-naming (first, (second, (third, (fourth, (fifth, end))))) = naming-from (passed-each (rowCount s) (namesWell (fieldsOf s)) fifth)
 
   -- A refusal's row is 0 or one of the sheet's.
   pub row-in-sheet : (line : List ℕ) (r : Refusal) (row : ℕ) → verdictOf s line ≡ Refused r row → row ≤ rowCount s
   unfolding verdictOf tests
-  row-in-sheet line r row e = go (verdictBy rowTests (sheetOf s)) refl (sym (then-behind (sheetOf s) rowTests later) ∙ e)
-    where
-      later : List Test
-      later = formulaTests ++ (kindTests line ++ graphTests)
-
-      go : (v : Verdict) → verdictBy rowTests (sheetOf s) ≡ v → then v (verdictBy later (sheetOf s)) ≡ Refused r row → row ≤ rowCount s
-      go passed p q =
-          refusal-says (sheetOf s) (λ k x. x ≤ rowCount s) later (later-in-sheet (each-naming (all-pass (sheetOf s) rowTests .0 p)) line) r row q
-      go (Refused k x) p q = refusal-says (sheetOf s) (λ j y. y ≤ rowCount s) rowTests rows-in-sheet r row (p ∙ q)
+  row-in-sheet line =
+      later-says (sheetOf s) (λ k x. x ≤ rowCount s) rowTests (formulaTests ++ (kindTests line ++ graphTests)) rows-in-sheet
+      (λ h. later-in-sheet (each-naming h) line)
 
 module _ (s line : List ℕ) where
   pub layout-refused : laidOut s (linesOf s) ≡ false → verdictOf s line ≡ Refused Layout 0

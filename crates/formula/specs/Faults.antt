@@ -31,12 +31,16 @@ faultsBelow F t inBody kinds (If a b c) = F false kinds a ++ (F inBody kinds b +
 faultsBelow F t inBody kinds (For a b c d) = F false kinds c ++ F true (bindKinds a b (kindsE (expOf t c) kinds) kinds) d
 faultsBelow F t inBody kinds (Iter a) = F false kinds a
 
+-- A row's own fault, where the rule is kept or not.
+abbrev pub ownFault : ℕ → Bool → List ℕ
+ownFault r kept = cond kept [] (r ∷ [])
+
 -- Row r and the rows below it that break the rule. A row's own number is depth enough.
 unfoldable pub faultsIn : Rule → ℕ → List ℕ → Bool → Kinds → ℕ → List ℕ
 unfolding faultsBelow nodeIn shapeAt
 faultsIn rule zero t inBody kinds r = []
 faultsIn rule (suc depth) t inBody kinds r =
-    cond (rule (nodeIn inBody t r) kinds) [] (r ∷ []) ++ faultsBelow (λ b ks k. faultsIn rule depth t b ks k) t inBody kinds (shapeAt t r)
+    ownFault r (rule (nodeIn inBody t r) kinds) ++ faultsBelow (λ b ks k. faultsIn rule depth t b ks k) t inBody kinds (shapeAt t r)
 
 -- "lowest row given"
 abbrev pub lower : ℕ → Check → Check

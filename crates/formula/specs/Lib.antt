@@ -15,8 +15,10 @@ pub mod Verdicts
 pub mod SheetLaws
 pub mod TreeLaws
 pub mod FaultRows
+pub mod FaultLaws
 pub mod Admitted
 pub mod PlaceLaws
+pub mod RowsMet
 pub mod CountLaws
 pub mod Acceptance
 pub mod KindWidths

@@ -1,5 +1,5 @@
 -- Document 01, "Said by what was handed in", 1 to 10, and document 02, Job 6, 17 and 18: the tests of a sheet as one ordered list. "Each
--- number is tested over the whole sheet before the next"; "3 to 9 give the lowest row at fault, others row 0", and so does 18.
+-- number is tested over the whole sheet before the next"; "3 to 9 give the lowest row at fault, others row 0"; of 18 too "lowest row given".
 use Prim.Native.Nat.{ℕ, zero, suc, _+_, _-_, _%_}
 use mathlib.Core.Bool.{Bool, true, false, not, cond, _&&_, _||_}
 use mathlib.Core.List.{List, [], _∷_, _++_}

@@ -27,9 +27,6 @@ const OUT3: usize = 5;
 // The four bytes of two names that are none.
 const TWO_NONES: usize = 4294967295;
 
-// The letter of the kind of whole numbers.
-const WHOLE_LETTER: u8 = b'W';
-
 fn is_unlike(x: usize, y: usize) -> bool
     ensures { λ r. ⌜ r ≡ unlike x y ⌝ }
 {
@@ -115,11 +112,7 @@ fn letter_ok(mem: &[u8], j: usize) -> bool
     requires { ⌜ (recordsAt ≤ length (now mem)) × (j < mostInputs) ⌝ }
     ensures { λ r. ⌜ r ≡ letterOk (now (mem .entry)) j ⌝ }
 {
-    let letter = mem[machine_layout::INPUT_KINDS_AT + j];
-    if letter == WHOLE_LETTER {
-        return true;
-    }
-    letter == value::bytes::TRUTH_LETTER
+    value::bytes::is_letter(mem[machine_layout::INPUT_KINDS_AT + j])
 }
 
 fn letters_ok(mem: &[u8], k: usize) -> bool

@@ -8,7 +8,7 @@ use formula::Check;
 ghost use mathlib.Core.Path.{_≡_};
 ghost use mathlib.Core.Bool.{true};
 ghost use lib.ListN.{length, getD};
-ghost use Rattle.value.specs.Kinds.{isLetter, kindOfLetter};
+ghost use Rattle.value.specs.Kinds.{kindOfLetter};
 ghost use Rattle.names.specs.Names.{mask};
 ghost use Rattle.formula.specs.Tree.{expOf};
 ghost use Rattle.formula.specs.Free.{freeE, inputsOf};
@@ -23,15 +23,6 @@ const LINE_FEED: u8 = 10;
 // The number of identifiers.
 const IDENTIFIERS: usize = 32;
 
-fn is_letter(b: u8) -> bool
-    ensures { λ r. ⌜ r ≡ isLetter b ⌝ }
-{
-    if b == b'W' {
-        return true;
-    }
-    b == b'T'
-}
-
 // Whether a line has a letter for each input, then a line feed, and no more.
 pub fn kinds_line(line: &[u8], inputs: usize) -> bool
     ensures { λ r. ⌜ r ≡ lineWell inputs (now (line .entry)) ⌝ }
@@ -44,7 +35,7 @@ pub fn kinds_line(line: &[u8], inputs: usize) -> bool
     }
     let mut i = 0;
     while i < inputs {
-        if !is_letter(line[i]) {
+        if !value::bytes::is_letter(line[i]) {
             return false;
         }
         i += 1;

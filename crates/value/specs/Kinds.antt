@@ -202,7 +202,7 @@ Is-neither True = ⊥
 Is-neither False = ⊥
 Is-neither Neither = Unit {0}
 
--- "a test that is neither truth nor err": where the test is of its kind, neither true nor false is an err.
+-- "a test that is neither truth nor err": where the test is of its kind and is neither true nor false, it is an err.
 pub test-wanted : (v : Value) → suits truth-kind v ≡ true → sense v ≡ Neither → isErr v ≡ true
 test-wanted (Whole z) h e = absurd (false≢true h)
 test-wanted (Truth true) h e = absurd (subst Is-neither (sym e) tt)

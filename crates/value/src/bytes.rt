@@ -8,7 +8,7 @@ ghost use Prim.Native.Nat.{ℕ, _+_, _*_, _≤_, _<_};
 ghost use lib.ListN.{length};
 ghost use mir.Syntax.{w32};
 ghost use mir.Val.{toZ, ofZ};
-ghost use Rattle.value.specs.Kinds.{ofKind};
+ghost use Rattle.value.specs.Kinds.{isLetter, ofKind};
 ghost use Rattle.value.specs.Bytes.{InRange, wordOf, valueOf, decoded, isSome, wordOr, wordAt, stored, wholeOf, truthOf, errOf};
 
 // The words of no token, true, false, and of the errs: the plain one and those with a reason.
@@ -24,7 +24,12 @@ pub const ZERO_DIVISOR: u64 = 259;
 
 pub const OUT_OF_RANGE: u64 = 515;
 
-// The letter of the kind of truths in a kinds line; every other is that of whole numbers.
+// How many reasons an err can have.
+const REASONS: u64 = 3;
+
+// The letters of a kinds line; for a kind every letter but that of truths counts as that of whole numbers.
+const WHOLE_LETTER: u8 = 87;
+
 pub const TRUTH_LETTER: u8 = 84;
 
 // A whole number from its 32 bits, two's complement.
@@ -132,9 +137,18 @@ pub fn is_value(w: u64) -> bool
     match w % 256 {
         1 => bits < 4294967296,
         2 => bits < 2,
-        3 => bits < 3,
+        3 => bits < REASONS,
         _ => false,
     }
+}
+
+pub fn is_letter(b: u8) -> bool
+    ensures { λ r. ⌜ r ≡ isLetter b ⌝ }
+{
+    if b == WHOLE_LETTER {
+        return true;
+    }
+    b == TRUTH_LETTER
 }
 
 // Whether a word is the byte form of a value of a letter's kind, or of an err.
@@ -145,7 +159,7 @@ pub fn is_of_kind(letter: u8, w: u64) -> bool
     match w % 256 {
         1 => whole_in(letter, bits),
         2 => truth_in(letter, bits),
-        3 => bits < 3,
+        3 => bits < REASONS,
         _ => false,
     }
 }

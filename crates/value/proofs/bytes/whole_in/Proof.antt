@@ -6,11 +6,11 @@ use Rattle.value.proofs.bytes.whole_in.Reads as reads
 use Rattle.value.proofs.bytes.whole_in.Lts as lts
 use Rattle.value.proofs.Words.{whole-not-truth, whole-of-kind}
 
--- src/bytes.rt:157:9  if letter == TRUTH_LETTER { ⏎ return false;
+-- src/bytes.rt:171:9  if letter == TRUTH_LETTER { ⏎ return false;
 returns : tie.Need-returns
 returns c = whole-not-truth (c .before .args .letter) (c .before .args .bits) (c .if1 .taken)
 
--- src/bytes.rt:153:1  } ⏎ fn whole_in(letter: u8, bits: u64) -> bool
+-- src/bytes.rt:167:1  } ⏎ fn whole_in(letter: u8, bits: u64) -> bool
 returns-2 : tie.Need-returns-2
 returns-2 c = whole-of-kind (c .before .args .letter) (c .before .args .bits) (c .if1 .left)
 

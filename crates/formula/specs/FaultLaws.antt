@@ -2,16 +2,16 @@
 -- from 1 to the one before it.
 use Prim.Native.Nat.{ℕ, zero, suc, _≤_, _<_}
 use mathlib.Core.Path.{_≡_, refl, ap, _∙_}
-use mathlib.Core.Bool.{Bool, true, false, cond}
+use mathlib.Core.Bool.{Bool, true, false}
 use mathlib.Core.List.{List, [], _∷_, _++_}
 use native.Mathlib.Omega.{arith}
 use Rattle.formula.specs.declared.Shape.{Shape}
 use Rattle.formula.specs.declared.Shape.the-variants.{Identifier, Constant, Pair, Operator, Let, If, For, Iter}
 use Rattle.formula.specs.Sheet.{shapeAt, namedIn}
 use Rattle.formula.specs.Places.{nodeIn}
 use Rattle.formula.specs.TreeLaws.{AllBetween, Named}
 use Rattle.formula.specs.Kinds.{Kinds, Rule}
-use Rattle.formula.specs.Faults.{faultsBelow, faultsIn}
+use Rattle.formula.specs.Faults.{faultsBelow, ownFault, faultsIn}
 
 -- Row r and the rows below it that break the rule.
 abbrev pub faultsAt : Rule → List ℕ → Bool → Kinds → ℕ → List ℕ
@@ -41,7 +41,7 @@ module _ (rule : Rule) (t : List ℕ) (n : ℕ) (ok : Named t n) where
   steady zero g r l u h i b kinds = absurd (omega arith)
   steady (suc f) zero r l u h i b kinds = absurd (omega arith)
   steady (suc f) (suc g) r l u h i b kinds =
-      ap (λ (xs : List ℕ). cond (rule (nodeIn b t r) kinds) [] (r ∷ []) ++ xs)
+      ap (λ (xs : List ℕ). ownFault r (rule (nodeIn b t r) kinds) ++ xs)
       (below-alike r (λ c ks k. faultsIn rule f t c ks k) (λ c ks k. faultsIn rule g t c ks k)
       (λ c ks k x y. steady f g k x (omega arith) (omega arith) (omega arith) c ks)
       t b kinds (shapeAt t r) (ok .names r l u))
@@ -49,11 +49,11 @@ module _ (rule : Rule) (t : List ℕ) (n : ℕ) (ok : Named t n) where
   -- A row whose shape is known.
   pub faults-as : (r : ℕ) → 1 ≤ r → r ≤ n → (b : Bool) (kinds : Kinds) (s : Shape) → shapeAt t r ≡ s
       → faultsAt rule t b kinds r
-      ≡ cond (rule (nodeIn b t r) kinds) [] (r ∷ []) ++ faultsBelow (faultsAt rule t) t b kinds s
+      ≡ ownFault r (rule (nodeIn b t r) kinds) ++ faultsBelow (faultsAt rule t) t b kinds s
   unfolding faultsIn
   faults-as zero l u b kinds s e = absurd (omega arith)
   faults-as (suc d) l u b kinds s e =
-      ap (λ (xs : List ℕ). cond (rule (nodeIn b t (suc d)) kinds) [] (suc d ∷ []) ++ xs)
+      ap (λ (xs : List ℕ). ownFault (suc d) (rule (nodeIn b t (suc d)) kinds) ++ xs)
       (below-alike (suc d) (λ c ks k. faultsIn rule d t c ks k) (faultsAt rule t)
       (λ c ks k x y. steady d k k x (omega arith) (omega arith) (omega arith) c ks)
       t b kinds (shapeAt t (suc d)) (ok .names (suc d) l u)
