@@ -1,7 +1,8 @@
 // Stored runs of the bench program: each line of data/runs.txt has the paths of a run's three files, with a space between, and
 // what the runs must print stands in stdout, one after the other. In their order: accepted sheets and sets; a sheet at
-// fault; a field that is no value; a line of another length, or unended; files that are missing, cannot be read or are too
-// long; a million firings, and more. Folder `missing` has no file; in `folders` the files are folders.
+// fault; a kinds line at fault, and rows that break the kinds; a field that is no value, or of another kind; a line of another
+// length, or unended; files that are missing, cannot be read or are too long; a million firings, and more. Folder `missing` has
+// no file; in `folders` the files are folders; a folder `kinds_` may have only the file that differs.
 // What `million_one`, `behind_endless` and `starved` print before their 36 rests on the numbering of docs/NUMBERING.md.
 ghost use Prim.Native.Nat.{_≤_};
 ghost use lib.ListN.{length};
