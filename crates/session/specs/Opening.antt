@@ -22,7 +22,7 @@ use Rattle.session.specs.Waiting.{Waiting}
 use Rattle.session.specs.Onward.{Going}
 use Rattle.session.specs.Output.{linkCapacity, allFirings, mostSetBytes, mostSheetBytes, benchOutput}
 
--- As many bytes of kinds.txt are at hand, more than a kinds line has (LongLines).
+-- At most so many bytes of kinds.txt are at hand, more than a kinds line has (LongLines).
 abbrev pub kindsRead : ℕ
 kindsRead = 64
 
