@@ -28,7 +28,7 @@ use Rattle.demand.specs.Agree.{CallsAgree}
 use Rattle.demand.specs.Followed.{Unaltered, EachRead, shownTokens, follows-one}
 use Rattle.demand.specs.FollowFire.{Fire-follows, fire-refused}
 
-module _ (x : Exp) (kinds : List ℕ) (capacity : ℕ) where
+module _ (x : Exp) (capacity : ℕ) where
   -- A run makes no push and no take.
   run-only-fires : (lent : ℕ) (q : Links) → (sets-of (runSteps x capacity lent q) ≡ []) × (handed x (runSteps x capacity lent q) q ≡ [])
   unfolding runSteps
@@ -59,7 +59,7 @@ module _ (x : Exp) (kinds : List ℕ) (capacity : ℕ) (low : 1 ≤ capacity) (h
       let p = run-only-fires x capacity firings q in (
         follows-one x kinds capacity q (m′ ++ drop lent m) [] [] (Abstract.runs firings) (runSteps x capacity firings q) refl
             (stands-behind (madeOf x) (A .sound) kinds capacity m′ (afterSteps x (runSteps x capacity firings q) q) K (drop lent m))
-            (subst (EachRead x capacity []) (sym (p .0)) tt) (ap (map shownTokens) (sym (p .1))),
+            (subst (EachRead x kinds capacity []) (sym (p .0)) tt) (ap (map shownTokens) (sym (p .1))),
         u,
       )
 
