@@ -53,9 +53,10 @@ err-word-requires c κs = search needs
 -- src/bytes.rt:67:1  // The word of a value; and whoever hands in a value learns that it is in range. ⏎ pub fn to_word(v: Value) -> u64
 returns-2 : tie.Need-returns-2
 unfolding wordOf
-returns-2 c =
-    (rw (c .before .before .v .given .1, c .bits-of .ensures, toZ-ofZ {w = w32} {z = c .before .before .v .given .0 .0} (sfits-of (c .before .known-told .given .0 .1))) refl,
-     rw (c .before .before .v .given .1) (c .before .known-told .given .0 .1))
+returns-2 c = (
+  rw (c .before .before .v .given .1, c .bits-of .ensures, toZ-ofZ {w = w32} {z = c .before .before .v .given .0 .0} (sfits-of (c .before .known-told .given .0 .1))) refl,
+  rw (c .before .before .v .given .1) (c .before .known-told .given .0 .1),
+)
 
 -- src/bytes.rt:67:1  // The word of a value; and whoever hands in a value learns that it is in range. ⏎ pub fn to_word(v: Value) -> u64
 returns-3 : tie.Need-returns-3
