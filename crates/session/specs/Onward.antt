@@ -19,7 +19,7 @@ use Rattle.formula.specs.Tree.{Exp, formulaOf}
 use Rattle.formula.specs.Faults.{lettersOf}
 use Rattle.network.specs.Net.{Links}
 use Rattle.graph.specs.Translation.{madeOf}
-use Rattle.machine_layout.specs.Layout.{operatorsOf, untakenOf, capacityIn, sizeOf, need, storedKinds}
+use Rattle.machine_layout.specs.Layout.{operatorsOf, untakenOf, capacityIn, sizeOf, need}
 use Rattle.machine_firing.specs.Fire.{ableAt}
 use Rattle.machine_runs.specs.Run.{stillAt}
 use Rattle.machine_calls.specs.Calls.{Outcome, sizeIn, standing, pushed, fired, ran, taken}
@@ -202,8 +202,7 @@ module _ (sheet line : List ℕ) (capacity : ℕ) (memory : List ℕ) (h : start
     pushes : length r ≡ length s → (t : List ℕ) → setOk kinds t ≡ true → pushed m t .answer .refusal ≡ 0
     unfolding answerOf
     pushes e t w =
-        let k : storedKinds (memoryAfterAll (R .calls) start) ≡ kinds = stands-now (R .calls) .1 .kinds-are in
-        let p = push-accepted-when-still sheet line capacity memory h (R .calls) still (ap length (R .results-are) ∙ e ∙ ap length (sym (R .sets-are))) (length m) t long (rw k w) in
+        let p = push-accepted-when-still sheet line capacity memory h (R .calls) still (ap length (R .results-are) ∙ e ∙ ap length (sym (R .sets-are))) (length m) t long w in
         ap (λ (z : List ℕ). pushed z t .answer .refusal) (sym (ap {B = List ℕ} (λ z. z) (take-length m)))
         ∙ rw (R .memory) at p
 
