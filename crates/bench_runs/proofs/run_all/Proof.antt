@@ -24,95 +24,95 @@ Inv-loop list at₀ at = at ≤ length list
 abbrev μ-loop : tie.MeasureT-loop
 μ-loop list at₀ at = length list - at
 
--- src/main.rt:28:5  let mut at = 0; ⏎ while at < list.len() {
+-- src/main.rt:29:5  let mut at = 0; ⏎ while at < list.len() {
 loop-holds : tie.Need-loop-holds Inv-loop μ-loop
 loop-holds c = omega arith
 
--- src/main.rt:29:13  while at < list.len() { ⏎ let space = next(list, at, b' ');
+-- src/main.rt:30:13  while at < list.len() { ⏎ let space = next(list, at, b' ');
 next-requires : tie.Need-next-requires Inv-loop μ-loop
 next-requires c κs = omega arith
 
--- src/main.rt:31:13  if space == list.len() { ⏎ return;
+-- src/main.rt:32:13  if space == list.len() { ⏎ return;
 returns : tie.Need-returns Inv-loop μ-loop
 returns c = search needs
 
--- src/main.rt:33:21  } ⏎ let kinds = space + 1;
+-- src/main.rt:34:21  } ⏎ let kinds = space + 1;
 add-kinds : tie.Need-add-kinds Inv-loop μ-loop
 add-kinds c = search needs
 
--- src/main.rt:34:13  let kinds = space + 1; ⏎ let second = next(list, kinds, b' ');
+-- src/main.rt:35:13  let kinds = space + 1; ⏎ let second = next(list, kinds, b' ');
 next-requires-2 : tie.Need-next-requires-2 Inv-loop μ-loop
 next-requires-2 c κs = search needs
 
--- src/main.rt:36:13  if second == list.len() { ⏎ return;
+-- src/main.rt:37:13  if second == list.len() { ⏎ return;
 returns-2 : tie.Need-returns-2 Inv-loop μ-loop
 returns-2 c = search needs
 
--- src/main.rt:38:20  } ⏎ let file = second + 1;
+-- src/main.rt:39:20  } ⏎ let file = second + 1;
 add-file : tie.Need-add-file Inv-loop μ-loop
 add-file c = omega (arith, c .before .before .before .next .ensures)
 
--- src/main.rt:39:13  let file = second + 1; ⏎ let end = next(list, file, b'\n');
+-- src/main.rt:40:13  let file = second + 1; ⏎ let end = next(list, file, b'\n');
 next-requires-3 : tie.Need-next-requires-3 Inv-loop μ-loop
 next-requires-3 c κs = omega (arith, c .before .before .before .next .ensures, c .before .before .if1 .left)
 
--- src/main.rt:40:13  let end = next(list, file, b'\n'); ⏎ run(&list[at..space], &list[kinds..second], &list[file..end]);
+-- src/main.rt:41:13  let end = next(list, file, b'\n'); ⏎ run(&list[at..space], &list[kinds..second], &list[file..end]);
 sub-run : tie.Need-sub-run Inv-loop μ-loop
 sub-run c = omega (arith, c .before .before .before .before .next .ensures)
 
--- src/main.rt:40:13  let end = next(list, file, b'\n'); ⏎ run(&list[at..space], &list[kinds..second], &list[file..end]);
+-- src/main.rt:41:13  let end = next(list, file, b'\n'); ⏎ run(&list[at..space], &list[kinds..second], &list[file..end]);
 part-run-start : tie.Need-part-run-start Inv-loop μ-loop
 part-run-start c = omega (arith, c .before .before .before .before .next .ensures)
 
--- src/main.rt:40:13  let end = next(list, file, b'\n'); ⏎ run(&list[at..space], &list[kinds..second], &list[file..end]);
+-- src/main.rt:41:13  let end = next(list, file, b'\n'); ⏎ run(&list[at..space], &list[kinds..second], &list[file..end]);
 part-run-end : tie.Need-part-run-end Inv-loop μ-loop
 part-run-end c = omega (arith, c .before .before .before .before .next .ensures)
 
--- src/main.rt:40:31  let end = next(list, file, b'\n'); ⏎ run(&list[at..space], &list[kinds..second], &list[file..end]);
+-- src/main.rt:41:31  let end = next(list, file, b'\n'); ⏎ run(&list[at..space], &list[kinds..second], &list[file..end]);
 sub-run-2 : tie.Need-sub-run-2 Inv-loop μ-loop
 sub-run-2 c = search needs
 
--- src/main.rt:40:31  let end = next(list, file, b'\n'); ⏎ run(&list[at..space], &list[kinds..second], &list[file..end]);
+-- src/main.rt:41:31  let end = next(list, file, b'\n'); ⏎ run(&list[at..space], &list[kinds..second], &list[file..end]);
 part-run-start-2 : tie.Need-part-run-start-2 Inv-loop μ-loop
 part-run-start-2 c = search needs
 
--- src/main.rt:40:31  let end = next(list, file, b'\n'); ⏎ run(&list[at..space], &list[kinds..second], &list[file..end]);
+-- src/main.rt:41:31  let end = next(list, file, b'\n'); ⏎ run(&list[at..space], &list[kinds..second], &list[file..end]);
 part-run-end-2 : tie.Need-part-run-end-2 Inv-loop μ-loop
 part-run-end-2 c = search needs
 
--- src/main.rt:40:53  let end = next(list, file, b'\n'); ⏎ run(&list[at..space], &list[kinds..second], &list[file..end]);
+-- src/main.rt:41:53  let end = next(list, file, b'\n'); ⏎ run(&list[at..space], &list[kinds..second], &list[file..end]);
 sub-run-3 : tie.Need-sub-run-3 Inv-loop μ-loop
 sub-run-3 c = search needs
 
--- src/main.rt:40:53  let end = next(list, file, b'\n'); ⏎ run(&list[at..space], &list[kinds..second], &list[file..end]);
+-- src/main.rt:41:53  let end = next(list, file, b'\n'); ⏎ run(&list[at..space], &list[kinds..second], &list[file..end]);
 part-run-start-3 : tie.Need-part-run-start-3 Inv-loop μ-loop
 part-run-start-3 c = search needs
 
--- src/main.rt:40:53  let end = next(list, file, b'\n'); ⏎ run(&list[at..space], &list[kinds..second], &list[file..end]);
+-- src/main.rt:41:53  let end = next(list, file, b'\n'); ⏎ run(&list[at..space], &list[kinds..second], &list[file..end]);
 part-run-end-3 : tie.Need-part-run-end-3 Inv-loop μ-loop
 part-run-end-3 c = search needs
 
--- src/main.rt:40:9  let end = next(list, file, b'\n'); ⏎ run(&list[at..space], &list[kinds..second], &list[file..end]);
+-- src/main.rt:41:9  let end = next(list, file, b'\n'); ⏎ run(&list[at..space], &list[kinds..second], &list[file..end]);
 run-requires : tie.Need-run-requires Inv-loop μ-loop
 run-requires c κs = search needs
 
--- src/main.rt:42:13  if end == list.len() { ⏎ return;
+-- src/main.rt:43:13  if end == list.len() { ⏎ return;
 returns-3 : tie.Need-returns-3 Inv-loop μ-loop
 returns-3 c = search needs
 
--- src/main.rt:44:14  } ⏎ at = end + 1;
+-- src/main.rt:45:14  } ⏎ at = end + 1;
 add-at : tie.Need-add-at Inv-loop μ-loop
 add-at c = omega (arith, c .before .before .before .before .before .next3 .ensures, c .if3 .left)
 
--- src/main.rt:28:5  let mut at = 0; ⏎ while at < list.len() {
+-- src/main.rt:29:5  let mut at = 0; ⏎ while at < list.len() {
 loop-less : tie.Need-loop-less Inv-loop μ-loop
 loop-less c = less (length (c .before .before .before .before .before .before .before .before .before .before .before .before .before .args .list .now)) (c .before .before .before .before .before .before .before .before .before .before .before .loop .at) (c .before .before .before .before .before .before .before .before .before .next .result) (c .before .before .before .before .before .before .before .next2 .result) (c .before .before .before .before .before .next3 .result) (c .before .before .before .before .before .before .before .before .before .next .ensures .0) (c .before .before .before .before .before .before .before .next2 .ensures .0) (c .before .before .before .before .before .next3 .ensures .0) (c .before .before .before .before .before .next3 .ensures .1) (c .if3 .left)
 
--- src/main.rt:28:5  let mut at = 0; ⏎ while at < list.len() {
+-- src/main.rt:29:5  let mut at = 0; ⏎ while at < list.len() {
 loop-again : tie.Need-loop-again Inv-loop μ-loop
 loop-again c = omega (arith, c .before .before .before .before .before .next3 .ensures, c .if3 .left)
 
--- src/main.rt:26:1  // Makes each run of a list. ⏎ fn run_all(list: &[u8]) {
+-- src/main.rt:27:1  // Makes each run of a list. ⏎ fn run_all(list: &[u8]) {
 returns-4 : tie.Need-returns-4 Inv-loop μ-loop
 returns-4 c = search needs
 

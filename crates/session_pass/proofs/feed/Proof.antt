@@ -5,8 +5,8 @@ use Rattle.session_pass.proofs.feed.Statement.{statement}
 use Rattle.session_pass.proofs.feed.Tie as tie
 use Rattle.session_pass.proofs.feed.Reads as reads
 use Rattle.session_pass.proofs.feed.Lts as lts
-use Rattle.session_pass.proofs.blank_set.Reads as blank-set-reads
 use Rattle.machine_calls.proofs.push.Reads as push-reads
+use Rattle.session_pass.proofs.blank_set.Reads as blank-set-reads
 use Rattle.text_read.proofs.sets.read_set.Reads as read-set-reads
 use borrow.Author.Needs.{needs}
 use native.Mathlib.Omega.{arith}
@@ -48,11 +48,11 @@ slice-aggregate-read-set c = search needs
 read-set-requires : tie.Need-read-set-requires Inv-loop μ-loop
 read-set-requires c κs = (omega arith, omega arith, omega (arith, c .before .before .loop .inv .1))
 
--- src/lib.rt:84:44  if text_read::sets::read_set(sets, next, kinds, &mut set) { ⏎ let a = machine_calls::push(mem, &set[..size]);
+-- src/lib.rt:84:46  if text_read::sets::read_set(sets, next, kinds, &mut set) { ⏎ let a = machine_calls::push(mem, &set[..size]);
 array-share-prefix-set : tie.Need-array-share-prefix-set Inv-loop μ-loop
 array-share-prefix-set c = omega (arith, c .before .before .before .read-set .kept .1 .1 .1 .0, c .before .before .before .before .before .before .loop .inv .1)
 
--- src/lib.rt:84:44  if text_read::sets::read_set(sets, next, kinds, &mut set) { ⏎ let a = machine_calls::push(mem, &set[..size]);
+-- src/lib.rt:84:46  if text_read::sets::read_set(sets, next, kinds, &mut set) { ⏎ let a = machine_calls::push(mem, &set[..size]);
 slice-aggregate-push : tie.Need-slice-aggregate-push Inv-loop μ-loop
 slice-aggregate-push c = sym (length-take-le (5 * length (c .before .before .before .before .before .before .before .before .before .before .before .before .args .kinds .now)) (c .before .before .before .before .read-set .last .1 .1 .1 .0) (omega (arith, c .before .before .before .before .read-set .kept .1 .1 .1 .0, c .before .before .before .before .before .before .before .loop .inv .1)))
 

@@ -5,10 +5,10 @@ use Rattle.session_pass.proofs.pass.Statement.{statement}
 use Rattle.session_pass.proofs.pass.Tie as tie
 use Rattle.session_pass.proofs.pass.Reads as reads
 use Rattle.session_pass.proofs.pass.Lts as lts
+use Rattle.machine_calls.proofs.run.Reads as run-reads
 use Rattle.session_pass.proofs.drain.Reads as drain-reads
 use Rattle.session_pass.proofs.feed.Reads as feed-reads
 use Rattle.session_pass.proofs.left_after.Reads as left-after-reads
-use Rattle.machine_calls.proofs.run.Reads as run-reads
 use Rattle.text_print.proofs.put_refusal.Reads as put-refusal-reads
 use native.Mathlib.Omega.{arith}
 use Prim.Native.Nat.{ℕ, suc, _+_, _-_, _*_, _≤_, _<_}

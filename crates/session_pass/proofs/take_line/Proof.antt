@@ -5,8 +5,8 @@ use Rattle.session_pass.proofs.take_line.Statement.{statement}
 use Rattle.session_pass.proofs.take_line.Tie as tie
 use Rattle.session_pass.proofs.take_line.Reads as reads
 use Rattle.session_pass.proofs.take_line.Lts as lts
-use Rattle.session_pass.proofs.blank_result.Reads as blank-result-reads
 use Rattle.machine_calls.proofs.take.Reads as take-reads
+use Rattle.session_pass.proofs.blank_result.Reads as blank-result-reads
 use Rattle.text_print.proofs.put_results.Reads as put-results-reads
 use native.Mathlib.Omega.{arith}
 use Prim.Native.Nat.{ℕ, suc, _+_, _-_, _*_, _≤_, _<_}
@@ -26,7 +26,7 @@ use Rattle.session.specs.PassLaws.{take-width, line-handed, line-refused, drain
 blank-result-requires : tie.Need-blank-result-requires
 blank-result-requires c κs = search needs
 
--- src/lib.rt:42:36  let mut result = blank_result(); ⏎ let a = machine_calls::take(mem, &mut result);
+-- src/lib.rt:42:38  let mut result = blank_result(); ⏎ let a = machine_calls::take(mem, &mut result);
 slice-aggregate-take : tie.Need-slice-aggregate-take
 slice-aggregate-take c = search needs
 

@@ -9,9 +9,9 @@ use Rattle.session_run.proofs.opening.open.Tie as tie
 use Rattle.session_run.proofs.opening.open.Reads as reads
 use Rattle.session_run.proofs.opening.open.Lts as lts
 use Rattle.formula.proofs.refusal_number.Reads as refusal-number-reads
+use Rattle.machine_start.proofs.start.Reads as start-reads
 use Rattle.session_run.proofs.opening.judge.Reads as judge-reads
 use Rattle.session_run.proofs.opening.refused.Reads as refused-reads
-use Rattle.machine_start.proofs.start.Reads as start-reads
 use Rattle.text_read.proofs.scan.seen_laid_out.Reads as seen-laid-out-reads
 use native.Mathlib.Omega.{arith}
 use Prim.Native.Nat.{ℕ, suc, _+_, _-_, _*_, _≤_, _<_}
