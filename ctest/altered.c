@@ -30,64 +30,11 @@ static void put_figure(size_t at, unsigned x) {
     memory[at + 1] = (uint8_t)(x / 256);
 }
 
-/* All calls on a machine give this refusal for the memory as it stands, and leave every byte. */
-static void all_refuse(const char *what, uint32_t refusal) {
-    uint8_t *before = malloc(length + 1);
-    uint8_t out[BENCH_RESULT_BYTES], held[BENCH_RESULT_BYTES];
-    if (before == NULL) {
-        exit(2);
-    }
-    memcpy(before, memory, length);
-    memset(out, 0x5a, sizeof out);
-    memcpy(held, out, sizeof out);
-    bench_answer answers[] = {
-        bench_push(memory, length, five, sizeof five),
-        bench_push_tray(memory, length, five, sizeof five, 1),
-        bench_push_tray(memory, length, NULL, 0, 0),
-        bench_fire(memory, length, 0),
-        bench_run(memory, length, 10),
-        bench_take(memory, length, out, sizeof out),
-    };
-    for (size_t i = 0; i < sizeof answers / sizeof answers[0]; i++) {
-        expect(what, answers[i].refusal, refusal);
-        expect(what, answers[i].count, 0);
-    }
-    expect(what, (uint32_t)memcmp(memory, before, length), 0);
-    expect(what, (uint32_t)memcmp(out, held, sizeof out), 0);
-    free(before);
-}
-
-/* One byte set to a value that is out of its range, and back. */
-static void bad_byte(const char *what, size_t at, uint8_t value) {
-    uint8_t held = memory[at];
-    memory[at] = value;
-    all_refuse(what, BENCH_ALTERED);
-    memory[at] = held;
-}
-
 static void bad_figure(const char *what, size_t at, unsigned value) {
     unsigned held = figure(at);
     put_figure(at, value);
     all_refuse(what, BENCH_ALTERED);
     put_figure(at, held);
-}
-
-/* The memory is not refused with 31. */
-static void stands(const char *what) {
-    uint8_t *copy = malloc(length);
-    if (copy == NULL) {
-        exit(2);
-    }
-    memcpy(copy, memory, length);
-    expect(what, bench_fire(copy, length, UINT32_MAX).refusal, BENCH_NOT_ABLE);
-    free(copy);
-}
-
-static void good_byte(const char *what, size_t at, uint8_t value) {
-    uint8_t held = memory[at];
-    memory[at] = value;
-    stands(what);
-    memory[at] = held;
 }
 
 static void header(void) {
@@ -238,6 +185,11 @@ static void links_and_tokens(void) {
     stands("bytes that the graph does not use");
 }
 
+static bench_start_answer start(const struct sheet *sheet, uint32_t capacity, uint8_t *mem, size_t bytes) {
+    const uint8_t *rows = (const uint8_t *)sheet->rows, *kinds = (const uint8_t *)sheet->kinds;
+    return bench_start(rows, strlen(sheet->rows), kinds, strlen(sheet->kinds), capacity, mem, bytes);
+}
+
 static void lengths(void) {
     uint8_t out[BENCH_RESULT_BYTES] = {0};
     expect("push, no memory", bench_push(NULL, 0, five, sizeof five).refusal, BENCH_MEMORY);
@@ -245,9 +197,9 @@ static void lengths(void) {
     expect("fire, no memory", bench_fire(NULL, 0, 0).refusal, BENCH_MEMORY);
     expect("run, no memory", bench_run(NULL, 0, 1).refusal, BENCH_MEMORY);
     expect("take, no memory", bench_take(NULL, 0, out, sizeof out).refusal, BENCH_MEMORY);
-    expect("start, no memory", bench_start((const uint8_t *)pair, sizeof pair - 1, 1, NULL, 0).refusal, BENCH_MEMORY);
+    expect("start, no memory", start(&pair, 1, NULL, 0).refusal, BENCH_MEMORY);
     for (uint32_t capacity = 1; capacity <= MOST_CAPACITY; capacity++) {
-        begin(factorial, capacity);
+        begin(&factorial, capacity);
         length--;
         all_refuse("a byte too few", BENCH_MEMORY);
         memory[CAPACITY_AT] = 0;
@@ -260,14 +212,14 @@ static void lengths(void) {
         }
         length++;
     }
-    begin(factorial, 1);
+    begin(&factorial, 1);
     memory[CAPACITY_AT] = 0;
     all_refuse("stored capacity 0 in a memory for 1", BENCH_ALTERED);
     memory[CAPACITY_AT] = MOST_CAPACITY + 1;
     all_refuse("stored capacity 17 in a memory for 1", BENCH_ALTERED);
     memory[CAPACITY_AT] = 2;
     all_refuse("stored capacity 2 in a memory for 1", BENCH_MEMORY);
-    begin(pair, CAPACITY);
+    begin(&pair, CAPACITY);
     uint8_t short_out[BENCH_RESULT_BYTES - 1] = {0};
     memory[RESULTS_AT] = 0;
     expect("take, 11 before 31", bench_take(memory, length, short_out, sizeof short_out).refusal, BENCH_MEMORY);
@@ -275,6 +227,8 @@ static void lengths(void) {
 }
 
 static void starts(void) {
+    static const struct sheet no_rows = {"x", "x"};
+    static const struct sheet iter_alone = {"     1     0     0     0     0\n     9     1     0     0     0\n", "x"};
     uint32_t wrong[] = {0, MOST_CAPACITY + 1, 255, 256, 257, UINT32_MAX};
     size_t size = BENCH_MACHINE_BYTES(1);
     uint8_t *mem = malloc(size);
@@ -283,12 +237,12 @@ static void starts(void) {
     }
     memset(mem, 7, size);
     for (size_t i = 0; i < sizeof wrong / sizeof wrong[0]; i++) {
-        expect("capacity", bench_start((const uint8_t *)"x", 1, wrong[i], mem, size).refusal, BENCH_CAPACITY);
-        expect("11 before 14", bench_start((const uint8_t *)"x", 1, wrong[i], mem, size - 1).refusal, BENCH_MEMORY);
+        expect("capacity", start(&no_rows, wrong[i], mem, size).refusal, BENCH_CAPACITY);
+        expect("11 before 14", start(&no_rows, wrong[i], mem, size - 1).refusal, BENCH_MEMORY);
     }
-    expect("a bad sheet", bench_start((const uint8_t *)"x", 1, 1, mem, size).refusal, BENCH_LINES);
-    expect("11 before 1", bench_start((const uint8_t *)"x", 1, 2, mem, size).refusal, BENCH_MEMORY);
-    bench_start_answer iter = bench_start((const uint8_t *)"     1     0     0     0     0\n     9     1     0     0     0\n", 62, 1, mem, size);
+    expect("a bad sheet", start(&no_rows, 1, mem, size).refusal, BENCH_LINES);
+    expect("11 before 1", start(&no_rows, 2, mem, size).refusal, BENCH_MEMORY);
+    bench_start_answer iter = start(&iter_alone, 1, mem, size);
     expect("iter as the formula", iter.refusal, BENCH_ITER);
     expect("its row", iter.row, 2);
     for (size_t i = 0; i < size; i++) {
@@ -297,7 +251,7 @@ static void starts(void) {
             break;
         }
     }
-    bench_start_answer good = bench_start((const uint8_t *)factorial, sizeof factorial - 1, 1, mem, size);
+    bench_start_answer good = start(&factorial, 1, mem, size);
     expect("factorial", good.refusal, BENCH_ACCEPTED);
     expect("its operators", good.operators, 32);
     expect("its inputs", good.inputs, 1);
@@ -308,7 +262,7 @@ static void starts(void) {
 static void orders(void) {
     static const uint8_t bad[] = {BENCH_ERR + 1, 0, 0, 0, 0};
     uint8_t out[BENCH_RESULT_BYTES];
-    begin(factorial, CAPACITY);
+    begin(&factorial, CAPACITY);
     memory[UNTAKEN_AT] = MOST_UNTAKEN;
     expect("12 before 32", bench_push(memory, length, bad, sizeof bad).refusal, BENCH_SET);
     for (size_t i = 0; i < sizeof no_reasons / sizeof no_reasons[0]; i++) {
@@ -327,7 +281,7 @@ static void orders(void) {
     memory[UNTAKEN_AT] = 0;
     expect("35", bench_take(memory, length, out, sizeof out).refusal, BENCH_NO_RESULT);
 
-    begin(factorial, CAPACITY);
+    begin(&factorial, CAPACITY);
     expect("no operator can fire", bench_run(memory, length, 0).refusal, BENCH_ACCEPTED);
     expect("push", bench_push(memory, length, five, sizeof five).refusal, BENCH_ACCEPTED);
     bench_answer none = bench_run(memory, length, 0);
@@ -363,12 +317,12 @@ static void orders(void) {
 }
 
 static void sixteen(void) {
-    begin(pair, MOST_CAPACITY);
+    begin(&pair, MOST_CAPACITY);
     for (int i = 0; i < MOST_UNTAKEN; i++) {
         expect("sixteen pushes pass", bench_push(memory, length, two_values, sizeof two_values).refusal, BENCH_ACCEPTED);
     }
     expect("the seventeenth", bench_push(memory, length, two_values, sizeof two_values).refusal, BENCH_UNTAKEN);
-    begin(pair, 1);
+    begin(&pair, 1);
     expect("one push", bench_push(memory, length, two_values, sizeof two_values).refusal, BENCH_ACCEPTED);
     expect("a full link", bench_push(memory, length, two_values, sizeof two_values).refusal, BENCH_FULL);
     bad_figure("results named twice", RESULT_LINKS_AT + FIGURE_BYTES, figure(RESULT_LINKS_AT));
@@ -469,7 +423,7 @@ static void join_when_full(uint32_t operator) {
 
 /* Every sort of token on each input of factorial's IC gate, which gets a link for its second output. */
 static void loop_join(void) {
-    begin(factorial, CAPACITY);
+    begin(&factorial, CAPACITY);
     uint32_t operator = 0;
     while (memory[RECORDS_AT + RECORD_BYTES * (size_t)operator] != IC) {
         operator++;
@@ -499,7 +453,7 @@ static void errs_with_reasons(void) {
         expect(what, (uint32_t)memcmp(out, reasons[i].result, sizeof reasons[i].result), 0);
     }
     static const uint8_t sets[][BENCH_VALUE_BYTES] = {WHOLE(13), Z_VALUE, V_VALUE}, results[][BENCH_VALUE_BYTES] = {V_VALUE, E_VALUE, E_VALUE};
-    begin(factorial, CAPACITY);
+    begin(&factorial, CAPACITY);
     for (size_t i = 0; i < sizeof sets / sizeof sets[0]; i++) {
         uint8_t out[BENCH_RESULT_BYTES];
         expect("factorial of 13, Z, V", bench_push(memory, length, sets[i], BENCH_VALUE_BYTES).refusal, BENCH_ACCEPTED);
@@ -516,7 +470,7 @@ int main(void) {
     starts();
     orders();
     sixteen();
-    begin(factorial, CAPACITY);
+    begin(&factorial, CAPACITY);
     header();
     operators();
     links_and_tokens();

@@ -37,8 +37,13 @@ static inline uint8_t *lend(const void *bytes, size_t length) {
     return copy;
 }
 
+/* A formula sheet and its kinds line. */
+struct sheet {
+    const char *rows, *kinds;
+};
+
 /* "for i, y = n, 1 do if 1 < i then iter i - 1, y * i else y": constants, copies, T, F, M or E, IC, FM and FS gates. */
-static const char factorial[] =
+static const struct sheet factorial = {
     "     1     2     0     0     0\n"
     "     2     1     0     0     0\n"
     "     4     1     2     0     0\n"
@@ -58,16 +63,18 @@ static const char factorial[] =
     "     9    16     0     0     0\n"
     "     1     1     0     0     0\n"
     "     7     7    17    18     0\n"
-    "     8     0     2     3    19\n";
+    "     8     0     2     3    19\n",
+    "W\n"};
 
-/* Both inputs as a pair: no operator, and the result links are the input links. */
-static const char pair[] =
+/* Both inputs as a pair, a number and a truth: no operator, and the result links are the input links. */
+static const struct sheet pair = {
     "     1     0     0     0     0\n"
     "     1     1     0     0     0\n"
-    "     4     1     2     0     0\n";
+    "     4     1     2     0     0\n",
+    "WT\n"};
 
 /* "x0 / x1, x0 + x1" */
-static const char quotient_and_sum[] =
+static const struct sheet quotient_and_sum = {
     "     1     0     0     0     0\n"
     "     1     1     0     0     0\n"
     "     4     1     2     0     0\n"
@@ -76,10 +83,11 @@ static const char quotient_and_sum[] =
     "     1     1     0     0     0\n"
     "     4     5     6     0     0\n"
     "     5     1     7     0     0\n"
-    "     4     4     8     0     0\n";
+    "     4     4     8     0     0\n",
+    "WW\n"};
 
 /* "if x0 then x1, x0 else x0, x1" */
-static const char chosen_pair[] =
+static const struct sheet chosen_pair = {
     "     1     0     0     0     0\n"
     "     1     1     0     0     0\n"
     "     1     0     0     0     0\n"
@@ -87,7 +95,8 @@ static const char chosen_pair[] =
     "     1     0     0     0     0\n"
     "     1     1     0     0     0\n"
     "     4     5     6     0     0\n"
-    "     7     1     4     7     0\n";
+    "     7     1     4     7     0\n",
+    "TT\n"};
 
 /* Values as bytes. */
 #define LEAST {BENCH_WHOLE, 0, 0, 0, 0x80}
@@ -102,25 +111,23 @@ static const char chosen_pair[] =
 
 /* Two inputs and two results each: where a reason comes from, which of two is handed on, and that a test takes none along. */
 static const struct {
-    const char *what, *sheet;
+    const char *what;
+    const struct sheet *sheet;
     uint8_t set[2][BENCH_VALUE_BYTES], result[2][BENCH_VALUE_BYTES];
 } reasons[] = {
-    {"a zero divisor", quotient_and_sum, {WHOLE(7), WHOLE(0)}, {Z_VALUE, WHOLE(7)}},
-    {"a wrong kind beside a zero divisor", quotient_and_sum, {TRUE_VALUE, WHOLE(0)}, {E_VALUE, E_VALUE}},
-    {"least by -1", quotient_and_sum, {LEAST, MINUS_ONE}, {V_VALUE, V_VALUE}},
-    {"a sum out of range", quotient_and_sum, {GREATEST, WHOLE(1)}, {GREATEST, V_VALUE}},
-    {"Z, V", quotient_and_sum, {Z_VALUE, V_VALUE}, {Z_VALUE, Z_VALUE}},
-    {"V, Z", quotient_and_sum, {V_VALUE, Z_VALUE}, {V_VALUE, V_VALUE}},
-    {"E, Z", quotient_and_sum, {E_VALUE, Z_VALUE}, {E_VALUE, E_VALUE}},
-    {"a wrong kind beside Z", quotient_and_sum, {TRUE_VALUE, Z_VALUE}, {Z_VALUE, Z_VALUE}},
-    {"V beside a wrong kind", quotient_and_sum, {V_VALUE, TRUE_VALUE}, {V_VALUE, V_VALUE}},
-    {"Z as a divisor", quotient_and_sum, {WHOLE(7), Z_VALUE}, {Z_VALUE, Z_VALUE}},
-    {"Z, V as they are", pair, {Z_VALUE, V_VALUE}, {Z_VALUE, V_VALUE}},
-    {"V, E as they are", pair, {V_VALUE, E_VALUE}, {V_VALUE, E_VALUE}},
-    {"V behind a true test", chosen_pair, {TRUE_VALUE, V_VALUE}, {V_VALUE, TRUE_VALUE}},
-    {"Z behind a false test", chosen_pair, {FALSE_VALUE, Z_VALUE}, {FALSE_VALUE, Z_VALUE}},
-    {"a test that is Z", chosen_pair, {Z_VALUE, V_VALUE}, {E_VALUE, E_VALUE}},
-    {"a test that is V", chosen_pair, {V_VALUE, WHOLE(7)}, {E_VALUE, E_VALUE}},
+    {"a zero divisor", &quotient_and_sum, {WHOLE(7), WHOLE(0)}, {Z_VALUE, WHOLE(7)}},
+    {"least by -1", &quotient_and_sum, {LEAST, MINUS_ONE}, {V_VALUE, V_VALUE}},
+    {"a sum out of range", &quotient_and_sum, {GREATEST, WHOLE(1)}, {GREATEST, V_VALUE}},
+    {"Z, V", &quotient_and_sum, {Z_VALUE, V_VALUE}, {Z_VALUE, Z_VALUE}},
+    {"V, Z", &quotient_and_sum, {V_VALUE, Z_VALUE}, {V_VALUE, V_VALUE}},
+    {"E, Z", &quotient_and_sum, {E_VALUE, Z_VALUE}, {E_VALUE, E_VALUE}},
+    {"Z as a divisor", &quotient_and_sum, {WHOLE(7), Z_VALUE}, {Z_VALUE, Z_VALUE}},
+    {"Z, V as they are", &pair, {Z_VALUE, V_VALUE}, {Z_VALUE, V_VALUE}},
+    {"V, E as they are", &pair, {V_VALUE, E_VALUE}, {V_VALUE, E_VALUE}},
+    {"V behind a true test", &chosen_pair, {TRUE_VALUE, V_VALUE}, {V_VALUE, TRUE_VALUE}},
+    {"Z behind a false test", &chosen_pair, {FALSE_VALUE, Z_VALUE}, {FALSE_VALUE, Z_VALUE}},
+    {"a test that is Z", &chosen_pair, {Z_VALUE, V_VALUE}, {E_VALUE, E_VALUE}},
+    {"a test that is V", &chosen_pair, {V_VALUE, TRUE_VALUE}, {E_VALUE, E_VALUE}},
 };
 
 /* An err whose reason is none. */

@@ -27,6 +27,9 @@ static const char sheet[] =
     "     1     1     0     0     0\n"
     "     7     4     5     6     0\n";
 
+/* Both readings are whole numbers. */
+static const char kinds[] = "WW\n";
+
 /* A whole number as the bytes of a value. */
 static void put_whole(uint8_t *to, int32_t number) {
     uint32_t bits = (uint32_t)number;
@@ -82,7 +85,8 @@ static unsigned show_ready(unsigned shown) {
 int main(void) {
     static const int32_t beacons[][READINGS] = {{3, 5}, {7, 7}, {-2, 2}, {2147483647, -2147483647 - 1}, {40, 39}};
     const unsigned count = sizeof beacons / sizeof beacons[0];
-    bench_start_answer started = bench_start((const uint8_t *)sheet, sizeof sheet - 1, CAPACITY, memory, sizeof memory);
+    bench_start_answer started = bench_start((const uint8_t *)sheet, sizeof sheet - 1, (const uint8_t *)kinds, sizeof kinds - 1, CAPACITY, memory,
+                                             sizeof memory);
     if (started.refusal != BENCH_ACCEPTED) {
         fail("start", started.refusal);
     }

@@ -20,6 +20,7 @@ enum {
     TRIGGER_LINK_AT = 8,
     INPUT_LINKS_AT = 10,
     RESULT_LINKS_AT = 74,
+    INPUT_KINDS_AT = 106,
     RECORDS_AT = 256,
     REGISTERS_AT = 16640,
     STRETCHES_AT = 21760
@@ -30,7 +31,7 @@ enum { MOST_UNTAKEN = 16, MOST_CAPACITY = 16 };
 static uint8_t *memory;
 static size_t length;
 
-static void begin(const char *sheet, uint32_t capacity) {
+static void begin(const struct sheet *sheet, uint32_t capacity) {
     free(memory);
     length = BENCH_MACHINE_BYTES(capacity);
     memory = malloc(length);
@@ -38,7 +39,54 @@ static void begin(const char *sheet, uint32_t capacity) {
         exit(2);
     }
     memset(memory, 0xa5, length);
-    expect("start", bench_start((const uint8_t *)sheet, strlen(sheet), capacity, memory, length).refusal, BENCH_ACCEPTED);
+    const uint8_t *rows = (const uint8_t *)sheet->rows, *kinds = (const uint8_t *)sheet->kinds;
+    bench_start_answer started = bench_start(rows, strlen(sheet->rows), kinds, strlen(sheet->kinds), capacity, memory, length);
+    expect("start", started.refusal, BENCH_ACCEPTED);
+}
+
+/* All calls on a machine give this refusal for the memory as it stands, and leave every byte. */
+static inline void all_refuse(const char *what, uint32_t refusal) {
+    static const uint8_t five[] = WHOLE(5);
+    uint8_t *before = lend(memory, length), out[BENCH_RESULT_BYTES], held[BENCH_RESULT_BYTES];
+    memset(out, 0x5a, sizeof out);
+    memcpy(held, out, sizeof out);
+    bench_answer answers[] = {
+        bench_push(memory, length, five, sizeof five),
+        bench_push_tray(memory, length, five, sizeof five, 1),
+        bench_push_tray(memory, length, NULL, 0, 0),
+        bench_fire(memory, length, 0),
+        bench_run(memory, length, 10),
+        bench_take(memory, length, out, sizeof out),
+    };
+    for (size_t i = 0; i < sizeof answers / sizeof answers[0]; i++) {
+        expect(what, answers[i].refusal, refusal);
+        expect(what, answers[i].count, 0);
+    }
+    expect(what, length == 0 || memcmp(memory, before, length) == 0, 1);
+    expect(what, (uint32_t)memcmp(out, held, sizeof out), 0);
+    free(before);
+}
+
+/* One byte set to a value that is out of its range, and back. */
+static inline void bad_byte(const char *what, size_t at, uint8_t value) {
+    uint8_t held = memory[at];
+    memory[at] = value;
+    all_refuse(what, BENCH_ALTERED);
+    memory[at] = held;
+}
+
+/* The memory is not refused with 31. */
+static inline void stands(const char *what) {
+    uint8_t *copy = lend(memory, length);
+    expect(what, bench_fire(copy, length, UINT32_MAX).refusal, BENCH_NOT_ABLE);
+    free(copy);
+}
+
+static inline void good_byte(const char *what, size_t at, uint8_t value) {
+    uint8_t held = memory[at];
+    memory[at] = value;
+    stands(what);
+    memory[at] = held;
 }
 
 #endif

@@ -8,7 +8,7 @@
 enum { SET_BYTES = 2 * BENCH_VALUE_BYTES, SETS = 20 };
 
 /* "7": no inputs, and a constant that wants the trigger. */
-static const char seven[] = "     2     7     0     0     0\n";
+static const struct sheet seven = {"     2     7     0     0     0\n", "\n"};
 
 /* Twenty sets that differ, of whole numbers and truths. */
 static uint8_t sets[SETS * SET_BYTES];
@@ -80,17 +80,17 @@ static void taken(const char *what, size_t first, size_t count) {
 static void capacities(void) {
     static const uint32_t numbers[] = {SETS, UINT32_MAX};
     for (size_t i = 0; i < sizeof numbers / sizeof numbers[0]; i++) {
-        begin(pair, 1);
+        begin(&pair, 1);
         tray("capacity 1", sets, sizeof sets, numbers[i], BENCH_FULL, 1);
         taken("capacity 1", 0, 1);
-        begin(pair, 2);
+        begin(&pair, 2);
         tray("capacity 2", sets, sizeof sets, numbers[i], BENCH_FULL, 2);
         taken("capacity 2", 0, 2);
-        begin(pair, MOST_CAPACITY);
+        begin(&pair, MOST_CAPACITY);
         tray("capacity 16", sets, sizeof sets, numbers[i], BENCH_UNTAKEN, MOST_UNTAKEN);
         taken("capacity 16", 0, MOST_UNTAKEN);
     }
-    begin(pair, MOST_CAPACITY);
+    begin(&pair, MOST_CAPACITY);
     tray("sixteen", sets, sizeof sets, MOST_UNTAKEN, BENCH_ACCEPTED, MOST_UNTAKEN);
     tray_leaves_all("a seventeenth", sets, SET_BYTES, 1, BENCH_UNTAKEN);
     taken("sixteen", 0, MOST_UNTAKEN);
@@ -107,11 +107,11 @@ static void lengths(void) {
     memcpy(lent, sets, NUMBER * SET_BYTES);
     for (size_t bytes = 0; bytes <= MOST; bytes++) {
         uint32_t whole = (uint32_t)(bytes / SET_BYTES), count = whole < NUMBER ? whole : NUMBER;
-        begin(pair, MOST_CAPACITY);
+        begin(&pair, MOST_CAPACITY);
         tray("a length", lent, bytes, NUMBER, count < NUMBER ? BENCH_SET : BENCH_ACCEPTED, count);
         taken("a length", 0, count);
     }
-    begin(pair, MOST_CAPACITY);
+    begin(&pair, MOST_CAPACITY);
     tray("the largest number", sets, 2 * SET_BYTES, UINT32_MAX, BENCH_SET, 2);
     taken("the largest number", 0, 2);
 }
@@ -124,18 +124,18 @@ static void bad_values(void) {
         memcpy(lent, sets, sizeof lent);
         memcpy(lent + BENCH_VALUE_BYTES * (size_t)at, no_reasons[at % 4], BENCH_VALUE_BYTES);
         uint32_t count = at / 2;
-        begin(pair, MOST_CAPACITY);
+        begin(&pair, MOST_CAPACITY);
         tray("a bad value", lent, sizeof lent, NUMBER, BENCH_SET, count);
         taken("a bad value", 0, count);
-        begin(pair, MOST_CAPACITY);
+        begin(&pair, MOST_CAPACITY);
         memory[UNTAKEN_AT] = (uint8_t)(MOST_UNTAKEN - count);
         tray("12 before 32", lent, sizeof lent, NUMBER, BENCH_SET, count);
         tray("32", sets, sizeof sets, 1, BENCH_UNTAKEN, 0);
         if (count > 0) {
-            begin(pair, count);
+            begin(&pair, count);
             tray("12 before 33", lent, sizeof lent, NUMBER, BENCH_SET, count);
             tray("33", sets, sizeof sets, 1, BENCH_FULL, 0);
-            begin(pair, count);
+            begin(&pair, count);
             memory[UNTAKEN_AT] = (uint8_t)(MOST_UNTAKEN - count);
             tray("32 before 33", sets, sizeof sets, NUMBER + 1, BENCH_UNTAKEN, count);
         }
@@ -144,7 +144,7 @@ static void bad_values(void) {
 
 /* A tray of none: 11 and 31 only, whatever is lent beside it and however full the machine is. */
 static void none(void) {
-    begin(pair, 1);
+    begin(&pair, 1);
     tray_leaves_all("none", NULL, 0, 0, BENCH_ACCEPTED);
     tray_leaves_all("none, with bytes behind it", no_reasons[0], BENCH_VALUE_BYTES, 0, BENCH_ACCEPTED);
     tray("one", sets, sizeof sets, 1, BENCH_ACCEPTED, 1);
@@ -157,7 +157,7 @@ static void none(void) {
 static void memories(void) {
     static const uint32_t numbers[] = {0, 1, 2, SETS, UINT32_MAX};
     for (size_t i = 0; i < sizeof numbers / sizeof numbers[0]; i++) {
-        begin(pair, 2);
+        begin(&pair, 2);
         memory[UNTAKEN_AT] = MOST_UNTAKEN + 1;
         tray_leaves_all("31", sets, sizeof sets, numbers[i], BENCH_ALTERED);
         tray_leaves_all("31 before 12", no_reasons[0], BENCH_VALUE_BYTES, numbers[i], BENCH_ALTERED);
@@ -167,18 +167,19 @@ static void memories(void) {
         tray_leaves_all("no memory", sets, sizeof sets, numbers[i], BENCH_MEMORY);
     }
     /* A stored number of inputs that is another: a set is as long as it asks. */
-    begin(pair, 2);
+    static const uint8_t wholes[][BENCH_VALUE_BYTES] = {WHOLE(1), WHOLE(2)};
+    begin(&pair, 2);
     memory[INPUTS_AT] = 1;
-    tray("one input", sets, sizeof sets, 2, BENCH_ACCEPTED, 2);
+    tray("one input", wholes[0], sizeof wholes, 2, BENCH_ACCEPTED, 2);
 }
 
 /* Sets of no bytes go in until the trigger's link is full, sixteen are untaken, or as many as asked. */
 static void no_inputs(void) {
     for (uint32_t capacity = 1; capacity <= MOST_CAPACITY; capacity++) {
-        begin(seven, capacity);
+        begin(&seven, capacity);
         tray("no inputs", NULL, 0, UINT32_MAX, capacity < MOST_UNTAKEN ? BENCH_FULL : BENCH_UNTAKEN, capacity);
     }
-    begin(seven, MOST_CAPACITY);
+    begin(&seven, MOST_CAPACITY);
     tray("no inputs, three", NULL, 0, 3, BENCH_ACCEPTED, 3);
     tray("no inputs, bytes left aside", no_reasons[0], BENCH_VALUE_BYTES, 2, BENCH_ACCEPTED, 2);
     expect("five triggers", bench_run(memory, length, 100).count, 5);
@@ -186,10 +187,10 @@ static void no_inputs(void) {
 
 /* A tray of readings through a loop: each result is its own set's, also of sets before a refused one. */
 static void verdicts(void) {
-    static const uint8_t lent[][BENCH_VALUE_BYTES] = {WHOLE(1), WHOLE(5), TRUE_VALUE, WHOLE(13), {0, 0, 0, 0, 0}, WHOLE(3)};
+    static const uint8_t lent[][BENCH_VALUE_BYTES] = {WHOLE(1), WHOLE(5), Z_VALUE, WHOLE(13), {0, 0, 0, 0, 0}, WHOLE(3)};
     static const uint8_t results[][BENCH_VALUE_BYTES] = {WHOLE(1), WHOLE(120), E_VALUE, V_VALUE};
     uint8_t out[BENCH_RESULT_BYTES];
-    begin(factorial, MOST_CAPACITY);
+    begin(&factorial, MOST_CAPACITY);
     tray("factorials", lent[0], sizeof lent, 6, BENCH_SET, 4);
     expect("factorials", bench_run(memory, length, 100000).refusal, BENCH_ACCEPTED);
     for (size_t i = 0; i < sizeof results / sizeof results[0]; i++) {

@@ -19,6 +19,10 @@
  *
  * Sets. The inputs are the identifiers that are free in the formula, and a set is one value for each, one after another, by rising identifier:
  * a formula in which 3 and 17 are free takes the value of 3, then that of 17. Results stand in the order of the formula's values.
+ *
+ * Kinds. A sheet comes with its kinds line: one letter an input, in the order of a set's values, BENCH_KIND_WHOLE or BENCH_KIND_TRUTH, and a line
+ * feed behind them; of a formula without inputs it is the line feed alone. A set's values must be of these kinds or errs. A start stores the
+ * letters, so that the calls on a machine need no line.
  */
 #ifndef BENCH_H
 #define BENCH_H
@@ -44,31 +48,36 @@ enum {
     BENCH_ERR_OUT_OF_RANGE = 2  /* V: an exact answer outside the range of whole numbers */
 };
 
-/* Said of what was handed in. `row` counts from 1 for 3 to 9 and is 0 for the others. */
+/* The letters of a kinds line. */
+enum { BENCH_KIND_WHOLE = 'W', BENCH_KIND_TRUTH = 'T' };
+
+/* Said of what was handed in. `row` counts from 1 for 3 to 9 and 18 and is 0 for the others. */
 enum {
     BENCH_ACCEPTED = 0,
-    BENCH_LINES = 1,      /* empty, not in 31-byte rows, or a row without its line feed */
-    BENCH_ROWS = 2,       /* over 200 rows */
-    BENCH_FIELD = 3,      /* a malformed field */
-    BENCH_RANGE = 4,      /* kind, code, identifier, constant or unlisted field outside its range */
-    BENCH_NAMING = 5,     /* a row that names one wrongly */
-    BENCH_NAMED = 6,      /* a row before the last not named once */
-    BENCH_ITER = 7,       /* iter in an expression place */
-    BENCH_WIDTH = 8,      /* a width rule broken */
-    BENCH_BOUND = 9,      /* a bound identifier not free in row d */
-    BENCH_OPERATORS = 10, /* over 1,024 operators */
-    BENCH_MEMORY = 11,    /* lent memory shorter than the call's need */
-    BENCH_SET = 12,       /* a set with another number of values than inputs, or a bad value */
-    BENCH_CAPACITY = 14,  /* a capacity outside 1..16 */
+    BENCH_LINES = 1,       /* empty, not in 31-byte rows, or a row without its line feed */
+    BENCH_ROWS = 2,        /* over 200 rows */
+    BENCH_FIELD = 3,       /* a malformed field */
+    BENCH_RANGE = 4,       /* kind, code, identifier, constant or unlisted field outside its range */
+    BENCH_NAMING = 5,      /* a row that names one wrongly */
+    BENCH_NAMED = 6,       /* a row before the last not named once */
+    BENCH_ITER = 7,        /* iter in an expression place */
+    BENCH_WIDTH = 8,       /* a width rule broken */
+    BENCH_BOUND = 9,       /* a bound identifier not free in row d */
+    BENCH_OPERATORS = 10,  /* over 1,024 operators */
+    BENCH_MEMORY = 11,     /* lent memory shorter than the call's need */
+    BENCH_SET = 12,        /* a set with another number of values than inputs, a bad value, or a value of another kind than its input's */
+    BENCH_CAPACITY = 14,   /* a capacity outside 1..16 */
+    BENCH_KINDS_LINE = 17, /* a kinds line of another length, or with another letter */
+    BENCH_KINDS = 18,      /* a row that breaks the kinds: an operator or test of another kind, arms or loop rounds that do not agree */
 
     /* Said of how the machine stands. */
-    BENCH_ALTERED = 31,   /* a stored figure or token outside its range, or a link named twice by one operator, the inputs or the results;
-                             never given where only these calls wrote since an accepted bench_start */
-    BENCH_UNTAKEN = 32,   /* sixteen sets untaken */
-    BENCH_FULL = 33,      /* an input link, or the trigger's, full */
-    BENCH_NOT_ABLE = 34,  /* the operator is absent or not able to fire */
-    BENCH_NO_RESULT = 35, /* a result port empty, or no set untaken */
-    BENCH_UNFINISHED = 36 /* run: something can still fire after the lent firings; evaluation: more rounds needed than lent */
+    BENCH_ALTERED = 31,    /* a stored figure, letter or token outside its range, or a link named twice by one operator, the inputs or the results;
+                              never given where only these calls wrote since an accepted bench_start */
+    BENCH_UNTAKEN = 32,    /* sixteen sets untaken */
+    BENCH_FULL = 33,       /* an input link, or the trigger's, full */
+    BENCH_NOT_ABLE = 34,   /* the operator is absent or not able to fire */
+    BENCH_NO_RESULT = 35,  /* a result port empty, or no set untaken */
+    BENCH_UNFINISHED = 36  /* run: something can still fire after the lent firings; evaluation: more rounds needed than lent */
 };
 
 /* What a result set needs: sixteen values. */
@@ -106,21 +115,22 @@ typedef struct {
     uint32_t count; /* a run's firings, a taken result set's width, a tray's sets that went in, else 0 */
 } bench_answer;
 
-/* Reads a formula sheet. Refusals, in this order: 1 to 10. */
-bench_read_answer bench_read(const uint8_t *sheet, size_t sheet_bytes);
+/* Reads a formula sheet with its kinds line. Refusals, in this order: 1 to 9, 17, 18, 10. */
+bench_read_answer bench_read(const uint8_t *sheet, size_t sheet_bytes, const uint8_t *kinds, size_t kinds_bytes);
 
 /*
  * Evaluates a sheet on a set within the lent rounds; a round is one entry into a loop's body. Writes sixteen values to `out`, E past the
- * width; bytes of `out` past 80 are left alone. Refusals, in this order: 11 (`out` shorter than 80 bytes), 1 to 10, 12, 36.
+ * width; bytes of `out` past 80 are left alone. Refusals, in this order: 11 (`out` shorter than 80 bytes), 1 to 9, 17, 18, 10, 12, 36.
  */
-bench_evaluate_answer bench_evaluate(const uint8_t *sheet, size_t sheet_bytes, const uint8_t *set, size_t set_bytes, uint32_t rounds,
-                                     uint8_t *out, size_t out_bytes);
+bench_evaluate_answer bench_evaluate(const uint8_t *sheet, size_t sheet_bytes, const uint8_t *kinds, size_t kinds_bytes, const uint8_t *set,
+                                     size_t set_bytes, uint32_t rounds, uint8_t *out, size_t out_bytes);
 
 /*
  * Starts an empty machine for a sheet, with links that hold `capacity` tokens, in `memory` (any contents). Refusals, in this order: 11
- * (shorter than BENCH_MACHINE_BYTES of the capacity asked, or of 1 where that is outside 1..16), 14, 1 to 10.
+ * (shorter than BENCH_MACHINE_BYTES of the capacity asked, or of 1 where that is outside 1..16), 14, 1 to 9, 17, 18, 10.
  */
-bench_start_answer bench_start(const uint8_t *sheet, size_t sheet_bytes, uint32_t capacity, uint8_t *memory, size_t memory_bytes);
+bench_start_answer bench_start(const uint8_t *sheet, size_t sheet_bytes, const uint8_t *kinds, size_t kinds_bytes, uint32_t capacity,
+                               uint8_t *memory, size_t memory_bytes);
 
 /*
  * The calls on a machine. Each needs BENCH_MACHINE_BYTES of the stored capacity (of 1 where the stored one is outside 1..16), looks first

@@ -1,10 +1,10 @@
-// The program bench as a function of its two files' bytes (document 01, "Program and readings").
+// The program bench as a function of its three files' bytes (document 01, "Program and readings"; kinds.txt: document 02, Job 6).
 // Assumes nothing about the bytes; a missing file is an empty one.
 
 use crate::graph;
 use crate::machine::Machine;
 use crate::sheet::{self, refuse, Refusal, Sheet};
-use crate::value::{Reason, Value};
+use crate::value::{set_suits, Reason, Sort, Value};
 use std::fmt::Write;
 
 pub const CAPACITY: usize = 2;
@@ -13,9 +13,9 @@ pub const MOST_SET_BYTES: usize = 65_536;
 pub const FIELD: usize = 11;
 
 /// What the program prints.
-pub fn bench(formula: &[u8], sets: &[u8]) -> Vec<u8> {
+pub fn bench(formula: &[u8], kinds: &[u8], sets: &[u8]) -> Vec<u8> {
     let mut text = String::new();
-    match read_files(formula, sets) {
+    match read_files(formula, kinds, sets) {
         Ok((sheet, sets)) => print_results(&mut text, &sheet, &sets),
         Err(refusal) => print_refusal(&mut text, refusal),
     }
@@ -23,19 +23,19 @@ pub fn bench(formula: &[u8], sets: &[u8]) -> Vec<u8> {
 }
 
 /// "It makes the sheet's tests, then 13, then 12 (lowest line)".
-fn read_files(formula: &[u8], sets: &[u8]) -> Result<(Sheet, Vec<Vec<Value>>), Refusal> {
-    let sheet = sheet::read(formula)?;
+fn read_files(formula: &[u8], kinds: &[u8], sets: &[u8]) -> Result<(Sheet, Vec<Vec<Value>>), Refusal> {
+    let sheet = sheet::read(formula, kinds)?;
     if sets.len() > MOST_SET_BYTES {
         return refuse(13, 0);
     }
-    let sets = read_sets(sets, sheet.figures.inputs as usize)?;
+    let sets = read_sets(sets, &sheet.sorts)?;
     Ok((sheet, sets))
 }
 
-pub fn read_sets(bytes: &[u8], inputs: usize) -> Result<Vec<Vec<Value>>, Refusal> {
+pub fn read_sets(bytes: &[u8], sorts: &[Sort]) -> Result<Vec<Vec<Value>>, Refusal> {
     let mut sets = Vec::new();
     for line in bytes.split_inclusive(|&byte| byte == b'\n') {
-        match read_line(line, inputs) {
+        match read_line(line, sorts) {
             Some(set) => sets.push(set),
             None => return refuse(12, sets.len() + 1),
         }
@@ -43,12 +43,13 @@ pub fn read_sets(bytes: &[u8], inputs: usize) -> Result<Vec<Vec<Value>>, Refusal
     Ok(sets)
 }
 
-fn read_line(line: &[u8], inputs: usize) -> Option<Vec<Value>> {
+fn read_line(line: &[u8], sorts: &[Sort]) -> Option<Vec<Value>> {
     let fields = line.strip_suffix(b"\n")?;
-    if fields.len() != inputs * FIELD {
+    if fields.len() != sorts.len() * FIELD {
         return None;
     }
-    fields.chunks_exact(FIELD).map(read_value).collect()
+    let set: Option<Vec<Value>> = fields.chunks_exact(FIELD).map(read_value).collect();
+    set.filter(|set| set_suits(set, sorts))
 }
 
 /// "a decimal number as in the sheet, with "-" for negatives (no -0), or T, F, E"; document 02, Job 5: "Set and result

@@ -31,8 +31,8 @@ pub struct EvaluateAnswer {
     pub rounds: u32,
 }
 
-pub fn read(bytes: &[u8]) -> ReadAnswer {
-    match sheet::read(bytes) {
+pub fn read(bytes: &[u8], kinds: &[u8]) -> ReadAnswer {
+    match sheet::read(bytes, kinds) {
         Ok(sheet) => {
             let sheet::Figures { rows, operators, inputs, results } = sheet.figures;
             ReadAnswer { refusal: 0, row: 0, rows, operators, inputs, results }
@@ -41,9 +41,9 @@ pub fn read(bytes: &[u8]) -> ReadAnswer {
     }
 }
 
-/// Refusals in the order 11, 1 to 10, 12, 36; `out` is written on acceptance only.
-pub fn evaluate(sheet: &[u8], set: &[u8], rounds: u32, out: &mut [u8]) -> EvaluateAnswer {
-    match evaluated(sheet, set, rounds, out.len()) {
+/// Refusals in the order 11, 1 to 9, 17, 18, 10, 12, 36; `out` is written on acceptance only.
+pub fn evaluate(sheet: &[u8], kinds: &[u8], set: &[u8], rounds: u32, out: &mut [u8]) -> EvaluateAnswer {
+    match evaluated(sheet, kinds, set, rounds, out.len()) {
         Ok(done) => {
             out[..OUT_BYTES].copy_from_slice(&encode_result(&done.set));
             EvaluateAnswer { refusal: 0, row: 0, width: done.set.width as u32, rounds: done.rounds }
@@ -52,11 +52,11 @@ pub fn evaluate(sheet: &[u8], set: &[u8], rounds: u32, out: &mut [u8]) -> Evalua
     }
 }
 
-fn evaluated(sheet: &[u8], set: &[u8], rounds: u32, room: usize) -> Result<eval::Evaluated, Refusal> {
+fn evaluated(sheet: &[u8], kinds: &[u8], set: &[u8], rounds: u32, room: usize) -> Result<eval::Evaluated, Refusal> {
     if room < OUT_BYTES {
         return sheet::refuse(11, 0);
     }
-    let sheet = sheet::read(sheet)?;
+    let sheet = sheet::read(sheet, kinds)?;
     match decode_set(set) {
         Some(values) => eval::evaluate(&sheet, &values, rounds),
         None => sheet::refuse(12, 0),
@@ -137,11 +137,13 @@ mod tests {
     fn a_refused_evaluation_leaves_the_out_bytes() {
         let identity = sheet::write(&[[1, 4, 0, 0, 0]]);
         let mut out = [0x55; 90];
-        assert_eq!(evaluate(&identity, &[], 0, &mut out).refusal, 12);
-        assert_eq!(evaluate(b"", &[], 0, &mut out[..79]).refusal, 11);
-        assert_eq!(evaluate(b"", &[], 0, &mut out).refusal, 1);
+        assert_eq!(evaluate(&identity, b"T\n", &[], 0, &mut out).refusal, 12);
+        assert_eq!(evaluate(&identity, b"W\n", &encode(Value::Truth(true)), 0, &mut out).refusal, 12);
+        assert_eq!(evaluate(&identity, b"W", &[], 0, &mut out).refusal, 17);
+        assert_eq!(evaluate(b"", b"", &[], 0, &mut out[..79]).refusal, 11);
+        assert_eq!(evaluate(b"", b"", &[], 0, &mut out).refusal, 1);
         assert_eq!(out, [0x55; 90]);
-        let answer = evaluate(&identity, &encode(Value::Truth(true)), 0, &mut out);
+        let answer = evaluate(&identity, b"T\n", &encode(Value::Truth(true)), 0, &mut out);
         assert_eq!(answer, EvaluateAnswer { refusal: 0, row: 0, width: 1, rounds: 0 });
         assert_eq!(out[..10], [2, 1, 0, 0, 0, 3, 0, 0, 0, 0]);
         assert_eq!(out[75..], [3, 0, 0, 0, 0, 0x55, 0x55, 0x55, 0x55, 0x55, 0x55, 0x55, 0x55, 0x55, 0x55]);

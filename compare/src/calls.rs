@@ -6,7 +6,7 @@ use crate::memory::{self, Answer, StartAnswer};
 
 #[derive(Clone, Copy)]
 pub struct Calls {
-    pub start: fn(&[u8], u32, &mut [u8]) -> StartAnswer,
+    pub start: fn(&[u8], &[u8], u32, &mut [u8]) -> StartAnswer,
     pub push: fn(&mut [u8], &[u8]) -> Answer,
     pub push_tray: fn(&mut [u8], &[u8], u32) -> Answer,
     pub run: fn(&mut [u8], u32) -> Answer,

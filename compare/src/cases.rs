@@ -1,40 +1,50 @@
-// Sheets with the reader's answer for each, as fixed test data.
-// Each answer but those of the random sheets is written here by hand from document 01, and the reader is held to it
+// Sheets and their kinds lines with the reader's answer for each, as fixed test data.
+// Each answer but those of the random sheets is written here by hand from documents 01 and 02, and the reader is held to it
 // while the list is made.
 
+mod kinds;
 mod rules;
 
 use crate::bytes::{read, ReadAnswer};
-use crate::random::faults::plant;
-use crate::random::{accepted_sheet, heavy_sheet, loose_sheet, mutate, renamed_sheet, Rng};
-use crate::sheet::write;
+use crate::random::faults::{plant, PLANTABLE};
+use crate::random::turns::altered_sheet;
+use crate::random::{accepted_sheet, heavy_sheet, loose_sheet, renamed_sheet, Made, Rng};
+use crate::sheet::{input_names, write};
 
 type Rows = Vec<[u32; 5]>;
 
 pub struct Case {
     pub name: String,
-    pub sheet: Vec<u8>,
+    pub made: Made,
 }
 
 struct List(Vec<Case>);
 
 impl List {
-    fn add(&mut self, name: &str, sheet: Vec<u8>) {
-        self.0.push(Case { name: name.into(), sheet });
+    fn add(&mut self, name: &str, made: Made) {
+        self.0.push(Case { name: name.into(), made });
     }
 
-    /// A sheet that gets this refusal.
-    fn refused(&mut self, number: u32, row: u32, name: &str, sheet: Vec<u8>) {
-        let answer = read(&sheet);
+    /// A sheet that gets this refusal with this kinds line.
+    fn refused_with(&mut self, number: u32, row: u32, name: &str, bytes: Vec<u8>, kinds: &[u8]) {
+        let answer = read(&bytes, kinds);
         assert_eq!((answer.refusal, answer.row), (number, row), "{name}");
-        self.add(name, sheet);
+        self.add(name, Made { bytes, kinds: kinds.to_vec() });
     }
 
-    /// An accepted sheet with these figures: rows, operators, inputs, results.
-    fn accepted(&mut self, figures: [u32; 4], name: &str, sheet: Vec<u8>) {
+    /// A sheet that gets this refusal, one of 1 to 10, where all inputs are whole numbers.
+    fn refused(&mut self, number: u32, row: u32, name: &str, bytes: Vec<u8>) {
+        let kinds = "W".repeat(input_names(&bytes).map_or(0, |names| names.len())) + "\n";
+        self.refused_with(number, row, name, bytes, kinds.as_bytes());
+    }
+
+    /// An accepted sheet, its inputs' letters, and its figures: rows, operators, inputs, results.
+    fn accepted(&mut self, figures: [u32; 4], name: &str, bytes: Vec<u8>, letters: &str) {
         let [rows, operators, inputs, results] = figures;
-        assert_eq!(read(&sheet), ReadAnswer { refusal: 0, row: 0, rows, operators, inputs, results }, "{name}");
-        self.add(name, sheet);
+        let kinds = format!("{letters}\n").into_bytes();
+        let figures = ReadAnswer { refusal: 0, row: 0, rows, operators, inputs, results };
+        assert_eq!(read(&bytes, &kinds), figures, "{name}");
+        self.add(name, Made { bytes, kinds });
     }
 }
 
@@ -51,13 +61,18 @@ pub fn list() -> Vec<Case> {
     rules::bound_names(&mut list);
     rules::operators(&mut list);
     rules::two_faults(&mut list);
+    kinds::lines(&mut list);
+    kinds::operators(&mut list);
+    kinds::choices(&mut list);
+    kinds::loops(&mut list);
+    kinds::lower_rows(&mut list);
     random(&mut list);
     list.0
 }
 
 /// What `expected` says of a sheet: refusal, row, rows, operators, inputs and results, in six-character fields.
-pub fn answer_line(sheet: &[u8]) -> String {
-    let ReadAnswer { refusal, row, rows, operators, inputs, results } = read(sheet);
+pub fn answer_line(made: &Made) -> String {
+    let ReadAnswer { refusal, row, rows, operators, inputs, results } = read(&made.bytes, &made.kinds);
     format!("{refusal:6}{row:6}{rows:6}{operators:6}{inputs:6}{results:6}")
 }
 
@@ -111,21 +126,21 @@ fn with(rows: &Rows, number: usize, row: [u32; 5]) -> Vec<u8> {
 }
 
 fn examples(list: &mut List) {
-    list.accepted([7, 8, 2, 1], "the lesser of two", write(&lesser()));
-    list.accepted([20, 32, 1, 1], "factorial", write(&factorial()));
+    list.accepted([7, 8, 2, 1], "the lesser of two", write(&lesser()), "WW");
+    list.accepted([20, 32, 1, 1], "factorial", write(&factorial()), "W");
     let twice = [[1, 0, 0, 0, 0], [1, 0, 0, 0, 0], [4, 1, 2, 0, 0], [5, 1, 3, 0, 0]];
-    list.accepted([4, 2, 1, 1], "x + x", write(&twice));
-    list.accepted([1, 0, 1, 1], "identifier 31 alone", write(&[[1, 31, 0, 0, 0]]));
-    list.accepted([1, 1, 0, 1], "the greatest constant", write(&[[2, 999_999, 0, 0, 0]]));
-    list.accepted([1, 1, 0, 1], "a truth", write(&[[3, 1, 0, 0, 0]]));
+    list.accepted([4, 2, 1, 1], "x + x", write(&twice), "W");
+    list.accepted([1, 0, 1, 1], "identifier 31 alone", write(&[[1, 31, 0, 0, 0]]), "W");
+    list.accepted([1, 1, 0, 1], "the greatest constant", write(&[[2, 999_999, 0, 0, 0]]), "");
+    list.accepted([1, 1, 0, 1], "a truth", write(&[[3, 1, 0, 0, 0]]), "");
     let pair = [[2, 0, 0, 0, 0], [3, 0, 0, 0, 0], [4, 2, 1, 0, 0]];
-    list.accepted([3, 3, 0, 2], "a pair that names its rows crosswise", write(&pair));
+    list.accepted([3, 3, 0, 2], "a pair that names its rows crosswise", write(&pair), "");
     let inner = [[2, 1, 0, 0, 0], [1, 0, 0, 0, 0], [1, 0, 0, 0, 0], [6, 0, 1, 2, 3], [6, 0, 1, 1, 4]];
-    list.accepted([5, 1, 0, 1], "let x = 1 in let x = x in x", write(&inner));
+    list.accepted([5, 1, 0, 1], "let x = 1 in let x = x in x", write(&inner), "");
     // if p then x else x, in an expression: T, F, M, two copies of p, one of x.
     let same = [[1, 1, 0, 0, 0], [1, 0, 0, 0, 0], [1, 0, 0, 0, 0], [7, 1, 2, 3, 0]];
-    list.accepted([4, 6, 2, 1], "if p then x else x", write(&same));
-    list.accepted(TWO_ITERS_FIGURES, "a body if of two iters", write(&two_iters()));
+    list.accepted([4, 6, 2, 1], "if p then x else x", write(&same), "WT");
+    list.accepted(TWO_ITERS_FIGURES, "a body if of two iters", write(&two_iters()), "T");
 }
 
 /// for x = x do if x then (if x then iter x else iter x) else x, x
@@ -180,7 +195,7 @@ fn bytes_and_rows(list: &mut List) {
     list.refused(1, 0, "a stray line feed behind the rows", [&one[..], b"\n"].concat());
     list.refused(1, 0, "31 spaces", vec![b' '; 31]);
     list.refused(3, 1, "31 line feeds", vec![b'\n'; 31]);
-    list.accepted([200, 199, 1, 1], "6,200 bytes", write(&negations(200)));
+    list.accepted([200, 199, 1, 1], "6,200 bytes", write(&negations(200)), "W");
     list.refused(2, 0, "6,231 bytes", write(&negations(201)));
     list.refused(1, 0, "6,232 bytes", [write(&negations(201)), b"\n".to_vec()].concat());
     list.refused(1, 0, "6,231 bytes, the last line feed missing", {
@@ -237,10 +252,10 @@ fn ranges(list: &mut List) {
     list.refused(4, 1, "identifier 32", write(&[[1, 32, 0, 0, 0]]));
     list.refused(4, 1, "truth 2", write(&[[3, 2, 0, 0, 0]]));
     let named = [[2, 1, 0, 0, 0], [1, 31, 0, 0, 0], [6, 31, 1, 1, 2]];
-    list.accepted([3, 1, 0, 1], "a let of identifier 31", write(&named));
+    list.accepted([3, 1, 0, 1], "a let of identifier 31", write(&named), "");
     let (one, last) = ([2, 1, 0, 0, 0], [1, 31, 0, 0, 0]);
     let two = [one, one, [4, 1, 2, 0, 0], [1, 30, 0, 0, 0], last, [4, 4, 5, 0, 0], [6, 30, 2, 3, 6]];
-    list.accepted([7, 3, 0, 2], "a let of identifiers 30 and 31", write(&two));
+    list.accepted([7, 3, 0, 2], "a let of identifiers 30 and 31", write(&two), "");
     for (what, kind) in [("let", 6), ("for", 8)] {
         for (a, b) in [(0, 0), (31, 0), (31, 2), (32, 1), (0, 33), (999_999, 999_999), (1, 32)] {
             let rows = [[2, 1, 0, 0, 0], [1, 31, 0, 0, 0], [kind, a, b, 1, 2]];
@@ -299,20 +314,19 @@ fn namings(list: &mut List) {
 fn random(list: &mut List) {
     let mut rng = Rng::new(2024);
     for number in 1..=12 {
-        list.add(&format!("random accepted sheet {number}"), accepted_sheet(&mut rng).bytes);
+        list.add(&format!("random accepted sheet {number}"), accepted_sheet(&mut rng));
     }
     for number in 1..=4 {
-        list.add(&format!("random sheet with many operators {number}"), heavy_sheet(&mut rng).bytes);
+        list.add(&format!("random sheet with many operators {number}"), heavy_sheet(&mut rng));
     }
-    for number in 1..=10 {
-        list.add(&format!("random sheet with fault {number}"), plant(number, &mut rng).bytes);
-        list.add(&format!("random sheet with fault {number} again"), plant(number, &mut rng).bytes);
+    for number in PLANTABLE {
+        list.add(&format!("random sheet with fault {number}"), plant(number, &mut rng).made);
+        list.add(&format!("random sheet with fault {number} again"), plant(number, &mut rng).made);
     }
     for number in 1..=12 {
         list.add(&format!("random rows {number}"), loose_sheet(&mut rng));
         list.add(&format!("random sheet with other names {number}"), renamed_sheet(&mut rng));
-        let bytes = accepted_sheet(&mut rng).bytes;
-        list.add(&format!("random sheet with altered bytes {number}"), mutate(&bytes, &mut rng));
+        list.add(&format!("random sheet with altered bytes {number}"), altered_sheet(&mut rng));
     }
 }
 
@@ -324,14 +338,16 @@ mod tests {
     fn every_answer_written_by_hand_is_the_readers() {
         let cases = list();
         assert!(cases.len() > 200 && cases.len() < 1000);
-        for number in 0..=10 {
-            assert!(cases.iter().filter(|case| read(&case.sheet).refusal == number).count() > 3);
+        for number in (0..=10).chain([17, 18]) {
+            assert!(cases.iter().filter(|case| case.made.refusal() == number).count() > 3);
         }
     }
 
     #[test]
     fn an_expected_line_has_fields_of_six() {
-        assert_eq!(answer_line(b""), "     1     0     0     0     0     0");
-        assert_eq!(answer_line(&write(&lesser())), "     0     0     7     8     2     1");
+        let line = |bytes: Vec<u8>, kinds: &[u8]| answer_line(&Made { bytes, kinds: kinds.to_vec() });
+        assert_eq!(line(Vec::new(), b""), "     1     0     0     0     0     0");
+        assert_eq!(line(write(&lesser()), b"WW\n"), "     0     0     7     8     2     1");
+        assert_eq!(line(write(&lesser()), b"WT\n"), "    18     4     0     0     0     0");
     }
 }

@@ -2,8 +2,13 @@
 // The evaluator of expressions and the evaluator of bodies call each other; it knows nothing of graphs.
 // A row leaves its values on a stack. Assumes an accepted sheet.
 
+use crate::kinds::wanted_sort;
 use crate::sheet::{refuse, Refusal, Row, Sheet};
-use crate::value::{operands, operate, ResultSet, Value};
+use crate::value::{operands, operate, set_suits, ResultSet, Sort, Value};
+
+/// Whether wrong kinds are looked for: "In a passed sheet, given inputs of their kinds or errs, no err comes from a wrong kind or a test that is neither
+/// truth nor err" (document 02, Job 6). Only in tests, since it takes time.
+const WATCHED: bool = cfg!(test);
 
 /// What an evaluation yields, with the rounds used.
 #[derive(Clone, Copy, PartialEq, Eq, Debug)]
@@ -30,9 +35,9 @@ struct Evaluator<'a> {
     stack: Vec<Value>,
 }
 
-/// 12 a set with another number of values than inputs; 36 more rounds needed than lent.
+/// 12 a set with another number of values than inputs, or with another kind; 36 more rounds needed than lent.
 pub fn evaluate(sheet: &Sheet, set: &[Value], rounds: u32) -> Result<Evaluated, Refusal> {
-    if set.len() != sheet.figures.inputs as usize {
+    if !set_suits(set, &sheet.sorts) {
         return refuse(12, 0);
     }
     let mut bindings = [Value::E; 32];
@@ -61,6 +66,7 @@ impl Evaluator<'_> {
             5 => {
                 self.expression(b)?;
                 let first = self.stack.len() - operands(a);
+                assert!(!WATCHED || self.stack[first..].iter().all(|value| value.suits(wanted_sort(a))));
                 let value = operate(a, &self.stack[first..]);
                 self.stack.truncate(first);
                 self.stack.push(value);
@@ -140,7 +146,9 @@ impl Evaluator<'_> {
 
     fn test(&mut self, number: u32) -> Result<Value, OutOfRounds> {
         self.expression(number)?;
-        Ok(self.stack.pop().expect("a test has one value"))
+        let value = self.stack.pop().expect("a test has one value");
+        assert!(!WATCHED || value.suits(Sort::Truth));
+        Ok(value)
     }
 
     fn errs(&mut self, width: u8) {
@@ -161,5 +169,24 @@ impl Evaluator<'_> {
         self.bindings[first..first + count].copy_from_slice(&self.stack[former..former + count]);
         self.stack.copy_within(former + count.., former);
         self.stack.truncate(self.stack.len() - count);
+    }
+}
+
+#[cfg(test)]
+mod tests {
+    use super::*;
+    use crate::random::{accepted_sheet, fitting_set, heavy_sheet, Rng};
+
+    #[test]
+    fn no_wrong_kind_is_met_in_a_passed_sheet() {
+        let mut rng = Rng::new(6);
+        for case in 0..2_000 {
+            let made = if case % 20 == 0 { heavy_sheet(&mut rng) } else { accepted_sheet(&mut rng) };
+            let sheet = made.sheet();
+            for _ in 0..10 {
+                // An evaluation that does not end is looked at too, as far as it goes.
+                let _ = evaluate(&sheet, &fitting_set(&sheet, &mut rng), 200);
+            }
+        }
     }
 }

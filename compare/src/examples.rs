@@ -1,34 +1,39 @@
-// The sheets that are timed: document 01's worked examples, a long sheet, and one near the greatest number of operators.
+// The sheets that are timed, each with its kinds line: document 01's worked examples, a long sheet, and one near the greatest number of operators.
 
 use crate::bytes;
 use crate::random::{heavy_sheet, Made, Rng};
 use crate::sheet::write;
 
-pub fn lesser() -> Vec<u8> {
+fn made(rows: &[[u32; 5]], kinds: &[u8]) -> Made {
+    Made { bytes: write(rows), kinds: kinds.to_vec() }
+}
+
+pub fn lesser() -> Made {
     let names = [[1, 0, 0, 0, 0], [1, 1, 0, 0, 0]];
-    write(&[names[0], names[1], [4, 1, 2, 0, 0], [5, 6, 3, 0, 0], names[0], names[1], [7, 4, 5, 6, 0]])
+    let rows = [names[0], names[1], [4, 1, 2, 0, 0], [5, 6, 3, 0, 0], names[0], names[1], [7, 4, 5, 6, 0]];
+    made(&rows, b"WW\n")
 }
 
 /// "for i, y = n, 1 do if 1 < i then iter i - 1, y * i else y".
-pub fn factorial() -> Vec<u8> {
+pub fn factorial() -> Made {
     let (i, y, n, one) = ([1, 0, 0, 0, 0], [1, 1, 0, 0, 0], [1, 2, 0, 0, 0], [2, 1, 0, 0, 0]);
     let start = [n, one, [4, 1, 2, 0, 0], one, i, [4, 4, 5, 0, 0], [5, 6, 6, 0, 0]];
     let next = [i, one, [4, 8, 9, 0, 0], [5, 2, 10, 0, 0], y, i, [4, 12, 13, 0, 0], [5, 3, 14, 0, 0]];
     let end = [[4, 11, 15, 0, 0], [9, 16, 0, 0, 0], y, [7, 7, 17, 18, 0], [8, 0, 2, 3, 19]];
-    write(&[&start[..], &next[..], &end[..]].concat())
+    made(&[&start[..], &next[..], &end[..]].concat(), b"W\n")
 }
 
 /// A name, negated again and again.
-pub fn negations(rows: u32) -> Vec<u8> {
+pub fn negations(rows: u32) -> Made {
     let row = |row| if row == 1 { [1, 0, 0, 0, 0] } else { [5, 11, row - 1, 0, 0] };
-    write(&(1..=rows).map(row).collect::<Vec<_>>())
+    made(&(1..=rows).map(row).collect::<Vec<_>>(), b"W\n")
 }
 
 /// A sheet with over 1,000 operators.
 pub fn many_operators(rng: &mut Rng) -> Made {
     loop {
         let made = heavy_sheet(rng);
-        if bytes::read(&made.bytes).operators > 1000 {
+        if bytes::read(&made.bytes, &made.kinds).operators > 1000 {
             return made;
         }
     }

@@ -3,7 +3,7 @@
 // outputs and gives back its uses, the links that each free name must feed. Assumes an accepted sheet.
 
 use crate::sheet::Sheet;
-use crate::value::{operands, Value};
+use crate::value::{operands, Sort, Value};
 
 pub type Link = usize;
 
@@ -38,6 +38,8 @@ pub struct Graph {
     pub links: usize,
     /// The input links, identifiers rising.
     pub inputs: Vec<Link>,
+    /// The kind of each input.
+    pub sorts: Vec<Sort>,
     /// The trigger's link, where it exists.
     pub trigger: Option<Link>,
     pub results: Vec<Link>,
@@ -74,7 +76,7 @@ pub fn build(sheet: &Sheet) -> Graph {
             inputs.push(link);
         }
     }
-    Graph { operators: builder.operators, links: builder.links, inputs, trigger, results }
+    Graph { operators: builder.operators, links: builder.links, inputs, sorts: sheet.sorts.clone(), trigger, results }
 }
 
 /// The names used, rising.
@@ -339,7 +341,7 @@ mod tests {
     use crate::sheet;
 
     fn graph_of(rows: &[[u32; 5]]) -> Graph {
-        build(&sheet::read(&sheet::write(rows)).expect("an accepted sheet"))
+        build(&sheet::read(&sheet::write(rows), b"W\n").expect("an accepted sheet"))
     }
 
     /// Every link has one putter, an operator or an input, and one taker, an operator or a result port.
@@ -374,7 +376,7 @@ mod tests {
         let mut rng = Rng::new(11);
         for case in 0..3000 {
             let made = if case % 10 == 0 { heavy_sheet(&mut rng) } else { accepted_sheet(&mut rng) };
-            let sheet = sheet::read(&made.bytes).expect("an accepted sheet");
+            let sheet = made.sheet();
             let graph = build(&sheet);
             assert_eq!(graph.operators.len(), sheet.figures.operators as usize);
             assert_eq!(graph.inputs.len(), sheet.figures.inputs as usize);

@@ -11,6 +11,7 @@ pub mod count;
 pub mod eval;
 pub mod examples;
 pub mod graph;
+pub mod kinds;
 pub mod machine;
 pub mod memory;
 #[cfg(feature = "product")]

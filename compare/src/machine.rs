@@ -4,7 +4,7 @@
 
 use crate::graph::{Graph, Kind, Link};
 use crate::sheet::{refuse, Refusal};
-use crate::value::{operate, ResultSet, Value};
+use crate::value::{operate, set_suits, ResultSet, Value};
 
 pub const MOST_CAPACITY: usize = 16;
 pub const MOST_UNTAKEN: u32 = 16;
@@ -99,7 +99,7 @@ impl<'a> Machine<'a> {
     /// 12, 32 "sixteen sets untaken", 33 "an input link, or the trigger's link where it exists, full".
     pub fn push(&mut self, set: &[Value]) -> Result<(), Refusal> {
         let graph = self.graph;
-        if set.len() != graph.inputs.len() {
+        if !set_suits(set, &graph.sorts) {
             return refuse(12, 0);
         }
         if self.untaken == MOST_UNTAKEN {
@@ -299,6 +299,7 @@ fn join_control(control: Value, yes: Option<Value>, no: Option<Value>) -> Option
 mod tests {
     use super::*;
     use crate::graph::Operator;
+    use crate::value::Sort;
     use Value::{Truth, Whole};
 
     const YES: Value = Truth(true);
@@ -312,7 +313,8 @@ mod tests {
         let operator =
             Operator { kind, inputs: (0..inputs).collect(), outputs: (inputs..inputs + outputs).map(Some).collect() };
         let (links, results) = (inputs + outputs, (inputs..inputs + outputs).collect());
-        Graph { operators: vec![operator], links, inputs: (0..inputs).collect(), trigger: None, results }
+        let sorts = vec![Sort::Truth; inputs];
+        Graph { operators: vec![operator], links, inputs: (0..inputs).collect(), sorts, trigger: None, results }
     }
 
     /// Fires an operator as often as it can with these tokens on its links; gives what is on each link then.
@@ -377,7 +379,7 @@ mod tests {
         let graph = alone(Kind::T, 2, 1);
         let mut machine = Machine::start(&graph, 1).expect("a capacity in its range");
         for (control, answer) in [(YES, Ok(())), (NO, Ok(())), (YES, refuse(34, 0))] {
-            machine.push(&[control, Whole(3)]).expect("free input links");
+            machine.push(&[control, YES]).expect("free input links");
             assert_eq!(machine.fire(0), answer);
         }
         let graph = alone(Kind::IC, 3, 3);

@@ -5,8 +5,10 @@
 use crate::bytes::{decode, encode, OUT_BYTES, VALUE_BYTES};
 use crate::graph::{self, Graph, Kind};
 use crate::sheet::{self, Refusal};
-use crate::value::{operands, operate, Value};
+use crate::value::{operands, operate, Sort, Value};
 
+/// Where the letters of the inputs' kinds stand.
+pub const LETTERS: usize = 106;
 const OPERATORS: usize = 256;
 const REGISTERS: usize = 16_640;
 const LINKS: usize = 21_760;
@@ -55,21 +57,21 @@ fn write_number(mem: &mut [u8], at: usize, number: usize) {
     mem[at..at + 2].copy_from_slice(&(number as u16).to_le_bytes());
 }
 
-pub fn start(sheet: &[u8], capacity: u32, mem: &mut [u8]) -> StartAnswer {
-    match started(sheet, capacity as usize, mem) {
+pub fn start(sheet: &[u8], kinds: &[u8], capacity: u32, mem: &mut [u8]) -> StartAnswer {
+    match started(sheet, kinds, capacity as usize, mem) {
         Ok(answer) => answer,
         Err(Refusal { number, row }) => StartAnswer { refusal: number, row, ..StartAnswer::default() },
     }
 }
 
-fn started(sheet: &[u8], capacity: usize, mem: &mut [u8]) -> Result<StartAnswer, Refusal> {
+fn started(sheet: &[u8], kinds: &[u8], capacity: usize, mem: &mut [u8]) -> Result<StartAnswer, Refusal> {
     if mem.len() < need(capacity) {
         return sheet::refuse(11, 0);
     }
     if !(1..=16).contains(&capacity) {
         return sheet::refuse(14, 0);
     }
-    let sheet = sheet::read(sheet)?;
+    let sheet = sheet::read(sheet, kinds)?;
     let graph = graph::build(&sheet);
     write_graph(&graph, capacity, mem);
     let sheet::Figures { operators, inputs, results, .. } = sheet.figures;
@@ -86,6 +88,7 @@ fn write_graph(graph: &Graph, capacity: usize, mem: &mut [u8]) {
     write_number(mem, 8, graph.trigger.unwrap_or(NO_LINK));
     graph.inputs.iter().enumerate().for_each(|(place, &link)| write_number(mem, 10 + 2 * place, link));
     graph.results.iter().enumerate().for_each(|(place, &link)| write_number(mem, 74 + 2 * place, link));
+    graph.sorts.iter().enumerate().for_each(|(place, sort)| mem[LETTERS + place] = sort.letter());
     for (i, operator) in graph.operators.iter().enumerate() {
         let at = OPERATORS + 16 * i;
         mem[at..at + 16].copy_from_slice(&[0, 0, 255, 255, 255, 255, 255, 255, 255, 255, 255, 255, 255, 255, 0, 0]);
@@ -158,6 +161,7 @@ fn valid(mem: &[u8]) -> bool {
         && (1..=16).contains(&results)
         && untaken <= 16;
     in_range
+        && (0..inputs).all(|place| stored_sort(mem, place).is_some())
         && (number(mem, 8) < links || number(mem, 8) == NO_LINK)
         && (0..operators).all(|i| operator_valid(mem, i, links))
         && (0..links).all(|link| link_valid(&mem[LINKS + link * stretch(capacity)..][..stretch(capacity)]))
@@ -165,6 +169,11 @@ fn valid(mem: &[u8]) -> bool {
         && (0..results).all(|place| number(mem, 74 + 2 * place) < links)
         && all_differ(mem, 8, inputs + 1)
         && all_differ(mem, 74, results)
+}
+
+/// The kind of an input by its stored letter, none where another byte stands there.
+fn stored_sort(mem: &[u8], place: usize) -> Option<Sort> {
+    Sort::of_letter(mem[LETTERS + place])
 }
 
 /// No two of the links in a row are the same.
@@ -415,8 +424,10 @@ pub fn push(mem: &mut [u8], set: &[u8]) -> Answer {
         Err(answer) => return answer,
     };
     let inputs = usize::from(machine.mem[5]);
-    let good = set.len() == VALUE_BYTES * inputs && set.chunks_exact(VALUE_BYTES).all(|value| decode(value).is_some());
-    if !good {
+    let suits = |(place, value): (usize, &[u8])| {
+        decode(value).zip(stored_sort(machine.mem, place)).is_some_and(|(value, sort)| value.suits(sort))
+    };
+    if set.len() != VALUE_BYTES * inputs || !set.chunks_exact(VALUE_BYTES).enumerate().all(suits) {
         return refuse(12);
     }
     if machine.mem[7] == 16 {

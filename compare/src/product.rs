@@ -5,17 +5,27 @@ use crate::bytes::{EvaluateAnswer, ReadAnswer};
 use crate::memory::{Answer, StartAnswer};
 
 extern "C" {
-    fn bench_read(sheet: *const u8, sheet_len: usize) -> ReadAnswer;
+    fn bench_read(sheet: *const u8, sheet_len: usize, kinds: *const u8, kinds_len: usize) -> ReadAnswer;
     fn bench_evaluate(
         sheet: *const u8,
         sheet_len: usize,
+        kinds: *const u8,
+        kinds_len: usize,
         set: *const u8,
         set_len: usize,
         rounds: u32,
         out: *mut u8,
         out_len: usize,
     ) -> EvaluateAnswer;
-    fn bench_start(sheet: *const u8, sheet_len: usize, capacity: u32, mem: *mut u8, mem_len: usize) -> StartAnswer;
+    fn bench_start(
+        sheet: *const u8,
+        sheet_len: usize,
+        kinds: *const u8,
+        kinds_len: usize,
+        capacity: u32,
+        mem: *mut u8,
+        mem_len: usize,
+    ) -> StartAnswer;
     fn bench_push(mem: *mut u8, mem_len: usize, set: *const u8, set_len: usize) -> Answer;
     fn bench_push_tray(mem: *mut u8, mem_len: usize, sets: *const u8, sets_len: usize, number: u32) -> Answer;
     fn bench_fire(mem: *mut u8, mem_len: usize, operator: u32) -> Answer;
@@ -25,16 +35,29 @@ extern "C" {
 
 // In each function the pointers and lengths are slices', and what is written is lent to that call alone.
 
-pub fn read(sheet: &[u8]) -> ReadAnswer {
-    unsafe { bench_read(sheet.as_ptr(), sheet.len()) }
+pub fn read(sheet: &[u8], kinds: &[u8]) -> ReadAnswer {
+    unsafe { bench_read(sheet.as_ptr(), sheet.len(), kinds.as_ptr(), kinds.len()) }
 }
 
-pub fn evaluate(sheet: &[u8], set: &[u8], rounds: u32, out: &mut [u8]) -> EvaluateAnswer {
-    unsafe { bench_evaluate(sheet.as_ptr(), sheet.len(), set.as_ptr(), set.len(), rounds, out.as_mut_ptr(), out.len()) }
+pub fn evaluate(sheet: &[u8], kinds: &[u8], set: &[u8], rounds: u32, out: &mut [u8]) -> EvaluateAnswer {
+    unsafe {
+        bench_evaluate(
+            sheet.as_ptr(),
+            sheet.len(),
+            kinds.as_ptr(),
+            kinds.len(),
+            set.as_ptr(),
+            set.len(),
+            rounds,
+            out.as_mut_ptr(),
+            out.len(),
+        )
+    }
 }
 
-pub fn start(sheet: &[u8], capacity: u32, mem: &mut [u8]) -> StartAnswer {
-    unsafe { bench_start(sheet.as_ptr(), sheet.len(), capacity, mem.as_mut_ptr(), mem.len()) }
+pub fn start(sheet: &[u8], kinds: &[u8], capacity: u32, mem: &mut [u8]) -> StartAnswer {
+    let (sheet_at, kinds_at) = (sheet.as_ptr(), kinds.as_ptr());
+    unsafe { bench_start(sheet_at, sheet.len(), kinds_at, kinds.len(), capacity, mem.as_mut_ptr(), mem.len()) }
 }
 
 pub fn push(mem: &mut [u8], set: &[u8]) -> Answer {

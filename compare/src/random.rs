@@ -4,15 +4,15 @@
 pub mod faults;
 pub mod folders;
 pub mod formulas;
+pub mod lines;
 pub mod sheets;
 pub mod tree;
 pub mod turns;
 
 use crate::bytes::VALUE_BYTES;
 use crate::sheet::Sheet;
-use crate::value::Value;
-pub use formulas::Sort;
-pub use sheets::{accepted_sheet, heavy_sheet, loose_sheet, renamed_sheet, Made};
+use crate::value::{Sort, Value};
+pub use sheets::{accepted_sheet, heavy_sheet, loose_sheet, renamed_sheet, unkinded_sheet, Made};
 
 pub struct Rng(u64);
 
@@ -52,13 +52,26 @@ impl Rng {
     }
 }
 
-/// A set for a sheet, mostly of the sorts that its formula was made for.
-pub fn random_set(made: &Made, sheet: &Sheet, rng: &mut Rng) -> Vec<Value> {
-    sheet.inputs().map(|name| random_value(made.sorts[name as usize], rng)).collect()
+/// How many sets in a hundred have a value of another kind.
+const OTHER_KINDS: usize = 6;
+
+/// A set for a sheet, mostly of its inputs' kinds or errs.
+pub fn random_set(sheet: &Sheet, rng: &mut Rng) -> Vec<Value> {
+    let mut set = fitting_set(sheet, rng);
+    if !set.is_empty() && rng.chance(OTHER_KINDS) {
+        let place = rng.below(set.len());
+        set[place] = random_value(sheet.sorts[place].other(), rng);
+    }
+    set
 }
 
+/// A set that a sheet takes.
+pub fn fitting_set(sheet: &Sheet, rng: &mut Rng) -> Vec<Value> {
+    sheet.sorts.iter().map(|&sort| random_value(sort, rng)).collect()
+}
+
+/// A value of this kind, now and then an err.
 pub fn random_value(sort: Sort, rng: &mut Rng) -> Value {
-    let sort = if rng.chance(4) { rng.pick(&[Sort::Whole, Sort::Truth]) } else { sort };
     match (rng.below(100), sort) {
         (0..=4, _) => rng.pick(&Value::ERRS),
         (_, Sort::Truth) => Value::Truth(rng.chance(50)),

@@ -1,9 +1,9 @@
 // Reading a formula sheet: tests 1 to 9 of document 01, "The formula sheet" and "Said by what was handed in".
 // Each test goes over the whole sheet before the next, in one pass over the rows, and gives the lowest row at fault.
-// Test 10 stands in count.rs. Assumes nothing about the bytes.
+// Tests 17 and 18 of document 02, Job 6, stand in kinds.rs, test 10 in count.rs. Assumes nothing about the bytes.
 
-use crate::count;
-use crate::value::{operands, CODES, PLACES};
+use crate::value::{operands, Sort, CODES, PLACES};
+use crate::{count, kinds};
 
 /// A refusal's number and its row (or line), 0 where it has none.
 #[derive(Clone, Copy, PartialEq, Eq, Debug)]
@@ -67,6 +67,8 @@ pub struct Figures {
 pub struct Sheet {
     pub lines: Vec<Line>,
     pub figures: Figures,
+    /// The kind of each input.
+    pub sorts: Vec<Sort>,
 }
 
 impl Sheet {
@@ -82,13 +84,39 @@ impl Sheet {
 
     /// "The inputs are the formula's free identifiers, rising."
     pub fn inputs(&self) -> impl Iterator<Item = u32> {
-        let free = self.line(self.last()).free;
-        (0..32).filter(move |name| free >> name & 1 == 1)
+        inputs(&self.lines)
     }
 }
 
-/// Makes tests 1 to 10.
-pub fn read(bytes: &[u8]) -> Result<Sheet, Refusal> {
+fn inputs(lines: &[Line]) -> impl Iterator<Item = u32> {
+    let free = lines[lines.len() - 1].free;
+    (0..32).filter(move |name| free >> name & 1 == 1)
+}
+
+/// Makes all tests, in the order 1 to 9, 17, 18, 10.
+pub fn read(bytes: &[u8], line: &[u8]) -> Result<Sheet, Refusal> {
+    let lines = read_rows(bytes)?;
+    let sorts = kinds::read_line(line, inputs(&lines).count())?;
+    kinds::test(&lines, inputs(&lines).zip(sorts.iter().copied()))?;
+    let operators = count::operators(&lines);
+    if operators > MOST_OPERATORS {
+        return refuse(10, 0);
+    }
+    let figures = Figures {
+        rows: lines.len() as u32,
+        operators,
+        inputs: sorts.len() as u32,
+        results: lines[lines.len() - 1].width.into(),
+    };
+    Ok(Sheet { lines, figures, sorts })
+}
+
+/// Makes tests 1 to 9, which know nothing of kinds, and gives the identifiers of the inputs.
+pub fn input_names(bytes: &[u8]) -> Result<Vec<u32>, Refusal> {
+    read_rows(bytes).map(|lines| inputs(&lines).collect())
+}
+
+fn read_rows(bytes: &[u8]) -> Result<Vec<Line>, Refusal> {
     test_rows(bytes)?;
     let mut lines = read_fields(bytes)?;
     test_ranges(&lines)?;
@@ -100,18 +128,7 @@ pub fn read(bytes: &[u8]) -> Result<Sheet, Refusal> {
     set_loop_widths(&mut lines);
     set_free_names(&mut lines);
     test_bound_names(&lines)?;
-    let operators = count::operators(&lines);
-    if operators > MOST_OPERATORS {
-        return refuse(10, 0);
-    }
-    let formula = lines[lines.len() - 1];
-    let figures = Figures {
-        rows: lines.len() as u32,
-        operators,
-        inputs: (formula.free & !TRIGGER).count_ones(),
-        results: formula.width.into(),
-    };
-    Ok(Sheet { lines, figures })
+    Ok(lines)
 }
 
 /// 1 "empty, not in 31-byte rows, or a row without its line feed"; 2 "over 200 rows".

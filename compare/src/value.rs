@@ -1,4 +1,5 @@
-// Values and the eleven operators (document 01, "Values and operators"; and, or beside an err: document 02, Job 2; which err: Job 5).
+// Values and the eleven operators (document 01, "Values and operators"; and, or beside an err: document 02, Job 2; which err: Job 5; kinds of values:
+// Job 6).
 // Arithmetic is exact in 64 bits and then held to the range; assumes nothing.
 
 /// "An err now has a reason: Z zero divisor, V answer out of range, E all else".
@@ -28,6 +29,51 @@ impl Value {
     pub fn is_err(self) -> bool {
         matches!(self, Err(_))
     }
+
+    /// "given inputs of their kinds or errs": an err may stand for a value of either kind.
+    pub fn suits(self, sort: Sort) -> bool {
+        match self {
+            Whole(_) => sort == Sort::Whole,
+            Truth(_) => sort == Sort::Truth,
+            Err(_) => true,
+        }
+    }
+}
+
+/// The kind of a value that is no err, a letter of the kinds line. Rows and gates have kinds too, hence this name.
+#[derive(Clone, Copy, PartialEq, Eq, Debug)]
+pub enum Sort {
+    Whole,
+    Truth,
+}
+
+impl Sort {
+    pub fn of_letter(letter: u8) -> Option<Sort> {
+        match letter {
+            b'W' => Some(Sort::Whole),
+            b'T' => Some(Sort::Truth),
+            _ => None,
+        }
+    }
+
+    pub fn letter(self) -> u8 {
+        match self {
+            Sort::Whole => b'W',
+            Sort::Truth => b'T',
+        }
+    }
+
+    pub fn other(self) -> Sort {
+        match self {
+            Sort::Whole => Sort::Truth,
+            Sort::Truth => Sort::Whole,
+        }
+    }
+}
+
+/// Whether a set has a value for each input, of its kind or err; else it is refused with 12.
+pub fn set_suits(set: &[Value], sorts: &[Sort]) -> bool {
+    set.len() == sorts.len() && set.iter().zip(sorts).all(|(value, &sort)| value.suits(sort))
 }
 
 use Value::{Err, Truth, Whole};

@@ -5,8 +5,8 @@ use compare::bench::{bench, write_set};
 use compare::eval::evaluate;
 use compare::graph::{build, Graph, Kind};
 use compare::machine::{Machine, Ran};
-use compare::random::{accepted_sheet, heavy_sheet, random_set, Made, Rng};
-use compare::sheet::{read, Sheet};
+use compare::random::{accepted_sheet, fitting_set, heavy_sheet, Made, Rng};
+use compare::sheet::Sheet;
 use compare::value::{ResultSet, Value};
 
 /// More rounds than most evaluations here need; one that needs more counts as one that does not end.
@@ -23,12 +23,12 @@ struct Case {
 
 fn case(heavy: bool, rng: &mut Rng) -> Case {
     let made = if heavy { heavy_sheet(rng) } else { accepted_sheet(rng) };
-    let sheet = read(&made.bytes).expect("an accepted sheet");
+    let sheet = made.sheet();
     let mut graph = build(&sheet);
     for last in (1..graph.operators.len()).rev() {
         graph.operators.swap(last, rng.below(last + 1));
     }
-    let sets: Vec<Vec<Value>> = (0..rng.between(1, 20)).map(|_| random_set(&made, &sheet, rng)).collect();
+    let sets: Vec<Vec<Value>> = (0..rng.between(1, 20)).map(|_| fitting_set(&sheet, rng)).collect();
     let expected = sets.iter().map(|set| evaluate(&sheet, set, ROUNDS).ok().map(|done| done.set)).collect();
     Case { made, sheet, graph, sets, expected }
 }
@@ -174,7 +174,7 @@ fn bench_prints_what_evaluation_gives() {
         let figures = case.sheet.figures;
         let mut printed = format!("{:6}{:6}{:6}\n", figures.inputs, figures.results, case.sets.len());
         printed.extend(case.expected.iter().flatten().map(|set| write_set(set.used())));
-        assert_eq!(String::from_utf8(bench(&case.made.bytes, sets.as_bytes())).unwrap(), printed);
+        assert_eq!(String::from_utf8(bench(&case.made.bytes, &case.made.kinds, sets.as_bytes())).unwrap(), printed);
         compared += 1;
     }
     assert!(compared > 150, "too few were compared: {compared}");

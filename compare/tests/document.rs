@@ -51,13 +51,19 @@ fn factorial() -> Vec<[u32; 5]> {
     rows
 }
 
-fn accepted(rows: &[[u32; 5]]) -> Sheet {
-    read(&write(rows)).expect("an accepted sheet")
+/// With the letters of its inputs.
+fn accepted(rows: &[[u32; 5]], letters: &str) -> Sheet {
+    read(&write(rows), format!("{letters}\n").as_bytes()).expect("an accepted sheet")
 }
 
-fn refused(rows: &[[u32; 5]]) -> (u32, u32) {
-    let Refusal { number, row } = read(&write(rows)).expect_err("a refused sheet");
+fn refused_with(rows: &[[u32; 5]], line: &[u8]) -> (u32, u32) {
+    let Refusal { number, row } = read(&write(rows), line).expect_err("a refused sheet");
     (number, row)
+}
+
+/// By a test before the kinds line's.
+fn refused(rows: &[[u32; 5]]) -> (u32, u32) {
+    refused_with(rows, b"")
 }
 
 fn values(sheet: &Sheet, set: &[Value]) -> Vec<Value> {
@@ -73,36 +79,41 @@ fn worked(sheet: &Sheet, set: &[Value]) -> Vec<Value> {
     machine.take().expect("a whole result").used().to_vec()
 }
 
+/// Document 02, Job 6: "Sets with another kind are refused with 12, so the lesser-of-two example loses its fourth set."
 #[test]
-fn the_lesser_of_two_prints_as_on_the_page() {
-    let sets = "          3          5\n          7          7\n          E          2\n          T          1\n";
-    let printed = "     2     1     4\n          3\n          7\n          E\n          E\n";
-    assert_eq!(String::from_utf8(bench(LESSER.as_bytes(), sets.as_bytes())).unwrap(), printed);
+fn the_lesser_of_two_prints_as_on_the_page_but_for_its_fourth_set() {
+    let print = |sets: &str| String::from_utf8(bench(LESSER.as_bytes(), b"WW\n", sets.as_bytes())).unwrap();
+    let sets = "          3          5\n          7          7\n          E          2\n";
+    assert_eq!(print(sets), "     2     1     3\n          3\n          7\n          E\n");
+    assert_eq!(print(&format!("{sets}          T          1\n")), "    12     4\n");
 }
 
 #[test]
-fn the_lesser_of_two_has_eight_operators_and_its_four_results() {
-    let sheet = read(LESSER.as_bytes()).expect("an accepted sheet");
+fn the_lesser_of_two_has_eight_operators_and_its_results() {
+    let sheet = read(LESSER.as_bytes(), b"WW\n").expect("an accepted sheet");
     assert_eq!(sheet.figures, Figures { rows: 7, operators: 8, inputs: 2, results: 1 });
     assert_eq!(build(&sheet).operators.len(), 8);
     let sets = [([Whole(3), Whole(5)], Whole(3)), ([Whole(7), Whole(7)], Whole(7))];
-    let errs = [([E, Whole(2)], E), ([Truth(true), Whole(1)], E)];
-    for (set, result) in sets.into_iter().chain(errs) {
+    for (set, result) in sets.into_iter().chain([([E, Whole(2)], E)]) {
         assert_eq!(values(&sheet, &set), [result]);
         assert_eq!(worked(&sheet, &set), [result]);
     }
+    let fourth = [Truth(true), Whole(1)];
+    assert_eq!(evaluate(&sheet, &fourth, 0), refusal(12));
+    let graph = build(&sheet);
+    assert_eq!(Machine::start(&graph, 1).expect("a capacity in its range").push(&fourth), refusal(12));
 }
 
 #[test]
 fn x_plus_x_has_two_operators() {
-    let sheet = accepted(&[[1, 0, 0, 0, 0], [1, 0, 0, 0, 0], [4, 1, 2, 0, 0], [5, 1, 3, 0, 0]]);
+    let sheet = accepted(&[[1, 0, 0, 0, 0], [1, 0, 0, 0, 0], [4, 1, 2, 0, 0], [5, 1, 3, 0, 0]], "W");
     assert_eq!(sheet.figures, Figures { rows: 4, operators: 2, inputs: 1, results: 1 });
     assert_eq!(values(&sheet, &[Whole(21)]), [Whole(42)]);
 }
 
 #[test]
 fn factorial_as_marked() {
-    let sheet = accepted(&factorial());
+    let sheet = accepted(&factorial(), "W");
     let five = evaluate(&sheet, &[Whole(5)], 5).expect("five rounds are enough");
     assert_eq!((five.set.used(), five.rounds), ([Whole(120)].as_slice(), 5));
     assert_eq!(evaluate(&sheet, &[Whole(5)], 4), Err(Refusal { number: 36, row: 0 }));
@@ -121,7 +132,7 @@ fn factorial_as_marked() {
 /// and F 2. Outside, trigger: the constant 1 and FS 1.
 #[test]
 fn factorial_has_the_operators_counted_by_hand() {
-    let sheet = accepted(&factorial());
+    let sheet = accepted(&factorial(), "W");
     assert_eq!(sheet.figures.operators, 8 + 5 + 2 + 3 + 2 + 2 + 5 + 4 + 1);
     assert_eq!(build(&sheet).operators.len(), 32);
 }
@@ -143,18 +154,18 @@ fn negations(rows: u32) -> Vec<[u32; 5]> {
 
 #[test]
 fn two_hundred_rows_pass_test_2() {
-    assert_eq!(accepted(&negations(200)).figures.rows, 200);
+    assert_eq!(accepted(&negations(200), "W").figures.rows, 200);
     assert_eq!(refused(&negations(201)), (2, 0));
     // A stray byte behind 201 rows is test 1's.
     let mut bytes = write(&negations(201));
     bytes.push(b' ');
-    assert_eq!(read(&bytes).expect_err("a stray byte").number, 1);
+    assert_eq!(read(&bytes, b"W\n").expect_err("a stray byte").number, 1);
 }
 
 #[test]
 fn sixteen_pushes_pass_and_the_seventeenth_gets_32() {
     for rows in [vec![[1, 0, 0, 0, 0]], negations(2)] {
-        let sheet = accepted(&rows);
+        let sheet = accepted(&rows, "W");
         let graph = build(&sheet);
         let mut machine = Machine::start(&graph, 16).expect("a capacity in its range");
         for number in 0..16 {
@@ -171,7 +182,7 @@ fn refusal<T>(number: u32) -> Result<T, Refusal> {
 
 #[test]
 fn the_machines_refusals_in_a_small_case() {
-    let sheet = accepted(&negations(2));
+    let sheet = accepted(&negations(2), "W");
     let graph = build(&sheet);
     assert!(Machine::start(&graph, 0).is_err() && Machine::start(&graph, 17).is_err());
     let mut machine = Machine::start(&graph, 1).expect("a capacity in its range");
@@ -202,7 +213,7 @@ fn a_tray_stops_at_the_first_refused_and_says_how_many_went_in() {
     let sets = encode_set(&wholes);
     let tray = |capacity: u32, sets: &[u8], number: u32| {
         let mut mem = vec![0; memory::need(capacity as usize)];
-        assert_eq!(memory::start(&write(&negations(2)), capacity, &mut mem).refusal, 0);
+        assert_eq!(memory::start(&write(&negations(2)), b"W\n", capacity, &mut mem).refusal, 0);
         let Answer { refusal, count } = memory::push_tray(&mut mem, sets, number);
         memory::run(&mut mem, 1000);
         let mut out = [0; OUT_BYTES];
@@ -261,12 +272,11 @@ fn an_if_of_two_iters_ends_with_errs_on_a_bad_test() {
         [7, 5, 17, 20, 0],
         [8, 0, 1, 1, 21],
     ];
-    let sheet = accepted(&rows);
+    let sheet = accepted(&rows, "WT");
     for (set, result) in [
         ([Whole(0), Truth(true)], [Whole(3), Whole(3)]),
         ([Whole(0), Truth(false)], [Whole(4), Whole(4)]),
         ([Whole(0), E], [E, E]),
-        ([Whole(0), Whole(1)], [E, E]),
         ([Whole(9), E], [Whole(9), Whole(9)]),
         ([E, Truth(true)], [E, E]),
         ([Whole(0), Z], [E, E]),
@@ -300,7 +310,7 @@ fn a_test_that_is_an_err_gives_e_in_an_expression_too() {
         [4, 14, 15, 0, 0],
         [7, 7, 13, 16, 0],
     ];
-    let sheet = accepted(&rows);
+    let sheet = accepted(&rows, "WW");
     for (set, result) in [
         ([Whole(0), Whole(7)], [E, E]),
         ([V, Whole(7)], [E, E]),
@@ -322,18 +332,15 @@ fn bench_reads_and_prints_the_reasons() {
     let line = |fields: &[&str]| fields.iter().map(|field| format!("{field:>11}")).collect::<String>() + "\n";
     let cases = [
         (["7", "0"], ["Z", "7", "7"]),
-        (["T", "0"], ["E", "E", "T"]),
         (["-2147483648", "-1"], ["V", "V", "-2147483648"]),
         (["Z", "V"], ["Z", "Z", "Z"]),
         (["V", "Z"], ["V", "V", "V"]),
         (["E", "Z"], ["E", "E", "E"]),
-        (["T", "V"], ["V", "V", "T"]),
-        (["Z", "F"], ["Z", "Z", "Z"]),
     ];
     let sets: String = cases.iter().map(|(set, _)| line(set)).collect();
     let printed: String = cases.iter().map(|(_, results)| line(results)).collect();
-    let got = String::from_utf8(bench(&write(&rows), sets.as_bytes())).unwrap();
-    assert_eq!(got, format!("     2     3     8\n{printed}"));
+    let got = String::from_utf8(bench(&write(&rows), b"WW\n", sets.as_bytes())).unwrap();
+    assert_eq!(got, format!("     2     3     5\n{printed}"));
 }
 
 #[test]
@@ -347,7 +354,7 @@ fn a_for_that_never_iterates_breaks_a_width_rule() {
 fn a_name_free_only_in_an_inner_row_c_is_free() {
     // let x = 1 in let x = x in x
     let rows = [[2, 1, 0, 0, 0], [1, 0, 0, 0, 0], [1, 0, 0, 0, 0], [6, 0, 1, 2, 3], [6, 0, 1, 1, 4]];
-    let sheet = accepted(&rows);
+    let sheet = accepted(&rows, "");
     assert_eq!(sheet.figures, Figures { rows: 5, operators: 1, inputs: 0, results: 1 });
     assert_eq!(values(&sheet, &[]), [Whole(1)]);
 }
@@ -358,13 +365,15 @@ fn rounds_of_an_unused_loop_count() {
     let mut rows = factorial();
     rows.extend([[2, 7, 0, 0, 0], [4, 20, 21, 0, 0], [3, 1, 0, 0, 0], [1, 6, 0, 0, 0], [1, 5, 0, 0, 0]]);
     rows.extend([[7, 23, 24, 25, 0], [6, 5, 2, 22, 26]]);
-    let done = evaluate(&accepted(&rows), &[Whole(4)], 100).expect("an evaluation that ends");
+    let done = evaluate(&accepted(&rows, "W"), &[Whole(4)], 100).expect("an evaluation that ends");
     assert_eq!((done.set.used(), done.rounds), ([Whole(7)].as_slice(), 4));
 }
 
 #[test]
 fn bench_refusals() {
-    let print = |formula: &[u8], sets: &[u8]| String::from_utf8(bench(formula, sets)).unwrap();
+    let print_with =
+        |formula: &[u8], kinds: &[u8], sets: &[u8]| String::from_utf8(bench(formula, kinds, sets)).unwrap();
+    let print = |formula: &[u8], sets: &[u8]| print_with(formula, b"W\n", sets);
     let identity = write(&[[1, 0, 0, 0, 0]]);
     assert_eq!(print(b"", b""), "     1     0\n");
     assert_eq!(print(&write(&[[1, 32, 0, 0, 0]]), b""), "     4     1\n");
@@ -386,9 +395,37 @@ fn bench_refusals() {
     for bad in ["99999999999", "         +1", "-0000000001", "          -", "          1          1", "", "\n"] {
         assert_eq!(print(&identity, format!("{bad}\n").as_bytes()), "    12     1\n", "{bad}");
     }
-    // A formula without inputs has empty set lines.
-    assert_eq!(print(&write(&[[2, 7, 0, 0, 0]]), b"\n\n"), "     0     1     2\n          7\n          7\n");
-    assert_eq!(print(&write(&[[2, 7, 0, 0, 0]]), b"\n "), "    12     2\n");
+    // A formula without inputs has empty set lines, and a kinds line without letters.
+    let seven = write(&[[2, 7, 0, 0, 0]]);
+    assert_eq!(print_with(&seven, b"\n", b"\n\n"), "     0     1     2\n          7\n          7\n");
+    assert_eq!(print_with(&seven, b"\n", b"\n "), "    12     2\n");
+    assert_eq!(print_with(&seven, b"", b"\n"), "    17     0\n");
+}
+
+/// Document 02, Job 6: 17, 18, "in this order after 9 and before 10", and the program's 13 and 12 behind them.
+#[test]
+fn bench_refusals_by_kinds() {
+    let print =
+        |rows: &[[u32; 5]], kinds: &[u8], sets: &[u8]| String::from_utf8(bench(&write(rows), kinds, sets)).unwrap();
+    let identity = [[1, 0, 0, 0, 0]];
+    for bad in ["", "W", "\n", "WW\n", "w\n", "F\n", "W\n\n", "W\r\n", " W\n"] {
+        assert_eq!(print(&identity, bad.as_bytes(), &[b'x'; 70_000]), "    17     0\n", "{bad:?}");
+    }
+    let not = [[1, 0, 0, 0, 0], [5, 10, 1, 0, 0]];
+    assert_eq!(print(&not, b"W\n", &[b'x'; 70_000]), "    18     2\n");
+    assert_eq!(print(&not, b"T\n", &[b'x'; 70_000]), "    13     0\n");
+    assert_eq!(print(&not, b"T\n", b"          T\n          Z\n          1\n"), "    12     3\n");
+    assert_eq!(print(&not, b"T\n", b"          T\n          Z\n"), "     1     1     2\n          F\n          Z\n");
+    // let x = 1 in 2 gets 9 whatever the line is.
+    assert_eq!(print(&[[2, 1, 0, 0, 0], [2, 2, 0, 0, 0], [6, 0, 1, 1, 2]], b"", b""), "     9     3\n");
+}
+
+/// "A club compared a truth with a voltage": x0 = x1 with letters T and W.
+#[test]
+fn a_truth_compared_with_a_voltage_is_18() {
+    let rows = [[1, 0, 0, 0, 0], [1, 1, 0, 0, 0], [4, 1, 2, 0, 0], [5, 7, 3, 0, 0]];
+    assert_eq!(refused_with(&rows, b"TW\n"), (18, 4));
+    assert_eq!(accepted(&rows, "WW").figures.inputs, 2);
 }
 
 /// An unending loop: what is ready before it is printed, and 36 stands last.
@@ -407,7 +444,7 @@ fn bench_prints_36_last() {
         [7, 5, 6, 8, 0],
         [8, 0, 1, 1, 9],
     ];
-    let printed = bench(&write(&rows), b"          0\n          0\n          0\n          5\n          0\n");
+    let printed = bench(&write(&rows), b"W\n", b"          0\n          0\n          0\n          5\n          0\n");
     let printed = String::from_utf8(printed).unwrap();
     let lines: Vec<&str> = printed.lines().collect();
     assert_eq!(lines[0], "     1     1     5");

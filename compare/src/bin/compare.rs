@@ -6,9 +6,9 @@ use compare::arguments::Cases;
 use compare::bytes::{self, EvaluateAnswer, OUT_BYTES, VALUE_BYTES};
 use compare::product;
 use compare::random::turns::random_sheet;
-use compare::random::{random_err, random_set, random_value, Made, Rng, Sort};
+use compare::random::{random_err, random_set, random_value, Made, Rng};
 use compare::sheet;
-use compare::value::Value;
+use compare::value::{Sort, Value};
 use std::collections::BTreeMap;
 use std::{env, process};
 
@@ -24,13 +24,14 @@ fn main() {
     for number in cases.numbers() {
         let mut rng = cases.rng(number);
         let (kind, made) = random_sheet(number, &mut rng);
-        let compared = compare_read(&made.bytes, &mut counts, &mut rng).and_then(|()| {
+        let compared = compare_read(&made, &mut counts, &mut rng).and_then(|()| {
             *counts.entry(kind.clone()).or_default() += 1;
             (0..3).try_for_each(|_| compare_evaluate(&made, &mut counts, &mut rng))
         });
         if let Err(difference) = compared {
             println!("case {number} of seed {}, {kind}\nsheet of {} bytes:", cases.seed, made.bytes.len());
-            println!("{}\n{difference}", made.bytes.escape_ascii().to_string().replace("\\n", "\\n\n"));
+            println!("{}", made.bytes.escape_ascii().to_string().replace("\\n", "\\n\n"));
+            println!("kinds line {}\n{difference}", made.kinds.escape_ascii());
             process::exit(1);
         }
     }
@@ -48,7 +49,7 @@ const MARGIN: usize = 64;
 
 impl Surrounded {
     fn new(middle: &[u8], rng: &mut Rng) -> Surrounded {
-        let mut margin = || (0..MARGIN).map(|_| rng.pick(b" 0123456789\n\x01\x02\x03")).collect::<Vec<u8>>();
+        let mut margin = || (0..MARGIN).map(|_| rng.pick(b" 0123456789WT\n\x01\x02\x03")).collect::<Vec<u8>>();
         Surrounded { memory: [&margin(), middle, &margin()].concat(), length: middle.len() }
     }
 
@@ -66,8 +67,10 @@ impl Surrounded {
     }
 }
 
-fn compare_read(sheet: &[u8], counts: &mut Counts, rng: &mut Rng) -> Result<(), String> {
-    let (ours, theirs) = (bytes::read(sheet), product::read(Surrounded::new(sheet, rng).middle()));
+fn compare_read(made: &Made, counts: &mut Counts, rng: &mut Rng) -> Result<(), String> {
+    let ours = bytes::read(&made.bytes, &made.kinds);
+    let (sheet, kinds) = (Surrounded::new(&made.bytes, rng), Surrounded::new(&made.kinds, rng));
+    let theirs = product::read(sheet.middle(), kinds.middle());
     *counts.entry(format!("read with {:2}", ours.refusal)).or_default() += 1;
     if ours == theirs {
         return Ok(());
@@ -77,18 +80,20 @@ fn compare_read(sheet: &[u8], counts: &mut Counts, rng: &mut Rng) -> Result<(), 
 
 /// One evaluation with a random set, lent rounds and room.
 fn compare_evaluate(made: &Made, counts: &mut Counts, rng: &mut Rng) -> Result<(), String> {
-    let sheet = &made.bytes;
+    let (sheet, kinds) = (&made.bytes, &made.kinds);
     let set = random_set_bytes(made, rng);
-    let rounds = random_rounds(sheet, &set, rng);
+    let rounds = random_rounds(made, &set, rng);
     let room = if rng.chance(90) { OUT_BYTES } else { rng.pick(&[0, 1, 5, 79, 81, 160]) };
     let held: Vec<u8> = (0..room).map(|_| rng.number() as u8).collect();
     let mut our_out = held.clone();
-    let ours = bytes::evaluate(sheet, &set, rounds, &mut our_out);
-    let (lent_sheet, lent_set) = (Surrounded::new(sheet, rng), Surrounded::new(&set, rng));
+    let ours = bytes::evaluate(sheet, kinds, &set, rounds, &mut our_out);
+    let [lent_sheet, lent_kinds, lent_set] = [sheet, kinds, &set].map(|bytes| Surrounded::new(bytes, rng));
     let before = Surrounded::new(&held, rng);
     let mut after = Surrounded { memory: before.memory.clone(), length: room };
-    let theirs = product::evaluate(lent_sheet.middle(), lent_set.middle(), rounds, after.middle_mut());
-    if lent_sheet.middle() != sheet || lent_set.middle() != set || !after.margins_equal(&before) {
+    let theirs =
+        product::evaluate(lent_sheet.middle(), lent_kinds.middle(), lent_set.middle(), rounds, after.middle_mut());
+    let kept = lent_sheet.middle() == sheet && lent_kinds.middle() == kinds && lent_set.middle() == set;
+    if !kept || !after.margins_equal(&before) {
         return Err("the product altered memory that it may not write".into());
     }
     let their_out = after.middle();
@@ -115,10 +120,10 @@ fn count_results(answer: &EvaluateAnswer, out: &[u8], counts: &mut Counts) {
     count("evaluated to V", results().any(|value| value == Value::V));
 }
 
-/// Mostly a set that fits the sheet; else one with a value or a byte too many or too few, or with a bad value.
+/// Mostly a set that fits the sheet; else one with a value of another kind, a value or a byte too many or too few, or with a bad value.
 fn random_set_bytes(made: &Made, rng: &mut Rng) -> Vec<u8> {
-    let mut values = match sheet::read(&made.bytes) {
-        Ok(sheet) => random_set(made, &sheet, rng),
+    let mut values = match sheet::read(&made.bytes, &made.kinds) {
+        Ok(sheet) => random_set(&sheet, rng),
         Err(_) => (0..rng.below(4)).map(|_| random_value(Sort::Whole, rng)).collect(),
     };
     let change = rng.below(40);
@@ -147,8 +152,8 @@ fn random_set_bytes(made: &Made, rng: &mut Rng) -> Vec<u8> {
 }
 
 /// Where the evaluation ends: rounds about as many as it needs, or any greater number; else fewer than it needs.
-fn random_rounds(sheet: &[u8], set: &[u8], rng: &mut Rng) -> u32 {
-    let answer = bytes::evaluate(sheet, set, ROUNDS, &mut [0; OUT_BYTES]);
+fn random_rounds(made: &Made, set: &[u8], rng: &mut Rng) -> u32 {
+    let answer = bytes::evaluate(&made.bytes, &made.kinds, set, ROUNDS, &mut [0; OUT_BYTES]);
     match answer.refusal {
         0 => rng.pick(&[0, answer.rounds.saturating_sub(1), answer.rounds, answer.rounds + 1, ROUNDS, u32::MAX]),
         _ => rng.below(ROUNDS as usize) as u32,

@@ -37,7 +37,7 @@ fn main() {
         }
     });
     println!("no difference in {} cases", cases.count);
-    for group in ["formula", "sets", "ended with"] {
+    for group in ["formula", "kinds", "sets", "ended with"] {
         let names = counts.iter().filter_map(|(kind, count)| Some((kind.strip_prefix(group)?, count)));
         println!("{group}:{}", names.map(|(kind, count)| format!("{kind} {count}")).collect::<Vec<_>>().join(","));
     }
@@ -56,8 +56,9 @@ fn compare_some(program: &Path, worker: usize, cases: &Cases, next: &AtomicU64) 
         let made = random_folder(&mut cases.rng(number));
         match compare_run(program, &folder, &made) {
             Ok(ending) => {
-                let kinds = [format!("formula {}", made.kinds[0]), format!("sets {}", made.kinds[1]), ending];
-                kinds.into_iter().for_each(|kind| *counts.entry(kind).or_default() += 1);
+                let groups =
+                    ["formula", "kinds", "sets"].iter().zip(made.made).map(|(file, how)| format!("{file} {how}"));
+                groups.chain([ending]).for_each(|kind| *counts.entry(kind).or_default() += 1);
             }
             Err(difference) => {
                 println!("case {number} of seed {}, in {}\n{difference}", cases.seed, folder.display());
@@ -79,11 +80,13 @@ fn put(path: PathBuf, bytes: &Option<Vec<u8>>) {
 /// How both end, if the program prints what it must.
 fn compare_run(program: &Path, folder: &Path, made: &Folder) -> Result<String, String> {
     put(folder.join("formula.txt"), &made.formula);
+    put(folder.join("kinds.txt"), &made.kinds);
     put(folder.join("sets.txt"), &made.sets);
     let run =
         Command::new(program).current_dir(folder).stdin(Stdio::null()).output().map_err(|error| error.to_string())?;
-    let (formula, sets) = (made.formula.as_deref().unwrap_or_default(), made.sets.as_deref().unwrap_or_default());
-    let ours = bench(formula, sets);
+    let [formula, kinds, sets] =
+        [&made.formula, &made.kinds, &made.sets].map(|file| file.as_deref().unwrap_or_default());
+    let ours = bench(formula, kinds, sets);
     if !run.stderr.is_empty() || !run.status.success() {
         return Err(format!("the product ends with {}: {}", run.status, String::from_utf8_lossy(&run.stderr)));
     }
@@ -93,7 +96,7 @@ fn compare_run(program: &Path, folder: &Path, made: &Folder) -> Result<String, S
         return if run.stdout == ours { Ok(format!("ended with {refusal:>2}")) } else { Err(show(&ours, &run.stdout)) };
     }
     let first = ours.iter().position(|&byte| byte == b'\n').map_or(0, |end| end + 1);
-    let numbered = [&ours[..first], &before_36(formula, sets)?, b"    36     0\n"].concat();
+    let numbered = [&ours[..first], &before_36(formula, kinds, sets)?, b"    36     0\n"].concat();
     match (run.stdout == numbered, first + 13 < numbered.len()) {
         (false, _) => Err(show(&numbered, &run.stdout)),
         (true, true) => Ok("ended with 36 behind results".into()),
@@ -107,12 +110,12 @@ fn show(ours: &[u8], product: &[u8]) -> String {
 }
 
 /// The lines before a 36, by the calls here on the machine that the product starts; each is what evaluation gives for its set.
-fn before_36(formula: &[u8], sets: &[u8]) -> Result<Vec<u8>, String> {
-    let sheet = sheet::read(formula).map_err(|_| "a refused sheet")?;
-    let sets = read_sets(sets, sheet.figures.inputs as usize).map_err(|_| "a refused set")?;
+fn before_36(formula: &[u8], kinds: &[u8], sets: &[u8]) -> Result<Vec<u8>, String> {
+    let sheet = sheet::read(formula, kinds).map_err(|_| "a refused sheet")?;
+    let sets = read_sets(sets, &sheet.sorts).map_err(|_| "a refused set")?;
     let mut mem = vec![0; memory::need(CAPACITY)];
     let product = calls::product().expect("the product is linked");
-    (product.start)(formula, CAPACITY as u32, &mut mem);
+    (product.start)(formula, kinds, CAPACITY as u32, &mut mem);
     let encoded: Vec<Vec<u8>> = sets.iter().map(|set| encode_set(set)).collect();
     let mut results: Vec<Vec<Value>> = Vec::new();
     let ran = PLAIN

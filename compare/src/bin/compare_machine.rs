@@ -6,10 +6,11 @@
 
 use compare::arguments::Cases;
 use compare::bytes::{self, OUT_BYTES, VALUE_BYTES};
-use compare::memory::{self, Answer, MOST_LINKS};
-use compare::random::faults::plant;
-use compare::random::{accepted_sheet, heavy_sheet, random_err, random_set, random_value, Made, Rng, Sort};
+use compare::memory::{self, Answer, LETTERS, MOST_LINKS};
+use compare::random::faults::{plant, PLANTABLE};
+use compare::random::{accepted_sheet, heavy_sheet, random_err, random_set, random_value, Made, Rng};
 use compare::sheet::{self, Sheet};
+use compare::value::Sort;
 use compare::{eval, product};
 use std::collections::{BTreeMap, VecDeque};
 use std::{env, process};
@@ -19,6 +20,9 @@ const ROUNDS: u32 = 2_000;
 
 /// Bytes behind the lent ones.
 const MARGIN: usize = 32;
+
+/// How many bytes a memory has before its links.
+const FIGURES: usize = 8;
 
 /// Where a memory has its number of inputs.
 const INPUTS_AT: usize = 5;
@@ -40,7 +44,7 @@ fn main() {
                 cases.seed,
                 made.bytes.escape_ascii().to_string().replace("\\n", "\\n\n")
             );
-            println!("{difference}");
+            println!("kinds line {}\n{difference}", made.kinds.escape_ascii());
             process::exit(1);
         }
     }
@@ -51,14 +55,13 @@ fn main() {
 fn random_sheet(number: u64, rng: &mut Rng) -> Made {
     match number % 20 {
         0 => heavy_sheet(rng),
-        1 => Made { bytes: plant(rng.between(1, 10) as u32, rng).bytes, sorts: [Sort::Whole; 32] },
+        1 => plant(rng.pick(&PLANTABLE), rng).made,
         _ => accepted_sheet(rng),
     }
 }
 
 /// A machine under comparison: its memory, and the sets pushed and not yet taken while nothing else wrote it.
 struct Run<'a> {
-    made: &'a Made,
     sheet: &'a Sheet,
     mem: Vec<u8>,
     pushed: VecDeque<Vec<u8>>,
@@ -96,8 +99,8 @@ fn compare_case(number: u64, made: &Made, counts: &mut Counts, rng: &mut Rng) ->
     let fill = rng.number() as u8;
     let held: Vec<u8> = (0..length + MARGIN).map(|at| (at as u8).wrapping_mul(31).wrapping_add(fill)).collect();
     let (mut plain, mut mem) = (held.clone(), held.clone());
-    let ours = memory::start(&made.bytes, capacity, &mut plain[..length]);
-    let theirs = product::start(&made.bytes, capacity, &mut mem[..length]);
+    let ours = memory::start(&made.bytes, &made.kinds, capacity, &mut plain[..length]);
+    let theirs = product::start(&made.bytes, &made.kinds, capacity, &mut mem[..length]);
     *counts.entry(format!("start with {:2}", ours.refusal)).or_default() += 1;
     if ours != theirs || mem[length..] != held[length..] || (theirs.refusal != 0 && mem != held) {
         return Err(format!("start at capacity {capacity} gives here {ours:?}, the product answers {theirs:?}"));
@@ -105,10 +108,13 @@ fn compare_case(number: u64, made: &Made, counts: &mut Counts, rng: &mut Rng) ->
     if ours.refusal != 0 {
         return Ok(());
     }
-    let sheet = sheet::read(&made.bytes).map_err(|refusal| format!("{refusal:?}"))?;
+    let sheet = sheet::read(&made.bytes, &made.kinds).map_err(|refusal| format!("{refusal:?}"))?;
+    if fixed_figures(&plain) != fixed_figures(&mem) {
+        return Err("start stores other figures or letters than those here".into());
+    }
     // The product's own graph, and now and then the one made here: the calls must do with both.
     let mem = if number % 4 == 3 { plain } else { mem };
-    let mut run = Run { made, sheet: &sheet, mem, pushed: VecDeque::new(), altered: false, counts };
+    let mut run = Run { sheet: &sheet, mem, pushed: VecDeque::new(), altered: false, counts };
     let alters = rng.chance(40);
     for _ in 0..rng.between(10, 80) {
         if alters && rng.chance(15) {
@@ -118,6 +124,11 @@ fn compare_case(number: u64, made: &Made, counts: &mut Counts, rng: &mut Rng) ->
         run.call(length, rng)?;
     }
     Ok(())
+}
+
+/// What a start stores whatever the numbering is: the header's figures before the links, and the letters.
+fn fixed_figures(mem: &[u8]) -> (&[u8], &[u8]) {
+    (&mem[..FIGURES], &mem[LETTERS..LETTERS + usize::from(mem[INPUTS_AT])])
 }
 
 impl Run<'_> {
@@ -254,7 +265,7 @@ impl Run<'_> {
 
     /// Mostly a set that fits.
     fn random_set(&self, rng: &mut Rng) -> Vec<u8> {
-        let mut values = random_set(self.made, self.sheet, rng);
+        let mut values = random_set(self.sheet, rng);
         if rng.chance(3) {
             values.push(random_value(Sort::Whole, rng));
         }
@@ -279,7 +290,7 @@ fn difference(ours: Answer, theirs: Answer, plain: &[u8], mem: &[u8]) -> String 
     format!("here {ours:?}, the product answers {theirs:?}; bytes differ at {places:?}")
 }
 
-/// A change of one figure: header, record, register, length or token, to a value about its range.
+/// A change of one figure: header, letter, record, register, length or token, to a value about its range.
 fn alter(mem: &mut [u8], length: usize, rng: &mut Rng) {
     let word = |mem: &[u8], at: usize| usize::from(mem[at]) + 256 * usize::from(mem[at + 1]);
     let (operators, links) = (word(mem, 1).clamp(1, 1024), word(mem, 3).clamp(1, MOST_LINKS));
@@ -287,7 +298,7 @@ fn alter(mem: &mut [u8], length: usize, rng: &mut Rng) {
     let operator = rng.below(operators);
     // A changed capacity moves the stretches: the last place then stands for one past the end.
     let link = (21_760 + rng.below(links) * size).min(length - 6);
-    match rng.below(12) {
+    match rng.below(13) {
         0 => mem[rng.pick(&[0, 5, 6, 7])] = rng.pick(&[0, 1, 2, 15, 16, 17, 31, 32, 33, 255]),
         1 => write(
             mem,
@@ -318,6 +329,7 @@ fn alter(mem: &mut [u8], length: usize, rng: &mut Rng) {
             mem[link + 1..link + 6].copy_from_slice(&value);
             mem[link] = mem[link].max(1);
         }
+        11 => mem[LETTERS + rng.below(usize::from(mem[INPUTS_AT]).clamp(1, 33))] = rng.pick(b"WTTTWwF\0\x01\x02"),
         _ => mem[rng.below(length)] = rng.number() as u8,
     }
 }

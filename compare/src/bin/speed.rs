@@ -6,8 +6,7 @@ use compare::bytes::{self, OUT_BYTES, VALUE_BYTES};
 use compare::calls::{self, Calls, PLAIN};
 use compare::examples::{factorial, lesser, many_operators, negations};
 use compare::memory;
-use compare::random::{random_set, Rng};
-use compare::sheet;
+use compare::random::{fitting_set, Made, Rng};
 use compare::table::{grouped, head, row, speed};
 use compare::timing::{in_turns, side_by_side, Call, BATCHES};
 use compare::value::Value;
@@ -16,17 +15,18 @@ use std::time::Duration;
 
 fn main() {
     head(&["call", "plain, ns", "product, ns", "speed"]);
-    for (name, bytes) in sheets() {
-        let text = format!("read: {name}, {} bytes", grouped(bytes.len() as f64));
-        report(&text, 1, &mut || bytes::read(black_box(&bytes)).refusal, &mut product_read(&bytes));
+    for (name, made) in sheets() {
+        let text = format!("read: {name}, {} bytes", grouped(made.bytes.len() as f64));
+        let mut ours = || bytes::read(black_box(&made.bytes), &made.kinds).refusal;
+        report(&text, 1, &mut ours, &mut product_read(&made));
     }
-    for (name, bytes, set, rounds) in evaluations() {
+    for (name, made, set, rounds) in evaluations() {
         let mut out = [0; OUT_BYTES];
-        let mut ours = || bytes::evaluate(black_box(&bytes), &set, rounds, &mut out).refusal;
-        report(&format!("evaluate: {name}"), 1, &mut ours, &mut product_evaluate(&bytes, &set, rounds));
+        let mut ours = || bytes::evaluate(black_box(&made.bytes), &made.kinds, &set, rounds, &mut out).refusal;
+        report(&format!("evaluate: {name}"), 1, &mut ours, &mut product_evaluate(&made, &set, rounds));
     }
-    for (name, bytes, set, _) in evaluations() {
-        machine(&name, &bytes, &set);
+    for (name, made, set, _) in evaluations() {
+        machine(&name, &made, &set);
     }
     head(&[
         "sixteen sets at capacity 16",
@@ -36,8 +36,8 @@ fn main() {
         "to the plain tray",
         "to the pushes",
     ]);
-    for (name, bytes, set, _) in evaluations() {
-        tray(&name, &bytes, &set);
+    for (name, made, set, _) in evaluations() {
+        tray(&name, &made, &set);
     }
 }
 
@@ -55,17 +55,17 @@ fn report(name: &str, steps: u32, ours: &mut dyn FnMut() -> u32, product: &mut O
 }
 
 /// The calls on a machine at capacity 2: a start; a run of as many sets as fit, by the firing; a take with the push of another set.
-fn machine(name: &str, sheet: &[u8], set: &[u8]) {
+fn machine(name: &str, made: &Made, set: &[u8]) {
     let start = calls::product().unwrap_or(PLAIN).start;
     let mut fresh = vec![0; memory::need(2)];
-    if start(sheet, 2, &mut fresh).refusal != 0 {
+    if start(&made.bytes, &made.kinds, 2, &mut fresh).refusal != 0 {
         return;
     }
     report(
         &format!("start: {name}"),
         1,
-        &mut starting(PLAIN, sheet),
-        &mut calls::product().map(|calls| starting(calls, sheet)),
+        &mut starting(PLAIN, made),
+        &mut calls::product().map(|calls| starting(calls, made)),
     );
 
     let mut loaded = fresh.clone();
@@ -89,10 +89,10 @@ fn machine(name: &str, sheet: &[u8], set: &[u8]) {
 const FIRINGS: u32 = 1_000_000;
 
 /// A tray of as many sets as an empty machine of capacity 16 takes, here and the product's, beside the product's pushes one by one.
-fn tray(name: &str, sheet: &[u8], set: &[u8]) {
+fn tray(name: &str, made: &Made, set: &[u8]) {
     let calls = calls::product().unwrap_or(PLAIN);
     let mut fresh = vec![0; memory::need(16)];
-    if (calls.start)(sheet, 16, &mut fresh).refusal != 0 {
+    if (calls.start)(&made.bytes, &made.kinds, 16, &mut fresh).refusal != 0 {
         return;
     }
     let sets = set.repeat(SETS as usize);
@@ -124,9 +124,9 @@ fn emptied(mem: &mut [u8], call: impl FnOnce(&mut [u8]) -> u32) -> u32 {
     call(mem)
 }
 
-fn starting(calls: Calls, sheet: &[u8]) -> Call<'_> {
+fn starting(calls: Calls, made: &Made) -> Call<'_> {
     let mut mem = vec![0; memory::need(2)];
-    Box::new(move || (calls.start)(black_box(sheet), 2, &mut mem).refusal)
+    Box::new(move || (calls.start)(black_box(&made.bytes), &made.kinds, 2, &mut mem).refusal)
 }
 
 fn running(calls: Calls, loaded: &[u8]) -> Call<'_> {
@@ -157,31 +157,33 @@ fn restore(mem: &mut [u8], from: &[u8]) {
 }
 
 #[cfg(feature = "product")]
-fn product_read(bytes: &[u8]) -> Option<Call<'_>> {
-    Some(Box::new(move || compare::product::read(black_box(bytes)).refusal))
+fn product_read(made: &Made) -> Option<Call<'_>> {
+    Some(Box::new(move || compare::product::read(black_box(&made.bytes), &made.kinds).refusal))
 }
 
 #[cfg(not(feature = "product"))]
-fn product_read(_: &[u8]) -> Option<Call<'_>> {
+fn product_read(_: &Made) -> Option<Call<'_>> {
     None
 }
 
 #[cfg(feature = "product")]
-fn product_evaluate<'a>(sheet: &'a [u8], set: &'a [u8], rounds: u32) -> Option<Call<'a>> {
+fn product_evaluate<'a>(made: &'a Made, set: &'a [u8], rounds: u32) -> Option<Call<'a>> {
     let mut out = [0; OUT_BYTES];
-    Some(Box::new(move || compare::product::evaluate(black_box(sheet), set, rounds, &mut out).refusal))
+    Some(Box::new(move || {
+        compare::product::evaluate(black_box(&made.bytes), &made.kinds, set, rounds, &mut out).refusal
+    }))
 }
 
 #[cfg(not(feature = "product"))]
-fn product_evaluate<'a>(_: &'a [u8], _: &'a [u8], _: u32) -> Option<Call<'a>> {
+fn product_evaluate<'a>(_: &'a Made, _: &'a [u8], _: u32) -> Option<Call<'a>> {
     None
 }
 
-fn sheets() -> Vec<(String, Vec<u8>)> {
+fn sheets() -> Vec<(String, Made)> {
     let mut malformed = negations(200);
-    malformed[6000] = b'x';
-    let many = many_operators(&mut Rng::new(1)).bytes;
-    let operators = bytes::read(&many).operators;
+    malformed.bytes[6000] = b'x';
+    let many = many_operators(&mut Rng::new(1));
+    let operators = many.sheet().figures.operators;
     vec![
         ("the lesser of two".into(), lesser()),
         ("factorial".into(), factorial()),
@@ -190,23 +192,23 @@ fn sheets() -> Vec<(String, Vec<u8>)> {
         ("200 rows of negations".into(), negations(200)),
         (format!("{} operators", grouped(operators.into())), many),
         ("malformed near its end".into(), malformed),
-        ("no rows".into(), vec![b' '; 6199]),
+        ("no rows".into(), Made { bytes: vec![b' '; 6199], kinds: b"W\n".to_vec() }),
     ]
 }
 
 /// A sheet, a set in bytes and the rounds lent.
-fn evaluations() -> Vec<(String, Vec<u8>, Vec<u8>, u32)> {
+fn evaluations() -> Vec<(String, Made, Vec<u8>, u32)> {
     let number = |value| bytes::encode_set(&[Value::Whole(value)]);
     let pair = bytes::encode_set(&[Value::Whole(3), Value::Whole(5)]);
     let mut rng = Rng::new(1);
     let many = many_operators(&mut rng);
-    let sheet = sheet::read(&many.bytes).expect("an accepted sheet");
-    let set = bytes::encode_set(&random_set(&many, &sheet, &mut rng));
+    let sheet = many.sheet();
+    let set = bytes::encode_set(&fitting_set(&sheet, &mut rng));
     vec![
         ("the lesser of two".into(), lesser(), pair, 0),
         ("factorial of 12".into(), factorial(), number(12), 100),
         ("10,000 rounds of factorial".into(), factorial(), number(10_000), 10_000),
         ("200 rows of negations".into(), negations(200), number(7), 0),
-        (format!("{} operators", grouped(sheet.figures.operators.into())), many.bytes, set, 1000),
+        (format!("{} operators", grouped(sheet.figures.operators.into())), many, set, 1000),
     ]
 }

@@ -40,6 +40,7 @@ fn main() {
 struct Example {
     name: &'static str,
     formula: Vec<u8>,
+    kinds: Vec<u8>,
     graph: Graph,
     sets: Vec<Vec<Value>>,
 }
@@ -47,10 +48,11 @@ struct Example {
 impl Example {
     fn load(name: &'static str, folder: &Path) -> Example {
         let formula = fs::read(folder.join("formula.txt")).expect("an example's formula");
-        let sheet = sheet::read(&formula).expect("an accepted sheet");
+        let kinds = fs::read(folder.join("kinds.txt")).expect("an example's kinds");
+        let sheet = sheet::read(&formula, &kinds).expect("an accepted sheet");
         let text = fs::read(folder.join("sets.txt")).expect("an example's sets");
-        let sets = read_sets(&text, sheet.figures.inputs as usize).expect("good sets");
-        Example { name, formula, graph: graph::build(&sheet), sets }
+        let sets = read_sets(&text, &sheet.sorts).expect("good sets");
+        Example { name, formula, kinds, graph: graph::build(&sheet), sets }
     }
 
     /// Its sets again and again, so many in all.
@@ -80,7 +82,7 @@ fn look(result: &[u8]) {
 /// The loop over a machine that was started before.
 fn session<'a>(calls: Calls, example: &Example, capacity: u32, sets: &'a [Vec<u8>]) -> Call<'a> {
     let mut mem = vec![0; memory::need(capacity as usize)];
-    (calls.start)(&example.formula, capacity, &mut mem);
+    (calls.start)(&example.formula, &example.kinds, capacity, &mut mem);
     Box::new(move || calls.session(&mut mem, sets, u32::MAX, &mut look).count)
 }
 
@@ -88,7 +90,7 @@ fn session<'a>(calls: Calls, example: &Example, capacity: u32, sets: &'a [Vec<u8
 fn started_session<'a>(calls: Calls, example: &'a Example, sets: &'a [Vec<u8>]) -> Call<'a> {
     let mut mem = vec![0; memory::need(2)];
     Box::new(move || {
-        (calls.start)(&example.formula, 2, &mut mem);
+        (calls.start)(&example.formula, &example.kinds, 2, &mut mem);
         calls.session(&mut mem, sets, u32::MAX, &mut look).count
     })
 }
@@ -145,10 +147,11 @@ fn evaluation(examples: &[Example]) {
     for example in examples {
         let sets = example.encoded(example.sets.len());
         let (mut plain_out, mut product_out) = ([0; OUT_BYTES], [0; OUT_BYTES]);
+        let Example { formula, kinds, .. } = example;
         let mut plain =
-            || sets.iter().map(|set| bytes::evaluate(&example.formula, set, ROUNDS, &mut plain_out).rounds).sum();
+            || sets.iter().map(|set| bytes::evaluate(formula, kinds, set, ROUNDS, &mut plain_out).rounds).sum();
         let mut product =
-            || sets.iter().map(|set| product::evaluate(&example.formula, set, ROUNDS, &mut product_out).rounds).sum();
+            || sets.iter().map(|set| product::evaluate(formula, kinds, set, ROUNDS, &mut product_out).rounds).sum();
         let times = least_times(&mut [&mut plain, &mut product]);
         let [plain, product] = [0, 1].map(|place| times[place] / sets.len() as f64);
         row(&[example.name.into(), rate(plain), rate(product), speed(plain, product)]);
@@ -194,6 +197,7 @@ fn programs(examples: &[Example], product: &Path) {
         for count in [1, 100, 2_800] {
             let text: String = example.sets(count).iter().map(|set| write_set(set)).collect();
             fs::write(folder.join("formula.txt"), &example.formula).expect("a file is written");
+            fs::write(folder.join("kinds.txt"), &example.kinds).expect("a file is written");
             fs::write(folder.join("sets.txt"), text).expect("a file is written");
             let times = least_times(&mut [&mut || run(&plain, &folder), &mut || run(product, &folder)]);
             let count = grouped(count as f64);

@@ -2,8 +2,8 @@
 // lowest byte that changed is looked for.
 
 use compare::bytes::{self, OUT_BYTES};
-use compare::random::Rng;
-use compare::sheet::{self, write};
+use compare::random::{Made, Rng};
+use compare::sheet::write;
 use compare::value::Value;
 use compare::{examples, memory, product};
 use std::hint::black_box;
@@ -27,10 +27,9 @@ fn main() {
 fn measure_all() {
     println!("{:36}{}", "bytes of stack", CALLS.map(|name| format!("{name:>9}")).concat());
     let mut most = [0; CALLS.len()];
-    for (name, sheet, value) in sheets() {
-        let refused = sheet::read(&sheet).err();
-        assert!(refused.is_none(), "{name}: {refused:?}");
-        let taken = measure(&sheet, value);
+    for (name, made, value) in sheets() {
+        assert_eq!(made.refusal(), 0, "{name}");
+        let taken = measure(&made, value);
         print_line(name, taken);
         most = std::array::from_fn(|call| most[call].max(taken[call]));
     }
@@ -42,18 +41,19 @@ fn print_line(name: &str, taken: [usize; CALLS.len()]) {
 }
 
 /// What each call takes for one sheet, with `value` for each input. Every call must be accepted, and the pushed set be taken.
-fn measure(sheet: &[u8], value: Value) -> [usize; CALLS.len()] {
-    let inputs = bytes::read(sheet).inputs as usize;
+fn measure(made: &Made, value: Value) -> [usize; CALLS.len()] {
+    let (sheet, kinds) = (&made.bytes[..], &made.kinds[..]);
+    let inputs = bytes::read(sheet, kinds).inputs as usize;
     let set = bytes::encode_set(&vec![value; inputs]);
     let mut out = [0; OUT_BYTES];
     let mut mem = vec![0; memory::need(1)];
-    let read = below(|| product::read(sheet).refusal);
-    let evaluate = below(|| product::evaluate(sheet, &set, ROUNDS, &mut out).refusal);
-    let start = below(|| product::start(sheet, 1, &mut mem).refusal);
+    let read = below(|| product::read(sheet, kinds).refusal);
+    let evaluate = below(|| product::evaluate(sheet, kinds, &set, ROUNDS, &mut out).refusal);
+    let start = below(|| product::start(sheet, kinds, 1, &mut mem).refusal);
     let mut copy = mem.clone();
     let tray = below(|| product::push_tray(&mut copy, &set, 1).refusal);
     let push = below(|| product::push(&mut mem, &set).refusal);
-    let fire = deepest_fire(&mem, product::start(sheet, 1, &mut mem.clone()).operators);
+    let fire = deepest_fire(&mem, product::start(sheet, kinds, 1, &mut mem.clone()).operators);
     let run = below(|| product::run(&mut mem, FIRINGS).refusal);
     let take = below(|| product::take(&mut mem, &mut out).refusal);
     [read, evaluate, start, push, tray, fire, run, take]
@@ -98,33 +98,42 @@ fn lowest_changed(here: usize) -> usize {
 const NAME: Row = [1, 0, 0, 0, 0];
 
 /// A sheet of 200 rows, or nearly, and the value that leads into its depth and out of it.
-fn sheets() -> Vec<(&'static str, Vec<u8>, Value)> {
+fn sheets() -> Vec<(&'static str, Made, Value)> {
     let (whole, yes, no) = (Value::Whole(7), Value::Truth(true), Value::Truth(false));
+    let sum = |last| vec![NAME, [4, last + 1, last, 0, 0], [5, 1, last + 2, 0, 0]];
+    let inner_let = |last| vec![NAME, [6, 0, 1, last + 1, last]];
     let many = examples::many_operators(&mut Rng::new(1));
     vec![
         ("the lesser of two", examples::lesser(), whole),
-        ("negations", chain(|last| vec![[5, 11, last, 0, 0]]), whole),
-        ("sums in sums", chain(|last| vec![NAME, [4, last + 1, last, 0, 0], [5, 1, last + 2, 0, 0]]), Value::Whole(0)),
-        ("lets in lets", chain(|last| vec![NAME, [6, 0, 1, last + 1, last]]), whole),
-        ("ifs in ifs", chain(|last| vec![NAME, NAME, [7, last + 1, last, last + 2, 0]]), yes),
-        ("ifs in the tests of ifs", chain(|last| vec![NAME, NAME, [7, last, last + 1, last + 2, 0]]), yes),
-        ("loops in loops", chain(loop_around), no),
-        ("loops in the starts of loops", chain(loop_from), no),
+        ("negations", chain(NEGATE, |last| vec![[5, NEGATE, last, 0, 0]]), whole),
+        ("sums in sums", chain(NEGATE, sum), Value::Whole(0)),
+        ("lets in lets", chain(NEGATE, inner_let), whole),
+        ("ifs in ifs", chain(NOT, |last| vec![NAME, NAME, [7, last + 1, last, last + 2, 0]]), yes),
+        ("ifs in the tests of ifs", chain(NOT, |last| vec![NAME, NAME, [7, last, last + 1, last + 2, 0]]), yes),
+        ("loops in loops", chain(NOT, loop_around), no),
+        // One not is left over in this one.
+        ("loops in the starts of loops", chain(NOT, loop_from), yes),
         ("ifs in a loop's body", body(if_around), no),
-        ("lets in a loop's body", body(|last| vec![NAME, [6, 0, 1, last + 1, last]]), no),
-        ("over 1,000 operators", many.bytes, whole),
+        ("lets in a loop's body", body(inner_let), no),
+        ("over 1,000 operators", many, whole),
     ]
 }
 
-/// Parts around an identifier, as many as fit; an identifier that is negated once or more where rows are left. A part is given the row it goes around.
-fn chain(part: impl Fn(u32) -> Vec<Row>) -> Vec<u8> {
+/// The codes of one operand: not wants a truth, negate a whole number.
+const NOT: u32 = 10;
+const NEGATE: u32 = 11;
+
+/// Parts around an identifier, as many as fit; where rows are left this code is worked on the identifier, whose kind it wants. A part is given the row it
+/// goes around.
+fn chain(code: u32, part: impl Fn(u32) -> Vec<Row>) -> Made {
     let left = (MOST_ROWS - 1) % part(1).len();
     let mut rows = vec![NAME];
-    rows.extend((1..=left as u32).map(|last| [5, 11, last, 0, 0]));
+    rows.extend((1..=left as u32).map(|last| [5, code, last, 0, 0]));
     while rows.len() < MOST_ROWS {
         rows.extend(part(rows.len() as u32));
     }
-    write(&rows)
+    let kinds = if code == NOT { b"T\n" } else { b"W\n" };
+    Made { bytes: write(&rows), kinds: kinds.to_vec() }
 }
 
 /// for x = x do if x then iter x else (row `last`)
@@ -145,12 +154,12 @@ fn if_around(last: u32) -> Vec<Row> {
 }
 
 /// A loop around a body that iterates or returns, with parts around that body, as many as fit.
-fn body(part: impl Fn(u32) -> Vec<Row>) -> Vec<u8> {
+fn body(part: impl Fn(u32) -> Vec<Row>) -> Made {
     let mut rows = [vec![NAME], if_around(1)].concat();
     while rows.len() + part(1).len() + 2 <= MOST_ROWS {
         rows.extend(part(rows.len() as u32));
     }
     let last = rows.len() as u32;
     rows.extend([NAME, [8, 0, 1, last + 1, last]]);
-    write(&rows)
+    Made { bytes: write(&rows), kinds: b"T\n".to_vec() }
 }

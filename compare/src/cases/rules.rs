@@ -50,12 +50,12 @@ pub fn iters(list: &mut List) {
     list.refused(7, 2, "iter in row c of a body's let", write(&[x, iter, x, [6, 0, 1, 2, 3], x, [8, 0, 1, 5, 4]]));
     // for x = x do if x then let y = x in iter y else x: T, F, E, FM, FS and IC, 8 gates, 2 constants, 8 copies.
     let bound = [x, x, x, [1, 1, 0, 0, 0], [9, 4, 0, 0, 0], [6, 1, 1, 3, 5], x, [7, 2, 6, 7, 0], [8, 0, 1, 1, 8]];
-    list.accepted([9, 18, 1, 1], "iter in row d of a body's let", write(&bound));
+    list.accepted([9, 18, 1, 1], "iter in row d of a body's let", write(&bound), "T");
     list.refused(7, 2, "iter in a returned pair of a body", write(&[x, iter, x, [4, 2, 3, 0, 0], x, [8, 0, 1, 5, 4]]));
 }
 
 pub fn widths(list: &mut List) {
-    list.accepted([31, 0, 16, 16], "sixteen values", write(&tuple(16)));
+    list.accepted([31, 0, 16, 16], "sixteen values", write(&tuple(16)), &"W".repeat(16));
     list.refused(8, 33, "seventeen values", write(&tuple(17)));
     let mut halves = beside(tuple(8), tuple(9));
     halves.push([4, 15, 32, 0, 0]);
@@ -97,7 +97,7 @@ fn body_arms(list: &mut List) {
     list.refused(8, 10, "inner body arms that return 1 and 2 values", write(&nested));
     // for x = x do if x then iter x else x, x: the arms have no width in common.
     let apart = [x, x, x, [9, 3, 0, 0, 0], x, x, [4, 5, 6, 0, 0], [7, 2, 4, 7, 0], [8, 0, 1, 1, 8]];
-    list.accepted([9, 21, 1, 2], "body arms that iterate 1 and return 2 values", write(&apart));
+    list.accepted([9, 21, 1, 2], "body arms that iterate 1 and return 2 values", write(&apart), "T");
     let test = [x, x, x, [4, 2, 3, 0, 0], x, [9, 5, 0, 0, 0], x, [7, 4, 6, 7, 0], [8, 0, 1, 1, 8]];
     list.refused(8, 8, "a test of two values in a body", write(&test));
 }
@@ -112,14 +112,14 @@ pub fn bound_names(list: &mut List) {
     list.refused(9, 5, "let x = 1 in let x = 1 in x", write(&inner));
     list.refused(9, 20, "a for that binds 3, 4 over a body of 0, 1", with(&factorial(), 20, [8, 3, 2, 3, 19]));
     list.refused(9, 20, "a for that binds 1, 2 over a body of 0, 1", with(&factorial(), 20, [8, 1, 2, 3, 19]));
-    // for x = x do if x then iter 1 else let x = 1 in x: x is free in the test.
-    let shadow = [x, x, one, [9, 3, 0, 0, 0], one, x, [6, 0, 1, 5, 6], [7, 2, 4, 7, 0], [8, 0, 1, 1, 8]];
-    list.accepted([9, 16, 1, 1], "a body's let that rebinds the loop's identifier", write(&shadow));
+    // for x = x do if x then iter true else let x = 1 in x: x is free in the test.
+    let shadow = [x, x, [3, 1, 0, 0, 0], [9, 3, 0, 0, 0], one, x, [6, 0, 1, 5, 6], [7, 2, 4, 7, 0], [8, 0, 1, 1, 8]];
+    list.accepted([9, 16, 1, 1], "a body's let that rebinds the loop's identifier", write(&shadow), "T");
 }
 
 /// Sixteen identifiers added, negated so many times, then within so many ifs "if true then .. else 0".
 /// Operators: 15 and the negations; the first if 38; each further one 41, as trigger is then free in its arm.
-fn nest(negations: u32, ifs: u32) -> Rows {
+pub fn nest(negations: u32, ifs: u32) -> Rows {
     let mut rows: Rows = vec![[1, 0, 0, 0, 0]];
     for name in 1..16 {
         let before = rows.len() as u32;
@@ -136,8 +136,8 @@ fn nest(negations: u32, ifs: u32) -> Rows {
 }
 
 pub fn operators(list: &mut List) {
-    list.accepted([49, 53, 16, 1], "one if over sixteen names", write(&nest(0, 1)));
-    list.accepted([146, 1024, 16, 1], "exactly 1,024 operators", write(&nest(28, 24)));
+    list.accepted([49, 53, 16, 1], "one if over sixteen names", write(&nest(0, 1)), &"W".repeat(16));
+    list.accepted([146, 1024, 16, 1], "exactly 1,024 operators", write(&nest(28, 24)), &"W".repeat(16));
     list.refused(10, 0, "1,025 operators", write(&nest(29, 24)));
     list.refused(10, 0, "far more than 1,024 operators", write(&nest(0, 51)));
     let mut rows = nest(28, 24);

@@ -1,32 +1,28 @@
-// Sheets with one planted fault for each refusal 1 to 10, made from accepted sheets.
+// Sheets with one planted fault for each refusal 1 to 10, 17 and 18, made from accepted sheets.
 // Where the way of planting fixes the row that the refusal must give, it is said with the bytes.
 
-use super::sheets::{accepted_sheet, overfull_sheet};
+use super::lines::{bad_line, with_other_letter};
+use super::sheets::{accepted_sheet, overfull_sheet, unkinded_sheet, Made};
 use super::Rng;
 use crate::sheet::{self, Place, Sheet, ROW_BYTES};
 
-/// A sheet's bytes and, where it is known, the row that its refusal gives.
+/// A sheet with its kinds line and, where it is known, the row that its refusal gives.
 pub struct Planted {
-    pub bytes: Vec<u8>,
+    pub made: Made,
     pub row: Option<u32>,
 }
 
-/// A sheet that gets this refusal, 1 to 10.
+/// The refusals that can be planted.
+pub const PLANTABLE: [u32; 12] = [1, 2, 3, 4, 5, 6, 7, 8, 9, 10, 17, 18];
+
+/// A sheet that gets this refusal.
 pub fn plant(number: u32, rng: &mut Rng) -> Planted {
     loop {
-        let bytes = accepted_sheet(rng).bytes;
-        let sheet = sheet::read(&bytes).expect("an accepted sheet");
         let planted = match number {
-            1 => Some(known(bad_rows(bytes, rng), 0)),
-            2 => Some(known(many_rows(&bytes, rng), 0)),
-            3 => Some(bad_field(bytes, rng)),
-            4 => Some(out_of_range(&sheet, rng)),
-            5 => wrongly_named(&sheet, rng),
-            6 => not_once(&sheet, rng),
-            7 => misplaced_iter(&sheet, rng),
-            8 => bad_width(&sheet, rng),
-            9 => not_free(&sheet, rng),
-            _ => Some(known(overfull_sheet(rng), 0)),
+            17 => Some(planted_line(rng)),
+            18 => broken_kinds(rng),
+            10 => Some(Planted { made: overfull_sheet(rng), row: Some(0) }),
+            _ => broken_rows(number, rng),
         };
         if let Some(planted) = planted {
             return planted;
@@ -34,8 +30,70 @@ pub fn plant(number: u32, rng: &mut Rng) -> Planted {
     }
 }
 
-fn known(bytes: Vec<u8>, row: u32) -> Planted {
-    Planted { bytes, row: Some(row) }
+/// The bytes of a sheet at fault and, where it is known, the row.
+struct Broken {
+    bytes: Vec<u8>,
+    row: Option<u32>,
+}
+
+/// 1 to 9: the kinds line, which is tested later, is good or bad.
+fn broken_rows(number: u32, rng: &mut Rng) -> Option<Planted> {
+    let Made { bytes, kinds } = accepted_sheet(rng);
+    let sheet = sheet::read(&bytes, &kinds).expect("an accepted sheet");
+    let broken = match number {
+        1 => Some(known(bad_rows(bytes, rng), 0)),
+        2 => Some(known(many_rows(&bytes, rng), 0)),
+        3 => Some(bad_field(bytes, rng)),
+        4 => Some(out_of_range(&sheet, rng)),
+        5 => wrongly_named(&sheet, rng),
+        6 => not_once(&sheet, rng),
+        7 => misplaced_iter(&sheet, rng),
+        8 => bad_width(&sheet, rng),
+        _ => not_free(&sheet, rng),
+    };
+    let kinds = if rng.chance(50) { kinds } else { bad_line(&kinds, rng) };
+    broken.map(|Broken { bytes, row }| Planted { made: Made { bytes, kinds }, row })
+}
+
+/// 17: a line at fault, also beside rows that break the kinds and beside too many operators.
+fn planted_line(rng: &mut Rng) -> Planted {
+    let mut made = match rng.below(20) {
+        0 => overfull_sheet(rng),
+        1..=4 => unkinded_sheet(rng),
+        _ => accepted_sheet(rng),
+    };
+    made.kinds = bad_line(&made.kinds, rng);
+    Planted { made, row: Some(0) }
+}
+
+/// 18: leaves of another kind, an input of another, a code of another kind; also beside too many operators.
+fn broken_kinds(rng: &mut Rng) -> Option<Planted> {
+    let (made, row) = match rng.below(10) {
+        0..=2 => (unkinded_sheet(rng), None),
+        3 => (with_other_input(overfull_sheet(rng), rng), None),
+        4..=6 => (with_other_input(accepted_sheet(rng), rng), None),
+        _ => other_code(accepted_sheet(rng), rng)?,
+    };
+    (made.refusal() == 18).then_some(Planted { made, row })
+}
+
+fn with_other_input(mut made: Made, rng: &mut Rng) -> Made {
+    made.kinds = with_other_letter(&made.kinds, rng);
+    made
+}
+
+/// A comparison becomes a junction or the other way round: its own row is at fault, and no other, since both give a truth.
+fn other_code(made: Made, rng: &mut Rng) -> Option<(Made, Option<u32>)> {
+    let sheet = made.sheet();
+    let number = some_row(&sheet, rng, |_, row| row[0] == 5 && matches!(row[1], 6..=9))?;
+    let row = rows_of(&sheet)[number as usize - 1];
+    let code = if row[1] < 8 { rng.pick(&[8, 9]) } else { rng.pick(&[6, 7]) };
+    let bytes = with_row(&sheet, number, [5, code, row[2], 0, 0]);
+    Some((Made { bytes, kinds: made.kinds }, Some(number)))
+}
+
+fn known(bytes: Vec<u8>, row: u32) -> Broken {
+    Broken { bytes, row: Some(row) }
 }
 
 fn rows_of(sheet: &Sheet) -> Vec<[u32; 5]> {
@@ -77,7 +135,7 @@ fn many_rows(bytes: &[u8], rng: &mut Rng) -> Vec<u8> {
     bytes.iter().copied().cycle().take(rows * ROW_BYTES).collect()
 }
 
-fn bad_field(mut bytes: Vec<u8>, rng: &mut Rng) -> Planted {
+fn bad_field(mut bytes: Vec<u8>, rng: &mut Rng) -> Broken {
     let row = rng.below(bytes.len() / ROW_BYTES);
     let start = row * ROW_BYTES + rng.below(5) * 6;
     let field = &mut bytes[start..start + 6];
@@ -99,7 +157,7 @@ fn bad_field(mut bytes: Vec<u8>, rng: &mut Rng) -> Planted {
     known(bytes, row as u32 + 1)
 }
 
-fn out_of_range(sheet: &Sheet, rng: &mut Rng) -> Planted {
+fn out_of_range(sheet: &Sheet, rng: &mut Rng) -> Broken {
     let number = rng.between(1, sheet.last() as usize) as u32;
     let row = rows_of(sheet)[number as usize - 1];
     let unlisted: &[usize] = match row[0] {
@@ -134,14 +192,14 @@ fn naming_fields(kind: u32) -> &'static [usize] {
     }
 }
 
-fn wrongly_named(sheet: &Sheet, rng: &mut Rng) -> Option<Planted> {
+fn wrongly_named(sheet: &Sheet, rng: &mut Rng) -> Option<Broken> {
     let number = some_row(sheet, rng, |_, row| !naming_fields(row[0]).is_empty())?;
     let mut row = rows_of(sheet)[number as usize - 1];
     row[rng.pick(naming_fields(row[0]))] = rng.pick(&[0, number, number + 1, 201, 999_999]);
     Some(known(with_row(sheet, number, row), number))
 }
 
-fn not_once(sheet: &Sheet, rng: &mut Rng) -> Option<Planted> {
+fn not_once(sheet: &Sheet, rng: &mut Rng) -> Option<Broken> {
     let number = some_row(sheet, rng, |number, row| number > 2 && !naming_fields(row[0]).is_empty())?;
     let mut row = rows_of(sheet)[number as usize - 1];
     let field = rng.pick(naming_fields(row[0]));
@@ -151,7 +209,7 @@ fn not_once(sheet: &Sheet, rng: &mut Rng) -> Option<Planted> {
     (new != old).then(|| known(with_row(sheet, number, row), old.min(new)))
 }
 
-fn misplaced_iter(sheet: &Sheet, rng: &mut Rng) -> Option<Planted> {
+fn misplaced_iter(sheet: &Sheet, rng: &mut Rng) -> Option<Broken> {
     if rng.chance(30) && sheet.last() < 200 {
         let mut rows = rows_of(sheet);
         rows.push([9, sheet.last(), 0, 0, 0]);
@@ -163,7 +221,7 @@ fn misplaced_iter(sheet: &Sheet, rng: &mut Rng) -> Option<Planted> {
     Some(known(with_row(sheet, number, [9, row[2], 0, 0, 0]), number))
 }
 
-fn bad_width(sheet: &Sheet, rng: &mut Rng) -> Option<Planted> {
+fn bad_width(sheet: &Sheet, rng: &mut Rng) -> Option<Broken> {
     let number = some_row(sheet, rng, |_, row| matches!(row[0], 5 | 6 | 8 | 9))?;
     let row = rows_of(sheet)[number as usize - 1];
     let mut changed = row;
@@ -179,7 +237,7 @@ fn bad_width(sheet: &Sheet, rng: &mut Rng) -> Option<Planted> {
 }
 
 /// Gives an iter one value too many, by two rows before it. The fault shows at an if or for above.
-fn wider_iter(sheet: &Sheet, iter: u32, rng: &mut Rng) -> Option<Planted> {
+fn wider_iter(sheet: &Sheet, iter: u32, rng: &mut Rng) -> Option<Broken> {
     if sheet.last() > 198 {
         return None;
     }
@@ -195,10 +253,10 @@ fn wider_iter(sheet: &Sheet, iter: u32, rng: &mut Rng) -> Option<Planted> {
         }
         rows.push(row);
     }
-    Some(Planted { bytes: sheet::write(&rows), row: None })
+    Some(Broken { bytes: sheet::write(&rows), row: None })
 }
 
-fn not_free(sheet: &Sheet, rng: &mut Rng) -> Option<Planted> {
+fn not_free(sheet: &Sheet, rng: &mut Rng) -> Option<Broken> {
     let number = some_row(sheet, rng, |_, row| matches!(row[0], 6 | 8))?;
     let mut row = rows_of(sheet)[number as usize - 1];
     row[1] = rng.between(0, 32 - row[2] as usize) as u32;
@@ -215,12 +273,12 @@ mod tests {
     fn each_planted_fault_gets_its_refusal_and_row() {
         let mut rng = Rng::new(5);
         for case in 0..2000 {
-            let number = case % 10 + 1;
-            let planted = plant(number, &mut rng);
-            let refusal = sheet::read(&planted.bytes).expect_err("a planted fault");
-            let text = String::from_utf8_lossy(&planted.bytes).into_owned();
+            let number = PLANTABLE[case % PLANTABLE.len()];
+            let Planted { made, row } = plant(number, &mut rng);
+            let refusal = sheet::read(&made.bytes, &made.kinds).expect_err("a planted fault");
+            let text = String::from_utf8_lossy(&made.bytes).into_owned();
             assert_eq!(refusal.number, number, "{text}");
-            if let Some(row) = planted.row {
+            if let Some(row) = row {
                 assert_eq!(refusal.row, row, "{number}\n{text}");
             }
         }

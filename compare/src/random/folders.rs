@@ -1,8 +1,10 @@
-// Random folders for the program bench: a formula file and a set file, each missing, sound, or at fault in one of the ways that the program tells
-// apart. Sets that keep a loop going for long are dropped from most folders: a million firings cost more than everything else.
+// Random folders for the program bench: a formula file, a kinds file and a set file, each missing, sound, or at fault in one of the ways that the program
+// tells apart. Sets that keep a loop going for long are dropped from most folders: a million firings cost more than everything else.
 
-use super::faults::plant;
-use super::{accepted_sheet, heavy_sheet, loose_sheet, mutate, random_set, renamed_sheet, Made, Rng, Sort};
+use super::faults::{plant, PLANTABLE};
+use super::lines::{bad_line, likely_line, with_other_letter};
+use super::turns::altered_sheet;
+use super::{accepted_sheet, fitting_set, heavy_sheet, loose_sheet, random_value, renamed_sheet, Made, Rng};
 use crate::bench::{write_set, FIELD, MOST_SET_BYTES};
 use crate::eval;
 use crate::sheet::{self, Sheet, ROW_BYTES};
@@ -14,45 +16,60 @@ const ROUNDS: u32 = 300;
 /// How many folders in a hundred keep such sets.
 const KEPT: usize = 30;
 
-/// The bytes of the two files, none where a file is missing, and how each was made.
+/// The bytes of the three files, none where a file is missing, and how each was made.
 pub struct Folder {
     pub formula: Option<Vec<u8>>,
+    pub kinds: Option<Vec<u8>>,
     pub sets: Option<Vec<u8>>,
-    pub kinds: [&'static str; 2],
+    pub made: [&'static str; 3],
 }
 
 pub fn random_folder(rng: &mut Rng) -> Folder {
-    let (mut formula_kind, made) = random_formula(rng);
-    let (sets_kind, sets) = match sheet::read(&made.bytes) {
+    let (mut formula_made, made) = random_formula(rng);
+    let (sets_made, sets) = match sheet::read(&made.bytes, &made.kinds) {
         Ok(sheet) => {
-            formula_kind = if sheet.figures.inputs == 0 { "without inputs" } else { formula_kind };
-            random_sets(&made, &sheet, rng)
+            formula_made = if sheet.figures.inputs == 0 { "without inputs" } else { formula_made };
+            random_sets(&sheet, rng)
         }
         Err(_) => ("of a refused sheet", loose_sets(rng)),
     };
+    let (kinds_made, kinds) = random_kinds(&made.kinds, rng);
     let (no_formula, no_sets) = (rng.chance(1), rng.chance(2));
     Folder {
-        kinds: [if no_formula { "missing" } else { formula_kind }, if no_sets { "missing" } else { sets_kind }],
+        made: [
+            if no_formula { "missing" } else { formula_made },
+            kinds_made,
+            if no_sets { "missing" } else { sets_made },
+        ],
         formula: (!no_formula).then_some(made.bytes),
+        kinds,
         sets: (!no_sets).then_some(sets),
     }
 }
 
+fn random_kinds(good: &[u8], rng: &mut Rng) -> (&'static str, Option<Vec<u8>>) {
+    match rng.below(100) {
+        0 => ("missing", None),
+        1 | 2 => ("at fault", Some(bad_line(good, rng))),
+        3 | 4 => ("another letter", Some(with_other_letter(good, rng))),
+        _ => ("of the sheet", Some(good.to_vec())),
+    }
+}
+
 fn random_formula(rng: &mut Rng) -> (&'static str, Made) {
-    let unsorted = |bytes| Made { bytes, sorts: [Sort::Whole; 32] };
     match rng.below(100) {
         0..=2 => ("many operators", heavy_sheet(rng)),
-        3..=12 => ("planted fault", unsorted(plant(rng.between(1, 10) as u32, rng).bytes)),
-        13..=16 => ("altered bytes", unsorted(mutate(&accepted_sheet(rng).bytes, rng))),
-        17..=20 => ("over 6,200 bytes", unsorted(long_sheet(rng))),
-        21..=23 => ("other names", unsorted(renamed_sheet(rng))),
-        24..=26 => ("loose rows", unsorted(loose_sheet(rng))),
+        3..=13 => ("planted fault", plant(rng.pick(&PLANTABLE), rng).made),
+        14..=16 => ("altered bytes", altered_sheet(rng)),
+        17..=20 => ("over 6,200 bytes", long_sheet(rng)),
+        21..=23 => ("other names", renamed_sheet(rng)),
+        24..=26 => ("loose rows", loose_sheet(rng)),
         _ => ("accepted", accepted_sheet(rng)),
     }
 }
 
 /// Over 200 rows, so over 6,200 bytes; often with a line feed missing or a byte too many, anywhere.
-fn long_sheet(rng: &mut Rng) -> Vec<u8> {
+fn long_sheet(rng: &mut Rng) -> Made {
     let rows = rng.pick(&[201, 202, 300, 2_315, 2_400, 4_500]);
     let mut bytes: Vec<u8> = accepted_sheet(rng).bytes.into_iter().cycle().take(rows * ROW_BYTES).collect();
     let place = rng.below(bytes.len());
@@ -63,10 +80,10 @@ fn long_sheet(rng: &mut Rng) -> Vec<u8> {
         3 => bytes[place] = rng.pick(b" 0\n\0"),
         _ => {}
     }
-    bytes
+    Made { kinds: likely_line(&bytes, b"", rng), bytes }
 }
 
-fn random_sets(made: &Made, sheet: &Sheet, rng: &mut Rng) -> (&'static str, Vec<u8>) {
+fn random_sets(sheet: &Sheet, rng: &mut Rng) -> (&'static str, Vec<u8>) {
     let line = FIELD * sheet.figures.inputs as usize + 1;
     let (kind, lines) = match rng.below(100) {
         0 | 1 => ("none", 0),
@@ -75,12 +92,28 @@ fn random_sets(made: &Made, sheet: &Sheet, rng: &mut Rng) -> (&'static str, Vec<
         95 | 96 => ("as many as fit", MOST_SET_BYTES / line),
         _ => ("more than fit", MOST_SET_BYTES / line + rng.pick(&[1, 1, 2, 500])),
     };
-    let mut sets: Vec<Vec<Value>> = (0..lines).map(|_| random_set(made, sheet, rng)).collect();
+    let mut sets: Vec<Vec<Value>> = (0..lines).map(|_| fitting_set(sheet, rng)).collect();
     if kind != "more than fit" {
         part_long(&mut sets, sheet, rng);
     }
-    let mut text: Vec<u8> = sets.iter().flat_map(|set| write_set(set).into_bytes()).collect();
+    if rng.chance(5) {
+        another_kind(&mut sets, sheet, rng);
+        return ("another kind", text_of(&sets));
+    }
+    let mut text = text_of(&sets);
     (if rng.chance(25) { spoil(&mut text, line, rng) } else { kind }, text)
+}
+
+fn text_of(sets: &[Vec<Value>]) -> Vec<u8> {
+    sets.iter().flat_map(|set| write_set(set).into_bytes()).collect()
+}
+
+/// Puts a value of another kind, or an err, in the place of any.
+fn another_kind(sets: &mut [Vec<Value>], sheet: &Sheet, rng: &mut Rng) {
+    if !sets.is_empty() && !sheet.sorts.is_empty() {
+        let (set, place) = (rng.below(sets.len()), rng.below(sheet.sorts.len()));
+        sets[set][place] = random_value(sheet.sorts[place].other(), rng);
+    }
 }
 
 /// Drops the sets that keep a loop going for long, or leaves them, or puts them last, so that results come before a 36.
@@ -181,15 +214,16 @@ mod tests {
         let mut seen: BTreeMap<u32, u32> = BTreeMap::new();
         for case in 0..2_000 {
             let folder = random_folder(&mut Rng::new(case));
-            let (formula, sets) = (folder.formula.unwrap_or_default(), folder.sets.unwrap_or_default());
-            let refusal = match sheet::read(&formula) {
+            let (formula, kinds) = (folder.formula.unwrap_or_default(), folder.kinds.unwrap_or_default());
+            let sets = folder.sets.unwrap_or_default();
+            let refusal = match sheet::read(&formula, &kinds) {
                 Err(refusal) => refusal.number,
                 Ok(_) if sets.len() > MOST_SET_BYTES => 13,
-                Ok(sheet) => read_sets(&sets, sheet.figures.inputs as usize).err().map_or(0, |refusal| refusal.number),
+                Ok(sheet) => read_sets(&sets, &sheet.sorts).err().map_or(0, |refusal| refusal.number),
             };
             *seen.entry(refusal).or_default() += 1;
         }
-        for refusal in [0, 1, 2, 3, 4, 5, 6, 7, 8, 9, 10, 12, 13] {
+        for refusal in [0, 1, 2, 3, 4, 5, 6, 7, 8, 9, 10, 12, 13, 17, 18] {
             assert!(seen.get(&refusal).is_some_and(|&count| count >= 10), "{refusal}: {seen:?}");
         }
         assert!(seen[&0] > 1_000, "{seen:?}");

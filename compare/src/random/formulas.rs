@@ -1,16 +1,10 @@
-// Random formulas that pass tests 1 to 9 by the way they are made: widths are asked for, and the identifiers that a
-// let or for binds are handed down as names that must be used. Sorts of values are only a hint, so that most results
-// are no err; most loops count down, so that most evaluations end.
+// Random formulas that pass tests 1 to 9 by the way they are made: widths and kinds are asked for, and the identifiers that
+// a let or for binds are handed down as names that must be used. Where no leaf is of the wrong kind they pass test 18 too.
+// Most loops count down, so that most evaluations end.
 
 use super::tree::Tree;
 use super::Rng;
-
-/// The kind of value that a place is made for.
-#[derive(Clone, Copy, PartialEq, Eq, Debug)]
-pub enum Sort {
-    Whole,
-    Truth,
-}
+use crate::value::Sort;
 
 /// The identifiers in use, by the sort of their values.
 pub type Scope = [Option<Sort>; 32];
@@ -72,7 +66,7 @@ impl Maker<'_> {
         let sort = if self.rng.chance(self.wrong) { self.rng.pick(&[Sort::Whole, Sort::Truth]) } else { sort };
         let names: Vec<u32> = (0..32).filter(|&name| scope[name as usize] == Some(sort)).collect();
         if !names.is_empty() && self.rng.chance(70) {
-            return Tree::Identifier(self.rng.pick(&names));
+            return Tree::Identifier(self.rng.pick(&names), sort);
         }
         match sort {
             Sort::Truth => Tree::Truth(self.rng.chance(50)),
@@ -83,10 +77,11 @@ impl Maker<'_> {
 
     /// A name as a value of this sort, over a test or a comparison where it is of the other.
     fn name_as(&mut self, name: u32, sort: Sort, scope: &Scope) -> Tree {
-        let identifier = Tree::Identifier(name);
-        match (scope[name as usize], sort) {
-            (Some(Sort::Truth), Sort::Whole) => Tree::choose(identifier, Tree::Whole(1), Tree::Whole(0)),
-            (Some(Sort::Whole), Sort::Truth) => Tree::on_two(6, identifier, Tree::Whole(self.rng.below(6) as u32)),
+        let has = scope[name as usize].unwrap_or(sort);
+        let identifier = Tree::Identifier(name, has);
+        match (has, sort) {
+            (Sort::Truth, Sort::Whole) => Tree::choose(identifier, Tree::Whole(1), Tree::Whole(0)),
+            (Sort::Whole, Sort::Truth) => Tree::on_two(6, identifier, Tree::Whole(self.rng.below(6) as u32)),
             _ => identifier,
         }
     }
@@ -231,8 +226,9 @@ impl Maker<'_> {
         if more && self.rng.chance(20) {
             return self.binding(Some(around.first), must, scope, |maker, must, inner| {
                 let mut around = around.clone();
-                // A let that rebinds the counter: now and then the loop counts down no more, and need not end.
-                if around.counter.is_some_and(|name| must.contains(&name)) && maker.rng.chance(30) {
+                // A let that rebinds the counter: to a truth, or now and then, the loop counts down no more, and need not end.
+                let rebound = around.counter.filter(|name| must.contains(name));
+                if rebound.is_some_and(|name| inner[name as usize] == Some(Sort::Truth) || maker.rng.chance(30)) {
                     around.counter = None;
                 }
                 maker.body(&around, must, inner, endings)
@@ -261,7 +257,7 @@ impl Maker<'_> {
                 yes.iter = endings.iter;
                 no.may_iter = false;
                 let least = Tree::Whole(self.rng.below(3) as u32);
-                let guard = Tree::on_two(6, least, Tree::Identifier(name));
+                let guard = Tree::on_two(6, least, Tree::Identifier(name, Sort::Whole));
                 match parts[0].is_empty() {
                     true => guard,
                     false => Tree::on_two(8, guard, self.least(&[Sort::Truth], &parts[0], scope)),
@@ -291,7 +287,7 @@ impl Maker<'_> {
         let Some(counter) = around.counter else {
             return self.expression(&around.iterated, must, scope);
         };
-        let less = Tree::on_two(2, Tree::Identifier(counter), Tree::Whole(1));
+        let less = Tree::on_two(2, Tree::Identifier(counter, Sort::Whole), Tree::Whole(1));
         let rest = &around.iterated[1..];
         if !rest.is_empty() {
             return Tree::pair(less, self.expression(rest, must, scope));

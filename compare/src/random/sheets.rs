@@ -1,30 +1,57 @@
-// Random sheets: accepted ones, ones with nearly as many operators as are allowed, ones with more, ones with other
-// names, and rows without heed of the rules. Tests 1 to 9 hold for the first three by the way they are made.
+// Random sheets: accepted ones, ones with nearly as many operators as are allowed, ones with more, ones that break the
+// kinds, ones with other names, and rows without heed of the rules. Tests 1 to 9 hold for the first four by the way they
+// are made, 17 and 18 for the first three.
 
-use super::formulas::{random_expression, random_sorts, Scope, Sort};
+use super::formulas::{random_expression, random_sorts, Scope};
+use super::lines::likely_line;
 use super::tree::{rows, Tree};
 use super::Rng;
-use crate::sheet;
+use crate::sheet::{self, MOST_OPERATORS, MOST_ROWS};
+use crate::value::Sort;
 
-/// A sheet with the sort of value that each input is made for.
+/// A sheet with its kinds line.
 #[derive(Clone, Debug)]
 pub struct Made {
     pub bytes: Vec<u8>,
-    pub sorts: [Sort; 32],
+    pub kinds: Vec<u8>,
+}
+
+impl Made {
+    /// The number of its refusal, 0 where it is accepted.
+    pub fn refusal(&self) -> u32 {
+        sheet::read(&self.bytes, &self.kinds).err().map_or(0, |refusal| refusal.number)
+    }
+
+    /// Its sheet, where it is accepted.
+    pub fn sheet(&self) -> sheet::Sheet {
+        sheet::read(&self.bytes, &self.kinds).expect("an accepted sheet")
+    }
 }
 
 /// A random accepted sheet of any size.
 pub fn accepted_sheet(rng: &mut Rng) -> Made {
     loop {
-        let (tree, sorts) = random_tree(rng);
+        let (tree, sorts) = random_tree(0, rng);
         if let Some(made) = made(tree, sorts, rng) {
             return made;
         }
     }
 }
 
-/// A random formula and the sorts of its inputs. It may have too many rows or operators.
-fn random_tree(rng: &mut Rng) -> (Tree, [Sort; 32]) {
+/// A random sheet that breaks the kinds: it passes tests 1 to 9 and 17, and gets 18.
+pub fn unkinded_sheet(rng: &mut Rng) -> Made {
+    loop {
+        let wrong = rng.pick(&[3, 10, 30]);
+        let (tree, sorts) = random_tree(wrong, rng);
+        let made = laid_out(&tree, sorts, rng.chance(70), rng);
+        if made.refusal() == 18 {
+            return made;
+        }
+    }
+}
+
+/// A random formula and the kinds of its inputs; so many leaves in a hundred may be of another kind. It may have too many rows or operators.
+fn random_tree(wrong: usize, rng: &mut Rng) -> (Tree, [Sort; 32]) {
     let sorts: [Sort; 32] = std::array::from_fn(|_| rng.pick(&[Sort::Whole, Sort::Whole, Sort::Truth]));
     let many = rng.pick(&[0, 1, 2, 3, 4, 6, 32]);
     let mut scope: Scope = [None; 32];
@@ -33,7 +60,6 @@ fn random_tree(rng: &mut Rng) -> (Tree, [Sort; 32]) {
         scope[name] = Some(sorts[name]);
     }
     let fuel = rng.pick(&[1, 3, 10, 25, 50, 80, 120]);
-    let wrong = rng.pick(&[0, 0, 3, 10]);
     let width = rng.pick(&[1, 1, 1, 1, 2, 3, 4, 8, 15, 16]);
     let results = random_sorts(width, rng);
     let mut tree = random_expression(&results, Vec::new(), &scope, fuel, wrong, rng);
@@ -44,17 +70,25 @@ fn random_tree(rng: &mut Rng) -> (Tree, [Sort; 32]) {
     (tree, sorts)
 }
 
+/// The sheet of a tree with the kinds line of its inputs.
+fn laid_out(tree: &Tree, sorts: [Sort; 32], shuffled: bool, rng: &mut Rng) -> Made {
+    let bytes = sheet::write(&rows(tree, shuffled, rng));
+    let names = sheet::input_names(&bytes).unwrap_or_default();
+    let kinds = crate::kinds::write_line(&names.iter().map(|&name| sorts[name as usize]).collect::<Vec<_>>());
+    Made { bytes, kinds }
+}
+
 /// The sheet of a tree; nothing if it has too many rows or operators.
 fn made(tree: Tree, sorts: [Sort; 32], rng: &mut Rng) -> Option<Made> {
-    if tree.size() > sheet::MOST_ROWS {
+    if tree.size() > MOST_ROWS {
         return None;
     }
     let shuffled = rng.chance(70);
-    let bytes = sheet::write(&rows(&tree, shuffled, rng));
-    match sheet::read(&bytes) {
-        Ok(_) => Some(Made { bytes, sorts }),
-        Err(refusal) => {
-            assert_eq!(refusal.number, 10, "{}", String::from_utf8_lossy(&bytes));
+    let made = laid_out(&tree, sorts, shuffled, rng);
+    match made.refusal() {
+        0 => Some(made),
+        refusal => {
+            assert_eq!(refusal, 10, "{}", String::from_utf8_lossy(&made.bytes));
             None
         }
     }
@@ -68,7 +102,7 @@ fn pad(tree: &mut Tree, extra: usize, rng: &mut Rng) {
         let mut chosen = rng.below(leaves) as isize;
         tree.each_leaf(&mut |leaf| {
             if chosen == 0 {
-                let code = if matches!(leaf, Tree::Truth(_)) { 10 } else { 11 };
+                let code = if leaf.sort() == Some(Sort::Truth) { 10 } else { 11 };
                 *leaf = Tree::operator(code, leaf.clone());
             }
             chosen -= 1;
@@ -79,38 +113,40 @@ fn pad(tree: &mut Tree, extra: usize, rng: &mut Rng) {
 /// A random sheet with nearly 1,024 operators, or exactly so many.
 pub fn heavy_sheet(rng: &mut Rng) -> Made {
     loop {
-        let (tree, sorts) = heavy_tree(sheet::MOST_OPERATORS as usize, rng);
-        if let Some(made) = made(tree, sorts, rng) {
+        let tree = heavy_tree(MOST_OPERATORS as usize, rng);
+        if let Some(made) = made(tree, HEAVY_SORTS, rng) {
             return made;
         }
     }
 }
 
-/// A random sheet with more than 1,024 operators, often by one only; it passes tests 1 to 9.
-pub fn overfull_sheet(rng: &mut Rng) -> Vec<u8> {
+/// A random sheet with more than 1,024 operators, often by one only; it passes all other tests.
+pub fn overfull_sheet(rng: &mut Rng) -> Made {
     loop {
-        let (mut tree, _) = heavy_tree(sheet::MOST_OPERATORS as usize, rng);
+        let mut tree = heavy_tree(MOST_OPERATORS as usize, rng);
         pad(&mut tree, 1, rng);
-        while tree.size() < 200 && sheet::read(&sheet::write(&rows(&tree, false, rng))).is_ok() {
+        while tree.size() < MOST_ROWS && laid_out(&tree, HEAVY_SORTS, false, rng).refusal() == 0 {
             pad(&mut tree, 1, rng);
         }
-        let bytes = sheet::write(&rows(&tree, true, rng));
-        if tree.size() <= 200 && sheet::read(&bytes).is_err() {
-            return bytes;
+        let made = laid_out(&tree, HEAVY_SORTS, true, rng);
+        if made.refusal() == 10 {
+            return made;
         }
     }
 }
 
+/// The kinds of the names of a sheet with many operators.
+const HEAVY_SORTS: [Sort; 32] = [Sort::Whole; 32];
+
 /// Wraps a formula of many names in ifs and loops, each of which gates every name, and pads it up to so many operators.
-fn heavy_tree(most: usize, rng: &mut Rng) -> (Tree, [Sort; 32]) {
-    let sorts = [Sort::Whole; 32];
+fn heavy_tree(most: usize, rng: &mut Rng) -> Tree {
     let width = rng.pick(&[1, 1, 2, 5]);
     let must: Vec<u32> = (0..rng.between(12, 32) as u32).collect();
     let fuel = rng.between(1, 12) as i32;
     let results = random_sorts(width, rng);
-    let mut tree = random_expression(&results, must, &[Some(Sort::Whole); 32], fuel, 0, rng);
+    let mut tree = random_expression(&results, must, &HEAVY_SORTS.map(Some), fuel, 0, rng);
     for _ in 0..60 {
-        let wrapped = wrap(&tree, width, rng);
+        let wrapped = wrap(&tree, &results, rng);
         if wrapped.size() <= 190 && operators_of(&wrapped, rng) <= most {
             tree = wrapped;
         }
@@ -118,33 +154,45 @@ fn heavy_tree(most: usize, rng: &mut Rng) -> (Tree, [Sort; 32]) {
     let room = (most - operators_of(&tree, rng).min(most)).min(200 - tree.size().min(200));
     let extra = if rng.chance(70) { room } else { rng.below(room + 1) };
     pad(&mut tree, extra, rng);
-    (tree, sorts)
+    tree
 }
 
 fn operators_of(tree: &Tree, rng: &mut Rng) -> usize {
-    match sheet::read(&sheet::write(&rows(tree, false, rng))) {
+    let made = laid_out(tree, HEAVY_SORTS, false, rng);
+    match sheet::read(&made.bytes, &made.kinds) {
         Ok(sheet) => sheet.figures.operators as usize,
         Err(_) => usize::MAX,
     }
 }
 
-fn wrap(tree: &Tree, width: usize, rng: &mut Rng) -> Tree {
-    let mut other = Tree::Whole(1);
-    for _ in 1..width {
-        other = Tree::pair(other, Tree::Identifier(rng.below(32) as u32));
+/// A leaf of this kind: a name, where that is one of the names' kind.
+fn heavy_leaf(sort: Sort, rng: &mut Rng) -> Tree {
+    match sort {
+        Sort::Whole => Tree::Identifier(rng.below(32) as u32, Sort::Whole),
+        Sort::Truth => Tree::Truth(rng.chance(50)),
+    }
+}
+
+fn wrap(tree: &Tree, results: &[Sort], rng: &mut Rng) -> Tree {
+    let mut other = match results[0] {
+        Sort::Whole => Tree::Whole(1),
+        Sort::Truth => Tree::Truth(true),
+    };
+    for &sort in &results[1..] {
+        other = Tree::pair(other, heavy_leaf(sort, rng));
     }
     let name = rng.below(32) as u32;
     let test = match rng.chance(60) {
         true => Tree::Truth(rng.chance(50)),
-        false => Tree::on_two(6, Tree::Identifier(name), Tree::Whole(rng.below(5) as u32)),
+        false => Tree::on_two(6, Tree::Identifier(name, Sort::Whole), Tree::Whole(rng.below(5) as u32)),
     };
     match rng.below(8) {
         0..=2 => Tree::choose(test, tree.clone(), other),
         3..=5 => Tree::choose(test, other, tree.clone()),
         6 if tree.size() < 80 => Tree::choose(test, tree.clone(), tree.clone()),
         _ => {
-            let next = Tree::on_two(2, Tree::Identifier(name), Tree::Whole(1));
-            let counted = Tree::on_two(6, Tree::Whole(0), Tree::Identifier(name));
+            let next = Tree::on_two(2, Tree::Identifier(name, Sort::Whole), Tree::Whole(1));
+            let counted = Tree::on_two(6, Tree::Whole(0), Tree::Identifier(name, Sort::Whole));
             let body = Tree::choose(counted, Tree::Iter(Box::new(next)), tree.clone());
             Tree::For(name, 1, Box::new(Tree::Whole(rng.below(3) as u32)), Box::new(body))
         }
@@ -152,10 +200,10 @@ fn wrap(tree: &Tree, width: usize, rng: &mut Rng) -> Tree {
 }
 
 /// An accepted sheet with some identifiers exchanged for others, where they are used and where they are bound.
-/// It passes tests 1 to 8; whether it passes 9 and 10 is open.
-pub fn renamed_sheet(rng: &mut Rng) -> Vec<u8> {
-    let bytes = accepted_sheet(rng).bytes;
-    let sheet = sheet::read(&bytes).expect("an accepted sheet");
+/// It passes tests 1 to 8; whether it passes the others is open.
+pub fn renamed_sheet(rng: &mut Rng) -> Made {
+    let made = accepted_sheet(rng);
+    let sheet = made.sheet();
     let mut rows: Vec<sheet::Row> = sheet.lines.iter().map(|line| line.row).collect();
     let share = rng.pick(&[2, 10, 40]);
     let names = rng.pick(&[2, 4, 32]);
@@ -168,11 +216,12 @@ pub fn renamed_sheet(rng: &mut Rng) -> Vec<u8> {
             }
         }
     }
-    rows.iter().map(sheet::write_row).collect::<String>().into_bytes()
+    let bytes = rows.iter().map(sheet::write_row).collect::<String>().into_bytes();
+    Made { kinds: likely_line(&bytes, &made.kinds, rng), bytes }
 }
 
 /// A random tree of rows with fields in their ranges, each row named once, and no heed of places, widths or names.
-pub fn loose_sheet(rng: &mut Rng) -> Vec<u8> {
+pub fn loose_sheet(rng: &mut Rng) -> Made {
     let mut rows: Vec<[u32; 5]> = Vec::new();
     let mut unnamed: Vec<u32> = Vec::new();
     let wanted = rng.between(1, 30);
@@ -196,7 +245,8 @@ pub fn loose_sheet(rng: &mut Rng) -> Vec<u8> {
         rows.push(loose_row(kind, &named, rng));
         unnamed.push(rows.len() as u32);
     }
-    sheet::write(&rows)
+    let bytes = sheet::write(&rows);
+    Made { kinds: likely_line(&bytes, b"", rng), bytes }
 }
 
 fn loose_row(kind: u32, named: &[u32], rng: &mut Rng) -> [u32; 5] {

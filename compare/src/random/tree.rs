@@ -2,10 +2,12 @@
 // Assumes trees of at most a few hundred parts.
 
 use super::Rng;
+use crate::value::Sort;
 
 #[derive(Clone, Debug)]
 pub enum Tree {
-    Identifier(u32),
+    /// An identifier with the kind of its value.
+    Identifier(u32, Sort),
     Whole(u32),
     Truth(bool),
     Pair(Box<Tree>, Box<Tree>),
@@ -36,10 +38,20 @@ impl Tree {
 
     fn children(&self) -> Vec<&Tree> {
         match self {
-            Tree::Identifier(_) | Tree::Whole(_) | Tree::Truth(_) => vec![],
+            Tree::Identifier(..) | Tree::Whole(_) | Tree::Truth(_) => vec![],
             Tree::Operator(_, one) | Tree::Iter(one) => vec![one],
             Tree::Pair(one, two) | Tree::Let(_, _, one, two) | Tree::For(_, _, one, two) => vec![one, two],
             Tree::If(one, two, three) => vec![one, two, three],
+        }
+    }
+
+    /// The kind of a leaf.
+    pub fn sort(&self) -> Option<Sort> {
+        match *self {
+            Tree::Identifier(_, sort) => Some(sort),
+            Tree::Whole(_) => Some(Sort::Whole),
+            Tree::Truth(_) => Some(Sort::Truth),
+            _ => None,
         }
     }
 
@@ -50,7 +62,7 @@ impl Tree {
     /// The five fields, given the rows of the children.
     fn fields(&self, rows: &[u32]) -> [u32; 5] {
         match *self {
-            Tree::Identifier(name) => [1, name, 0, 0, 0],
+            Tree::Identifier(name, _) => [1, name, 0, 0, 0],
             Tree::Whole(number) => [2, number, 0, 0, 0],
             Tree::Truth(truth) => [3, truth.into(), 0, 0, 0],
             Tree::Pair(..) => [4, rows[0], rows[1], 0, 0],
@@ -65,7 +77,7 @@ impl Tree {
     /// Calls on every leaf, from the left.
     pub fn each_leaf(&mut self, call: &mut impl FnMut(&mut Tree)) {
         match self {
-            Tree::Identifier(_) | Tree::Whole(_) | Tree::Truth(_) => call(self),
+            Tree::Identifier(..) | Tree::Whole(_) | Tree::Truth(_) => call(self),
             Tree::Operator(_, one) | Tree::Iter(one) => one.each_leaf(call),
             Tree::Pair(one, two) | Tree::Let(_, _, one, two) | Tree::For(_, _, one, two) => {
                 one.each_leaf(call);

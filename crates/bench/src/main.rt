@@ -1,4 +1,4 @@
-// The bench program (document 01, "Program and readings"): formula.txt and sets.txt of the working directory.
+// The bench program (document 01, "Program and readings"): formula.txt, kinds.txt and sets.txt of the working directory.
 fn main() {
-    session_run::run(b"formula.txt", b"sets.txt");
+    session_run::run(b"formula.txt", b"kinds.txt", b"sets.txt");
 }

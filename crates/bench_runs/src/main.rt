@@ -1,7 +1,8 @@
-// Stored runs of the bench program: each line of data/runs.txt has the paths of a run's two files, with a space between, and
+// Stored runs of the bench program: each line of data/runs.txt has the paths of a run's three files, with a space between, and
 // what the runs must print stands in stdout, one after the other. In their order: accepted sheets and sets; a sheet at
-// fault; a field that is no value; a line of another length, or unended; files that are missing, cannot be read or are too
-// long; a million firings, and more. Folder `missing` has no file; in `folders` the files are folders.
+// fault; a kinds line at fault, and rows that break the kinds; a field that is no value, or of another kind; a line of another
+// length, or unended; files that are missing, cannot be read or are too long; a million firings, and more. Folder `missing` has
+// no file; in `folders` the files are folders; a folder `kinds_` may have only the file that differs.
 // What `million_one`, `behind_endless` and `starved` print before their 36 rests on the numbering of docs/NUMBERING.md.
 ghost use Prim.Native.Nat.{_≤_};
 ghost use lib.ListN.{length};
@@ -30,9 +31,14 @@ fn run_all(list: &[u8]) {
         if space == list.len() {
             return;
         }
-        let file = space + 1;
+        let kinds = space + 1;
+        let second = next(list, kinds, b' ');
+        if second == list.len() {
+            return;
+        }
+        let file = second + 1;
         let end = next(list, file, b'\n');
-        run(&list[at..space], &list[file..end]);
+        run(&list[at..space], &list[kinds..second], &list[file..end]);
         if end == list.len() {
             return;
         }

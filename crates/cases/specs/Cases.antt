@@ -1,5 +1,5 @@
 -- Document 01's marked examples (p), "one list of definitions' outcomes with one proof over the list", and what document 02 asks for: the verdict
--- of Job 2 and the reasons of Job 5. A case is a question and what it gives; a question that a later part answers is one constructor more, in `Question`, `Answer` and `got`.
+-- of Job 2, the reasons of Job 5 and the kinds of Job 6, with which every sheet comes. A case is a question and what it gives; a question that a later part answers is one constructor more, in `Question`, `Answer` and `got`.
 use Prim.Native.Nat.{ℕ}
 use mathlib.Core.Path.{_≡_, refl}
 use mathlib.Core.Bool.{Bool, true, false}
@@ -34,15 +34,15 @@ use Rattle.examples.specs.Sheets.{bytes, lesser, twice, factorial, verdict, zer
 
 -- What can be asked of the definitions.
 pub data Question : Type 0 where
-  -- what reading says of a sheet: its figures, or the first refusal with its row
-  reading : List ℕ → Question
+  -- what reading says of a sheet with a kinds line: its figures, or the first refusal with its row
+  reading : List ℕ → List ℕ → Question
   -- what test 2 alone says of it
   test-2 : List ℕ → Question
   -- how many operators test 10 counts, and how many the translation makes
   counted : List ℕ → Question
   made : List ℕ → Question
-  -- a sheet, a set, and the rounds lent
-  evaluation : List ℕ → List Value → ℕ → Question
+  -- a sheet, its kinds line, a set, and the rounds lent
+  evaluation : List ℕ → List ℕ → List Value → ℕ → Question
   -- a sheet, a capacity, a set, and how often it is pushed from the start
   pushes : List ℕ → ℕ → List Value → ℕ → Question
 
@@ -68,12 +68,12 @@ evaluationSays (Refused r row) e = evaluates (numberOf r) row (e .width) (e .rou
 
 unfoldable pub got : Question → Answer
 unfolding readingOf countE formulaOf madeOf evaluationOf bytesOf pushRefusals marks append ℕ-discrete
-got (reading s) = readingSays (readingOf s)
+got (reading s line) = readingSays (readingOf s line)
 got (test-2 s) = passes (fewRows s)
 got (counted s) = operators (countE (formulaOf s) .operators)
 got (made s) = operators (length (madeOf (formulaOf s) .operators))
-got (evaluation s vs rounds) =
-    let e : Evaluation = evaluationOf s (spelled vs) rounds in
+got (evaluation s line vs rounds) =
+    let e : Evaluation = evaluationOf s line (spelled vs) rounds in
     evaluationSays (e .verdict) e
 got (pushes s capacity vs k) = refusals (pushRefusals (formulaOf s) capacity vs k (startOf (formulaOf s)))
 
@@ -125,48 +125,59 @@ cases =
     -- "this graph has 8 operators", by the count and by the translation
     ∷ case (counted (bytes lesser)) (operators 8)
     ∷ case (made (bytes lesser)) (operators 8)
-    -- "each of the four results"
-    ∷ case (evaluation (bytes lesser) threeAndFive 0) (one (number 3) 0)
-    ∷ case (evaluation (bytes lesser) (number 7 ∷ number 7 ∷ []) 0) (one (number 7) 0)
-    ∷ case (evaluation (bytes lesser) (err ∷ number 2 ∷ []) 0) (one err 0)
-    ∷ case (evaluation (bytes lesser) (Truth true ∷ number 1 ∷ []) 0) (one err 0)
+    -- the results of its sets; document 02: "Sets with another kind are refused with 12, so the lesser-of-two example loses its fourth set"
+    ∷ case (evaluation (bytes lesser) (bytes "WW\n") threeAndFive 0) (one (number 3) 0)
+    ∷ case (evaluation (bytes lesser) (bytes "WW\n") (number 7 ∷ number 7 ∷ []) 0) (one (number 7) 0)
+    ∷ case (evaluation (bytes lesser) (bytes "WW\n") (err ∷ number 2 ∷ []) 0) (one err 0)
+    ∷ case (evaluation (bytes lesser) (bytes "WW\n") (Truth true ∷ number 1 ∷ []) 0) (refusal 12)
     -- "x + x has 2 operators"
     ∷ case (counted (bytes twice)) (operators 2)
     ∷ case (made (bytes twice)) (operators 2)
     -- "n = 5 gives 120 in 5 rounds", also where more are lent; "4 rounds give 36"
-    ∷ case (evaluation (bytes factorial) (number 5 ∷ []) 5) (one (number 120) 5)
-    ∷ case (evaluation (bytes factorial) (number 5 ∷ []) 1000) (one (number 120) 5)
-    ∷ case (evaluation (bytes factorial) (number 5 ∷ []) 4) (refusal 36)
+    ∷ case (evaluation (bytes factorial) (bytes "W\n") (number 5 ∷ []) 5) (one (number 120) 5)
+    ∷ case (evaluation (bytes factorial) (bytes "W\n") (number 5 ∷ []) 1000) (one (number 120) 5)
+    ∷ case (evaluation (bytes factorial) (bytes "W\n") (number 5 ∷ []) 4) (refusal 36)
     -- "n = 0 gives 1", "n = E gives E"
-    ∷ case (evaluation (bytes factorial) (number 0 ∷ []) 1) (one (number 1) 1)
-    ∷ case (evaluation (bytes factorial) (err ∷ []) 1) (one err 1)
+    ∷ case (evaluation (bytes factorial) (bytes "W\n") (number 0 ∷ []) 1) (one (number 1) 1)
+    ∷ case (evaluation (bytes factorial) (bytes "W\n") (err ∷ []) 1) (one err 1)
     -- "n = 12 gives 479,001,600"; document 02: "factorial of 13 gives V"
-    ∷ case (evaluation (bytes factorial) (number 12 ∷ []) 12) (one (number 479001600) 12)
-    ∷ case (evaluation (bytes factorial) (number 13 ∷ []) 13) (one outOfRange 13)
+    ∷ case (evaluation (bytes factorial) (bytes "W\n") (number 12 ∷ []) 12) (one (number 479001600) 12)
+    ∷ case (evaluation (bytes factorial) (bytes "W\n") (number 13 ∷ []) 13) (one outOfRange 13)
     -- "Z zero divisor"; "A test that is no truth gives E, whatever reason it carried": in an expression and in a loop's body
-    ∷ case (evaluation (bytes zeroDivided) [] 0) (two zeroDivisor err)
-    ∷ case (evaluation (bytes factorial) (zeroDivisor ∷ []) 1) (one err 1)
+    ∷ case (evaluation (bytes zeroDivided) (bytes "\n") [] 0) (two zeroDivisor err)
+    ∷ case (evaluation (bytes factorial) (bytes "W\n") (zeroDivisor ∷ []) 1) (one err 1)
     -- Z and V in a set: each operator hands on the leftmost, and where false decides it still decides
-    ∷ case (evaluation (bytes verdict) (zeroDivisor ∷ outOfRange ∷ []) 0) (three zeroDivisor zeroDivisor outOfRange)
-    ∷ case (evaluation (bytes verdict) (number 1450 ∷ outOfRange ∷ []) 0) (three outOfRange (number 550) outOfRange)
-    ∷ case (evaluation (bytes verdict) (zeroDivisor ∷ number 3900 ∷ []) 0) (three (Truth false) zeroDivisor (Whole (negsuc 99)))
+    ∷ case (evaluation (bytes verdict) (bytes "WW\n") (zeroDivisor ∷ outOfRange ∷ []) 0) (three zeroDivisor zeroDivisor outOfRange)
+    ∷ case (evaluation (bytes verdict) (bytes "WW\n") (number 1450 ∷ outOfRange ∷ []) 0) (three outOfRange (number 550) outOfRange)
+    ∷ case (evaluation (bytes verdict) (bytes "WW\n") (zeroDivisor ∷ number 3900 ∷ []) 0) (three (Truth false) zeroDivisor (Whole (negsuc 99)))
     -- "A beacon that fails on range" with a battery reading that is E fails; with a good range there is no verdict, as before
-    ∷ case (evaluation (bytes verdict) (err ∷ number 3900 ∷ []) 0) (three (Truth false) err (Whole (negsuc 99)))
-    ∷ case (evaluation (bytes verdict) (err ∷ number 4500 ∷ []) 0) (three err err (number 500))
+    ∷ case (evaluation (bytes verdict) (bytes "WW\n") (err ∷ number 3900 ∷ []) 0) (three (Truth false) err (Whole (negsuc 99)))
+    ∷ case (evaluation (bytes verdict) (bytes "WW\n") (err ∷ number 4500 ∷ []) 0) (three err err (number 500))
     -- a value too few
-    ∷ case (evaluation (bytes lesser) (number 3 ∷ []) 0) (refusal 12)
-    -- "iter as the formula: 7", "let x = 1 in 2: 9"
-    ∷ case (reading (bytes iterAlone)) (refuses 7 2)
-    ∷ case (reading (bytes letUnused)) (refuses 9 3)
+    ∷ case (evaluation (bytes lesser) (bytes "WW\n") (number 3 ∷ []) 0) (refusal 12)
+    -- 17: no line, a letter too few, one too many, another letter, no line feed, a byte behind it; of a formula without inputs too
+    ∷ case (reading (bytes lesser) (bytes "")) (refuses 17 0)
+    ∷ case (reading (bytes lesser) (bytes "W\n")) (refuses 17 0)
+    ∷ case (reading (bytes lesser) (bytes "WWW\n")) (refuses 17 0)
+    ∷ case (reading (bytes lesser) (bytes "Ww\n")) (refuses 17 0)
+    ∷ case (reading (bytes lesser) (bytes "WW")) (refuses 17 0)
+    ∷ case (reading (bytes lesser) (bytes "WW\n\n")) (refuses 17 0)
+    ∷ case (reading (bytes zeroDivided) (bytes "")) (refuses 17 0)
+    -- 18: "A club compared a truth with a voltage": the less is row 4
+    ∷ case (reading (bytes lesser) (bytes "WT\n")) (refuses 18 4)
+    ∷ case (evaluation (bytes lesser) (bytes "TW\n") threeAndFive 0) (evaluates 18 4 0 0 (replicate 16 (cell err)))
+    -- "iter as the formula: 7", "let x = 1 in 2: 9"; both come before 17
+    ∷ case (reading (bytes iterAlone) (bytes "")) (refuses 7 2)
+    ∷ case (reading (bytes letUnused) (bytes "")) (refuses 9 3)
     -- "200 rows pass test 2, 201 do not": of constants that nothing names, 200 then fail test 6
     ∷ case (test-2 (alike 200 constantRow)) (passes true)
     ∷ case (test-2 (alike 201 constantRow)) (passes false)
-    ∷ case (reading (alike 200 constantRow)) (refuses 6 1)
-    ∷ case (reading (alike 201 constantRow)) (refuses 2 0)
+    ∷ case (reading (alike 200 constantRow) (bytes "")) (refuses 6 1)
+    ∷ case (reading (alike 201 constantRow) (bytes "")) (refuses 2 0)
     -- the sheets above are accepted, with these rows, operators, inputs and results
-    ∷ case (reading (bytes lesser)) (accepted 7 8 2 1)
-    ∷ case (reading (bytes twice)) (accepted 4 2 1 1)
-    ∷ case (reading (bytes factorial)) (accepted 20 32 1 1)
+    ∷ case (reading (bytes lesser) (bytes "WW\n")) (accepted 7 8 2 1)
+    ∷ case (reading (bytes twice) (bytes "W\n")) (accepted 4 2 1 1)
+    ∷ case (reading (bytes factorial) (bytes "W\n")) (accepted 20 32 1 1)
     ∷ []
 
 pub cases-worked : map (λ c. got (c .asks)) cases ≡ map (λ c. c .gives) cases

@@ -9,8 +9,8 @@ use native.Mathlib.Omega.{arith}
 use lib.ListN.{length, getD, replicate}
 use Rattle.formula.specs.declared.Verdict.the-variants.{Passed}
 use Rattle.formula.specs.Tree.{formulaOf}
+use Rattle.formula.specs.Faults.{lettersOf}
 use Rattle.formula.specs.Tests.{verdictOf}
-use Rattle.graph.specs.Translation.{madeOf}
 use Rattle.value_sets.specs.Sets.{setValues}
 use Rattle.machine_layout.specs.Layout.{sizeOf, need}
 use Rattle.theory_verdicts.specs.Running.{startOf}
@@ -35,18 +35,18 @@ case-worked : pushRefusals (formulaOf (bytes lesser)) 16 threeAndFive 17 (startO
 unfolding cases got refusalsIn
 case-worked = ap (λ (gs : List Answer). refusalsIn (getD gs 0 (refusals []))) cases-worked
 
-lesser-passed : verdictOf (bytes lesser) ≡ Passed
+lesser-passed : verdictOf (bytes lesser) (bytes "WW\n") ≡ Passed
 unfolding verdictOf bytes lesser
 lesser-passed = refl
 
-set-read : setValues (madeOf (formulaOf (bytes lesser)) .inputs) (spelled threeAndFive) ≡ some threeAndFive
-unfolding setValues madeOf formulaOf bytes lesser bytesOf
+set-read : setValues (lettersOf (formulaOf (bytes lesser)) (bytes "WW\n")) (spelled threeAndFive) ≡ some threeAndFive
+unfolding setValues lettersOf formulaOf bytes lesser bytesOf
 set-read = refl
 
 -- "sixteen pushes at capacity 16 pass, the seventeenth gives 32"
 pub seventeenth-refused : (memory : List ℕ) → need (sizeOf 16) ≤ length memory → (lent : ℕ) → need (sizeOf 16) ≤ lent
-    → pushAnswers lent 17 (spelled threeAndFive) (started (bytes lesser) 16 memory .mem) ≡ replicate 16 0 ++ (32 ∷ [])
+    → pushAnswers lent 17 (spelled threeAndFive) (started (bytes lesser) (bytes "WW\n") 16 memory .mem) ≡ replicate 16 0 ++ (32 ∷ [])
 seventeenth-refused memory long lent enough =
-    pushes-from-start (bytes lesser) 16 memory (start-accepts (bytes lesser) 16 memory lesser-passed (omega arith) (omega arith) long)
+    pushes-from-start (bytes lesser) (bytes "WW\n") 16 memory (start-accepts (bytes lesser) (bytes "WW\n") 16 memory lesser-passed (omega arith) (omega arith) long)
     (spelled threeAndFive) threeAndFive set-read lent enough 17
     ∙ case-worked

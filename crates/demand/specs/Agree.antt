@@ -24,35 +24,35 @@ use Rattle.demand_view.specs.Sound.{Sound}
 use Rattle.demand_view.specs.Stands.{Stands}
 use Rattle.demand_ends.specs.ResultBytes.{cellBytes}
 
-pub record CallsAgree (x : Exp) (capacity : ℕ) : Type 0 where
+pub record CallsAgree (x : Exp) (kinds : List ℕ) (capacity : ℕ) : Type 0 where
   pub sound : Sound (madeOf x)
   -- 31 is not given.
-  pub good : (m : List ℕ) (q : Links) → Stands (madeOf x) capacity m q → standing m ≡ 0
+  pub good : (m : List ℕ) (q : Links) → Stands (madeOf x) kinds capacity m q → standing m ≡ 0
   -- fire
-  pub able-links : (m : List ℕ) (q : Links) → Stands (madeOf x) capacity m q → (i : ℕ) → i < length (madeOf x .operators)
+  pub able-links : (m : List ℕ) (q : Links) → Stands (madeOf x) kinds capacity m q → (i : ℕ) → i < length (madeOf x .operators)
       → ableAt m (sizeOf capacity) i ≡ true → Able (places capacity) (operatorAt x i) q
-  pub able-bytes : (m : List ℕ) (q : Links) → Stands (madeOf x) capacity m q → (i : ℕ) → i < length (madeOf x .operators)
+  pub able-bytes : (m : List ℕ) (q : Links) → Stands (madeOf x) kinds capacity m q → (i : ℕ) → i < length (madeOf x .operators)
       → Able (places capacity) (operatorAt x i) q → ableAt m (sizeOf capacity) i ≡ true
-  pub fired : (m : List ℕ) (q : Links) → Stands (madeOf x) capacity m q → (i : ℕ) → i < length (madeOf x .operators)
-      → ableAt m (sizeOf capacity) i ≡ true → Stands (madeOf x) capacity (firedAt m (sizeOf capacity) i) (act (operatorAt x i) q)
+  pub fired : (m : List ℕ) (q : Links) → Stands (madeOf x) kinds capacity m q → (i : ℕ) → i < length (madeOf x .operators)
+      → ableAt m (sizeOf capacity) i ≡ true → Stands (madeOf x) kinds capacity (firedAt m (sizeOf capacity) i) (act (operatorAt x i) q)
   -- run
-  pub ran : (m : List ℕ) (q : Links) → Stands (madeOf x) capacity m q → (firings : ℕ)
-      → Stands (madeOf x) capacity (runs (sizeOf capacity) (length (madeOf x .operators)) firings m 0 .mem) (afterSteps x (runSteps x capacity firings q) q)
+  pub ran : (m : List ℕ) (q : Links) → Stands (madeOf x) kinds capacity m q → (firings : ℕ)
+      → Stands (madeOf x) kinds capacity (runs (sizeOf capacity) (length (madeOf x .operators)) firings m 0 .mem) (afterSteps x (runSteps x capacity firings q) q)
   -- push
-  pub set-read : (set : List ℕ) → setOk (madeOf x .inputs) set ≡ true → (v : List Value) × (setValues (madeOf x .inputs) set ≡ some v)
-  pub push-able : (m : List ℕ) (q : Links) → Stands (madeOf x) capacity m q → (set : List ℕ) (v : List Value) → setValues (madeOf x .inputs) set ≡ some v
+  pub set-read : (set : List ℕ) → setOk kinds set ≡ true → (v : List Value) × (setValues kinds set ≡ some v)
+  pub push-able : (m : List ℕ) (q : Links) → Stands (madeOf x) kinds capacity m q → (set : List ℕ) (v : List Value) → setValues kinds set ≡ some v
       → ltb (untakenOf m) 16 ≡ true → roomsOk m (sizeOf capacity) (madeOf x .inputs) ≡ true → Able (places capacity) (pushOf x v) q
-  pub pushed : (m : List ℕ) (q : Links) → Stands (madeOf x) capacity m q → (set : List ℕ) (v : List Value) → setValues (madeOf x .inputs) set ≡ some v
-      → ltb (untakenOf m) 16 ≡ true → roomsOk m (sizeOf capacity) (madeOf x .inputs) ≡ true → Stands (madeOf x) capacity (pushedMemory m set) (act (pushOf x v) q)
+  pub pushed : (m : List ℕ) (q : Links) → Stands (madeOf x) kinds capacity m q → (set : List ℕ) (v : List Value) → setValues kinds set ≡ some v
+      → ltb (untakenOf m) 16 ≡ true → roomsOk m (sizeOf capacity) (madeOf x .inputs) ≡ true → Stands (madeOf x) kinds capacity (pushedMemory m set) (act (pushOf x v) q)
   -- take
-  pub take-able : (m : List ℕ) (q : Links) → Stands (madeOf x) capacity m q
+  pub take-able : (m : List ℕ) (q : Links) → Stands (madeOf x) kinds capacity m q
       → ltb 0 (untakenOf m) ≡ true → allBelow (length (madeOf x .results)) (resultReady m (sizeOf capacity)) ≡ true → Able (places capacity) (takeOf x) q
-  pub take-ready : (m : List ℕ) (q : Links) → Stands (madeOf x) capacity m q → Able (places capacity) (takeOf x) q
+  pub take-ready : (m : List ℕ) (q : Links) → Stands (madeOf x) kinds capacity m q → Able (places capacity) (takeOf x) q
       → (ltb 0 (untakenOf m) ≡ true) × (allBelow (length (madeOf x .results)) (resultReady m (sizeOf capacity)) ≡ true)
-  pub taken : (m : List ℕ) (q : Links) → Stands (madeOf x) capacity m q
+  pub taken : (m : List ℕ) (q : Links) → Stands (madeOf x) kinds capacity m q
       → ltb 0 (untakenOf m) ≡ true → allBelow (length (madeOf x .results)) (resultReady m (sizeOf capacity)) ≡ true
-      → Stands (madeOf x) capacity (takenMemory m) (act (takeOf x) q)
-  pub handed : (m : List ℕ) (q : Links) → Stands (madeOf x) capacity m q
+      → Stands (madeOf x) kinds capacity (takenMemory m) (act (takeOf x) q)
+  pub handed : (m : List ℕ) (q : Links) → Stands (madeOf x) kinds capacity m q
       → ltb 0 (untakenOf m) ≡ true → allBelow (length (madeOf x .results)) (resultReady m (sizeOf capacity)) ≡ true
       → (out : List ℕ) → 80 ≤ length out
       → written 16 m (sizeOf capacity) (length (madeOf x .results)) out ≡ cellBytes (cellsOf (valuesIn (label (takeOf x) q))) ++ drop 80 out

@@ -28,15 +28,15 @@ use Rattle.demand_begin.specs.MadeSound.{made-sound}
 use Rattle.demand_begin.specs.StandsValid.{stands-well}
 use Rattle.demand.specs.Agree.{CallsAgree}
 
-module _ (x : Exp) (S : Sound (madeOf x)) (capacity : ℕ) (low : 1 ≤ capacity) (high : capacity ≤ 16) (m : List ℕ) (q : Links) (H : Stands (madeOf x) capacity m q) where
+module _ (x : Exp) (S : Sound (madeOf x)) (kinds : List ℕ) (capacity : ℕ) (low : 1 ≤ capacity) (high : capacity ≤ 16) (m : List ℕ) (q : Links) (H : Stands (madeOf x) kinds capacity m q) where
   -- 35's two tests, with the width of the graph.
   take-can : ltb 0 (untakenOf m) ≡ true → allBelow (length (madeOf x .results)) (resultReady m (sizeOf capacity)) ≡ true → Able (places capacity) (takeOf x) q
   take-can a b =
-      tests-take (madeOf x) S capacity low high m q H (and-both a (ap (λ (n : ℕ). allBelow n (resultReady m (sizeOf capacity))) (H .results-are) ∙ b))
+      tests-take (madeOf x) S kinds capacity low high m q H (and-both a (ap (λ (n : ℕ). allBelow n (resultReady m (sizeOf capacity))) (H .results-are) ∙ b))
 
   take-ready : Able (places capacity) (takeOf x) q → (ltb 0 (untakenOf m) ≡ true) × (allBelow (length (madeOf x .results)) (resultReady m (sizeOf capacity)) ≡ true)
   take-ready a =
-      let t = take-tests (madeOf x) S capacity low high m q H a in (
+      let t = take-tests (madeOf x) S kinds capacity low high m q H a in (
         and-left (ltb 0 (untakenOf m)) (allBelow (resultsOf m) (resultReady m (sizeOf capacity))) t,
         ap (λ (n : ℕ). allBelow n (resultReady m (sizeOf capacity))) (sym (H .results-are))
             ∙ and-right (ltb 0 (untakenOf m)) (allBelow (resultsOf m) (resultReady m (sizeOf capacity))) t,
@@ -45,27 +45,27 @@ module _ (x : Exp) (S : Sound (madeOf x)) (capacity : ℕ) (low : 1 ≤ capacity
   take-hands : Able (places capacity) (takeOf x) q → (out : List ℕ) → 80 ≤ length out
       → written 16 m (sizeOf capacity) (length (madeOf x .results)) out ≡ cellBytes (cellsOf (resultIn (madeOf x) q)) ++ drop 80 out
   take-hands a out h =
-      ap (λ (n : ℕ). written 16 m (sizeOf capacity) n out) (sym (H .results-are)) ∙ take-writes (madeOf x) S capacity low high m q H a out h
+      ap (λ (n : ℕ). written 16 m (sizeOf capacity) n out) (sym (H .results-are)) ∙ take-writes (madeOf x) S kinds capacity low high m q H a out h
       ∙ ap (λ (b : List ℕ). b ++ drop 80 out) (sym (cells-result (resultIn (madeOf x) q)))
 
-pub calls-agree : (s : List ℕ) → Admissible s → (capacity : ℕ) → 1 ≤ capacity → capacity ≤ 16 → CallsAgree (formulaOf s) capacity
-calls-agree s ok capacity low high =
+pub calls-agree : (s : List ℕ) → Admissible s → (kinds : List ℕ) (capacity : ℕ) → 1 ≤ capacity → capacity ≤ 16 → CallsAgree (formulaOf s) kinds capacity
+calls-agree s ok kinds capacity low high =
     let x = formulaOf s in
     let S = made-sound s ok in
     record {
       sound = S;
-      good = stands-well (madeOf x) S capacity low high;
-      able-links = λ m q H. able-on-links (madeOf x) S capacity m q H low;
-      able-bytes = able-on-bytes (madeOf x) S capacity;
-      fired = fired-stands (madeOf x) S capacity;
-      ran = λ m q H firings. run-same x S capacity low firings m q H .0;
-      set-read = λ set h. let r = set-values (madeOf x .inputs) set h in (r .0, r .1 .values);
-      push-able = λ m q H set v r a b. tests-push (madeOf x) S capacity low high m q H set v (values-set (madeOf x .inputs) set v r) (and-both a b);
+      good = stands-well (madeOf x) S kinds capacity low high;
+      able-links = λ m q H. able-on-links (madeOf x) S kinds capacity m q H low;
+      able-bytes = able-on-bytes (madeOf x) S kinds capacity;
+      fired = fired-stands (madeOf x) S kinds capacity;
+      ran = λ m q H firings. run-same x S kinds capacity low firings m q H .0;
+      set-read = λ set h. let r = set-values kinds set h in (r .0, r .1 .values);
+      push-able = λ m q H set v r a b. tests-push (madeOf x) S kinds capacity low high m q H set v (values-set kinds set v r) (and-both a b);
       pushed = λ m q H set v r a b.
-          let I = values-set (madeOf x .inputs) set v r in
-          stands-pushed (madeOf x) S capacity low high m q H set v I (tests-push (madeOf x) S capacity low high m q H set v I (and-both a b));
-      take-able = take-can x S capacity low high;
-      take-ready = take-ready x S capacity low high;
-      taken = λ m q H a b. stands-taken (madeOf x) S capacity low high m q H (take-can x S capacity low high m q H a b);
-      handed = λ m q H a b. take-hands x S capacity low high m q H (take-can x S capacity low high m q H a b);
+          let I = values-set kinds set v r in
+          stands-pushed (madeOf x) S kinds capacity low high m q H set v I (tests-push (madeOf x) S kinds capacity low high m q H set v I (and-both a b));
+      take-able = take-can x S kinds capacity low high;
+      take-ready = take-ready x S kinds capacity low high;
+      taken = λ m q H a b. stands-taken (madeOf x) S kinds capacity low high m q H (take-can x S kinds capacity low high m q H a b);
+      handed = λ m q H a b. take-hands x S kinds capacity low high m q H (take-can x S kinds capacity low high m q H a b);
     }

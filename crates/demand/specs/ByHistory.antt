@@ -8,6 +8,7 @@ use native.Mathlib.Omega.{arith}
 use native.Mathlib.Decide.{decLt}
 use lib.ListN.{length, drop, take as firstOf, take-append-drop, List·getD-append}
 use Rattle.network.specs.Net.{Links}
+use Rattle.formula.specs.Faults.{lettersOf}
 use Rattle.formula.specs.Tree.{formulaOf}
 use Rattle.formula.specs.declared.Refusal.the-variants.{Memory}
 use Rattle.formula.specs.Refusals.{numberOf}
@@ -35,15 +36,15 @@ use Rattle.demand.specs.OnMemory.{F as bytes-follow}
 use Rattle.machine_start.specs.StartLaws.{AcceptedStart, accepted-start}
 
 -- So many firings by Brock's rule lead from the memory m, in which the links q stand, to the memory n: each finds the links as the one before left them.
-abbrev pub Fire-by-history : (g : Made) (capacity : ℕ) → ℕ → (m : List ℕ) (q : Links) (n : List ℕ) → Type 0
-Fire-by-history g capacity zero m q n = n ≡ m
-Fire-by-history g capacity (suc k) m q n =
-    (i : ℕ) × (o : Operator) × (next : List ℕ) × Ith (g .operators) i o × ((f : Fires-in-memory g capacity m q i o next) × Fire-by-history g capacity k next (f .after) n)
+abbrev pub Fire-by-history : (g : Made) (kinds : List ℕ) (capacity : ℕ) → ℕ → (m : List ℕ) (q : Links) (n : List ℕ) → Type 0
+Fire-by-history g kinds capacity zero m q n = n ≡ m
+Fire-by-history g kinds capacity (suc k) m q n =
+    (i : ℕ) × (o : Operator) × (next : List ℕ) × Ith (g .operators) i o × ((f : Fires-in-memory g kinds capacity m q i o next) × Fire-by-history g kinds capacity k next (f .after) n)
 
-module _ (g : Made) (S : Sound g) (capacity : ℕ) (low : 1 ≤ capacity) (high : capacity ≤ 16) (rest : List ℕ) where
+module _ (g : Made) (S : Sound g) (kinds : List ℕ) (capacity : ℕ) (low : 1 ≤ capacity) (high : capacity ≤ 16) (rest : List ℕ) where
   -- A firing in the part of the memory that a call was lent is one in the whole.
-  fires-behind : (m : List ℕ) (q : Links) → Stands g capacity m q → (i : ℕ) (o : Operator) → Ith (g .operators) i o → (n : List ℕ)
-      → Fires-in-memory g capacity m q i o n → Fires-in-memory g capacity (m ++ rest) q i o (n ++ rest)
+  fires-behind : (m : List ℕ) (q : Links) → Stands g kinds capacity m q → (i : ℕ) (o : Operator) → Ith (g .operators) i o → (n : List ℕ)
+      → Fires-in-memory g kinds capacity m q i o n → Fires-in-memory g kinds capacity (m ++ rest) q i o (n ++ rest)
   fires-behind m q H i o at n f =
       let inside = ith-inside (g .operators) i o at in
       record {
@@ -52,17 +53,17 @@ module _ (g : Made) (S : Sound g) (capacity : ℕ) (low : 1 ≤ capacity) (high 
             agree-word (need (sizeOf capacity)) m (m ++ rest) (λ j l. List·getD-append m rest 0 j (omega (arith, H .long))) (registerAt i) (omega (arith, S .few-operators))
             ∙ f .stored-register;
         after = f .after;
-        stands = stands-behind g S capacity n (f .after) (f .stands) rest;
+        stands = stands-behind g S kinds capacity n (f .after) (f .stands) rest;
         by-history = f .by-history;
       }
 
-  firings-behind : (k : ℕ) (m : List ℕ) (q : Links) → Stands g capacity m q → (n : List ℕ) → Firings (sizeOf capacity) (length (g .operators)) k m n
-      → Fire-by-history g capacity k (m ++ rest) q (n ++ rest)
+  firings-behind : (k : ℕ) (m : List ℕ) (q : Links) → Stands g kinds capacity m q → (n : List ℕ) → Firings (sizeOf capacity) (length (g .operators)) k m n
+      → Fire-by-history g kinds capacity k (m ++ rest) q (n ++ rest)
   unfolding fires-behind
   firings-behind zero m q H n e = ap (λ (z : List ℕ). z ++ rest) e
   firings-behind (suc k) m q H n (i, inside, able, quiet, more) =
       let w = ith-there (g .operators) i inside in
-      let f = fired-by-history g S capacity m q H i (w .0) (w .1) low able in (
+      let f = fired-by-history g S kinds capacity m q H i (w .0) (w .1) low able in (
         i,
         w .0,
         firedAt m (sizeOf capacity) i ++ rest,
@@ -73,26 +74,29 @@ module _ (g : Made) (S : Sound g) (capacity : ℕ) (low : 1 ≤ capacity) (high 
         ),
       )
 
-module _ (sheet : List ℕ) (capacity : ℕ) (memory : List ℕ) (h : started sheet capacity memory .answer .refusal ≡ 0) (calls : List Call) where
+module _ (sheet line : List ℕ) (capacity : ℕ) (memory : List ℕ) (h : started sheet line capacity memory .answer .refusal ≡ 0) (calls : List Call) where
   abbrev graph : Made
   graph = madeOf (formulaOf sheet)
 
+  abbrev kinds : List ℕ
+  kinds = lettersOf (formulaOf sheet) line
+
   abbrev now : List ℕ
-  now = memoryAfterAll calls (started sheet capacity memory .mem)
+  now = memoryAfterAll calls (started sheet line capacity memory .mem)
 
-  begun : AcceptedStart sheet capacity memory
-  begun = accepted-start sheet capacity memory h
+  begun : AcceptedStart sheet line capacity memory
+  begun = accepted-start sheet line capacity memory h
 
-  agree : CallsAgree (formulaOf sheet) capacity
-  agree = calls-agree sheet (begun .admissible) capacity (begun .some) (begun .most)
+  agree : CallsAgree (formulaOf sheet) kinds capacity
+  agree = calls-agree sheet (begun .admissible) kinds capacity (begun .some) (begun .most)
 
   -- After the calls the memory holds the machine of the sheet, with some tokens on its links.
-  pub machine-stands : (q : Links) × Stands (madeOf (formulaOf sheet)) capacity (memoryAfterAll calls (started sheet capacity memory .mem)) q
+  pub machine-stands : (q : Links) × Stands (madeOf (formulaOf sheet)) (lettersOf (formulaOf sheet) line) capacity (memoryAfterAll calls (started sheet line capacity memory .mem)) q
   machine-stands =
-      let F = bytes-follow sheet (begun .admissible) capacity (begun .some) (begun .most) agree (started sheet capacity memory .mem) (accepted-stands sheet capacity memory h) calls in
+      let F = bytes-follow sheet line (begun .admissible) (begun .kinded) capacity (begun .some) (begun .most) agree (started sheet line capacity memory .mem) (accepted-stands sheet line capacity memory h) calls in
       (_, F .stands)
 
-  module _ (q : Links) (H : Stands graph capacity now q) (lent : ℕ) where
+  module _ (q : Links) (H : Stands graph kinds capacity now q) (lent : ℕ) where
     abbrev lentPart : List ℕ
     lentPart = firstOf lent now
 
@@ -100,47 +104,47 @@ module _ (sheet : List ℕ) (capacity : ℕ) (memory : List ℕ) (h : started sh
     behind = drop lent now
 
     too-little : lent < need (sizeOf capacity) → standing lentPart ≡ numberOf Memory
-    too-little l = short-refused graph capacity now q (begun .some) (begun .most) H lent l
+    too-little l = short-refused graph kinds capacity now q (begun .some) (begun .most) H lent l
 
-    enough : need (sizeOf capacity) ≤ lent → Stands graph capacity lentPart q
-    enough l = stands-lent graph (agree .sound) capacity now q H lent l
+    enough : need (sizeOf capacity) ≤ lent → Stands graph kinds capacity lentPart q
+    enough l = stands-lent graph (agree .sound) kinds capacity now q H lent l
 
     -- AN ACCEPTED FIRE.
     pub fire-by-history : (i : ℕ) → answerOf (fire lent i) now .refusal ≡ 0
-        → (o : Operator) × Ith (graph .operators) i o × Fires-in-memory graph capacity now q i o (memoryAfter (fire lent i) now)
+        → (o : Operator) × Ith (graph .operators) i o × Fires-in-memory graph kinds capacity now q i o (memoryAfter (fire lent i) now)
     unfolding answerOf memoryAfter
     fire-by-history i z = go (decLt lent (need (sizeOf capacity)))
       where
         go : Dec (lent < need (sizeOf capacity))
-            → (o : Operator) × Ith (graph .operators) i o × Fires-in-memory graph capacity now q i o (fired lentPart i .mem ++ behind)
+            → (o : Operator) × Ith (graph .operators) i o × Fires-in-memory graph kinds capacity now q i o (fired lentPart i .mem ++ behind)
         go (yes l) =
             let st = too-little l in
             let e : fired lentPart i .answer .refusal ≡ standing lentPart = ap (λ o. o .answer .refusal) (fired-refused lentPart i (λ w. absurd (omega (arith, st, w)))) in
             absurd (omega (arith, e, st, z))
         go (no l) =
             let L = enough (omega arith) in
-            let f = Standing.fire-by-history graph (agree .sound) capacity (begun .some) (begun .most) lentPart q L i z in (
+            let f = Standing.fire-by-history graph (agree .sound) kinds capacity (begun .some) (begun .most) lentPart q L i z in (
               f .0,
               f .1,
-              subst (λ (m : List ℕ). Fires-in-memory graph capacity m q i (f .0) (fired lentPart i .mem ++ behind)) (take-append-drop lent now)
-                  (fires-behind graph (agree .sound) capacity (begun .some) (begun .most) behind lentPart q L i (f .0) (f .1) (fired lentPart i .mem) (f .2)),
+              subst (λ (m : List ℕ). Fires-in-memory graph kinds capacity m q i (f .0) (fired lentPart i .mem ++ behind)) (take-append-drop lent now)
+                  (fires-behind graph (agree .sound) kinds capacity (begun .some) (begun .most) behind lentPart q L i (f .0) (f .1) (fired lentPart i .mem) (f .2)),
             )
 
     -- EVERY RUN, refused ones included: it makes the firings that it counts.
-    pub run-by-history : (firings : ℕ) → Fire-by-history graph capacity (answerOf (run lent firings) now .count) now q (memoryAfter (run lent firings) now)
+    pub run-by-history : (firings : ℕ) → Fire-by-history graph kinds capacity (answerOf (run lent firings) now .count) now q (memoryAfter (run lent firings) now)
     unfolding answerOf memoryAfter
     run-by-history firings = go (decLt lent (need (sizeOf capacity)))
       where
-        go : Dec (lent < need (sizeOf capacity)) → Fire-by-history graph capacity (ran lentPart firings .answer .count) now q (ran lentPart firings .mem ++ behind)
+        go : Dec (lent < need (sizeOf capacity)) → Fire-by-history graph kinds capacity (ran lentPart firings .answer .count) now q (ran lentPart firings .mem ++ behind)
         go (yes l) =
             let st = too-little l in
             rw (ran-refused lentPart firings (λ w. absurd (omega (arith, st, w)))) (take-append-drop lent now)
         go (no l) =
             let L = enough (omega arith) in
             let C = run-counts lentPart firings (agree .good lentPart q L) in
-            let s = stands-size graph (agree .sound) capacity (begun .some) (begun .most) lentPart q L in
+            let s = stands-size graph (agree .sound) kinds capacity (begun .some) (begun .most) lentPart q L in
             let f : Firings (sizeOf capacity) (length (graph .operators)) (ran lentPart firings .answer .count) lentPart (ran lentPart firings .mem)
             = subst (λ (n : ℕ). Firings (sizeOf capacity) n (ran lentPart firings .answer .count) lentPart (ran lentPart firings .mem)) (L .operators-are)
             (subst (λ (z : ℕ). Firings z (operatorsOf lentPart) (ran lentPart firings .answer .count) lentPart (ran lentPart firings .mem)) s (C .between)) in
-            subst (λ (m : List ℕ). Fire-by-history graph capacity (ran lentPart firings .answer .count) m q (ran lentPart firings .mem ++ behind)) (take-append-drop lent now)
-            (firings-behind graph (agree .sound) capacity (begun .some) (begun .most) behind (ran lentPart firings .answer .count) lentPart q L (ran lentPart firings .mem) f)
+            subst (λ (m : List ℕ). Fire-by-history graph kinds capacity (ran lentPart firings .answer .count) m q (ran lentPart firings .mem ++ behind)) (take-append-drop lent now)
+            (firings-behind graph (agree .sound) kinds capacity (begun .some) (begun .most) behind (ran lentPart firings .answer .count) lentPart q L (ran lentPart firings .mem) f)

@@ -16,24 +16,24 @@ use Rattle.demand_ends.specs.ResultBytes.{cellBytes}
 use Rattle.demand.specs.MemoryCalls.{Call, fire, take, Result, result, answerOf, memoryAfterAll, answersOf, setsPushed, resultsTaken}
 
 -- "Direct evaluation there is the meaning above with as many rounds as it needs"
-abbrev pub Enough : List ℕ → List ℕ → ℕ → Type 0
-Enough sheet set rounds = evaluationOf sheet set rounds .verdict ≡ Passed
+abbrev pub Enough : List ℕ → List ℕ → List ℕ → ℕ → Type 0
+Enough sheet line set rounds = evaluationOf sheet line set rounds .verdict ≡ Passed
 
 -- "and ends if some number is enough"
-abbrev pub Ends : List ℕ → List ℕ → Type 0
-Ends sheet set = (rounds : ℕ) × Enough sheet set rounds
+abbrev pub Ends : List ℕ → List ℕ → List ℕ → Type 0
+Ends sheet line set = (rounds : ℕ) × Enough sheet line set rounds
 
 -- What direct evaluation yields, as a take hands it out: its width, and its sixteen places in five bytes each.
 unfoldable pub yielded : Evaluation → Result
 yielded e = result (e .width) (cellBytes (e .cells))
 
 -- What demand 3 says of a list of calls. Sets and results count from 0 here.
-pub record OwnVerdicts (sheet : List ℕ) (capacity : ℕ) (start : List ℕ) (calls : List Call) : Type 0 where
+pub record OwnVerdicts (sheet line : List ℕ) (capacity : ℕ) (start : List ℕ) (calls : List Call) : Type 0 where
   -- "For every k up to the number of results taken since that start: if direct evaluation of each of the first k sets pushed ends, the k-th result taken is
   -- exactly what it yields for the k-th set pushed." "the result taken equals its result set in width and all sixteen places"
-  pub own : (k : ℕ) → k < length (resultsTaken calls start) → ((j : ℕ) → j ≤ k → Ends sheet (getD (setsPushed calls start) j []))
-      → (rounds : ℕ) → Enough sheet (getD (setsPushed calls start) k []) rounds
-      → getD (resultsTaken calls start) k (result 0 []) ≡ yielded (evaluationOf sheet (getD (setsPushed calls start) k []) rounds)
+  pub own : (k : ℕ) → k < length (resultsTaken calls start) → ((j : ℕ) → j ≤ k → Ends sheet line (getD (setsPushed calls start) j []))
+      → (rounds : ℕ) → Enough sheet line (getD (setsPushed calls start) k []) rounds
+      → getD (resultsTaken calls start) k (result 0 []) ≡ yielded (evaluationOf sheet line (getD (setsPushed calls start) k []) rounds)
   -- Every result taken is that of a pushed set.
   pub none-invented : length (resultsTaken calls start) ≤ length (setsPushed calls start)
   -- "And when nothing can fire, either every pushed set has been taken, or the oldest untaken one has its whole result ready to take." "Nothing can fire when

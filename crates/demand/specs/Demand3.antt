@@ -5,7 +5,8 @@ use Prim.Native.Nat.{ℕ, _≤_}
 use mathlib.Core.Path.{_≡_, subst}
 use mathlib.Core.List.{List, [], _++_, append-nil}
 use Rattle.formula.specs.Tree.{formulaOf}
-use Rattle.formula.specs.Acceptance.{Admissible}
+use Rattle.formula.specs.Faults.{lettersOf}
+use Rattle.formula.specs.Acceptance.{Admissible, Kinded}
 use Rattle.graph.specs.Translation.{madeOf}
 use Rattle.theory_verdicts.specs.Running.{startOf}
 use Rattle.demand_view.specs.Stands.{Stands}
@@ -20,24 +21,24 @@ use Rattle.demand.specs.Agreed.{calls-agree}
 use Rattle.demand.specs.OnMemory.{own-verdicts-of-bytes}
 
 -- From any memory in which the machine of an admissible sheet stands as started.
-own-verdicts-from : (sheet : List ℕ) → Admissible sheet → (capacity : ℕ) → 1 ≤ capacity → capacity ≤ 16 → (start : List ℕ)
-    → Stands (madeOf (formulaOf sheet)) capacity start (startOf (formulaOf sheet)) → (calls : List Call) → OwnVerdicts sheet capacity start calls
-own-verdicts-from sheet ok capacity low high start H calls =
-    own-verdicts-of-bytes sheet ok capacity low high (calls-agree sheet ok capacity low high) start H calls
+own-verdicts-from : (sheet line : List ℕ) → Admissible sheet → Kinded sheet line → (capacity : ℕ) → 1 ≤ capacity → capacity ≤ 16 → (start : List ℕ)
+    → Stands (madeOf (formulaOf sheet)) (lettersOf (formulaOf sheet) line) capacity start (startOf (formulaOf sheet)) → (calls : List Call) → OwnVerdicts sheet line capacity start calls
+own-verdicts-from sheet line ok told capacity low high start H calls =
+    own-verdicts-of-bytes sheet line ok told capacity low high (calls-agree sheet ok (lettersOf (formulaOf sheet) line) capacity low high) start H calls
 
 -- What an accepted start leaves, with any bytes behind what it was lent: the calls may be lent more than start was.
-pub demand-3-behind : (sheet : List ℕ) (capacity : ℕ) (memory : List ℕ) → started sheet capacity memory .answer .refusal ≡ 0
-    → (rest : List ℕ) (calls : List Call) → OwnVerdicts sheet capacity (started sheet capacity memory .mem ++ rest) calls
-demand-3-behind sheet capacity memory h rest calls =
-    let a = accepted-start sheet capacity memory h in
-    own-verdicts-from sheet (a .admissible) capacity (a .some) (a .most) (started sheet capacity memory .mem ++ rest)
-    (stands-behind (madeOf (formulaOf sheet)) (made-sound sheet (a .admissible)) capacity (started sheet capacity memory .mem) (startOf (formulaOf sheet))
-    (accepted-stands sheet capacity memory h) rest) calls
+pub demand-3-behind : (sheet line : List ℕ) (capacity : ℕ) (memory : List ℕ) → started sheet line capacity memory .answer .refusal ≡ 0
+    → (rest : List ℕ) (calls : List Call) → OwnVerdicts sheet line capacity (started sheet line capacity memory .mem ++ rest) calls
+demand-3-behind sheet line capacity memory h rest calls =
+    let a = accepted-start sheet line capacity memory h in
+    own-verdicts-from sheet line (a .admissible) (a .kinded) capacity (a .some) (a .most) (started sheet line capacity memory .mem ++ rest)
+    (stands-behind (madeOf (formulaOf sheet)) (made-sound sheet (a .admissible)) (lettersOf (formulaOf sheet) line) capacity (started sheet line capacity memory .mem) (startOf (formulaOf sheet))
+    (accepted-stands sheet line capacity memory h) rest) calls
 
 -- "Start a machine empty for an accepted sheet, with links holding 1 to 16 tokens. Then the following holds after every list of pushes, single firings, runs and
 -- takes, in any order, with any sets and numbers, refused calls included, where each call gets the machine's memory as the one before left it and nothing else
 -- touches it."
-pub demand-3 : (sheet : List ℕ) (capacity : ℕ) (memory : List ℕ) → started sheet capacity memory .answer .refusal ≡ 0
-    → (calls : List Call) → OwnVerdicts sheet capacity (started sheet capacity memory .mem) calls
-demand-3 sheet capacity memory h calls =
-    subst (λ (m : List ℕ). OwnVerdicts sheet capacity m calls) (append-nil (started sheet capacity memory .mem)) (demand-3-behind sheet capacity memory h [] calls)
+pub demand-3 : (sheet line : List ℕ) (capacity : ℕ) (memory : List ℕ) → started sheet line capacity memory .answer .refusal ≡ 0
+    → (calls : List Call) → OwnVerdicts sheet line capacity (started sheet line capacity memory .mem) calls
+demand-3 sheet line capacity memory h calls =
+    subst (λ (m : List ℕ). OwnVerdicts sheet line capacity m calls) (append-nil (started sheet line capacity memory .mem)) (demand-3-behind sheet line capacity memory h [] calls)

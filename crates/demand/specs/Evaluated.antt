@@ -15,7 +15,8 @@ use Rattle.value.specs.Senses.{err}
 use Rattle.formula.specs.declared.Verdict.{Verdict}
 use Rattle.formula.specs.declared.Verdict.the-variants.{Passed, Refused}
 use Rattle.formula.specs.Tree.{formulaOf}
-use Rattle.formula.specs.Free.{freeE, inputsOf}
+use Rattle.formula.specs.Free.{freeE}
+use Rattle.formula.specs.Faults.{lettersOf}
 use Rattle.formula.specs.Tests.{verdictOf}
 use Rattle.meaning.specs.Meaning.{Outcome, yields, inputsHold, evalE}
 use Rattle.meaning.specs.declared.Cell.{Cell}
@@ -40,9 +41,9 @@ concluded-sixteen rounds (yields vs left) h =
     ∙ omega arith
 concluded-sixteen rounds Outcome.unfinished h = refl
 
-sixteen-cells : (sheet set : List ℕ) (rounds : ℕ) → length (evaluationOf sheet set rounds .cells) ≡ 16
+sixteen-cells : (sheet line set : List ℕ) (rounds : ℕ) → length (evaluationOf sheet line set rounds .cells) ≡ 16
 unfolding evaluationOf evaluated
-sixteen-cells sheet set rounds = go (verdictOf sheet) (setValues (length (inputsOf (formulaOf sheet))) set) (narrow-width sheet set rounds)
+sixteen-cells sheet line set rounds = go (verdictOf sheet line) (setValues (lettersOf (formulaOf sheet) line) set) (narrow-width sheet line set rounds)
   where
     go : (v : Verdict) (o : Option (List Value)) → afterVerdict v (evaluatedWith (formulaOf sheet) rounds o) .width ≤ 16
         → length (afterVerdict v (evaluatedWith (formulaOf sheet) rounds o) .cells) ≡ 16
@@ -65,19 +66,19 @@ written-cells cells o n h =
     ∙ cells-stored cells o (omega arith)
     ∙ ap (λ (j : ℕ). cellBytes cells ++ drop (5 * j) o) n
 
-module _ (sheet set : List ℕ) (rounds : ℕ) (enough : Enough sheet set rounds) (out : List ℕ) (room : 80 ≤ length out) where
+module _ (sheet line set : List ℕ) (rounds : ℕ) (enough : Enough sheet line set rounds) (out : List ℕ) (room : 80 ≤ length out) where
   abbrev evaluation : Evaluation
-  evaluation = evaluationOf sheet set rounds
+  evaluation = evaluationOf sheet line set rounds
 
   abbrev answered : Handed
-  answered = handedOut sheet set rounds out
+  answered = handedOut sheet line set rounds out
 
   -- What evaluation hands to the firmware is what it yields.
   pub evaluation-hands : (answered .answer .refusal ≡ 0) × (result (answered .answer .width) (firstOf 80 (answered .out)) ≡ yielded evaluation)
   unfolding yielded
   evaluation-hands =
-      let e = handed-passed sheet set rounds out room evaluation refl enough in
-      let n = sixteen-cells sheet set rounds in (
+      let e = handed-passed sheet line set rounds out room evaluation refl enough in
+      let n = sixteen-cells sheet line set rounds in (
         ap (λ (h : Handed). h .answer .refusal) (sym e),
         ap (λ (h : Handed). result (h .answer .width) (firstOf 80 (h .out))) (sym e)
             ∙ ap (result (evaluation .width))
@@ -87,20 +88,20 @@ module _ (sheet set : List ℕ) (rounds : ℕ) (enough : Enough sheet set rounds
 
 -- ---- the k-th take
 
-module _ (sheet : List ℕ) (capacity : ℕ) (memory : List ℕ) (h : started sheet capacity memory .answer .refusal ≡ 0) (calls : List Call) where
+module _ (sheet line : List ℕ) (capacity : ℕ) (memory : List ℕ) (h : started sheet line capacity memory .answer .refusal ≡ 0) (calls : List Call) where
   abbrev sets : List (List ℕ)
-  sets = setsPushed calls (started sheet capacity memory .mem)
+  sets = setsPushed calls (started sheet line capacity memory .mem)
 
   abbrev results : List Result
-  results = resultsTaken calls (started sheet capacity memory .mem)
+  results = resultsTaken calls (started sheet line capacity memory .mem)
 
   -- THE SAME BYTES. Sets and results count from 0.
-  pub take-writes-evaluation : (k : ℕ) → k < length results → ((j : ℕ) → j ≤ k → Ends sheet (getD sets j []))
-      → (rounds : ℕ) → Enough sheet (getD sets k []) rounds → (out : List ℕ) → 80 ≤ length out
-      → (handedOut sheet (getD sets k []) rounds out .answer .refusal ≡ 0)
-      × (handedOut sheet (getD sets k []) rounds out .answer .width ≡ getD results k (result 0 []) .width)
-      × (firstOf 80 (handedOut sheet (getD sets k []) rounds out .out) ≡ getD results k (result 0 []) .bytes)
+  pub take-writes-evaluation : (k : ℕ) → k < length results → ((j : ℕ) → j ≤ k → Ends sheet line (getD sets j []))
+      → (rounds : ℕ) → Enough sheet line (getD sets k []) rounds → (out : List ℕ) → 80 ≤ length out
+      → (handedOut sheet line (getD sets k []) rounds out .answer .refusal ≡ 0)
+      × (handedOut sheet line (getD sets k []) rounds out .answer .width ≡ getD results k (result 0 []) .width)
+      × (firstOf 80 (handedOut sheet line (getD sets k []) rounds out .out) ≡ getD results k (result 0 []) .bytes)
   take-writes-evaluation k l ends rounds enough out room =
-      let e = evaluation-hands sheet (getD sets k []) rounds enough out room in
-      let same = e .1 ∙ sym (demand-3 sheet capacity memory h calls .own k l ends rounds enough) in
+      let e = evaluation-hands sheet line (getD sets k []) rounds enough out room in
+      let same = e .1 ∙ sym (demand-3 sheet line capacity memory h calls .own k l ends rounds enough) in
       (e .0, ap (λ (r : Result). r .width) same, ap (λ (r : Result). r .bytes) same)

@@ -1,6 +1,6 @@
 -- Direct evaluation of bytes (meaning/specs/Evaluate `evaluationOf`) beside the abstract machine's verdicts (theory_verdicts/specs/Results `EndsWith`): for an accepted
 -- sheet and a set that can be read, a number of rounds is enough if and only if the formula yields values with it, and they are the result set's. Assumes
--- an admissible sheet.
+-- an admissible sheet with a kinds line that passes 17 and 18.
 use Prim.Native.Nat.{ℕ}
 use mathlib.Core.Path.{_≡_, refl, sym, ap, subst, _∙_}
 use mathlib.Core.List.{List}
@@ -10,8 +10,9 @@ use Rattle.value.specs.declared.Value.{Value}
 use Rattle.formula.specs.declared.Verdict.{Verdict}
 use Rattle.formula.specs.declared.Verdict.the-variants.{Passed, Refused}
 use Rattle.formula.specs.Tree.{formulaOf}
-use Rattle.formula.specs.Free.{freeE, inputsOf}
-use Rattle.formula.specs.Acceptance.{Admissible, admissible-passed}
+use Rattle.formula.specs.Free.{freeE}
+use Rattle.formula.specs.Faults.{lettersOf}
+use Rattle.formula.specs.Acceptance.{Admissible, Kinded, admissible-passed}
 use Rattle.meaning.specs.Meaning.{Outcome, yields, inputsHold, evalE}
 use Rattle.meaning.specs.Evaluate.{cellsOf, concluded, evaluated, evaluationOf}
 use Rattle.value_sets.specs.Sets.{setValues}
@@ -43,15 +44,16 @@ unfolding concluded
 concluded-enough rounds (yields vs left) r e = refl
 concluded-enough rounds Outcome.unfinished r e = absurd (subst Is-some (sym e) tt)
 
-module _ (sheet : List ℕ) (ok : Admissible sheet) (set : List ℕ) (v : List Value) (read : setValues (length (inputsOf (formulaOf sheet))) set ≡ some v) where
+module _ (sheet line : List ℕ) (ok : Admissible sheet) (told : Kinded sheet line) (set : List ℕ) (v : List Value)
+    (read : setValues (lettersOf (formulaOf sheet) line) set ≡ some v) where
   evaluation-concludes : (rounds : ℕ)
-      → evaluationOf sheet set rounds ≡ concluded rounds (evalE (formulaOf sheet) (inputsHold (freeE (formulaOf sheet)) v) rounds)
+      → evaluationOf sheet line set rounds ≡ concluded rounds (evalE (formulaOf sheet) (inputsHold (freeE (formulaOf sheet)) v) rounds)
   unfolding evaluationOf evaluated
-  evaluation-concludes rounds = rw (admissible-passed sheet ok, read) refl
+  evaluation-concludes rounds = rw (admissible-passed sheet line ok told, read) refl
 
   -- A number of rounds that is enough yields the formula's values for the set.
-  pub enough-yields : (rounds : ℕ) → Enough sheet set rounds
-      → (r : List Value) × EndsWith (formulaOf sheet) v r × (yielded (evaluationOf sheet set rounds) ≡ shown r)
+  pub enough-yields : (rounds : ℕ) → Enough sheet line set rounds
+      → (r : List Value) × EndsWith (formulaOf sheet) v r × (yielded (evaluationOf sheet line set rounds) ≡ shown r)
   unfolding resultOf
   enough-yields rounds h =
       let e = evaluation-concludes rounds in
@@ -60,7 +62,7 @@ module _ (sheet : List ℕ) (ok : Admissible sheet) (set : List ℕ) (v : List V
       (p .0, (rounds, p .1), ap yielded e ∙ p .2)
 
   -- Whatever the formula yields, some number of rounds is enough for.
-  pub yields-enough : (r : List Value) → EndsWith (formulaOf sheet) v r → (rounds : ℕ) × Enough sheet set rounds
+  pub yields-enough : (r : List Value) → EndsWith (formulaOf sheet) v r → (rounds : ℕ) × Enough sheet line set rounds
   unfolding resultOf
   yields-enough r w =
       let o = evalE (formulaOf sheet) (inputsHold (freeE (formulaOf sheet)) v) (w .0) in

@@ -25,26 +25,26 @@ use Rattle.demand_view.specs.FireCall.{stands-size}
 use Rattle.demand.specs.Agree.{CallsAgree}
 use Rattle.demand.specs.Followed.{Follows, Unaltered, follows-none, follows-one, can-accepted}
 
-module _ (x : Exp) (capacity : ℕ) (low : 1 ≤ capacity) (high : capacity ≤ 16) (A : CallsAgree x capacity) (m : List ℕ)
-    (q : Links) (H : Stands (madeOf x) capacity m q) (lent : ℕ) where
+module _ (x : Exp) (kinds : List ℕ) (capacity : ℕ) (low : 1 ≤ capacity) (high : capacity ≤ 16) (A : CallsAgree x kinds capacity) (m : List ℕ)
+    (q : Links) (H : Stands (madeOf x) kinds capacity m q) (lent : ℕ) where
   abbrev lentPart : List ℕ
   lentPart = firstOf lent m
 
   abbrev pub Fire-follows : Outcome → Type 0
-  Fire-follows o = Follows x capacity q (o .mem ++ drop lent m) [] [] × Unaltered (o .answer .refusal)
+  Fire-follows o = Follows x kinds capacity q (o .mem ++ drop lent m) [] [] × Unaltered (o .answer .refusal)
 
   pub fire-refused : (r : ℕ) → Unaltered r → Fire-follows (outcome (answers r 0) lentPart)
-  fire-refused r u = rw (take-append-drop lent m) (follows-none x capacity q m H, u)
+  fire-refused r u = rw (take-append-drop lent m) (follows-none x kinds capacity q m H, u)
 
-  module _ (i : ℕ) (L : Stands (madeOf x) capacity lentPart q) where
+  module _ (i : ℕ) (L : Stands (madeOf x) kinds capacity lentPart q) where
     fire-steps : Able (places capacity) (operatorAt x i) q → stepsOf x capacity (fires i) q ≡ firing i ∷ []
     unfolding stepsOf
     fire-steps a = can-accepted (firing i) (decAble (places capacity) (operatorAt x i) q) a
 
     fire-made : i < length (madeOf x .operators) → ableAt lentPart (sizeOf capacity) i ≡ true → Fire-follows (outcome (answers 0 0) (firedAt lentPart (sizeOf capacity) i))
     fire-made l a = (
-      follows-one x capacity q (firedAt lentPart (sizeOf capacity) i ++ drop lent m) [] [] (fires i) (firing i ∷ []) (fire-steps (A .able-links lentPart q L i l a))
-          (stands-behind (madeOf x) (A .sound) capacity (firedAt lentPart (sizeOf capacity) i) (act (operatorAt x i) q) (A .fired lentPart q L i l a) (drop lent m))
+      follows-one x kinds capacity q (firedAt lentPart (sizeOf capacity) i ++ drop lent m) [] [] (fires i) (firing i ∷ []) (fire-steps (A .able-links lentPart q L i l a))
+          (stands-behind (madeOf x) (A .sound) kinds capacity (firedAt lentPart (sizeOf capacity) i) (act (operatorAt x i) q) (A .fired lentPart q L i l a) (drop lent m))
           tt refl,
       λ (e : 0 ≡ numberOf Altered). absurd (omega arith),
     )
@@ -59,7 +59,7 @@ module _ (x : Exp) (capacity : ℕ) (low : 1 ≤ capacity) (high : capacity ≤ 
         go false a b e = subst Fire-follows (sym (fired-absent lentPart st i a)) (fire-refused (numberOf NotAble) (omega arith))
         go true a false e = subst Fire-follows (sym (fired-idle lentPart st i a e)) (fire-refused (numberOf NotAble) (omega arith))
         go true a true e =
-            let s = stands-size (madeOf x) (A .sound) capacity low high lentPart q L in
+            let s = stands-size (madeOf x) (A .sound) kinds capacity low high lentPart q L in
             let l = ltb-true i (operatorsOf lentPart) a in
             subst Fire-follows (sym (fired-accepted lentPart st i a e ∙ ap (λ (z : ℕ). outcome (answers 0 0) (firedAt lentPart z i)) s))
             (fire-made (omega (arith, L .operators-are)) (subst (λ (z : ℕ). ableAt lentPart z i ≡ true) s e))
@@ -69,7 +69,7 @@ module _ (x : Exp) (capacity : ℕ) (low : 1 ≤ capacity) (high : capacity ≤ 
     where
       go : Dec (lent < need (sizeOf capacity)) → Fire-follows (fired lentPart i)
       go (yes h) =
-          let st = short-refused (madeOf x) capacity m q low high H lent h in
+          let st = short-refused (madeOf x) kinds capacity m q low high H lent h in
           subst Fire-follows (sym (fired-refused lentPart i (λ z. absurd (omega (arith, st, z))) ∙ ap (λ (r : ℕ). outcome (answers r 0) lentPart) st))
           (fire-refused (numberOf Memory) (omega arith))
-      go (no h) = fire-tested i (stands-lent (madeOf x) (A .sound) capacity m q H lent (omega arith))
+      go (no h) = fire-tested i (stands-lent (madeOf x) (A .sound) kinds capacity m q H lent (omega arith))

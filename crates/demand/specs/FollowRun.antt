@@ -42,28 +42,28 @@ module _ (x : Exp) (capacity : ℕ) where
       go none ih = (refl, refl)
       go (some a) ih = ih a
 
-module _ (x : Exp) (capacity : ℕ) (low : 1 ≤ capacity) (high : capacity ≤ 16) (A : CallsAgree x capacity) (m : List ℕ)
-    (q : Links) (H : Stands (madeOf x) capacity m q) (lent : ℕ) where
+module _ (x : Exp) (kinds : List ℕ) (capacity : ℕ) (low : 1 ≤ capacity) (high : capacity ≤ 16) (A : CallsAgree x kinds capacity) (m : List ℕ)
+    (q : Links) (H : Stands (madeOf x) kinds capacity m q) (lent : ℕ) where
   abbrev lentPart : List ℕ
   lentPart = firstOf lent m
 
   abbrev Run-follows : Outcome → Type 0
-  Run-follows = Fire-follows x capacity low high A m q H lent
+  Run-follows = Fire-follows x kinds capacity low high A m q H lent
 
-  run-made : (firings : ℕ) → Stands (madeOf x) capacity lentPart q → (c : ℕ) (m′ : List ℕ) (r : ℕ)
+  run-made : (firings : ℕ) → Stands (madeOf x) kinds capacity lentPart q → (c : ℕ) (m′ : List ℕ) (r : ℕ)
       → m′ ≡ runs (sizeOf capacity) (length (madeOf x .operators)) firings lentPart 0 .mem → Unaltered r → Run-follows (outcome (answers r c) m′)
   unfolding stepsOf
   run-made firings L c m′ r e u =
-      let K : Stands (madeOf x) capacity m′ (afterSteps x (runSteps x capacity firings q) q)
-      = subst (λ (z : List ℕ). Stands (madeOf x) capacity z (afterSteps x (runSteps x capacity firings q) q)) (sym e) (A .ran lentPart q L firings) in
+      let K : Stands (madeOf x) kinds capacity m′ (afterSteps x (runSteps x capacity firings q) q)
+      = subst (λ (z : List ℕ). Stands (madeOf x) kinds capacity z (afterSteps x (runSteps x capacity firings q) q)) (sym e) (A .ran lentPart q L firings) in
       let p = run-only-fires x capacity firings q in (
-        follows-one x capacity q (m′ ++ drop lent m) [] [] (Abstract.runs firings) (runSteps x capacity firings q) refl
-            (stands-behind (madeOf x) (A .sound) capacity m′ (afterSteps x (runSteps x capacity firings q) q) K (drop lent m))
-            (subst (EachRead x capacity []) (sym (p .0)) tt) (ap (map shownTokens) (sym (p .1))),
+        follows-one x kinds capacity q (m′ ++ drop lent m) [] [] (Abstract.runs firings) (runSteps x capacity firings q) refl
+            (stands-behind (madeOf x) (A .sound) kinds capacity m′ (afterSteps x (runSteps x capacity firings q) q) K (drop lent m))
+            (subst (EachRead x kinds capacity []) (sym (p .0)) tt) (ap (map shownTokens) (sym (p .1))),
         u,
       )
 
-  run-ended : (firings : ℕ) → Stands (madeOf x) capacity lentPart q → (r : Ran) → r ≡ runs (sizeOf capacity) (length (madeOf x .operators)) firings lentPart 0
+  run-ended : (firings : ℕ) → Stands (madeOf x) kinds capacity lentPart q → (r : Ran) → r ≡ runs (sizeOf capacity) (length (madeOf x .operators)) firings lentPart 0
       → Run-follows (ended r (sizeOf capacity) (length (madeOf x .operators)))
   unfolding ended
   run-ended firings L r e = go (stillAt (r .mem) (sizeOf capacity) (length (madeOf x .operators)))
@@ -77,12 +77,12 @@ module _ (x : Exp) (capacity : ℕ) (low : 1 ≤ capacity) (high : capacity ≤ 
     where
       go : Dec (lent < need (sizeOf capacity)) → Run-follows (ran lentPart firings)
       go (yes h) =
-          let st = short-refused (madeOf x) capacity m q low high H lent h in
+          let st = short-refused (madeOf x) kinds capacity m q low high H lent h in
           subst Run-follows (sym (ran-refused lentPart firings (λ z. absurd (omega (arith, st, z))) ∙ ap (λ (r : ℕ). outcome (answers r 0) lentPart) st))
-          (fire-refused x capacity low high A m q H lent (numberOf Memory) (omega arith))
+          (fire-refused x kinds capacity low high A m q H lent (numberOf Memory) (omega arith))
       go (no h) =
-          let L = stands-lent (madeOf x) (A .sound) capacity m q H lent (omega arith) in
-          let s = stands-size (madeOf x) (A .sound) capacity low high lentPart q L in
+          let L = stands-lent (madeOf x) (A .sound) kinds capacity m q H lent (omega arith) in
+          let s = stands-size (madeOf x) (A .sound) kinds capacity low high lentPart q L in
           subst Run-follows
           (sym (ran-ended lentPart (A .good lentPart q L) firings ∙ ap₂ (λ (z n : ℕ). ended (runs z n firings lentPart 0) z n) s (L .operators-are)))
           (run-ended firings L (runs (sizeOf capacity) (length (madeOf x .operators)) firings lentPart 0) refl)

@@ -47,20 +47,20 @@ values-length : (ts : List Token) → length (valuesIn ts) ≡ length ts
 values-length [] = refl
 values-length (t ∷ ts) = ap suc (values-length ts)
 
-module _ (x : Exp) (capacity : ℕ) (low : 1 ≤ capacity) (high : capacity ≤ 16) (A : CallsAgree x capacity) (m : List ℕ)
-    (q : Links) (H : Stands (madeOf x) capacity m q) (lent : ℕ) where
+module _ (x : Exp) (kinds : List ℕ) (capacity : ℕ) (low : 1 ≤ capacity) (high : capacity ≤ 16) (A : CallsAgree x kinds capacity) (m : List ℕ)
+    (q : Links) (H : Stands (madeOf x) kinds capacity m q) (lent : ℕ) where
   abbrev lentPart : List ℕ
   lentPart = firstOf lent m
 
   abbrev Take-follows : Handed → Type 0
   Take-follows h =
-      Follows x capacity q (h .mem ++ drop lent m) [] (cond (accepted (h .answer)) (result (h .answer .count) (firstOf 80 (h .out)) ∷ []) []) × Unaltered (h .answer .refusal)
+      Follows x kinds capacity q (h .mem ++ drop lent m) [] (cond (accepted (h .answer)) (result (h .answer .count) (firstOf 80 (h .out)) ∷ []) []) × Unaltered (h .answer .refusal)
 
   take-refused : (out : List ℕ) (r : ℕ) → r ≢ 0 → Unaltered r → Take-follows (hands (answers r 0) lentPart out)
   unfolding accepted
-  take-refused out r n u = rw (ne-eqb r 0 n, take-append-drop lent m) (follows-none x capacity q m H, u)
+  take-refused out r n u = rw (ne-eqb r 0 n, take-append-drop lent m) (follows-none x kinds capacity q m H, u)
 
-  module _ (out : List ℕ) (room : 80 ≤ length out) (L : Stands (madeOf x) capacity lentPart q) where
+  module _ (out : List ℕ) (room : 80 ≤ length out) (L : Stands (madeOf x) kinds capacity lentPart q) where
     take-steps : Able (places capacity) (takeOf x) q → stepsOf x capacity takes q ≡ taking ∷ []
     unfolding stepsOf
     take-steps a = can-accepted taking (decAble (places capacity) (takeOf x) q) a
@@ -81,10 +81,10 @@ module _ (x : Exp) (capacity : ℕ) (low : 1 ≤ capacity) (high : capacity ≤ 
       take-made : Take-follows (hands (answers 0 (length (madeOf x .results))) (takenMemory lentPart) (written 16 lentPart (sizeOf capacity) (length (madeOf x .results)) out))
       unfolding accepted
       take-made = (
-        follows-one x capacity q (takenMemory lentPart ++ drop lent m) []
+        follows-one x kinds capacity q (takenMemory lentPart ++ drop lent m) []
             (result (length (madeOf x .results)) (firstOf 80 (written 16 lentPart (sizeOf capacity) (length (madeOf x .results)) out)) ∷ [])
             takes (taking ∷ []) (take-steps (A .take-able lentPart q L a b))
-            (stands-behind (madeOf x) (A .sound) capacity (takenMemory lentPart) (act (takeOf x) q) (A .taken lentPart q L a b) (drop lent m))
+            (stands-behind (madeOf x) (A .sound) kinds capacity (takenMemory lentPart) (act (takeOf x) q) (A .taken lentPart q L a b) (drop lent m))
             tt (ap (λ (r : Result). r ∷ []) take-shows),
         λ (e : 0 ≡ numberOf Altered). absurd (omega arith),
       )
@@ -96,7 +96,7 @@ module _ (x : Exp) (capacity : ℕ) (low : 1 ≤ capacity) (high : capacity ≤ 
         st = A .good lentPart q L
 
         s : sizeIn lentPart ≡ sizeOf capacity
-        s = stands-size (madeOf x) (A .sound) capacity low high lentPart q L
+        s = stands-size (madeOf x) (A .sound) kinds capacity low high lentPart q L
 
         go : (a : Bool) → ltb 0 (untakenOf lentPart) ≡ a → (b : Bool) → allBelow (resultsOf lentPart) (resultReady lentPart (sizeIn lentPart)) ≡ b
             → Take-follows (taken lentPart out)
@@ -114,7 +114,7 @@ module _ (x : Exp) (capacity : ℕ) (low : 1 ≤ capacity) (high : capacity ≤ 
       go : Dec (length out < 80) → Dec (lent < need (sizeOf capacity)) → Take-follows (taken lentPart out)
       go (yes h) d = subst Take-follows (sym (taken-short lentPart out h)) (take-refused out (numberOf Memory) (omega arith) (omega arith))
       go (no n) (yes h) =
-          let st = short-refused (madeOf x) capacity m q low high H lent h in
+          let st = short-refused (madeOf x) kinds capacity m q low high H lent h in
           subst Take-follows (sym (taken-refused lentPart out (omega arith) (λ z. absurd (omega (arith, st, z))) ∙ ap (λ (r : ℕ). hands (answers r 0) lentPart out) st))
           (take-refused out (numberOf Memory) (omega arith) (omega arith))
-      go (no n) (no h) = take-tested out (omega arith) (stands-lent (madeOf x) (A .sound) capacity m q H lent (omega arith))
+      go (no n) (no h) = take-tested out (omega arith) (stands-lent (madeOf x) (A .sound) kinds capacity m q H lent (omega arith))

@@ -27,23 +27,23 @@ use Rattle.demand.specs.Agree.{CallsAgree}
 use Rattle.demand.specs.Followed.{Follows, Unaltered, follows-none, follows-then}
 use Rattle.demand.specs.FollowPush.{push-follows}
 
-module _ (x : Exp) (capacity : ℕ) (low : 1 ≤ capacity) (high : capacity ≤ 16) (A : CallsAgree x capacity) where
+module _ (x : Exp) (kinds : List ℕ) (capacity : ℕ) (low : 1 ≤ capacity) (high : capacity ≤ 16) (A : CallsAgree x kinds capacity) where
   -- ---- set by set, on a memory with nothing behind it
 
-  push-whole : (b : List ℕ) (q : Links) → Stands (madeOf x) capacity b q → (set : List ℕ)
-      → Follows x capacity q (pushed b set .mem) (cond (accepted (pushed b set .answer)) (set ∷ []) []) [] × Unaltered (pushed b set .answer .refusal)
+  push-whole : (b : List ℕ) (q : Links) → Stands (madeOf x) kinds capacity b q → (set : List ℕ)
+      → Follows x kinds capacity q (pushed b set .mem) (cond (accepted (pushed b set .answer)) (set ∷ []) []) [] × Unaltered (pushed b set .answer .refusal)
   push-whole b q H set =
-      let p = push-follows x capacity low high A b q H (length b) set in
+      let p = push-follows x kinds capacity low high A b q H (length b) set in
       rw (take-length b, drop-length b, append-nil (pushed b set .mem)) at p
 
   -- The first d of the sets of k bytes went in, after c others.
   abbrev Turn-follows : ℕ → List ℕ → ℕ → Links → Outcome → Type 0
-  Turn-follows k s c q o = (d : ℕ) × (o .answer .count ≡ c + d) × Follows x capacity q (o .mem) (cut d k s) [] × Unaltered (o .answer .refusal)
+  Turn-follows k s c q o = (d : ℕ) × (o .answer .count ≡ c + d) × Follows x kinds capacity q (o .mem) (cut d k s) [] × Unaltered (o .answer .refusal)
 
   -- One set, whose push came out as o; a tells whether it was accepted.
   turn-onward : (n k : ℕ) (s : List ℕ) (c : ℕ) (q : Links) (o : Outcome) (a : Bool)
-      → Follows x capacity q (o .mem) (cond a (firstOf k s ∷ []) []) [] × Unaltered (o .answer .refusal)
-      → ((r : Links) → Stands (madeOf x) capacity (o .mem) r → Turn-follows k (drop k s) (suc c) r (pushedInTurn n k (o .mem) (drop k s) (suc c)))
+      → Follows x kinds capacity q (o .mem) (cond a (firstOf k s ∷ []) []) [] × Unaltered (o .answer .refusal)
+      → ((r : Links) → Stands (madeOf x) kinds capacity (o .mem) r → Turn-follows k (drop k s) (suc c) r (pushedInTurn n k (o .mem) (drop k s) (suc c)))
       → Turn-follows k s c q (pick a (pushedInTurn n k (o .mem) (drop k s) (suc c)) (outcome (answers (o .answer .refusal) c) (o .mem)))
   unfolding cut
   turn-onward n k s c q o false p rest = (0, omega arith, p .0, p .1)
@@ -52,35 +52,35 @@ module _ (x : Exp) (capacity : ℕ) (low : 1 ≤ capacity) (high : capacity ≤ 
       let t = rest (afterSteps x (stepsFrom x capacity (F .calls) q) q) (F .stands) in (
         suc (t .0),
         omega (arith, t .1),
-        follows-then x capacity q (o .mem) (pushedInTurn n k (o .mem) (drop k s) (suc c) .mem) (firstOf k s ∷ []) (cut (t .0) k (drop k s)) [] [] F (t .2),
+        follows-then x kinds capacity q (o .mem) (pushedInTurn n k (o .mem) (drop k s) (suc c) .mem) (firstOf k s ∷ []) (cut (t .0) k (drop k s)) [] [] F (t .2),
         t .3,
       )
 
-  turn-follows : (n k : ℕ) (b s : List ℕ) (c : ℕ) (q : Links) → Stands (madeOf x) capacity b q → Turn-follows k s c q (pushedInTurn n k b s c)
+  turn-follows : (n k : ℕ) (b s : List ℕ) (c : ℕ) (q : Links) → Stands (madeOf x) kinds capacity b q → Turn-follows k s c q (pushedInTurn n k b s c)
   unfolding pushedInTurn cut accepted
-  turn-follows zero k b s c q H = (0, omega arith, follows-none x capacity q b H, λ (e : 0 ≡ numberOf Altered). absurd (omega arith))
+  turn-follows zero k b s c q H = (0, omega arith, follows-none x kinds capacity q b H, λ (e : 0 ≡ numberOf Altered). absurd (omega arith))
   turn-follows (suc n) k b s c q H =
       let o = pushed b (firstOf k s) in
       turn-onward n k s c q o (eqb (o .answer .refusal) 0) (push-whole b q H (firstOf k s)) (turn-follows n k (o .mem) (drop k s) (suc c))
 
   -- ---- the call
 
-  module _ (m : List ℕ) (q : Links) (H : Stands (madeOf x) capacity m q) (lent : ℕ) where
+  module _ (m : List ℕ) (q : Links) (H : Stands (madeOf x) kinds capacity m q) (lent : ℕ) where
     abbrev lentPart : List ℕ
     lentPart = firstOf lent m
 
     abbrev Tray-follows : List ℕ → Outcome → Type 0
-    Tray-follows s o = Follows x capacity q (o .mem ++ drop lent m) (cut (o .answer .count) (setBytes lentPart) s) [] × Unaltered (o .answer .refusal)
+    Tray-follows s o = Follows x kinds capacity q (o .mem ++ drop lent m) (cut (o .answer .count) (setBytes lentPart) s) [] × Unaltered (o .answer .refusal)
 
     tray-refused : (s : List ℕ) (r : ℕ) → Unaltered r → Tray-follows s (outcome (answers r 0) lentPart)
     unfolding cut
-    tray-refused s r u = rw (take-append-drop lent m) (follows-none x capacity q m H, u)
+    tray-refused s r u = rw (take-append-drop lent m) (follows-none x kinds capacity q m H, u)
 
-    follows-behind : (b : List ℕ) (sets : List (List ℕ)) → Follows x capacity q b sets [] → Follows x capacity q (b ++ drop lent m) sets []
+    follows-behind : (b : List ℕ) (sets : List (List ℕ)) → Follows x kinds capacity q b sets [] → Follows x kinds capacity q (b ++ drop lent m) sets []
     follows-behind b sets F =
         record {
           calls = F .calls;
-          stands = stands-behind (madeOf x) (A .sound) capacity b (afterSteps x (stepsFrom x capacity (F .calls) q) q) (F .stands) (drop lent m);
+          stands = stands-behind (madeOf x) (A .sound) kinds capacity b (afterSteps x (stepsFrom x capacity (F .calls) q) q) (F .stands) (drop lent m);
           reads = F .reads;
           shows = F .shows;
         }
@@ -91,16 +91,16 @@ module _ (x : Exp) (capacity : ℕ) (low : 1 ≤ capacity) (high : capacity ≤ 
         (follows-behind (o .mem) (cut (o .answer .count) (setBytes lentPart) s) (rw d (t .2)), t .3)
 
     pub tray-follows : (s : List ℕ) (number : ℕ)
-        → Follows x capacity q (trayed lentPart s number .mem ++ drop lent m) (wentIn lentPart s number) [] × Unaltered (trayed lentPart s number .answer .refusal)
+        → Follows x kinds capacity q (trayed lentPart s number .mem ++ drop lent m) (wentIn lentPart s number) [] × Unaltered (trayed lentPart s number .answer .refusal)
     unfolding wentIn
     tray-follows s number = go (decLt lent (need (sizeOf capacity)))
       where
         go : Dec (lent < need (sizeOf capacity)) → Tray-follows s (trayed lentPart s number)
         go (yes h) =
-            let st = short-refused (madeOf x) capacity m q low high H lent h in
+            let st = short-refused (madeOf x) kinds capacity m q low high H lent h in
             subst (Tray-follows s) (sym (trayed-refused lentPart s number (λ z. absurd (omega (arith, st, z))) ∙ ap (λ (r : ℕ). outcome (answers r 0) lentPart) st))
             (tray-refused s (numberOf Memory) (omega arith))
         go (no h) =
-            let L = stands-lent (madeOf x) (A .sound) capacity m q H lent (omega arith) in
+            let L = stands-lent (madeOf x) (A .sound) kinds capacity m q H lent (omega arith) in
             subst (Tray-follows s) (sym (trayed-in-turn lentPart s number (A .good lentPart q L)))
             (tray-turned s (pushedInTurn number (setBytes lentPart) lentPart s 0) (turn-follows number (setBytes lentPart) lentPart s 0 q L))

@@ -37,7 +37,7 @@ shownTokens ts = shown (valuesIn ts)
 abbrev pub Unaltered : ℕ → Type 0
 Unaltered r = r ≢ numberOf Altered
 
-module _ (x : Exp) (capacity : ℕ) where
+module _ (x : Exp) (kinds : List ℕ) (capacity : ℕ) where
   -- ---- what follows the bytes
 
   -- The sets' bytes are read as these values.
@@ -45,27 +45,27 @@ module _ (x : Exp) (capacity : ℕ) where
   EachRead [] [] = Unit {0}
   EachRead [] (v ∷ vss) = ⊥
   EachRead (s ∷ sets) [] = ⊥
-  EachRead (s ∷ sets) (v ∷ vss) = (setValues (madeOf x .inputs) s ≡ some v) × EachRead sets vss
+  EachRead (s ∷ sets) (v ∷ vss) = (setValues kinds s ≡ some v) × EachRead sets vss
 
   -- Abstract calls that lead from the links q to those with which a machine stands in the memory m, push these sets and take these results.
   pub record Follows (q : Links) (m : List ℕ) (sets : List (List ℕ)) (results : List Result) : Type 0 where
     pub calls : List Abstract.Call
-    pub stands : Stands (madeOf x) capacity m (afterSteps x (stepsFrom x capacity calls q) q)
+    pub stands : Stands (madeOf x) kinds capacity m (afterSteps x (stepsFrom x capacity calls q) q)
     pub reads : EachRead sets (sets-of (stepsFrom x capacity calls q))
     pub shows : results ≡ map shownTokens (handed x (stepsFrom x capacity calls q) q)
 
-  pub follows-none : (q : Links) (m : List ℕ) → Stands (madeOf x) capacity m q → Follows q m [] []
+  pub follows-none : (q : Links) (m : List ℕ) → Stands (madeOf x) kinds capacity m q → Follows q m [] []
   unfolding stepsFrom
   follows-none q m H = record { calls = []; stands = H; reads = tt; shows = refl }
 
   pub follows-one : (q : Links) (m : List ℕ) (sets : List (List ℕ)) (results : List Result) (c : Abstract.Call) (w : List Step) → stepsOf x capacity c q ≡ w
-      → Stands (madeOf x) capacity m (afterSteps x w q) → EachRead sets (sets-of w) → results ≡ map shownTokens (handed x w q) → Follows q m sets results
+      → Stands (madeOf x) kinds capacity m (afterSteps x w q) → EachRead sets (sets-of w) → results ≡ map shownTokens (handed x w q) → Follows q m sets results
   unfolding stepsFrom
   follows-one q m sets results c w e H r s =
       let f : stepsFrom x capacity (c ∷ []) q ≡ w = append-nil (stepsOf x capacity c q) ∙ e in
       record {
         calls = c ∷ [];
-        stands = subst (λ (u : List Step). Stands (madeOf x) capacity m (afterSteps x u q)) (sym f) H;
+        stands = subst (λ (u : List Step). Stands (madeOf x) kinds capacity m (afterSteps x u q)) (sym f) H;
         reads = subst (λ (u : List Step). EachRead sets (sets-of u)) (sym f) r;
         shows = subst (λ (u : List Step). results ≡ map shownTokens (handed x u q)) (sym f) s;
       }
@@ -118,7 +118,7 @@ module _ (x : Exp) (capacity : ℕ) where
       let e : stepsFrom x capacity (F .calls ++ G .calls) q ≡ w ++ u = steps-append (F .calls) (G .calls) q in
       record {
         calls = F .calls ++ G .calls;
-        stands = subst (Stands (madeOf x) capacity m′) (sym (ap (λ (z : List Step). afterSteps x z q) e ∙ after-append w u q)) (G .stands);
+        stands = subst (Stands (madeOf x) kinds capacity m′) (sym (ap (λ (z : List Step). afterSteps x z q) e ∙ after-append w u q)) (G .stands);
         reads =
             subst (EachRead (sets ++ sets′)) (sym (ap sets-of e ∙ sets-append w u)) (read-append sets sets′ (sets-of w) (sets-of u) (F .reads) (G .reads));
         shows =
@@ -135,7 +135,7 @@ module _ (x : Exp) (capacity : ℕ) where
   read-count (s ∷ sets) (v ∷ vss) r = ap suc (read-count sets vss (r .1))
 
   pub read-at : (sets : List (List ℕ)) (vss : List (List Value)) → EachRead sets vss → (j : ℕ) → j < length vss
-      → setValues (madeOf x .inputs) (getD sets j []) ≡ some (getD vss j [])
+      → setValues kinds (getD sets j []) ≡ some (getD vss j [])
   read-at [] [] r j l = absurd (omega arith)
   read-at [] (v ∷ vss) r j l = absurd r
   read-at (s ∷ sets) [] r j l = absurd r

@@ -17,17 +17,17 @@ use Rattle.demand.specs.Demand3.{demand-3}
 unfoldable pub zeros : ℕ → List ℕ
 zeros n = replicate n 0
 
-pub lesser-starts : started (bytes lesser) 1 (zeros 40390) .answer .refusal ≡ 0
+pub lesser-starts : started (bytes lesser) (bytes "WW\n") 1 (zeros 40390) .answer .refusal ≡ 0
 unfolding started zeros capacityIn verdictOf bytes lesser
 lesser-starts = refl
 
-pub lesser-lent-too-little : started (bytes lesser) 1 (zeros 40389) .answer .refusal ≡ numberOf Memory
+pub lesser-lent-too-little : started (bytes lesser) (bytes "WW\n") 1 (zeros 40389) .answer .refusal ≡ numberOf Memory
 unfolding started zeros capacityIn
 lesser-lent-too-little = refl
 
-pub lesser-without-places : started (bytes lesser) 0 (zeros 40390) .answer .refusal ≡ numberOf Capacity
+pub lesser-without-places : started (bytes lesser) (bytes "WW\n") 0 (zeros 40390) .answer .refusal ≡ numberOf Capacity
 unfolding started zeros capacityIn
 lesser-without-places = refl
 
-pub lesser-own-verdicts : (calls : List Call) → OwnVerdicts (bytes lesser) 1 (started (bytes lesser) 1 (zeros 40390) .mem) calls
-lesser-own-verdicts calls = demand-3 (bytes lesser) 1 (zeros 40390) lesser-starts calls
+pub lesser-own-verdicts : (calls : List Call) → OwnVerdicts (bytes lesser) (bytes "WW\n") 1 (started (bytes lesser) (bytes "WW\n") 1 (zeros 40390) .mem) calls
+lesser-own-verdicts calls = demand-3 (bytes lesser) (bytes "WW\n") 1 (zeros 40390) lesser-starts calls

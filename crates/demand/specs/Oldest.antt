@@ -10,6 +10,8 @@ use native.Mathlib.Omega.{arith}
 use borrow.Author.Tests.{eq-eqb}
 use lib.ListN.{length, getD, take as firstOf, length-append}
 use lib.Seq.{getD-append-seam}
+use Rattle.formula.specs.Faults.{lettersOf}
+use Rattle.formula.specs.Tree.{formulaOf}
 use Rattle.formula.specs.declared.Refusal.the-variants.{NotAble}
 use Rattle.formula.specs.Refusals.{numberOf}
 use Rattle.meaning.specs.Evaluate.{evaluationOf}
@@ -54,9 +56,9 @@ take-no-set : (lent : ℕ) (out m : List ℕ) → setOf (take lent out) m ≡ []
 unfolding setOf
 take-no-set lent out m = refl
 
-module _ (sheet : List ℕ) (capacity : ℕ) (memory : List ℕ) (h : started sheet capacity memory .answer .refusal ≡ 0) (calls : List Call) where
+module _ (sheet line : List ℕ) (capacity : ℕ) (memory : List ℕ) (h : started sheet line capacity memory .answer .refusal ≡ 0) (calls : List Call) where
   abbrev start : List ℕ
-  start = started sheet capacity memory .mem
+  start = started sheet line capacity memory .mem
 
   abbrev now : List ℕ
   now = memoryAfterAll calls start
@@ -66,19 +68,19 @@ module _ (sheet : List ℕ) (capacity : ℕ) (memory : List ℕ) (h : started sh
       → length (resultsTaken calls start) < length (setsPushed calls start)
       → (lent : ℕ) (out : List ℕ) → need (sizeOf capacity) ≤ lent → 80 ≤ length out
       → (answerOf (take lent out) now .refusal ≡ 0)
-      × Ends sheet (getD (setsPushed calls start) (length (resultsTaken calls start)) [])
-      × ((rounds : ℕ) → Enough sheet (getD (setsPushed calls start) (length (resultsTaken calls start)) []) rounds
-      → handedOut lent out now ≡ yielded (evaluationOf sheet (getD (setsPushed calls start) (length (resultsTaken calls start)) []) rounds))
+      × Ends sheet line (getD (setsPushed calls start) (length (resultsTaken calls start)) [])
+      × ((rounds : ℕ) → Enough sheet line (getD (setsPushed calls start) (length (resultsTaken calls start)) []) rounds
+      → handedOut lent out now ≡ yielded (evaluationOf sheet line (getD (setsPushed calls start) (length (resultsTaken calls start)) []) rounds))
   oldest-ready still untaken lent out long room = (ok, ends (length (resultsTaken calls start)) (omega arith), verdict)
     where
-      ends : (j : ℕ) → j ≤ length (resultsTaken calls start) → Ends sheet (getD (setsPushed calls start) j [])
+      ends : (j : ℕ) → j ≤ length (resultsTaken calls start) → Ends sheet line (getD (setsPushed calls start) j [])
       ends j l =
-          let a = accepted-start sheet capacity memory h in
-          ends-when-still sheet (a .admissible) capacity (a .some) (a .most) (calls-agree sheet (a .admissible) capacity (a .some) (a .most)) start (accepted-stands sheet capacity memory h) calls still j l
+          let a = accepted-start sheet line capacity memory h in
+          ends-when-still sheet line (a .admissible) (a .kinded) capacity (a .some) (a .most) (calls-agree sheet (a .admissible) (lettersOf (formulaOf sheet) line) capacity (a .some) (a .most)) start (accepted-stands sheet line capacity memory h) calls still j l
           (omega arith)
 
       ok : answerOf (take lent out) now .refusal ≡ 0
-      ok = go (demand-3 sheet capacity memory h calls .ready still)
+      ok = go (demand-3 sheet line capacity memory h calls .ready still)
         where
           go : (length (resultsTaken calls start) ≡ length (setsPushed calls start))
               ⊎ ((lent : ℕ) (out : List ℕ) → need (sizeOf capacity) ≤ lent → 80 ≤ length out → answerOf (take lent out) now .refusal ≡ 0)
@@ -94,14 +96,14 @@ module _ (sheet : List ℕ) (capacity : ℕ) (memory : List ℕ) (h : started sh
           sets-with calls (take lent out) start ∙ ap (λ (z : List (List ℕ)). setsPushed calls start ++ z) (take-no-set lent out now)
           ∙ append-nil (setsPushed calls start)
 
-      verdict : (rounds : ℕ) → Enough sheet (getD (setsPushed calls start) (length (resultsTaken calls start)) []) rounds
-          → handedOut lent out now ≡ yielded (evaluationOf sheet (getD (setsPushed calls start) (length (resultsTaken calls start)) []) rounds)
+      verdict : (rounds : ℕ) → Enough sheet line (getD (setsPushed calls start) (length (resultsTaken calls start)) []) rounds
+          → handedOut lent out now ≡ yielded (evaluationOf sheet line (getD (setsPushed calls start) (length (resultsTaken calls start)) []) rounds)
       verdict rounds enough =
           let k = length (resultsTaken calls start) in
           let more : length (resultsTaken (calls ++ (take lent out ∷ [])) start) ≡ k + 1
           = ap length results-are ∙ length-append (resultsTaken calls start) (handedOut lent out now ∷ []) in
           sym (ap (λ (z : List Result). getD z k (result 0 [])) results-are ∙ getD-append-seam (resultsTaken calls start) (handedOut lent out now) [] (result 0 []))
-          ∙ demand-3 sheet capacity memory h (calls ++ (take lent out ∷ [])) .own k (omega arith)
-          (λ j l. subst (λ (z : List (List ℕ)). Ends sheet (getD z j [])) (sym sets-are) (ends j l)) rounds
-          (subst (λ (z : List (List ℕ)). Enough sheet (getD z k []) rounds) (sym sets-are) enough)
-          ∙ ap (λ (z : List (List ℕ)). yielded (evaluationOf sheet (getD z k []) rounds)) sets-are
+          ∙ demand-3 sheet line capacity memory h (calls ++ (take lent out ∷ [])) .own k (omega arith)
+          (λ j l. subst (λ (z : List (List ℕ)). Ends sheet line (getD z j [])) (sym sets-are) (ends j l)) rounds
+          (subst (λ (z : List (List ℕ)). Enough sheet line (getD z k []) rounds) (sym sets-are) enough)
+          ∙ ap (λ (z : List (List ℕ)). yielded (evaluationOf sheet line (getD z k []) rounds)) sets-are

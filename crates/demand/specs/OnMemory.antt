@@ -1,6 +1,6 @@
 -- Demand 3 of the memory from demand 3 of the network (theory_verdicts/specs/Verdicts `demand-3`): a list of calls on bytes is followed by one of abstract calls
 -- (FollowAll), and what direct evaluation of bytes yields are the abstract verdicts (Evaluations). Assumes the laws of `CallsAgree` and a memory in which the
--- machine of an admissible sheet stands as started.
+-- machine of an admissible sheet, whose kinds line passes 17 and 18, stands as started.
 use Prim.Native.Nat.{ℕ, zero, suc, _≤_, _<_}
 use mathlib.Core.Path.{_≡_, refl, sym, ap, ap₂, subst, _∙_}
 use mathlib.Core.Logic.{_⊎_, inl, inr}
@@ -19,8 +19,8 @@ use Rattle.theory_pieces.specs.Tape.{Step, firing, taking}
 use Rattle.formula.specs.declared.Refusal.the-variants.{NotAble}
 use Rattle.formula.specs.Refusals.{numberOf}
 use Rattle.formula.specs.Tree.{Exp, formulaOf}
-use Rattle.formula.specs.Free.{inputsOf}
-use Rattle.formula.specs.Acceptance.{Admissible}
+use Rattle.formula.specs.Faults.{lettersOf}
+use Rattle.formula.specs.Acceptance.{Admissible, Kinded}
 use Rattle.graph.specs.Translation.{madeOf}
 use Rattle.theory_wiring.specs.Machine.{net-past}
 use Rattle.meaning.specs.Evaluate.{evaluationOf}
@@ -67,17 +67,17 @@ result-at f [] d k l = absurd (omega arith)
 result-at f (t ∷ tss) d zero l = refl
 result-at f (t ∷ tss) d (suc k) l = result-at f tss d k (omega arith)
 
-made-inputs : (x : Exp) → madeOf x .inputs ≡ length (inputsOf x)
-unfolding madeOf
-made-inputs x = refl
-
-module _ (sheet : List ℕ) (ok : Admissible sheet) (capacity : ℕ) (low : 1 ≤ capacity) (high : capacity ≤ 16) (A : CallsAgree (formulaOf sheet) capacity)
-    (start : List ℕ) (H : Stands (madeOf (formulaOf sheet)) capacity start (startOf (formulaOf sheet))) (calls : List Call) where
+module _ (sheet line : List ℕ) (ok : Admissible sheet) (told : Kinded sheet line) (capacity : ℕ) (low : 1 ≤ capacity) (high : capacity ≤ 16)
+    (A : CallsAgree (formulaOf sheet) (lettersOf (formulaOf sheet) line) capacity)
+    (start : List ℕ) (H : Stands (madeOf (formulaOf sheet)) (lettersOf (formulaOf sheet) line) capacity start (startOf (formulaOf sheet))) (calls : List Call) where
   abbrev x : Exp
   x = formulaOf sheet
 
-  pub F : Follows x capacity (startOf x) (memoryAfterAll calls start) (setsPushed calls start) (resultsTaken calls start)
-  F = calls-follow x capacity low high A calls start (startOf x) H
+  abbrev kinds : List ℕ
+  kinds = lettersOf (formulaOf sheet) line
+
+  pub F : Follows x kinds capacity (startOf x) (memoryAfterAll calls start) (setsPushed calls start) (resultsTaken calls start)
+  F = calls-follow x kinds capacity low high A calls start (startOf x) H
 
   abbrev sets : List (List Value)
   sets = Abstract.pushed x capacity (F .calls)
@@ -98,22 +98,20 @@ module _ (sheet : List ℕ) (ok : Admissible sheet) (capacity : ℕ) (low : 1 �
   as-many-results = ap length (F .shows) ∙ length-map results shownTokens
 
   pub as-many-sets : length (setsPushed calls start) ≡ length sets
-  as-many-sets = read-count x capacity (setsPushed calls start) sets (F .reads)
+  as-many-sets = read-count x kinds capacity (setsPushed calls start) sets (F .reads)
 
-  read : (j : ℕ) → j < length sets → setValues (length (inputsOf x)) (getD (setsPushed calls start) j []) ≡ some (getD sets j [])
-  read j l =
-      subst (λ (n : ℕ). setValues n (getD (setsPushed calls start) j []) ≡ some (getD sets j [])) (made-inputs x)
-      (read-at x capacity (setsPushed calls start) sets (F .reads) j l)
+  pub read : (j : ℕ) → j < length sets → setValues kinds (getD (setsPushed calls start) j []) ≡ some (getD sets j [])
+  read j l = read-at x kinds capacity (setsPushed calls start) sets (F .reads) j l
 
   -- ---- the k-th result
 
-  own-verdict : (k : ℕ) → k < length (resultsTaken calls start) → ((j : ℕ) → j ≤ k → Ends sheet (getD (setsPushed calls start) j []))
-      → (rounds : ℕ) → Enough sheet (getD (setsPushed calls start) k []) rounds
-      → getD (resultsTaken calls start) k (result 0 []) ≡ yielded (evaluationOf sheet (getD (setsPushed calls start) k []) rounds)
+  own-verdict : (k : ℕ) → k < length (resultsTaken calls start) → ((j : ℕ) → j ≤ k → Ends sheet line (getD (setsPushed calls start) j []))
+      → (rounds : ℕ) → Enough sheet line (getD (setsPushed calls start) k []) rounds
+      → getD (resultsTaken calls start) k (result 0 []) ≡ yielded (evaluationOf sheet line (getD (setsPushed calls start) k []) rounds)
   own-verdict k l ends rounds enough =
       let lt : k < length results = omega (arith, as-many-results) in
       let many = abstractly .none-invented in
-      let y = enough-yields sheet ok (getD (setsPushed calls start) k []) (getD sets k []) (read k (omega arith)) rounds enough in
+      let y = enough-yields sheet line ok told (getD (setsPushed calls start) k []) (getD sets k []) (read k (omega arith)) rounds enough in
       ap (λ (z : List Result). getD z k (result 0 [])) (F .shows)
       ∙ result-at shownTokens results (result 0 []) k lt
       ∙ ap (λ (ts : List Token). shown (valuesIn ts)) (abstractly .own k lt (each many) (y .0) (y .1))
@@ -123,7 +121,7 @@ module _ (sheet : List ℕ) (ok : Admissible sheet) (capacity : ℕ) (low : 1 �
       each : length results ≤ length sets → (j : ℕ) → j ≤ k → (r : List Value) × EndsWith x (getD sets j []) r
       each many j h =
           let e = ends j h in
-          let z = enough-yields sheet ok (getD (setsPushed calls start) j []) (getD sets j []) (read j (omega (arith, as-many-results))) (e .0) (e .1) in
+          let z = enough-yields sheet line ok told (getD (setsPushed calls start) j []) (getD sets j []) (read j (omega (arith, as-many-results))) (e .0) (e .1) in
           (z .0, z .1)
 
   -- ---- when nothing can fire
@@ -132,7 +130,7 @@ module _ (sheet : List ℕ) (ok : Admissible sheet) (capacity : ℕ) (low : 1 �
     able-fires : (i : ℕ) → i < length (madeOf x .operators) → ableAt memory (sizeOf capacity) i ≡ true → answerOf (fire (length memory) i) memory ≡ answers 0 0
     unfolding answerOf
     able-fires i l a =
-        let s = stands-size (madeOf x) (A .sound) capacity low high memory links (F .stands) in
+        let s = stands-size (madeOf x) (A .sound) kinds capacity low high memory links (F .stands) in
         ap (λ (m : List ℕ). fired m i .answer) (take-length memory)
         ∙ ap (λ o. o .answer)
         (fired-accepted memory (A .good memory links (F .stands)) i (lt-ltb i (operatorsOf memory) (omega (arith, F .stands .operators-are)))
@@ -153,17 +151,17 @@ module _ (sheet : List ℕ) (ok : Admissible sheet) (capacity : ℕ) (low : 1 �
     no-step i = cannot-refused (firing i) (decAble (places capacity) (operatorAt x i) links) (cannot-fire i)
 
     -- Direct evaluation of the oldest untaken set ends, and so does that of every set before it.
-    pub ends-when-still : (j : ℕ) → j ≤ length (resultsTaken calls start) → j < length (setsPushed calls start) → Ends sheet (getD (setsPushed calls start) j [])
+    pub ends-when-still : (j : ℕ) → j ≤ length (resultsTaken calls start) → j < length (setsPushed calls start) → Ends sheet line (getD (setsPushed calls start) j [])
     ends-when-still j most l =
         let z = Verdicts.ends-when-quiet sheet ok capacity low (F .calls) no-step j (omega (arith, as-many-sets)) (omega (arith, as-many-results)) in
-        yields-enough sheet ok (getD (setsPushed calls start) j []) (getD sets j []) (read j (omega (arith, as-many-sets))) (z .0) (z .1)
+        yields-enough sheet line ok told (getD (setsPushed calls start) j []) (getD sets j []) (read j (omega (arith, as-many-sets))) (z .0) (z .1)
 
     take-accepted : Able (places capacity) (takeOf x) links → (lent : ℕ) (out : List ℕ) → need (sizeOf capacity) ≤ lent → 80 ≤ length out
         → answerOf (take lent out) memory .refusal ≡ 0
     unfolding answerOf
     take-accepted a lent out h room =
-        let L = stands-lent (madeOf x) (A .sound) capacity memory links (F .stands) lent h in
-        let s = stands-size (madeOf x) (A .sound) capacity low high (firstOf lent memory) links L in
+        let L = stands-lent (madeOf x) (A .sound) kinds capacity memory links (F .stands) lent h in
+        let s = stands-size (madeOf x) (A .sound) kinds capacity low high (firstOf lent memory) links L in
         let r = A .take-ready (firstOf lent memory) links L a in
         ap (λ o. o .answer .refusal)
         (taken-accepted (firstOf lent memory) (A .good (firstOf lent memory) links L) out room (r .0)
@@ -181,11 +179,11 @@ module _ (sheet : List ℕ) (ok : Admissible sheet) (capacity : ℕ) (low : 1 �
         go (inr e) = inr (take-accepted (accepted-can taking (decAble (places capacity) (takeOf x) links) e))
 
   -- Demand 3 after this list of calls.
-  pub own-verdicts-of-bytes : OwnVerdicts sheet capacity start calls
+  pub own-verdicts-of-bytes : OwnVerdicts sheet line capacity start calls
   own-verdicts-of-bytes =
       record {
         own = own-verdict;
         none-invented = omega (arith, abstractly .none-invented, as-many-results, as-many-sets);
         ready = ready-when-still;
-        never-altered = calls-unaltered x capacity low high A calls start (startOf x) H;
+        never-altered = calls-unaltered x kinds capacity low high A calls start (startOf x) H;
       }

@@ -16,9 +16,10 @@ use Rattle.value.specs.Operators.{pick}
 use Rattle.formula.specs.declared.Refusal.the-variants.{Untaken, Full}
 use Rattle.formula.specs.Refusals.{numberOf}
 use Rattle.formula.specs.Tree.{Exp, formulaOf}
+use Rattle.formula.specs.Faults.{lettersOf}
 use Rattle.network.specs.Net.{Links, Able, act}
 use Rattle.graph.specs.Translation.{madeOf}
-use Rattle.machine_layout.specs.Layout.{inputsOf, untakenOf, sizeOf, need}
+use Rattle.machine_layout.specs.Layout.{inputsOf, untakenOf, sizeOf, need, storedKinds}
 use Rattle.machine_valid.specs.Below.{allBelow, and-both, below-at, below-all}
 use Rattle.machine_calls.specs.Calls.{Outcome, sizeIn, standing, roomsOk, pushed}
 use Rattle.value_sets.specs.Sets.{setOk, setValues, IsSet, values-pass, values-set}
@@ -72,8 +73,8 @@ pushAnswers lent k set m = map (λ a. a .refusal) (answersOf (replicate k (push 
 
 -- ---- the same
 
-module _ (x : Exp) (S : Sound (madeOf x)) (capacity : ℕ) (low : 1 ≤ capacity) (high : capacity ≤ 16) (set : List ℕ) (v : List Value)
-    (I : IsSet (madeOf x .inputs) set v) where
+module _ (x : Exp) (S : Sound (madeOf x)) (kinds : List ℕ) (capacity : ℕ) (low : 1 ≤ capacity) (high : capacity ≤ 16) (count : length kinds ≡ madeOf x .inputs)
+    (set : List ℕ) (v : List Value) (I : IsSet kinds set v) where
   near : madeOf x .inputs + bit (madeOf x .triggered) ≤ creditLink
   near = omega (arith, S .names-below, S .few-links)
 
@@ -83,41 +84,41 @@ module _ (x : Exp) (S : Sound (madeOf x)) (capacity : ℕ) (low : 1 ≤ capacity
   rooms-able : (q : Links) → ltb (length (q creditLink)) 16 ≡ true → Rooms q ≡ true → Able (places capacity) (pushOf x v) q
   unfolding hasRoom
   rooms-able q a b =
-      room-push (madeOf x) v q (I .count) near capacity (ltb-true (length (q creditLink)) 16 a)
+      room-push (madeOf x) v q (I .count ∙ count) near capacity (ltb-true (length (q creditLink)) 16 a)
       (λ l h. ltb-true (length (q l)) capacity (below-at (madeOf x .inputs + bit (madeOf x .triggered)) (hasRoom capacity q) b l h))
 
   able-rooms : (q : Links) → Able (places capacity) (pushOf x v) q → Rooms q ≡ true
   unfolding hasRoom
   able-rooms q a =
       below-all (madeOf x .inputs + bit (madeOf x .triggered)) (hasRoom capacity q)
-      (λ l h. lt-ltb (length (q l)) capacity (push-room (madeOf x) v q (I .count) near capacity a .1 l h))
+      (λ l h. lt-ltb (length (q l)) capacity (push-room (madeOf x) v q (I .count ∙ count) near capacity a .1 l h))
 
   -- One push answers what the links say, and leaves the memory of the links after it.
   pub record Answered (o : Outcome) (q : Links) : Type 0 where
     pub answer : o .answer .refusal ≡ pushRefusal x capacity q
-    pub stands : Stands (madeOf x) capacity (o .mem) (afterPush x capacity v q)
+    pub stands : Stands (madeOf x) kinds capacity (o .mem) (afterPush x capacity v q)
 
-  module _ (m : List ℕ) (q : Links) (H : Stands (madeOf x) capacity m q) where
+  module _ (m : List ℕ) (q : Links) (H : Stands (madeOf x) kinds capacity m q) where
     good : standing m ≡ 0
-    good = stands-well (madeOf x) S capacity low high m q H
+    good = stands-well (madeOf x) S kinds capacity low high m q H
 
-    set-good : setOk (inputsOf m) set ≡ true
-    set-good = rw (H .inputs-are) (values-pass (madeOf x .inputs) set v (I .values))
+    set-good : setOk (storedKinds m) set ≡ true
+    set-good = rw (H .kinds-are) (values-pass kinds set v (I .values))
 
     untaken : (b : Bool) → ltb (length (q creditLink)) 16 ≡ b → ltb (untakenOf m) 16 ≡ b
     untaken b e = ap (λ (n : ℕ). ltb n 16) (H .untaken-is) ∙ e
 
     rooms-in : (b : Bool) → roomsOk m (sizeOf capacity) (madeOf x .inputs) ≡ b → roomsOk m (sizeIn m) (inputsOf m) ≡ b
-    rooms-in b e = ap₂ (λ (z n : ℕ). roomsOk m z n) (stands-size (madeOf x) S capacity low high m q H) (H .inputs-are) ∙ e
+    rooms-in b e = ap₂ (λ (z n : ℕ). roomsOk m z n) (stands-size (madeOf x) S kinds capacity low high m q H) (H .inputs-are) ∙ e
 
     accepted : ltb (length (q creditLink)) 16 ≡ true → Rooms q ≡ true → Answered (pushed m set) q
     unfolding pushRefusal afterPush
     accepted a b =
         let can = rooms-able q a b in
-        subst (λ (o : Outcome). Answered o q) (sym (push-accepted (madeOf x) S capacity low high m q H set v I good can))
+        subst (λ (o : Outcome). Answered o q) (sym (push-accepted (madeOf x) S kinds capacity low high m q H set v I good can))
         (record {
           answer = rw (a, b) refl;
-          stands = rw (a, b) (stands-pushed (madeOf x) S capacity low high m q H set v I can);
+          stands = rw (a, b) (stands-pushed (madeOf x) S kinds capacity low high m q H set v I can);
         })
 
     full : ltb (length (q creditLink)) 16 ≡ true → Rooms q ≡ false → Answered (pushed m set) q
@@ -126,7 +127,7 @@ module _ (x : Exp) (S : Sound (madeOf x)) (capacity : ℕ) (low : 1 ≤ capacity
       where
         go : (c : Bool) → roomsOk m (sizeOf capacity) (madeOf x .inputs) ≡ c → Answered (pushed m set) q
         go true e =
-            absurd (false≢true (sym b ∙ able-rooms q (tests-push (madeOf x) S capacity low high m q H set v I (and-both (untaken true a) e))))
+            absurd (false≢true (sym b ∙ able-rooms q (tests-push (madeOf x) S kinds capacity low high m q H set v I (and-both (untaken true a) e))))
         go false e =
             subst (λ (o : Outcome). Answered o q) (sym (pushed-full m good set set-good (untaken true a) (rooms-in false e)))
             (record { answer = rw (a, b) refl; stands = rw (a, b) H })
@@ -146,22 +147,24 @@ module _ (x : Exp) (S : Sound (madeOf x)) (capacity : ℕ) (low : 1 ≤ capacity
         go false e b f = sixteen-untaken e
 
   -- Pushes on the memory are answered as the links say.
-  pub pushes-answered : (lent : ℕ) → need (sizeOf capacity) ≤ lent → (k : ℕ) (m : List ℕ) (q : Links) → Stands (madeOf x) capacity m q
+  pub pushes-answered : (lent : ℕ) → need (sizeOf capacity) ≤ lent → (k : ℕ) (m : List ℕ) (q : Links) → Stands (madeOf x) kinds capacity m q
       → pushAnswers lent k set m ≡ pushRefusals x capacity v k q
   unfolding pushAnswers pushRefusals answersOf answerOf memoryAfter
   pushes-answered lent h zero m q H = refl
   pushes-answered lent h (suc k) m q H =
-      let A = push-answered (firstOf lent m) q (stands-lent (madeOf x) S capacity m q H lent h) in
+      let A = push-answered (firstOf lent m) q (stands-lent (madeOf x) S kinds capacity m q H lent h) in
       ap₂ {B = List ℕ} (λ (r : ℕ) (rs : List ℕ). r ∷ rs) (A .answer)
       (pushes-answered lent h k (pushed (firstOf lent m) set .mem ++ drop lent m) (afterPush x capacity v q)
-      (stands-behind (madeOf x) S capacity (pushed (firstOf lent m) set .mem) (afterPush x capacity v q) (A .stands) (drop lent m)))
+      (stands-behind (madeOf x) S kinds capacity (pushed (firstOf lent m) set .mem) (afterPush x capacity v q) (A .stands) (drop lent m)))
 
--- From an accepted start on, whatever the set.
-pub pushes-from-start : (sheet : List ℕ) (capacity : ℕ) (memory : List ℕ) → started sheet capacity memory .answer .refusal ≡ 0
-    → (set : List ℕ) (v : List Value) → setValues (madeOf (formulaOf sheet) .inputs) set ≡ some v → (lent : ℕ) → need (sizeOf capacity) ≤ lent → (k : ℕ)
-    → pushAnswers lent k set (started sheet capacity memory .mem) ≡ pushRefusals (formulaOf sheet) capacity v k (startOf (formulaOf sheet))
-pushes-from-start sheet capacity memory h set v r lent enough k =
-    let a = accepted-start sheet capacity memory h in
+-- From an accepted start on, for any set that passes 12.
+pub pushes-from-start : (sheet line : List ℕ) (capacity : ℕ) (memory : List ℕ) → started sheet line capacity memory .answer .refusal ≡ 0
+    → (set : List ℕ) (v : List Value) → setValues (lettersOf (formulaOf sheet) line) set ≡ some v → (lent : ℕ) → need (sizeOf capacity) ≤ lent → (k : ℕ)
+    → pushAnswers lent k set (started sheet line capacity memory .mem) ≡ pushRefusals (formulaOf sheet) capacity v k (startOf (formulaOf sheet))
+pushes-from-start sheet line capacity memory h set v r lent enough k =
+    let a = accepted-start sheet line capacity memory h in
     let x = formulaOf sheet in
-    pushes-answered x (made-sound sheet (a .admissible)) capacity (a .some) (a .most) set v (values-set (madeOf x .inputs) set v r) lent enough k
-    (started sheet capacity memory .mem) (startOf x) (accepted-stands sheet capacity memory h)
+    let kinds = lettersOf x line in
+    let H = accepted-stands sheet line capacity memory h in
+    pushes-answered x (made-sound sheet (a .admissible)) kinds capacity (a .some) (a .most) (H .kinds-count) set v (values-set kinds set v r) lent enough k
+    (started sheet line capacity memory .mem) (startOf x) H

@@ -13,8 +13,8 @@ use Rattle.machine_layout.specs.Layout.{sizeOf, need, capacityIn}
 use Rattle.machine_valid.specs.Below.{and-both}
 use Rattle.machine_start.specs.Start.{refusal, byVerdict, started}
 
-pub start-accepts : (sheet : List ℕ) (capacity : ℕ) (m : List ℕ) → verdictOf sheet ≡ Passed → 1 ≤ capacity → capacity ≤ 16 → need (sizeOf capacity) ≤ length m → started sheet capacity m .answer .refusal ≡ 0
+pub start-accepts : (sheet line : List ℕ) (capacity : ℕ) (m : List ℕ) → verdictOf sheet line ≡ Passed → 1 ≤ capacity → capacity ≤ 16 → need (sizeOf capacity) ≤ length m → started sheet line capacity m .answer .refusal ≡ 0
 unfolding started byVerdict capacityIn
-start-accepts sheet capacity m passed low high long =
+start-accepts sheet line capacity m passed low high long =
     let between : leb 1 capacity && leb capacity 16 ≡ true = and-both (le-leb 1 capacity low) (le-leb capacity 16 high) in
     rw (between, le-ltb (length m) (need (sizeOf capacity)) long, passed) refl

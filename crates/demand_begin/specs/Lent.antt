@@ -14,7 +14,7 @@ use Rattle.value.specs.Bytes.{wordAt}
 use Rattle.formula.specs.Refusals.{numberOf}
 use Rattle.formula.specs.declared.Refusal.the-variants.{Memory, Altered}
 use Rattle.network.specs.Net.{Links}
-use Rattle.machine_layout.specs.Layout.{number16, nameAt, operatorAt, registerAt, sizeOf, linkAt, need, capacityIn, capacityOf, part}
+use Rattle.machine_layout.specs.Layout.{inputKindsAt, inputsOf, number16, nameAt, operatorAt, registerAt, sizeOf, linkAt, need, capacityIn, capacityOf, part, storedKinds}
 use Rattle.machine_layout.specs.Fits.{stretch-fits}
 use Rattle.machine_firing.specs.Parts.{part-length}
 use Rattle.machine_valid.specs.Below.{and-both}
@@ -63,7 +63,7 @@ module _ (n : ℕ) (m k : List ℕ) (same : Agree n m k) where
 
 -- ---- the machine in such a memory
 
-module _ (g : Made) (S : Sound g) (capacity : ℕ) (m : List ℕ) (q : Links) (H : Stands g capacity m q) (k : List ℕ) (long : need (sizeOf capacity) ≤ length k)
+module _ (g : Made) (S : Sound g) (kinds : List ℕ) (capacity : ℕ) (m : List ℕ) (q : Links) (H : Stands g kinds capacity m q) (k : List ℕ) (long : need (sizeOf capacity) ≤ length k)
     (same : Agree (need (sizeOf capacity)) m k) where
   abbrev n : ℕ
   n = need (sizeOf capacity)
@@ -88,7 +88,14 @@ module _ (g : Made) (S : Sound g) (capacity : ℕ) (m : List ℕ) (q : Links) (H
       let h : i < 1024 = let a = ith-inside (g .operators) i o at in omega (arith, S .few-operators) in
       record { register = G .register; fine = G .fine; word = agree-word n m k same (registerAt i) (omega arith) ∙ G .word; held = G .held }
 
-  pub stands-there : Stands g capacity k q
+  kinds-there : storedKinds k ≡ kinds
+  kinds-there =
+      let i : inputsOf m ≤ 32 = omega (arith, H .inputs-are, S .few-inputs) in
+      ap (part k inputKindsAt) (same 5 (omega arith))
+      ∙ agree-part n m k same inputKindsAt (inputsOf m) (omega (arith, i)) (omega (arith, i, H .long)) (omega (arith, i))
+      ∙ H .kinds-are
+
+  pub stands-there : Stands g kinds capacity k q
   stands-there =
       record {
         long = long;
@@ -96,6 +103,9 @@ module _ (g : Made) (S : Sound g) (capacity : ℕ) (m : List ℕ) (q : Links) (H
         operators-are = agree-number n m k same 1 (omega arith) ∙ H .operators-are;
         links-are = agree-number n m k same 3 (omega arith) ∙ H .links-are;
         inputs-are = same 5 (omega arith) ∙ H .inputs-are;
+        kinds-are = kinds-there;
+        kinds-count = H .kinds-count;
+        kinds-letters = H .kinds-letters;
         results-are = same 6 (omega arith) ∙ H .results-are;
         untaken-is = same 7 (omega arith) ∙ H .untaken-is;
         untaken-few = H .untaken-few;
@@ -112,21 +122,23 @@ module _ (g : Made) (S : Sound g) (capacity : ℕ) (m : List ℕ) (q : Links) (H
       }
 
 -- Lent in part, but no less than is needed.
-pub stands-lent : (g : Made) → Sound g → (capacity : ℕ) (m : List ℕ) (q : Links) → Stands g capacity m q → (n : ℕ) → need (sizeOf capacity) ≤ n → Stands g capacity (take n m) q
-stands-lent g S capacity m q H n h =
-    stands-there g S capacity m q H (take n m) (omega (arith, H .long, length-take n m)) (λ i l. getD-take n m i 0 (omega arith))
+pub stands-lent : (g : Made) → Sound g → (kinds : List ℕ) (capacity : ℕ) (m : List ℕ) (q : Links) → Stands g kinds capacity m q → (n : ℕ) → need (sizeOf capacity) ≤ n
+    → Stands g kinds capacity (take n m) q
+stands-lent g S kinds capacity m q H n h =
+    stands-there g S kinds capacity m q H (take n m) (omega (arith, H .long, length-take n m)) (λ i l. getD-take n m i 0 (omega arith))
 
 -- Lent with more behind it.
-pub stands-behind : (g : Made) → Sound g → (capacity : ℕ) (m : List ℕ) (q : Links) → Stands g capacity m q → (rest : List ℕ) → Stands g capacity (m ++ rest) q
-stands-behind g S capacity m q H rest =
-    stands-there g S capacity m q H (m ++ rest) (omega (arith, H .long, length-append m rest)) (λ i l. List·getD-append m rest 0 i (omega (arith, H .long)))
+pub stands-behind : (g : Made) → Sound g → (kinds : List ℕ) (capacity : ℕ) (m : List ℕ) (q : Links) → Stands g kinds capacity m q → (rest : List ℕ)
+    → Stands g kinds capacity (m ++ rest) q
+stands-behind g S kinds capacity m q H rest =
+    stands-there g S kinds capacity m q H (m ++ rest) (omega (arith, H .long, length-append m rest)) (λ i l. List·getD-append m rest 0 i (omega (arith, H .long)))
 
 -- "a call lent too little gets 11"
-pub short-refused : (g : Made) (capacity : ℕ) (m : List ℕ) (q : Links) → 1 ≤ capacity → capacity ≤ 16 → Stands g capacity m q → (n : ℕ) → n < need (sizeOf capacity)
-    → standing (take n m) ≡ numberOf Memory
+pub short-refused : (g : Made) (kinds : List ℕ) (capacity : ℕ) (m : List ℕ) (q : Links) → 1 ≤ capacity → capacity ≤ 16 → Stands g kinds capacity m q → (n : ℕ)
+    → n < need (sizeOf capacity) → standing (take n m) ≡ numberOf Memory
 unfolding standing capacityIn
-short-refused g capacity m q low high H zero h = refl
-short-refused g capacity m q low high H (suc n) h =
+short-refused g kinds capacity m q low high H zero h = refl
+short-refused g kinds capacity m q low high H (suc n) h =
     let c : capacityOf (take (suc n) m) ≡ capacity =
     ap capacityIn (getD-take (suc n) m 0 0 (omega arith) ∙ H .capacity-is)
     ∙ ap (λ (b : Bool). pick b capacity 1) (and-both (le-leb 1 capacity low) (le-leb capacity 16 high))

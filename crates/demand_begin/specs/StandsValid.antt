@@ -6,7 +6,8 @@ use mathlib.Core.Logic.{_≢_}
 use mathlib.Core.Bool.{Bool, true, false, cond, _&&_, _||_, not}
 use mathlib.Core.List.{List, _++_}
 use mathlib.Core.Option.{Option, none, some}
-use lib.ListN.{length, getD}
+use lib.ListN.{length, getD, drop}
+use lib.Seq.{getD-take, getD-drop}
 use lib.Dec.{leb, ltb, eqb}
 use borrow.Author.Tests.{lt-ltb, le-ltb, le-leb, eq-eqb, ne-eqb}
 use native.Mathlib.Omega.{arith}
@@ -14,6 +15,7 @@ use native.Mathlib.Decide.{ℕ-discrete}
 use Rattle.value.specs.declared.Value.{Value}
 use Rattle.value.specs.Operators.{pick}
 use Rattle.value.specs.Bytes.{InRange, wordOf, valueOf, isSome}
+use Rattle.value.specs.Kinds.{isLetter}
 use Rattle.value.proofs.Words.{value-of-word}
 use Rattle.names.specs.Names.{bit}
 use Rattle.formula.specs.Refusals.{numberOf}
@@ -25,13 +27,13 @@ use Rattle.network.specs.Firing.{Holds}
 use Rattle.network.specs.Uses.{In}
 use Rattle.theory_pieces.specs.Sets.{Different}
 use Rattle.machine_queue.specs.Stretch.{waiting}
-use Rattle.machine_layout.specs.Layout.{capacityByte, operatorsOf, linksOf, inputsOf, resultsOf, untakenOf, noLink, number16, nameAt, triggerOf, inputLink, operatorAt, kindByte, portOf, sizeOf, linkAt, need}
+use Rattle.machine_layout.specs.Layout.{inputKindsAt, capacityByte, operatorsOf, linksOf, inputsOf, resultsOf, untakenOf, noLink, number16, nameAt, triggerOf, inputLink, operatorAt, kindByte, portOf, sizeOf, linkAt, need}
 use Rattle.machine_layout.specs.Fits.{stretch-fits}
 use Rattle.machine_layout.specs.Kinds.{byteOf, Coded, hasPort, mayLack}
 use Rattle.machine_firing.specs.Parts.{part-length}
 use Rattle.machine_firing.specs.LinkLaws.{linkPart}
 use Rattle.machine_valid.specs.Below.{allBelow, and-both, below-all}
-use Rattle.machine_valid.specs.Valid.{figuresOk, unlike, unlikeAt, freshAt, resultOk, inputOk, portOk, namedOk, registerOk, kindOk, operatorOk, tokenOk, stretchOk, linkOk, valid}
+use Rattle.machine_valid.specs.Valid.{figuresOk, unlike, unlikeAt, freshAt, resultOk, inputOk, letterOk, portOk, namedOk, registerOk, kindOk, operatorOk, tokenOk, stretchOk, linkOk, valid}
 use Rattle.machine_calls.specs.Calls.{standing}
 use Rattle.graph.specs.Assembly.{Operator}
 use Rattle.graph.specs.Translation.{Made}
@@ -155,7 +157,8 @@ port-ok kind links p x h b = go (hasPort kind p) (mayLack kind p) x h b
     go false lacks none h b = eq-eqb noLink noLink refl
     go false lacks (some l) h b = absurd h
 
-module _ (g : Made) (S : Sound g) (capacity : ℕ) (low : 1 ≤ capacity) (high : capacity ≤ 16) (m : List ℕ) (q : Links) (H : Stands g capacity m q) where
+module _ (g : Made) (S : Sound g) (kinds : List ℕ) (capacity : ℕ) (low : 1 ≤ capacity) (high : capacity ≤ 16) (m : List ℕ) (q : Links)
+    (H : Stands g kinds capacity m q) where
   -- ---- the header
 
   trigger-ok : ltb (triggerOf m) (linksOf m) || eqb (triggerOf m) noLink ≡ true
@@ -315,6 +318,13 @@ module _ (g : Made) (S : Sound g) (capacity : ℕ) (low : 1 ≤ capacity) (high 
       (omega (arith, later-name j, H .input-links j k, H .links-are, S .names-below))))
       (below-all (suc j) (unlikeAt m 8 (suc j)) (λ p r. unlike-other (nameAt m 8 (suc j)) (nameAt m 8 p) (input-differs j k p r)))
 
+  -- the letter stored of an input's kind is that of the kinds
+  letter-valid : (j : ℕ) → j < inputsOf m → letterOk m j ≡ true
+  unfolding letterOk
+  letter-valid j h =
+      ap isLetter (sym (getD-take (inputsOf m) (drop inputKindsAt m) j 0 h ∙ getD-drop inputKindsAt m j 0))
+      ∙ ap (λ (ks : List ℕ). isLetter (getD ks j 0)) (H .kinds-are) ∙ H .kinds-letters j (omega (arith, H .inputs-are))
+
   result-valid : (p : ℕ) → p < resultsOf m → resultOk m 74 p ≡ true
   unfolding resultOk freshAt unlikeAt
   result-valid p h =
@@ -335,12 +345,13 @@ module _ (g : Made) (S : Sound g) (capacity : ℕ) (low : 1 ≤ capacity) (high 
       and-both figures-valid
       (and-both operators-valid
       (and-both links-valid
-      (and-both (below-all (inputsOf m + 1) (inputOk m) input-valid) (below-all (resultsOf m) (resultOk m 74) result-valid))))
+      (and-both (below-all (inputsOf m + 1) (inputOk m) input-valid)
+      (and-both (below-all (inputsOf m) (letterOk m) letter-valid) (below-all (resultsOf m) (resultOk m 74) result-valid)))))
 
   -- neither 11 nor 31
   pub stands-well : standing m ≡ 0
   unfolding standing
   stands-well =
       ap (λ (b : Bool). pick b (numberOf Memory) (pick (valid m) 0 (numberOf Altered)))
-      (ap (λ (s : ℕ). ltb (length m) (need s)) (stands-size g S capacity low high m q H) ∙ le-ltb (length m) (need (sizeOf capacity)) (H .long))
+      (ap (λ (s : ℕ). ltb (length m) (need s)) (stands-size g S kinds capacity low high m q H) ∙ le-ltb (length m) (need (sizeOf capacity)) (H .long))
       ∙ ap (λ (b : Bool). pick b 0 (numberOf Altered)) stands-valid

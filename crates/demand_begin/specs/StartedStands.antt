@@ -1,6 +1,6 @@
 -- Start leaves the machine of the made graph, empty: its operators and registers, its header, no token on any link, no set untaken, and every FM and FS as before
--- its first firing. Document 01, demand 3: "Start a machine empty for an accepted sheet". Assumes a sound graph, a capacity of 1 to 16 and a memory
--- of the length that refusal 11 asks for.
+-- its first firing; and the letters of its inputs' kinds (document 02, Job 6). Document 01, demand 3: "Start a machine empty for an accepted sheet". Assumes a
+-- sound graph, a letter for each input, a capacity of 1 to 16 and a memory of the length that refusal 11 asks for.
 use Prim.Native.Nat.{ℕ, _+_, _≤_, _<_}
 use mathlib.Core.Path.{_≡_, refl, sym, ap, _∙_, subst}
 use mathlib.Core.Bool.{Bool, true, false, false≢true}
@@ -9,9 +9,11 @@ use mathlib.Core.Option.{Option, none, some}
 use native.Mathlib.Omega.{arith}
 use lib.ListN.{length, getD, drop}
 use lib.Seq.{getD-take, getD-drop}
+use Rattle.value.specs.Kinds.{isLetter}
 use Rattle.value.proofs.Words.{word-lt}
 use Rattle.formula.specs.Tree.{formulaOf}
-use Rattle.formula.specs.Acceptance.{Admissible}
+use Rattle.formula.specs.Faults.{lettersOf}
+use Rattle.formula.specs.Acceptance.{Admissible, Kinded}
 use Rattle.network.specs.Rules.{Kind, constant, copy, operator, T-gate, F-gate, M-gate, E-gate, IC-gate, FM-gate, FS-gate, Register}
 use Rattle.network.specs.Net.{Token, mark, Links}
 use Rattle.network.specs.Fill.{remembering, register-token}
@@ -19,7 +21,7 @@ use Rattle.network.specs.Firing.{Holds}
 use Rattle.network.specs.Uses.{In}
 use Rattle.theory_pieces.specs.Load.{put, put-off, On}
 use Rattle.machine_queue.specs.Stretch.{waiting}
-use Rattle.machine_layout.specs.Layout.{operatorAt, registerAt, sizeOf, linkAt, need}
+use Rattle.machine_layout.specs.Layout.{inputKindsAt, inputsOf, operatorAt, registerAt, sizeOf, linkAt, need, part, storedKinds}
 use Rattle.machine_layout.specs.Fits.{stretch-fits}
 use Rattle.machine_firing.specs.LinkLaws.{linkPart}
 use Rattle.graph.specs.Assembly.{Operator}
@@ -35,12 +37,13 @@ use Rattle.maker_laid.specs.Encode.{portOf as portWritten}
 use Rattle.machine_start.specs.Start.{Begun, headed, emptied, startedMemory, started}
 use Rattle.machine_start.specs.StartLaws.{accepted-start}
 use Rattle.machine_start.specs.ReadBack.{length-emptied, emptied-kept, emptied-read}
-use Rattle.machine_start.specs.HeaderLaws.{Fits, length-headed, headed-kept, headed-capacity, headed-operators, headed-links, headed-inputs, headed-results, headed-untaken, headed-trigger, headed-input, headed-result}
+use Rattle.machine_start.specs.HeaderLaws.{Fits, length-headed, headed-kept, headed-capacity, headed-operators, headed-links, headed-inputs, headed-results, headed-untaken, headed-trigger, headed-input, headed-result, headed-kinds}
+use Rattle.machine_start.specs.Letters.{letters-count, letters-each}
 use Rattle.demand_view.specs.Sound.{Ith, HeldOf, Sound}
 use Rattle.demand_view.specs.Stands.{Waits, Recorded, wordIn, Fine, Registered, Stands}
 use Rattle.demand_begin.specs.Positions.{each-ith, ith-each, ith-inside, ith-outputs, in-first, in-optional, in-getD}
 use Rattle.demand_begin.specs.MadeSound.{made-sound}
-use Rattle.demand_begin.specs.Lent.{agree-number, agree-name}
+use Rattle.demand_begin.specs.Lent.{agree-number, agree-name, agree-part}
 use Rattle.demand_begin.specs.WrittenRecords.{Holds-record, Same-operator, record-kept, written-read}
 
 -- ---- registers at the start
@@ -114,12 +117,13 @@ module _ (g : Made) (S : Sound g) where
       marks-hold (g .operators) (λ k. []) (register-of o)
       (each-ith (Remembers-in marked) (g .operators) (each-marked marked (g .operators) (λ l on. on)) i o at e)
 
-  module _ (capacity : ℕ) (m : List ℕ) (long : need (sizeOf capacity) ≤ length m) where
+  module _ (kinds : List ℕ) (count : length kinds ≡ g .inputs) (letters : (j : ℕ) → j < g .inputs → isLetter (getD kinds j 0) ≡ true)
+      (capacity : ℕ) (m : List ℕ) (long : need (sizeOf capacity) ≤ length m) where
     abbrev operated : List ℕ
     operated = written m 0 (encoded (g .operators))
 
     abbrev headered : List ℕ
-    headered = headed g capacity operated
+    headered = headed g kinds capacity operated
 
     abbrev memory : List ℕ
     memory = emptied (g .links) (sizeOf capacity) headered
@@ -137,17 +141,20 @@ module _ (g : Made) (S : Sound g) where
     length-operated : length operated ≡ length m
     length-operated = length-written (encoded (g .operators)) m 0
 
-    room : 106 ≤ length operated
+    room : 138 ≤ length operated
     room = omega (arith, length-operated)
 
+    length-header : length headered ≡ length m
+    length-header = length-headed g fits kinds count capacity operated room ∙ length-operated
+
     pub length-started : length memory ≡ length m
-    length-started = length-emptied (g .links) (sizeOf capacity) headered ∙ length-headed g fits capacity operated room ∙ length-operated
+    length-started = length-emptied (g .links) (sizeOf capacity) headered ∙ length-header
 
     below-links : (i : ℕ) → i < 21760 → getD memory i 0 ≡ getD headered i 0
     below-links i h = emptied-kept (g .links) (sizeOf capacity) headered i h
 
-    behind-header : (i : ℕ) → 106 ≤ i → i < 21760 → getD memory i 0 ≡ getD operated i 0
-    behind-header i l h = below-links i h ∙ headed-kept g fits capacity operated room i l
+    behind-header : (i : ℕ) → 138 ≤ i → i < 21760 → getD memory i 0 ≡ getD operated i 0
+    behind-header i l h = below-links i h ∙ headed-kept g fits kinds count capacity operated room i l
 
     -- ---- operators
 
@@ -208,7 +215,7 @@ module _ (g : Made) (S : Sound g) where
         let none-waits : empty l ≡ [] = unmarked l (λ k. omega (arith, S .few-links, k)) in
         let f = stretch-fits (sizeOf capacity) l (omega (arith, S .few-links)) in
         let z : linkAt (sizeOf capacity) l + 0 ≡ linkAt (sizeOf capacity) l = omega arith in
-        let size-is : length headered ≡ length m = length-headed g fits capacity operated room ∙ length-operated in
+        let size-is : length headered ≡ length m = length-header in
         let count : waiting (linkPart memory (sizeOf capacity) l) ≡ 0 =
         getD-take (sizeOf capacity) (drop (linkAt (sizeOf capacity) l) memory) 0 0 (omega arith)
         ∙ getD-drop (linkAt (sizeOf capacity) l) memory 0 0 ∙ ap (λ (k : ℕ). getD memory k 0) z
@@ -219,38 +226,50 @@ module _ (g : Made) (S : Sound g) where
 
     -- ---- the whole
 
-    stands : Stands g capacity memory empty
+    kinds-there : storedKinds memory ≡ kinds
+    kinds-there =
+        let n : inputsOf headered ≡ g .inputs = headed-inputs g fits kinds count capacity operated room in
+        ap (part memory inputKindsAt) (below-links 5 (omega arith))
+        ∙ agree-part 21760 headered memory below-links inputKindsAt (inputsOf headered) (omega (arith, n, S .few-inputs)) (omega (arith, n, S .few-inputs, length-header))
+        (omega (arith, n, S .few-inputs, length-started))
+        ∙ headed-kinds g fits kinds count capacity operated room
+
+    stands : Stands g kinds capacity memory empty
     stands =
         let credit : empty creditLink ≡ [] = unmarked creditLink (λ k. omega (arith, k)) in
         let none-untaken : length (empty creditLink) ≡ 0 = ap (λ (ts : List Token). length ts) credit in
         record {
           long = omega (arith, length-started);
-          capacity-is = below-links 0 (omega arith) ∙ headed-capacity g fits capacity operated room;
-          operators-are = agree-number 21760 headered memory below-links 1 (omega arith) ∙ headed-operators g fits capacity operated room;
-          links-are = agree-number 21760 headered memory below-links 3 (omega arith) ∙ headed-links g fits capacity operated room;
-          inputs-are = below-links 5 (omega arith) ∙ headed-inputs g fits capacity operated room;
-          results-are = below-links 6 (omega arith) ∙ headed-results g fits capacity operated room;
-          untaken-is = below-links 7 (omega arith) ∙ headed-untaken g fits capacity operated room ∙ sym none-untaken;
+          capacity-is = below-links 0 (omega arith) ∙ headed-capacity g fits kinds count capacity operated room;
+          operators-are = agree-number 21760 headered memory below-links 1 (omega arith) ∙ headed-operators g fits kinds count capacity operated room;
+          links-are = agree-number 21760 headered memory below-links 3 (omega arith) ∙ headed-links g fits kinds count capacity operated room;
+          inputs-are = below-links 5 (omega arith) ∙ headed-inputs g fits kinds count capacity operated room;
+          kinds-are = kinds-there;
+          kinds-count = count;
+          kinds-letters = letters;
+          results-are = below-links 6 (omega arith) ∙ headed-results g fits kinds count capacity operated room;
+          untaken-is = below-links 7 (omega arith) ∙ headed-untaken g fits kinds count capacity operated room ∙ sym none-untaken;
           untaken-few = omega (arith, none-untaken);
-          trigger-is = agree-number 21760 headered memory below-links 8 (omega arith) ∙ headed-trigger g fits capacity operated room;
-          input-links = λ j h. agree-name 21760 headered memory below-links 10 j (omega (arith, S .few-inputs)) ∙ headed-input g fits capacity operated room j h;
-          result-links = λ j h. agree-name 21760 headered memory below-links 74 j (omega (arith, S .few-results)) ∙ headed-result g fits capacity operated room j h;
+          trigger-is = agree-number 21760 headered memory below-links 8 (omega arith) ∙ headed-trigger g fits kinds count capacity operated room;
+          input-links = λ j h. agree-name 21760 headered memory below-links 10 j (omega (arith, S .few-inputs)) ∙ headed-input g fits kinds count capacity operated room j h;
+          result-links = λ j h. agree-name 21760 headered memory below-links 74 j (omega (arith, S .few-results)) ∙ headed-result g fits kinds count capacity operated room j h;
           recorded = recorded-there;
           registered = registered-there;
           waits = waits-there;
           nowhere-empty = unmarked nowhere (λ k. omega (arith, k));
         }
 
--- Start's memory of an accepted sheet holds its machine, empty.
-pub started-stands : (s : List ℕ) → Admissible s → (capacity : ℕ) → 1 ≤ capacity → capacity ≤ 16 → (m : List ℕ) → need (sizeOf capacity) ≤ length m
-    → Stands (madeOf (formulaOf s)) capacity (startedMemory (madeOf (formulaOf s)) capacity m) (startOf (formulaOf s))
+-- Start's memory of an accepted sheet holds its machine, empty, with the letters of its kinds line.
+pub started-stands : (s line : List ℕ) → Admissible s → Kinded s line → (capacity : ℕ) → 1 ≤ capacity → capacity ≤ 16 → (m : List ℕ) → need (sizeOf capacity) ≤ length m
+    → Stands (madeOf (formulaOf s)) (lettersOf (formulaOf s) line) capacity (startedMemory (madeOf (formulaOf s)) (lettersOf (formulaOf s) line) capacity m) (startOf (formulaOf s))
 unfolding startedMemory
-started-stands s accepted capacity low high m long = stands (madeOf (formulaOf s)) (made-sound s accepted) capacity m long
+started-stands s line accepted kinded capacity low high m long =
+    stands (madeOf (formulaOf s)) (made-sound s accepted) (lettersOf (formulaOf s) line) (letters-count s line kinded) (letters-each s line kinded) capacity m long
 
 -- So does the memory of every start that gave no refusal.
-pub accepted-stands : (s : List ℕ) (capacity : ℕ) (m : List ℕ) → started s capacity m .answer .refusal ≡ 0
-    → Stands (madeOf (formulaOf s)) capacity (started s capacity m .mem) (startOf (formulaOf s))
-accepted-stands s capacity m e =
-    let a = accepted-start s capacity m e in
-    subst (λ (b : Begun). Stands (madeOf (formulaOf s)) capacity (b .mem) (startOf (formulaOf s))) (sym (a .whole))
-    (started-stands s (a .admissible) capacity (a .some) (a .most) m (a .long))
+pub accepted-stands : (s line : List ℕ) (capacity : ℕ) (m : List ℕ) → started s line capacity m .answer .refusal ≡ 0
+    → Stands (madeOf (formulaOf s)) (lettersOf (formulaOf s) line) capacity (started s line capacity m .mem) (startOf (formulaOf s))
+accepted-stands s line capacity m e =
+    let a = accepted-start s line capacity m e in
+    subst (λ (b : Begun). Stands (madeOf (formulaOf s)) (lettersOf (formulaOf s) line) capacity (b .mem) (startOf (formulaOf s))) (sym (a .whole))
+    (started-stands s line (a .admissible) (a .kinded) capacity (a .some) (a .most) m (a .long))

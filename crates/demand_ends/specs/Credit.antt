@@ -46,14 +46,14 @@ module _ (g : Made) (S : Sound g) where
           let b : l < g .links = S .wired .puts-below i l (first-output (g .operators) i o h l e) .1 in
           omega (arith, S .few-links)
 
-  module _ (capacity : ℕ) (m : List ℕ) (q : Links) (H : Stands g capacity m q) where
+  module _ (kinds : List ℕ) (capacity : ℕ) (m : List ℕ) (q : Links) (H : Stands g kinds capacity m q) where
     part-same : (n l : ℕ) → linkPart (set m 7 n) (sizeOf capacity) l ≡ linkPart m (sizeOf capacity) l
     part-same n l = ap (take (sizeOf capacity)) (drop-set-lt (linkAt (sizeOf capacity) l) m 7 n (omega arith))
 
     -- The byte set, and the credit link with it.
-    pub stands-untaken : (n : ℕ) (r : Links) → ((l : ℕ) → l ≢ creditLink → r l ≡ q l) → length (r creditLink) ≡ n → n ≤ 16 → Stands g capacity (set m 7 n) r
+    pub stands-untaken : (n : ℕ) (r : Links) → ((l : ℕ) → l ≢ creditLink → r l ≡ q l) → length (r creditLink) ≡ n → n ≤ 16 → Stands g kinds capacity (set m 7 n) r
     stands-untaken n r same count few =
-        stands-changed g S capacity m q H (set m 7 n) r (length-set m 7 n) (λ at h a. getD-set-other m 7 at n 0 a)
+        stands-changed g S kinds capacity m q H (set m 7 n) r (length-set m 7 n) (λ at h a. getD-set-other m 7 at n 0 a)
         (getD-set-same m 7 n 0 (omega (arith, H .long)) ∙ sym count) (omega (arith, count)) registered
         (λ l h. subst (λ (s : List ℕ). Waits capacity s (r l)) (sym (part-same n l)) (subst (Waits capacity (linkPart m (sizeOf capacity) l)) (sym (same l (λ e. omega (arith, S .few-links)))) (H .waits l h)))
         (same nowhere (λ e. omega arith) ∙ H .nowhere-empty)

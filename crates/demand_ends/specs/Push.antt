@@ -17,7 +17,7 @@ use Rattle.value.specs.Bytes.{wordOf}
 use Rattle.value.specs.Senses.{err}
 use Rattle.network.specs.Values.{true-value}
 use Rattle.network.specs.Net.{val, Links, append, append-same, append-other, Able, act}
-use Rattle.machine_layout.specs.Layout.{inputsOf, untakenOf, noLink, triggerOf, sizeOf}
+use Rattle.machine_layout.specs.Layout.{inputsOf, untakenOf, noLink, triggerOf, sizeOf, storedKinds}
 use Rattle.machine_firing.specs.Links.{roomAt, appendedAt}
 use Rattle.machine_valid.specs.Below.{allBelow, and-left, and-right, and-both, below-at, below-all}
 use Rattle.graph.specs.Translation.{Made}
@@ -42,7 +42,7 @@ no-link-appended : (m : List ℕ) (size w : ℕ) → appendedAt m size noLink w 
 unfolding appendedAt
 no-link-appended m size w = refl
 
-module _ (g : Made) (S : Sound g) (capacity : ℕ) (low : 1 ≤ capacity) (high : capacity ≤ 16) (m : List ℕ) (q : Links) (H : Stands g capacity m q) where
+module _ (g : Made) (S : Sound g) (kinds : List ℕ) (capacity : ℕ) (low : 1 ≤ capacity) (high : capacity ≤ 16) (m : List ℕ) (q : Links) (H : Stands g kinds capacity m q) where
   abbrev size : ℕ
   size = sizeOf capacity
 
@@ -72,12 +72,12 @@ module _ (g : Made) (S : Sound g) (capacity : ℕ) (low : 1 ≤ capacity) (high 
       go : (b : Bool) → g .triggered ≡ b → Dec (l < g .inputs) → l < g .inputs + bit b → length (q l) < capacity
       go b e (yes p) i =
           ltb-true (length (q l)) capacity
-          (sym (stands-room g S capacity m q H l (input-below l p)) ∙ ap (roomAt m size) (sym (H .input-links l p))
+          (sym (stands-room g S kinds capacity m q H l (input-below l p)) ∙ ap (roomAt m size) (sym (H .input-links l p))
           ∙ below-at (g .inputs) (inputRoom m size) (and-right (roomAt m size (triggerOf m)) (allBelow (g .inputs) (inputRoom m size)) h) l p)
       go true e (no p) i =
           let z : l ≡ g .inputs = omega arith in
           ltb-true (length (q l)) capacity
-          (sym (stands-room g S capacity m q H l (rw z (trigger-below e))) ∙ ap (roomAt m size) (z ∙ sym (trigger-at true e))
+          (sym (stands-room g S kinds capacity m q H l (rw z (trigger-below e))) ∙ ap (roomAt m size) (z ∙ sym (trigger-at true e))
           ∙ and-left (roomAt m size (triggerOf m)) (allBelow (g .inputs) (inputRoom m size)) h)
       go false e (no p) i = absurd (omega arith)
 
@@ -87,43 +87,49 @@ module _ (g : Made) (S : Sound g) (capacity : ℕ) (low : 1 ≤ capacity) (high 
     where
       cue : (b : Bool) → g .triggered ≡ b → ((l : ℕ) → l < g .inputs + bit b → length (q l) < capacity) → roomAt m size (triggerOf m) ≡ true
       cue true e h =
-          ap (roomAt m size) (trigger-at true e) ∙ stands-room g S capacity m q H (g .inputs) (trigger-below e)
+          ap (roomAt m size) (trigger-at true e) ∙ stands-room g S kinds capacity m q H (g .inputs) (trigger-below e)
           ∙ lt-ltb (length (q (g .inputs))) capacity (h (g .inputs) (omega arith))
       cue false e h = ap (roomAt m size) (trigger-at false e) ∙ no-link-room m size
 
       each : (j : ℕ) → j < g .inputs → inputRoom m size j ≡ true
       each j l =
-          ap (roomAt m size) (H .input-links j l) ∙ stands-room g S capacity m q H j (input-below j l)
+          ap (roomAt m size) (H .input-links j l) ∙ stands-room g S kinds capacity m q H j (input-below j l)
           ∙ lt-ltb (length (q j)) capacity (f j (omega arith))
 
-  module _ (s : List ℕ) (v : List Value) (I : IsSet (g .inputs) s v) where
+  module _ (s : List ℕ) (v : List Value) (I : IsSet kinds s v) where
+    whole : length v ≡ g .inputs
+    whole = I .count ∙ H .kinds-count
+
+    in-kinds : (j : ℕ) → j < g .inputs → j < length kinds
+    in-kinds j h = omega (arith, H .kinds-count)
+
     -- ---- ACCEPTED: as push can be made on the links
 
     pub tests-push : ltb (untakenOf m) 16 && roomsOk m size (g .inputs) ≡ true → Able (places capacity) (pushInto g v) q
     tests-push h =
         let u : untakenOf m < 16 = ltb-true (untakenOf m) 16 (and-left (ltb (untakenOf m) 16) (roomsOk m size (g .inputs)) h) in
-        room-push g v q (I .count) near capacity (omega (arith, H .untaken-is)) (rooms-free (and-right (ltb (untakenOf m) 16) (roomsOk m size (g .inputs)) h))
+        room-push g v q whole near capacity (omega (arith, H .untaken-is)) (rooms-free (and-right (ltb (untakenOf m) 16) (roomsOk m size (g .inputs)) h))
 
     pub push-tests : Able (places capacity) (pushInto g v) q → ltb (untakenOf m) 16 && roomsOk m size (g .inputs) ≡ true
     push-tests a =
-        let r = push-room g v q (I .count) near capacity a in
+        let r = push-room g v q whole near capacity a in
         and-both (lt-ltb (untakenOf m) 16 (omega (arith, H .untaken-is, r .0))) (free-rooms (r .1))
 
     -- ---- the memory that push leaves
 
     module _ (a : Able (places capacity) (pushInto g v) q) where
       room : (length (q creditLink) < 16) × Free
-      room = push-room g v q (I .count) near capacity a
+      room = push-room g v q whole near capacity a
 
       -- the first values of the set
-      stands-entered : (j : ℕ) → j ≤ g .inputs → Stands g capacity (entered j m size s) (given j v q)
+      stands-entered : (j : ℕ) → j ≤ g .inputs → Stands g kinds capacity (entered j m size s) (given j v q)
       unfolding entered
       stands-entered zero h = H
       stands-entered (suc j) h =
-          subst (λ (n : List ℕ). Stands g capacity n (append j (val (getD v j err)) (given j v q)))
-          (ap₂ (λ (l w : ℕ). appendedAt (entered j m size s) size l w) (sym (H .input-links j h)) (sym (I .words j h)))
-          (stands-append g S capacity (entered j m size s) (given j v q) (stands-entered j (omega arith)) j (input-below j h) (getD v j err)
-          (rw (given-other j v q j (omega arith)) (room .1 j (omega arith))) (I .ranged j h))
+          subst (λ (n : List ℕ). Stands g kinds capacity n (append j (val (getD v j err)) (given j v q)))
+          (ap₂ (λ (l w : ℕ). appendedAt (entered j m size s) size l w) (sym (H .input-links j h)) (sym (I .words j (in-kinds j h))))
+          (stands-append g S kinds capacity (entered j m size s) (given j v q) (stands-entered j (omega arith)) j (input-below j h) (getD v j err)
+          (rw (given-other j v q j (omega arith)) (room .1 j (omega arith))) (I .ranged j (in-kinds j h)))
 
       abbrev entering : List ℕ
       entering = entered (g .inputs) m size s
@@ -132,34 +138,34 @@ module _ (g : Made) (S : Sound g) (capacity : ℕ) (low : 1 ≤ capacity) (high 
       given-links = given (g .inputs) v q
 
       -- and the trigger
-      stands-cued : (b : Bool) → g .triggered ≡ b → Stands g capacity (appendedAt entering size (triggerOf m) (wordOf true-value)) (cued b (g .inputs) given-links)
+      stands-cued : (b : Bool) → g .triggered ≡ b → Stands g kinds capacity (appendedAt entering size (triggerOf m) (wordOf true-value)) (cued b (g .inputs) given-links)
       stands-cued true e =
-          subst (λ (l : ℕ). Stands g capacity (appendedAt entering size l (wordOf true-value)) (append (g .inputs) (val true-value) given-links)) (sym (trigger-at true e))
-          (stands-append g S capacity entering given-links (stands-entered (g .inputs) (omega arith)) (g .inputs) (trigger-below e) true-value
+          subst (λ (l : ℕ). Stands g kinds capacity (appendedAt entering size l (wordOf true-value)) (append (g .inputs) (val true-value) given-links)) (sym (trigger-at true e))
+          (stands-append g S kinds capacity entering given-links (stands-entered (g .inputs) (omega arith)) (g .inputs) (trigger-below e) true-value
           (rw (given-other (g .inputs) v q (g .inputs) (omega arith)) (room .1 (g .inputs) (rw e (omega arith)))) tt)
       stands-cued false e =
-          subst (λ (n : List ℕ). Stands g capacity n given-links)
+          subst (λ (n : List ℕ). Stands g kinds capacity n given-links)
           (sym (ap (λ (l : ℕ). appendedAt entering size l (wordOf true-value)) (trigger-at false e) ∙ no-link-appended entering size (wordOf true-value)))
           (stands-entered (g .inputs) (omega arith))
 
       abbrev cued-links : Links
       cued-links = cued (g .triggered) (g .inputs) given-links
 
-      stands-triggered : Stands g capacity (triggered m s) cued-links
+      stands-triggered : Stands g kinds capacity (triggered m s) cued-links
       unfolding triggered
       stands-triggered =
-          rw (stands-size g S capacity low high m q H, H .inputs-are) (stands-cued (g .triggered) refl)
+          rw (stands-size g S kinds capacity low high m q H, H .inputs-are) (stands-cued (g .triggered) refl)
 
       credit-kept : cued-links creditLink ≡ q creditLink
       credit-kept =
           cued-other (g .triggered) (g .inputs) given-links creditLink (omega (arith, S .few-inputs)) ∙ given-other (g .inputs) v q creditLink (omega (arith, near))
 
       -- AND ITS LINKS are those after push.
-      pub stands-pushed : Stands g capacity (pushedMemory m s) (act (pushInto g v) q)
+      pub stands-pushed : Stands g kinds capacity (pushedMemory m s) (act (pushInto g v) q)
       unfolding pushedMemory
       stands-pushed =
-          subst (Stands g capacity (set (triggered m s) 7 (untakenOf m + 1))) (sym (push-acts g v q (I .count) near))
-          (stands-untaken g S capacity (triggered m s) cued-links stands-triggered (untakenOf m + 1) (append creditLink (val true-value) cued-links)
+          subst (Stands g kinds capacity (set (triggered m s) 7 (untakenOf m + 1))) (sym (push-acts g v q whole near))
+          (stands-untaken g S kinds capacity (triggered m s) cued-links stands-triggered (untakenOf m + 1) (append creditLink (val true-value) cued-links)
           (λ l ne. append-other creditLink l (val true-value) cued-links ne)
           (ap length (append-same creditLink (val true-value) cued-links) ∙ length-append (cued-links creditLink) (val true-value ∷ [])
           ∙ ap (λ (n : ℕ). n + 1) (ap length credit-kept ∙ sym (H .untaken-is)))
@@ -168,11 +174,11 @@ module _ (g : Made) (S : Sound g) (capacity : ℕ) (low : 1 ≤ capacity) (high 
     -- ---- the call
 
     module _ (st : standing m ≡ 0) where
-      set-good : setOk (inputsOf m) s ≡ true
-      set-good = rw (H .inputs-are) (values-pass (g .inputs) s v (I .values))
+      set-good : setOk (storedKinds m) s ≡ true
+      set-good = rw (H .kinds-are) (values-pass kinds s v (I .values))
 
       rooms-in : (b : Bool) → roomsOk m size (g .inputs) ≡ b → roomsOk m (sizeIn m) (inputsOf m) ≡ b
-      rooms-in b e = rw (stands-size g S capacity low high m q H, H .inputs-are) e
+      rooms-in b e = rw (stands-size g S kinds capacity low high m q H, H .inputs-are) e
 
       pub push-accepted : Able (places capacity) (pushInto g v) q → pushed m s ≡ outcome (answers 0 0) (pushedMemory m s)
       push-accepted a =

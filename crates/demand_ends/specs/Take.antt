@@ -60,7 +60,7 @@ value-at [] q j h = absurd (omega arith)
 value-at (l ∷ ls) q zero h = refl
 value-at (l ∷ ls) q (suc j) h = value-at ls q j (omega arith)
 
-module _ (g : Made) (S : Sound g) (capacity : ℕ) (low : 1 ≤ capacity) (high : capacity ≤ 16) (m : List ℕ) (q : Links) (H : Stands g capacity m q) where
+module _ (g : Made) (S : Sound g) (kinds : List ℕ) (capacity : ℕ) (low : 1 ≤ capacity) (high : capacity ≤ 16) (m : List ℕ) (q : Links) (H : Stands g kinds capacity m q) where
   abbrev size : ℕ
   size = sizeOf capacity
 
@@ -81,8 +81,8 @@ module _ (g : Made) (S : Sound g) (capacity : ℕ) (low : 1 ≤ capacity) (high 
       go : (ts : List Token) → q l ≡ ts → 0 < length ts → (v : Value) × InRange v × (head ts ≡ val v) × (headAt m size l ≡ wordOf v)
       go [] e h = absurd (omega arith)
       go (t ∷ ts) e h =
-          let p = stands-value g S capacity m q H l b t ts e in
-          (p .0, p .1, p .2, stands-head g S capacity m q H l b (p .0) ts (e ∙ ap (λ (u : Token). u ∷ ts) (p .2)))
+          let p = stands-value g S kinds capacity m q H l b t ts e in
+          (p .0, p .1, p .2, stands-head g S kinds capacity m q H l b (p .0) ts (e ∙ ap (λ (u : Token). u ∷ ts) (p .2)))
 
   -- ---- a token on each port
 
@@ -95,7 +95,7 @@ module _ (g : Made) (S : Sound g) (capacity : ℕ) (low : 1 ≤ capacity) (high 
     where
       go : (ts : List Token) → q (getD results j 0) ≡ ts → 0 < length ts
       go [] e =
-          let z : headAt m size (resultLink m j) ≡ 0 = ap (headAt m size) (H .result-links j h) ∙ stands-none g S capacity m q H (getD results j 0) (result-below j h) e in
+          let z : headAt m size (resultLink m j) ≡ 0 = ap (headAt m size) (H .result-links j h) ∙ stands-none g S kinds capacity m q H (getD results j 0) (result-below j h) e in
           absurd (false≢true (ap (λ (n : ℕ). not (eqb n 0)) (sym z) ∙ r))
       go (t ∷ ts) e = omega arith
 
@@ -135,14 +135,14 @@ module _ (g : Made) (S : Sound g) (capacity : ℕ) (low : 1 ≤ capacity) (high 
 
     -- ---- the memory that take leaves
 
-    stands-emptied : (j : ℕ) → j ≤ length results → Stands g capacity (emptied j m size) (popped j results q)
+    stands-emptied : (j : ℕ) → j ≤ length results → Stands g kinds capacity (emptied j m size) (popped j results q)
     unfolding emptied
     stands-emptied zero h = H
     stands-emptied (suc j) h =
         let l = getD results j 0 in
         let e : popped j results q l ≡ q l = popped-other j results q l (λ i k. different-at results (S .wired .results-differ) i j k h) in
-        subst (λ (k : ℕ). Stands g capacity (removedAt (emptied j m size) size k) (pop l (popped j results q))) (sym (H .result-links j h))
-        (stands-remove g S capacity (emptied j m size) (popped j results q) (stands-emptied j (omega arith)) l (result-below j h)
+        subst (λ (k : ℕ). Stands g kinds capacity (removedAt (emptied j m size) size k) (pop l (popped j results q))) (sym (H .result-links j h))
+        (stands-remove g S kinds capacity (emptied j m size) (popped j results q) (stands-emptied j (omega arith)) l (result-below j h)
         (rw e (waits .1 l (in-at results j h))))
 
     abbrev popped-links : Links
@@ -156,12 +156,12 @@ module _ (g : Made) (S : Sound g) (capacity : ℕ) (low : 1 ≤ capacity) (high 
     shorter (t ∷ ts) = omega arith
 
     -- ITS LINKS are those after take.
-    pub stands-taken : Stands g capacity (takenMemory m) (act (takeFrom g) q)
+    pub stands-taken : Stands g kinds capacity (takenMemory m) (act (takeFrom g) q)
     unfolding takenMemory
     stands-taken =
-        rw (stands-size g S capacity low high m q H, H .results-are)
-        (subst (Stands g capacity (set (emptied (length results) m size) 7 (untakenOf m - 1))) (sym (take-acts results (S .wired .results-differ) q))
-        (stands-untaken g S capacity (emptied (length results) m size) popped-links (stands-emptied (length results) (omega arith)) (untakenOf m - 1) (pop creditLink popped-links)
+        rw (stands-size g S kinds capacity low high m q H, H .results-are)
+        (subst (Stands g kinds capacity (set (emptied (length results) m size) 7 (untakenOf m - 1))) (sym (take-acts results (S .wired .results-differ) q))
+        (stands-untaken g S kinds capacity (emptied (length results) m size) popped-links (stands-emptied (length results) (omega arith)) (untakenOf m - 1) (pop creditLink popped-links)
         (λ l ne. pop-other creditLink l popped-links ne)
         (ap length (pop-same creditLink popped-links) ∙ shorter (popped-links creditLink) ∙ ap (λ (n : ℕ). n - 1) (ap length credit-kept ∙ sym (H .untaken-is)))
         (omega (arith, H .untaken-is, H .untaken-few))))
@@ -195,13 +195,13 @@ module _ (g : Made) (S : Sound g) (capacity : ℕ) (low : 1 ≤ capacity) (high 
 
   module _ (st : standing m ≡ 0) (o : List ℕ) (long : 80 ≤ length o) where
     ready-in : (b : Bool) → allBelow (resultsOf m) (resultReady m size) ≡ b → allBelow (resultsOf m) (resultReady m (sizeIn m)) ≡ b
-    ready-in b e = rw (stands-size g S capacity low high m q H) e
+    ready-in b e = rw (stands-size g S kinds capacity low high m q H) e
 
     pub take-accepted : Able (places capacity) (takeFrom g) q
         → taken m o ≡ handed (answers 0 (length (resultIn g q))) (takenMemory m) (resultBytes (resultIn g q) ++ drop 80 o)
     take-accepted a =
         let t = take-tests a in
-        let e : written 16 m (sizeIn m) (resultsOf m) o ≡ resultBytes (resultIn g q) ++ drop 80 o = rw (stands-size g S capacity low high m q H) (take-writes a o long) in
+        let e : written 16 m (sizeIn m) (resultsOf m) o ≡ resultBytes (resultIn g q) ++ drop 80 o = rw (stands-size g S kinds capacity low high m q H) (take-writes a o long) in
         taken-accepted m st o long (and-left (ltb 0 (untakenOf m)) (allBelow (resultsOf m) (resultReady m size)) t)
         (ready-in true (and-right (ltb 0 (untakenOf m)) (allBelow (resultsOf m) (resultReady m size)) t))
         ∙ ap₂ (λ (n : ℕ) (bytes : List ℕ). handed (answers 0 n) (takenMemory m) bytes) (H .results-are ∙ sym (result-width a)) e

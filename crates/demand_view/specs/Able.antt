@@ -37,7 +37,7 @@ both-hold : (a b : Bool) → a && b ≡ true → (a ≡ true) × (b ≡ true)
 both-hold true b e = (refl, e)
 both-hold false b e = absurd (false≢true e)
 
-module _ (g : Made) (S : Sound g) (capacity : ℕ) (m : List ℕ) (q : Links) (H : Stands g capacity m q) where
+module _ (g : Made) (S : Sound g) (kinds : List ℕ) (capacity : ℕ) (m : List ℕ) (q : Links) (H : Stands g kinds capacity m q) where
   abbrev size : ℕ
   size = sizeOf capacity
 
@@ -49,23 +49,23 @@ module _ (g : Made) (S : Sound g) (capacity : ℕ) (m : List ℕ) (q : Links) (H
   unfolding given
   room-is-place none v b e = tt
   room-is-place (some l) none b e = tt
-  room-is-place (some l) (some v) b e = ltb-true (length (q l)) capacity (sym (stands-room g S capacity m q H l (b l refl)) ∙ e)
+  room-is-place (some l) (some v) b e = ltb-true (length (q l)) capacity (sym (stands-room g S kinds capacity m q H l (b l refl)) ∙ e)
 
   place-is-room : (x : Option ℕ) (v : Option Value) → Linked-in g x → Place capacity x v q → roomFor x v ≡ true
   unfolding given roomAt
   place-is-room none none b h = refl
   place-is-room none (some v) b h = refl
   place-is-room (some l) none b h = refl
-  place-is-room (some l) (some v) b h = stands-room g S capacity m q H l (b l refl) ∙ lt-ltb (length (q l)) capacity h
+  place-is-room (some l) (some v) b h = stands-room g S kinds capacity m q H l (b l refl) ∙ lt-ltb (length (q l)) capacity h
 
   module _ (i : ℕ) (o : Operator) (at : Ith (g .operators) i o) where
     abbrev now : Option Decision
-    now = decisionNow g S capacity m q H i o at
+    now = decisionNow g S kinds capacity m q H i o at
 
     pub owns : Own-links (o .kind) (portsOf o) q
     owns = own-links g S i o at q (H .nowhere-empty)
 
-    pub holds : Holds (remembering (o .kind)) (portsOf o) q (registerNow g S capacity m q H i o at)
+    pub holds : Holds (remembering (o .kind)) (portsOf o) q (registerNow g S kinds capacity m q H i o at)
     holds = H .registered i o at .held
 
     not-credit : (x : Output) (l : ℕ) → output (portsOf o) x ≡ some l → l ≢ creditLink
@@ -79,7 +79,7 @@ module _ (g : Made) (S : Sound g) (capacity : ℕ) (m : List ℕ) (q : Links) (H
     unfolding ableAt readyFor
     ready-places d e t =
         let a : roomFor (o .out1) (d .give1) && (roomFor (o .out2) (d .give2) && roomFor (o .out3) (d .give3)) ≡ true
-        = subst (λ p. readyFor m size p ≡ true) (plan-read g S capacity m q H i o at d e) t in
+        = subst (λ p. readyFor m size p ≡ true) (plan-read g S kinds capacity m q H i o at d e) t in
         let b = both-hold (roomFor (o .out1) (d .give1)) (roomFor (o .out2) (d .give2) && roomFor (o .out3) (d .give3)) a in
         let c = both-hold (roomFor (o .out2) (d .give2)) (roomFor (o .out3) (d .give3)) (b .1) in (
           room-is-place (o .out1) (d .give1) (output-below g S i o at output1) (b .0),
@@ -93,11 +93,11 @@ module _ (g : Made) (S : Sound g) (capacity : ℕ) (m : List ℕ) (q : Links) (H
         let a = place-is-room (o .out1) (d .give1) (output-below g S i o at output1) (p .0) in
         let b = place-is-room (o .out2) (d .give2) (output-below g S i o at output2) (p .1) in
         let c = place-is-room (o .out3) (d .give3) (output-below g S i o at output3) (p .2) in
-        ap (readyFor m size) (plan-read g S capacity m q H i o at d e) ∙ simp (a, b, c)
+        ap (readyFor m size) (plan-read g S kinds capacity m q H i o at d e) ∙ simp (a, b, c)
 
     undecided : now ≡ none → ableAt m size i ≡ false
     unfolding ableAt readyFor
-    undecided e = simp (plan-none g S capacity m q H i o at e)
+    undecided e = simp (plan-none g S kinds capacity m q H i o at e)
 
     -- what the machine decided, where it found itself able
     pub decided-able : ableAt m size i ≡ true → (d : Decision) × (now ≡ some d)
@@ -111,8 +111,8 @@ module _ (g : Made) (S : Sound g) (capacity : ℕ) (m : List ℕ) (q : Links) (H
     able-links c t =
         let w = decided-able t in
         let p = ready-places (w .0) (w .1) t in
-        able-fill (o .kind) (portsOf o) q (registerNow g S capacity m q H i o at) (owns .inputs-apart) (owns .register-no-input) holds (places capacity) (w .0) (w .1)
-        (places-room creditLink capacity (o .kind) (portsOf o) q owns (w .0) not-credit c register-below (registerNow g S capacity m q H i o at) holds (p .0) (p .1) (p .2))
+        able-fill (o .kind) (portsOf o) q (registerNow g S kinds capacity m q H i o at) (owns .inputs-apart) (owns .register-no-input) holds (places capacity) (w .0) (w .1)
+        (places-room creditLink capacity (o .kind) (portsOf o) q owns (w .0) not-credit c register-below (registerNow g S kinds capacity m q H i o at) holds (p .0) (p .1) (p .2))
       where
         first-below : (x : Option ℕ) → ((l : ℕ) → x ≡ some l → l < g .links) → registers + link-of x ≢ creditLink
         first-below none b e = omega arith
@@ -123,7 +123,7 @@ module _ (g : Made) (S : Sound g) (capacity : ℕ) (m : List ℕ) (q : Links) (H
 
     able-bytes : Able (places capacity) (demandOf o) q → ableAt m size i ≡ true
     able-bytes a =
-        let w = fill-able (o .kind) (portsOf o) q (registerNow g S capacity m q H i o at) (owns .inputs-apart) (owns .register-no-input) holds (places capacity) a in
+        let w = fill-able (o .kind) (portsOf o) q (registerNow g S kinds capacity m q H i o at) (owns .inputs-apart) (owns .register-no-input) holds (places capacity) a in
         places-ready (w .0) (w .1) (room-places creditLink capacity (o .kind) (portsOf o) q owns (w .0) not-credit (w .2))
 
   -- ABLE ON THE BYTES, ABLE ON THE LINKS.

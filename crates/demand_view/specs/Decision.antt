@@ -44,7 +44,7 @@ word-given (some v) = refl
 abbrev pub Linked-in : Made → Option ℕ → Type 0
 Linked-in g x = (l : ℕ) → x ≡ some l → l < g .links
 
-module _ (g : Made) (S : Sound g) (capacity : ℕ) (m : List ℕ) (q : Links) (H : Stands g capacity m q) where
+module _ (g : Made) (S : Sound g) (kinds : List ℕ) (capacity : ℕ) (m : List ℕ) (q : Links) (H : Stands g kinds capacity m q) where
   abbrev size : ℕ
   size = sizeOf capacity
 
@@ -59,10 +59,10 @@ module _ (g : Made) (S : Sound g) (capacity : ℕ) (m : List ℕ) (q : Links) (H
   token-read (some l) b = go (q l) refl
     where
       go : (ts : List Token) → q l ≡ ts → tokenAt m size l ≡ decoded (first-token ts)
-      go [] e = ap (λ (w : ℕ). decoded (valueOf w)) (stands-none g S capacity m q H l (b l refl) e) ∙ ap decoded no-value
+      go [] e = ap (λ (w : ℕ). decoded (valueOf w)) (stands-none g S kinds capacity m q H l (b l refl) e) ∙ ap decoded no-value
       go (t ∷ ts) e =
-          let f = stands-value g S capacity m q H l (b l refl) t ts e in
-          let h = stands-head g S capacity m q H l (b l refl) (f .0) ts (e ∙ ap (λ z. z ∷ ts) (f .2)) in
+          let f = stands-value g S kinds capacity m q H l (b l refl) t ts e in
+          let h = stands-head g S kinds capacity m q H l (b l refl) (f .0) ts (e ∙ ap (λ z. z ∷ ts) (f .2)) in
           ap (λ (w : ℕ). decoded (valueOf w)) h ∙ ap decoded (value-of-word (f .0) (f .1)) ∙ ap (λ z. decoded (some (value-of z))) (sym (f .2))
 
   pub token-fine : (x : Option ℕ) → Linked-in g x → Fine (first-token (q (link-of x)))
@@ -72,7 +72,7 @@ module _ (g : Made) (S : Sound g) (capacity : ℕ) (m : List ℕ) (q : Links) (H
       go : (ts : List Token) → q l ≡ ts → Fine (first-token ts)
       go [] e = tt
       go (t ∷ ts) e =
-          let f = stands-value g S capacity m q H l (b l refl) t ts e in
+          let f = stands-value g S kinds capacity m q H l (b l refl) t ts e in
           subst (λ z. InRange (value-of z)) (sym (f .2)) (f .1)
 
   module _ (i : ℕ) (o : Operator) (at : Ith (g .operators) i o) where

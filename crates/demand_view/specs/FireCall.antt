@@ -22,7 +22,7 @@ use Rattle.demand_view.specs.Stands.{Stands}
 use Rattle.demand_view.specs.Operators.{ith-there}
 use Rattle.demand_view.specs.FiredHistory.{Fires-in-memory, fired-by-history}
 
-module _ (g : Made) (S : Sound g) (capacity : ℕ) (low : 1 ≤ capacity) (high : capacity ≤ 16) (m : List ℕ) (q : Links) (H : Stands g capacity m q) where
+module _ (g : Made) (S : Sound g) (kinds : List ℕ) (capacity : ℕ) (low : 1 ≤ capacity) (high : capacity ≤ 16) (m : List ℕ) (q : Links) (H : Stands g kinds capacity m q) where
   capacity-read : capacityIn capacity ≡ capacity
   unfolding capacityIn
   capacity-read = simp (le-leb 1 capacity low, le-leb capacity 16 high)
@@ -51,8 +51,8 @@ module _ (g : Made) (S : Sound g) (capacity : ℕ) (low : 1 ≤ capacity) (high 
       )
 
   -- THE SENTENCE for the call fire.
-  pub fire-by-history : (i : ℕ) → fired m i .answer .refusal ≡ 0 → (o : Operator) × Ith (g .operators) i o × Fires-in-memory g capacity m q i o (fired m i .mem)
+  pub fire-by-history : (i : ℕ) → fired m i .answer .refusal ≡ 0 → (o : Operator) × Ith (g .operators) i o × Fires-in-memory g kinds capacity m q i o (fired m i .mem)
   fire-by-history i z =
       let a = accepted i z in
       let w = ith-there (g .operators) i (a .0) in
-      (w .0, w .1, subst (Fires-in-memory g capacity m q i (w .0)) (sym (a .2)) (fired-by-history g S capacity m q H i (w .0) (w .1) low (a .1)))
+      (w .0, w .1, subst (Fires-in-memory g kinds capacity m q i (w .0)) (sym (a .2)) (fired-by-history g S kinds capacity m q H i (w .0) (w .1) low (a .1)))

@@ -2,17 +2,19 @@
 -- records, and for each register and each link what the links now say. One law, `stands-changed`, for every call; `stands-links` for a change of links
 -- alone. Layout of the bytes: machine_layout/specs/Layout. Assumes of the graph the bounds of `Sound`.
 use Prim.Native.Nat.{ℕ, zero, suc, _+_, _*_, _≤_, _<_}
-use mathlib.Core.Path.{_≡_, refl, sym, ap, _∙_}
+use mathlib.Core.Path.{_≡_, refl, sym, ap, _∙_, subst}
 use mathlib.Core.Logic.{_≢_}
 use mathlib.Core.Bool.{Bool, true, false}
 use mathlib.Core.List.{List, [], _∷_}
 use native.Mathlib.Omega.{arith}
-use lib.ListN.{length, getD}
+use lib.ListN.{length, getD, drop}
+use lib.Seq.{getD-take, getD-drop, ext-getD}
 use Rattle.network.specs.Rules.{Register}
 use Rattle.network.specs.Net.{Links}
 use Rattle.network.specs.Fill.{remembering}
 use Rattle.network.specs.Firing.{Holds}
-use Rattle.machine_layout.specs.Layout.{number16, nameAt, untakenOf, operatorAt, portOf, registerAt, sizeOf}
+use Rattle.machine_layout.specs.Layout.{inputKindsAt, number16, nameAt, inputsOf, untakenOf, operatorAt, portOf, registerAt, sizeOf, part}
+use Rattle.machine_firing.specs.Parts.{part-length}
 use Rattle.machine_firing.specs.LinkLaws.{linkPart}
 use Rattle.graph.specs.Assembly.{Operator}
 use Rattle.graph.specs.Translation.{Made}
@@ -26,6 +28,20 @@ pub ith-below : (os : List Operator) (i : ℕ) (o : Operator) → Ith os i o →
 ith-below [] i o h = absurd h
 ith-below (x ∷ os) zero o h = omega arith
 ith-below (x ∷ os) (suc i) o h = omega (arith, ith-below os i o h)
+
+-- A byte of a part, and parts that agree byte by byte.
+pub part-byte : (m : List ℕ) (base size i : ℕ) → i < size → getD (part m base size) i 0 ≡ getD m (base + i) 0
+part-byte m base size i h = getD-take size (drop base m) i 0 h ∙ getD-drop base m i 0
+
+pub part-same : (m n : List ℕ) (base size : ℕ) → base + size ≤ length m → base + size ≤ length n →
+    ((i : ℕ) → i < size → getD n (base + i) 0 ≡ getD m (base + i) 0) → part n base size ≡ part m base size
+part-same m n base size a b same =
+    let p : length (part n base size) ≡ size = part-length n base size b in
+    ext-getD 0 (part n base size) (part m base size) (p ∙ sym (part-length m base size a))
+    (λ i l.
+    let z : i < size = subst (λ (s : ℕ). i < s) p l in
+    part-byte n base size i z ∙ same i z ∙ sym (part-byte m base size i z)
+    )
 
 -- The bytes of the header and of the operators' records are as they were, the count of untaken sets apart.
 abbrev pub Figures-kept : List ℕ → List ℕ → Type 0
@@ -59,14 +75,14 @@ module _ (m n : List ℕ) (k : Figures-kept m n) where
       port : (p : ℕ) → p < 6 → portOf n i p ≡ portOf m i p
       port p l = name-kept (operatorAt i + 2) p (omega arith) (omega arith)
 
-module _ (g : Made) (S : Sound g) (capacity : ℕ) (m : List ℕ) (q : Links) (H : Stands g capacity m q) where
+module _ (g : Made) (S : Sound g) (kinds : List ℕ) (capacity : ℕ) (m : List ℕ) (q : Links) (H : Stands g kinds capacity m q) where
   pub operator-below : (i : ℕ) (o : Operator) → Ith (g .operators) i o → i < 1024
   operator-below i o h = omega (arith, ith-below (g .operators) i o h, S .few-operators)
 
   -- THE FRAME of every call.
   pub stands-changed : (n : List ℕ) (r : Links) → length n ≡ length m → Figures-kept m n → untakenOf n ≡ length (r creditLink) → length (r creditLink) ≤ 16 →
       ((i : ℕ) (o : Operator) → Ith (g .operators) i o → Registered n r i o) →
-      ((l : ℕ) → l < g .links → Waits capacity (linkPart n (sizeOf capacity) l) (r l)) → r nowhere ≡ [] → Stands g capacity n r
+      ((l : ℕ) → l < g .links → Waits capacity (linkPart n (sizeOf capacity) l) (r l)) → r nowhere ≡ [] → Stands g kinds capacity n r
   stands-changed n r e k u f ri w z =
       record {
         long = omega (arith, H .long);
@@ -74,6 +90,13 @@ module _ (g : Made) (S : Sound g) (capacity : ℕ) (m : List ℕ) (q : Links) (H
         operators-are = figure-kept m n k 1 (omega arith) (omega arith) (omega arith) ∙ H .operators-are;
         links-are = figure-kept m n k 3 (omega arith) (omega arith) (omega arith) ∙ H .links-are;
         inputs-are = k 5 (omega arith) (omega arith) ∙ H .inputs-are;
+        kinds-are =
+            ap (part n inputKindsAt) (k 5 (omega arith) (omega arith))
+            ∙ part-same m n inputKindsAt (inputsOf m) (omega (arith, H .long, H .inputs-are, S .few-inputs)) (omega (arith, H .long, H .inputs-are, S .few-inputs))
+            (λ i l. k (inputKindsAt + i) (omega (arith, H .inputs-are, S .few-inputs)) (omega arith))
+            ∙ H .kinds-are;
+        kinds-count = H .kinds-count;
+        kinds-letters = H .kinds-letters;
         results-are = k 6 (omega arith) (omega arith) ∙ H .results-are;
         untaken-is = u;
         untaken-few = f;
@@ -105,7 +128,7 @@ module _ (g : Made) (S : Sound g) (capacity : ℕ) (m : List ℕ) (q : Links) (H
       }
 
   pub stands-links : (n : List ℕ) (r : Links) → length n ≡ length m → Low-kept m n → ((l : ℕ) → g .links ≤ l → r l ≡ q l) →
-      ((l : ℕ) → l < g .links → Waits capacity (linkPart n (sizeOf capacity) l) (r l)) → Stands g capacity n r
+      ((l : ℕ) → l < g .links → Waits capacity (linkPart n (sizeOf capacity) l) (r l)) → Stands g kinds capacity n r
   stands-links n r e k s w =
       let c : r creditLink ≡ q creditLink = s creditLink (omega (arith, S .few-links)) in
       stands-changed n r e (λ at h a. k at (omega arith)) (k 7 (omega arith) ∙ H .untaken-is ∙ ap length (sym c)) (rw c (H .untaken-few))

@@ -25,7 +25,7 @@ use Rattle.demand_view.specs.Stands.{Waits, Stands}
 use Rattle.demand_view.specs.Waits.{waits-room, waits-none, waits-head, waits-value, waits-appended, waits-removed}
 use Rattle.demand_view.specs.Frame.{stands-links}
 
-module _ (g : Made) (S : Sound g) (capacity : ℕ) (m : List ℕ) (q : Links) (H : Stands g capacity m q) (l : ℕ) (below : l < g .links) where
+module _ (g : Made) (S : Sound g) (kinds : List ℕ) (capacity : ℕ) (m : List ℕ) (q : Links) (H : Stands g kinds capacity m q) (l : ℕ) (below : l < g .links) where
   abbrev size : ℕ
   size = sizeOf capacity
 
@@ -70,10 +70,10 @@ module _ (g : Made) (S : Sound g) (capacity : ℕ) (m : List ℕ) (q : Links) (H
   beyond : (r : Links) → ((k : ℕ) → k ≢ l → r k ≡ q k) → (k : ℕ) → g .links ≤ k → r k ≡ q k
   beyond r e k h = e k (let ne : k ≢ l = omega arith in ne)
 
-  pub stands-append : (v : Value) → length (q l) < capacity → InRange v → Stands g capacity (appendedAt m size l (wordOf v)) (append l (val v) q)
+  pub stands-append : (v : Value) → length (q l) < capacity → InRange v → Stands g kinds capacity (appendedAt m size l (wordOf v)) (append l (val v) q)
   unfolding appendedAt
   stands-append v room fine =
-      stands-links g S capacity m q H (appendedAt m size l (wordOf v)) (append l (val v) q)
+      stands-links g S kinds capacity m q H (appendedAt m size l (wordOf v)) (append l (val v) q)
       (length-appended m size (H .long) l (wordOf v))
       (low-appended m size (H .long) l (wordOf v))
       (beyond (append l (val v) q) other)
@@ -90,10 +90,10 @@ module _ (g : Made) (S : Sound g) (capacity : ℕ) (m : List ℕ) (q : Links) (H
       other : (k : ℕ) → k ≢ l → append l (val v) q k ≡ q k
       other k ne = append-other l k (val v) q ne
 
-  pub stands-remove : 0 < length (q l) → Stands g capacity (removedAt m size l) (pop l q)
+  pub stands-remove : 0 < length (q l) → Stands g kinds capacity (removedAt m size l) (pop l q)
   unfolding removedAt
   stands-remove some-wait =
-      stands-links g S capacity m q H (removedAt m size l) (pop l q)
+      stands-links g S kinds capacity m q H (removedAt m size l) (pop l q)
       (length-removed m size (H .long) l)
       (low-removed m size (H .long) l)
       (beyond (pop l q) other)

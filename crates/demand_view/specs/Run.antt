@@ -33,7 +33,7 @@ abbrev numbered : Option ℕ → ℕ → ℕ
 numbered none past = past
 numbered (some a) past = a
 
-module _ (x : Exp) (S : Sound (madeOf x)) (capacity : ℕ) (one : 1 ≤ capacity) where
+module _ (x : Exp) (S : Sound (madeOf x)) (kinds : List ℕ) (capacity : ℕ) (one : 1 ≤ capacity) where
   abbrev size : ℕ
   size = sizeOf capacity
 
@@ -43,12 +43,12 @@ module _ (x : Exp) (S : Sound (madeOf x)) (capacity : ℕ) (one : 1 ≤ capacity
   abbrev Cannot : ℕ → Links → Type 0
   Cannot a q = Able (places capacity) (operatorAt x a) q → ⊥
 
-  module _ (m : List ℕ) (q : Links) (H : Stands (madeOf x) capacity m q) where
+  module _ (m : List ℕ) (q : Links) (H : Stands (madeOf x) kinds capacity m q) where
     pub unable-on-bytes : (i : ℕ) → i < count → Cannot i q → ableAt m size i ≡ false
     unable-on-bytes i h n = go (ableAt m size i) refl
       where
         go : (b : Bool) → ableAt m size i ≡ b → ableAt m size i ≡ false
-        go true e = absurd (n (able-on-links (madeOf x) S capacity m q H one i h e))
+        go true e = absurd (n (able-on-links (madeOf x) S kinds capacity m q H one i h e))
         go false e = e
 
     least-from : (k a : ℕ) → a + k ≤ count → leastFrom m size k a ≡ numbered (leastAbleFrom x capacity k a q) (a + k)
@@ -58,7 +58,7 @@ module _ (x : Exp) (S : Sound (madeOf x)) (capacity : ℕ) (one : 1 ≤ capacity
       where
         go : (d : Dec (Able (places capacity) (operatorAt x a) q)) → leastFrom m size k (suc a) ≡ numbered (leastAbleFrom x capacity k (suc a) q) (suc a + k) →
             pick (ableAt m size a) a (leastFrom m size k (suc a)) ≡ numbered (choose d a (leastAbleFrom x capacity k (suc a) q)) (a + suc k)
-        go (yes p) ih = rw (able-on-bytes (madeOf x) S capacity m q H a (omega arith) p) refl
+        go (yes p) ih = rw (able-on-bytes (madeOf x) S kinds capacity m q H a (omega arith) p) refl
         go (no n) ih =
             let e : suc a + k ≡ a + suc k = omega arith in
             rw (unable-on-bytes a (omega arith) n) (ih ∙ ap (numbered (leastAbleFrom x capacity k (suc a) q)) e)
@@ -85,15 +85,15 @@ module _ (x : Exp) (S : Sound (madeOf x)) (capacity : ℕ) (one : 1 ≤ capacity
 
   -- A run on bytes and its steps on links: the memory stands with the links after them, and the count is theirs.
   abbrev pub Same-run : Ran → List Step → Links → ℕ → Type 0
-  Same-run r w q c = Stands (madeOf x) capacity (r .mem) (afterSteps x w q) × (r .count ≡ c + length w)
+  Same-run r w q c = Stands (madeOf x) kinds capacity (r .mem) (afterSteps x w q) × (r .count ≡ c + length w)
 
   -- with c firings made before
-  runs-same : (lent : ℕ) (m : List ℕ) (q : Links) → Stands (madeOf x) capacity m q → (c : ℕ) → Same-run (runs size count lent m c) (runSteps x capacity lent q) q c
+  runs-same : (lent : ℕ) (m : List ℕ) (q : Links) → Stands (madeOf x) kinds capacity m q → (c : ℕ) → Same-run (runs size count lent m c) (runSteps x capacity lent q) q c
   unfolding runs runSteps
   runs-same zero m q H c = (H, omega arith)
   runs-same (suc b) m q H c =
       subst (λ n. Same-run (pick (ltb n count) (runs size count b (firedAt m size n) (c + 1)) (ran m c)) (onward (leastAble x capacity q) later) q c)
-      (sym (least-is m q H)) (go (leastAble x capacity q) refl (λ a h t. runs-same b (firedAt m size a) (act (operatorAt x a) q) (fired-stands (madeOf x) S capacity m q H a h t) (c + 1)))
+      (sym (least-is m q H)) (go (leastAble x capacity q) refl (λ a h t. runs-same b (firedAt m size a) (act (operatorAt x a) q) (fired-stands (madeOf x) S kinds capacity m q H a h t) (c + 1)))
     where
       later : ℕ → List Step
       later = λ a. runSteps x capacity b (act (operatorAt x a) q)
@@ -104,19 +104,19 @@ module _ (x : Exp) (S : Sound (madeOf x)) (capacity : ℕ) (one : 1 ≤ capacity
       go none e ih = rw (le-ltb count count (omega arith)) (H, omega arith)
       go (some a) e ih =
           let h = found-there q a e in
-          let t = able-on-bytes (madeOf x) S capacity m q H a h (least-is-least x capacity count 0 q a e .0) in
+          let t = able-on-bytes (madeOf x) S kinds capacity m q H a h (least-is-least x capacity count 0 q a e .0) in
           let r = ih a h t in
           rw (lt-ltb a count h) (r .0, omega (arith, r .1))
 
   -- THE RUN.
-  pub run-same : (lent : ℕ) (m : List ℕ) (q : Links) → Stands (madeOf x) capacity m q →
-      Stands (madeOf x) capacity (runs size count lent m 0 .mem) (afterSteps x (runSteps x capacity lent q) q)
+  pub run-same : (lent : ℕ) (m : List ℕ) (q : Links) → Stands (madeOf x) kinds capacity m q →
+      Stands (madeOf x) kinds capacity (runs size count lent m 0 .mem) (afterSteps x (runSteps x capacity lent q) q)
       × (runs size count lent m 0 .count ≡ length (runSteps x capacity lent q))
   run-same lent m q H = let r = runs-same lent m q H 0 in (r .0, r .1 ∙ omega arith)
 
   -- ---- nothing can fire
 
-  module _ (m : List ℕ) (q : Links) (H : Stands (madeOf x) capacity m q) where
+  module _ (m : List ℕ) (q : Links) (H : Stands (madeOf x) kinds capacity m q) where
     none-still : ((a : ℕ) → a < count → Cannot a q) → stillAt m size count ≡ true
     unfolding stillAt
     none-still n =

@@ -1,21 +1,22 @@
--- The one bridge between the machine's memory and the network (network/specs/Net): `Stands g capacity m q` says that the memory m holds the machine of
--- the graph g at a capacity, with the tokens of q waiting on its links. Header, operators' records and stretches: machine_layout/specs/Layout. The links of q
--- beyond the graph's own are the registers of FM and FS gates (theory_reference/specs/Plugged) and the credit link, one token for each set untaken
--- (theory_verdicts/specs/Owed). Definitions only; assumes nothing.
+-- The one bridge between the machine's memory and the network (network/specs/Net): `Stands g kinds capacity m q` says that the memory m holds the machine of
+-- the graph g, whose inputs have kinds with these letters, at a capacity, with the tokens of q waiting on its links. Header, operators' records and stretches:
+-- machine_layout/specs/Layout. The links of q beyond the graph's own are the registers of FM and FS gates (theory_reference/specs/Plugged) and the credit link,
+-- one token for each set untaken (theory_verdicts/specs/Owed). Definitions only; assumes nothing.
 use Prim.Native.Nat.{ℕ, _+_, _*_, _≤_, _<_}
 use mathlib.Core.Path.{_≡_}
-use mathlib.Core.Bool.{cond}
+use mathlib.Core.Bool.{true, cond}
 use mathlib.Core.List.{List, []}
 use mathlib.Core.Option.{none, some}
 use lib.ListN.{length, getD}
 use Rattle.value.specs.declared.Value.{Value}
 use Rattle.value.specs.Bytes.{InRange, wordOf, wordAt}
+use Rattle.value.specs.Kinds.{isLetter}
 use Rattle.network.specs.Rules.{Register}
 use Rattle.network.specs.Net.{Token, val, mark, Links}
 use Rattle.network.specs.Fill.{remembering}
 use Rattle.network.specs.Firing.{Holds}
 use Rattle.machine_queue.specs.Stretch.{waiting}
-use Rattle.machine_layout.specs.Layout.{capacityByte, operatorsOf, linksOf, inputsOf, resultsOf, untakenOf, noLink, triggerOf, inputLink, resultLink, kindByte, portOf, registerAt, sizeOf, need}
+use Rattle.machine_layout.specs.Layout.{capacityByte, operatorsOf, linksOf, inputsOf, resultsOf, untakenOf, noLink, triggerOf, inputLink, resultLink, kindByte, portOf, registerAt, sizeOf, need, storedKinds}
 use Rattle.machine_layout.specs.Kinds.{byteOf}
 use Rattle.machine_firing.specs.LinkLaws.{linkPart}
 use Rattle.graph.specs.Assembly.{Operator}
@@ -56,12 +57,15 @@ pub record Registered (m : List ℕ) (q : Links) (i : ℕ) (o : Operator) : Type
   pub word : wordAt m (registerAt i) ≡ wordIn register
   pub held : Holds (remembering (o .kind)) (portsOf o) q register
 
-pub record Stands (g : Made) (capacity : ℕ) (m : List ℕ) (q : Links) : Type 0 where
+pub record Stands (g : Made) (kinds : List ℕ) (capacity : ℕ) (m : List ℕ) (q : Links) : Type 0 where
   pub long : need (sizeOf capacity) ≤ length m
   pub capacity-is : capacityByte m ≡ capacity
   pub operators-are : operatorsOf m ≡ length (g .operators)
   pub links-are : linksOf m ≡ g .links
   pub inputs-are : inputsOf m ≡ g .inputs
+  pub kinds-are : storedKinds m ≡ kinds
+  pub kinds-count : length kinds ≡ g .inputs
+  pub kinds-letters : (j : ℕ) → j < g .inputs → isLetter (getD kinds j 0) ≡ true
   pub results-are : resultsOf m ≡ length (g .results)
   pub untaken-is : untakenOf m ≡ length (q creditLink)
   pub untaken-few : length (q creditLink) ≤ 16

@@ -1,18 +1,15 @@
 -- From the code's steps to the definition of an evaluation (meaning's specs/Evaluate): what each of its endings is.
 -- Assumes an accepted sheet's formula row.
-use Prim.Native.Nat.{ℕ, zero, suc, _+_, _*_, _-_, _^_, _≤_, _<_}
+use Prim.Native.Nat.{ℕ, suc, _+_, _-_, _≤_, _<_}
 use mathlib.Core.Path.{_≡_, refl, sym, ap, _∙_, subst}
 use mathlib.Core.Bool.{true, false}
 use mathlib.Core.List.{List, [], _∷_, _++_, map, append-nil}
-use lib.Bits.{bitAnd}
-use lib.Count.{ones}
 use lib.ListN.{length, getD, set, take, drop, replicate, length-map, List·getD-map, drop-of-length-le}
 use lib.Seq.{paste, paste-suc, take-all}
 use native.Mathlib.Omega.{arith}
 use native.Mathlib.Numerals.{add-one}
 use Rattle.value.specs.declared.Value.{Value}
-use Rattle.names.specs.Names.{trigger, one, without, mask, size, below}
-use Rattle.names.proofs.Sets.{mask-without, mask-one, ones-mask, length-members}
+use Rattle.names.specs.Names.{mask}
 use Rattle.formula.specs.declared.Refusal.the-variants.{Set, Unfinished}
 use Rattle.formula.specs.declared.Verdict.{Verdict}
 use Rattle.formula.specs.declared.Verdict.the-variants.{Passed}
@@ -24,22 +21,13 @@ use Rattle.meaning.specs.Rows.{ExpRow}
 use Rattle.meaning.specs.declared.Cell.{Cell}
 use Rattle.meaning.specs.declared.Evaluation.{Evaluation}
 use Rattle.meaning.specs.Evaluate.{cell, cellsOf, refused, concluded, evaluatedWith, evaluated}
-use Rattle.value_sets.specs.Sets.{setOk, setValues, set-values, no-set}
+use Rattle.value_sets.specs.Sets.{setOk, set-values, no-set}
+use Rattle.eval_words.specs.Inputs.{inputs-below}
 use Rattle.eval_words.specs.Words.{heldOf, envOf, zeros-err}
 use Rattle.eval_words.specs.Needs.{W, narrow}
 use Rattle.eval_cycle.specs.declared.Rest.the-variants.{Left, Short}
 use Rattle.eval_cycle.specs.Told.{Told, Values, told-left, told-short, read, counted}
-use Rattle.eval_sheet.specs.Inputs.{Holds, inputs-below, holds-inputs, cells-are}
-
--- The count of the mask without the trigger is the number of inputs.
-pub inputs-count : (x : Exp) (free t m c : ℕ) → free ≡ mask (freeE x) → t ≡ 2 ^ 32 → m ≡ bitAnd free ((2 ^ 64 - 1) - t) → c ≡ ones m
-    → c ≡ length (inputsOf x)
-unfolding inputsOf
-inputs-count x free t m c p q r s =
-    s
-    ∙ ap ones (r ∙ (λ i. bitAnd (p i) ((2 ^ 64 - 1) - (q ∙ sym (mask-one 32 (omega arith))) i)) ∙ mask-without (freeE x) (one trigger))
-    ∙ ones-mask (without (freeE x) (one trigger))
-    ∙ sym (length-members (without (freeE x) (one trigger)))
+use Rattle.eval_sheet.specs.Inputs.{Holds, holds-inputs, cells-are}
 
 -- Rounds left are at most those lent.
 pub left-within : (x : Exp) (env : Env) (rounds l at : ℕ) (o o′ : List ℕ) → Told (evalE x env rounds) (Left l) at o o′ → l ≤ rounds
@@ -48,22 +36,19 @@ left-within x env rounds l at o o′ h =
     subst (Within rounds) (v .is) (within x env rounds)
 
 -- A set that is none.
-pub evaluated-bad : (x : Exp) (n : ℕ) (bytes : List ℕ) (rounds : ℕ) → n ≡ length (inputsOf x) → setOk n bytes ≡ false
-    → refused Set 0 ≡ evaluated x bytes rounds
+pub evaluated-bad : (x : Exp) (kinds bytes : List ℕ) (rounds : ℕ) → setOk kinds bytes ≡ false → refused Set 0 ≡ evaluated x kinds bytes rounds
 unfolding evaluated
-evaluated-bad x n bytes rounds c h =
-    ap (evaluatedWith x rounds) (sym (no-set n bytes h)) ∙ ap (λ (k : ℕ). evaluatedWith x rounds (setValues k bytes)) c
+evaluated-bad x kinds bytes rounds h = ap (evaluatedWith x rounds) (sym (no-set kinds bytes h))
 
 -- A set: the environment that the code made is the meaning's.
-pub evaluated-good : (x : Exp) (n : ℕ) (bytes : List ℕ) (rounds : ℕ) (env : List ℕ) → n ≡ length (inputsOf x) → setOk n bytes ≡ true
-    → Holds bytes n (mask (freeE x)) env 32
-    → concluded rounds (evalE x (envOf env) rounds) ≡ evaluated x bytes rounds
+pub evaluated-good : (x : Exp) (kinds bytes : List ℕ) (rounds : ℕ) (env : List ℕ) → length kinds ≡ length (inputsOf x) → setOk kinds bytes ≡ true
+    → Holds bytes (length kinds) (mask (freeE x)) env 32
+    → concluded rounds (evalE x (envOf env) rounds) ≡ evaluated x kinds bytes rounds
 unfolding evaluated
-evaluated-good x n bytes rounds env c h k =
-    let r = set-values n bytes h in
-    ap (λ (f : Env). concluded rounds (evalE x f rounds)) (holds-inputs x n bytes (r .0) env (c ∙ inputs-below x) (r .1) k)
+evaluated-good x kinds bytes rounds env c h k =
+    let r = set-values kinds bytes h in
+    ap (λ (f : Env). concluded rounds (evalE x f rounds)) (holds-inputs x kinds bytes (r .0) env (c ∙ inputs-below x) (r .1) k)
     ∙ ap (evaluatedWith x rounds) (sym (r .1 .values))
-    ∙ ap (λ (j : ℕ). evaluatedWith x rounds (setValues j bytes)) c
 
 pub concluded-short : (o : Outcome) (rounds at : ℕ) (b a : List ℕ) → Told o Short at b a → refused Unfinished 0 ≡ concluded rounds o
 unfolding concluded

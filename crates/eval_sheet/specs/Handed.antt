@@ -1,5 +1,5 @@
--- Evaluation for the firmware (document 01, "Direct evaluation is lent rounds and tells those used", and the refusals 11, 1 to
--- 10, 12, 36 in this order): its answer and every byte of the lent `out` at its end. "A result set is sixteen values carried
+-- Evaluation for the firmware (document 01, "Direct evaluation is lent rounds and tells those used", and the refusals 11, the
+-- reader's, 12, 36 in this order): its answer and every byte of the lent `out` at its end. "A result set is sixteen values carried
 -- whole, with its width; places past the width hold err": five bytes a value (value's specs/Bytes). Assumes nothing.
 use Prim.Native.Nat.{ℕ, zero, suc, _+_, _*_, _≤_, _<_}
 use mathlib.Core.Path.{_≡_, refl, sym, ap, _∙_}
@@ -47,10 +47,10 @@ told Passed e o = handed (answers 0 0 (e .width) (e .rounds)) (written 16 (e .ce
 told (Refused r row) e o = handed (answers (numberOf r) row 0 0) o
 
 -- 11 where the result set has no room, before all else.
-unfoldable pub handedOut : List ℕ → List ℕ → ℕ → List ℕ → Handed
+unfoldable pub handedOut : List ℕ → List ℕ → List ℕ → ℕ → List ℕ → Handed
 unfolding told evaluationOf
-handedOut sheet set rounds o =
-    let e : Evaluation = evaluationOf sheet set rounds in
+handedOut sheet line set rounds o =
+    let e : Evaluation = evaluationOf sheet line set rounds in
     let done : Handed = told (e .verdict) e o in
     pick (ltb (length o) 80) (handed (answers (numberOf Memory) 0 0 0) o) done
 
@@ -72,22 +72,22 @@ written-more cells o j d h =
     ap (λ (k : ℕ). written k cells o) (add-one j)
     ∙ ap (λ (c : Cell). stored (written j cells o) (5 * j) (wordOf (c .v))) (entry-any cells j (cell err) d h)
 
-module _ (sheet set : List ℕ) (rounds : ℕ) (o : List ℕ) where
-  pub handed-short : length o < 80 → handed (answers (numberOf Memory) 0 0 0) o ≡ handedOut sheet set rounds o
+module _ (sheet line set : List ℕ) (rounds : ℕ) (o : List ℕ) where
+  pub handed-short : length o < 80 → handed (answers (numberOf Memory) 0 0 0) o ≡ handedOut sheet line set rounds o
   unfolding handedOut
   handed-short h = rw (lt-ltb (length o) 80 h) refl
 
-  pub handed-told : 80 ≤ length o → told (evaluationOf sheet set rounds .verdict) (evaluationOf sheet set rounds) o ≡ handedOut sheet set rounds o
+  pub handed-told : 80 ≤ length o → told (evaluationOf sheet line set rounds .verdict) (evaluationOf sheet line set rounds) o ≡ handedOut sheet line set rounds o
   unfolding handedOut
   handed-told h = rw (le-ltb (length o) 80 h) refl
 
-  pub handed-refused : 80 ≤ length o → (r : Refusal) (row : ℕ) → evaluationOf sheet set rounds .verdict ≡ Refused r row
-      → handed (answers (numberOf r) row 0 0) o ≡ handedOut sheet set rounds o
+  pub handed-refused : 80 ≤ length o → (r : Refusal) (row : ℕ) → evaluationOf sheet line set rounds .verdict ≡ Refused r row
+      → handed (answers (numberOf r) row 0 0) o ≡ handedOut sheet line set rounds o
   unfolding told
-  handed-refused h r row v = ap (λ (z : Verdict). told z (evaluationOf sheet set rounds) o) (sym v) ∙ handed-told h
+  handed-refused h r row v = ap (λ (z : Verdict). told z (evaluationOf sheet line set rounds) o) (sym v) ∙ handed-told h
 
-  pub handed-passed : 80 ≤ length o → (e : Evaluation) → e ≡ evaluationOf sheet set rounds → e .verdict ≡ Passed
-      → handed (answers 0 0 (e .width) (e .rounds)) (written 16 (e .cells) o) ≡ handedOut sheet set rounds o
+  pub handed-passed : 80 ≤ length o → (e : Evaluation) → e ≡ evaluationOf sheet line set rounds → e .verdict ≡ Passed
+      → handed (answers 0 0 (e .width) (e .rounds)) (written 16 (e .cells) o) ≡ handedOut sheet line set rounds o
   unfolding told
   handed-passed h e p v =
       ap (λ (z : Verdict). told z e o) (sym v) ∙ ap (λ (z : Evaluation). told (z .verdict) z o) p ∙ handed-told h

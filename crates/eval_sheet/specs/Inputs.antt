@@ -1,31 +1,28 @@
 -- How a set's values reach the environment, and how words become a result set: the laws between the code's words and the
 -- definitions in the meaning (`inputsHold`, specs/Evaluate). Assumes nothing.
-use Prim.Native.Nat.{ℕ, zero, suc, _+_, _*_, _-_, _/_, _%_, _^_, _≤_, _<_}
+use Prim.Native.Nat.{ℕ, zero, suc, _+_, _*_, _-_, _≤_, _<_}
 use mathlib.Core.Path.{_≡_, refl, sym, ap, _∙_, subst, fun-ext}
-use mathlib.Core.Bool.{Bool, true, false, not, _&&_}
+use mathlib.Core.Bool.{Bool, true, false}
 use mathlib.Core.List.{List, [], _∷_, _++_, map}
 use lib.Dec.{eqb, ltb}
 use lib.ListN.{length, getD, set, replicate, length-set, List·getD-eq-default}
 use lib.Seq.{getD-set-same, getD-set-other}
-use borrow.Author.Tests.{ltb-true, ltb-false, ne-eqb, eqb-true, eqb-false}
+use borrow.Author.Tests.{ltb-true, ltb-false, eqb-true, eqb-false}
 use native.Mathlib.Omega.{arith}
 use Rattle.value.specs.declared.Value.{Value}
 use Rattle.value.specs.Operators.{pick}
 use Rattle.value.specs.Bytes.{wordAt}
 use Rattle.value.specs.Senses.{err}
-use Rattle.names.specs.Names.{Names, trigger, one, without, bit, below, sizeFrom, size, mask, members}
-use Rattle.names.proofs.Sets.{mask-has, below-suc, below-zero, below-mono, below-cong, below-all, length-members}
+use Rattle.names.specs.Names.{trigger, one, without, below, mask}
+use Rattle.names.proofs.Sets.{mask-has, below-mono, below-cong, length-members, size-le}
 use Rattle.formula.specs.Tree.{Exp}
 use Rattle.formula.specs.Free.{freeE, inputsOf}
 use Rattle.meaning.specs.Meaning.{Env, inputsHold}
 use Rattle.meaning.specs.declared.Cell.{Cell}
 use Rattle.meaning.specs.Evaluate.{cell}
 use Rattle.value_sets.specs.Sets.{IsSet}
+use Rattle.eval_words.specs.Inputs.{setIn}
 use Rattle.eval_words.specs.Words.{heldOf, envOf, held-word, held-zero}
-
--- The set that a mask stands for.
-abbrev pub setIn : ℕ → Names
-setIn m k = eqb (m / 2 ^ k % 2) 1
 
 -- Value i of a set of n values, as a word; 0 where there is none.
 abbrev pub wordOr : List ℕ → ℕ → ℕ → ℕ
@@ -38,15 +35,15 @@ pub record Holds (set : List ℕ) (n m : ℕ) (env : List ℕ) (k : ℕ) : Type 
 
 -- ---- the values of a set
 
-word-or : (n : ℕ) (set : List ℕ) (vs : List Value) → IsSet n set vs → (i : ℕ) → heldOf (wordOr set n i) ≡ getD vs i err
-word-or n set vs s i = go (ltb i n) refl
+word-or : (kinds set : List ℕ) (vs : List Value) → IsSet kinds set vs → (i : ℕ) → heldOf (wordOr set (length kinds) i) ≡ getD vs i err
+word-or kinds set vs s i = go (ltb i (length kinds)) refl
   where
-    go : (b : Bool) → ltb i n ≡ b → heldOf (pick (ltb i n) (wordAt set (5 * i)) 0) ≡ getD vs i err
+    go : (b : Bool) → ltb i (length kinds) ≡ b → heldOf (pick (ltb i (length kinds)) (wordAt set (5 * i)) 0) ≡ getD vs i err
     go true p =
-        let l : i < n = ltb-true i n p in
+        let l : i < length kinds = ltb-true i (length kinds) p in
         rw p (ap heldOf (s .words i l) ∙ held-word (getD vs i err) (s .ranged i l))
     go false p =
-        rw p (held-zero ∙ sym (List·getD-eq-default vs err (omega (arith, s .count, ltb-false i n p))))
+        rw p (held-zero ∙ sym (List·getD-eq-default vs err (omega (arith, s .count, ltb-false i (length kinds) p))))
 
 -- ---- the steps of the code
 
@@ -70,51 +67,26 @@ holds-more bytes n m env k i l e h =
         let q : j ≡ k → ⊥ = eqb-false j k p in
         getD-set-other env k j (wordOr bytes n i) 0 q ∙ h .filled j (omega (arith, q))
 
-pub below-more : (m k i : ℕ) → i ≡ below (setIn m) k → i + bit (setIn m k) ≡ below (setIn m) (k + 1)
-below-more m k i e =
-    let s : k + 1 ≡ suc k = omega arith in
-    rw (e, s) (sym (below-suc (setIn m) k))
-
 -- ---- the inputs
 
--- The number of inputs is that of the free names below the trigger.
-pub inputs-below : (x : Exp) → length (inputsOf x) ≡ below (freeE x) 32
+pub inputs-few : (x : Exp) → length (inputsOf x) ≤ 33
 unfolding inputsOf
-inputs-below x =
-    length-members (without (freeE x) (one trigger))
-    ∙ sym (below-all (without (freeE x) (one trigger)))
-    ∙ below-suc (without (freeE x) (one trigger)) 32
-    ∙ last-out
-    ∙ below-cong (without (freeE x) (one trigger)) (freeE x) 32 (λ i l. others i l)
-  where
-    last-out : below (without (freeE x) (one trigger)) 32 + bit (without (freeE x) (one trigger) 32)
-        ≡ below (without (freeE x) (one trigger)) 32
-    last-out = go (freeE x 32)
-      where
-        go : (b : Bool) → below (without (freeE x) (one trigger)) 32 + bit (b && not (eqb 32 32))
-            ≡ below (without (freeE x) (one trigger)) 32
-        go true = omega arith
-        go false = omega arith
-
-    others : (i : ℕ) → i < 32 → freeE x i && not (eqb 32 i) ≡ freeE x i
-    others i l = rw (ne-eqb 32 i (λ e. omega arith)) (go (freeE x i))
-      where
-        go : (b : Bool) → b && true ≡ b
-        go true = refl
-        go false = refl
+inputs-few x =
+    let f = without (freeE x) (one trigger) in
+    omega (arith, length-members f, size-le f)
 
 -- Words that hold a set's values hold the environment of the meaning.
-pub holds-inputs : (x : Exp) (n : ℕ) (set : List ℕ) (vs : List Value) (env : List ℕ)
-    → n ≡ below (freeE x) 32 → IsSet n set vs → Holds set n (mask (freeE x)) env 32
+pub holds-inputs : (x : Exp) (kinds set : List ℕ) (vs : List Value) (env : List ℕ)
+    → length kinds ≡ below (freeE x) 32 → IsSet kinds set vs → Holds set (length kinds) (mask (freeE x)) env 32
     → envOf env ≡ inputsHold (freeE x) vs
 unfolding envOf inputsHold
-holds-inputs x n set vs env c h k = fun-ext (λ j. go j (ltb j 32) refl)
+holds-inputs x kinds set vs env c h k = fun-ext (λ j. go j (ltb j 32) refl)
   where
     go : (j : ℕ) (b : Bool) → ltb j 32 ≡ b → heldOf (getD env j 0) ≡ getD vs (below (freeE x) j) err
     go j true p =
         let l : j < 32 = ltb-true j 32 p in
         ap heldOf (k .filled j l)
-        ∙ word-or n set vs h (below (setIn (mask (freeE x))) j)
+        ∙ word-or kinds set vs h (below (setIn (mask (freeE x))) j)
         ∙ ap (λ (i : ℕ). getD vs i err)
         (below-cong (setIn (mask (freeE x))) (freeE x) j (λ i m. mask-has (freeE x) i (omega arith)))
     go j false p =

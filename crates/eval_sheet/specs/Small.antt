@@ -11,8 +11,9 @@ use Rattle.formula.specs.declared.Refusal.{Refusal}
 use Rattle.formula.specs.declared.Verdict.{Verdict}
 use Rattle.formula.specs.declared.Verdict.the-variants.{Passed, Refused}
 use Rattle.formula.specs.Tree.{Exp, identifier, constant, pair, operator, letE, ifE, forE, formulaOf}
-use Rattle.formula.specs.Free.{freeE, inputsOf}
+use Rattle.formula.specs.Free.{freeE}
 use Rattle.formula.specs.Widths.{width}
+use Rattle.formula.specs.Faults.{lettersOf}
 use Rattle.formula.specs.Tests.{verdictOf}
 use Rattle.formula.specs.Acceptance.{passed-admissible, low-row}
 use Rattle.meaning.specs.Meaning.{Outcome, yields, inputsHold, evalE}
@@ -42,9 +43,9 @@ unfolding concluded
 concluded-narrow rounds w (yields vs left) n h = omega (arith, h)
 concluded-narrow rounds w Outcome.unfinished n h = omega arith
 
-evaluated-narrow : (x : Exp) → SoundE x → (set : List ℕ) (rounds : ℕ) → evaluated x set rounds .width ≤ 16
+evaluated-narrow : (x : Exp) → SoundE x → (kinds set : List ℕ) (rounds : ℕ) → evaluated x kinds set rounds .width ≤ 16
 unfolding evaluated
-evaluated-narrow x h set rounds = go (setValues (length (inputsOf x)) set)
+evaluated-narrow x h kinds set rounds = go (setValues kinds set)
   where
     go : (o : Option (List Value)) → evaluatedWith x rounds o .width ≤ 16
     go (some vs) =
@@ -52,12 +53,12 @@ evaluated-narrow x h set rounds = go (setValues (length (inputsOf x)) set)
         (sized x h (inputsHold (freeE x) vs) rounds)
     go none = omega arith
 
-pub narrow-width : (s set : List ℕ) (rounds : ℕ) → evaluationOf s set rounds .width ≤ 16
+pub narrow-width : (s line set : List ℕ) (rounds : ℕ) → evaluationOf s line set rounds .width ≤ 16
 unfolding evaluationOf
-narrow-width s set rounds = go (verdictOf s) refl
+narrow-width s line set rounds = go (verdictOf s line) refl
   where
-    go : (v : Verdict) → verdictOf s ≡ v → afterVerdict v (evaluated (formulaOf s) set rounds) .width ≤ 16
-    go Passed e = evaluated-narrow (formulaOf s) (formula-sound s (passed-admissible s e)) set rounds
+    go : (v : Verdict) → verdictOf s line ≡ v → afterVerdict v (evaluated (formulaOf s) (lettersOf (formulaOf s) line) set rounds) .width ≤ 16
+    go Passed e = evaluated-narrow (formulaOf s) (formula-sound s (passed-admissible s line e)) (lettersOf (formulaOf s) line) set rounds
     go (Refused r row) e = omega arith
 
 concluded-row : (rounds : ℕ) (o : Outcome) → rowIn (concluded rounds o .verdict) ≡ 0
@@ -65,21 +66,21 @@ unfolding concluded
 concluded-row rounds (yields vs left) = refl
 concluded-row rounds Outcome.unfinished = refl
 
-evaluated-row : (x : Exp) (set : List ℕ) (rounds : ℕ) → rowIn (evaluated x set rounds .verdict) ≡ 0
+evaluated-row : (x : Exp) (kinds set : List ℕ) (rounds : ℕ) → rowIn (evaluated x kinds set rounds .verdict) ≡ 0
 unfolding evaluated
-evaluated-row x set rounds = go (setValues (length (inputsOf x)) set)
+evaluated-row x kinds set rounds = go (setValues kinds set)
   where
     go : (o : Option (List Value)) → rowIn (evaluatedWith x rounds o .verdict) ≡ 0
     go (some vs) = concluded-row rounds (evalE x (inputsHold (freeE x) vs) rounds)
     go none = refl
 
-low-fault : (s set : List ℕ) (rounds : ℕ) → rowIn (evaluationOf s set rounds .verdict) ≤ 200
+low-fault : (s line set : List ℕ) (rounds : ℕ) → rowIn (evaluationOf s line set rounds .verdict) ≤ 200
 unfolding evaluationOf
-low-fault s set rounds = go (verdictOf s) refl
+low-fault s line set rounds = go (verdictOf s line) refl
   where
-    go : (v : Verdict) → verdictOf s ≡ v → rowIn (afterVerdict v (evaluated (formulaOf s) set rounds) .verdict) ≤ 200
-    go Passed e = omega (arith, evaluated-row (formulaOf s) set rounds)
-    go (Refused r row) e = low-row s r row e
+    go : (v : Verdict) → verdictOf s line ≡ v → rowIn (afterVerdict v (evaluated (formulaOf s) (lettersOf (formulaOf s) line) set rounds) .verdict) ≤ 200
+    go Passed e = omega (arith, evaluated-row (formulaOf s) (lettersOf (formulaOf s) line) set rounds)
+    go (Refused r row) e = low-row s line r row e
 
-pub low-row-of : (s set : List ℕ) (rounds : ℕ) (r : Refusal) (row : ℕ) → evaluationOf s set rounds .verdict ≡ Refused r row → row ≤ 200
-low-row-of s set rounds r row h = subst (λ (v : Verdict). rowIn v ≤ 200) h (low-fault s set rounds)
+pub low-row-of : (s line set : List ℕ) (rounds : ℕ) (r : Refusal) (row : ℕ) → evaluationOf s line set rounds .verdict ≡ Refused r row → row ≤ 200
+low-row-of s line set rounds r row h = subst (λ (v : Verdict). rowIn v ≤ 200) h (low-fault s line set rounds)

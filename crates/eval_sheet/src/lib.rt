@@ -1,8 +1,9 @@
-// Direct evaluation of a sheet's bytes on a set (document 01, "Direct evaluation is lent rounds and tells those used"),
-// with its result set written to lent bytes. Refusals come in the order 11, 1 to 10, 12, 36. Any bytes of any length may be handed
-// in. The definitions are meaning's specs/Evaluate and, for lent bytes, specs/Handed.
+// Direct evaluation of a sheet's bytes with its kinds line on a set (document 01, "Direct evaluation is lent rounds and tells
+// those used"), with its result set written to lent bytes. Refusals come in the order 11, the reader's, 12, 36. Any bytes of any
+// length may be handed in. The definitions are meaning's specs/Evaluate and, for lent bytes, specs/Handed.
 use crate::row::evaluate_row;
 use crate::row::refuse;
+use eval_words::inputs::inputs_in;
 use formula::Refusal;
 use formula::Verdict;
 use formula::refusal_number;
@@ -30,20 +31,30 @@ pub struct EvaluateAnswer {
 }
 
 // A sheet's formula on a set, with as many rounds as lent.
-pub fn evaluate(sheet: &[u8], set: &[u8], rounds: u32) -> Evaluation
-    ensures { λ e. ⌜ e ≡ evaluationOf (now (sheet .entry)) (now (set .entry)) rounds ⌝ }
+pub fn evaluate(sheet: &[u8], line: &[u8], set: &[u8], rounds: u32) -> Evaluation
+    ensures { λ e. ⌜ e ≡ evaluationOf (now (sheet .entry)) (now (line .entry)) (now (set .entry)) rounds ⌝ }
 {
     let mut fields = blank::fields();
     let mut returned = blank::bytes();
     let mut masks = blank::words();
-    let tested = fill_tables(sheet, &mut fields, &mut returned, &mut masks);
+    let tested = fill_tables(sheet, line, &mut fields, &mut returned, &mut masks);
     match tested {
         Tested::Refused(r, row) => refuse(r, row),
         Tested::Passed(_) => {
             let n = sheet.len() / 31;
             let end = 5 * n;
             let last = n - 1;
-            evaluate_row(&fields[..end], &returned[..n], n, masks[last], set, rounds)
+            let free = masks[last];
+            let inputs = inputs_in(free);
+            evaluate_row(
+                &fields[..end],
+                &returned[..n],
+                n,
+                free,
+                &line[..inputs],
+                set,
+                rounds,
+            )
         }
     }
 }
@@ -74,13 +85,19 @@ fn write_cells(cells: [Cell; 16], out: &mut [u8])
 }
 
 // Evaluation for the firmware: the result set is written to the first 80 bytes of `out`, on acceptance only.
-pub fn evaluate_into(sheet: &[u8], set: &[u8], rounds: u32, out: &mut [u8]) -> EvaluateAnswer
-    ensures { λ a. ⌜ handed a (now (out .exit)) ≡ handedOut (now (sheet .entry)) (now (set .entry)) rounds (now (out .entry)) ⌝ }
+pub fn evaluate_into(
+    sheet: &[u8],
+    line: &[u8],
+    set: &[u8],
+    rounds: u32,
+    out: &mut [u8],
+) -> EvaluateAnswer
+    ensures { λ a. ⌜ handed a (now (out .exit)) ≡ handedOut (now (sheet .entry)) (now (line .entry)) (now (set .entry)) rounds (now (out .entry)) ⌝ }
 {
     if out.len() < 80 {
         return refused(Refusal::Memory, 0);
     }
-    let e = evaluate(sheet, set, rounds);
+    let e = evaluate(sheet, line, set, rounds);
     let verdict = e.verdict;
     match verdict {
         Verdict::Refused(r, row) => refused(r, row as u32),

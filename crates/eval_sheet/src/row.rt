@@ -2,6 +2,7 @@
 // rounds are needed than lent, else the result set with the rounds used.
 use eval_cycle::Rest;
 use eval_cycle::cycle::expr;
+use eval_words::inputs::next;
 use eval_words::words::held;
 use formula::Refusal;
 use formula::Verdict;
@@ -12,13 +13,13 @@ ghost use mathlib.Core.Path.{_≡_};
 ghost use mathlib.Core.List.{map};
 ghost use Prim.Native.Nat.{ℕ, _+_, _*_, _-_, _≤_, _<_};
 ghost use lib.ListN.{length};
-ghost use Rattle.names.specs.Names.{bit, mask};
+ghost use Rattle.names.specs.Names.{mask};
 ghost use Rattle.formula.specs.Tree.{expOf};
-ghost use Rattle.formula.specs.Free.{freeE};
+ghost use Rattle.formula.specs.Free.{freeE, inputsOf};
 ghost use Rattle.meaning.specs.Rows.{ExpRow};
 ghost use Rattle.eval_words.specs.Words.{heldOf};
 ghost use Rattle.meaning.specs.Evaluate.{cell, refused, evaluated};
-ghost use Rattle.eval_sheet.specs.Inputs.{Holds, setIn, wordOr};
+ghost use Rattle.eval_sheet.specs.Inputs.{Holds, wordOr};
 
 // A refusal: width 0, every place err, no rounds.
 pub fn refuse(r: Refusal, row: usize) -> Evaluation
@@ -43,17 +44,6 @@ fn word_or(set: &[u8], n: usize, i: usize) -> u64
         return value::bytes::load(set, 5 * i);
     }
     0
-}
-
-// One more than i where k is in the mask.
-fn next(m: u64, k: usize, i: usize) -> usize
-    requires { ⌜ (k < 33) × (i ≤ 64) ⌝ }
-    ensures { λ r. ⌜ (r ≡ i + bit (setIn m k)) × (r ≤ i + 1) ⌝ }
-{
-    if names::has(m, k as u32) {
-        return i + 1;
-    }
-    i
 }
 
 // The set's values at the identifiers of the mask, rising.
@@ -90,24 +80,24 @@ fn conclude(out: &[u64], w: usize, used: u32) -> Evaluation
     }
 }
 
-// Row n as the formula, whose free names are the mask `free`, on a set.
+// Row n as the formula, whose free names are the mask `free` and whose inputs have these kinds, on a set.
 pub fn evaluate_row(
     t: &[u32],
     widths: &[u8],
     n: usize,
     free: u64,
+    kinds: &[u8],
     set: &[u8],
     rounds: u32,
 ) -> Evaluation
-    requires { ⌜ ExpRow (now t) (now widths) n × (free ≡ mask (freeE (expOf (now t) n))) ⌝ }
-    ensures { λ e. ⌜ e ≡ evaluated (expOf (now (t .entry)) n) (now (set .entry)) rounds ⌝ }
+    requires { ⌜ ExpRow (now t) (now widths) n × (free ≡ mask (freeE (expOf (now t) n))) × (length (now kinds) ≡ length (inputsOf (expOf (now t) n))) ⌝ }
+    ensures { λ e. ⌜ e ≡ evaluated (expOf (now (t .entry)) n) (now (kinds .entry)) (now (set .entry)) rounds ⌝ }
 {
-    let inputs = names::count(names::minus(free, names::single(names::TRIGGER))) as usize;
-    if !value_sets::is_set(set, inputs) {
+    if !value_sets::is_set(set, kinds) {
         return refuse(Refusal::Set, 0);
     }
     let mut env = [0; 32];
-    hold(&mut env, free, set, inputs);
+    hold(&mut env, free, set, kinds.len());
     let mut out = [0; 16];
     match expr(t, widths, n, &env, &mut out, 0, rounds) {
         Rest::Short => refuse(Refusal::Unfinished, 0),

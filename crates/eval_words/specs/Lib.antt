@@ -1,3 +1,4 @@
 pub mod Words
+pub mod Inputs
 pub mod Needs
 pub mod Parts

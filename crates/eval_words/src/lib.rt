@@ -1,5 +1,6 @@
 // What the evaluators of a formula sheet are made of (document 01, "The meaning"): values as words, and rows of width one taken
 // apart. Assumes an accepted sheet's rows.
+pub mod inputs; // inputs.rt: a formula's inputs by the mask of its free names
 pub mod parts; // parts.rt: what the value of a row of width one is made of
 pub mod words; // words.rt: values as words in lent arrays
 

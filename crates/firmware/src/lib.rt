@@ -14,29 +14,35 @@ ghost use Rattle.machine_calls.specs.Calls.{outcome, handed, pushed, fired, ran
 ghost use Rattle.machine_tray.specs.Tray.{trayed};
 
 #[no_mangle]
-pub extern "C" fn bench_read(sheet: &[u8]) -> ReadAnswer
-    ensures { λ r. ⌜ r ≡ answerOf (readingOf (now (sheet .entry))) ⌝ }
+pub extern "C" fn bench_read(sheet: &[u8], kinds: &[u8]) -> ReadAnswer
+    ensures { λ r. ⌜ r ≡ answerOf (readingOf (now (sheet .entry)) (now (kinds .entry))) ⌝ }
 {
-    sheet_read::read::bench_read(sheet)
+    sheet_read::read::bench_read(sheet, kinds)
 }
 
 #[no_mangle]
 pub extern "C" fn bench_evaluate(
     sheet: &[u8],
+    kinds: &[u8],
     set: &[u8],
     rounds: u32,
     out: &mut [u8],
 ) -> EvaluateAnswer
-    ensures { λ a. ⌜ evaluationHanded a (now (out .exit)) ≡ handedOut (now (sheet .entry)) (now (set .entry)) rounds (now (out .entry)) ⌝ }
+    ensures { λ a. ⌜ evaluationHanded a (now (out .exit)) ≡ handedOut (now (sheet .entry)) (now (kinds .entry)) (now (set .entry)) rounds (now (out .entry)) ⌝ }
 {
-    eval_sheet::evaluate_into(sheet, set, rounds, out)
+    eval_sheet::evaluate_into(sheet, kinds, set, rounds, out)
 }
 
 #[no_mangle]
-pub extern "C" fn bench_start(sheet: &[u8], capacity: u32, mem: &mut [u8]) -> StartAnswer
-    ensures { λ a. ⌜ begun a (now (mem .exit)) ≡ started (now (sheet .entry)) capacity (now (mem .entry)) ⌝ }
+pub extern "C" fn bench_start(
+    sheet: &[u8],
+    kinds: &[u8],
+    capacity: u32,
+    mem: &mut [u8],
+) -> StartAnswer
+    ensures { λ a. ⌜ begun a (now (mem .exit)) ≡ started (now (sheet .entry)) (now (kinds .entry)) capacity (now (mem .entry)) ⌝ }
 {
-    machine_start::start(sheet, capacity, mem)
+    machine_start::start(sheet, kinds, capacity, mem)
 }
 
 #[no_mangle]

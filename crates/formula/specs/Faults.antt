@@ -3,19 +3,19 @@
 -- formula has them; each is met once, since each is named once. The rule is a parameter, as a later request holds rows to another
 -- rule. Assumes nothing.
 use Prim.Native.Nat.{ℕ, zero, suc}
-use mathlib.Core.Bool.{Bool, true, false, cond, _&&_, _||_}
+use mathlib.Core.Bool.{Bool, true, false, cond, _&&_}
 use mathlib.Core.List.{List, [], _∷_, _++_}
-use lib.ListN.{getD}
+use lib.ListN.{getD, length, take}
 use lib.Dec.{eqb, leb}
-use Rattle.value.specs.declared.ValueKind.{ValueKind}
-use Rattle.value.specs.declared.ValueKind.the-variants.{Whole as whole-kind, Truth as truth-kind}
+use Rattle.value.specs.Kinds.{isLetter, kindOfLetter}
 use Rattle.names.specs.Names.{Names, below, sizeFrom}
 use Rattle.formula.specs.declared.Shape.{Shape}
 use Rattle.formula.specs.declared.Shape.the-variants.{Identifier, Constant, Pair, Operator, Let, If, For, Iter}
 use Rattle.formula.specs.declared.Check.{Check}
 use Rattle.formula.specs.declared.Check.the-variants.{Passed, Fault}
 use Rattle.formula.specs.Sheet.{shapeAt}
-use Rattle.formula.specs.Tree.{expOf}
+use Rattle.formula.specs.Tree.{Exp, expOf}
+use Rattle.formula.specs.Free.{inputsOf}
 use Rattle.formula.specs.Places.{nodeIn}
 use Rattle.formula.specs.Kinds.{Kinds, Rule, bindKinds, kindsE}
 
@@ -31,12 +31,16 @@ faultsBelow F t inBody kinds (If a b c) = F false kinds a ++ (F inBody kinds b +
 faultsBelow F t inBody kinds (For a b c d) = F false kinds c ++ F true (bindKinds a b (kindsE (expOf t c) kinds) kinds) d
 faultsBelow F t inBody kinds (Iter a) = F false kinds a
 
+-- A row's own fault, where the rule is kept or not.
+abbrev pub ownFault : ℕ → Bool → List ℕ
+ownFault r kept = cond kept [] (r ∷ [])
+
 -- Row r and the rows below it that break the rule. A row's own number is depth enough.
 unfoldable pub faultsIn : Rule → ℕ → List ℕ → Bool → Kinds → ℕ → List ℕ
 unfolding faultsBelow nodeIn shapeAt
 faultsIn rule zero t inBody kinds r = []
 faultsIn rule (suc depth) t inBody kinds r =
-    cond (rule (nodeIn inBody t r) kinds) [] (r ∷ []) ++ faultsBelow (λ b ks k. faultsIn rule depth t b ks k) t inBody kinds (shapeAt t r)
+    ownFault r (rule (nodeIn inBody t r) kinds) ++ faultsBelow (λ b ks k. faultsIn rule depth t b ks k) t inBody kinds (shapeAt t r)
 
 -- "lowest row given"
 abbrev pub lower : ℕ → Check → Check
@@ -54,12 +58,6 @@ kindCheck rule t n kinds = lowestOf (faultsIn rule n t false kinds n)
 
 -- ---- the kinds line: "one letter an input, W or T, and a line feed"
 
-abbrev pub isLetter : ℕ → Bool
-isLetter b = eqb b 87 || eqb b 84
-
-abbrev pub kindOfLetter : ℕ → ValueKind
-kindOfLetter b = cond (eqb b 84) truth-kind whole-kind
-
 -- The letters of this many inputs, then a line feed, and no more.
 unfoldable pub lineWell : ℕ → List ℕ → Bool
 lineWell zero [] = false
@@ -72,3 +70,8 @@ lineWell (suc inputs) (b ∷ s) = isLetter b && lineWell inputs s
 unfoldable pub inputKinds : Names → List ℕ → Kinds
 unfolding below sizeFrom
 inputKinds f line k = kindOfLetter (getD line (below f k) 0)
+
+-- The letters of a formula's inputs.
+unfoldable pub lettersOf : Exp → List ℕ → List ℕ
+unfolding inputsOf
+lettersOf x line = take (length (inputsOf x)) line

@@ -217,7 +217,7 @@ module _ (t : List ℕ) (n : ℕ) (ok : Sound t n) (r : ℕ) (a : 1 ≤ r) (b : 
   P : List Bool
   P = placesOf t n
 
-  named-once : (x : ℕ) → 1 ≤ x → x < r → 1 ≤ occurrences x (namedIn (shapeAt t r)) → occurrences x (namedIn (shapeAt t r)) ≡ 1
+  pub named-once : (x : ℕ) → 1 ≤ x → x < r → 1 ≤ occurrences x (namedIn (shapeAt t r)) → occurrences x (namedIn (shapeAt t r)) ≡ 1
   named-once x c d o =
       let e = ok .once x c (omega arith) in
       let i = one-part t x n r a b in

@@ -1,5 +1,5 @@
--- Document 01, "Said by what was handed in", 1 to 10: the tests of a sheet as one ordered list. "Each number is tested over
--- the whole sheet before the next"; "3 to 9 give the lowest row at fault, others row 0".
+-- Document 01, "Said by what was handed in", 1 to 10, and document 02, Job 6, 17 and 18: the tests of a sheet as one ordered list. "Each
+-- number is tested over the whole sheet before the next"; "3 to 9 give the lowest row at fault, others row 0"; of 18 too "lowest row given".
 use Prim.Native.Nat.{ℕ, zero, suc, _+_, _-_, _%_}
 use mathlib.Core.Bool.{Bool, true, false, not, cond, _&&_, _||_}
 use mathlib.Core.List.{List, [], _∷_, _++_}
@@ -12,7 +12,7 @@ use Rattle.formula.specs.declared.Shape.the-variants.{Identifier, Consta
 use Rattle.formula.specs.declared.Check.{Check}
 use Rattle.formula.specs.declared.Check.the-variants.{Passed, Fault}
 use Rattle.formula.specs.declared.Refusal.{Refusal}
-use Rattle.formula.specs.declared.Refusal.the-variants.{Layout, Rows, Malformed, Range, Naming, Named, StrayIter, Width, Unused, Operators}
+use Rattle.formula.specs.declared.Refusal.the-variants.{Layout, Rows, Malformed, Range, Naming, Named, StrayIter, Width, Unused, KindsLine, KindsBroken, Operators}
 use Rattle.formula.specs.declared.Verdict.{Verdict}
 use Rattle.formula.specs.declared.Verdict.the-variants.{Passed as passed, Refused}
 use Rattle.formula.specs.declared.Figures.{Figures}
@@ -22,8 +22,10 @@ use Rattle.formula.specs.Sheet.{rowCount, linesOf, fieldText, fieldOf, f
 use Rattle.formula.specs.Tree.{expOf, formulaOf}
 use Rattle.formula.specs.Places.{inBody, placesOf, Node, expression, body, nodeIn}
 use Rattle.formula.specs.Widths.{wideE, wideB, width}
-use Rattle.formula.specs.Free.{boundE, boundB, inputsOf}
+use Rattle.formula.specs.Free.{freeE, boundE, boundB, inputsOf}
 use Rattle.formula.specs.Count.{countE}
+use Rattle.formula.specs.Kinds.{kinded}
+use Rattle.formula.specs.Faults.{kindCheck, lineWell, inputKinds}
 
 -- The lowest of the k rows from r on that is not well.
 unfoldable pub lowestFrom : ℕ → ℕ → (ℕ → Bool) → Check
@@ -153,6 +155,16 @@ unfoldable pub boundWell : List ℕ → List Bool → ℕ → Bool
 unfolding boundNode nodeIn
 boundWell t p r = boundNode (nodeIn (inBody p r) t r)
 
+-- 17 "when the kinds line has another length or letter", that is, other than one letter an input of the formula, the last row
+unfoldable pub lineFits : List ℕ → ℕ → List ℕ → Bool
+unfolding lineWell inputsOf expOf
+lineFits t n line = lineWell (length (inputsOf (expOf t n))) line
+
+-- 18 "when a row breaks the kinds, lowest row given"
+unfoldable pub kindsKept : List ℕ → ℕ → List ℕ → Check
+unfolding kindCheck inputKinds freeE expOf kinded
+kindsKept t n line = kindCheck kinded t n (inputKinds (freeE (expOf t n)) line)
+
 -- 10 "over 1,024 operators"; the last row is the formula.
 unfoldable pub operatorsOf : List ℕ → ℕ → ℕ
 unfolding countE expOf
@@ -204,14 +216,23 @@ formulaTests =
     ∷ test Unused (λ s. lowest (s .rows) (boundWell (s .fields) (s .places)))
     ∷ []
 
+-- Tests 17 and 18, "in this order after 9 and before 10": what the kinds line says of them.
+unfoldable pub kindTests : List ℕ → List Test
+unfolding lineFits kindsKept
+kindTests line =
+    test KindsLine (λ s. whole (lineFits (s .fields) (s .rows) line))
+    ∷ test KindsBroken (λ s. kindsKept (s .fields) (s .rows) line)
+    ∷ []
+
 -- Test 10: what its graph needs.
 unfoldable pub graphTests : List Test
 unfolding operatorsOf
 graphTests = test Operators (λ s. whole (leb (operatorsOf (s .fields) (s .rows)) 1024)) ∷ []
 
-unfoldable pub tests : List Test
-unfolding rowTests formulaTests graphTests
-tests = rowTests ++ (formulaTests ++ graphTests)
+-- All tests of a sheet that comes with this kinds line.
+unfoldable pub tests : List ℕ → List Test
+unfolding rowTests formulaTests kindTests graphTests
+tests line = rowTests ++ (formulaTests ++ (kindTests line ++ graphTests))
 
 -- The first refusal, with its row.
 unfoldable pub afterCheck : Refusal → Check → Verdict → Verdict
@@ -225,10 +246,10 @@ verdictBy (t ∷ ts) s =
     let later : Verdict = verdictBy ts s in
     afterCheck (t .refusal) (t .check s) later
 
--- What reading says of a sheet.
-unfoldable pub verdictOf : List ℕ → Verdict
+-- What reading says of a sheet with its kinds line.
+unfoldable pub verdictOf : List ℕ → List ℕ → Verdict
 unfolding verdictBy tests sheetOf
-verdictOf s = verdictBy tests (sheetOf s)
+verdictOf s line = verdictBy (tests line) (sheetOf s)
 
 unfoldable pub figuresOf : List ℕ → Figures
 unfolding operatorsOf inputsOf width formulaOf
@@ -244,8 +265,8 @@ unfoldable pub answerBy : Verdict → Figures → Reading
 answerBy passed f = Accepted f
 answerBy (Refused r row) f = Rejected r row
 
-unfoldable pub readingOf : List ℕ → Reading
+unfoldable pub readingOf : List ℕ → List ℕ → Reading
 unfolding verdictOf figuresOf answerBy
-readingOf s =
+readingOf s line =
     let figures : Figures = figuresOf s in
-    answerBy (verdictOf s) figures
+    answerBy (verdictOf s line) figures

@@ -74,3 +74,12 @@ module _ (x : Sheet) where
           let a : t .refusal ≡ r = cc q in
           let b : k ≡ row = cc q in
           rw (sym a, sym b) (h .0 k p)
+
+  -- The same where the later tests rest on the first, which have then passed.
+  pub later-says : (Says : Refusal → ℕ → Type 0) (ts us : List Test) → Each (FaultSays Says x) ts → (Each (Passes x) ts → Each (FaultSays Says x) us)
+      → (r : Refusal) (row : ℕ) → verdictBy (ts ++ us) x ≡ Refused r row → Says r row
+  later-says Says ts us h later r row e = go (verdictBy ts x) refl (sym (then-behind ts us) ∙ e)
+    where
+      go : (v : Verdict) → verdictBy ts x ≡ v → then v (verdictBy us x) ≡ Refused r row → Says r row
+      go passed p q = refusal-says Says us (later (passed-all ts p)) r row q
+      go (Refused k y) p q = refusal-says Says ts h r row (p ∙ q)

@@ -73,12 +73,16 @@ pub enum Refusal {
     Operators,
     // 11: lent memory shorter than the call's need
     Memory,
-    // 12: a set with another number of values than inputs, a bad value field, a file line unended
+    // 12: a set with another number of values than inputs, a bad value field, a value of another kind, a file line unended
     Set,
     // 13: a set file over 65,536 bytes
     SetFile,
     // 14: capacity outside 1..16
     Capacity,
+    // 17: the kinds line has another length or letter
+    KindsLine,
+    // 18: a row breaks the kinds
+    KindsBroken,
     // 31: a stored figure or token outside its range, or a link named twice
     Altered,
     // 32: sixteen sets untaken
@@ -146,6 +150,8 @@ pub fn refusal_number(r: Refusal) -> u32
         Refusal::Set => 12,
         Refusal::SetFile => 13,
         Refusal::Capacity => 14,
+        Refusal::KindsLine => 17,
+        Refusal::KindsBroken => 18,
         Refusal::Altered => 31,
         Refusal::Untaken => 32,
         Refusal::Full => 33,

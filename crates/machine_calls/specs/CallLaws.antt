@@ -1,4 +1,4 @@
--- What a memory in good standing is, what push and take leave as it was below the links, and that a push keeps the memory's length. Assumes nothing.
+-- What a memory in good standing is and how many kinds it stores, what push and take leave as it was below the links, and that a push keeps the memory's length. Assumes nothing.
 use Prim.Native.Nat.{ℕ, zero, suc, _+_, _*_, _≤_, _<_}
 use mathlib.Core.Path.{_≡_, refl, sym, ap, subst, _∙_}
 use mathlib.Core.Bool.{Bool, true, false, _&&_}
@@ -12,12 +12,14 @@ use lib.ListN.{length, getD, length-set}
 use Rattle.value.specs.Operators.{pick}
 use Rattle.value.specs.Bytes.{wordOf, wordAt}
 use Rattle.network.specs.Values.{true-value}
-use Rattle.machine_layout.specs.Layout.{number16, nameAt, need, untakenAt, operatorsOf, inputsOf, resultsOf, untakenOf, triggerOf, inputLink, resultLink}
+use Rattle.machine_layout.specs.Layout.{number16, nameAt, need, untakenAt, inputKindsAt, operatorsOf, inputsOf, resultsOf, untakenOf, triggerOf, inputLink, resultLink, storedKinds}
+use Rattle.machine_firing.specs.Parts.{part-length}
 use Rattle.machine_firing.specs.Links.{removedAt, appendedAt}
 use Rattle.machine_firing.specs.LinkLaws.{length-removed, low-removed, length-appended, low-appended}
 use Rattle.machine_firing.specs.Fire.{ableAt, firedAt}
 use Rattle.machine_valid.specs.Below.{allBelow}
 use Rattle.machine_valid.specs.Valid.{valid}
+use Rattle.machine_valid.specs.Figures.{valid-figures}
 use Rattle.machine_runs.specs.Run as Run
 use Rattle.machine_runs.specs.Run.{runs, stillAt}
 use Rattle.machine_runs.specs.RunLaws.{runs-below}
@@ -37,6 +39,12 @@ standing-good m e = go (ltb (length m) (need (sizeIn m))) refl (valid m) refl e
     go true p b q h = absurd (omega arith)
     go false p true q h = (ltb-false (length m) (need (sizeIn m)) p, q)
     go false p false q h = absurd (omega arith)
+
+-- as many stored kinds as inputs
+pub kinds-length : (m : List ℕ) → standing m ≡ 0 → length (storedKinds m) ≡ inputsOf m
+kinds-length m st =
+    let g = standing-good m st in
+    part-length m inputKindsAt (inputsOf m) (omega (arith, g .0, valid-figures m (g .1) .inputs))
 
 -- names stand below the links
 pub same-names : (m m′ : List ℕ) → ((x : ℕ) → x < 21760 → getD m′ x 0 ≡ getD m x 0) → (at j : ℕ) → at + 2 * j + 1 < 21760 → nameAt m′ at j ≡ nameAt m at j
@@ -121,11 +129,11 @@ module _ (m : List ℕ) where
 
   module _ (st : standing m ≡ 0) where
     module _ (s : List ℕ) where
-      pub pushed-no-set : setOk (inputsOf m) s ≡ false → pushed m s ≡ outcome (refusal Set) m
+      pub pushed-no-set : setOk (storedKinds m) s ≡ false → pushed m s ≡ outcome (refusal Set) m
       unfolding pushed
       pushed-no-set a = rw (st, a) refl
 
-      module _ (a : setOk (inputsOf m) s ≡ true) where
+      module _ (a : setOk (storedKinds m) s ≡ true) where
         pub pushed-untaken : ltb (untakenOf m) 16 ≡ false → pushed m s ≡ outcome (refusal Untaken) m
         unfolding pushed
         pushed-untaken b = rw (st, a, b) refl
@@ -202,7 +210,7 @@ module _ (m s : List ℕ) where
   plain-refused : (r : ℕ) → pushed m s ≡ outcome (answers r 0) m → Plain (pushed m s)
   plain-refused r e = subst Plain (sym e) (refl, refl)
 
-  plain-tested : standing m ≡ 0 → (a : Bool) → setOk (inputsOf m) s ≡ a → (b : Bool) → ltb (untakenOf m) 16 ≡ b
+  plain-tested : standing m ≡ 0 → (a : Bool) → setOk (storedKinds m) s ≡ a → (b : Bool) → ltb (untakenOf m) 16 ≡ b
       → (c : Bool) → roomsOk m (sizeIn m) (inputsOf m) ≡ c → Plain (pushed m s)
   plain-tested st false e b f c g = plain-refused (numberOf Set) (pushed-no-set m st s e)
   plain-tested st true e false f c g = plain-refused (numberOf Untaken) (pushed-untaken m st s e f)
@@ -213,7 +221,7 @@ module _ (m s : List ℕ) where
   plain = go (ℕ-discrete (standing m) 0)
     where
       go : Dec (standing m ≡ 0) → Plain (pushed m s)
-      go (yes st) = plain-tested st (setOk (inputsOf m) s) refl (ltb (untakenOf m) 16) refl (roomsOk m (sizeIn m) (inputsOf m)) refl
+      go (yes st) = plain-tested st (setOk (storedKinds m) s) refl (ltb (untakenOf m) 16) refl (roomsOk m (sizeIn m) (inputsOf m)) refl
       go (no n) = plain-refused (standing m) (pushed-refused m s n)
 
   pub pushed-length : length (pushed m s .mem) ≡ length m

@@ -14,7 +14,7 @@ use Rattle.network.specs.Values.{true-value, err-value}
 use Rattle.formula.specs.declared.Refusal.{Refusal}
 use Rattle.formula.specs.declared.Refusal.the-variants.{Memory, Set, Altered, Untaken, Full, NotAble, NoResult, Unfinished}
 use Rattle.formula.specs.Refusals.{numberOf}
-use Rattle.machine_layout.specs.Layout.{mostResults, mostUntaken, untakenAt, capacityOf, sizeOf, need, operatorsOf, inputsOf, resultsOf, untakenOf, triggerOf, inputLink, resultLink}
+use Rattle.machine_layout.specs.Layout.{mostResults, mostUntaken, untakenAt, capacityOf, sizeOf, need, operatorsOf, inputsOf, resultsOf, untakenOf, triggerOf, inputLink, resultLink, storedKinds}
 use Rattle.machine_firing.specs.Links.{headAt, roomAt, removedAt, appendedAt}
 use Rattle.machine_firing.specs.Fire.{ableAt, firedAt}
 use Rattle.machine_valid.specs.Below.{allBelow}
@@ -75,11 +75,11 @@ triggered m s = appendedAt (entered (inputsOf m) m (sizeIn m) s) (sizeIn m) (tri
 unfoldable pub pushedMemory : List ℕ → List ℕ → List ℕ
 pushedMemory m s = set (triggered m s) untakenAt (untakenOf m + 1)
 
--- 11, 31, 12 (sets' specs/Sets), 32, 33
+-- 11, 31, 12 by the stored kinds (value_sets' specs/Sets), 32, 33
 unfoldable pub pushed : List ℕ → List ℕ → Outcome
 pushed m s =
     pick (eqb (standing m) 0)
-    (pick (setOk (inputsOf m) s)
+    (pick (setOk (storedKinds m) s)
     (pick (ltb (untakenOf m) mostUntaken)
     (pick (roomsOk m (sizeIn m) (inputsOf m))
     (outcome (answers 0 0) (pushedMemory m s))

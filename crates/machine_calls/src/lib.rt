@@ -6,7 +6,8 @@ use formula::Refusal;
 ghost use mathlib.Core.Path.{_≡_};
 ghost use Prim.Native.Nat.{ℕ, _+_, _*_, _≤_, _<_};
 ghost use lib.ListN.{length};
-ghost use Rattle.machine_layout.specs.Layout.{mostInputs, mostResults, leastSize, mostSize, need};
+ghost use Rattle.machine_layout.specs.Layout.{mostInputs, mostResults, leastSize, mostSize, recordsAt, need, inputsOf, storedKinds};
+ghost use Rattle.value_sets.specs.Sets.{setOk};
 ghost use Rattle.machine_valid.specs.Below.{allBelow};
 ghost use Rattle.machine_calls.specs.Calls.{outcome, handed, answers, refusal, standing, roomsOk, entered, resultReady, resultWord, resultBytes, written, emptied, pushed, fired, ran, taken};
 
@@ -45,6 +46,16 @@ pub fn standing_of(mem: &[u8]) -> u32
         return 0;
     }
     formula::refusal_number(Refusal::Altered)
+}
+
+// Whether a set has a value of its stored kind, or an err, for each input.
+fn is_set(mem: &[u8], set: &[u8]) -> bool
+    requires { ⌜ (recordsAt ≤ length (now mem)) × (inputsOf (now mem) ≤ mostInputs) ⌝ }
+    ensures { λ r. ⌜ r ≡ setOk (storedKinds (now (mem .entry))) (now (set .entry)) ⌝ }
+{
+    let at = machine_layout::INPUT_KINDS_AT;
+    let end = at + machine_layout::inputs(mem);
+    value_sets::is_set(set, &mem[at..end])
 }
 
 // Whether the trigger's link and the k input links have room.
@@ -87,14 +98,14 @@ pub fn push(mem: &mut [u8], set: &[u8]) -> Answer
     if stands != 0 {
         return reply(stands, 0);
     }
-    let inputs = machine_layout::inputs(mem);
-    if !value_sets::is_set(set, inputs) {
+    if !is_set(mem, set) {
         return refused(Refusal::Set);
     }
     let untaken = machine_layout::untaken(mem);
     if machine_layout::UNTAKEN <= untaken {
         return refused(Refusal::Untaken);
     }
+    let inputs = machine_layout::inputs(mem);
     let size = machine_layout::stretch_size(machine_layout::capacity(mem));
     if !have_room(mem, size, inputs) {
         return refused(Refusal::Full);

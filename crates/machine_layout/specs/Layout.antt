@@ -16,7 +16,7 @@ number16 m at = getD m at 0 + 256 * getD m (at + 1) 0
 unfoldable pub stored16 : List ℕ → ℕ → ℕ → List ℕ
 stored16 m at x = set (set m at (x % 256)) (at + 1) (x / 256)
 
--- ---- the header: bytes 106 to 255 are free for what later requests store, such as a kind for each input
+-- ---- the header: bytes 138 to 255 are free for what later requests store
 
 abbrev pub capacityAt : ℕ
 capacityAt = 0
@@ -44,6 +44,9 @@ inputLinksAt = 10
 
 abbrev pub resultLinksAt : ℕ
 resultLinksAt = 74
+
+abbrev pub inputKindsAt : ℕ
+inputKindsAt = 106
 
 abbrev pub capacityByte : List ℕ → ℕ
 capacityByte m = getD m capacityAt 0
@@ -156,10 +159,13 @@ capacityIn c = pick (leb 1 c && leb c mostCapacity) c 1
 abbrev pub capacityOf : List ℕ → ℕ
 capacityOf m = capacityIn (capacityByte m)
 
--- ---- a part of memory, and the memory with another in its place
+-- ---- a part of memory, and the memory with another in its place; the kind of each input is stored as its letter of the kinds line
 
 abbrev pub part : List ℕ → ℕ → ℕ → List ℕ
 part m base size = take size (drop base m)
+
+abbrev pub storedKinds : List ℕ → List ℕ
+storedKinds m = part m inputKindsAt (inputsOf m)
 
 abbrev pub put : List ℕ → ℕ → ℕ → List ℕ → List ℕ
 put m base size ys = take base m ++ (ys ++ drop (base + size) m)

@@ -22,7 +22,8 @@ pub const RESULTS: usize = 16;
 pub const UNTAKEN: usize = 16;
 
 // Where the header's figures stand: the capacity, the counts of operators, links, inputs and
-// results, the sets untaken, the trigger's link, the input links and the result links.
+// results, the sets untaken, the trigger's link, the input links, the result links and the letters of
+// the inputs' kinds.
 pub const CAPACITY_AT: usize = 0;
 
 pub const OPERATOR_COUNT_AT: usize = 1;
@@ -40,6 +41,8 @@ pub const TRIGGER_AT: usize = 8;
 pub const INPUT_LINKS_AT: usize = 10;
 
 pub const RESULT_LINKS_AT: usize = 74;
+
+pub const INPUT_KINDS_AT: usize = 106;
 
 // Where the operators' records, their registers and the links' stretches begin.
 pub const RECORDS_AT: usize = 256;

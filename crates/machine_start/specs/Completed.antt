@@ -21,7 +21,7 @@ use Rattle.theory_wiring.specs.MadeGraph.{trigger-link, result-count}
 use Rattle.maker.specs.Making.{padded, tellOf, makingOf, makingIn}
 use Rattle.maker.specs.declared.Making.{Making}
 use Rattle.machine_start.specs.declared.StartAnswer.{StartAnswer}
-use Rattle.machine_start.specs.Start.{begun, accepted, figured, named, headed, emptied, startedMemory, byVerdict}
+use Rattle.machine_start.specs.Start.{begun, accepted, figured, named, lettered, headed, emptied, startedMemory, byVerdict}
 use Rattle.machine_start.specs.StartLaws.{verdict-passed}
 
 -- Figures that fit the header.
@@ -46,11 +46,11 @@ input-name-count x h = length-take-le (x .inputs) (x .«input_links») (omega (a
 pub result-name-count : (x : Making) → Modest x → length (resultNames x) ≡ x .results
 result-name-count x h = length-take-le (x .results) (x .«result_links») (omega (arith, h .results, h .result-places))
 
-unfoldable pub completed : List ℕ → ℕ → Making → List ℕ
-unfolding figured named emptied
-completed m capacity x =
+unfoldable pub completed : List ℕ → ℕ → Making → List ℕ → List ℕ
+unfolding figured named lettered emptied
+completed m capacity x kinds =
     let figures : List ℕ = figured m capacity (x .operators) (x .links) (x .inputs) (x .results) (x .trigger) in
-    emptied (x .links) (sizeOf capacity) (named (length (resultNames x)) (named (length (inputNames x)) figures 10 (inputNames x)) 74 (resultNames x))
+    emptied (x .links) (sizeOf capacity) (lettered (named (length (resultNames x)) (named (length (inputNames x)) figures 10 (inputNames x)) 74 (resultNames x)) kinds)
 
 length-up : (n k : ℕ) → length (upFrom n k) ≡ k
 unfolding upFrom
@@ -71,9 +71,9 @@ told-modest g a b c d =
       result-places = length-padded 16 (g .results) d;
     }
 
-pub told-completed : (m : List ℕ) (capacity : ℕ) (g : Made) → completed m capacity (tellOf g) ≡ emptied (g .links) (sizeOf capacity) (headed g capacity m)
+pub told-completed : (m : List ℕ) (capacity : ℕ) (g : Made) (kinds : List ℕ) → completed m capacity (tellOf g) kinds ≡ emptied (g .links) (sizeOf capacity) (headed g kinds capacity m)
 unfolding completed headed
-told-completed m capacity g =
+told-completed m capacity g kinds =
     let i : inputNames (tellOf g) ≡ upFrom 0 (g .inputs) =
     take-at (upFrom 0 (g .inputs)) (replicate (32 - length (upFrom 0 (g .inputs))) noLink) (g .inputs) (length-up 0 (g .inputs)) in
     let r : resultNames (tellOf g) ≡ g .results = take-at (g .results) (replicate (16 - length (g .results)) noLink) (length (g .results)) refl in
@@ -96,13 +96,13 @@ made-modest x h few low = told-modest (madeOf x) few low (made-inputs x) (made-r
 abbrev pub answered : Making → StartAnswer
 answered x = record { refusal = 0; row = 0; operators = x .operators; inputs = x .inputs; results = x .results }
 
-pub built : (v : Verdict) (y x : Exp) (c : ℕ) (m m₁ m₂ : List ℕ) (made : Making) → v ≡ Passed → y ≡ x → made ≡ makingOf y → m₁ ≡ makingIn m y → m₂ ≡ completed m₁ c made
-    → begun (answered made) m₂ ≡ byVerdict v x c m
+pub built : (v : Verdict) (y x : Exp) (kinds : List ℕ) (c : ℕ) (m m₁ m₂ : List ℕ) (made : Making) → v ≡ Passed → y ≡ x → made ≡ makingOf y → m₁ ≡ makingIn m y
+    → m₂ ≡ completed m₁ c made kinds → begun (answered made) m₂ ≡ byVerdict v x kinds c m
 unfolding startedMemory
-built v y x c m m₁ m₂ made p e f h k =
-    let memory : m₂ ≡ startedMemory (madeOf y) c m =
-    k ∙ ap₂ (λ (a : List ℕ) (z : Making). completed a c z) h f ∙ told-completed (makingIn m y) c (madeOf y)
+built v y x kinds c m m₁ m₂ made p e f h k =
+    let memory : m₂ ≡ startedMemory (madeOf y) kinds c m =
+    k ∙ ap₂ (λ (a : List ℕ) (z : Making). completed a c z kinds) h f ∙ told-completed (makingIn m y) c (madeOf y) kinds
     in
     ap₂ (λ (z : Making) (a : List ℕ). begun (answered z) a) f memory
-    ∙ ap (λ (z : Exp). begun (accepted (madeOf z)) (startedMemory (madeOf z) c m)) e
-    ∙ sym (verdict-passed v x c m p)
+    ∙ ap (λ (z : Exp). begun (accepted (madeOf z)) (startedMemory (madeOf z) kinds c m)) e
+    ∙ sym (verdict-passed v x kinds c m p)

@@ -4,3 +4,4 @@ pub mod ReadBack
 pub mod HeaderLaws
 pub mod Completed
 pub mod SheetTables
+pub mod Letters

@@ -1,14 +1,14 @@
 -- What is read from a memory into which start wrote: figures of two bytes, bytes in a row, names in a row, empty links; and that all other bytes are as they
 -- were (document 01: a contract "on its answer and every lent byte at its end"). Assumes that what is written lies in the memory.
 use Prim.Native.Nat.{ℕ, zero, suc, _+_, _*_, _/_, _%_, _≤_, _<_}
-use mathlib.Core.Path.{_≡_, refl, sym, ap₂, _∙_}
+use mathlib.Core.Path.{_≡_, refl, sym, ap, ap₂, _∙_}
 use mathlib.Core.Logic.{_⊎_, inl, inr}
-use mathlib.Core.List.{List, [], _∷_}
+use mathlib.Core.List.{List, [], _∷_, _++_, append-assoc}
 use native.Mathlib.Omega.{arith}
 use native.Mathlib.Decide.{ℕ-discrete}
-use lib.ListN.{length, getD, set, length-set}
-use lib.Seq.{sets, getD-set-same, getD-set-other}
-use Rattle.machine_layout.specs.Layout.{number16, stored16, nameAt, linkAt}
+use lib.ListN.{length, getD, set, take, drop, length-set}
+use lib.Seq.{sets, sets-eq, take-at, drop-at, length-take-le, getD-set-same, getD-set-other}
+use Rattle.machine_layout.specs.Layout.{number16, stored16, nameAt, linkAt, part}
 use Rattle.machine_layout.specs.Fits.{apart}
 use Rattle.machine_start.specs.Start.{named, emptied}
 
@@ -72,6 +72,12 @@ row-read (v ∷ vs) m at zero h k =
 row-read (v ∷ vs) m at (suc j) h k =
     let e : at + suc j ≡ suc at + j = omega arith in
     rw e (row-read vs (set m at v) (suc at) j (omega (arith, length-set m at v)) (omega arith))
+
+pub row-part : (vs m : List ℕ) (at : ℕ) → at + length vs ≤ length m → part (sets m at vs) at (length vs) ≡ vs
+row-part vs m at h =
+    ap (λ (k : List ℕ). part k at (length vs)) (sets-eq vs m at h ∙ append-assoc (take at m) vs (drop (at + length vs) m))
+    ∙ ap (take (length vs)) (drop-at (take at m) (vs ++ drop (at + length vs) m) at (length-take-le at m (omega arith)))
+    ∙ take-at vs (drop (at + length vs) m) (length vs) refl
 
 -- ---- names in a row
 

@@ -1,6 +1,6 @@
--- Start: from a sheet, a capacity and the lent memory to the answer and every lent byte at its end. Document 01, "Running": "Start takes a link capacity
--- of 1 to 16"; "Reading, start and evaluation make 1 to 10"; "11 comes before all"; "14 capacity outside 1..16 (start: after 11, before 1)". A
--- refused start leaves every byte as it was. The layout is machine_layout/specs/Layout. Assumes nothing.
+-- Start: from a sheet, its kinds line, a capacity and the lent memory to the answer and every lent byte at its end. Document 01, "Running": "Start takes a link
+-- capacity of 1 to 16"; "Reading, start and evaluation make 1 to 10", and document 02, Job 6, 17 and 18 with the kinds line; "11 comes before all"; "14
+-- capacity outside 1..16 (start: after 11, before 1)". A refused start leaves every byte as it was. The layout is machine_layout/specs/Layout. Assumes nothing.
 use Prim.Native.Nat.{ℕ, zero, suc, _+_, _*_, _/_, _%_}
 use mathlib.Core.Bool.{cond, _&&_}
 use mathlib.Core.List.{List, [], _∷_}
@@ -15,7 +15,8 @@ use Rattle.formula.specs.declared.Verdict.the-variants.{Passed, Refused}
 use Rattle.formula.specs.Refusals.{numberOf}
 use Rattle.formula.specs.Tree.{Exp, formulaOf}
 use Rattle.formula.specs.Tests.{verdictOf}
-use Rattle.machine_layout.specs.Layout.{stored16, noLink, sizeOf, linkAt, need, capacityIn}
+use Rattle.formula.specs.Faults.{lettersOf}
+use Rattle.machine_layout.specs.Layout.{inputKindsAt, stored16, noLink, sizeOf, linkAt, need, capacityIn}
 use Rattle.graph.specs.Assembly.{upFrom}
 use Rattle.graph.specs.Translation.{Made, madeOf}
 use Rattle.maker_laid.specs.Encode.{encoded, written}
@@ -52,12 +53,16 @@ unfoldable pub named : ℕ → List ℕ → ℕ → List ℕ → List ℕ
 named zero m at ls = m
 named (suc j) m at ls = stored16 (named j m at ls) (at + 2 * j) (getD ls j 0)
 
+-- the letters of the inputs' kinds
+unfoldable pub lettered : List ℕ → List ℕ → List ℕ
+lettered m kinds = sets m inputKindsAt kinds
+
 -- the trigger's link stands behind those of the inputs, 0, 1, ..
-unfoldable pub headed : Made → ℕ → List ℕ → List ℕ
-unfolding figured named upFrom
-headed g capacity m =
+unfoldable pub headed : Made → List ℕ → ℕ → List ℕ → List ℕ
+unfolding figured named lettered upFrom
+headed g kinds capacity m =
     let figures : List ℕ = figured m capacity (length (g .operators)) (g .links) (g .inputs) (length (g .results)) (cond (g .triggered) (g .inputs) noLink) in
-    named (length (g .results)) (named (g .inputs) figures 10 (upFrom 0 (g .inputs))) 74 (g .results)
+    lettered (named (length (g .results)) (named (g .inputs) figures 10 (upFrom 0 (g .inputs))) 74 (g .results)) kinds
 
 -- ---- the links
 
@@ -69,21 +74,21 @@ emptied (suc l) size m = set (emptied l size m) (linkAt size l) 0
 -- ---- the whole
 
 -- "Start a machine empty": the operators of the graph from number 0 on, the header, every link of the graph emptied; all other bytes as they were
-unfoldable pub startedMemory : Made → ℕ → List ℕ → List ℕ
+unfoldable pub startedMemory : Made → List ℕ → ℕ → List ℕ → List ℕ
 unfolding written headed emptied
-startedMemory g capacity m = emptied (g .links) (sizeOf capacity) (headed g capacity (written m 0 (encoded (g .operators))))
+startedMemory g kinds capacity m = emptied (g .links) (sizeOf capacity) (headed g kinds capacity (written m 0 (encoded (g .operators))))
 
-unfoldable pub byVerdict : Verdict → Exp → ℕ → List ℕ → Begun
+unfoldable pub byVerdict : Verdict → Exp → List ℕ → ℕ → List ℕ → Begun
 unfolding startedMemory madeOf
-byVerdict Passed x capacity m = begun (accepted (madeOf x)) (startedMemory (madeOf x) capacity m)
-byVerdict (Refused r row) x capacity m = begun (refusal r row) m
+byVerdict Passed x kinds capacity m = begun (accepted (madeOf x)) (startedMemory (madeOf x) kinds capacity m)
+byVerdict (Refused r row) x kinds capacity m = begun (refusal r row) m
 
--- 11, 14, then 1 to 10
-unfoldable pub started : List ℕ → ℕ → List ℕ → Begun
-unfolding byVerdict
-started sheet capacity m =
+-- 11, 14, then the sheet's with its kinds line
+unfoldable pub started : List ℕ → List ℕ → ℕ → List ℕ → Begun
+unfolding byVerdict lettersOf
+started sheet line capacity m =
     pick (ltb (length m) (need (sizeOf (capacityIn capacity))))
     (begun (refusal Memory 0) m)
     (pick (leb 1 capacity && leb capacity 16)
-    (byVerdict (verdictOf sheet) (formulaOf sheet) capacity m)
+    (byVerdict (verdictOf sheet line) (formulaOf sheet) (lettersOf (formulaOf sheet) line) capacity m)
     (begun (refusal Capacity 0) m))

@@ -1,9 +1,10 @@
 // Starting a machine for a formula sheet in lent memory: the sheet read, its graph made, the header
 // written and every link emptied (document 01, "Running": "Start takes a link capacity of 1 to 16";
-// refusals 11, 14, then 1 to 10). The definitions are specs/Start; the contracts are equations on the
-// answer and on every lent byte, and `start`, which the firmware's entry point calls, asks nothing of
-// its caller.
+// refusals 11, 14, then those of the sheet and its kinds line, document 02, Job 6). The definitions are
+// specs/Start; the contracts are equations on the answer and on every lent byte, and `start`, which the
+// firmware's entry point calls, asks nothing of its caller.
 use formula::Refusal;
+use machine_layout::INPUT_KINDS_AT;
 use maker::Making;
 use maker::make;
 use sheet_fields::blank;
@@ -14,8 +15,9 @@ ghost use Prim.Native.Nat.{ℕ, _+_, _*_, _≤_, _<_};
 ghost use lib.ListN.{length};
 ghost use Rattle.formula.specs.Tests.{verdictOf};
 ghost use Rattle.formula.specs.Tree.{formulaOf};
+ghost use Rattle.formula.specs.Faults.{lettersOf};
 ghost use Rattle.machine_layout.specs.Layout.{need, sizeOf, capacityIn};
-ghost use Rattle.machine_start.specs.Start.{begun, refusal, figured, named, emptied, byVerdict, started};
+ghost use Rattle.machine_start.specs.Start.{begun, refusal, figured, named, lettered, emptied, byVerdict, started};
 ghost use Rattle.machine_start.specs.Completed.{Modest, completed};
 
 // Start's answer: document 01's number of a refusal, 0 where accepted; its row; the figures of the
@@ -89,6 +91,19 @@ fn store_names(mem: &mut [u8], at: usize, links: &[u16])
     }
 }
 
+// Writes the letters of the inputs' kinds.
+fn store_kinds(mem: &mut [u8], kinds: &[u8])
+    requires { ⌜ (length (now kinds) ≤ 32) × (138 ≤ length (now mem)) ⌝ }
+    ensures { λ _. ⌜ now (mem .exit) ≡ lettered (now (mem .entry)) (now (kinds .entry)) ⌝ }
+{
+    let n = kinds.len();
+    let mut j = 0;
+    while j < n {
+        mem[INPUT_KINDS_AT + j] = kinds[j];
+        j += 1;
+    }
+}
+
 // Empties the first k links.
 fn empty_links(mem: &mut [u8], size: usize, k: usize)
     requires { ⌜ (1 ≤ size) × (size ≤ 81) × (need size ≤ length (now mem)) × (k ≤ 3105) ⌝ }
@@ -102,10 +117,10 @@ fn empty_links(mem: &mut [u8], size: usize, k: usize)
     }
 }
 
-// Writes the header of what was made and empties its links.
-fn complete(mem: &mut [u8], capacity: usize, made: Making)
-    requires { ⌜ (capacity ≤ 16) × (need (sizeOf capacity) ≤ length (now mem)) × (Modest made) ⌝ }
-    ensures { λ _. ⌜ now (mem .exit) ≡ completed (now (mem .entry)) capacity made ⌝ }
+// Writes the header of what was made, with its inputs' kinds, and empties its links.
+fn complete(mem: &mut [u8], capacity: usize, made: Making, kinds: &[u8])
+    requires { ⌜ (capacity ≤ 16) × (need (sizeOf capacity) ≤ length (now mem)) × (Modest made) × (length (now kinds) ≤ 32) ⌝ }
+    ensures { λ _. ⌜ now (mem .exit) ≡ completed (now (mem .entry)) capacity made (now (kinds .entry)) ⌝ }
 {
     let links = made.links;
     let inputs = made.inputs;
@@ -123,18 +138,20 @@ fn complete(mem: &mut [u8], capacity: usize, made: Making)
     );
     store_names(mem, 10, &input_links[..inputs]);
     store_names(mem, 74, &result_links[..results]);
+    store_kinds(mem, kinds);
     empty_links(mem, 5 * capacity + 1, links as usize);
 }
 
-// Tests 1 to 10, and the machine of an accepted sheet.
-fn build(sheet: &[u8], capacity: usize, mem: &mut [u8]) -> StartAnswer
+// The tests of a sheet with its kinds line, and the machine of an accepted one.
+fn build(sheet: &[u8], line: &[u8], capacity: usize, mem: &mut [u8]) -> StartAnswer
     requires { ⌜ (capacity ≤ 16) × (need (sizeOf capacity) ≤ length (now mem)) ⌝ }
-    ensures { λ a. ⌜ begun a (now (mem .exit)) ≡ byVerdict (verdictOf (now (sheet .entry))) (formulaOf (now (sheet .entry))) capacity (now (mem .entry)) ⌝ }
+    ensures { λ a. ⌜ begun a (now (mem .exit)) ≡ byVerdict (verdictOf (now (sheet .entry)) (now (line .entry))) (formulaOf (now (sheet .entry)))
+        (lettersOf (formulaOf (now (sheet .entry))) (now (line .entry))) capacity (now (mem .entry)) ⌝ }
 {
     let mut fields = blank::fields();
     let mut returned = blank::bytes();
     let mut masks = blank::words();
-    let tested = fill_tables(sheet, &mut fields, &mut returned, &mut masks);
+    let tested = fill_tables(sheet, line, &mut fields, &mut returned, &mut masks);
     match tested {
         Tested::Refused(r, row) => refused(r, row as u32),
         Tested::Passed(_) => {
@@ -144,7 +161,7 @@ fn build(sheet: &[u8], capacity: usize, mem: &mut [u8]) -> StartAnswer
             let operators = made.operators;
             let inputs = made.inputs;
             let results = made.results;
-            complete(mem, capacity, made);
+            complete(mem, capacity, made, &line[..inputs]);
             StartAnswer {
                 refusal: 0,
                 row: 0,
@@ -156,9 +173,9 @@ fn build(sheet: &[u8], capacity: usize, mem: &mut [u8]) -> StartAnswer
     }
 }
 
-// Starts a machine for a sheet in the lent memory.
-pub fn start(sheet: &[u8], capacity: u32, mem: &mut [u8]) -> StartAnswer
-    ensures { λ a. ⌜ begun a (now (mem .exit)) ≡ started (now (sheet .entry)) capacity (now (mem .entry)) ⌝ }
+// Starts a machine for a sheet with its kinds line in the lent memory.
+pub fn start(sheet: &[u8], line: &[u8], capacity: u32, mem: &mut [u8]) -> StartAnswer
+    ensures { λ a. ⌜ begun a (now (mem .exit)) ≡ started (now (sheet .entry)) (now (line .entry)) capacity (now (mem .entry)) ⌝ }
 {
     if mem.len() < machine_layout::machine_need(capacity_asked(capacity)) {
         return refused(Refusal::Memory, 0);
@@ -169,5 +186,5 @@ pub fn start(sheet: &[u8], capacity: u32, mem: &mut [u8]) -> StartAnswer
     if 16 < capacity {
         return refused(Refusal::Capacity, 0);
     }
-    build(sheet, capacity as usize, mem)
+    build(sheet, line, capacity as usize, mem)
 }

@@ -14,11 +14,11 @@ use Rattle.value.specs.Bytes.{wordOf}
 use Rattle.value_sets.specs.Sets.{setOk, set-short}
 use Rattle.formula.specs.declared.Refusal.the-variants.{Set}
 use Rattle.formula.specs.Refusals.{numberOf}
-use Rattle.machine_layout.specs.Layout.{need, inputsOf, untakenOf, triggerOf, untakenAt, inputCountAt}
+use Rattle.machine_layout.specs.Layout.{need, inputsOf, untakenOf, triggerOf, untakenAt, inputCountAt, storedKinds}
 use Rattle.machine_firing.specs.LinkLaws.{low-appended}
 use Rattle.network.specs.Values.{true-value}
 use Rattle.machine_calls.specs.Calls.{Outcome, outcome, answers, refusal, sizeIn, standing, roomsOk, entered, triggered, pushedMemory, pushed}
-use Rattle.machine_calls.specs.CallLaws.{standing-good, entered-keeps, pushed-refused, pushed-no-set}
+use Rattle.machine_calls.specs.CallLaws.{standing-good, kinds-length, entered-keeps, pushed-refused, pushed-no-set}
 use Rattle.machine_tray.specs.Tray.{trayed, cut}
 use Rattle.machine_tray.specs.OneByOne.{counted, next, after-refusal, one-by-one, either, Pushes}
 
@@ -56,7 +56,7 @@ lying-behind m sets rest l h =
 
 -- 12, after 11 and 31 as in every push.
 pub part-refused : (m part : List ℕ) → standing m ≡ 0 → length part < 5 * inputsOf m → pushed m part ≡ outcome (refusal Set) m
-part-refused m part st l = pushed-no-set m st part (set-short (inputsOf m) part (λ e. absurd (omega (arith, e, l))))
+part-refused m part st l = pushed-no-set m st part (set-short (storedKinds m) part (λ e. absurd (omega (arith, e, l, kinds-length m st))))
 
 part-not-in : (m part : List ℕ) → length part < 5 * inputsOf m → pushed m part .answer .refusal ≢ 0
 part-not-in m part l = go (ℕ-discrete (standing m) 0)
@@ -85,7 +85,7 @@ inputs-kept m set = go (ℕ-discrete (standing m) 0)
     go : Dec (standing m ≡ 0) → SameInputs m (pushed m set)
     go (yes st) =
         either (SameInputs m) (eqb (standing m) 0) _ _
-        (either (SameInputs m) (setOk (inputsOf m) set) _ _
+        (either (SameInputs m) (setOk (storedKinds m) set) _ _
         (either (SameInputs m) (ltb (untakenOf m) 16) _ _
         (either (SameInputs m) (roomsOk m (sizeIn m) (inputsOf m)) _ _
         (entered-inputs m set st)

@@ -11,7 +11,7 @@ use borrow.Author.Tests.{ne-eqb}
 use lib.Dec.{eqb, ltb}
 use lib.ListN.{take, drop}
 use Rattle.value.specs.Operators.{pick}
-use Rattle.machine_layout.specs.Layout.{inputsOf, untakenOf}
+use Rattle.machine_layout.specs.Layout.{inputsOf, untakenOf, storedKinds}
 use Rattle.value_sets.specs.Sets.{setOk}
 use Rattle.machine_calls.specs.Calls.{Outcome, outcome, answers, sizeIn, standing, roomsOk, pushed}
 use Rattle.machine_tray.specs.Tray.{setBytes, pushedInTurn, trayed, cut, wentIn}
@@ -73,7 +73,7 @@ pub push-leaves : (m set : List ℕ) → Leaves m (pushed m set)
 unfolding pushed
 push-leaves m set =
     either (Leaves m) (eqb (standing m) 0) _ _
-    (either (Leaves m) (setOk (inputsOf m) set) _ _
+    (either (Leaves m) (setOk (storedKinds m) set) _ _
     (either (Leaves m) (ltb (untakenOf m) 16) _ _
     (either (Leaves m) (roomsOk m (sizeIn m) (inputsOf m)) _ _
     (λ h. absurd (h refl))

@@ -9,7 +9,8 @@ use lib.Dec.{leb, ltb, eqb}
 use Rattle.value.specs.Operators.{pick}
 use Rattle.value.specs.Bytes.{isSome, valueOf, wordAt}
 use Rattle.machine_queue.specs.Stretch.{waiting}
-use Rattle.machine_layout.specs.Layout.{mostOperators, mostLinks, mostCapacity, mostInputs, mostResults, mostUntaken, triggerAt, resultLinksAt, portsAt, capacityByte, operatorsOf, linksOf, inputsOf, resultsOf, untakenOf, noLink, nameAt, triggerOf, operatorAt, kindByte, registerAt, sizeOf, linkAt, part}
+use Rattle.value.specs.Kinds.{isLetter}
+use Rattle.machine_layout.specs.Layout.{inputKindsAt, mostOperators, mostLinks, mostCapacity, mostInputs, mostResults, mostUntaken, triggerAt, resultLinksAt, portsAt, capacityByte, operatorsOf, linksOf, inputsOf, resultsOf, untakenOf, noLink, nameAt, triggerOf, operatorAt, kindByte, registerAt, sizeOf, linkAt, part}
 use Rattle.network.specs.Rules.{constant, FM-gate, FS-gate}
 use Rattle.machine_layout.specs.Kinds.{byteOf, hasPort, mayLack}
 use Rattle.machine_valid.specs.Below.{allBelow}
@@ -40,6 +41,10 @@ resultOk m at p = ltb (nameAt m at p) (linksOf m) && freshAt m at p
 
 unfoldable pub inputOk : List ℕ → ℕ → Bool
 inputOk m p = (ltb (nameAt m triggerAt p) (linksOf m) || eqb p 0) && freshAt m triggerAt p
+
+-- the kind of each input is stored as its letter (document 02, Job 6)
+unfoldable pub letterOk : List ℕ → ℕ → Bool
+letterOk m j = isLetter (getD m (inputKindsAt + j) 0)
 
 -- ---- operators
 
@@ -80,4 +85,4 @@ valid m =
     figuresOk m
     && (allBelow (operatorsOf m) (operatorOk m)
     && (allBelow (linksOf m) (linkOk m (sizeOf (capacityByte m)))
-    && (allBelow (inputsOf m + 1) (inputOk m) && allBelow (resultsOf m) (resultOk m resultLinksAt))))
+    && (allBelow (inputsOf m + 1) (inputOk m) && (allBelow (inputsOf m) (letterOk m) && allBelow (resultsOf m) (resultOk m resultLinksAt)))))

@@ -1,5 +1,5 @@
-// Refusal 31 (document 01, "Said by how the machine stands"): whether every stored figure and token
-// is in its range and no link is named twice by one operator, the inputs or the results. The
+// Refusal 31 (document 01, "Said by how the machine stands"): whether every stored figure, kind and
+// token is in its range and no link is named twice by one operator, the inputs or the results. The
 // definition is specs/Valid; only the part that the graph uses is looked at. Assumes that the memory
 // is as long as its stored capacity needs.
 ghost use mathlib.Core.Path.{_≡_};
@@ -8,7 +8,7 @@ ghost use mathlib.Core.List.{[], _∷_};
 ghost use lib.ListN.{length};
 ghost use Rattle.machine_layout.specs.Layout.{mostOperators, mostLinks, mostInputs, mostResults, recordsAt, linksAt, resultLinksAt, leastSize, mostSize, need, sizeOf, capacityOf, linksOf, noLink, nameAt};
 ghost use Rattle.machine_valid.specs.Below.{allBelow};
-ghost use Rattle.machine_valid.specs.Valid.{unlike, freshAt, resultOk, inputOk, registerOk, operatorOk, stretchOk, linkOk, figuresOk, valid};
+ghost use Rattle.machine_valid.specs.Valid.{unlike, freshAt, resultOk, inputOk, letterOk, registerOk, operatorOk, stretchOk, linkOk, figuresOk, valid};
 ghost use Rattle.machine_valid.specs.Ports.{apart, nones, shaped, wellPorted};
 
 // The ports of an operator in their row: three inputs, three outputs.
@@ -100,6 +100,29 @@ fn inputs_ok(mem: &[u8], k: usize) -> bool
     while p < k {
         if input_ok(mem, p) {
             p += 1;
+        } else {
+            return false;
+        }
+    }
+    true
+}
+
+// Whether the stored kind of input j is the letter of one.
+fn letter_ok(mem: &[u8], j: usize) -> bool
+    requires { ⌜ (recordsAt ≤ length (now mem)) × (j < mostInputs) ⌝ }
+    ensures { λ r. ⌜ r ≡ letterOk (now (mem .entry)) j ⌝ }
+{
+    value::bytes::is_letter(mem[machine_layout::INPUT_KINDS_AT + j])
+}
+
+fn letters_ok(mem: &[u8], k: usize) -> bool
+    requires { ⌜ (recordsAt ≤ length (now mem)) × (k ≤ mostInputs) ⌝ }
+    ensures { λ r. ⌜ r ≡ allBelow k (letterOk (now (mem .entry))) ⌝ }
+{
+    let mut j = 0;
+    while j < k {
+        if letter_ok(mem, j) {
+            j += 1;
         } else {
             return false;
         }
@@ -452,7 +475,11 @@ pub fn is_valid(mem: &[u8]) -> bool
     if !links_ok(mem, size, machine_layout::links(mem)) {
         return false;
     }
-    if !inputs_ok(mem, machine_layout::inputs(mem) + 1) {
+    let inputs = machine_layout::inputs(mem);
+    if !inputs_ok(mem, inputs + 1) {
+        return false;
+    }
+    if !letters_ok(mem, inputs) {
         return false;
     }
     results_ok(mem, machine_layout::results(mem))

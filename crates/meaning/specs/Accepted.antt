@@ -1,6 +1,6 @@
 -- What tests 1 to 10 (formula/specs/Acceptance: Admissible) say of a sheet: its rows are those of Rows, and its formula is
 -- sound. Rests on the laws of places. Assumes an admissible sheet.
-use Prim.Native.Nat.{ℕ, zero, suc, _-_, _/_, _%_, _≤_, _<_}
+use Prim.Native.Nat.{ℕ, zero, suc, _*_, _-_, _/_, _%_, _≤_, _<_}
 use mathlib.Core.Path.{_≡_, refl, sym, ap, _∙_}
 use mathlib.Core.Bool.{Bool, true, false, not, _&&_}
 use mathlib.Core.List.{List, [], _∷_, map}
@@ -15,7 +15,7 @@ use Rattle.formula.specs.Tree.{formulaOf}
 use Rattle.formula.specs.TreeLaws.{Named, all-between, and-true}
 use Rattle.formula.specs.Places.{inBody, placesOf}
 use Rattle.formula.specs.PlaceLaws.{Sound, fieldPlaces, places-as, last-place}
-use Rattle.formula.specs.Tests.{laidOut, namesWell}
+use Rattle.formula.specs.Tests.{laidOut, rangesWell, namesWell, placedWell, widthsWell}
 use Rattle.formula.specs.Acceptance.{Admissible}
 use Rattle.formula.specs.SheetLaws.{fields-length}
 use Rattle.meaning.specs.WidthLaws.{SoundE}
@@ -43,6 +43,37 @@ placed-is p b (If x y z) h = (ap first h, ap second h, ap third h)
 placed-is p b (For a c x y) h = (ap first h, ap second h)
 placed-is p b (Iter x) h = ap first h
 
+-- Of n rows with the fields t that tests 4 to 8 have passed, a table of the rows' widths is all that is left to give.
+module _ (t : List ℕ) (n : ℕ) (ok : Sound t n) where
+  pub accepted-rows : (ws : List ℕ) → length t ≡ 5 * n → n ≤ length ws
+      → ((r : ℕ) → 1 ≤ r → r ≤ n → rangesWell t r ≡ true)
+      → ((r : ℕ) → 1 ≤ r → r ≤ n → placedWell t (placesOf t n) r ≡ true)
+      → ((r : ℕ) → 1 ≤ r → r ≤ n → widthsWell t (placesOf t n) r ≡ true)
+      → ((r : ℕ) → 1 ≤ r → r ≤ n → getD ws (r - 1) 0 ≡ widthIn (inBody (placesOf t n) r) t r)
+      → Accepted t ws n
+  accepted-rows ws size room ranged iters wide table =
+      record {
+        fields = size;
+        table = room;
+        named = ok .named;
+        ranged = ranged;
+        placed = λ r l u. placed-is _ _ _ (places-as t n ok r l u _ refl);
+        iters = iters;
+        wide = wide;
+        widths = table;
+      }
+
+  -- The last row is the formula.
+  pub last-row : (ws : List ℕ) → 1 ≤ n → Accepted t ws n → ExpRow t ws n
+  last-row ws some rows =
+      record {
+        rows = n;
+        accepted = rows;
+        low = some;
+        high = omega arith;
+        place = expression-place (shapeAt t n) (last-place t n (ok .named) some);
+      }
+
 module _ (s : List ℕ) (h : Admissible s) where
   pub names-earlier : Named (fieldsOf s) (rowCount s)
   unfolding namesWell
@@ -58,22 +89,11 @@ module _ (s : List ℕ) (h : Admissible s) where
         once = λ x l u. eqb-true _ 1 (h .named x l (omega arith));
       }
 
-  -- A table of the rows' widths is all that is left to give.
   pub accepted : (ws : List ℕ) → rowCount s ≤ length ws
       → ((r : ℕ) → 1 ≤ r → r ≤ rowCount s
       → getD ws (r - 1) 0 ≡ widthIn (inBody (placesOf (fieldsOf s) (rowCount s)) r) (fieldsOf s) r)
       → Accepted (fieldsOf s) ws (rowCount s)
-  accepted ws room table =
-      record {
-        fields = fields-length s;
-        table = room;
-        named = names-earlier;
-        ranged = h .ranged;
-        placed = λ r l u. placed-is _ _ _ (places-as (fieldsOf s) (rowCount s) settled r l u _ refl);
-        iters = h .placed;
-        wide = h .wide;
-        widths = table;
-      }
+  accepted ws room table = accepted-rows (fieldsOf s) (rowCount s) settled ws (fields-length s) room (h .ranged) (h .placed) (h .wide) table
 
 -- ---- the formula of an accepted sheet
 
@@ -110,14 +130,7 @@ module _ (s : List ℕ) (h : Admissible s) where
   has-rows = some-rows (length s) (and-true (not (eqb (length s) 0) && eqb (length s % 31) 0) _ (h .laid) .0)
 
   pub formula-row : (ws : List ℕ) → Accepted (fieldsOf s) ws (rowCount s) → ExpRow (fieldsOf s) ws (rowCount s)
-  formula-row ws ok =
-      record {
-        rows = rowCount s;
-        accepted = ok;
-        low = has-rows;
-        high = omega arith;
-        place = expression-place (shapeAt (fieldsOf s) (rowCount s)) (last-place (fieldsOf s) (rowCount s) (names-earlier s h) has-rows);
-      }
+  formula-row ws ok = last-row (fieldsOf s) (rowCount s) (settled s h) ws has-rows ok
 
   -- Every node of an accepted sheet's formula passes test 8.
   pub formula-sound : SoundE (formulaOf s)

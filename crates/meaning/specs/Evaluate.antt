@@ -1,6 +1,6 @@
 -- Document 01, "Direct evaluation is lent rounds and tells those used", "A result set is sixteen values carried whole, with
--- its width; places past the width hold err", and the refusals of evaluation in their order: 1 to 10, 12, 36. A set is lent
--- in the byte form (value_sets' specs/Sets). Assumes nothing.
+-- its width; places past the width hold err", and the refusals of evaluation in their order: the sheet's with its kinds line (formula's specs/Tests),
+-- 12, 36. A set is lent in the byte form (value_sets' specs/Sets). Assumes nothing.
 use Prim.Native.Nat.{ℕ, _-_}
 use mathlib.Core.List.{List, _++_, map}
 use mathlib.Core.Option.{Option, some, none}
@@ -13,7 +13,8 @@ use Rattle.formula.specs.declared.Refusal.the-variants.{Set, Unfinished}
 use Rattle.formula.specs.declared.Verdict.{Verdict}
 use Rattle.formula.specs.declared.Verdict.the-variants.{Passed, Refused}
 use Rattle.formula.specs.Tree.{Exp, formulaOf}
-use Rattle.formula.specs.Free.{freeE, inputsOf}
+use Rattle.formula.specs.Free.{freeE}
+use Rattle.formula.specs.Faults.{lettersOf}
 use Rattle.formula.specs.Tests.{verdictOf}
 use Rattle.meaning.specs.Meaning.{Outcome, yields, inputsHold, evalE}
 use Rattle.meaning.specs.declared.Cell.{Cell}
@@ -41,17 +42,17 @@ abbrev pub evaluatedWith : Exp → ℕ → Option (List Value) → Evaluation
 evaluatedWith x rounds (some vs) = concluded rounds (evalE x (inputsHold (freeE x) vs) rounds)
 evaluatedWith x rounds none = refused Set 0
 
--- A formula on a set.
-unfoldable pub evaluated : Exp → List ℕ → ℕ → Evaluation
-unfolding setValues concluded evalE inputsHold inputsOf freeE
-evaluated x set rounds = evaluatedWith x rounds (setValues (length (inputsOf x)) set)
+-- A formula on a set of values of these kinds.
+unfoldable pub evaluated : Exp → List ℕ → List ℕ → ℕ → Evaluation
+unfolding setValues concluded evalE inputsHold freeE
+evaluated x kinds set rounds = evaluatedWith x rounds (setValues kinds set)
 
 abbrev pub afterVerdict : Verdict → Evaluation → Evaluation
 afterVerdict Passed e = e
 afterVerdict (Refused r row) e = refused r row
 
-unfoldable pub evaluationOf : List ℕ → List ℕ → ℕ → Evaluation
-unfolding verdictOf formulaOf evaluated
-evaluationOf sheet set rounds =
-    let e : Evaluation = evaluated (formulaOf sheet) set rounds in
-    afterVerdict (verdictOf sheet) e
+unfoldable pub evaluationOf : List ℕ → List ℕ → List ℕ → ℕ → Evaluation
+unfolding verdictOf formulaOf lettersOf evaluated
+evaluationOf sheet line set rounds =
+    let e : Evaluation = evaluated (formulaOf sheet) (lettersOf (formulaOf sheet) line) set rounds in
+    afterVerdict (verdictOf sheet line) e

@@ -1,5 +1,6 @@
 -- The refusals of each call as an ordered table, each condition by name: document 01, "Said by what was handed in" and "Said by how the machine stands",
--- "11 comes before all", "Order: 11, 31, 12, then these", "14 .. (start: after 11, before 1)". Definitions only; assumes nothing.
+-- "11 comes before all", "Order: 11, 31, 12, then these", "14 .. (start: after 11, before 1)"; document 02, Job 6, "17 .., 18 .., in this order after 9 and
+-- before 10". Definitions only; assumes nothing.
 use Prim.Native.Nat.{ℕ, zero, suc, _-_, _*_}
 use mathlib.Core.Bool.{Bool, true, false, not, _&&_}
 use mathlib.Core.List.{List, [], _∷_, _++_}
@@ -7,17 +8,18 @@ use mathlib.Core.Option.{Option, some, none}
 use lib.Dec.{leb, ltb}
 use lib.ListN.{length, take, drop}
 use Rattle.value.specs.declared.Value.{Value}
-use Rattle.formula.specs.declared.Refusal.the-variants.{Layout, Rows, Malformed, Range, Naming, Named, StrayIter, Width, Unused, Operators, Memory, Set, Capacity, Altered, Untaken, Full, NotAble, NoResult, Unfinished}
+use Rattle.formula.specs.declared.Refusal.the-variants.{Layout, Rows, Malformed, Range, Naming, Named, StrayIter, Width, Unused, Operators, Memory, Set, Capacity, KindsLine, KindsBroken, Altered, Untaken, Full, NotAble, NoResult, Unfinished}
 use Rattle.formula.specs.declared.Check.{Check}
 use Rattle.formula.specs.declared.Check.the-variants.{Passed, Fault}
 use Rattle.formula.specs.Sheet.{rowCount, linesOf, fieldsOf}
 use Rattle.formula.specs.Places.{placesOf}
 use Rattle.formula.specs.Tree.{Exp, formulaOf}
-use Rattle.formula.specs.Free.{freeE, inputsOf as inputsIn}
-use Rattle.formula.specs.Tests.{lowest, laidOut, fewRows, fieldsWell, rangesWell, namesWell, namedOnce, allNamed, placedWell, widthsWell, boundWell, operatorsOf as operatorsIn}
+use Rattle.formula.specs.Free.{freeE}
+use Rattle.formula.specs.Faults.{lettersOf}
+use Rattle.formula.specs.Tests.{lowest, laidOut, fewRows, fieldsWell, rangesWell, namesWell, namedOnce, allNamed, placedWell, widthsWell, boundWell, lineFits, kindsKept, operatorsOf as operatorsIn}
 use Rattle.meaning.specs.Meaning.{Outcome, yields, inputsHold, evalE}
 use Rattle.value_sets.specs.Sets.{setValues, setOk}
-use Rattle.machine_layout.specs.Layout.{sizeOf, need, capacityIn, operatorsOf, inputsOf, resultsOf, untakenOf}
+use Rattle.machine_layout.specs.Layout.{sizeOf, need, capacityIn, operatorsOf, inputsOf, resultsOf, untakenOf, storedKinds}
 use Rattle.machine_firing.specs.Fire.{ableAt}
 use Rattle.machine_valid.specs.Below.{allBelow}
 use Rattle.machine_valid.specs.Valid.{valid}
@@ -39,9 +41,9 @@ no-room out = ltb (length out) 80
 abbrev pub altered : List ℕ → Bool
 altered m = not (valid m)
 
--- 12 "a set with another number of values than inputs, a bad value field"
+-- 12 "a set with another number of values than inputs, a bad value field"; "Sets with another kind are refused with 12", by the kinds stored
 abbrev pub no-set : List ℕ → List ℕ → Bool
-no-set m set = not (setOk (inputsOf m) set)
+no-set m set = not (setOk (storedKinds m) set)
 
 -- 32 "sixteen sets untaken"
 abbrev pub sixteen-untaken : List ℕ → Bool
@@ -115,9 +117,9 @@ abbrev pub failed : Check → Bool
 failed Passed = false
 failed (Fault row) = true
 
--- 1 to 10, each "tested over the whole sheet before the next"
-abbrev pub sheetTable : List ℕ → List Row
-sheetTable s =
+-- 1 to 9, 17, 18 and 10, each "tested over the whole sheet before the next"
+abbrev pub sheetTable : List ℕ → List ℕ → List Row
+sheetTable s line =
     (not (laidOut s (linesOf s)), Layout)
     ∷ (not (fewRows s), Rows)
     ∷ (failed (lowest (rowCount s) (fieldsWell (linesOf s))), Malformed)
@@ -127,6 +129,8 @@ sheetTable s =
     ∷ (failed (lowest (rowCount s) (placedWell (fieldsOf s) (placesOf (fieldsOf s) (rowCount s)))), StrayIter)
     ∷ (failed (lowest (rowCount s) (widthsWell (fieldsOf s) (placesOf (fieldsOf s) (rowCount s)))), Width)
     ∷ (failed (lowest (rowCount s) (boundWell (fieldsOf s) (placesOf (fieldsOf s) (rowCount s)))), Unused)
+    ∷ (not (lineFits (fieldsOf s) (rowCount s) line), KindsLine)
+    ∷ (failed (kindsKept (fieldsOf s) (rowCount s) line), KindsBroken)
     ∷ (not (leb (operatorsIn (fieldsOf s) (rowCount s)) 1024), Operators)
     ∷ []
 
@@ -139,11 +143,11 @@ abbrev pub capacity-outside : ℕ → Bool
 capacity-outside capacity = not (leb 1 capacity && leb capacity 16)
 
 -- "14 .. (start: after 11, before 1)"
-abbrev pub startTable : List ℕ → ℕ → List ℕ → List Row
-startTable sheet capacity m =
+abbrev pub startTable : List ℕ → List ℕ → ℕ → List ℕ → List Row
+startTable sheet line capacity m =
     (short-asked capacity m, Memory)
     ∷ (capacity-outside capacity, Capacity)
-    ∷ sheetTable sheet
+    ∷ sheetTable sheet line
 
 abbrev pub is-none : Option (List Value) → Bool
 is-none (some vs) = false
@@ -153,31 +157,31 @@ abbrev pub is-unfinished : Outcome → Bool
 is-unfinished (yields vs left) = false
 is-unfinished Outcome.unfinished = true
 
--- 12 for evaluation: the set's bytes are not as many values as the formula has inputs
-abbrev pub no-values : List ℕ → List ℕ → Bool
-no-values sheet set = is-none (setValues (length (inputsIn (formulaOf sheet))) set)
+-- 12 for evaluation: the set's bytes are not as many values as the formula has inputs, each of its kind or an err
+abbrev pub no-values : List ℕ → List ℕ → List ℕ → Bool
+no-values sheet line set = is-none (setValues (lettersOf (formulaOf sheet) line) set)
 
 abbrev pub lacking : Exp → ℕ → Option (List Value) → Bool
 lacking x rounds (some vs) = is-unfinished (evalE x (inputsHold (freeE x) vs) rounds)
 lacking x rounds none = false
 
 -- 36 "evaluation: more rounds needed than lent"
-abbrev pub rounds-lacking : List ℕ → List ℕ → ℕ → Bool
-rounds-lacking sheet set rounds = lacking (formulaOf sheet) rounds (setValues (length (inputsIn (formulaOf sheet))) set)
+abbrev pub rounds-lacking : List ℕ → List ℕ → List ℕ → ℕ → Bool
+rounds-lacking sheet line set rounds = lacking (formulaOf sheet) rounds (setValues (lettersOf (formulaOf sheet) line) set)
 
--- 11, 1 to 10, 12, 36
-abbrev pub evaluateTable : List ℕ → List ℕ → ℕ → List ℕ → List Row
-evaluateTable sheet set rounds out =
+-- 11, the sheet's, 12, 36
+abbrev pub evaluateTable : List ℕ → List ℕ → List ℕ → ℕ → List ℕ → List Row
+evaluateTable sheet line set rounds out =
     (no-room out, Memory)
-    ∷ (sheetTable sheet
-    ++ ((no-values sheet set, Set)
-    ∷ (rounds-lacking sheet set rounds, Unfinished)
+    ∷ (sheetTable sheet line
+    ++ ((no-values sheet line set, Set)
+    ∷ (rounds-lacking sheet line set rounds, Unfinished)
     ∷ []))
 
 -- ---- the numbers that each call can give, in their order
 
 abbrev pub sheetNumbers : List ℕ
-sheetNumbers = 1 ∷ 2 ∷ 3 ∷ 4 ∷ 5 ∷ 6 ∷ 7 ∷ 8 ∷ 9 ∷ 10 ∷ []
+sheetNumbers = 1 ∷ 2 ∷ 3 ∷ 4 ∷ 5 ∷ 6 ∷ 7 ∷ 8 ∷ 9 ∷ 17 ∷ 18 ∷ 10 ∷ []
 
 abbrev pub pushNumbers : List ℕ
 pushNumbers = 11 ∷ 31 ∷ 12 ∷ 32 ∷ 33 ∷ []

@@ -21,15 +21,16 @@ use Rattle.formula.specs.declared.Figures.{Figures}
 use Rattle.formula.specs.Refusals.{numberOf, number-positive}
 use Rattle.formula.specs.Sheet.{rowCount, linesOf, fieldsOf}
 use Rattle.formula.specs.Tree.{Exp, formulaOf}
-use Rattle.formula.specs.Free.{freeE, inputsOf as inputsIn}
-use Rattle.formula.specs.Tests.{Sheet, Test, whole, laidOut, fewRows, operatorsOf as operatorsIn, afterCheck, verdictBy, verdictOf, tests, rowTests, formulaTests, graphTests, sheetOf, figuresOf, answerBy, readingOf}
+use Rattle.formula.specs.Free.{freeE}
+use Rattle.formula.specs.Faults.{lettersOf}
+use Rattle.formula.specs.Tests.{Sheet, Test, whole, laidOut, fewRows, lineFits, operatorsOf as operatorsIn, afterCheck, verdictBy, verdictOf, tests, rowTests, formulaTests, kindTests, graphTests, sheetOf, figuresOf, answerBy, readingOf}
 use Rattle.sheet_read.specs.Reading.{answerOf}
 use Rattle.meaning.specs.Meaning.{Outcome, yields, inputsHold, evalE}
 use Rattle.meaning.specs.declared.Evaluation.{Evaluation}
 use Rattle.meaning.specs.Evaluate.{concluded, evaluatedWith, evaluated, afterVerdict, evaluationOf}
 use Rattle.value_sets.specs.Sets.{setValues, setOk}
 use Rattle.eval_sheet.specs.Handed.{told, handedOut, handed as evaluate-handed, answers as evaluate-answers}
-use Rattle.machine_layout.specs.Layout.{operatorsOf, inputsOf, resultsOf, untakenOf}
+use Rattle.machine_layout.specs.Layout.{operatorsOf, inputsOf, resultsOf, untakenOf, storedKinds}
 use Rattle.machine_firing.specs.Fire.{ableAt, firedAt}
 use Rattle.machine_valid.specs.Below.{allBelow}
 use Rattle.machine_valid.specs.Valid.{valid}
@@ -64,7 +65,7 @@ push-order false true true true true m m′ = refl
 pub push-exact : (m set : List ℕ) → pushed m set .answer .refusal ≡ first-refusal (pushTable m set)
 unfolding pushed standing
 push-exact m set =
-    push-order (short m) (valid m) (setOk (inputsOf m) set) (ltb (untakenOf m) 16) (roomsOk m (sizeIn m) (inputsOf m)) m (pushedMemory m set)
+    push-order (short m) (valid m) (setOk (storedKinds m) set) (ltb (untakenOf m) 16) (roomsOk m (sizeIn m) (inputsOf m)) m (pushedMemory m set)
     ∙ ap (λ (b : Bool). first-refusal ((short m, Memory) ∷ (altered m, Altered) ∷ (no-set m set, Set) ∷ (b, Untaken) ∷ (link-full m, Full) ∷ []))
     (sym (sixteen (untakenOf m)))
 
@@ -145,40 +146,42 @@ failed-whole : (b : Bool) → failed (whole b) ≡ not b
 failed-whole true = refl
 failed-whole false = refl
 
-table-is : (s : List ℕ) → tableBy tests (sheetOf s) ≡ sheetTable s
-unfolding tests rowTests formulaTests graphTests sheetOf
-table-is s = rw (failed-whole (laidOut s (linesOf s)), failed-whole (fewRows s), failed-whole (leb (operatorsIn (fieldsOf s) (rowCount s)) 1024)) refl
+table-is : (s line : List ℕ) → tableBy (tests line) (sheetOf s) ≡ sheetTable s line
+unfolding tests rowTests formulaTests kindTests graphTests sheetOf
+table-is s line =
+    rw (failed-whole (laidOut s (linesOf s)), failed-whole (fewRows s), failed-whole (lineFits (fieldsOf s) (rowCount s) line), failed-whole (leb (operatorsIn (fieldsOf s) (rowCount s)) 1024)) refl
 
--- 1 to 10
-pub sheet-exact : (s : List ℕ) → numberIn (verdictOf s) ≡ first-refusal (sheetTable s)
+-- 1 to 9, 17, 18, 10
+pub sheet-exact : (s line : List ℕ) → numberIn (verdictOf s line) ≡ first-refusal (sheetTable s line)
 unfolding verdictOf
-sheet-exact s = first-by tests (sheetOf s) ∙ ap first-refusal (table-is s)
+sheet-exact s line = first-by (tests line) (sheetOf s) ∙ ap first-refusal (table-is s line)
 
 reads : (v : Verdict) (f : Figures) → answerOf (answerBy v f) .refusal ≡ numberIn v
 unfolding answerBy
 reads passed f = refl
 reads (Refused r row) f = refl
 
-pub read-exact : (s : List ℕ) → answerOf (readingOf s) .refusal ≡ first-refusal (sheetTable s)
+pub read-exact : (s line : List ℕ) → answerOf (readingOf s line) .refusal ≡ first-refusal (sheetTable s line)
 unfolding readingOf
-read-exact s = reads (verdictOf s) (figuresOf s) ∙ sheet-exact s
+read-exact s line = reads (verdictOf s line) (figuresOf s) ∙ sheet-exact s line
 
 -- ---- start
 
-start-order : (s c : Bool) (v : Verdict) (x : Exp) (capacity : ℕ) (m : List ℕ) (cs : List Row) → numberIn v ≡ first-refusal cs
-    → pick s (begun (startRefusal Memory 0) m) (pick c (byVerdict v x capacity m) (begun (startRefusal Capacity 0) m)) .answer .refusal
+start-order : (s c : Bool) (v : Verdict) (x : Exp) (kinds : List ℕ) (capacity : ℕ) (m : List ℕ) (cs : List Row) → numberIn v ≡ first-refusal cs
+    → pick s (begun (startRefusal Memory 0) m) (pick c (byVerdict v x kinds capacity m) (begun (startRefusal Capacity 0) m)) .answer .refusal
     ≡ first-refusal ((s, Memory) ∷ (not c, Capacity) ∷ cs)
 unfolding first-refusal byVerdict
-start-order true c v x capacity m cs h = refl
-start-order false false v x capacity m cs h = refl
-start-order false true passed x capacity m cs h = h
-start-order false true (Refused r row) x capacity m cs h = h
+start-order true c v x kinds capacity m cs h = refl
+start-order false false v x kinds capacity m cs h = refl
+start-order false true passed x kinds capacity m cs h = h
+start-order false true (Refused r row) x kinds capacity m cs h = h
 
--- 11, 14, 1 to 10
-pub start-exact : (sheet : List ℕ) (capacity : ℕ) (m : List ℕ) → started sheet capacity m .answer .refusal ≡ first-refusal (startTable sheet capacity m)
+-- 11, 14, then the sheet's
+pub start-exact : (sheet line : List ℕ) (capacity : ℕ) (m : List ℕ) → started sheet line capacity m .answer .refusal ≡ first-refusal (startTable sheet line capacity m)
 unfolding started
-start-exact sheet capacity m =
-    start-order (short-asked capacity m) (leb 1 capacity && leb capacity 16) (verdictOf sheet) (formulaOf sheet) capacity m (sheetTable sheet) (sheet-exact sheet)
+start-exact sheet line capacity m =
+    start-order (short-asked capacity m) (leb 1 capacity && leb capacity 16) (verdictOf sheet line) (formulaOf sheet) (lettersOf (formulaOf sheet) line) capacity m
+    (sheetTable sheet line) (sheet-exact sheet line)
 
 -- ---- evaluation
 
@@ -220,14 +223,15 @@ verdict-order : (v : Verdict) (e : Evaluation) (cs ds : List Row) → numberIn v
 verdict-order passed e cs ds h k = k ∙ sym (behind-none cs ds (sym h))
 verdict-order (Refused r row) e cs ds h k = behind-some cs ds (numberOf r) (number-positive r) h
 
--- 1 to 10, 12, 36
-pub evaluation-exact : (sheet set : List ℕ) (rounds : ℕ)
-    → numberIn (evaluationOf sheet set rounds .verdict)
-    ≡ first-refusal (sheetTable sheet ++ ((no-values sheet set, Set) ∷ (rounds-lacking sheet set rounds, Unfinished) ∷ []))
+-- the sheet's, 12, 36
+pub evaluation-exact : (sheet line set : List ℕ) (rounds : ℕ)
+    → numberIn (evaluationOf sheet line set rounds .verdict)
+    ≡ first-refusal (sheetTable sheet line ++ ((no-values sheet line set, Set) ∷ (rounds-lacking sheet line set rounds, Unfinished) ∷ []))
 unfolding evaluationOf evaluated
-evaluation-exact sheet set rounds =
-    verdict-order (verdictOf sheet) (evaluated (formulaOf sheet) set rounds) (sheetTable sheet) _ (sheet-exact sheet)
-    (set-order (formulaOf sheet) rounds (setValues (length (inputsIn (formulaOf sheet))) set))
+evaluation-exact sheet line set rounds =
+    let kinds = lettersOf (formulaOf sheet) line in
+    verdict-order (verdictOf sheet line) (evaluated (formulaOf sheet) kinds set rounds) (sheetTable sheet line) _ (sheet-exact sheet line)
+    (set-order (formulaOf sheet) rounds (setValues kinds set))
 
 told-order : (s : Bool) (v : Verdict) (e : Evaluation) (out : List ℕ) (cs : List Row) → numberIn v ≡ first-refusal cs
     → pick s (evaluate-handed (evaluate-answers 11 0 0 0) out) (told v e out) .answer .refusal ≡ first-refusal ((s, Memory) ∷ cs)
@@ -236,9 +240,9 @@ told-order true v e out cs h = refl
 told-order false passed e out cs h = h
 told-order false (Refused r row) e out cs h = h
 
--- 11, 1 to 10, 12, 36
-pub evaluate-exact : (sheet set : List ℕ) (rounds : ℕ) (out : List ℕ)
-    → handedOut sheet set rounds out .answer .refusal ≡ first-refusal (evaluateTable sheet set rounds out)
+-- 11, the sheet's, 12, 36
+pub evaluate-exact : (sheet line set : List ℕ) (rounds : ℕ) (out : List ℕ)
+    → handedOut sheet line set rounds out .answer .refusal ≡ first-refusal (evaluateTable sheet line set rounds out)
 unfolding handedOut
-evaluate-exact sheet set rounds out =
-    told-order (no-room out) (evaluationOf sheet set rounds .verdict) (evaluationOf sheet set rounds) out _ (evaluation-exact sheet set rounds)
+evaluate-exact sheet line set rounds out =
+    told-order (no-room out) (evaluationOf sheet line set rounds .verdict) (evaluationOf sheet line set rounds) out _ (evaluation-exact sheet line set rounds)

@@ -22,7 +22,7 @@ use Rattle.machine_firing.specs.Links.{onLink, removedAt, appendedAt}
 use Rattle.machine_firing.specs.LinkLaws.{linkPart, Keeps, keeps-removed, keeps-appended, length-on, same-on, other-on, part-stored}
 use Rattle.machine_firing.specs.Fire.{taken, given, planned, decisionAt, planAt, readyFor, performed, ableAt, firedAt}
 use Rattle.machine_valid.specs.Below.{allBelow, and-left, and-right, below-at}
-use Rattle.machine_valid.specs.Valid.{figuresOk, unlike, unlikeAt, freshAt, resultOk, inputOk, namedOk, portOk, kindOk, registerOk, operatorOk, linkOk, valid}
+use Rattle.machine_valid.specs.Valid.{figuresOk, unlike, unlikeAt, freshAt, resultOk, inputOk, letterOk, namedOk, portOk, kindOk, registerOk, operatorOk, linkOk, valid}
 use Rattle.machine_valid.specs.Figures.{valid-figures}
 use Rattle.machine_calls.specs.Calls.{outcome, answers, refusal, sizeIn, standing, fired}
 use Rattle.machine_calls.specs.CallLaws.{standing-good}
@@ -105,7 +105,7 @@ module _ (m : List ℕ) (i : ℕ) (good : valid m ≡ true) (there : i < operato
   named p h =
       let kind = kindByte m i in
       let operators = allBelow (operatorsOf m) (operatorOk m) in
-      let rest = allBelow (linksOf m) (linkOk m (sizeOf (capacityByte m))) && (allBelow (inputsOf m + 1) (inputOk m) && allBelow (resultsOf m) (resultOk m 74)) in
+      let rest = allBelow (linksOf m) (linkOk m (sizeOf (capacityByte m))) && (allBelow (inputsOf m + 1) (inputOk m) && (allBelow (inputsOf m) (letterOk m) && allBelow (resultsOf m) (resultOk m 74))) in
       let o : operatorOk m i ≡ true = below-at (operatorsOf m) (operatorOk m) (and-left operators rest (and-right (figuresOk m) (operators && rest) good)) i there in
       let names = allBelow 6 (namedOk m (operatorAt i + 2) kind) in
       let registered = registerOk kind (wordAt m (registerAt i)) in

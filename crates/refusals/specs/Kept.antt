@@ -18,7 +18,8 @@ use Rattle.formula.specs.declared.Verdict.the-variants.{Passed as passed, Refus
 use Rattle.formula.specs.declared.Figures.{Figures}
 use Rattle.formula.specs.Refusals.{numberOf}
 use Rattle.formula.specs.Tree.{Exp, formulaOf}
-use Rattle.formula.specs.Free.{freeE, inputsOf as inputsIn}
+use Rattle.formula.specs.Free.{freeE}
+use Rattle.formula.specs.Faults.{lettersOf}
 use Rattle.formula.specs.Tests.{verdictOf, figuresOf, answerBy, readingOf}
 use Rattle.sheet_read.specs.declared.read.ReadAnswer.{ReadAnswer}
 use Rattle.sheet_read.specs.Reading.{answerOf}
@@ -115,66 +116,66 @@ take-keeps m out =
 
 -- ---- sheets, with the row that goes with the refusal
 
--- Reading is lent the sheet alone.
-abbrev pub ReadKeeps : List ℕ → ReadAnswer → Type 0
-ReadKeeps sheet a = a .refusal ≢ 0 → RowTold sheet (a .refusal) (a .row) × (a .rows ≡ 0) × (a .operators ≡ 0) × (a .inputs ≡ 0) × (a .results ≡ 0)
+-- Reading is lent the sheet and its kinds line alone.
+abbrev pub ReadKeeps : List ℕ → List ℕ → ReadAnswer → Type 0
+ReadKeeps sheet line a = a .refusal ≢ 0 → RowTold sheet line (a .refusal) (a .row) × (a .rows ≡ 0) × (a .operators ≡ 0) × (a .inputs ≡ 0) × (a .results ≡ 0)
 
-read-by : (sheet : List ℕ) (v : Verdict) (f : Figures) → VerdictRow sheet v → ReadKeeps sheet (answerOf (answerBy v f))
+read-by : (sheet line : List ℕ) (v : Verdict) (f : Figures) → VerdictRow sheet line v → ReadKeeps sheet line (answerOf (answerBy v f))
 unfolding answerBy
-read-by sheet passed f s h = absurd (h refl)
-read-by sheet (refused r row) f s h = ((r, refl, s), refl, refl, refl, refl)
+read-by sheet line passed f s h = absurd (h refl)
+read-by sheet line (refused r row) f s h = ((r, refl, s), refl, refl, refl, refl)
 
-pub read-keeps : (s : List ℕ) → ReadKeeps s (answerOf (readingOf s))
+pub read-keeps : (s line : List ℕ) → ReadKeeps s line (answerOf (readingOf s line))
 unfolding readingOf
-read-keeps s = read-by s (verdictOf s) (figuresOf s) (verdict-row s)
+read-keeps s line = read-by s line (verdictOf s line) (figuresOf s) (verdict-row s line)
 
-abbrev pub StartKeeps : List ℕ → List ℕ → Begun → Type 0
-StartKeeps sheet m b = b .answer .refusal ≢ 0
-    → RowTold sheet (b .answer .refusal) (b .answer .row) × (b .answer .operators ≡ 0) × (b .answer .inputs ≡ 0) × (b .answer .results ≡ 0) × (b .mem ≡ m)
+abbrev pub StartKeeps : List ℕ → List ℕ → List ℕ → Begun → Type 0
+StartKeeps sheet line m b = b .answer .refusal ≢ 0
+    → RowTold sheet line (b .answer .refusal) (b .answer .row) × (b .answer .operators ≡ 0) × (b .answer .inputs ≡ 0) × (b .answer .results ≡ 0) × (b .mem ≡ m)
 
-start-by : (sheet : List ℕ) (v : Verdict) (x : Exp) (capacity : ℕ) (m : List ℕ) → VerdictRow sheet v → StartKeeps sheet m (byVerdict v x capacity m)
+start-by : (sheet line : List ℕ) (v : Verdict) (x : Exp) (kinds : List ℕ) (capacity : ℕ) (m : List ℕ) → VerdictRow sheet line v → StartKeeps sheet line m (byVerdict v x kinds capacity m)
 unfolding byVerdict
-start-by sheet passed x capacity m s h = absurd (h refl)
-start-by sheet (refused r row) x capacity m s h = ((r, refl, s), refl, refl, refl, refl)
+start-by sheet line passed x kinds capacity m s h = absurd (h refl)
+start-by sheet line (refused r row) x kinds capacity m s h = ((r, refl, s), refl, refl, refl, refl)
 
-pub start-keeps : (sheet : List ℕ) (capacity : ℕ) (m : List ℕ) → StartKeeps sheet m (started sheet capacity m)
+pub start-keeps : (sheet line : List ℕ) (capacity : ℕ) (m : List ℕ) → StartKeeps sheet line m (started sheet line capacity m)
 unfolding started
-start-keeps sheet capacity m =
-    either (StartKeeps sheet m) (short-asked capacity m) _ _ (λ h. ((Memory, refl, refl), refl, refl, refl, refl))
-    (either (StartKeeps sheet m) (leb 1 capacity && leb capacity 16) _ _
-    (start-by sheet (verdictOf sheet) (formulaOf sheet) capacity m (verdict-row sheet))
+start-keeps sheet line capacity m =
+    either (StartKeeps sheet line m) (short-asked capacity m) _ _ (λ h. ((Memory, refl, refl), refl, refl, refl, refl))
+    (either (StartKeeps sheet line m) (leb 1 capacity && leb capacity 16) _ _
+    (start-by sheet line (verdictOf sheet line) (formulaOf sheet) (lettersOf (formulaOf sheet) line) capacity m (verdict-row sheet line))
     (λ h. ((Capacity, refl, refl), refl, refl, refl, refl)))
 
-abbrev pub EvaluateKeeps : List ℕ → List ℕ → Evaluated → Type 0
-EvaluateKeeps sheet out e = e .answer .refusal ≢ 0
-    → RowTold sheet (e .answer .refusal) (e .answer .row) × (e .answer .width ≡ 0) × (e .answer .rounds ≡ 0) × (e .out ≡ out)
+abbrev pub EvaluateKeeps : List ℕ → List ℕ → List ℕ → Evaluated → Type 0
+EvaluateKeeps sheet line out e = e .answer .refusal ≢ 0
+    → RowTold sheet line (e .answer .refusal) (e .answer .row) × (e .answer .width ≡ 0) × (e .answer .rounds ≡ 0) × (e .out ≡ out)
 
-told-by : (sheet : List ℕ) (v : Verdict) (e : Evaluation) (out : List ℕ) → VerdictRow sheet v → EvaluateKeeps sheet out (told v e out)
+told-by : (sheet line : List ℕ) (v : Verdict) (e : Evaluation) (out : List ℕ) → VerdictRow sheet line v → EvaluateKeeps sheet line out (told v e out)
 unfolding told
-told-by sheet passed e out s h = absurd (h refl)
-told-by sheet (refused r row) e out s h = ((r, refl, s), refl, refl, refl)
+told-by sheet line passed e out s h = absurd (h refl)
+told-by sheet line (refused r row) e out s h = ((r, refl, s), refl, refl, refl)
 
-concluded-row : (sheet : List ℕ) (rounds : ℕ) (o : Ended) → VerdictRow sheet (concluded rounds o .verdict)
+concluded-row : (sheet line : List ℕ) (rounds : ℕ) (o : Ended) → VerdictRow sheet line (concluded rounds o .verdict)
 unfolding concluded
-concluded-row sheet rounds (yields vs left) = tt
-concluded-row sheet rounds Ended.unfinished = refl
+concluded-row sheet line rounds (yields vs left) = tt
+concluded-row sheet line rounds Ended.unfinished = refl
 
-set-row : (sheet : List ℕ) (x : Exp) (rounds : ℕ) (o : Option (List Value)) → VerdictRow sheet (evaluatedWith x rounds o .verdict)
-set-row sheet x rounds (some vs) = concluded-row sheet rounds (evalE x (inputsHold (freeE x) vs) rounds)
-set-row sheet x rounds none = refl
+set-row : (sheet line : List ℕ) (x : Exp) (rounds : ℕ) (o : Option (List Value)) → VerdictRow sheet line (evaluatedWith x rounds o .verdict)
+set-row sheet line x rounds (some vs) = concluded-row sheet line rounds (evalE x (inputsHold (freeE x) vs) rounds)
+set-row sheet line x rounds none = refl
 
-after-row : (sheet : List ℕ) (v : Verdict) (e : Evaluation) → VerdictRow sheet v → VerdictRow sheet (e .verdict) → VerdictRow sheet (afterVerdict v e .verdict)
-after-row sheet passed e a b = b
-after-row sheet (refused r row) e a b = a
+after-row : (sheet line : List ℕ) (v : Verdict) (e : Evaluation) → VerdictRow sheet line v → VerdictRow sheet line (e .verdict) → VerdictRow sheet line (afterVerdict v e .verdict)
+after-row sheet line passed e a b = b
+after-row sheet line (refused r row) e a b = a
 
-evaluation-row : (sheet set : List ℕ) (rounds : ℕ) → VerdictRow sheet (evaluationOf sheet set rounds .verdict)
+evaluation-row : (sheet line set : List ℕ) (rounds : ℕ) → VerdictRow sheet line (evaluationOf sheet line set rounds .verdict)
 unfolding evaluationOf evaluated
-evaluation-row sheet set rounds =
-    after-row sheet (verdictOf sheet) (evaluated (formulaOf sheet) set rounds) (verdict-row sheet)
-    (set-row sheet (formulaOf sheet) rounds (setValues (length (inputsIn (formulaOf sheet))) set))
+evaluation-row sheet line set rounds =
+    after-row sheet line (verdictOf sheet line) (evaluated (formulaOf sheet) (lettersOf (formulaOf sheet) line) set rounds) (verdict-row sheet line)
+    (set-row sheet line (formulaOf sheet) rounds (setValues (lettersOf (formulaOf sheet) line) set))
 
-pub evaluate-keeps : (sheet set : List ℕ) (rounds : ℕ) (out : List ℕ) → EvaluateKeeps sheet out (handedOut sheet set rounds out)
+pub evaluate-keeps : (sheet line set : List ℕ) (rounds : ℕ) (out : List ℕ) → EvaluateKeeps sheet line out (handedOut sheet line set rounds out)
 unfolding handedOut
-evaluate-keeps sheet set rounds out =
-    either (EvaluateKeeps sheet out) (no-room out) _ _ (λ h. ((Memory, refl, refl), refl, refl, refl))
-    (told-by sheet (evaluationOf sheet set rounds .verdict) (evaluationOf sheet set rounds) out (evaluation-row sheet set rounds))
+evaluate-keeps sheet line set rounds out =
+    either (EvaluateKeeps sheet line out) (no-room out) _ _ (λ h. ((Memory, refl, refl), refl, refl, refl))
+    (told-by sheet line (evaluationOf sheet line set rounds .verdict) (evaluationOf sheet line set rounds) out (evaluation-row sheet line set rounds))

@@ -1,7 +1,7 @@
 -- DEMAND 1, second sentence: "A refused call names one of the refusals in document 01 and hands every lent byte back unaltered, save a run that has used up its
 -- lent firings", as `refused-call` over all calls; and demand 2, "A call is refused exactly when document 01 gives it a refusal, and with the first in the
 -- order there", as `call-exact`. Of a tray of sets "the rule on unaltered memory speaks of the refused set alone" (document 02, Job 1). The calls are the
--- definitions that the contracts of their entry points cite; a sheet or a set is lent for reading only. Assumes nothing.
+-- definitions that the contracts of their entry points cite; a sheet, a kinds line or a set is lent for reading only. Assumes nothing.
 use Prim.Native.Nat.{ℕ}
 use mathlib.Core.Path.{_≡_, refl, sym, _∙_, subst}
 use mathlib.Core.Logic.{_⊎_, inl, inr, _≢_, _↔_}
@@ -23,77 +23,77 @@ use Rattle.refusals.specs.Kept.{UsedUpFirings, SetRefused, read-keeps, s
 
 -- The firmware's entry points with what each is lent, in the order of their parameters.
 pub data Call : Type 0 where
-  read : List ℕ → Call
-  start : List ℕ → ℕ → List ℕ → Call
+  read : List ℕ → List ℕ → Call
+  start : List ℕ → List ℕ → ℕ → List ℕ → Call
   push : List ℕ → List ℕ → Call
   tray : List ℕ → List ℕ → ℕ → Call
   fire : List ℕ → ℕ → Call
   run : List ℕ → ℕ → Call
   take : List ℕ → List ℕ → Call
-  evaluate : List ℕ → List ℕ → ℕ → List ℕ → Call
+  evaluate : List ℕ → List ℕ → List ℕ → ℕ → List ℕ → Call
 
 unfoldable pub refusalOf : Call → ℕ
-refusalOf (read sheet) = answerOf (readingOf sheet) .refusal
-refusalOf (start sheet capacity m) = started sheet capacity m .answer .refusal
+refusalOf (read sheet line) = answerOf (readingOf sheet line) .refusal
+refusalOf (start sheet line capacity m) = started sheet line capacity m .answer .refusal
 refusalOf (push m set) = pushed m set .answer .refusal
 refusalOf (tray m sets number) = trayed m sets number .answer .refusal
 refusalOf (fire m operator) = fired m operator .answer .refusal
 refusalOf (run m firings) = ran m firings .answer .refusal
 refusalOf (take m out) = taken m out .answer .refusal
-refusalOf (evaluate sheet set rounds out) = handedOut sheet set rounds out .answer .refusal
+refusalOf (evaluate sheet line set rounds out) = handedOut sheet line set rounds out .answer .refusal
 
 -- The other numbers of its answer.
 unfoldable pub countsOf : Call → List ℕ
-countsOf (read sheet) = let a = answerOf (readingOf sheet) in a .rows ∷ a .operators ∷ a .inputs ∷ a .results ∷ []
-countsOf (start sheet capacity m) = let a = started sheet capacity m .answer in a .operators ∷ a .inputs ∷ a .results ∷ []
+countsOf (read sheet line) = let a = answerOf (readingOf sheet line) in a .rows ∷ a .operators ∷ a .inputs ∷ a .results ∷ []
+countsOf (start sheet line capacity m) = let a = started sheet line capacity m .answer in a .operators ∷ a .inputs ∷ a .results ∷ []
 countsOf (push m set) = pushed m set .answer .count ∷ []
 countsOf (tray m sets number) = trayed m sets number .answer .count ∷ []
 countsOf (fire m operator) = fired m operator .answer .count ∷ []
 countsOf (run m firings) = ran m firings .answer .count ∷ []
 countsOf (take m out) = taken m out .answer .count ∷ []
-countsOf (evaluate sheet set rounds out) = let a = handedOut sheet set rounds out .answer in a .width ∷ a .rounds ∷ []
+countsOf (evaluate sheet line set rounds out) = let a = handedOut sheet line set rounds out .answer in a .width ∷ a .rounds ∷ []
 
 -- The bytes lent for writing, and the same at the call's end.
 unfoldable pub lent : Call → List (List ℕ)
-lent (read sheet) = []
-lent (start sheet capacity m) = m ∷ []
+lent (read sheet line) = []
+lent (start sheet line capacity m) = m ∷ []
 lent (push m set) = m ∷ []
 lent (tray m sets number) = m ∷ []
 lent (fire m operator) = m ∷ []
 lent (run m firings) = m ∷ []
 lent (take m out) = m ∷ out ∷ []
-lent (evaluate sheet set rounds out) = out ∷ []
+lent (evaluate sheet line set rounds out) = out ∷ []
 
 unfoldable pub handed-back : Call → List (List ℕ)
-handed-back (read sheet) = []
-handed-back (start sheet capacity m) = started sheet capacity m .mem ∷ []
+handed-back (read sheet line) = []
+handed-back (start sheet line capacity m) = started sheet line capacity m .mem ∷ []
 handed-back (push m set) = pushed m set .mem ∷ []
 handed-back (tray m sets number) = trayed m sets number .mem ∷ []
 handed-back (fire m operator) = fired m operator .mem ∷ []
 handed-back (run m firings) = ran m firings .mem ∷ []
 handed-back (take m out) = taken m out .mem ∷ taken m out .out ∷ []
-handed-back (evaluate sheet set rounds out) = handedOut sheet set rounds out .out ∷ []
+handed-back (evaluate sheet line set rounds out) = handedOut sheet line set rounds out .out ∷ []
 
 -- The table of its refusals, and their numbers.
 unfoldable pub tableOf : Call → List Row
-tableOf (read sheet) = sheetTable sheet
-tableOf (start sheet capacity m) = startTable sheet capacity m
+tableOf (read sheet line) = sheetTable sheet line
+tableOf (start sheet line capacity m) = startTable sheet line capacity m
 tableOf (push m set) = pushTable m set
 tableOf (tray m sets number) = trayTable m sets number
 tableOf (fire m operator) = fireTable m operator
 tableOf (run m firings) = runTable m firings
 tableOf (take m out) = takeTable m out
-tableOf (evaluate sheet set rounds out) = evaluateTable sheet set rounds out
+tableOf (evaluate sheet line set rounds out) = evaluateTable sheet line set rounds out
 
 unfoldable pub numbersOf : Call → List ℕ
-numbersOf (read sheet) = sheetNumbers
-numbersOf (start sheet capacity m) = startNumbers
+numbersOf (read sheet line) = sheetNumbers
+numbersOf (start sheet line capacity m) = startNumbers
 numbersOf (push m set) = pushNumbers
 numbersOf (tray m sets number) = trayNumbers
 numbersOf (fire m operator) = fireNumbers
 numbersOf (run m firings) = runNumbers
 numbersOf (take m out) = takeNumbers
-numbersOf (evaluate sheet set rounds out) = evaluateNumbers
+numbersOf (evaluate sheet line set rounds out) = evaluateNumbers
 
 abbrev pub AllZero : List ℕ → Type 0
 AllZero [] = Unit {0}
@@ -101,48 +101,48 @@ AllZero (n ∷ ns) = (n ≡ 0) × AllZero ns
 
 -- "a run that has used up its lent firings": it gives 36 and their number, and the memory is the one after them.
 abbrev pub UsedUp : Call → Type 0
-UsedUp (read sheet) = ⊥
-UsedUp (start sheet capacity m) = ⊥
+UsedUp (read sheet line) = ⊥
+UsedUp (start sheet line capacity m) = ⊥
 UsedUp (push m set) = ⊥
 UsedUp (tray m sets number) = ⊥
 UsedUp (fire m operator) = ⊥
 UsedUp (run m firings) = UsedUpFirings m firings
 UsedUp (take m out) = ⊥
-UsedUp (evaluate sheet set rounds out) = ⊥
+UsedUp (evaluate sheet line set rounds out) = ⊥
 
 -- "For this call the rule on unaltered memory speaks of the refused set alone": a tray of sets (document 02, Job 1).
 abbrev pub SetAlone : Call → Type 0
-SetAlone (read sheet) = ⊥
-SetAlone (start sheet capacity m) = ⊥
+SetAlone (read sheet line) = ⊥
+SetAlone (start sheet line capacity m) = ⊥
 SetAlone (push m set) = ⊥
 SetAlone (tray m sets number) = SetRefused m sets number
 SetAlone (fire m operator) = ⊥
 SetAlone (run m firings) = ⊥
 SetAlone (take m out) = ⊥
-SetAlone (evaluate sheet set rounds out) = ⊥
+SetAlone (evaluate sheet line set rounds out) = ⊥
 
 -- The row of the answers that have one.
 abbrev pub RowSaid : Call → Type 0
-RowSaid (read sheet) = RowTold sheet (answerOf (readingOf sheet) .refusal) (answerOf (readingOf sheet) .row)
-RowSaid (start sheet capacity m) = RowTold sheet (started sheet capacity m .answer .refusal) (started sheet capacity m .answer .row)
+RowSaid (read sheet line) = RowTold sheet line (answerOf (readingOf sheet line) .refusal) (answerOf (readingOf sheet line) .row)
+RowSaid (start sheet line capacity m) = RowTold sheet line (started sheet line capacity m .answer .refusal) (started sheet line capacity m .answer .row)
 RowSaid (push m set) = Unit {0}
 RowSaid (tray m sets number) = Unit {0}
 RowSaid (fire m operator) = Unit {0}
 RowSaid (run m firings) = Unit {0}
 RowSaid (take m out) = Unit {0}
-RowSaid (evaluate sheet set rounds out) = RowTold sheet (handedOut sheet set rounds out .answer .refusal) (handedOut sheet set rounds out .answer .row)
+RowSaid (evaluate sheet line set rounds out) = RowTold sheet line (handedOut sheet line set rounds out .answer .refusal) (handedOut sheet line set rounds out .answer .row)
 
 -- Demand 2's last sentence for every call: its refusal is the first of its table.
 pub call-exact : (c : Call) → refusalOf c ≡ first-refusal (tableOf c)
 unfolding refusalOf tableOf
-call-exact (read sheet) = read-exact sheet
-call-exact (start sheet capacity m) = start-exact sheet capacity m
+call-exact (read sheet line) = read-exact sheet line
+call-exact (start sheet line capacity m) = start-exact sheet line capacity m
 call-exact (push m set) = push-exact m set
 call-exact (tray m sets number) = tray-exact m sets number
 call-exact (fire m operator) = fire-exact m operator
 call-exact (run m firings) = run-exact m firings
 call-exact (take m out) = take-exact m out
-call-exact (evaluate sheet set rounds out) = evaluate-exact sheet set rounds out
+call-exact (evaluate sheet line set rounds out) = evaluate-exact sheet line set rounds out
 
 -- Accepted exactly where no condition of its table holds; refused with a number exactly where that number's condition is the first that holds.
 pub call-accepted : (c : Call) → (refusalOf c ≡ 0) ↔ NoneHolds (tableOf c)
@@ -157,22 +157,22 @@ pub record RefusedCall (c : Call) : Type 0 where
   -- "names one of the refusals in document 01", one of its own
   pub names : Named (refusalOf c)
   pub own : Among (refusalOf c) (numbersOf c)
-  -- "3 to 9 give the lowest row at fault, others row 0"
+  -- "3 to 9 give the lowest row at fault, others row 0", and 18 "lowest row given"
   pub row : RowSaid c
   -- "hands every lent byte back unaltered, save a run that has used up its lent firings", and a tray by its refused set alone
   pub back : ((handed-back c ≡ lent c) × AllZero (countsOf c)) ⊎ (UsedUp c ⊎ SetAlone c)
 
 table-numbers : (c : Call) (n : ℕ) → Among n (numbers (tableOf c)) → Among n (numbersOf c)
 unfolding tableOf numbersOf
-table-numbers (read sheet) n a = a
-table-numbers (start sheet capacity m) n a = a
+table-numbers (read sheet line) n a = a
+table-numbers (start sheet line capacity m) n a = a
 table-numbers (push m set) n a = a
 table-numbers (tray m sets number) n a = tray-numbers m sets number n a
 table-numbers (fire m operator) n a = a
 table-numbers (run m firings) n a = a
 table-numbers (take m out) n (inl e) = inl e
 table-numbers (take m out) n (inr a) = a
-table-numbers (evaluate sheet set rounds out) n a = a
+table-numbers (evaluate sheet line set rounds out) n a = a
 
 one : {m m′ : List ℕ} → m′ ≡ m → _≡_ {A = List (List ℕ)} (m′ ∷ []) (m ∷ [])
 one e = λ i. e i ∷ []
@@ -182,19 +182,19 @@ two e f = λ i. e i ∷ f i ∷ []
 
 row-said : (c : Call) → refusalOf c ≢ 0 → RowSaid c
 unfolding refusalOf
-row-said (read sheet) h = read-keeps sheet h .0
-row-said (start sheet capacity m) h = start-keeps sheet capacity m h .0
+row-said (read sheet line) h = read-keeps sheet line h .0
+row-said (start sheet line capacity m) h = start-keeps sheet line capacity m h .0
 row-said (push m set) h = tt
 row-said (tray m sets number) h = tt
 row-said (fire m operator) h = tt
 row-said (run m firings) h = tt
 row-said (take m out) h = tt
-row-said (evaluate sheet set rounds out) h = evaluate-keeps sheet set rounds out h .0
+row-said (evaluate sheet line set rounds out) h = evaluate-keeps sheet line set rounds out h .0
 
 bytes-back : (c : Call) → refusalOf c ≢ 0 → ((handed-back c ≡ lent c) × AllZero (countsOf c)) ⊎ (UsedUp c ⊎ SetAlone c)
 unfolding refusalOf handed-back lent countsOf
-bytes-back (read sheet) h = let k = read-keeps sheet h in inl (refl, (k .1, (k .2, (k .3, (k .4, tt)))))
-bytes-back (start sheet capacity m) h = let k = start-keeps sheet capacity m h in inl (one (k .4), (k .1, (k .2, (k .3, tt))))
+bytes-back (read sheet line) h = let k = read-keeps sheet line h in inl (refl, (k .1, (k .2, (k .3, (k .4, tt)))))
+bytes-back (start sheet line capacity m) h = let k = start-keeps sheet line capacity m h in inl (one (k .4), (k .1, (k .2, (k .3, tt))))
 bytes-back (push m set) h = let k = push-keeps m set h in inl (one (k .1), (k .0, tt))
 bytes-back (tray m sets number) h = go (tray-keeps m sets number h)
   where
@@ -212,7 +212,7 @@ bytes-back (run m firings) h = go (run-keeps m firings h)
     go (inl k) = inl (one (k .1), (k .0, tt))
     go (inr k) = inr (inl k)
 bytes-back (take m out) h = let k = take-keeps m out h in inl (two (k .1) (k .2), (k .0, tt))
-bytes-back (evaluate sheet set rounds out) h = let k = evaluate-keeps sheet set rounds out h in inl (one (k .3), (k .1, (k .2, tt)))
+bytes-back (evaluate sheet line set rounds out) h = let k = evaluate-keeps sheet line set rounds out h in inl (one (k .3), (k .1, (k .2, tt)))
 
 pub refused-call : (c : Call) → refusalOf c ≢ 0 → RefusedCall c
 refused-call c h =

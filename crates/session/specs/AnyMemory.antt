@@ -33,9 +33,9 @@ use Rattle.session.specs.PassLaws.{drain-zero, drain-handed, drain-refus
 use Rattle.session.specs.FeedLaws.{feed-none, feed-accepted, feed-refused}
 use Rattle.session.specs.WholeSets.{EachWhole}
 
-module _ (x : Exp) (S : Sound (madeOf x)) (capacity : ℕ) (low : 1 ≤ capacity) (high : capacity ≤ 16) where
+module _ (x : Exp) (S : Sound (madeOf x)) (kinds : List ℕ) (capacity : ℕ) (low : 1 ≤ capacity) (high : capacity ≤ 16) where
   abbrev Standing : List ℕ → Links → Type 0
-  Standing m q = Stands (madeOf x) capacity m q
+  Standing m q = Stands (madeOf x) kinds capacity m q
 
   -- Two memories with one machine and the same tokens.
   pub record Alike (m m′ : List ℕ) : Type 0 where
@@ -45,12 +45,13 @@ module _ (x : Exp) (S : Sound (madeOf x)) (capacity : ℕ) (low : 1 ≤ capacity
 
   -- ---- push
 
-  module _ (set : List ℕ) (w : setOk (madeOf x .inputs) set ≡ true) (m m′ : List ℕ) (A : Alike m m′) where
+  module _ (set : List ℕ) (w : setOk kinds set ≡ true) (m m′ : List ℕ) (A : Alike m m′) where
     pub pushes-alike : (pushed m set .answer .refusal ≡ pushed m′ set .answer .refusal) × Alike (pushed m set .mem) (pushed m′ set .mem)
     pushes-alike =
-        let v = set-values (madeOf x .inputs) set w in
-        let a = push-answered x S capacity low high set (v .0) (v .1) m (A .links) (A .first) in
-        let b = push-answered x S capacity low high set (v .0) (v .1) m′ (A .links) (A .second) in
+        let v = set-values kinds set w in
+        let count : length kinds ≡ madeOf x .inputs = A .first .kinds-count in
+        let a = push-answered x S kinds capacity low high count set (v .0) (v .1) m (A .links) (A .first) in
+        let b = push-answered x S kinds capacity low high count set (v .0) (v .1) m′ (A .links) (A .second) in
         (a .answer ∙ sym (b .answer), record { links = afterPush x capacity (v .0) (A .links); first = a .stands; second = b .stands })
 
   -- ---- run
@@ -68,8 +69,8 @@ module _ (x : Exp) (S : Sound (madeOf x)) (capacity : ℕ) (low : 1 ≤ capacity
       go : (a : Bool) → stillAt m size count ≡ a → (b : Bool) → stillAt m′ size count ≡ b → a ≡ b
       go true e true f = refl
       go false e false f = refl
-      go true e false f = absurd (false≢true (sym f ∙ cannot-still x S capacity low m′ q H′ (still-cannot x S capacity low m q H e)))
-      go false e true f = absurd (false≢true (sym e ∙ cannot-still x S capacity low m q H (still-cannot x S capacity low m′ q H′ f)))
+      go true e false f = absurd (false≢true (sym f ∙ cannot-still x S kinds capacity low m′ q H′ (still-cannot x S kinds capacity low m q H e)))
+      go false e true f = absurd (false≢true (sym e ∙ cannot-still x S kinds capacity low m q H (still-cannot x S kinds capacity low m′ q H′ f)))
 
   -- What a run answers, by its links.
   record RanOn (m : List ℕ) (firings : ℕ) (q : Links) : Type 0 where
@@ -79,12 +80,12 @@ module _ (x : Exp) (S : Sound (madeOf x)) (capacity : ℕ) (low : 1 ≤ capacity
 
   ran-on : (m : List ℕ) (firings : ℕ) (q : Links) → Standing m q → RanOn m firings q
   ran-on m firings q H =
-      let st = stands-well (madeOf x) S capacity low high m q H in
-      let z = stands-size (madeOf x) S capacity low high m q H in
+      let st = stands-well (madeOf x) S kinds capacity low high m q H in
+      let z = stands-size (madeOf x) S kinds capacity low high m q H in
       let n : operatorsOf m ≡ count = H .operators-are in
       let i = run-is m firings st (stillAt (runs (sizeIn m) (operatorsOf m) firings m 0 .mem) (sizeIn m) (operatorsOf m)) refl in
       let r : runs (sizeIn m) (operatorsOf m) firings m 0 ≡ runs size count firings m 0 = rw (z, n) refl in
-      let s = run-same x S capacity low firings m q H in
+      let s = run-same x S kinds capacity low firings m q H in
       record {
         made = i .0 ∙ ap (λ (t : Ran). t .count) r ∙ s .1;
         stands = subst (λ (t : List ℕ). Standing t (afterSteps x (runSteps x capacity firings q) q)) (sym (i .1 ∙ ap (λ (t : Ran). t .mem) r)) (s .0);
@@ -123,28 +124,28 @@ module _ (x : Exp) (S : Sound (madeOf x)) (capacity : ℕ) (low : 1 ≤ capacity
   takes-alike m m′ A = go (decAble (places capacity) (takeFrom (madeOf x)) (A .links))
     where
       st : standing m ≡ 0
-      st = stands-well (madeOf x) S capacity low high m (A .links) (A .first)
+      st = stands-well (madeOf x) S kinds capacity low high m (A .links) (A .first)
 
       st′ : standing m′ ≡ 0
-      st′ = stands-well (madeOf x) S capacity low high m′ (A .links) (A .second)
+      st′ = stands-well (madeOf x) S kinds capacity low high m′ (A .links) (A .second)
 
       go : Dec (Able (places capacity) (takeFrom (madeOf x)) (A .links)) → TakesAlike (taken m (replicate 80 0)) (taken m′ (replicate 80 0))
       go (yes a) =
-          let e = take-accepted (madeOf x) S capacity low high m (A .links) (A .first) st (replicate 80 0) room a in
-          let f = take-accepted (madeOf x) S capacity low high m′ (A .links) (A .second) st′ (replicate 80 0) room a in
+          let e = take-accepted (madeOf x) S kinds capacity low high m (A .links) (A .first) st (replicate 80 0) room a in
+          let f = take-accepted (madeOf x) S kinds capacity low high m′ (A .links) (A .second) st′ (replicate 80 0) room a in
           rw (e, f)
           (record {
             same-answer = refl;
             same-out = refl;
             alike = record {
               links = act (takeFrom (madeOf x)) (A .links);
-              first = stands-taken (madeOf x) S capacity low high m (A .links) (A .first) a;
-              second = stands-taken (madeOf x) S capacity low high m′ (A .links) (A .second) a;
+              first = stands-taken (madeOf x) S kinds capacity low high m (A .links) (A .first) a;
+              second = stands-taken (madeOf x) S kinds capacity low high m′ (A .links) (A .second) a;
             };
           })
       go (no n) =
-          let e = take-refused (madeOf x) S capacity low high m (A .links) (A .first) st (replicate 80 0) room n in
-          let f = take-refused (madeOf x) S capacity low high m′ (A .links) (A .second) st′ (replicate 80 0) room n in
+          let e = take-refused (madeOf x) S kinds capacity low high m (A .links) (A .first) st (replicate 80 0) room n in
+          let f = take-refused (madeOf x) S kinds capacity low high m′ (A .links) (A .second) st′ (replicate 80 0) room n in
           rw (e, f) (record { same-answer = refl; same-out = refl; alike = A })
 
   pub lines-alike : (a b : Handed) → TakesAlike a b → lineBy a ≡ lineBy b
@@ -155,10 +156,10 @@ module _ (x : Exp) (S : Sound (madeOf x)) (capacity : ℕ) (low : 1 ≤ capacity
 
   pub record FeedsAlike (f g : Fed) : Type 0 where
     pub same-rest : f .rest ≡ g .rest
-    pub whole : EachWhole (madeOf x .inputs) (f .rest)
+    pub whole : EachWhole kinds (f .rest)
     pub alike : Alike (f .mem) (g .mem)
 
-  pub feeds-alike : (ss : List (List ℕ)) → EachWhole (madeOf x .inputs) ss → (m m′ : List ℕ) → Alike m m′ → FeedsAlike (feeding ss m) (feeding ss m′)
+  pub feeds-alike : (ss : List (List ℕ)) → EachWhole kinds ss → (m m′ : List ℕ) → Alike m m′ → FeedsAlike (feeding ss m) (feeding ss m′)
   feeds-alike [] w m m′ A = rw (feed-none m, feed-none m′) (record { same-rest = refl; whole = tt; alike = A })
   feeds-alike (s ∷ ss) w m m′ A =
       go (ℕ-discrete (pushed m s .answer .refusal) 0) (pushes-alike s (w .0) m m′ A) (λ B. feeds-alike ss (w .1) (pushed m s .mem) (pushed m′ s .mem) B)
@@ -207,10 +208,10 @@ module _ (x : Exp) (S : Sound (madeOf x)) (capacity : ℕ) (low : 1 ≤ capacity
     pub same-remaining : (n : ℕ) → remainingAfter n p ≡ remainingAfter n r
     pub same-left : p .left ≡ r .left
     pub same-rest : p .rest ≡ r .rest
-    pub whole : EachWhole (madeOf x .inputs) (p .rest)
+    pub whole : EachWhole kinds (p .rest)
     pub alike : Alike (p .mem) (r .mem)
 
-  pass-alike : (rest : List (List ℕ)) → EachWhole (madeOf x .inputs) rest → (m m′ : List ℕ) (left : ℕ) → Alike m m′
+  pass-alike : (rest : List (List ℕ)) → EachWhole kinds rest → (m m′ : List ℕ) (left : ℕ) → Alike m m′
       → PassesAlike (passOf rest m left) (passOf rest m′ left)
   unfolding passOf partOf remainingAfter
   pass-alike rest w m m′ left A =
@@ -228,7 +229,7 @@ module _ (x : Exp) (S : Sound (madeOf x)) (capacity : ℕ) (low : 1 ≤ capacity
 
   -- ---- the loop
 
-  pub same-passes : (f n : ℕ) (rest : List (List ℕ)) → EachWhole (madeOf x .inputs) rest → (m m′ : List ℕ) (left : ℕ) → Alike m m′
+  pub same-passes : (f n : ℕ) (rest : List (List ℕ)) → EachWhole kinds rest → (m m′ : List ℕ) (left : ℕ) → Alike m m′
       → passes f n rest m left ≡ passes f n rest m′ left
   unfolding passes
   same-passes zero n rest w m m′ left A = refl

@@ -59,27 +59,27 @@ repeats-once (suc n) rest m left out out′ last last′ (again i a b c later en
 -- ---- as the code has it
 
 -- A stage from which the loop ends: the sets that wait in the file, and the calls that led here.
-pub record Proceeds (inputs : ℕ) (file : List ℕ) (stage : Stage) (m : List ℕ) : Type 0 where
+pub record Proceeds (kinds file : List ℕ) (stage : Stage) (m : List ℕ) : Type 0 where
   pub rest : List (List ℕ)
-  pub waits : Waiting inputs file (stage .at) rest
+  pub waits : Waiting kinds file (stage .at) rest
   pub going : Going (stage .remaining) rest m
 
 -- The loop has made every repetition: whatever sets wait, the memory is the one that they leave.
-abbrev pub RepeatsTo : ℕ → List ℕ → Stage → List ℕ → List ℕ → Type 0
-RepeatsTo inputs file stage m last =
-    (rest : List (List ℕ)) → Waiting inputs file (stage .at) rest → (out : List ℕ) × Repeats (stage .remaining) rest m (stage .firings) out last
+abbrev pub RepeatsTo : List ℕ → List ℕ → Stage → List ℕ → List ℕ → Type 0
+RepeatsTo kinds file stage m last =
+    (rest : List (List ℕ)) → Waiting kinds file (stage .at) rest → (out : List ℕ) × Repeats (stage .remaining) rest m (stage .firings) out last
 
 -- A loop that has come from one stage to another: what the repetitions from there on leave, those from the first leave.
-abbrev pub ComesTo : ℕ → List ℕ → Stage → List ℕ → Stage → List ℕ → Type 0
-ComesTo inputs file stage₀ m₀ stage m = (last : List ℕ) → RepeatsTo inputs file stage m last → RepeatsTo inputs file stage₀ m₀ last
+abbrev pub ComesTo : List ℕ → List ℕ → Stage → List ℕ → Stage → List ℕ → Type 0
+ComesTo kinds file stage₀ m₀ stage m = (last : List ℕ) → RepeatsTo kinds file stage m last → RepeatsTo kinds file stage₀ m₀ last
 
-pub record ProceedsOn (inputs : ℕ) (file : List ℕ) (stage r : Stage) (m′ : List ℕ) : Type 0 where
-  pub on : Proceeds inputs file r m′
+pub record ProceedsOn (kinds file : List ℕ) (stage r : Stage) (m′ : List ℕ) : Type 0 where
+  pub on : Proceeds kinds file r m′
   pub less : r .remaining + r .firings < stage .remaining + stage .firings
 
-pub proceeds-on : (inputs : ℕ) (file : List ℕ) (stage : Stage) (m : List ℕ) (r : Stage) (m′ out : List ℕ) → Proceeds inputs file stage m → 0 < stage .remaining
-    → PassesTo inputs file stage m r m′ out → ProceedsOn inputs file stage r m′
-proceeds-on inputs file stage m r m′ out p h f =
+pub proceeds-on : (kinds file : List ℕ) (stage : Stage) (m : List ℕ) (r : Stage) (m′ out : List ℕ) → Proceeds kinds file stage m → 0 < stage .remaining
+    → PassesTo kinds file stage m r m′ out → ProceedsOn kinds file stage r m′
+proceeds-on kinds file stage m r m′ out p h f =
     let t = f (p .rest) (p .waits) in
     let o = goes-on (stage .remaining) (p .rest) m (stage .firings) (p .going) h in
     let a = passOf (p .rest) m (stage .firings) in
@@ -101,9 +101,9 @@ repeats-on : (n : ℕ) (rest : List (List ℕ)) (m : List ℕ) (left : ℕ) (out
 repeats-on zero rest m left out last h r = absurd (omega arith)
 repeats-on (suc n) rest m left out last h r = again n rest m left out last r
 
-pub comes-on : (inputs : ℕ) (file : List ℕ) (stage₀ : Stage) (m₀ : List ℕ) (stage : Stage) (m : List ℕ) (r : Stage) (m′ out : List ℕ) → 0 < stage .remaining
-    → PassesTo inputs file stage m r m′ out → ComesTo inputs file stage₀ m₀ stage m → ComesTo inputs file stage₀ m₀ r m′
-comes-on inputs file stage₀ m₀ stage m r m′ out h f c last t =
+pub comes-on : (kinds file : List ℕ) (stage₀ : Stage) (m₀ : List ℕ) (stage : Stage) (m : List ℕ) (r : Stage) (m′ out : List ℕ) → 0 < stage .remaining
+    → PassesTo kinds file stage m r m′ out → ComesTo kinds file stage₀ m₀ stage m → ComesTo kinds file stage₀ m₀ r m′
+comes-on kinds file stage₀ m₀ stage m r m′ out h f c last t =
     c last
     (λ rest w.
     let p = f rest w in
@@ -113,7 +113,7 @@ comes-on inputs file stage₀ m₀ stage m r m′ out h f c last t =
     = rw (sym (p .remaining-is), sym (p .memory), sym (p .firings-are)) (e .1) in
     (partOf a ++ e .0, repeats-on (stage .remaining) rest m (stage .firings) (e .0) last h g))
 
-pub comes-to-end : (inputs : ℕ) (file : List ℕ) (stage₀ : Stage) (m₀ : List ℕ) (stage : Stage) (m : List ℕ) → stage .remaining ≡ 0
-    → ComesTo inputs file stage₀ m₀ stage m → RepeatsTo inputs file stage₀ m₀ m
-comes-to-end inputs file stage₀ m₀ stage m e c =
+pub comes-to-end : (kinds file : List ℕ) (stage₀ : Stage) (m₀ : List ℕ) (stage : Stage) (m : List ℕ) → stage .remaining ≡ 0
+    → ComesTo kinds file stage₀ m₀ stage m → RepeatsTo kinds file stage₀ m₀ m
+comes-to-end kinds file stage₀ m₀ stage m e c =
     c m (λ rest w. ([], subst (λ (n : ℕ). Repeats n rest m (stage .firings) [] m) (sym e) (none-left rest m (stage .firings))))

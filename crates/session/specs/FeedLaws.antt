@@ -10,7 +10,7 @@ use lib.ListN.{length, take, drop, length-drop}
 use lib.Seq.{drop-drop, take-at}
 use Rattle.value.specs.Operators.{pick}
 use Rattle.machine_calls.specs.Calls.{Outcome, pushed, outcome}
-use Rattle.text.specs.SetLines.{linesOf, isSetLine, fieldBytes, SetFile, sets, badLine, oneMore, setsFrom}
+use Rattle.text.specs.SetLines.{linesOf, lineAt, isSetLine, fieldBytes, SetFile, sets, badLine, oneMore, setsFrom}
 use Rattle.text.specs.SetLineLaws.{bad-line, good-line, no-line, set-line-fits, bytes-length}
 use Rattle.session.specs.Passes.{Fed, fed, feeding}
 use Rattle.session.specs.Waiting.{Waiting, FeedsTo}
@@ -36,71 +36,71 @@ unfolding oneMore
 one-more-sets b (sets ts) ss e = (ts, refl, let z : sets (b ∷ ts) ≡ sets ss = e in cc)
 one-more-sets b (badLine i) ss e = let z : _≡_ {A = ℕ} 0 1 = cc in absurd (omega arith)
 
-module _ (k : ℕ) (s : List ℕ) (at : ℕ) where
+module _ (kinds s : List ℕ) (at : ℕ) where
   abbrev line : List ℕ
-  line = take (11 * k + 1) (drop at s)
+  line = lineAt kinds s at
 
-  pub waiting-set : (rest : List (List ℕ)) → Waiting k s at rest → isSetLine k line ≡ true
-      → (ts : List (List ℕ)) × Waiting k s (at + (11 * k + 1)) ts × (rest ≡ fieldBytes k line ∷ ts)
+  pub waiting-set : (rest : List (List ℕ)) → Waiting kinds s at rest → isSetLine kinds line ≡ true
+      → (ts : List (List ℕ)) × Waiting kinds s (at + (11 * length kinds + 1)) ts × (rest ≡ fieldBytes (length kinds) line ∷ ts)
   waiting-set rest w e =
-      let g = good-line k (w .line) (drop at s) e in
-      let o = one-more-sets (fieldBytes k line) (setsFrom k (suc (w .line)) (linesOf (drop (11 * k + 1) (drop at s)))) rest (sym g ∙ w .lines-are) in (
+      let g = good-line kinds (w .line) (drop at s) e in
+      let o = one-more-sets (fieldBytes (length kinds) line) (setsFrom kinds (suc (w .line)) (linesOf (drop (11 * length kinds + 1) (drop at s)))) rest (sym g ∙ w .lines-are) in (
         o .0,
-        record { line = suc (w .line); lines-are = ap (λ (x : List ℕ). setsFrom k (suc (w .line)) (linesOf x)) (sym (drop-drop (11 * k + 1) at s)) ∙ o .1 },
+        record { line = suc (w .line); lines-are = ap (λ (x : List ℕ). setsFrom kinds (suc (w .line)) (linesOf x)) (sym (drop-drop (11 * length kinds + 1) at s)) ∙ o .1 },
         o .2,
       )
 
-  pub waiting-bad : (rest : List (List ℕ)) → Waiting k s at rest → at < length s → isSetLine k line ≡ false → ⊥
+  pub waiting-bad : (rest : List (List ℕ)) → Waiting kinds s at rest → at < length s → isSetLine kinds line ≡ false → ⊥
   waiting-bad rest w h e =
-      let g = bad-line k (w .line) (drop at s) (rw (length-drop at s) (omega arith)) e in
+      let g = bad-line kinds (w .line) (drop at s) (rw (length-drop at s) (omega arith)) e in
       let z : badLine (w .line) ≡ sets rest = sym g ∙ w .lines-are in
       let y : _≡_ {A = ℕ} 0 1 = cc in omega arith
 
-  pub waiting-none : (rest : List (List ℕ)) → Waiting k s at rest → length s ≤ at → rest ≡ []
+  pub waiting-none : (rest : List (List ℕ)) → Waiting kinds s at rest → length s ≤ at → rest ≡ []
   waiting-none rest w h =
-      let g = no-line k (w .line) (drop at s) (rw (length-drop at s) (omega arith)) in
+      let g = no-line kinds (w .line) (drop at s) (rw (length-drop at s) (omega arith)) in
       let z : sets [] ≡ sets rest = sym g ∙ w .lines-are in
       cc
 
 -- ---- a feed that has come to `next`
 
-pub record FedOn (k : ℕ) (s : List ℕ) (at : ℕ) (m₀ : List ℕ) (next : ℕ) (m : List ℕ) : Type 0 where
-  pub on : (rest : List (List ℕ)) → Waiting k s at rest → (ts : List (List ℕ)) × Waiting k s next ts × (feeding rest m₀ ≡ feeding ts m)
+pub record FedOn (kinds s : List ℕ) (at : ℕ) (m₀ : List ℕ) (next : ℕ) (m : List ℕ) : Type 0 where
+  pub on : (rest : List (List ℕ)) → Waiting kinds s at rest → (ts : List (List ℕ)) × Waiting kinds s next ts × (feeding rest m₀ ≡ feeding ts m)
 
-pub fed-start : (k : ℕ) (s : List ℕ) (at : ℕ) (m : List ℕ) → FedOn k s at m at m
-fed-start k s at m = record { on = λ rest w. (rest, w, refl) }
+pub fed-start : (kinds s : List ℕ) (at : ℕ) (m : List ℕ) → FedOn kinds s at m at m
+fed-start kinds s at m = record { on = λ rest w. (rest, w, refl) }
 
-module _ (k : ℕ) (s : List ℕ) (at : ℕ) (m₀ : List ℕ) (next : ℕ) (m : List ℕ) (f : FedOn k s at m₀ next m) where
-  pub fed-more : isSetLine k (take (11 * k + 1) (drop next s)) ≡ true → pushed m (fieldBytes k (take (11 * k + 1) (drop next s))) .answer .refusal ≡ 0
-      → FedOn k s at m₀ (next + (11 * k + 1)) (pushed m (fieldBytes k (take (11 * k + 1) (drop next s))) .mem)
+module _ (kinds s : List ℕ) (at : ℕ) (m₀ : List ℕ) (next : ℕ) (m : List ℕ) (f : FedOn kinds s at m₀ next m) where
+  pub fed-more : isSetLine kinds (lineAt kinds s next) ≡ true → pushed m (fieldBytes (length kinds) (lineAt kinds s next)) .answer .refusal ≡ 0
+      → FedOn kinds s at m₀ (next + (11 * length kinds + 1)) (pushed m (fieldBytes (length kinds) (lineAt kinds s next)) .mem)
   fed-more e a =
       record {
         on = λ rest w.
             let o = f .on rest w in
-            let p = waiting-set k s next (o .0) (o .1) e in
-            (p .0, p .1, o .2 ∙ ap (λ (x : List (List ℕ)). feeding x m) (p .2) ∙ feed-accepted (fieldBytes k (take (11 * k + 1) (drop next s))) (p .0) m a);
+            let p = waiting-set kinds s next (o .0) (o .1) e in
+            (p .0, p .1, o .2 ∙ ap (λ (x : List (List ℕ)). feeding x m) (p .2) ∙ feed-accepted (fieldBytes (length kinds) (lineAt kinds s next)) (p .0) m a);
       }
 
-  pub fed-stop : isSetLine k (take (11 * k + 1) (drop next s)) ≡ true → (pushed m (fieldBytes k (take (11 * k + 1) (drop next s))) .answer .refusal ≡ 0 → ⊥)
-      → FeedsTo k s at m₀ next (pushed m (fieldBytes k (take (11 * k + 1) (drop next s))) .mem)
+  pub fed-stop : isSetLine kinds (lineAt kinds s next) ≡ true → (pushed m (fieldBytes (length kinds) (lineAt kinds s next)) .answer .refusal ≡ 0 → ⊥)
+      → FeedsTo kinds s at m₀ next (pushed m (fieldBytes (length kinds) (lineAt kinds s next)) .mem)
   fed-stop e n rest w =
       let o = f .on rest w in
-      let p = waiting-set k s next (o .0) (o .1) e in
-      let r : feeding rest m₀ ≡ fed (pushed m (fieldBytes k (take (11 * k + 1) (drop next s))) .mem) (o .0) =
-      o .2 ∙ ap (λ (x : List (List ℕ)). feeding x m) (p .2) ∙ feed-refused (fieldBytes k (take (11 * k + 1) (drop next s))) (p .0) m n
-      ∙ ap (fed (pushed m (fieldBytes k (take (11 * k + 1) (drop next s))) .mem)) (sym (p .2)) in
-      (ap (λ (x : Fed). x .mem) (sym r), subst (λ (x : Fed). Waiting k s next (x .rest)) (sym r) (o .1))
+      let p = waiting-set kinds s next (o .0) (o .1) e in
+      let r : feeding rest m₀ ≡ fed (pushed m (fieldBytes (length kinds) (lineAt kinds s next)) .mem) (o .0) =
+      o .2 ∙ ap (λ (x : List (List ℕ)). feeding x m) (p .2) ∙ feed-refused (fieldBytes (length kinds) (lineAt kinds s next)) (p .0) m n
+      ∙ ap (fed (pushed m (fieldBytes (length kinds) (lineAt kinds s next)) .mem)) (sym (p .2)) in
+      (ap (λ (x : Fed). x .mem) (sym r), subst (λ (x : Fed). Waiting kinds s next (x .rest)) (sym r) (o .1))
 
-  pub fed-bad : next < length s → isSetLine k (take (11 * k + 1) (drop next s)) ≡ false → FeedsTo k s at m₀ next m
-  fed-bad h e rest w = let o = f .on rest w in absurd (waiting-bad k s next (o .0) (o .1) h e)
+  pub fed-bad : next < length s → isSetLine kinds (lineAt kinds s next) ≡ false → FeedsTo kinds s at m₀ next m
+  fed-bad h e rest w = let o = f .on rest w in absurd (waiting-bad kinds s next (o .0) (o .1) h e)
 
-  pub fed-end : length s ≤ next → FeedsTo k s at m₀ next m
+  pub fed-end : length s ≤ next → FeedsTo kinds s at m₀ next m
   fed-end h rest w =
       let o = f .on rest w in
       let r : feeding rest m₀ ≡ fed m (o .0) =
-      o .2 ∙ ap (λ (x : List (List ℕ)). feeding x m) (waiting-none k s next (o .0) (o .1) h) ∙ feed-none m
-      ∙ ap (fed m) (sym (waiting-none k s next (o .0) (o .1) h)) in
-      (ap (λ (x : Fed). x .mem) (sym r), subst (λ (x : Fed). Waiting k s next (x .rest)) (sym r) (o .1))
+      o .2 ∙ ap (λ (x : List (List ℕ)). feeding x m) (waiting-none kinds s next (o .0) (o .1) h) ∙ feed-none m
+      ∙ ap (fed m) (sym (waiting-none kinds s next (o .0) (o .1) h)) in
+      (ap (λ (x : Fed). x .mem) (sym r), subst (λ (x : Fed). Waiting kinds s next (x .rest)) (sym r) (o .1))
 
 -- The bytes that are lent to push are the line's.
 pub set-lent : (k : ℕ) (l o t : List ℕ) → t ≡ fieldBytes k l ++ o → take (5 * k) t ≡ fieldBytes k l

@@ -4,6 +4,7 @@ pub mod PassLaws
 pub mod FeedLaws
 pub mod StageLaws
 pub mod Output
+pub mod LongLines
 pub mod OutputLaws
 pub mod Opening
 pub mod OpeningLaws

@@ -16,9 +16,10 @@ use Rattle.value.specs.Operators.{pick}
 use Rattle.formula.specs.declared.Refusal.the-variants.{NotAble}
 use Rattle.formula.specs.Refusals.{numberOf}
 use Rattle.formula.specs.Tree.{Exp, formulaOf}
+use Rattle.formula.specs.Faults.{lettersOf}
 use Rattle.network.specs.Net.{Links}
 use Rattle.graph.specs.Translation.{madeOf}
-use Rattle.machine_layout.specs.Layout.{operatorsOf, inputsOf, untakenOf, capacityIn, sizeOf, need}
+use Rattle.machine_layout.specs.Layout.{operatorsOf, untakenOf, capacityIn, sizeOf, need}
 use Rattle.machine_firing.specs.Fire.{ableAt}
 use Rattle.machine_runs.specs.Run.{stillAt}
 use Rattle.machine_calls.specs.Calls.{Outcome, sizeIn, standing, pushed, fired, ran, taken}
@@ -50,19 +51,19 @@ linesOf (r ∷ rs) = lineOf r ++ linesOf rs
 
 -- ---- a feed and a drain as calls
 
-module _ (start : List ℕ) (k : ℕ) where
+module _ (start kinds : List ℕ) where
   -- What a feed leaves: these sets more are pushed, and it stops at a refused one or at the end.
   pub record FeedReached (ss : List (List ℕ)) (s : List (List ℕ)) (r : List Result) (f : Fed) : Type 0 where
     pub more : List (List ℕ)
     pub reached : Reached start (f .mem) (s ++ more) r
     pub all-sets : more ++ f .rest ≡ ss
-    pub whole : EachWhole k (f .rest)
+    pub whole : EachWhole kinds (f .rest)
     pub stopped : (t : List ℕ) (ts : List (List ℕ)) → f .rest ≡ t ∷ ts → pushed (f .mem) t .answer .refusal ≢ 0
 
   head-is : (t u : List ℕ) (ts us : List (List ℕ)) → _≡_ {A = List (List ℕ)} (t ∷ ts) (u ∷ us) → t ≡ u
   head-is t u ts us e = cc
 
-  pub feed-reached : (ss : List (List ℕ)) (m : List ℕ) (s : List (List ℕ)) (r : List Result) → Reached start m s r → EachWhole k ss → FeedReached ss s r (feeding ss m)
+  pub feed-reached : (ss : List (List ℕ)) (m : List ℕ) (s : List (List ℕ)) (r : List Result) → Reached start m s r → EachWhole kinds ss → FeedReached ss s r (feeding ss m)
   feed-reached [] m s r R w =
       rw (feed-none m)
       (record {
@@ -147,12 +148,15 @@ drains-one m e =
 
 -- ---- the loop underway
 
-module _ (sheet : List ℕ) (capacity : ℕ) (memory : List ℕ) (h : started sheet capacity memory .answer .refusal ≡ 0) where
+module _ (sheet line : List ℕ) (capacity : ℕ) (memory : List ℕ) (h : started sheet line capacity memory .answer .refusal ≡ 0) where
   abbrev start : List ℕ
-  start = started sheet capacity memory .mem
+  start = started sheet line capacity memory .mem
 
   abbrev x : Exp
   x = formulaOf sheet
+
+  abbrev kinds : List ℕ
+  kinds = lettersOf (formulaOf sheet) line
 
   -- Of the sets `all`, n are not taken yet, and `rest`, the last of them, not pushed.
   pub record Underway (all : List (List ℕ)) (n : ℕ) (rest : List (List ℕ)) (m : List ℕ) : Type 0 where
@@ -161,11 +165,11 @@ module _ (sheet : List ℕ) (capacity : ℕ) (memory : List ℕ) (h : started sh
     pub reached : Reached start m sets results
     pub in-order : sets ++ rest ≡ all
     pub counts : length results + n ≡ length all
-    pub whole : EachWhole (madeOf x .inputs) rest
+    pub whole : EachWhole kinds rest
 
   -- The machine stands after every list of calls.
-  stands-now : (calls : List Call) → (q : Links) × Stands (madeOf x) capacity (memoryAfterAll calls start) q
-  stands-now calls = machine-stands sheet capacity memory h calls
+  stands-now : (calls : List Call) → (q : Links) × Stands (madeOf x) kinds capacity (memoryAfterAll calls start) q
+  stands-now calls = machine-stands sheet line capacity memory h calls
 
   -- The same operators and capacity at every time, and neither 11 nor 31.
   pub same-machine : (m : List ℕ) (s : List (List ℕ)) (r : List Result) → Reached start m s r
@@ -173,7 +177,7 @@ module _ (sheet : List ℕ) (capacity : ℕ) (memory : List ℕ) (h : started sh
   same-machine m s r R =
       let S = stands-now (R .calls) .1 in
       subst (λ (z : List ℕ). (operatorsOf z ≡ length (madeOf x .operators)) × (sizeIn z ≡ sizeOf (capacityIn capacity)) × (standing z ≡ 0)) (R .memory)
-      (S .operators-are, ap (λ (c : ℕ). sizeOf (capacityIn c)) (S .capacity-is), never-short sheet capacity memory h (R .calls))
+      (S .operators-are, ap (λ (c : ℕ). sizeOf (capacityIn c)) (S .capacity-is), never-short sheet line capacity memory h (R .calls))
 
   abbrev Still : List ℕ → Type 0
   Still m = (i : ℕ) → i < operatorsOf m → answerOf (fire (length m) i) m .refusal ≡ numberOf NotAble
@@ -195,17 +199,16 @@ module _ (sheet : List ℕ) (capacity : ℕ) (memory : List ℕ) (h : started sh
     still : Still (memoryAfterAll (R .calls) start)
     still = subst Still (sym (R .memory)) (still-now m here st)
 
-    pushes : length r ≡ length s → (t : List ℕ) → setOk (madeOf x .inputs) t ≡ true → pushed m t .answer .refusal ≡ 0
+    pushes : length r ≡ length s → (t : List ℕ) → setOk kinds t ≡ true → pushed m t .answer .refusal ≡ 0
     unfolding answerOf
     pushes e t w =
-        let k : inputsOf (memoryAfterAll (R .calls) start) ≡ madeOf x .inputs = stands-now (R .calls) .1 .inputs-are in
-        let p = push-accepted-when-still sheet capacity memory h (R .calls) still (ap length (R .results-are) ∙ e ∙ ap length (sym (R .sets-are))) (length m) t long (rw k w) in
+        let p = push-accepted-when-still sheet line capacity memory h (R .calls) still (ap length (R .results-are) ∙ e ∙ ap length (sym (R .sets-are))) (length m) t long w in
         ap (λ (z : List ℕ). pushed z t .answer .refusal) (sym (ap {B = List ℕ} (λ z. z) (take-length m)))
         ∙ rw (R .memory) at p
 
     takes : (length r ≡ length s) ⊎ (takenFrom m .answer .refusal ≡ 0)
     unfolding answerOf takenFrom
-    takes = go (demand-3 sheet capacity memory h (R .calls) .ready still)
+    takes = go (demand-3 sheet line capacity memory h (R .calls) .ready still)
       where
         go : (length (resultsTaken (R .calls) start) ≡ length (setsPushed (R .calls) start))
             ⊎ ((lent : ℕ) (out : List ℕ) → need (sizeOf capacity) ≤ lent → 80 ≤ length out → answerOf (take lent out) (memoryAfterAll (R .calls) start) .refusal ≡ 0)
@@ -227,14 +230,14 @@ module _ (sheet : List ℕ) (capacity : ℕ) (memory : List ℕ) (h : started sh
     abbrev d : Drained
     d = drainedOf (a .mem)
 
-    pub F : FeedReached start (madeOf x .inputs) rest (U .sets) (U .results) f
-    F = feed-reached start (madeOf x .inputs) rest m (U .sets) (U .results) (U .reached) (U .whole)
+    pub F : FeedReached start kinds rest (U .sets) (U .results) f
+    F = feed-reached start kinds rest m (U .sets) (U .results) (U .reached) (U .whole)
 
     pub A : Reached start (a .mem) (U .sets ++ F .more) (U .results)
     A = after-run start (f .mem) (U .sets ++ F .more) (U .results) (F .reached) left
 
-    pub D : DrainReached start (madeOf x .inputs) (U .sets ++ F .more) (U .results) d
-    D = drained-reached start (madeOf x .inputs) (a .mem) (U .sets ++ F .more) (U .results) A
+    pub D : DrainReached start kinds (U .sets ++ F .more) (U .results) d
+    D = drained-reached start kinds (a .mem) (U .sets ++ F .more) (U .results) A
 
     pub all-here : (U .sets ++ F .more) ++ f .rest ≡ all
     all-here = append-assoc (U .sets) (F .more) (f .rest) ∙ ap (λ (z : List (List ℕ)). U .sets ++ z) (F .all-sets) ∙ U .in-order
@@ -244,7 +247,7 @@ module _ (sheet : List ℕ) (capacity : ℕ) (memory : List ℕ) (h : started sh
     few-taken =
         omega (
           arith,
-          demand-3 sheet capacity memory h (D .reached .calls) .none-invented,
+          demand-3 sheet line capacity memory h (D .reached .calls) .none-invented,
           ap length (D .reached .results-are) ∙ length-append (U .results) (D .more),
           ap length (D .reached .sets-are),
           D .count-is,
@@ -277,7 +280,7 @@ module _ (sheet : List ℕ) (capacity : ℕ) (memory : List ℕ) (h : started sh
         st : stillAt (f .mem) (sizeIn (f .mem)) (operatorsOf (f .mem)) ≡ true
         st = subst (λ (y : List ℕ). stillAt y (sizeIn (f .mem)) (operatorsOf (f .mem)) ≡ true) (unfired z) (C .accepted e)
 
-        none-pushed : (ts : List (List ℕ)) → f .rest ≡ ts → EachWhole (madeOf x .inputs) ts → length (U .results) ≡ length (U .sets ++ F .more) → 1 ≤ d .count
+        none-pushed : (ts : List (List ℕ)) → f .rest ≡ ts → EachWhole kinds ts → length (U .results) ≡ length (U .sets ++ F .more) → 1 ≤ d .count
         none-pushed [] q w i = absurd (omega (arith, i, U .counts, pushed-or-waiting, ap length q))
         none-pushed (t ∷ ts) q w i =
             absurd (F .stopped t ts q (pushes (f .mem) (U .sets ++ F .more) (U .results) (F .reached) st i t (w .0)))
@@ -298,8 +301,8 @@ module _ (sheet : List ℕ) (capacity : ℕ) (memory : List ℕ) (h : started sh
 
 pub data Going (n : ℕ) (rest : List (List ℕ)) (m : List ℕ) : Type 0 where
   over : n ≡ 0 → Going n rest m
-  on : (sheet : List ℕ) (capacity : ℕ) (memory : List ℕ) (h : started sheet capacity memory .answer .refusal ≡ 0) (all : List (List ℕ))
-      → Underway sheet capacity memory h all n rest m → Going n rest m
+  on : (sheet line : List ℕ) (capacity : ℕ) (memory : List ℕ) (h : started sheet line capacity memory .answer .refusal ≡ 0) (all : List (List ℕ))
+      → Underway sheet line capacity memory h all n rest m → Going n rest m
 
 module _ (n : ℕ) (rest : List (List ℕ)) (m : List ℕ) (left : ℕ) where
   abbrev p : Pass
@@ -313,15 +316,15 @@ module _ (n : ℕ) (rest : List (List ℕ)) (m : List ℕ) (left : ℕ) where
   pub goes-on : Going n rest m → 0 < n → GoesOn
   unfolding passOf
   goes-on (over e) h = absurd (omega arith)
-  goes-on (on sheet capacity memory i all U) h = go (ℕ-discrete (ran (feeding rest m .mem) left .answer .refusal) 0)
+  goes-on (on sheet line capacity memory i all U) h = go (ℕ-discrete (ran (feeding rest m .mem) left .answer .refusal) 0)
     where
       go : Dec (ran (feeding rest m .mem) left .answer .refusal ≡ 0) → GoesOn
       go (yes e) =
           let k = remaining-plain rest m left n e in
           record {
             going =
-                subst (λ (i : ℕ). Going i (p .rest) (p .mem)) (sym k) (on sheet capacity memory i all (underway-on sheet capacity memory i all n rest m left U));
-            less = omega (arith, k, less-to-do sheet capacity memory i all n rest m left U h e);
+                subst (λ (i : ℕ). Going i (p .rest) (p .mem)) (sym k) (on sheet line capacity memory i all (underway-on sheet line capacity memory i all n rest m left U));
+            less = omega (arith, k, less-to-do sheet line capacity memory i all n rest m left U h e);
           }
       go (no e) =
           let k = remaining-refused rest m left n e in

@@ -1,4 +1,4 @@
--- How the program's output begins, as the opening's contract says it: the first part is printed, and what follows are the repetitions. Both files may go
+-- How the program's output begins, as the opening's contract says it: the first part is printed, and what follows are the repetitions. Each file may go
 -- on behind the bytes at hand, where those decide already. Assumes nothing.
 use Prim.Native.Nat.{ℕ, _+_, _≤_, _<_}
 use mathlib.Core.Path.{_≡_}
@@ -17,10 +17,14 @@ use Rattle.text.specs.SetLines.{SetFile as Sets, sets, badLine, setsOf}
 use Rattle.text.specs.Scan.{seenOf, seenLaidOut}
 use Rattle.session.specs.declared.Stage.{Stage}
 use Rattle.session.specs.declared.Opened.{Opened}
-use Rattle.session.specs.Passes.{passes}
+use Rattle.session.specs.Passes.{outBytes, passes}
 use Rattle.session.specs.Waiting.{Waiting}
 use Rattle.session.specs.Onward.{Going}
 use Rattle.session.specs.Output.{linkCapacity, allFirings, mostSetBytes, mostSheetBytes, benchOutput}
+
+-- At most so many bytes of kinds.txt are at hand, more than a kinds line has (LongLines).
+abbrev pub kindsRead : ℕ
+kindsRead = 64
 
 -- The lengths of a refusal's line and of the first line.
 abbrev pub refusalBytes : ℕ
@@ -51,25 +55,34 @@ abbrev pub JudgesBy : Sets → ℕ → ℕ → ℕ → Opened → List ℕ → T
 JudgesBy (badLine i) inputs results end r out = Refuses (numberOf Set) i end r out
 JudgesBy (sets ss) inputs results end r out = Heads inputs results ss r out
 
-abbrev pub Judges : ℕ → ℕ → List ℕ → Opened → List ℕ → Type 0
-Judges inputs results file r out = JudgesBy (setsOf inputs file) inputs results (length file) r out
+abbrev pub Judges : List ℕ → ℕ → List ℕ → Opened → List ℕ → Type 0
+Judges kinds results file r out = JudgesBy (setsOf kinds file) (length kinds) results (length file) r out
 
 -- The sheet's first bytes, and what was seen of it in all: behind 200 rows the bytes themselves matter no more.
 pub record Whole (first : List ℕ) (x : Seen) (more : List ℕ) : Type 0 where
   pub seen-is : x ≡ seenOf (first ++ more)
   pub at-hand : (more ≡ []) ⊎ (mostSheetBytes ≤ length first)
 
-pub record Begins (formula file : List ℕ) (at-hand : List ℕ) (r : Opened) (m′ out : List ℕ) : Type 0 where
+-- The kinds are the letters of the inputs.
+pub record Begins (formula line file : List ℕ) (kinds at-hand : List ℕ) (r : Opened) (m′ out : List ℕ) : Type 0 where
   pub rest : List (List ℕ)
-  pub waits : Waiting (r .inputs) at-hand (r .stage .at) rest
+  pub waits : Waiting kinds at-hand (r .stage .at) rest
   pub going : Going (r .stage .remaining) rest m′
-  pub output-is : benchOutput formula file
+  pub output-is : benchOutput formula line file
       ≡ take (r .stage .printed) out ++ passes (r .stage .remaining + r .stage .firings) (r .stage .remaining) rest m′ (r .stage .firings)
 
--- The lent memory then: start was called, unless tests 1 and 2 of what was seen refuse the sheet before.
-unfoldable pub openedMemory : List ℕ → Seen → List ℕ → List ℕ
-openedMemory first x m = pick (seenLaidOut x && leb (x .length) mostSheetBytes) (started first linkCapacity m .mem) m
+-- The letters are at hand, the loop begins in the set file, and what is printed fits.
+pub record Within (line : List ℕ) (end : ℕ) (r : Opened) : Type 0 where
+  pub few : r .inputs ≤ 32
+  pub told : r .inputs ≤ length line
+  pub inside : r .stage .at ≤ end
+  pub fits : r .stage .printed ≤ outBytes
 
-abbrev pub OpensTo : List ℕ → Seen → List ℕ → Opened → List ℕ → List ℕ → Type 0
-OpensTo first x file r m′ out =
-    (more moreSets : List ℕ) → Whole first x more → (moreSets ≡ []) ⊎ (mostSetBytes < length file) → Begins (first ++ more) (file ++ moreSets) file r m′ out
+-- The lent memory then: start was called, unless tests 1 and 2 of what was seen refuse the sheet before.
+unfoldable pub openedMemory : List ℕ → Seen → List ℕ → List ℕ → List ℕ
+openedMemory first x line m = pick (seenLaidOut x && leb (x .length) mostSheetBytes) (started first line linkCapacity m .mem) m
+
+abbrev pub OpensTo : List ℕ → Seen → List ℕ → List ℕ → Opened → List ℕ → List ℕ → Type 0
+OpensTo first x line file r m′ out =
+    (more moreLine moreSets : List ℕ) → Whole first x more → (moreLine ≡ []) ⊎ (kindsRead ≤ length line) → (moreSets ≡ []) ⊎ (mostSetBytes < length file)
+    → Begins (first ++ more) (line ++ moreLine) (file ++ moreSets) (take (r .inputs) line) file r m′ out

@@ -1,5 +1,5 @@
--- What the bench program prints (document 01, "Program and readings"), from all bytes of formula.txt and sets.txt ("A missing file counts as empty"): "It
--- makes the sheet's tests, then 13, then 12 (lowest line), then prints inputs, results and sets in three six-character
+-- What the bench program prints (document 01, "Program and readings"; document 02, Job 6), from all bytes of formula.txt, kinds.txt and sets.txt ("A missing
+-- file counts as empty"): "It makes the sheet's tests, then 13, then 12 (lowest line), then prints inputs, results and sets in three six-character
 -- fields, then a line for each set with an 11-character field a result. A refusal prints its number and row (12: line)". Assumes nothing.
 use Prim.Native.Nat.{ℕ, _+_}
 use mathlib.Core.List.{List, _++_}
@@ -11,6 +11,8 @@ use Rattle.formula.specs.declared.Verdict.{Verdict}
 use Rattle.formula.specs.declared.Verdict.the-variants.{Passed, Refused}
 use Rattle.formula.specs.declared.Figures.{Figures}
 use Rattle.formula.specs.Refusals.{numberOf}
+use Rattle.formula.specs.Tree.{formulaOf}
+use Rattle.formula.specs.Faults.{lettersOf}
 use Rattle.formula.specs.Tests.{verdictOf, figuresOf}
 use Rattle.machine_layout.specs.Layout.{need, sizeOf}
 use Rattle.machine_start.specs.Start.{started}
@@ -34,27 +36,28 @@ abbrev pub mostSheetBytes : ℕ
 mostSheetBytes = 6200
 
 -- As many repetitions as there are sets and firings are enough (specs/OutputLaws).
-unfoldable pub judged : List ℕ → List ℕ → Figures → Sets → List ℕ
+unfoldable pub judged : List ℕ → List ℕ → List ℕ → Figures → Sets → List ℕ
 unfolding passes
-judged formula memory f (badLine i) = refusalLine (numberOf Set) i
-judged formula memory f (sets ss) =
-    headLine (f .inputs) (f .results) (length ss) ++ passes (length ss + allFirings) (length ss) ss (started formula linkCapacity memory .mem) allFirings
+judged formula line memory f (badLine i) = refusalLine (numberOf Set) i
+judged formula line memory f (sets ss) =
+    headLine (f .inputs) (f .results) (length ss) ++ passes (length ss + allFirings) (length ss) ss (started formula line linkCapacity memory .mem) allFirings
 
-unfoldable pub outputBy : Verdict → List ℕ → List ℕ → List ℕ → List ℕ
-unfolding judged
-outputBy (Refused r row) formula file memory = refusalLine (numberOf r) row
-outputBy Passed formula file memory =
-    pick (ltb mostSetBytes (length file)) (refusalLine (numberOf SetFile) 0) (judged formula memory (figuresOf formula) (setsOf (figuresOf formula .inputs) file))
+unfoldable pub outputBy : Verdict → List ℕ → List ℕ → List ℕ → List ℕ → List ℕ
+unfolding judged lettersOf
+outputBy (Refused r row) formula line file memory = refusalLine (numberOf r) row
+outputBy Passed formula line file memory =
+    pick (ltb mostSetBytes (length file)) (refusalLine (numberOf SetFile) 0)
+    (judged formula line memory (figuresOf formula) (setsOf (lettersOf (formulaOf formula) line) file))
 
 -- With a memory that is lent to the machine.
-unfoldable pub outputIn : List ℕ → List ℕ → List ℕ → List ℕ
+unfoldable pub outputIn : List ℕ → List ℕ → List ℕ → List ℕ → List ℕ
 unfolding outputBy
-outputIn memory formula file = outputBy (verdictOf formula) formula file memory
+outputIn memory formula line file = outputBy (verdictOf formula line) formula line file memory
 
 -- What was in that memory makes no difference (specs/OutputLaws); here it is all 0.
 unfoldable pub blankMemory : List ℕ
 blankMemory = replicate (need (sizeOf linkCapacity)) 0
 
-unfoldable pub benchOutput : List ℕ → List ℕ → List ℕ
+unfoldable pub benchOutput : List ℕ → List ℕ → List ℕ → List ℕ
 unfolding outputIn blankMemory
-benchOutput formula file = outputIn blankMemory formula file
+benchOutput formula line file = outputIn blankMemory formula line file

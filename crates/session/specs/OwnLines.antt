@@ -15,6 +15,7 @@ use Rattle.formula.specs.declared.Refusal.the-variants.{Unfinished}
 use Rattle.formula.specs.declared.Verdict.the-variants.{Passed}
 use Rattle.formula.specs.Refusals.{numberOf}
 use Rattle.formula.specs.Tree.{formulaOf}
+use Rattle.formula.specs.Faults.{lettersOf}
 use Rattle.formula.specs.Tests.{verdictOf, figuresOf}
 use Rattle.machine_layout.specs.Layout.{operatorsOf, capacityIn, sizeOf, need}
 use Rattle.graph.specs.Translation.{madeOf}
@@ -44,21 +45,21 @@ use Rattle.session.specs.OutputLaws.{blank-long, starts, underway, outpu
 -- ---- the claim
 
 -- What is printed behind the first line: the results taken, each in its line, and what ends them.
-pub record OwnLines (formula : List ℕ) (ss : List (List ℕ)) (out : List ℕ) : Type 0 where
+pub record OwnLines (formula line : List ℕ) (ss : List (List ℕ)) (out : List ℕ) : Type 0 where
   pub results : List Result
   pub ending : List ℕ
   pub out-is : out ≡ linesOf results ++ ending
   pub few : length results ≤ length ss
   -- "if direct evaluation of each of the first k sets pushed ends, the k-th result taken is exactly what it yields for the k-th set pushed" (k from 0)
-  pub own : (k : ℕ) → k < length results → ((j : ℕ) → j ≤ k → Ends formula (getD ss j [])) → (rounds : ℕ) → Enough formula (getD ss k []) rounds
-      → getD results k (result 0 []) ≡ yielded (evaluationOf formula (getD ss k []) rounds)
+  pub own : (k : ℕ) → k < length results → ((j : ℕ) → j ≤ k → Ends formula line (getD ss j [])) → (rounds : ℕ) → Enough formula line (getD ss k []) rounds
+      → getD results k (result 0 []) ≡ yielded (evaluationOf formula line (getD ss k []) rounds)
   -- every set has its line and nothing follows, or "36 prints last with row 0"
   pub ends : ((length results ≡ length ss) × (ending ≡ [])) ⊎ (ending ≡ refusalLine (numberOf Unfinished) 0)
 
 -- The lines that direct evaluation of some sets gives, with a number of rounds for each.
-unfoldable pub verdictLines : List ℕ → (List ℕ → ℕ) → List (List ℕ) → List ℕ
-verdictLines formula rounds [] = []
-verdictLines formula rounds (s ∷ ss) = lineOf (yielded (evaluationOf formula s (rounds s))) ++ verdictLines formula rounds ss
+unfoldable pub verdictLines : List ℕ → List ℕ → (List ℕ → ℕ) → List (List ℕ) → List ℕ
+verdictLines formula line rounds [] = []
+verdictLines formula line rounds (s ∷ ss) = lineOf (yielded (evaluationOf formula line s (rounds s))) ++ verdictLines formula line rounds ss
 
 -- ---- lines of results
 
@@ -68,20 +69,20 @@ lines-append [] b = refl
 lines-append (r ∷ a) b = ap (λ (z : List ℕ). lineOf r ++ z) (lines-append a b) ∙ sym (append-assoc (lineOf r) (linesOf a) (linesOf b))
 
 -- Results that are the sets' own have the sets' lines.
-lines-own : (formula : List ℕ) (rounds : List ℕ → ℕ) (rs : List Result) (ss : List (List ℕ)) → length rs ≤ length ss
-    → ((k : ℕ) → k < length rs → getD rs k (result 0 []) ≡ yielded (evaluationOf formula (getD ss k []) (rounds (getD ss k []))))
-    → linesOf rs ≡ verdictLines formula rounds (take (length rs) ss)
+lines-own : (formula line : List ℕ) (rounds : List ℕ → ℕ) (rs : List Result) (ss : List (List ℕ)) → length rs ≤ length ss
+    → ((k : ℕ) → k < length rs → getD rs k (result 0 []) ≡ yielded (evaluationOf formula line (getD ss k []) (rounds (getD ss k []))))
+    → linesOf rs ≡ verdictLines formula line rounds (take (length rs) ss)
 unfolding linesOf verdictLines
-lines-own formula rounds [] ss h own = refl
-lines-own formula rounds (r ∷ rs) [] h own = absurd (omega arith)
-lines-own formula rounds (r ∷ rs) (s ∷ ss) h own =
-    ap₂ (λ (a b : List ℕ). a ++ b) (ap lineOf (own 0 (omega arith))) (lines-own formula rounds rs ss (omega arith) (λ k l. own (suc k) (omega arith)))
+lines-own formula line rounds [] ss h own = refl
+lines-own formula line rounds (r ∷ rs) [] h own = absurd (omega arith)
+lines-own formula line rounds (r ∷ rs) (s ∷ ss) h own =
+    ap₂ (λ (a b : List ℕ). a ++ b) (ap lineOf (own 0 (omega arith))) (lines-own formula line rounds rs ss (omega arith) (λ k l. own (suc k) (omega arith)))
 
 -- ---- what is printed from a stage on
 
-module _ (sheet : List ℕ) (capacity : ℕ) (memory : List ℕ) (h : started sheet capacity memory .answer .refusal ≡ 0) (all : List (List ℕ)) where
+module _ (sheet line : List ℕ) (capacity : ℕ) (memory : List ℕ) (h : started sheet line capacity memory .answer .refusal ≡ 0) (all : List (List ℕ)) where
   abbrev start : List ℕ
-  start = started sheet capacity memory .mem
+  start = started sheet line capacity memory .mem
 
   -- How it ends: every set is taken, or 36 is printed, all of the firings left having been used.
   abbrev EndsBy : ℕ → List LentRun → List Result → List ℕ → Type 0
@@ -119,7 +120,7 @@ module _ (sheet : List ℕ) (capacity : ℕ) (memory : List ℕ) (h : started sh
       go true e = absurd (n (run-is m left st true e .2))
       go false e = run-is m left st false e .2
 
-  module _ (n : ℕ) (rest : List (List ℕ)) (m : List ℕ) (left : ℕ) (U : Underway sheet capacity memory h all n rest m) where
+  module _ (n : ℕ) (rest : List (List ℕ)) (m : List ℕ) (left : ℕ) (U : Underway sheet line capacity memory h all n rest m) where
     at-end : n ≡ 0 → Prints left [] (U .results) []
     unfolding linesOf
     at-end e =
@@ -139,22 +140,22 @@ module _ (sheet : List ℕ) (capacity : ℕ) (memory : List ℕ) (h : started sh
     abbrev run : LentRun
     run = lentRun (feeding rest m .mem) left
 
-    fed-reached : Reached start (feeding rest m .mem) (U .sets ++ F sheet capacity memory h all n rest m left U .more) (U .results)
-    fed-reached = F sheet capacity memory h all n rest m left U .reached
+    fed-reached : Reached start (feeding rest m .mem) (U .sets ++ F sheet line capacity memory h all n rest m left U .more) (U .results)
+    fed-reached = F sheet line capacity memory h all n rest m left U .reached
 
     before : (operatorsOf (run .before) ≡ length (madeOf (formulaOf sheet) .operators)) × (sizeIn (run .before) ≡ sizeOf (capacityIn capacity)) × (standing (run .before) ≡ 0)
-    before = same-machine sheet capacity memory h (run .before) (U .sets ++ F sheet capacity memory h all n rest m left U .more) (U .results) fed-reached
+    before = same-machine sheet line capacity memory h (run .before) (U .sets ++ F sheet line capacity memory h all n rest m left U .more) (U .results) fed-reached
 
     counts : RunCounts (run .before) left
-    counts = C sheet capacity memory h all n rest m left U
+    counts = C sheet line capacity memory h all n rest m left U
 
     -- After a run's 36 an operator can fire.
     still-fires : ran (run .before) left .answer .refusal ≡ numberOf Unfinished → StillFires run []
     still-fires e =
         let m′ = ran (run .before) left .mem in
         let after =
-        same-machine sheet capacity memory h m′ (U .sets ++ F sheet capacity memory h all n rest m left U .more) (U .results)
-        (A sheet capacity memory h all n rest m left U) in
+        same-machine sheet line capacity memory h m′ (U .sets ++ F sheet line capacity memory h all n rest m left U .more) (U .results)
+        (A sheet line capacity memory h all n rest m left U) in
         let able = unstill-able m′ (sizeIn (run .before)) (operatorsOf (run .before)) (counts .unfinished e .1) in (
           able .0,
           ap (λ (o : Outcome). o .answer .refusal)
@@ -166,8 +167,8 @@ module _ (sheet : List ℕ) (capacity : ℕ) (memory : List ℕ) (h : started sh
     last-part : (ran (run .before) left .answer .refusal ≡ 0 → ⊥) → Prints left (run ∷ []) (U .results) (partOf (passOf rest m left) ++ [])
     unfolding underway-on
     last-part i =
-        let d = D sheet capacity memory h all n rest m left U in
-        let on = underway-on sheet capacity memory h all n rest m left U in
+        let d = D sheet line capacity memory h all n rest m left U in
+        let on = underway-on sheet line capacity memory h all n rest m left U in
         let e = run-unfinished (run .before) left (before .2) i in
         record {
           more = d .more;
@@ -186,11 +187,11 @@ module _ (sheet : List ℕ) (capacity : ℕ) (memory : List ℕ) (h : started sh
 
     -- A part and what follows it.
     then-more : ran (run .before) left .answer .refusal ≡ 0 → (runs : List LentRun) (out : List ℕ)
-        → Prints (left - countOf run) runs (underway-on sheet capacity memory h all n rest m left U .results) out
+        → Prints (left - countOf run) runs (underway-on sheet line capacity memory h all n rest m left U .results) out
         → Prints left (run ∷ runs) (U .results) (partOf (passOf rest m left) ++ out)
     unfolding underway-on
     then-more e runs out P =
-        let d = D sheet capacity memory h all n rest m left U in
+        let d = D sheet line capacity memory h all n rest m left U in
         let z = append-assoc (U .results) (d .more) (P .more) in
         record {
           more = d .more ++ P .more;
@@ -216,7 +217,7 @@ module _ (sheet : List ℕ) (capacity : ℕ) (memory : List ℕ) (h : started sh
     Printed f k = Prints left (run ∷ runsMade f k (p .rest) (p .mem) (p .left)) (U .results) (partOf p ++ passes f k (p .rest) (p .mem) (p .left))
 
     one-part : (f : ℕ) → 0 < n → n + left ≤ suc f
-        → ((k : ℕ) (on : Underway sheet capacity memory h all k (p .rest) (p .mem)) → k + p .left ≤ f
+        → ((k : ℕ) (on : Underway sheet line capacity memory h all k (p .rest) (p .mem)) → k + p .left ≤ f
         → Prints (p .left) (runsMade f k (p .rest) (p .mem) (p .left)) (on .results) (passes f k (p .rest) (p .mem) (p .left)))
         → Printed f (remainingAfter n p)
     unfolding passOf
@@ -225,10 +226,10 @@ module _ (sheet : List ℕ) (capacity : ℕ) (memory : List ℕ) (h : started sh
         go : Dec (ran (feeding rest m .mem) left .answer .refusal ≡ 0) → Printed f (remainingAfter n p)
         go (yes e) =
             let taken = drainedOf (ran (feeding rest m .mem) left .mem) .count in
-            let less = less-to-do sheet capacity memory h all n rest m left U some e in
+            let less = less-to-do sheet line capacity memory h all n rest m left U some e in
             subst (Printed f) (sym (remaining-plain rest m left n e))
             (then-more e (runsMade f (n - taken) (p .rest) (p .mem) (p .left)) (passes f (n - taken) (p .rest) (p .mem) (p .left))
-            (later (n - taken) (underway-on sheet capacity memory h all n rest m left U) (omega (arith, less, l))))
+            (later (n - taken) (underway-on sheet line capacity memory h all n rest m left U) (omega (arith, less, l))))
         go (no i) =
             subst (Printed f) (sym (remaining-refused rest m left n i))
             (subst (λ (rs : List LentRun). Prints left (run ∷ rs) (U .results) (partOf p ++ passes f 0 (p .rest) (p .mem) (p .left)))
@@ -238,12 +239,12 @@ module _ (sheet : List ℕ) (capacity : ℕ) (memory : List ℕ) (h : started sh
   abbrev PrintsFrom : ℕ → ℕ → List (List ℕ) → List ℕ → ℕ → List Result → Type 0
   PrintsFrom f n rest m left results = Prints left (runsMade f n rest m left) results (passes f n rest m left)
 
-  over : (f : ℕ) (rest : List (List ℕ)) (m : List ℕ) (left : ℕ) (U : Underway sheet capacity memory h all 0 rest m) → PrintsFrom f 0 rest m left (U .results)
+  over : (f : ℕ) (rest : List (List ℕ)) (m : List ℕ) (left : ℕ) (U : Underway sheet line capacity memory h all 0 rest m) → PrintsFrom f 0 rest m left (U .results)
   over f rest m left U =
       subst (λ (rs : List LentRun). Prints left rs (U .results) (passes f 0 rest m left)) (sym (runs-over f rest m left))
       (subst (Prints left [] (U .results)) (sym (passes-over-any f rest m left)) (at-end 0 rest m left U refl))
 
-  prints : (f n : ℕ) (rest : List (List ℕ)) (m : List ℕ) (left : ℕ) (U : Underway sheet capacity memory h all n rest m) → n + left ≤ f
+  prints : (f n : ℕ) (rest : List (List ℕ)) (m : List ℕ) (left : ℕ) (U : Underway sheet line capacity memory h all n rest m) → n + left ≤ f
       → PrintsFrom f n rest m left (U .results)
   prints zero zero rest m left U l = over 0 rest m left U
   prints zero (suc n) rest m left U l = absurd (omega arith)
@@ -260,26 +261,27 @@ module _ (sheet : List ℕ) (capacity : ℕ) (memory : List ℕ) (h : started sh
 
 -- ---- the program
 
-module _ (formula file : List ℕ) (ok : verdictOf formula ≡ Passed) (small : length file ≤ mostSetBytes) (ss : List (List ℕ)) (good : setsOf (figuresOf formula .inputs) file ≡ sets ss) where
-  abbrev begins : started formula linkCapacity blankMemory .answer .refusal ≡ 0
-  begins = starts formula ok blankMemory blank-long
+module _ (formula line file : List ℕ) (ok : verdictOf formula line ≡ Passed) (small : length file ≤ mostSetBytes) (ss : List (List ℕ))
+    (good : setsOf (lettersOf (formulaOf formula) line) file ≡ sets ss) where
+  abbrev begins : started formula line linkCapacity blankMemory .answer .refusal ≡ 0
+  begins = starts formula line ok blankMemory blank-long
 
   -- The runs that the program makes.
   abbrev runs-made : List LentRun
-  runs-made = runsMade (length ss + allFirings) (length ss) ss (started formula linkCapacity blankMemory .mem) allFirings
+  runs-made = runsMade (length ss + allFirings) (length ss) ss (started formula line linkCapacity blankMemory .mem) allFirings
 
-  P : Prints formula linkCapacity blankMemory begins ss allFirings runs-made []
-      (passes (length ss + allFirings) (length ss) ss (started formula linkCapacity blankMemory .mem) allFirings)
+  P : Prints formula line linkCapacity blankMemory begins ss allFirings runs-made []
+      (passes (length ss + allFirings) (length ss) ss (started formula line linkCapacity blankMemory .mem) allFirings)
   unfolding underway
   P =
-      prints formula linkCapacity blankMemory begins ss (length ss + allFirings) (length ss) ss (started formula linkCapacity blankMemory .mem) allFirings
-      (underway formula ok blankMemory file blank-long ss good) (omega arith)
+      prints formula line linkCapacity blankMemory begins ss (length ss + allFirings) (length ss) ss (started formula line linkCapacity blankMemory .mem) allFirings
+      (underway formula line ok blankMemory file blank-long ss good) (omega arith)
 
   no-more : length (P .more) ≤ length (P .sets-then)
   no-more =
       omega (
         arith,
-        demand-3 formula linkCapacity blankMemory begins (P .reached .calls) .none-invented,
+        demand-3 formula line linkCapacity blankMemory begins (P .reached .calls) .none-invented,
         ap length (P .reached .results-are),
         ap length (P .reached .sets-are),
       )
@@ -287,46 +289,46 @@ module _ (formula file : List ℕ) (ok : verdictOf formula ≡ Passed) (small : 
   fits : length (P .more) ≤ length ss
   fits = omega (arith, no-more, sym (length-append (P .sets-then) (P .rest-then)) ∙ ap length (P .in-order))
 
-  set-at : (k : ℕ) → k < length (P .sets-then) → getD (setsPushed (P .reached .calls) (started formula linkCapacity blankMemory .mem)) k [] ≡ getD ss k []
+  set-at : (k : ℕ) → k < length (P .sets-then) → getD (setsPushed (P .reached .calls) (started formula line linkCapacity blankMemory .mem)) k [] ≡ getD ss k []
   set-at k l =
       ap (λ (z : List (List ℕ)). getD z k []) (P .reached .sets-are)
       ∙ sym (List·getD-append (P .sets-then) (P .rest-then) [] k l) ∙ ap (λ (z : List (List ℕ)). getD z k []) (P .in-order)
 
-  own-result : (k : ℕ) → k < length (P .more) → ((j : ℕ) → j ≤ k → Ends formula (getD ss j [])) → (rounds : ℕ) → Enough formula (getD ss k []) rounds
-      → getD (P .more) k (result 0 []) ≡ yielded (evaluationOf formula (getD ss k []) rounds)
+  own-result : (k : ℕ) → k < length (P .more) → ((j : ℕ) → j ≤ k → Ends formula line (getD ss j [])) → (rounds : ℕ) → Enough formula line (getD ss k []) rounds
+      → getD (P .more) k (result 0 []) ≡ yielded (evaluationOf formula line (getD ss k []) rounds)
   own-result k l end rounds enough =
       let here = set-at k (omega (arith, no-more)) in
       ap (λ (z : List Result). getD z k (result 0 [])) (sym (P .reached .results-are))
-      ∙ demand-3 formula linkCapacity blankMemory begins (P .reached .calls) .own k (omega (arith, ap length (P .reached .results-are)))
-      (λ j b. subst (Ends formula) (sym (set-at j (omega (arith, no-more)))) (end j b)) rounds (subst (λ (z : List ℕ). Enough formula z rounds) (sym here) enough)
-      ∙ ap (λ (z : List ℕ). yielded (evaluationOf formula z rounds)) here
+      ∙ demand-3 formula line linkCapacity blankMemory begins (P .reached .calls) .own k (omega (arith, ap length (P .reached .results-are)))
+      (λ j b. subst (Ends formula line) (sym (set-at j (omega (arith, no-more)))) (end j b)) rounds (subst (λ (z : List ℕ). Enough formula line z rounds) (sym here) enough)
+      ∙ ap (λ (z : List ℕ). yielded (evaluationOf formula line z rounds)) here
 
-  last-line : EndsBy formula linkCapacity blankMemory begins ss allFirings runs-made (P .more) (P .ending)
+  last-line : EndsBy formula line linkCapacity blankMemory begins ss allFirings runs-made (P .more) (P .ending)
       → ((length (P .more) ≡ length ss) × (P .ending ≡ [])) ⊎ (P .ending ≡ refusalLine (numberOf Unfinished) 0)
   last-line (inl a) = inl a
   last-line (inr b) = inr (b .0)
 
-  own-lines : OwnLines formula ss (passes (length ss + allFirings) (length ss) ss (started formula linkCapacity blankMemory .mem) allFirings)
+  own-lines : OwnLines formula line ss (passes (length ss + allFirings) (length ss) ss (started formula line linkCapacity blankMemory .mem) allFirings)
   own-lines = record { results = P .more; ending = P .ending; out-is = P .out-is; few = fits; own = own-result; ends = last-line (P .ends) }
 
   -- THE PROGRAM PRINTS EACH SET'S OWN VERDICT.
-  pub program-own-lines : (out : List ℕ) × OwnLines formula ss out
-      × (benchOutput formula file ≡ headLine (figuresOf formula .inputs) (figuresOf formula .results) (length ss) ++ out)
+  pub program-own-lines : (out : List ℕ) × OwnLines formula line ss out
+      × (benchOutput formula line file ≡ headLine (figuresOf formula .inputs) (figuresOf formula .results) (length ss) ++ out)
   program-own-lines =
-      (passes (length ss + allFirings) (length ss) ss (started formula linkCapacity blankMemory .mem) allFirings, own-lines, output-is formula file ok small ss good)
+      (passes (length ss + allFirings) (length ss) ss (started formula line linkCapacity blankMemory .mem) allFirings, own-lines, output-is formula line file ok small ss good)
 
   -- Where direct evaluation of every set ends, the lines are the sets' verdicts in the file's order, of all of them or of the first ones.
-  pub program-verdicts : (rounds : List ℕ → ℕ) → ((j : ℕ) → j < length ss → Enough formula (getD ss j []) (rounds (getD ss j [])))
-      → benchOutput formula file
+  pub program-verdicts : (rounds : List ℕ → ℕ) → ((j : ℕ) → j < length ss → Enough formula line (getD ss j []) (rounds (getD ss j [])))
+      → benchOutput formula line file
       ≡ headLine (figuresOf formula .inputs) (figuresOf formula .results) (length ss)
-      ++ (verdictLines formula rounds (take (length (program-own-lines .1 .results)) ss) ++ program-own-lines .1 .ending)
+      ++ (verdictLines formula line rounds (take (length (program-own-lines .1 .results)) ss) ++ program-own-lines .1 .ending)
   program-verdicts rounds enough =
       let o = program-own-lines .1 in
       program-own-lines .2
       ∙ ap (λ (z : List ℕ). headLine (figuresOf formula .inputs) (figuresOf formula .results) (length ss) ++ z)
       (o .out-is
       ∙ ap (λ (z : List ℕ). z ++ o .ending)
-      (lines-own formula rounds (o .results) ss (o .few)
+      (lines-own formula line rounds (o .results) ss (o .few)
       (λ k l. o .own k l (λ j b. (rounds (getD ss j []), enough j (omega (arith, o .few)))) (rounds (getD ss k [])) (enough k (omega (arith, o .few))))))
 
   -- ---- "It uses capacity 2 and 1,000,000 firings in all"
@@ -340,6 +342,6 @@ module _ (formula file : List ℕ) (ok : verdictOf formula ≡ Passed) (small : 
   unfolding program-own-lines P own-lines prints
   unfinished-uses-all e = go (P .ends)
     where
-      go : EndsBy formula linkCapacity blankMemory begins ss allFirings runs-made (P .more) (P .ending) → UsesAll allFirings runs-made
+      go : EndsBy formula line linkCapacity blankMemory begins ss allFirings runs-made (P .more) (P .ending) → UsesAll allFirings runs-made
       go (inl a) = absurd (omega (arith, ap length (sym e ∙ a .1), refusal-length (numberOf Unfinished) 0))
       go (inr b) = b .1

@@ -14,30 +14,30 @@ use Rattle.session.specs.Passes.{feeding, Drained, drainedOf, Pass, pass
 use Rattle.session.specs.Waiting.{Waiting, FeedsTo, PassedTo, PassesTo}
 use Rattle.session.specs.PassLaws.{pass-is, part-plain, part-refused, remaining-plain, remaining-refused}
 
-module _ (k : ℕ) (s : List ℕ) (stage : Stage) (m : List ℕ) (at : ℕ) (mf : List ℕ) (f : FeedsTo k s (stage .at) m at mf) (a : Answer) (mr : List ℕ)
+module _ (kinds s : List ℕ) (stage : Stage) (m : List ℕ) (at : ℕ) (mf : List ℕ) (f : FeedsTo kinds s (stage .at) m at mf) (a : Answer) (mr : List ℕ)
     (e : outcome a mr ≡ ran mf (stage .firings)) (md out : List ℕ) (printed firings : ℕ) (d : md ≡ drainedOf mr .mem) (t : take printed out ≡ drainedOf mr .lines)
     (g : firings ≡ stage .firings - a .count) where
-  ran-is : (rest : List (List ℕ)) → Waiting k s (stage .at) rest → ran (feeding rest m .mem) (stage .firings) ≡ outcome a mr
+  ran-is : (rest : List (List ℕ)) → Waiting kinds s (stage .at) rest → ran (feeding rest m .mem) (stage .firings) ≡ outcome a mr
   ran-is rest w = sym (e ∙ ap (λ (x : List ℕ). ran x (stage .firings)) (f rest w .0))
 
-  mem-is : (rest : List (List ℕ)) → Waiting k s (stage .at) rest → md ≡ passOf rest m (stage .firings) .mem
+  mem-is : (rest : List (List ℕ)) → Waiting kinds s (stage .at) rest → md ≡ passOf rest m (stage .firings) .mem
   mem-is rest w =
       d ∙ ap (λ (x : Outcome). drainedOf (x .mem) .mem) (sym (ran-is rest w))
       ∙ ap (λ (p : Pass). p .mem) (sym (pass-is rest m (stage .firings)))
 
-  waits-are : (rest : List (List ℕ)) → Waiting k s (stage .at) rest → Waiting k s at (passOf rest m (stage .firings) .rest)
-  waits-are rest w = subst (λ (p : Pass). Waiting k s at (p .rest)) (sym (pass-is rest m (stage .firings))) (f rest w .1)
+  waits-are : (rest : List (List ℕ)) → Waiting kinds s (stage .at) rest → Waiting kinds s at (passOf rest m (stage .firings) .rest)
+  waits-are rest w = subst (λ (p : Pass). Waiting kinds s at (p .rest)) (sym (pass-is rest m (stage .firings))) (f rest w .1)
 
-  left-is : (rest : List (List ℕ)) → Waiting k s (stage .at) rest → firings ≡ passOf rest m (stage .firings) .left
+  left-is : (rest : List (List ℕ)) → Waiting kinds s (stage .at) rest → firings ≡ passOf rest m (stage .firings) .left
   left-is rest w =
       g ∙ ap (λ (x : Outcome). stage .firings - x .answer .count) (sym (ran-is rest w))
       ∙ ap (λ (p : Pass). p .left) (sym (pass-is rest m (stage .firings)))
 
-  refusal-is : (rest : List (List ℕ)) → Waiting k s (stage .at) rest → ran (feeding rest m .mem) (stage .firings) .answer .refusal ≡ a .refusal
+  refusal-is : (rest : List (List ℕ)) → Waiting kinds s (stage .at) rest → ran (feeding rest m .mem) (stage .firings) .answer .refusal ≡ a .refusal
   refusal-is rest w = ap (λ (x : Outcome). x .answer .refusal) (ran-is rest w)
 
   pub stage-plain : (count remaining : ℕ) → count ≡ drainedOf mr .count → remaining ≡ stage .remaining - count → a .refusal ≡ 0
-      → PassesTo k s stage m (record { at = at; remaining = remaining; firings = firings; printed = printed }) md out
+      → PassesTo kinds s stage m (record { at = at; remaining = remaining; firings = firings; printed = printed }) md out
   stage-plain count remaining c r z rest w =
       let n = refusal-is rest w ∙ z in
       record {
@@ -51,7 +51,7 @@ module _ (k : ℕ) (s : List ℕ) (stage : Stage) (m : List ℕ) (at : ℕ) (mf 
       }
 
   pub stage-refused : (last : List ℕ) → last ≡ sets out printed (refusalLine (a .refusal) 0) → printed + 13 ≤ length out → (a .refusal ≡ 0 → ⊥)
-      → PassesTo k s stage m (record { at = at; remaining = 0; firings = firings; printed = printed + 13 }) md last
+      → PassesTo kinds s stage m (record { at = at; remaining = 0; firings = firings; printed = printed + 13 }) md last
   stage-refused last l h z rest w =
       let n : ran (feeding rest m .mem) (stage .firings) .answer .refusal ≡ 0 → ⊥ = λ q. z (sym (refusal-is rest w) ∙ q) in
       record {

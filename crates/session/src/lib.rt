@@ -13,6 +13,9 @@ pub const SET_FILE: usize = 65536;
 
 pub const SETS_READ: usize = 65537;
 
+// A kinds line has at most 34 bytes (specs/LongLines), so what stands behind these is not looked at.
+pub const KINDS_READ: usize = 64;
+
 // A repetition's end: where the next set's line starts, the sets not taken yet, the firings left, and how many bytes are
 // to be printed.
 pub struct Stage {

@@ -70,16 +70,17 @@ fn drain(mem: &mut [u8], out: &mut [u8]) -> Handful
 }
 
 // Pushes the sets whose lines start at `at`, until one is refused or none is left, and tells where the next line starts.
-fn feed(mem: &mut [u8], sets: &[u8], at: usize, inputs: usize) -> usize
-    requires { ⌜ (inputs ≤ 32) × (at ≤ length (now sets)) × Waits inputs (now sets) at ⌝ }
-    ensures { λ r. ⌜ FeedsTo inputs (now (sets .entry)) at (now (mem .entry)) r (now (mem .exit)) ⌝ }
+fn feed(mem: &mut [u8], sets: &[u8], at: usize, kinds: &[u8]) -> usize
+    requires { ⌜ (length (now kinds) ≤ 32) × (at ≤ length (now sets)) × Waits (now kinds) (now sets) at ⌝ }
+    ensures { λ r. ⌜ FeedsTo (now (kinds .entry)) (now (sets .entry)) at (now (mem .entry)) r (now (mem .exit)) ⌝ }
     ensures { λ r. ⌜ r ≤ length (now (sets .entry)) ⌝ }
 {
     let mut next = at;
     let mut set = blank_set();
+    let inputs = kinds.len();
     let size = VALUE_BYTES * inputs;
     while next < sets.len() {
-        if text_read::sets::read_set(sets, next, inputs, &mut set) {
+        if text_read::sets::read_set(sets, next, kinds, &mut set) {
             let a = machine_calls::push(mem, &set[..size]);
             if a.refusal != 0 {
                 return next;
@@ -100,13 +101,13 @@ fn left_after(had: u32, used: u32) -> u32
 }
 
 // One repetition: its lines are in the front of `out`.
-pub fn pass(mem: &mut [u8], sets: &[u8], inputs: usize, stage: Stage, out: &mut [u8]) -> Stage
-    requires { ⌜ (inputs ≤ 32) × (stage .at ≤ length (now sets)) × (outBytes ≤ length (now out)) × Waits inputs (now sets) (stage .at) ⌝ }
-    ensures { λ r. ⌜ PassesTo inputs (now (sets .entry)) stage (now (mem .entry)) r (now (mem .exit)) (now (out .exit)) ⌝ }
+pub fn pass(mem: &mut [u8], sets: &[u8], kinds: &[u8], stage: Stage, out: &mut [u8]) -> Stage
+    requires { ⌜ (length (now kinds) ≤ 32) × (stage .at ≤ length (now sets)) × (outBytes ≤ length (now out)) × Waits (now kinds) (now sets) (stage .at) ⌝ }
+    ensures { λ r. ⌜ PassesTo (now (kinds .entry)) (now (sets .entry)) stage (now (mem .entry)) r (now (mem .exit)) (now (out .exit)) ⌝ }
     ensures { λ r. ⌜ (r .at ≤ length (now (sets .entry))) × (r .printed ≤ outBytes)
         × (drop (r .printed) (now (out .exit)) ≡ drop (r .printed) (now (out .entry))) ⌝ }
 {
-    let at = feed(mem, sets, stage.at, inputs);
+    let at = feed(mem, sets, stage.at, kinds);
     let a = machine_calls::run(mem, stage.firings);
     let taken = drain(mem, out);
     let firings = left_after(stage.firings, a.count);

@@ -1,9 +1,10 @@
-// The bench program on two files: reads them, opens the session, and writes what each repetition prints. What is read and
+// The bench program on three files: reads them, opens the session, and writes what each repetition prints. What is read and
 // written no contract can say; that the parts belong together is said here.
 pub mod opening; // opening.rt: the tests and the first line
 
 use crate::opening::open;
 use libc::STDOUT_FILENO;
+use session::KINDS_READ;
 use session::Opened;
 use session::SETS_READ;
 use session::Sheet;
@@ -17,6 +18,7 @@ ghost use Rattle.io.specs.Counts.{Counts};
 ghost use Rattle.session.specs.Reading.{Continued, SheetRead};
 ghost use Rattle.session.specs.Output.{mostSheetBytes, mostSetBytes};
 ghost use Rattle.session.specs.Passes.{outBytes};
+ghost use Rattle.session.specs.Opening.{kindsRead};
 ghost use Rattle.session.specs.Ending.{Proceeds, RepeatsTo};
 
 // "over 200 rows" is refused, so 200 rows are all that is ever looked at.
@@ -24,6 +26,12 @@ fn sheet_buffer() -> [u8; SHEET]
     ensures { λ r. ⌜ mostSheetBytes ≡ length r ⌝ }
 {
     [0; SHEET]
+}
+
+fn kinds_buffer() -> [u8; KINDS_READ]
+    ensures { λ r. ⌜ kindsRead ≡ length r ⌝ }
+{
+    [0; KINDS_READ]
 }
 
 // One byte more than a set file may have.
@@ -109,30 +117,39 @@ fn load(path: &[u8], buf: &mut [u8]) -> usize
 
 // Writes the first part, and repeats until every set is taken. It ends since each repetition
 // leaves fewer sets to take and firings to make (session/specs/Onward).
-fn repeat(mem: &mut [u8], sets: &[u8], opened: Opened, out: &mut [u8])
-    requires { ⌜ (opened .inputs ≤ 32) × (opened .stage .at ≤ length (now sets)) × (opened .stage .printed ≤ outBytes) × (outBytes ≤ length (now out)) ⌝ }
-    requires { ⌜ Proceeds (opened .inputs) (now sets) (opened .stage) (now mem) ⌝ }
-    ensures { λ r. ⌜ RepeatsTo (opened .inputs) (now (sets .entry)) (opened .stage) (now (mem .entry)) (now (mem .exit)) ⌝ }
+fn repeat(mem: &mut [u8], sets: &[u8], kinds: &[u8], opened: Opened, out: &mut [u8])
+    requires { ⌜ (length (now kinds) ≤ 32) × (opened .stage .at ≤ length (now sets)) × (opened .stage .printed ≤ outBytes) × (outBytes ≤ length (now out)) ⌝ }
+    requires { ⌜ Proceeds (now kinds) (now sets) (opened .stage) (now mem) ⌝ }
+    ensures { λ r. ⌜ RepeatsTo (now (kinds .entry)) (now (sets .entry)) (opened .stage) (now (mem .entry)) (now (mem .exit)) ⌝ }
 {
-    let inputs = opened.inputs;
     let mut stage = opened.stage;
     let mut printed = stage.printed;
     io::write_all(STDOUT_FILENO, &out[..printed]);
     while 0 < stage.remaining {
-        stage = pass(mem, sets, inputs, stage, out);
+        stage = pass(mem, sets, kinds, stage, out);
         printed = stage.printed;
         io::write_all(STDOUT_FILENO, &out[..printed]);
     }
 }
 
-pub fn run(formula: &[u8], file: &[u8]) {
+pub fn run(formula: &[u8], kinds: &[u8], file: &[u8]) {
     let mut first = sheet_buffer();
+    let mut line = kinds_buffer();
     let mut sets = set_buffer();
     let mut mem = io::large_buffer();
     let mut out = io::large_buffer();
     let sheet = read_sheet(formula, &mut first);
+    let told = load(kinds, &mut line);
     let n = load(file, &mut sets);
     let length = sheet.length;
-    let opened = open(&first[..length], sheet.seen, &sets[..n], &mut mem, &mut out);
-    repeat(&mut mem, &sets[..n], opened, &mut out);
+    let opened = open(
+        &first[..length],
+        sheet.seen,
+        &line[..told],
+        &sets[..n],
+        &mut mem,
+        &mut out,
+    );
+    let inputs = opened.inputs;
+    repeat(&mut mem, &sets[..n], &line[..inputs], opened, &mut out);
 }

@@ -1,6 +1,5 @@
 pub mod Bytes
 pub mod Checks
-pub mod FaultLaws
 pub mod KindWidths
 pub mod Line
 pub mod Walk

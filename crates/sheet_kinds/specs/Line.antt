@@ -1,21 +1,23 @@
 -- The kinds line's letters one by one, and how they reach the environment (document 02: "one letter an input, W or T, and a line feed").
 -- Assumes nothing.
-use Prim.Native.Nat.{ℕ, zero, suc, _+_, _-_, _/_, _%_, _^_, _≤_, _<_}
+use Prim.Native.Nat.{ℕ, zero, suc, _+_, _-_, _≤_, _<_}
 use mathlib.Core.Path.{_≡_, refl, sym, ap, _∙_, subst, fun-ext}
-use mathlib.Core.Bool.{Bool, true, false, not, _&&_, false≢true}
+use mathlib.Core.Bool.{Bool, true, false, _&&_, false≢true}
 use mathlib.Core.List.{List, [], _∷_}
 use lib.Dec.{eqb, ltb}
 use lib.ListN.{length, getD, set, drop, length-set, drop-of-length-le, List·getD-eq-default}
 use lib.Seq.{drop-cons, getD-set-same, getD-set-other}
-use borrow.Author.Tests.{ltb-true, ltb-false, ne-eqb, eqb-true, eqb-false}
+use borrow.Author.Tests.{ltb-true, ltb-false, eqb-true, eqb-false}
 use native.Mathlib.Omega.{arith}
 use Rattle.value.specs.declared.ValueKind.the-variants.{Whole as whole-kind}
-use Rattle.names.specs.Names.{Names, trigger, one, without, bit, below, mask}
-use Rattle.names.proofs.Sets.{mask-has, below-suc, below-mono, below-cong, below-all, length-members}
+use Rattle.value.specs.Kinds.{isLetter, kindOfLetter}
+use Rattle.names.specs.Names.{below, mask}
+use Rattle.names.proofs.Sets.{mask-has, below-mono, below-cong}
 use Rattle.formula.specs.Tree.{Exp}
 use Rattle.formula.specs.TreeLaws.{and-true}
 use Rattle.formula.specs.Free.{freeE, inputsOf}
-use Rattle.formula.specs.Faults.{isLetter, kindOfLetter, lineWell, inputKinds}
+use Rattle.formula.specs.Faults.{lineWell, inputKinds}
+use Rattle.eval_words.specs.Inputs.{setIn, inputs-below}
 use Rattle.sheet_kinds.specs.Bytes.{never, kindOfByte, kindsIn}
 
 -- ---- letter by letter
@@ -30,7 +32,7 @@ other-length (suc inputs) [] h = refl
 other-length (suc inputs) (b ∷ s) h =
     ap (λ (x : Bool). isLetter b && x) (other-length inputs s (λ e. h (ap suc e))) ∙ never (isLetter b)
 
-well-length : (inputs : ℕ) (line : List ℕ) → lineWell inputs line ≡ true → length line ≡ suc inputs
+pub well-length : (inputs : ℕ) (line : List ℕ) → lineWell inputs line ≡ true → length line ≡ suc inputs
 unfolding lineWell
 well-length zero [] h = absurd (false≢true h)
 well-length zero (b ∷ []) h = refl
@@ -46,6 +48,14 @@ well-end zero (b ∷ []) h = eqb-true b 10 h
 well-end zero (b ∷ (c ∷ s)) h = absurd (false≢true h)
 well-end (suc inputs) [] h = absurd (false≢true h)
 well-end (suc inputs) (b ∷ s) h = well-end inputs s (and-true (isLetter b) (lineWell inputs s) h .1)
+
+-- Each byte before it is a letter.
+pub well-letter : (inputs : ℕ) (line : List ℕ) → lineWell inputs line ≡ true → (j : ℕ) → j < inputs → isLetter (getD line j 0) ≡ true
+unfolding lineWell
+well-letter zero line h j l = absurd (omega arith)
+well-letter (suc inputs) [] h j l = absurd (false≢true h)
+well-letter (suc inputs) (b ∷ s) h zero l = and-true (isLetter b) (lineWell inputs s) h .0
+well-letter (suc inputs) (b ∷ s) h (suc j) l = well-letter inputs s (and-true (isLetter b) (lineWell inputs s) h .1) j (omega arith)
 
 -- What is left to test from letter i on.
 abbrev pub wellFrom : ℕ → List ℕ → ℕ → Bool
@@ -78,10 +88,6 @@ module _ (n : ℕ) (line : List ℕ) where
 
 -- ---- the environment
 
--- The set that a mask stands for.
-abbrev pub setIn : ℕ → Names
-setIn m k = eqb (m / 2 ^ k % 2) 1
-
 -- The first k bytes of an environment that tells a line's kinds to the members of m.
 pub record Tells (line : List ℕ) (m : ℕ) (env : List ℕ) (k : ℕ) : Type 0 where
   pub long : length env ≡ 32
@@ -106,37 +112,6 @@ tells-more line m env k i b l e f h =
     go j u false p =
         let q : j ≡ k → ⊥ = eqb-false j k p in
         ap kindOfByte (getD-set-other env k j b 0 q) ∙ h .told j (omega (arith, q))
-
-pub below-more : (m k i : ℕ) → i ≡ below (setIn m) k → i + bit (setIn m k) ≡ below (setIn m) (k + 1)
-below-more m k i e =
-    let s : k + 1 ≡ suc k = omega arith in
-    rw (e, s) (sym (below-suc (setIn m) k))
-
--- The number of inputs is that of the free names below the trigger.
-inputs-below : (x : Exp) → length (inputsOf x) ≡ below (freeE x) 32
-unfolding inputsOf
-inputs-below x =
-    length-members (without (freeE x) (one trigger))
-    ∙ sym (below-all (without (freeE x) (one trigger)))
-    ∙ below-suc (without (freeE x) (one trigger)) 32
-    ∙ last-out
-    ∙ below-cong (without (freeE x) (one trigger)) (freeE x) 32 (λ i l. others i l)
-  where
-    last-out : below (without (freeE x) (one trigger)) 32 + bit (without (freeE x) (one trigger) 32)
-        ≡ below (without (freeE x) (one trigger)) 32
-    last-out = go (freeE x 32)
-      where
-        go : (b : Bool) → below (without (freeE x) (one trigger)) 32 + bit (b && not (eqb 32 32))
-            ≡ below (without (freeE x) (one trigger)) 32
-        go true = omega arith
-        go false = omega arith
-
-    others : (i : ℕ) → i < 32 → freeE x i && not (eqb 32 i) ≡ freeE x i
-    others i l = rw (ne-eqb 32 i (λ e. omega arith)) (go (freeE x i))
-      where
-        go : (b : Bool) → b && true ≡ b
-        go true = refl
-        go false = refl
 
 -- Bytes that tell a well-formed line's kinds are the kinds of the inputs.
 pub tells-inputs : (x : Exp) (line env : List ℕ) → lineWell (length (inputsOf x)) line ≡ true → Tells line (mask (freeE x)) env 32

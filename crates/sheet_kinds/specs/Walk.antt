@@ -18,11 +18,11 @@ use Rattle.formula.specs.TreeLaws.{exp-as}
 use Rattle.formula.specs.Places.{nodeIn}
 use Rattle.formula.specs.Kinds.{Kinds, bindKinds, kindOfConstant, kindsE, returnedKinds, iteratedKinds, sameKinds, kindedE, kinded}
 use Rattle.formula.specs.Faults.{faultsBelow, lowestOf}
+use Rattle.formula.specs.FaultLaws.{faultsAt, faults-as}
 use Rattle.meaning.specs.Rows.{ExpRow, exp-children}
 use Rattle.eval_words.specs.Needs.{W, exp-needs}
 use Rattle.sheet_kinds.specs.Bytes.{kindOfByte, kindsIn, stretch, Written, bind-append, read}
 use Rattle.sheet_kinds.specs.Checks.{lesser, own, lowest-append, lowest-own}
-use Rattle.sheet_kinds.specs.FaultLaws.{faultsAt, faults-as}
 use Rattle.sheet_kinds.specs.KindWidths.{counted}
 
 -- The lowest row at fault among row r and those below it, in an expression place or a body's.

@@ -20,12 +20,12 @@ use Rattle.formula.specs.Places.{nodeIn}
 use Rattle.formula.specs.Ways.{wayOf}
 use Rattle.formula.specs.Kinds.{Kinds, bindKinds, eitherKinds, agreeKinds, kindsE, returnedKinds, iteratedKinds, kindedB, kinded}
 use Rattle.formula.specs.Faults.{faultsBelow, lowestOf}
+use Rattle.formula.specs.FaultLaws.{faultsAt, faults-as}
 use Rattle.meaning.specs.Rows.{BodyRow, ExpRow, Plain, body-children, plain-as, ending-row}
 use Rattle.eval_words.specs.Needs.{W, body-needs, narrow}
 use Rattle.sheet_kinds.specs.declared.BodyKinds.{BodyKinds}
 use Rattle.sheet_kinds.specs.Bytes.{kindsIn, stretch, read}
 use Rattle.sheet_kinds.specs.Checks.{lesser, own, lowest-append}
-use Rattle.sheet_kinds.specs.FaultLaws.{faultsAt, faults-as}
 use Rattle.sheet_kinds.specs.KindWidths.{counted}
 use Rattle.sheet_kinds.specs.Walk.{lowestAt, Told, parted, three, bound}
 

@@ -3,33 +3,25 @@
 use crate::bytes::TRUTH;
 use crate::bytes::WHOLE;
 use crate::walk::exp_kinds;
+use eval_words::inputs::next;
 use formula::Check;
 ghost use mathlib.Core.Path.{_≡_};
 ghost use mathlib.Core.Bool.{true};
-ghost use Prim.Native.Nat.{_+_, _≤_, _<_};
 ghost use lib.ListN.{length, getD};
-ghost use Rattle.names.specs.Names.{bit, mask};
+ghost use Rattle.value.specs.Kinds.{kindOfLetter};
+ghost use Rattle.names.specs.Names.{mask};
 ghost use Rattle.formula.specs.Tree.{expOf};
 ghost use Rattle.formula.specs.Free.{freeE, inputsOf};
 ghost use Rattle.formula.specs.Kinds.{kinded};
-ghost use Rattle.formula.specs.Faults.{isLetter, kindOfLetter, lineWell, inputKinds, kindCheck};
+ghost use Rattle.formula.specs.Faults.{lineWell, inputKinds, kindCheck};
 ghost use Rattle.meaning.specs.Rows.{ExpRow};
 ghost use Rattle.sheet_kinds.specs.Bytes.{kindOfByte};
-ghost use Rattle.sheet_kinds.specs.Line.{Tells, setIn};
+ghost use Rattle.sheet_kinds.specs.Line.{Tells};
 
 const LINE_FEED: u8 = 10;
 
 // The number of identifiers.
 const IDENTIFIERS: usize = 32;
-
-fn is_letter(b: u8) -> bool
-    ensures { λ r. ⌜ r ≡ isLetter b ⌝ }
-{
-    if b == b'W' {
-        return true;
-    }
-    b == b'T'
-}
 
 // Whether a line has a letter for each input, then a line feed, and no more.
 pub fn kinds_line(line: &[u8], inputs: usize) -> bool
@@ -43,7 +35,7 @@ pub fn kinds_line(line: &[u8], inputs: usize) -> bool
     }
     let mut i = 0;
     while i < inputs {
-        if !is_letter(line[i]) {
+        if !value::bytes::is_letter(line[i]) {
             return false;
         }
         i += 1;
@@ -62,17 +54,6 @@ fn kind_at(line: &[u8], i: usize) -> u8
         return TRUTH;
     }
     WHOLE
-}
-
-// One more than i where identifier k is in the mask.
-fn next(m: u64, k: usize, i: usize) -> usize
-    requires { ⌜ (k < 33) × (i ≤ 64) ⌝ }
-    ensures { λ r. ⌜ (r ≡ i + bit (setIn m k)) × (r ≤ i + 1) ⌝ }
-{
-    if names::has(m, k as u32) {
-        return i + 1;
-    }
-    i
 }
 
 // The identifiers in the mask, rising, get the line's kinds in its order.

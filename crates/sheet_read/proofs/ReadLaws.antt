@@ -5,19 +5,25 @@ use mathlib.Core.Bool.{Bool, true, false, not, cond, _&&_, false≢true}
 use mathlib.Core.List.{List, _++_}
 use native.Mathlib.Omega.{arith}
 use lib.Dec.{leb, eqb}
-use lib.ListN.{length, take}
+use lib.ListN.{length, getD, take}
 use lib.Seq.{paste, take-paste, take-all}
 use borrow.Author.Tests.{leb-true, eqb-true, eqb-false, not-true}
 use Rattle.formula.specs.declared.Check.{Check}
 use Rattle.formula.specs.declared.Check.the-variants.{Passed, Fault}
 use Rattle.formula.specs.declared.Refusal.{Refusal}
-use Rattle.formula.specs.declared.Refusal.the-variants.{Layout, Rows, Malformed, Range, Naming, Named, StrayIter, Width, Unused, Operators}
+use Rattle.formula.specs.declared.Refusal.the-variants.{Layout, Rows, Malformed, Range, Naming, Named, StrayIter, Width, Unused, KindsLine, KindsBroken, Operators}
 use Rattle.formula.specs.declared.Verdict.{Verdict}
 use Rattle.formula.specs.declared.Verdict.the-variants.{Passed as passed, Refused}
 use Rattle.formula.specs.Sheet.{rowCount, linesOf, fieldsOf}
 use Rattle.formula.specs.SheetLaws.{fields-length}
-use Rattle.formula.specs.Places.{placesOf}
-use Rattle.formula.specs.Tests.{afterCheck, whole, is-passed, lowest, endedAt, laidOut, fewRows, fieldsWell, rangesWell, namesWell, namedOnce, allNamed, placedWell, widthsWell, boundWell, operatorsOf, verdictOf, verdictBy, tests, rowTests, formulaTests, graphTests, sheetOf}
+use Rattle.formula.specs.Tree.{expOf}
+use Rattle.formula.specs.Places.{Node, expression, nodeIn, inBody, placesOf}
+use Rattle.formula.specs.PlaceLaws.{last-place}
+use Rattle.formula.specs.Widths.{width}
+use Rattle.formula.specs.Free.{freeE, inputsOf}
+use Rattle.formula.specs.Kinds.{kinded}
+use Rattle.formula.specs.Faults.{lineWell, inputKinds, kindCheck}
+use Rattle.formula.specs.Tests.{afterCheck, whole, is-passed, lowest, endedAt, laidOut, fewRows, fieldsWell, rangesWell, namesWell, namedOnce, allNamed, placedWell, widthsWell, boundWell, lineFits, kindsKept, operatorsOf, verdictOf, verdictBy, tests, rowTests, formulaTests, kindTests, graphTests, sheetOf}
 use Rattle.formula.specs.TestLaws.{passed-each, whole-true}
 use Rattle.formula.specs.Verdicts.{Each, Passes, then, all-pass, then-behind}
 use Rattle.formula.specs.TreeLaws.{and-true}
@@ -28,7 +34,9 @@ use Rattle.sheet_tables.specs.Ready.{Ready}
 use Rattle.sheet_count.specs.declared.count.Total.{Total}
 use Rattle.sheet_count.specs.declared.count.Total.the-variants.{Within, Over}
 use Rattle.sheet_count.specs.Counts.{totalOf}
-use Rattle.sheet_read.specs.Reading.{rowVerdict, tableVerdict, formulaVerdict, Rowed}
+use Rattle.meaning.specs.Rows.{ExpRow, widthIn}
+use Rattle.meaning.specs.Accepted.{accepted-rows, last-row}
+use Rattle.sheet_read.specs.Reading.{rowsIn, rowVerdict, kindVerdict, tableVerdict, formulaVerdict, Rowed}
 use Rattle.sheet_rows.proofs.RowLaws.{named-by}
 
 module _ (s : List ℕ) where
@@ -112,17 +120,18 @@ module _ (t : List ℕ) (n : ℕ) where
   abbrev seventh : Check
   seventh = lowest n (placedWell t (placesOf t n))
 
-  pub fault-sixth : (r : ℕ) → sixth ≡ Fault r → Refused Named r ≡ formulaVerdict t n
-  unfolding formulaVerdict verdictBy afterCheck formulaTests
-  fault-sixth r u = rw u refl
+  module _ (line : List ℕ) where
+    pub fault-sixth : (r : ℕ) → sixth ≡ Fault r → Refused Named r ≡ formulaVerdict t n line
+    unfolding formulaVerdict verdictBy afterCheck formulaTests
+    fault-sixth r u = rw u refl
 
-  pub fault-seventh : sixth ≡ Passed → (r : ℕ) → seventh ≡ Fault r → Refused StrayIter r ≡ formulaVerdict t n
-  unfolding formulaVerdict verdictBy afterCheck formulaTests
-  fault-seventh u r v = rw (u, v) refl
+    pub fault-seventh : sixth ≡ Passed → (r : ℕ) → seventh ≡ Fault r → Refused StrayIter r ≡ formulaVerdict t n line
+    unfolding formulaVerdict verdictBy afterCheck formulaTests
+    fault-seventh u r v = rw (u, v) refl
 
-  pub places-pass : sixth ≡ Passed → seventh ≡ Passed → tableVerdict t (placesOf t n) n ≡ formulaVerdict t n
-  unfolding formulaVerdict tableVerdict verdictBy afterCheck formulaTests
-  places-pass u v = rw (u, v) refl
+    pub places-pass : sixth ≡ Passed → seventh ≡ Passed → tableVerdict t (placesOf t n) n line ≡ formulaVerdict t n line
+    unfolding formulaVerdict tableVerdict verdictBy afterCheck formulaTests
+    places-pass u v = rw (u, v) refl
 
   -- What tests 4 to 7 say together.
   pub ready : length t ≡ 5 * n → lowest n (rangesWell t) ≡ Passed → lowest n (namesWell t) ≡ Passed → sixth ≡ Passed → seventh ≡ Passed → Ready t n (placesOf t n)
@@ -135,7 +144,59 @@ module _ (t : List ℕ) (n : ℕ) where
         iters = passed-each n (placedWell t (placesOf t n)) d;
       }
 
--- ---- tests 8 to 10
+-- ---- the last row
+
+width-in : (b : Bool) (t : List ℕ) (r : ℕ) → returnedIn (nodeIn b t r) ≡ widthIn b t r
+unfolding nodeIn widthIn
+width-in true t r = refl
+width-in false t r = refl
+
+module _ (t : List ℕ) (n : ℕ) (p : List Bool) (ok : Ready t n p) (some : 1 ≤ n) where
+  last-node : nodeAt t p n ≡ expression (expOf t n)
+  unfolding nodeIn
+  last-node = ap (λ (q : List Bool). nodeAt t q n) (ok .places) ∙ ap (λ (b : Bool). nodeIn b t n) (last-place t n (ok .sound .named) some)
+
+  -- Its entries are the formula's.
+  pub last-width : (ret : List ℕ) → Holds 0 ret n (λ r. returnedIn (nodeAt t p r)) → getD ret (n - 1) 0 ≡ width (expOf t n)
+  last-width ret h = h .entry n some (omega arith) ∙ ap returnedIn last-node
+
+  pub last-mask : (m : List ℕ) → Holds 0 m n (λ r. mask (freeIn (nodeAt t p r))) → getD m (n - 1) 0 ≡ mask (freeE (expOf t n))
+  last-mask m h = h .entry n some (omega arith) ∙ ap (λ (z : Node). mask (freeIn z)) last-node
+
+  -- What tests 4 to 8 say of it.
+  pub last-is : (ret : List ℕ) → length ret ≡ n → lowest n (widthsWell t p) ≡ Passed → Holds 0 ret n (λ r. returnedIn (nodeAt t p r)) → ExpRow t ret n
+  last-is ret size wide h =
+      last-row t n (ok .sound) ret some
+      (accepted-rows t n (ok .sound) ret (ok .size) (omega arith) (ok .ranges)
+      (subst (λ (q : List Bool). (r : ℕ) → 1 ≤ r → r ≤ n → placedWell t q r ≡ true) (ok .places) (ok .iters))
+      (subst (λ (q : List Bool). (r : ℕ) → 1 ≤ r → r ≤ n → widthsWell t q r ≡ true) (ok .places) (passed-each n (widthsWell t p) wide))
+      (λ r a b. h .entry r a b ∙ width-in (inBody p r) t r ∙ ap (λ (q : List Bool). widthIn (inBody q r) t r) (ok .places)))
+
+-- ---- tests 17 and 18
+
+module _ (t : List ℕ) (n : ℕ) (line : List ℕ) where
+  abbrev inputKindsOf : Check
+  inputKindsOf = kindCheck kinded t n (inputKinds (freeE (expOf t n)) line)
+
+  module _ (k : ℕ) (e : k ≡ length (inputsOf (expOf t n))) where
+    fits-as : (b : Bool) → lineWell k line ≡ b → lineFits t n line ≡ b
+    unfolding lineFits
+    fits-as b h = ap (λ (i : ℕ). lineWell i line) (sym e) ∙ h
+
+    pub fault-line : lineWell k line ≡ false → Refused KindsLine 0 ≡ kindVerdict t n line
+    unfolding kindVerdict verdictBy afterCheck kindTests
+    fault-line h = rw (fits-as false h) refl
+
+    module _ (h : lineWell k line ≡ true) where
+      pub fault-kinds : (r : ℕ) → inputKindsOf ≡ Fault r → Refused KindsBroken r ≡ kindVerdict t n line
+      unfolding kindVerdict verdictBy afterCheck kindTests kindsKept
+      fault-kinds r u = rw (fits-as true h, u) refl
+
+      pub kinds-pass : inputKindsOf ≡ Passed → passed ≡ kindVerdict t n line
+      unfolding kindVerdict verdictBy afterCheck kindTests kindsKept
+      kinds-pass u = rw (fits-as true h, u) refl
+
+-- ---- the tests from 8 on
 
 is-over : Total → Bool
 is-over Over = true
@@ -161,49 +222,61 @@ tenth-within k j h = go (leb k 1024) h
     go true e = (refl, sym (ap amount e))
     go false e = absurd (false≢true (sym (ap is-over e)))
 
-module _ (t : List ℕ) (n : ℕ) (p : List Bool) where
+module _ (t : List ℕ) (n : ℕ) (p : List Bool) (line : List ℕ) where
   abbrev eighth : Check
   eighth = lowest n (widthsWell t p)
 
   abbrev ninth : Check
   ninth = lowest n (boundWell t p)
 
-  pub fault-eighth : (r : ℕ) → eighth ≡ Fault r → Refused Width r ≡ tableVerdict t p n
+  pub fault-eighth : (r : ℕ) → eighth ≡ Fault r → Refused Width r ≡ tableVerdict t p n line
   unfolding tableVerdict verdictBy afterCheck formulaTests
   fault-eighth r u = rw u refl
 
   module _ (u : eighth ≡ Passed) where
-    pub fault-ninth : (r : ℕ) → ninth ≡ Fault r → Refused Unused r ≡ tableVerdict t p n
+    pub fault-ninth : (r : ℕ) → ninth ≡ Fault r → Refused Unused r ≡ tableVerdict t p n line
     unfolding tableVerdict verdictBy afterCheck formulaTests
     fault-ninth r v = rw (u, v) refl
 
-    pub fault-tenth : ninth ≡ Passed → (x : Total) → x ≡ totalOf (operatorsOf t n) → x ≡ Over → Refused Operators 0 ≡ tableVerdict t p n
-    unfolding tableVerdict verdictBy afterCheck formulaTests graphTests
-    fault-tenth v x e f = rw (u, v, tenth-over (operatorsOf t n) (sym e ∙ f)) refl
+    module _ (v : ninth ≡ Passed) (x : Verdict) (e : x ≡ kindVerdict t n line) where
+      kinds-then : tableVerdict t p n line ≡ then x (verdictBy graphTests (rowsIn t p n))
+      unfolding tableVerdict verdictBy afterCheck formulaTests kindTests kindVerdict
+      kinds-then = rw (u, v, e) (then-behind (rowsIn t p n) (kindTests line) graphTests)
 
-    pub tables-pass : ninth ≡ Passed → (x : Total) → x ≡ totalOf (operatorsOf t n) → (k : ℕ) → x ≡ Within k → passed ≡ tableVerdict t p n
-    unfolding tableVerdict verdictBy afterCheck formulaTests graphTests
-    tables-pass v x e k f = rw (u, v, tenth-within (operatorsOf t n) k (sym e ∙ f) .0) refl
+      pub kinds-refuse : (r : Refusal) (row : ℕ) → x ≡ Refused r row → Refused r row ≡ tableVerdict t p n line
+      kinds-refuse r row f = sym (kinds-then ∙ ap (λ (z : Verdict). then z (verdictBy graphTests (rowsIn t p n))) f)
+
+      module _ (f : x ≡ passed) (y : Total) (g : y ≡ totalOf (operatorsOf t n)) where
+        graph-decides : verdictBy graphTests (rowsIn t p n) ≡ tableVerdict t p n line
+        graph-decides = sym (kinds-then ∙ ap (λ (z : Verdict). then z (verdictBy graphTests (rowsIn t p n))) f)
+
+        pub fault-tenth : y ≡ Over → Refused Operators 0 ≡ tableVerdict t p n line
+        unfolding verdictBy afterCheck graphTests
+        fault-tenth h = rw (tenth-over (operatorsOf t n) (sym g ∙ h)) at graph-decides
+
+        pub tables-pass : (k : ℕ) → y ≡ Within k → passed ≡ tableVerdict t p n line
+        unfolding verdictBy afterCheck graphTests
+        tables-pass k h = rw (tenth-within (operatorsOf t n) k (sym g ∙ h) .0) at graph-decides
 
 -- ---- all tests
 
-module _ (s : List ℕ) where
-  all-then : verdictOf s ≡ then (rowVerdict s) (formulaVerdict (fieldsOf s) (rowCount s))
-  unfolding verdictOf tests formulaTests graphTests verdictBy sheetOf rowVerdict formulaVerdict
-  all-then = then-behind (sheetOf s) rowTests (formulaTests ++ graphTests)
+module _ (s line : List ℕ) where
+  all-then : verdictOf s line ≡ then (rowVerdict s) (formulaVerdict (fieldsOf s) (rowCount s) line)
+  unfolding verdictOf tests formulaTests kindTests graphTests verdictBy sheetOf rowVerdict formulaVerdict
+  all-then = then-behind (sheetOf s) rowTests (formulaTests ++ (kindTests line ++ graphTests))
 
-  pub rows-refuse : (v : Verdict) (r : Refusal) (row : ℕ) → v ≡ rowVerdict s → v ≡ Refused r row → Refused r row ≡ verdictOf s
-  rows-refuse v r row e f = sym (all-then ∙ ap (λ (x : Verdict). then x (formulaVerdict (fieldsOf s) (rowCount s))) (sym e ∙ f))
+  pub rows-refuse : (v : Verdict) (r : Refusal) (row : ℕ) → v ≡ rowVerdict s → v ≡ Refused r row → Refused r row ≡ verdictOf s line
+  rows-refuse v r row e f = sym (all-then ∙ ap (λ (x : Verdict). then x (formulaVerdict (fieldsOf s) (rowCount s) line)) (sym e ∙ f))
 
-  pub formula-decides : (v : Verdict) → v ≡ rowVerdict s → v ≡ passed → formulaVerdict (fieldsOf s) (rowCount s) ≡ verdictOf s
-  formula-decides v e f = sym (all-then ∙ ap (λ (x : Verdict). then x (formulaVerdict (fieldsOf s) (rowCount s))) (sym e ∙ f))
+  pub formula-decides : (v : Verdict) → v ≡ rowVerdict s → v ≡ passed → formulaVerdict (fieldsOf s) (rowCount s) line ≡ verdictOf s line
+  formula-decides v e f = sym (all-then ∙ ap (λ (x : Verdict). then x (formulaVerdict (fieldsOf s) (rowCount s) line)) (sym e ∙ f))
 
 -- ---- tables
 
 -- From what tests 8 and 9 leave for rows in places p.
 pub rowed-by : (t : List ℕ) (n k : ℕ) (p : List Bool) (ret m : List ℕ) → Ready t n p → k ≡ operatorsOf t n → Holds 0 ret n (λ r. returnedIn (nodeAt t p r))
-    → Holds 0 m n (λ r. mask (freeIn (nodeAt t p r))) → length ret ≡ n → length m ≡ n → Rowed t n k ret m
-rowed-by t n k p ret m ok e a b c d =
+    → Holds 0 m n (λ r. mask (freeIn (nodeAt t p r))) → length ret ≡ n → length m ≡ n → ExpRow t ret n → Rowed t n k ret m
+rowed-by t n k p ret m ok e a b c d row =
     record {
       ready = subst (λ (q : List Bool). Ready t n q) (ok .places) ok;
       operators = e;
@@ -211,6 +284,7 @@ rowed-by t n k p ret m ok e a b c d =
       masks = subst (λ (q : List Bool). Holds 0 m n (λ r. mask (freeIn (nodeAt t q r)))) (ok .places) b;
       returned-size = c;
       masks-size = d;
+      last = row;
     }
 
 pub rowed-as : (n k : ℕ) (t u ret m ret′ m′ : List ℕ) → u ≡ t → ret′ ≡ ret → m′ ≡ m → Rowed t n k ret m → Rowed u n k ret′ m′

@@ -1,5 +1,5 @@
 -- What reading gives: the tests in their order as the passes make them, the tables of an accepted sheet, and the answer for
--- the firmware (document 01, "Said by what was handed in", 1 to 10).
+-- the firmware (document 01, "Said by what was handed in", 1 to 10, and document 02, Job 6, 17 and 18).
 use Prim.Native.Nat.{ℕ, _*_, _≤_}
 use mathlib.Core.Path.{_≡_, sym, _∙_}
 use mathlib.Core.Bool.{Bool}
@@ -12,8 +12,9 @@ use Rattle.formula.specs.declared.Reading.the-variants.{Accepted, Rejected}
 use Rattle.formula.specs.Refusals.{numberOf}
 use Rattle.formula.specs.Sheet.{rowCount, fieldsOf}
 use Rattle.formula.specs.Places.{placesOf}
-use Rattle.formula.specs.Tests.{Sheet, operatorsOf, sheetOf, rowTests, formulaTests, graphTests, verdictBy, verdictOf}
-use Rattle.formula.specs.Acceptance.{Admissible, passed-admissible}
+use Rattle.formula.specs.Tests.{Sheet, operatorsOf, sheetOf, rowTests, formulaTests, kindTests, graphTests, verdictBy, verdictOf}
+use Rattle.formula.specs.Acceptance.{Admissible, Kinded, passed-admissible, passed-kinded}
+use Rattle.meaning.specs.Rows.{ExpRow}
 use Rattle.sheet_read.specs.declared.read.ReadAnswer.{ReadAnswer}
 use Rattle.sheet_read.specs.declared.read.Tested.{Tested}
 use Rattle.sheet_read.specs.declared.read.Tested.the-variants.{Refused, Passed}
@@ -30,15 +31,20 @@ rowVerdict s = verdictBy rowTests (sheetOf s)
 abbrev pub rowsIn : List ℕ → List Bool → ℕ → Sheet
 rowsIn t p n = record { text = []; rows = n; lines = []; fields = t; places = p }
 
--- Tests 6 to 10.
-unfoldable pub formulaVerdict : List ℕ → ℕ → Verdict
-unfolding verdictBy formulaTests graphTests placesOf
-formulaVerdict t n = verdictBy (formulaTests ++ graphTests) (rowsIn t (placesOf t n) n)
+-- Tests 17 and 18, which do not look at places.
+unfoldable pub kindVerdict : List ℕ → ℕ → List ℕ → Verdict
+unfolding verdictBy kindTests
+kindVerdict t n line = verdictBy (kindTests line) (rowsIn t [] n)
 
--- Tests 8 to 10: those behind 6 and 7.
-unfoldable pub tableVerdict : List ℕ → List Bool → ℕ → Verdict
-unfolding verdictBy formulaTests graphTests
-tableVerdict t p n = verdictBy (drop 2 (formulaTests ++ graphTests)) (rowsIn t p n)
+-- The tests from 6 on.
+unfoldable pub formulaVerdict : List ℕ → ℕ → List ℕ → Verdict
+unfolding verdictBy formulaTests kindTests graphTests placesOf
+formulaVerdict t n line = verdictBy (formulaTests ++ (kindTests line ++ graphTests)) (rowsIn t (placesOf t n) n)
+
+-- Those behind 6 and 7.
+unfoldable pub tableVerdict : List ℕ → List Bool → ℕ → List ℕ → Verdict
+unfolding verdictBy formulaTests kindTests graphTests
+tableVerdict t p n line = verdictBy (drop 2 (formulaTests ++ (kindTests line ++ graphTests))) (rowsIn t p n)
 
 -- What the tests say, and the operators of an accepted sheet's formula.
 abbrev pub verdictIn : Tested → Verdict
@@ -49,7 +55,8 @@ abbrev pub operatorsIn : Tested → ℕ
 operatorsIn (Refused r row) = 0
 operatorsIn (Passed k) = k
 
--- What is known of n rows with the fields t once tests 6 to 10 have passed: k operators, returned widths ret, masks m.
+-- What is known of n rows with the fields t once all tests have passed: k operators, returned widths ret, masks m; and that the
+-- last row is the formula's.
 pub record Rowed (t : List ℕ) (n k : ℕ) (ret m : List ℕ) : Type 0 where
   pub ready : Ready t n (placesOf t n)
   pub operators : k ≡ operatorsOf t n
@@ -57,6 +64,7 @@ pub record Rowed (t : List ℕ) (n k : ℕ) (ret m : List ℕ) : Type 0 where
   pub masks : Holds 0 m n (λ r. mask (freeIn (nodeAt t (placesOf t n) r)))
   pub returned-size : length ret ≡ n
   pub masks-size : length m ≡ n
+  pub last : ExpRow t ret n
 
 -- The tables of a sheet by row, and what the tests say of it.
 pub record Tables : Type 0 where
@@ -78,13 +86,17 @@ pub record Accepts (s : List ℕ) (x : Tables) : Type 0 where
   pub fields : take (5 * rowCount s) (x .fields) ≡ fieldsOf s
   pub tables : Rowed (fieldsOf s) (rowCount s) (x .operators) (take (rowCount s) (x .returned)) (take (rowCount s) (x .masks))
 
-pub record Told (s : List ℕ) (x : Tables) : Type 0 where
-  pub verdict : x .verdict ≡ verdictOf s
+pub record Told (s line : List ℕ) (x : Tables) : Type 0 where
+  pub verdict : x .verdict ≡ verdictOf s line
   pub accepts : x .verdict ≡ passed → Accepts s x
 
--- Where the tests told that they passed, the sheet is admissible.
-pub told-admissible : (s : List ℕ) (x : Tables) → Told s x → x .verdict ≡ passed → Admissible s
-told-admissible s x told well = passed-admissible s (sym (told .verdict) ∙ well)
+-- Where the tests told that they passed, the sheet is admissible and its kinds line is told and kept.
+module _ (s line : List ℕ) (x : Tables) (told : Told s line x) (well : x .verdict ≡ passed) where
+  pub told-admissible : Admissible s
+  told-admissible = passed-admissible s line (sym (told .verdict) ∙ well)
+
+  pub told-kinded : Kinded s line
+  told-kinded = passed-kinded s line (sym (told .verdict) ∙ well)
 
 -- The answer for the firmware: refusal 0 for an accepted sheet, else document 01's number; figures 0 on refusal.
 abbrev pub answerOf : Reading → ReadAnswer

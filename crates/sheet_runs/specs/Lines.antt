@@ -1,5 +1,5 @@
 -- How the program writes an answer of reading: six numbers, each right-justified in six characters as a field of document
--- 01's sheet, and a line feed; and where it finds the sheets.
+-- 01's sheet, and a line feed; and where it finds the sheets and their kinds lines.
 use Prim.Native.Nat.{ℕ, zero, suc, _+_, _*_, _-_, _/_, _%_, _≤_, _<_}
 use mathlib.Core.Path.{_≡_, refl}
 use mathlib.Core.Bool.{Bool, true, false, cond}
@@ -30,3 +30,10 @@ unfolding digitAt
 pathOf k =
     digitAt (k / 100) ∷ digitAt (k / 10) ∷ digitAt k
     ∷ 47 ∷ 102 ∷ 111 ∷ 114 ∷ 109 ∷ 117 ∷ 108 ∷ 97 ∷ 46 ∷ 116 ∷ 120 ∷ 116 ∷ []
+
+-- NNN/kinds.txt
+unfoldable pub kindsPathOf : ℕ → List ℕ
+unfolding digitAt
+kindsPathOf k =
+    digitAt (k / 100) ∷ digitAt (k / 10) ∷ digitAt k
+    ∷ 47 ∷ 107 ∷ 105 ∷ 110 ∷ 100 ∷ 115 ∷ 46 ∷ 116 ∷ 120 ∷ 116 ∷ []

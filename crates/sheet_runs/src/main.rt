@@ -1,6 +1,7 @@
-// Reads the sheets 001/formula.txt, 002/formula.txt and so on, up to the first that is missing, and writes for each what
-// bench_read answers: refusal, row, rows, operators, inputs, results, in six-character fields. The sheets in data/ and the
-// answers in stdout are those of the separately written reader (compare/, reader_cases).
+// Reads the sheets 001/formula.txt, 002/formula.txt and so on with their kinds lines 001/kinds.txt and so on, up to the first
+// that is missing, and writes for each what bench_read answers: refusal, row, rows, operators, inputs, results, in
+// six-character fields. The sheets in data/ and the answers in stdout are those of the separately written reader (compare/,
+// reader_cases).
 use libc::STDOUT_FILENO;
 use sheet_read::read::ReadAnswer;
 use sheet_read::read::bench_read;
@@ -10,7 +11,10 @@ ghost use lib.ListN.{length};
 ghost use lib.Seq.{sets};
 ghost use Rattle.formula.specs.Tests.{readingOf};
 ghost use Rattle.sheet_read.specs.Reading.{answerOf};
-ghost use Rattle.sheet_runs.specs.Lines.{digitAt, placeAt, six, lineOf, pathOf};
+ghost use Rattle.sheet_runs.specs.Lines.{digitAt, placeAt, six, lineOf, pathOf, kindsPathOf};
+
+// More than any kinds line has: 32 letters and a line feed.
+const LINE_BUFFER: usize = 64;
 
 // The last decimal digit of k.
 fn digit(k: u32) -> u8
@@ -59,11 +63,11 @@ fn line(a: ReadAnswer) -> [u8; 37]
     out
 }
 
-// What reading says of a sheet, as a line.
-fn told(sheet: &[u8]) -> [u8; 37]
-    ensures { λ r. ⌜ r ≡ lineOf (answerOf (readingOf (now (sheet .entry)))) ⌝ }
+// What reading says of a sheet with its kinds line, as a line.
+fn told(sheet: &[u8], kinds: &[u8]) -> [u8; 37]
+    ensures { λ r. ⌜ r ≡ lineOf (answerOf (readingOf (now (sheet .entry)) (now (kinds .entry)))) ⌝ }
 {
-    line(bench_read(sheet))
+    line(bench_read(sheet, kinds))
 }
 
 // The path of sheet k.
@@ -93,7 +97,18 @@ fn path(k: u32) -> [u8; 15]
     p
 }
 
-// Writes the line of sheet k; false where there is none.
+// The path of the kinds line of sheet k.
+fn kinds_path(k: u32) -> [u8; 13]
+    ensures { λ r. ⌜ r ≡ kindsPathOf k ⌝ }
+{
+    let mut p = [48, 48, 48, 47, 107, 105, 110, 100, 115, 46, 116, 120, 116];
+    p[0] = digit(k / 100);
+    p[1] = digit(k / 10);
+    p[2] = digit(k);
+    p
+}
+
+// Writes the line of sheet k; false where it or its kinds line is missing.
 fn show(k: u32) -> bool {
     let fd = os::open_read(&path(k));
     if fd < 0 {
@@ -102,7 +117,14 @@ fn show(k: u32) -> bool {
     let mut buf = io::large_buffer();
     let n = io::read_full(fd, &mut buf);
     libc::close(fd);
-    io::write_all(STDOUT_FILENO, &told(&buf[..n]))
+    let kinds = os::open_read(&kinds_path(k));
+    if kinds < 0 {
+        return false;
+    }
+    let mut letters = [0u8; LINE_BUFFER];
+    let m = io::read_full(kinds, &mut letters);
+    libc::close(kinds);
+    io::write_all(STDOUT_FILENO, &told(&buf[..n], &letters[..m]))
 }
 
 fn main() {

@@ -16,6 +16,7 @@ use Rattle.value.specs.declared.Reason.the-variants.{ZeroDivisor, OutOfRange, O
 use Rattle.value.specs.declared.Value.{Value}
 use Rattle.value.specs.declared.Value.the-variants.{Whole, Truth, Err}
 use Rattle.value.specs.Senses.{err}
+use Rattle.value.specs.Kinds.{suits, kindOfLetter, ofKind}
 use Rattle.value.specs.Bytes.{InRange, wordOf, wordBytes, bytesOf, wordAt}
 use Rattle.value.proofs.Words.{value-of-word, word-lt, stored-parts, word-stored}
 use Rattle.formula.specs.declared.Field.{Field}
@@ -263,6 +264,11 @@ field-part (v ∷ vs) t (suc j) h =
     ∙ ap (take 11) (drop-append-add (valueField v) (printed vs ++ t) (11 * j))
     ∙ field-part vs t j (omega arith)
 
+-- Values of these kinds, or errs.
+pub record Suited (kinds : List ℕ) (vs : List Value) : Type 0 where
+  pub count : length vs ≡ length kinds
+  pub suit : (j : ℕ) → j < length vs → suits (kindOfLetter (getD kinds j 0)) (getD vs j err) ≡ true
+
 module _ (vs : List Value) (r : AllInRange vs) where
   value-at : (j : ℕ) → j < length vs → fieldValue (fieldAt (printedLine vs) j) ≡ some (getD vs j err)
   unfolding printedLine
@@ -270,10 +276,10 @@ module _ (vs : List Value) (r : AllInRange vs) where
       ap fieldValue (drop-take (11 * j) 11 (printed vs ++ (10 ∷ [])) ∙ field-part vs (10 ∷ []) j h)
       ∙ value-reads-back (getD vs j err) (range-at vs j r)
 
-  wells-printed : (k : ℕ) → k ≤ length vs → fieldsWell k (printedLine vs) ≡ true
-  unfolding fieldsWell
-  wells-printed zero h = refl
-  wells-printed (suc k) h = rw (wells-printed k (omega arith), value-at k (omega arith)) refl
+  wells-printed : (kinds : List ℕ) → Suited kinds vs → (k : ℕ) → k ≤ length vs → fieldsWell kinds k (printedLine vs) ≡ true
+  unfolding fieldsWell ofKind
+  wells-printed kinds s zero h = refl
+  wells-printed kinds s (suc k) h = rw (wells-printed kinds s k (omega arith), value-at k (omega arith), s .suit k (omega arith)) refl
 
   bytes-printed : (k : ℕ) → k ≤ length vs → fieldBytes k (printedLine vs) ≡ spelled (take k vs)
   unfolding fieldBytes spelled bytesOf
@@ -285,9 +291,11 @@ module _ (vs : List Value) (r : AllInRange vs) where
   unfolding printedLine
   feed = getD-at (printed vs) 10 [] 0 (11 * length vs) (printed-length vs)
 
-  pub line-is-set : isSetLine (length vs) (printedLine vs) ≡ true
+  pub line-is-set : (kinds : List ℕ) → Suited kinds vs → isSetLine kinds (printedLine vs) ≡ true
   unfolding isSetLine
-  line-is-set = rw (eq-eqb (length (printedLine vs)) (11 * length vs + 1) (line-length vs), feed, wells-printed (length vs) (omega arith)) refl
+  line-is-set kinds s =
+      let n : length kinds ≡ length vs = sym (s .count) in
+      rw (n, eq-eqb (length (printedLine vs)) (11 * length vs + 1) (line-length vs), feed, wells-printed kinds s (length vs) (omega arith)) refl
 
   pub line-reads-back : fieldBytes (length vs) (printedLine vs) ≡ spelled vs
   line-reads-back = bytes-printed (length vs) (omega arith) ∙ ap spelled (take-length vs)
@@ -346,25 +354,26 @@ unfolding printedLine
 printedFile [] = []
 printedFile (vs ∷ vss) = printedLine vs ++ printedFile vss
 
--- Sets of k values.
-abbrev pub Sets : ℕ → List (List Value) → Type 0
-Sets k [] = Unit
-Sets k (vs ∷ vss) = (length vs ≡ k) × (AllInRange vs × Sets k vss)
+-- Sets of values of these kinds, or errs.
+abbrev pub Sets : List ℕ → List (List Value) → Type 0
+Sets kinds [] = Unit
+Sets kinds (vs ∷ vss) = Suited kinds vs × (AllInRange vs × Sets kinds vss)
 
-lines-read-back : (k i : ℕ) (vss : List (List Value)) → Sets k vss → setsFrom k i (linesOf (printedFile vss)) ≡ sets (map spelled vss)
+lines-read-back : (kinds : List ℕ) (i : ℕ) (vss : List (List Value)) → Sets kinds vss → setsFrom kinds i (linesOf (printedFile vss)) ≡ sets (map spelled vss)
 unfolding printedFile oneMore
-lines-read-back k i [] s = no-line k i [] (omega arith)
-lines-read-back k i (vs ∷ vss) s =
-    let n : length vs ≡ k = s .0 in
+lines-read-back kinds i [] s = no-line kinds i [] (omega arith)
+lines-read-back kinds i (vs ∷ vss) s =
+    let k : ℕ = length kinds in
+    let n : length vs ≡ length kinds = s .0 .count in
     let e : length (printedLine vs) ≡ 11 * k + 1 = line-length vs ∙ rw n refl in
     let t : take (11 * k + 1) (printedLine vs ++ printedFile vss) ≡ printedLine vs = take-at (printedLine vs) (printedFile vss) (11 * k + 1) e in
     let d : drop (11 * k + 1) (printedLine vs ++ printedFile vss) ≡ printedFile vss = drop-at (printedLine vs) (printedFile vss) (11 * k + 1) e in
-    let w : isSetLine k (printedLine vs) ≡ true = ap (λ (j : ℕ). isSetLine j (printedLine vs)) (sym n) ∙ line-is-set vs (s .1 .0) in
+    let w : isSetLine kinds (printedLine vs) ≡ true = line-is-set vs (s .1 .0) kinds (s .0) in
     let b : fieldBytes k (printedLine vs) ≡ spelled vs = ap (λ (j : ℕ). fieldBytes j (printedLine vs)) (sym n) ∙ line-reads-back vs (s .1 .0) in
-    good-line k i (printedLine vs ++ printedFile vss) (ap (isSetLine k) t ∙ w)
-    ∙ rw (t, d, b, lines-read-back k (suc i) vss (s .1 .1)) refl
+    good-line kinds i (printedLine vs ++ printedFile vss) (ap (isSetLine kinds) t ∙ w)
+    ∙ rw (t, d, b, lines-read-back kinds (suc i) vss (s .1 .1)) refl
 
 -- Printed lines are a set file, and its sets are the values that were printed.
-pub file-reads-back : (k : ℕ) (vss : List (List Value)) → Sets k vss → setsOf k (printedFile vss) ≡ sets (map spelled vss)
+pub file-reads-back : (kinds : List ℕ) (vss : List (List Value)) → Sets kinds vss → setsOf kinds (printedFile vss) ≡ sets (map spelled vss)
 unfolding setsOf
-file-reads-back k vss s = lines-read-back k 1 vss s
+file-reads-back kinds vss s = lines-read-back kinds 1 vss s

@@ -16,7 +16,8 @@ use Rattle.value.specs.declared.Value.{Value}
 use Rattle.value.specs.declared.Value.the-variants.{Truth, Err}
 use Rattle.value.specs.Operators.{pick}
 use Rattle.value.specs.Bytes.{isSome, wordOf, wordBytes, stored}
-use Rattle.value.proofs.Words.{word-pos, stored-parts}
+use Rattle.value.specs.Kinds.{ofKind}
+use Rattle.value.proofs.Words.{stored-parts}
 use Rattle.formula.specs.declared.Field.{Field}
 use Rattle.formula.specs.declared.Field.the-variants.{Number, Malformed}
 use Rattle.formula.specs.Sheet.{digitsOf, fieldOf, zeroOf, isDigit}
@@ -24,7 +25,7 @@ use Rattle.formula.specs.Tests.{wellFormed}
 use Rattle.text.specs.declared.Lines.{Lines}
 use Rattle.text.specs.declared.Lines.the-variants.{Sets as counted, Bad as bad}
 use Rattle.text.specs.Fields.{positive, negative, behindMinus, alone, fieldValue, wordBy}
-use Rattle.text.specs.SetLines.{before, linesOf, fieldAt, fieldsWell, fieldBytes, isSetLine, SetFile, sets as setsIn, badLine, oneMore, setsFrom, setsOf, countOf}
+use Rattle.text.specs.SetLines.{before, linesOf, lineAt, fieldAt, fieldsWell, fieldBytes, isSetLine, SetFile, sets as setsIn, badLine, oneMore, setsFrom, setsOf, countOf}
 
 false-true : {A : Type 0} → _≡_ {A = Bool} false true → A
 false-true e = let z : _≡_ {A = ℕ} 0 1 = cc in absurd (omega arith)
@@ -126,15 +127,12 @@ value-no-feed (b ∷ s) e =
     go later false _ false _ false _ false _ false _ false _ true p k = (ne-eqb b 10 (λ h. omega (arith, h, eqb-true b 45 p)), minus-no-feed s k)
     go later false _ false _ false _ false _ false _ false _ false _ k = field-no-feed (b ∷ s) (positive-formed (fieldOf (b ∷ s)) k)
 
--- ---- a word is 0 for a bad field alone
+-- ---- what is of a kind is a value
 
-pub word-none : (o : Option Value) → wordBy o ≡ 0 → isSome o ≡ false
-word-none (some v) e = absurd (omega (arith, e, word-pos v))
-word-none none e = refl
-
-pub word-some : (o : Option Value) → (wordBy o ≡ 0 → ⊥) → isSome o ≡ true
-word-some (some v) n = refl
-word-some none n = absurd (n refl)
+kind-value : (letter : ℕ) (o : Option Value) → isSome (ofKind letter o) ≡ true → isSome o ≡ true
+unfolding ofKind
+kind-value letter (some v) e = refl
+kind-value letter none e = e
 
 -- ---- where a field of a line stands
 
@@ -143,37 +141,47 @@ drop-take zero k l = let e : 0 + k ≡ k = omega arith in rw e refl
 drop-take (suc m) k [] = let e : suc m + k ≡ suc (m + k) = omega arith in rw e (sym (take-nil k))
 drop-take (suc m) k (x ∷ l) = let e : suc m + k ≡ suc (m + k) = omega arith in rw e (drop-take m k l)
 
-abbrev pub lineAt : ℕ → List ℕ → ℕ → List ℕ
-lineAt k s at = take (11 * k + 1) (drop at s)
-
-pub field-at : (k : ℕ) (s : List ℕ) (at j : ℕ) → j < k → fieldAt (lineAt k s at) j ≡ slice (at + 11 * j) (at + 11 * j + 11) s
-field-at k s at j h =
-    ap (drop (11 * j)) (take-take (11 * j + 11) (11 * k + 1) (drop at s) (omega arith) ∙ sym (drop-take at (11 * j + 11) s))
+pub field-at : (kinds s : List ℕ) (at j : ℕ) → j < length kinds → fieldAt (lineAt kinds s at) j ≡ slice (at + 11 * j) (at + 11 * j + 11) s
+field-at kinds s at j h =
+    ap (drop (11 * j)) (take-take (11 * j + 11) (11 * length kinds + 1) (drop at s) (omega arith) ∙ sym (drop-take at (11 * j + 11) s))
     ∙ drop-drop (11 * j) at (take (at + (11 * j + 11)) s)
     ∙ ap (λ (n : ℕ). drop (at + 11 * j) (take n s)) (let e : at + (11 * j + 11) ≡ at + 11 * j + 11 = omega arith in e)
 
 -- ---- fields one by one
 
-pub wells-none : (l : List ℕ) → fieldsWell 0 l ≡ true
-unfolding fieldsWell
-wells-none l = refl
+-- Whether a line's field j is a value of its kind, or an err.
+abbrev pub fieldWell : List ℕ → List ℕ → ℕ → Bool
+fieldWell kinds l j = isSome (ofKind (getD kinds j 0) (fieldValue (fieldAt l j)))
 
-pub wells-more : (l : List ℕ) (j : ℕ) → fieldsWell j l ≡ true → isSome (fieldValue (fieldAt l j)) ≡ true → fieldsWell (j + 1) l ≡ true
-unfolding fieldsWell
-wells-more l j p q = let e : j + 1 ≡ suc j = omega arith in rw (e, p, q) refl
+module _ (kinds l : List ℕ) where
+  pub wells-none : fieldsWell kinds 0 l ≡ true
+  unfolding fieldsWell
+  wells-none = refl
+
+  pub wells-more : (j : ℕ) → fieldsWell kinds j l ≡ true → fieldWell kinds l j ≡ true → fieldsWell kinds (j + 1) l ≡ true
+  unfolding fieldsWell
+  wells-more j p q = let e : j + 1 ≡ suc j = omega arith in rw (e, p, q) refl
 
 and-false : (a b : Bool) → b ≡ false → a && b ≡ false
 and-false true b e = e
 and-false false b e = refl
 
-pub wells-fail : (k : ℕ) (l : List ℕ) (j : ℕ) → j < k → isSome (fieldValue (fieldAt l j)) ≡ false → fieldsWell k l ≡ false
+pub wells-fail : (kinds : List ℕ) (k : ℕ) (l : List ℕ) (j : ℕ) → j < k → fieldWell kinds l j ≡ false → fieldsWell kinds k l ≡ false
 unfolding fieldsWell
-wells-fail zero l j h e = absurd (omega arith)
-wells-fail (suc k) l j h e = go (λ n. wells-fail k l j (omega (arith, n, h)) e) (ℕ-discrete j k)
+wells-fail kinds zero l j h e = absurd (omega arith)
+wells-fail kinds (suc k) l j h e = go (λ n. wells-fail kinds k l j (omega (arith, n, h)) e) (ℕ-discrete j k)
   where
-    go : ((j ≡ k → ⊥) → fieldsWell k l ≡ false) → Dec (j ≡ k) → fieldsWell k l && isSome (fieldValue (fieldAt l k)) ≡ false
-    go later (yes q) = and-false (fieldsWell k l) (isSome (fieldValue (fieldAt l k))) (rw q at e)
-    go later (no n) = ap (λ (b : Bool). b && isSome (fieldValue (fieldAt l k))) (later n)
+    go : ((j ≡ k → ⊥) → fieldsWell kinds k l ≡ false) → Dec (j ≡ k) → fieldsWell kinds k l && fieldWell kinds l k ≡ false
+    go later (yes q) = and-false (fieldsWell kinds k l) (fieldWell kinds l k) (rw q at e)
+    go later (no n) = ap (λ (b : Bool). b && fieldWell kinds l k) (later n)
+
+pub wells-at : (kinds : List ℕ) (k : ℕ) (l : List ℕ) → fieldsWell kinds k l ≡ true → (j : ℕ) → j < k → fieldWell kinds l j ≡ true
+unfolding fieldsWell
+wells-at kinds k l e j h = go (fieldWell kinds l j) refl
+  where
+    go : (b : Bool) → fieldWell kinds l j ≡ b → fieldWell kinds l j ≡ true
+    go true q = q
+    go false q = false-true (sym (wells-fail kinds k l j h q) ∙ e)
 
 pub bytes-none : (l o : List ℕ) → o ≡ fieldBytes 0 l ++ drop (5 * 0) o
 unfolding fieldBytes
@@ -206,26 +214,32 @@ bytes-more l o j q e h =
 
 -- ---- whether a line is a set
 
-pub short-line : (k : ℕ) (s : List ℕ) (at : ℕ) → length s - at < 11 * k + 1 → isSetLine k (lineAt k s at) ≡ false
+pub short-line : (kinds s : List ℕ) (at : ℕ) → length s - at < 11 * length kinds + 1 → isSetLine kinds (lineAt kinds s at) ≡ false
 unfolding isSetLine
-short-line k s at h =
-    let e : length (lineAt k s at) ≡ length s - at = length-take (11 * k + 1) (drop at s) ∙ rw (length-drop at s) (omega arith) in
-    rw (ne-eqb (length (lineAt k s at)) (11 * k + 1) (λ q. omega (arith, q, e, h))) refl
+short-line kinds s at h =
+    let e : length (lineAt kinds s at) ≡ length s - at = length-take (11 * length kinds + 1) (drop at s) ∙ rw (length-drop at s) (omega arith) in
+    rw (ne-eqb (length (lineAt kinds s at)) (11 * length kinds + 1) (λ q. omega (arith, q, e, h))) refl
 
-module _ (k : ℕ) (s : List ℕ) (at : ℕ) (h : 11 * k + 1 ≤ length s - at) where
-  whole : length (lineAt k s at) ≡ 11 * k + 1
-  whole = length-take (11 * k + 1) (drop at s) ∙ rw (length-drop at s) (omega arith)
+module _ (kinds s : List ℕ) (at : ℕ) (h : 11 * length kinds + 1 ≤ length s - at) where
+  abbrev fed-at : ℕ
+  fed-at = 11 * length kinds
 
-  feed : getD (lineAt k s at) (11 * k) 0 ≡ getD s (at + 11 * k) 0
-  feed = getD-take (11 * k + 1) (drop at s) (11 * k) 0 (omega arith) ∙ getD-drop at s (11 * k) 0
+  abbrev line : List ℕ
+  line = lineAt kinds s at
 
-  pub unended-line : (getD s (at + 11 * k) 0 ≡ 10 → ⊥) → isSetLine k (lineAt k s at) ≡ false
+  whole : length line ≡ fed-at + 1
+  whole = length-take (fed-at + 1) (drop at s) ∙ rw (length-drop at s) (omega arith)
+
+  feed : getD line fed-at 0 ≡ getD s (at + fed-at) 0
+  feed = getD-take (fed-at + 1) (drop at s) fed-at 0 (omega arith) ∙ getD-drop at s fed-at 0
+
+  pub unended-line : (getD s (at + 11 * length kinds) 0 ≡ 10 → ⊥) → isSetLine kinds (lineAt kinds s at) ≡ false
   unfolding isSetLine
-  unended-line n = rw (eq-eqb (length (lineAt k s at)) (11 * k + 1) whole, feed, ne-eqb (getD s (at + 11 * k) 0) 10 n) refl
+  unended-line n = rw (eq-eqb (length line) (fed-at + 1) whole, feed, ne-eqb (getD s (at + fed-at) 0) 10 n) refl
 
-  pub ended-line : getD s (at + 11 * k) 0 ≡ 10 → isSetLine k (lineAt k s at) ≡ fieldsWell k (lineAt k s at)
+  pub ended-line : getD s (at + 11 * length kinds) 0 ≡ 10 → isSetLine kinds (lineAt kinds s at) ≡ fieldsWell kinds (length kinds) (lineAt kinds s at)
   unfolding isSetLine
-  ended-line e = rw (eq-eqb (length (lineAt k s at)) (11 * k + 1) whole, feed, eq-eqb (getD s (at + 11 * k) 0) 10 e) refl
+  ended-line e = rw (eq-eqb (length line) (fed-at + 1) whole, feed, eq-eqb (getD s (at + fed-at) 0) 10 e) refl
 
 -- ---- the lines of the file
 
@@ -234,63 +248,72 @@ unfolding linesOf
 line-splits [] r p = refl
 line-splits (b ∷ w) r p = rw (p .0, line-splits w r (p .1)) refl
 
-fields-no-feed : (k : ℕ) (l : List ℕ) → fieldsWell k l ≡ true → NoFeed (take (11 * k) l)
+fields-no-feed : (kinds : List ℕ) (k : ℕ) (l : List ℕ) → fieldsWell kinds k l ≡ true → NoFeed (take (11 * k) l)
 unfolding fieldsWell
-fields-no-feed zero l e = tt
-fields-no-feed (suc k) l e =
+fields-no-feed kinds zero l e = tt
+fields-no-feed kinds (suc k) l e =
     let n : 11 * suc k ≡ 11 * k + 11 = omega arith in
-    let f : isSome (fieldValue (take 11 (drop (11 * k) l))) ≡ true =
-    ap (λ (x : List ℕ). isSome (fieldValue x)) (sym (drop-take (11 * k) 11 l)) ∙ and-right (fieldsWell k l) (isSome (fieldValue (fieldAt l k))) e in
+    let v : isSome (fieldValue (fieldAt l k)) ≡ true =
+    kind-value (getD kinds k 0) (fieldValue (fieldAt l k)) (and-right (fieldsWell kinds k l) (fieldWell kinds l k) e) in
+    let f : isSome (fieldValue (take 11 (drop (11 * k) l))) ≡ true = ap (λ (x : List ℕ). isSome (fieldValue x)) (sym (drop-take (11 * k) 11 l)) ∙ v in
     rw (n, take-add (11 * k) 11 l)
-    (no-feed-append (take (11 * k) l) (take 11 (drop (11 * k) l)) (fields-no-feed k l (and-left (fieldsWell k l) (isSome (fieldValue (fieldAt l k))) e))
+    (no-feed-append (take (11 * k) l) (take 11 (drop (11 * k) l)) (fields-no-feed kinds k l (and-left (fieldsWell kinds k l) (fieldWell kinds l k) e))
     (value-no-feed (take 11 (drop (11 * k) l)) f))
 
+-- What a set line is.
+module _ (kinds l : List ℕ) (e : isSetLine kinds l ≡ true) where
+  abbrev long : Bool
+  long = eqb (length l) (11 * length kinds + 1)
+
+  abbrev ended : Bool
+  ended = eqb (getD l (11 * length kinds) 0) 10
+
+  both : long && ended ≡ true
+  unfolding isSetLine
+  both = and-left (long && ended) (fieldsWell kinds (length kinds) l) e
+
+  sized : length l ≡ 11 * length kinds + 1
+  sized = eqb-true (length l) (11 * length kinds + 1) (and-left long ended both)
+
+  fed : getD l (11 * length kinds) 0 ≡ 10
+  fed = eqb-true (getD l (11 * length kinds) 0) 10 (and-right long ended both)
+
+  pub set-line-wells : fieldsWell kinds (length kinds) l ≡ true
+  unfolding isSetLine
+  set-line-wells = and-right (long && ended) (fieldsWell kinds (length kinds) l) e
+
 -- A set line in front of a file is its first line.
-module _ (k : ℕ) (r : List ℕ) (e : isSetLine k (take (11 * k + 1) r) ≡ true) where
-  front : List ℕ
-  front = take (11 * k + 1) r
+module _ (kinds r : List ℕ) (e : isSetLine kinds (take (11 * length kinds + 1) r) ≡ true) where
+  abbrev at : ℕ
+  at = 11 * length kinds
 
-  sized : length front ≡ 11 * k + 1
-  unfolding isSetLine front
-  sized = eqb-true (length front) (11 * k + 1) (and-left (eqb (length front) (11 * k + 1)) (eqb (getD front (11 * k) 0) 10) (and-left (eqb (length front) (11 * k + 1) && eqb (getD front (11 * k) 0) 10) (fieldsWell k front) e))
+  abbrev front : List ℕ
+  front = take (at + 1) r
 
-  fed : getD front (11 * k) 0 ≡ 10
-  unfolding isSetLine front
-  fed = eqb-true (getD front (11 * k) 0) 10 (and-right (eqb (length front) (11 * k + 1)) (eqb (getD front (11 * k) 0) 10) (and-left (eqb (length front) (11 * k + 1) && eqb (getD front (11 * k) 0) 10) (fieldsWell k front) e))
+  pub set-line-fits : 11 * length kinds + 1 ≤ length r
+  set-line-fits = let n : length front ≡ at + 1 = sized kinds front e in omega (arith, n, length-take (at + 1) r)
 
-  wells : fieldsWell k front ≡ true
-  unfolding isSetLine front
-  wells = and-right (eqb (length front) (11 * k + 1) && eqb (getD front (11 * k) 0) 10) (fieldsWell k front) e
+  byte : getD r at 0 ≡ 10
+  byte = sym (getD-take (at + 1) r at 0 (omega arith)) ∙ fed kinds front e
 
-  pub set-line-fits : 11 * k + 1 ≤ length r
-  unfolding front
-  set-line-fits = let n : length (take (11 * k + 1) r) ≡ 11 * k + 1 = sized in omega (arith, n, length-take (11 * k + 1) r)
+  text : NoFeed (take at r)
+  text = let p : NoFeed (take at front) = fields-no-feed kinds (length kinds) front (set-line-wells kinds front e) in rw (take-take at (at + 1) r (omega arith)) at p
 
-  byte : getD r (11 * k) 0 ≡ 10
-  unfolding front
-  byte = sym (getD-take (11 * k + 1) r (11 * k) 0 (omega arith)) ∙ fed
-
-  text : NoFeed (take (11 * k) r)
-  unfolding front
-  text = let p : NoFeed (take (11 * k) (take (11 * k + 1) r)) = fields-no-feed k front wells in rw (take-take (11 * k) (11 * k + 1) r (omega arith)) at p
-
-  parts : r ≡ take (11 * k) r ++ (10 ∷ drop (11 * k + 1) r)
+  parts : r ≡ take at r ++ (10 ∷ drop (at + 1) r)
   parts =
-      let n : 11 * k + 1 ≡ suc (11 * k) = omega arith in
-      split-at r (11 * k) 0 (omega (arith, set-line-fits)) ∙ rw (byte, n) refl
+      let n : at + 1 ≡ suc at = omega arith in
+      split-at r at 0 (omega (arith, set-line-fits)) ∙ rw (byte, n) refl
 
-  first : front ≡ take (11 * k) r ++ (10 ∷ [])
-  unfolding front
+  first : front ≡ take at r ++ (10 ∷ [])
   first =
-      let n : 11 * k + 1 ≡ suc (11 * k) = omega arith in
-      rw n (take-suc r (11 * k) 0 (omega (arith, set-line-fits)) ∙ rw byte refl)
+      let n : at + 1 ≡ suc at = omega arith in
+      rw n (take-suc r at 0 (omega (arith, set-line-fits)) ∙ rw byte refl)
 
-  pub set-line-first : linesOf r ≡ take (11 * k + 1) r ∷ linesOf (drop (11 * k + 1) r)
-  unfolding front
+  pub set-line-first : linesOf r ≡ take (11 * length kinds + 1) r ∷ linesOf (drop (11 * length kinds + 1) r)
   set-line-first =
       ap linesOf parts
-      ∙ line-splits (take (11 * k) r) (drop (11 * k + 1) r) text
-      ∙ ap (λ (x : List ℕ). x ∷ linesOf (drop (11 * k + 1) r)) (sym first)
+      ∙ line-splits (take at r) (drop (at + 1) r) text
+      ∙ ap (λ (x : List ℕ). x ∷ linesOf (drop (at + 1) r)) (sym first)
 
 -- A first line is what its length takes from the file.
 abbrev First : List ℕ → List (List ℕ) → Type 0
@@ -311,16 +334,16 @@ first-line (b ∷ s) = go (first-line s) (eqb b 10) refl
     go p true e = ap (λ (n : ℕ). n ∷ []) (eqb-true b 10 e)
     go p false e = first-before b s (linesOf s) p
 
-bad-first : (k i : ℕ) (r : List ℕ) (ls : List (List ℕ)) → First r ls → (ls ≡ [] → ⊥) → isSetLine k (take (11 * k + 1) r) ≡ false → setsFrom k i ls ≡ badLine i
-unfolding setsFrom isSetLine
-bad-first k i r [] p n e = absurd (n refl)
-bad-first k i r (l ∷ ls) p n e = go (isSetLine k l) refl
+bad-first : (kinds : List ℕ) (i : ℕ) (r : List ℕ) (ls : List (List ℕ)) → First r ls → (ls ≡ [] → ⊥) → isSetLine kinds (take (11 * length kinds + 1) r) ≡ false
+    → setsFrom kinds i ls ≡ badLine i
+unfolding setsFrom
+bad-first kinds i r [] p n e = absurd (n refl)
+bad-first kinds i r (l ∷ ls) p n e = go (isSetLine kinds l) refl
   where
-    go : (x : Bool) → isSetLine k l ≡ x → pick x (oneMore (fieldBytes k l) (setsFrom k (suc i) ls)) (badLine i) ≡ badLine i
+    go : (x : Bool) → isSetLine kinds l ≡ x → pick x (oneMore (fieldBytes (length kinds) l) (setsFrom kinds (suc i) ls)) (badLine i) ≡ badLine i
     go true q =
-        let m : length l ≡ 11 * k + 1 = eqb-true (length l) (11 * k + 1) (and-left (eqb (length l) (11 * k + 1)) (eqb (getD l (11 * k) 0) 10) (and-left (eqb (length l) (11 * k + 1) && eqb (getD l (11 * k) 0) 10) (fieldsWell k l) q)) in
-        let t : take (11 * k + 1) r ≡ l = ap (λ (x : ℕ). take x r) (sym m) ∙ p in
-        false-true (sym e ∙ ap (isSetLine k) t ∙ q)
+        let t : take (11 * length kinds + 1) r ≡ l = ap (λ (x : ℕ). take x r) (sym (sized kinds l q)) ∙ p in
+        false-true (sym e ∙ ap (isSetLine kinds) t ∙ q)
     go false q = refl
 
 no-lines : (r : List ℕ) → linesOf r ≡ [] → r ≡ []
@@ -333,18 +356,20 @@ no-lines (b ∷ s) e = go (eqb b 10) (linesOf s) e
     go false [] q = absurd (let z : _≡_ {A = ℕ} 1 0 = cc (ap length q) in omega arith)
     go false (l ∷ ls) q = absurd (let z : length ((b ∷ l) ∷ ls) ≡ 0 = ap length q in omega arith)
 
-pub bad-line : (k i : ℕ) (r : List ℕ) → 0 < length r → isSetLine k (take (11 * k + 1) r) ≡ false → setsFrom k i (linesOf r) ≡ badLine i
-bad-line k i r h e = bad-first k i r (linesOf r) (first-line r) (λ q. omega (arith, h, ap length (no-lines r q))) e
+module _ (kinds : List ℕ) (i : ℕ) (r : List ℕ) where
+  pub bad-line : 0 < length r → isSetLine kinds (take (11 * length kinds + 1) r) ≡ false → setsFrom kinds i (linesOf r) ≡ badLine i
+  bad-line h e = bad-first kinds i r (linesOf r) (first-line r) (λ q. omega (arith, h, ap length (no-lines r q))) e
 
-pub good-line : (k i : ℕ) (r : List ℕ) → isSetLine k (take (11 * k + 1) r) ≡ true
-    → setsFrom k i (linesOf r) ≡ oneMore (fieldBytes k (take (11 * k + 1) r)) (setsFrom k (suc i) (linesOf (drop (11 * k + 1) r)))
-unfolding setsFrom
-good-line k i r e = rw (set-line-first k r e, e) refl
+  pub good-line : isSetLine kinds (take (11 * length kinds + 1) r) ≡ true
+      → setsFrom kinds i (linesOf r)
+      ≡ oneMore (fieldBytes (length kinds) (take (11 * length kinds + 1) r)) (setsFrom kinds (suc i) (linesOf (drop (11 * length kinds + 1) r)))
+  unfolding setsFrom
+  good-line e = rw (set-line-first kinds r e, e) refl
 
-pub no-line : (k i : ℕ) (r : List ℕ) → length r ≤ 0 → setsFrom k i (linesOf r) ≡ setsIn []
+pub no-line : (kinds : List ℕ) (i : ℕ) (r : List ℕ) → length r ≤ 0 → setsFrom kinds i (linesOf r) ≡ setsIn []
 unfolding setsFrom linesOf
-no-line k i [] h = refl
-no-line k i (b ∷ s) h = absurd (omega arith)
+no-line kinds i [] h = refl
+no-line kinds i (b ∷ s) h = absurd (omega arith)
 
 -- ---- a pass that has read n sets
 
@@ -395,15 +420,16 @@ unfolding oneMore
 one-sized b (setsIn ss) i n p = omega arith
 one-sized b (badLine j) i n p = p
 
-sets-few : (k i n : ℕ) (ls : List (List ℕ)) → i + length ls ≤ n + 1 → Sized (setsFrom k i ls) i n
+sets-few : (kinds : List ℕ) (i n : ℕ) (ls : List (List ℕ)) → i + length ls ≤ n + 1 → Sized (setsFrom kinds i ls) i n
 unfolding setsFrom
-sets-few k i n [] h = omega arith
-sets-few k i n (l ∷ ls) h = go (isSetLine k l) (sets-few k (suc i) n ls (omega arith))
+sets-few kinds i n [] h = omega arith
+sets-few kinds i n (l ∷ ls) h = go (isSetLine kinds l) (sets-few kinds (suc i) n ls (omega arith))
   where
-    go : (x : Bool) → Sized (setsFrom k (suc i) ls) (suc i) n → Sized (pick x (oneMore (fieldBytes k l) (setsFrom k (suc i) ls)) (badLine i)) i n
-    go true p = one-sized (fieldBytes k l) (setsFrom k (suc i) ls) i n p
+    go : (x : Bool) → Sized (setsFrom kinds (suc i) ls) (suc i) n
+        → Sized (pick x (oneMore (fieldBytes (length kinds) l) (setsFrom kinds (suc i) ls)) (badLine i)) i n
+    go true p = one-sized (fieldBytes (length kinds) l) (setsFrom kinds (suc i) ls) i n p
     go false p = omega arith
 
-pub file-few : (k : ℕ) (s : List ℕ) → Few (setsOf k s) (length s)
+pub file-few : (kinds s : List ℕ) → Few (setsOf kinds s) (length s)
 unfolding setsOf
-file-few k s = few (setsFrom k 1 (linesOf s)) (length s) (sets-few k 1 (length s) (linesOf s) (omega (arith, lines-few s)))
+file-few kinds s = few (setsFrom kinds 1 (linesOf s)) (length s) (sets-few kinds 1 (length s) (linesOf s) (omega (arith, lines-few s)))

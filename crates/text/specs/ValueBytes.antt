@@ -1,8 +1,8 @@
 -- The bytes that are read from a set line are values' bytes: each field's value is in the values' range, and its word stands in its place. So a set line is a
--- set that passes 12 in push. Assumes nothing.
+-- set that passes 12 in push, with the same kinds. Assumes nothing.
 use Prim.Native.Nat.{ℕ, zero, suc, _+_, _*_, _-_, _≤_, _<_}
 use mathlib.Core.Path.{_≡_, refl, sym, ap, subst, _∙_}
-use mathlib.Core.Bool.{Bool, true, false, cond, _&&_, false≢true}
+use mathlib.Core.Bool.{Bool, true, false, cond, _&&_}
 use mathlib.Core.List.{List, [], _∷_, _++_, append-nil}
 use mathlib.Core.Option.{Option, some, none, Option·some-injective, Option·none-ne-some}
 use native.Mathlib.Omega.{arith}
@@ -10,19 +10,20 @@ use native.Mathlib.Decide.{ℕ-discrete}
 use borrow.Author.Tests.{leb-true}
 use lib.IntN.{pos, negsuc}
 use lib.Dec.{eqb, leb}
-use lib.ListN.{length, drop, replicate, length-append, length-drop, length-replicate, drop-of-length-le, List·getD-append}
+use lib.ListN.{length, getD, drop, replicate, length-append, length-drop, length-replicate, drop-of-length-le, List·getD-append}
 use Rattle.value.specs.declared.Reason.the-variants.{ZeroDivisor, OutOfRange, Other}
 use Rattle.value.specs.declared.Value.{Value}
 use Rattle.value.specs.declared.Value.the-variants.{Whole, Truth, Err}
 use Rattle.value.specs.Operators.{pick}
 use Rattle.value.specs.Bytes.{InRange, isSome, valueOf, wordAt, stored}
+use Rattle.value.specs.Kinds.{ofKind}
 use Rattle.value.proofs.Words.{value-of-word, word-lt, word-stored, word-before}
 use Rattle.formula.specs.declared.Field.{Field}
 use Rattle.formula.specs.declared.Field.the-variants.{Number, Malformed}
 use Rattle.formula.specs.Sheet.{digitsOf, fieldOf}
 use Rattle.text.specs.Fields.{positive, negative, behindMinus, alone, fieldValue, wordBy}
 use Rattle.text.specs.SetLines.{fieldAt, fieldsWell, fieldBytes}
-use Rattle.text.specs.SetLineLaws.{bytes-length, bytes-more}
+use Rattle.text.specs.SetLineLaws.{bytes-length, bytes-more, wells-at}
 
 -- ---- a field's value is in range
 
@@ -79,19 +80,23 @@ field-in-range (b ∷ s) v e = go (λ q. field-in-range s v q) (eqb b 32) (eqb b
     go later false false false false false false true q = minus-in-range s v q
     go later false false false false false false false q = positive-in-range (fieldOf (b ∷ s)) v q
 
+-- A field's word is its value's, and that of no value where it has none.
+pub field-word : (s : List ℕ) → valueOf (wordBy (fieldValue s)) ≡ fieldValue s
+unfolding valueOf
+field-word s = go (fieldValue s) refl
+  where
+    go : (o : Option Value) → fieldValue s ≡ o → valueOf (wordBy o) ≡ o
+    go (some v) e = value-of-word v (field-in-range s v e)
+    go none e = refl
+
+word-fits : (s : List ℕ) → wordBy (fieldValue s) < 1099511627776
+word-fits s = go (fieldValue s) refl
+  where
+    go : (o : Option Value) → fieldValue s ≡ o → wordBy o < 1099511627776
+    go (some v) e = word-lt v (field-in-range s v e)
+    go none e = omega arith
+
 -- ---- the words of a line's fields
-
-and-left : (a b : Bool) → a && b ≡ true → a ≡ true
-and-left true b e = refl
-and-left false b e = e
-
-and-right : (a b : Bool) → a && b ≡ true → b ≡ true
-and-right true b e = e
-and-right false b e = absurd (false≢true e)
-
-well-word : (o : Option Value) → ((v : Value) → o ≡ some v → InRange v) → isSome o ≡ true → (wordBy o < 1099511627776) × (isSome (valueOf (wordBy o)) ≡ true)
-well-word (some v) r e = let i = r v refl in (word-lt v i, ap isSome (value-of-word v i))
-well-word none r e = absurd (false≢true e)
 
 word-front : (a b : List ℕ) (i : ℕ) → i + 5 ≤ length a → wordAt (a ++ b) i ≡ wordAt a i
 unfolding wordAt
@@ -128,26 +133,26 @@ module _ (k : ℕ) (l : List ℕ) where
   room : 5 * k + 5 ≤ length before
   room = omega (arith, length-append (fieldBytes k l) (drop (5 * k) blank), bytes-length k l, length-drop (5 * k) blank, blanks)
 
-  last-word : word < 1099511627776 → wordAt (fieldBytes (suc k) l) (5 * k) ≡ word
-  last-word h = ap (λ (r : List ℕ). wordAt r (5 * k)) appended ∙ word-stored before (5 * k) word room h
+  last-word : wordAt (fieldBytes (suc k) l) (5 * k) ≡ word
+  last-word = ap (λ (r : List ℕ). wordAt r (5 * k)) appended ∙ word-stored before (5 * k) word room (word-fits (fieldAt l k))
 
   earlier-word : (j : ℕ) → j < k → wordAt (fieldBytes (suc k) l) (5 * j) ≡ wordAt (fieldBytes k l) (5 * j)
   earlier-word j h =
       ap (λ (r : List ℕ). wordAt r (5 * j)) appended ∙ word-before before (5 * k) word (5 * j) (omega arith)
       ∙ word-front (fieldBytes k l) (drop (5 * k) blank) (5 * j) (omega (arith, bytes-length k l))
 
--- Each of a set line's values is read back from its bytes.
-pub bytes-valued : (k : ℕ) (l : List ℕ) → fieldsWell k l ≡ true → (j : ℕ) → j < k → isSome (valueOf (wordAt (fieldBytes k l) (5 * j))) ≡ true
-unfolding fieldsWell
-bytes-valued zero l e j h = absurd (omega arith)
-bytes-valued (suc k) l e j h = go (ℕ-discrete j k) (λ f. bytes-valued k l f j)
+pub word-of-field : (k : ℕ) (l : List ℕ) (j : ℕ) → j < k → wordAt (fieldBytes k l) (5 * j) ≡ wordBy (fieldValue (fieldAt l j))
+word-of-field zero l j h = absurd (omega arith)
+word-of-field (suc k) l j h = go (ℕ-discrete j k) (word-of-field k l j)
   where
-    go : Dec (j ≡ k) → (fieldsWell k l ≡ true → j < k → isSome (valueOf (wordAt (fieldBytes k l) (5 * j))) ≡ true)
-        → isSome (valueOf (wordAt (fieldBytes (suc k) l) (5 * j))) ≡ true
-    go (yes q) earlier =
-        let w = well-word (fieldValue (fieldAt l k)) (field-in-range (fieldAt l k)) (and-right (fieldsWell k l) (isSome (fieldValue (fieldAt l k))) e) in
-        ap (λ (i : ℕ). isSome (valueOf (wordAt (fieldBytes (suc k) l) (5 * i)))) q
-        ∙ ap (λ (n : ℕ). isSome (valueOf n)) (last-word k l (w .0)) ∙ w .1
-    go (no n) earlier =
-        ap (λ (i : ℕ). isSome (valueOf i)) (earlier-word k l j (omega arith))
-        ∙ earlier (and-left (fieldsWell k l) (isSome (fieldValue (fieldAt l k))) e) (omega arith)
+    go : Dec (j ≡ k) → (j < k → wordAt (fieldBytes k l) (5 * j) ≡ wordBy (fieldValue (fieldAt l j)))
+        → wordAt (fieldBytes (suc k) l) (5 * j) ≡ wordBy (fieldValue (fieldAt l j))
+    go (yes q) earlier = subst (λ (i : ℕ). wordAt (fieldBytes (suc k) l) (5 * i) ≡ wordBy (fieldValue (fieldAt l i))) (sym q) (last-word k l)
+    go (no n) earlier = let m : j < k = omega arith in earlier-word k l j m ∙ earlier m
+
+-- Each of a set line's values is read back from its bytes, of its kind or an err.
+pub bytes-valued : (kinds : List ℕ) (k : ℕ) (l : List ℕ) → fieldsWell kinds k l ≡ true → (j : ℕ) → j < k
+    → isSome (ofKind (getD kinds j 0) (valueOf (wordAt (fieldBytes k l) (5 * j)))) ≡ true
+bytes-valued kinds k l e j h =
+    ap (λ (o : Option Value). isSome (ofKind (getD kinds j 0) o)) (ap valueOf (word-of-field k l j h) ∙ field-word (fieldAt l j))
+    ∙ wells-at kinds k l e j h

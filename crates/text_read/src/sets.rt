@@ -1,4 +1,4 @@
-// Set lines (text/specs/SetLines; document 01, "Program and readings" and refusal 12).
+// Set lines (text/specs/SetLines; document 01, "Program and readings" and refusal 12; document 02, Job 6).
 use crate::values::word_in;
 use text::Lines;
 use text::SET_BYTES;
@@ -8,15 +8,17 @@ ghost use mathlib.Core.Path.{_≡_};
 ghost use mathlib.Core.Bool.{Bool, true};
 ghost use mathlib.Core.List.{_++_};
 ghost use Prim.Native.Nat.{_+_, _*_, _≤_, _<_};
-ghost use lib.ListN.{length, take, drop};
-ghost use Rattle.text.specs.SetLines.{isSetLine, fieldBytes, setsOf, countOf};
+ghost use lib.ListN.{length, drop};
+ghost use Rattle.text.specs.SetLines.{lineAt, isSetLine, fieldBytes, setsOf, countOf};
 
-// Whether a line of k fields with its line feed starts at `at`; its values are written to the front of `out`, five bytes each.
-pub fn read_set(s: &[u8], at: usize, k: usize, out: &mut [u8]) -> bool
-    requires { ⌜ (k ≤ 32) × (at ≤ length (now s)) × (5 * k ≤ length (now out)) ⌝ }
-    ensures { λ b. ⌜ (b ≡ isSetLine k (take (11 * k + 1) (drop at (now (s .entry)))))
-        × (b ≡ true → now (out .exit) ≡ fieldBytes k (take (11 * k + 1) (drop at (now (s .entry)))) ++ drop (5 * k) (now (out .entry))) ⌝ }
+// Whether a line of a value of each kind, or an err, with its line feed starts at `at`; its values are written to the front of `out`, five bytes each.
+pub fn read_set(s: &[u8], at: usize, kinds: &[u8], out: &mut [u8]) -> bool
+    requires { ⌜ (length (now kinds) ≤ 32) × (at ≤ length (now s)) × (5 * length (now kinds) ≤ length (now out)) ⌝ }
+    ensures { λ b. ⌜ (b ≡ isSetLine (now (kinds .entry)) (lineAt (now (kinds .entry)) (now (s .entry)) at))
+        × (b ≡ true → now (out .exit) ≡ fieldBytes (length (now (kinds .entry))) (lineAt (now (kinds .entry)) (now (s .entry)) at)
+        ++ drop (5 * length (now (kinds .entry))) (now (out .entry))) ⌝ }
 {
+    let k = kinds.len();
     if s.len() - at < VALUE_FIELD * k + 1 {
         return false;
     }
@@ -26,7 +28,7 @@ pub fn read_set(s: &[u8], at: usize, k: usize, out: &mut [u8]) -> bool
     let mut j = 0;
     while j < k {
         let word = word_in(s, at + VALUE_FIELD * j);
-        if word == 0 {
+        if !value::bytes::is_of_kind(kinds[j], word) {
             return false;
         }
         value::bytes::store(out, VALUE_BYTES * j, word);
@@ -35,19 +37,19 @@ pub fn read_set(s: &[u8], at: usize, k: usize, out: &mut [u8]) -> bool
     true
 }
 
-// The number of sets of a file for k inputs, or the lowest line at fault.
-pub fn count_sets(s: &[u8], k: usize) -> Lines
-    requires { ⌜ k ≤ 32 ⌝ }
-    ensures { λ r. ⌜ r ≡ countOf (setsOf k (now (s .entry))) ⌝ }
+// The number of sets of a file for inputs of these kinds, or the lowest line at fault.
+pub fn count_sets(s: &[u8], kinds: &[u8]) -> Lines
+    requires { ⌜ length (now kinds) ≤ 32 ⌝ }
+    ensures { λ r. ⌜ r ≡ countOf (setsOf (now (kinds .entry)) (now (s .entry))) ⌝ }
 {
     let mut scratch = [0u8; SET_BYTES];
     let mut at = 0;
     let mut n = 0;
     while at < s.len() {
-        if !read_set(s, at, k, &mut scratch) {
+        if !read_set(s, at, kinds, &mut scratch) {
             return Lines::Bad(n + 1);
         }
-        at += VALUE_FIELD * k + 1;
+        at += VALUE_FIELD * kinds.len() + 1;
         n += 1;
     }
     Lines::Sets(n)

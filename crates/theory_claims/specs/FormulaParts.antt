@@ -27,7 +27,7 @@ use Rattle.theory_claims.specs.KindClaims.{claimsFor, length-claims, at-
 use Rattle.theory_claims.specs.Rows.{up-claims, over, over-in, over-only, over-claims}
 use Rattle.theory_claims.specs.BodyJoins.{iterFor}
 
--- The identifiers have their kinds, and the trigger is true.
+-- The identifiers have their kinds, and the trigger carries truths or errs.
 pub record Kinded-names (kinds : Kinds) (C : Claims) : Type 0 where
   pub identifiers : (k : ℕ) → k < trigger → C k ≡ of-kind (kinds k)
   pub triggered : C trigger ≡ truths

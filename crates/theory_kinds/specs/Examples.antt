@@ -73,6 +73,31 @@ number-round : checked numberRound "\n" ≡ Fault 8
 unfolding kindCheck kinded inputKinds freeE formulaOf bytes numberRound
 number-round = refl
 
+-- let y = (for x = true do if x then (if x then iter false else 1) else true) in not y: the arms of the body's if, row 10, return a number and
+-- a truth. The first arm's number holds, so the not, row 2, is at fault beside it.
+unfoldable numberReturned : String
+numberReturned = "     1     1     0     0     0\n     5    10     1     0     0\n     1     0     0     0     0\n     1     0     0     0     0\n     3     0     0     0     0\n     9     5     0     0     0\n     2     1     0     0     0\n     7     4     6     7     0\n     3     1     0     0     0\n     7     3     8     9     0\n     3     1     0     0     0\n     8     0     1    11    10\n     6     1     1    12     2\n"
+
+number-returned : checked numberReturned "\n" ≡ Fault 2
+unfolding kindCheck kinded inputKinds freeE formulaOf bytes numberReturned
+number-returned = refl
+
+-- With 1 and true exchanged the truth holds, and the body's if alone is at fault.
+unfoldable truthReturned : String
+truthReturned = "     1     1     0     0     0\n     5    10     1     0     0\n     1     0     0     0     0\n     1     0     0     0     0\n     3     0     0     0     0\n     9     5     0     0     0\n     3     1     0     0     0\n     7     4     6     7     0\n     2     1     0     0     0\n     7     3     8     9     0\n     3     1     0     0     0\n     8     0     1    11    10\n     6     1     1    12     2\n"
+
+truth-returned : checked truthReturned "\n" ≡ Fault 10
+unfolding kindCheck kinded inputKinds freeE formulaOf bytes truthReturned
+truth-returned = refl
+
+-- if x then 1 else 2, where x is a whole number: the if is at fault, not the test's row.
+unfoldable numberTested : String
+numberTested = "     1     0     0     0     0\n     2     1     0     0     0\n     2     2     0     0     0\n     7     1     2     3     0\n"
+
+number-tested : checked numberTested "W\n" ≡ Fault 4
+unfolding kindCheck kinded inputKinds freeE formulaOf bytes numberTested
+number-tested = refl
+
 -- The kinds line: "one letter an input, W or T, and a line feed".
 line-of-none : lineWell 0 (bytes "\n") ≡ true
 unfolding lineWell bytes
@@ -123,13 +148,13 @@ lesser-set-suits zero = refl
 lesser-set-suits (suc zero) = refl
 lesser-set-suits (suc (suc i)) = refl
 
-lesser-verdict : verdictOf (bytes lesser) ≡ passed
+lesser-verdict : verdictOf (bytes lesser) (bytes "WW\n") ≡ passed
 unfolding verdictOf bytes lesser
 lesser-verdict = refl
 
 lesser-holds : (rounds : ℕ) → strict lesserOfTwo (number 3 ∷ number 5 ∷ []) rounds ≡ some (evalE lesserOfTwo (inputsHold (freeE lesserOfTwo) (number 3 ∷ number 5 ∷ [])) rounds)
 lesser-holds rounds =
-    sheet-kinds-hold (bytes lesser) (bytes "WW\n") (number 3 ∷ number 5 ∷ []) (passed-admissible (bytes lesser) lesser-verdict) lesser-passes lesser-set-suits rounds .0
+    sheet-kinds-hold (bytes lesser) (bytes "WW\n") (number 3 ∷ number 5 ∷ []) (passed-admissible (bytes lesser) (bytes "WW\n") lesser-verdict) lesser-passes lesser-set-suits rounds .0
 
 -- An err stops nothing: the less gives an err, and so does the if.
 lesser-err : strict lesserOfTwo (err ∷ number 2 ∷ []) 0 ≡ some (yields (err ∷ []) 0)

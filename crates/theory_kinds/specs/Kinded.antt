@@ -8,14 +8,14 @@ use mathlib.Core.List.{List, [], _∷_, _++_}
 use native.Mathlib.Omega.{arith}
 use Rattle.formula.specs.declared.Shape.{Shape}
 use Rattle.formula.specs.declared.Shape.the-variants.{Identifier, Constant, Pair, Operator, Let, If, For, Iter}
-use Rattle.formula.specs.declared.Check.{Check}
-use Rattle.formula.specs.declared.Check.the-variants.{Passed, Fault}
+use Rattle.formula.specs.declared.Check.the-variants.{Passed}
 use Rattle.formula.specs.Sheet.{shapeAt, namedIn}
 use Rattle.formula.specs.Tree.{Exp, identifier, constant, pair, operator, letE, ifE, forE, Body, ret, iter, letB, ifB, expNode, bodyNode, expOf, bodyOf}
 use Rattle.formula.specs.TreeLaws.{AllBetween, Named, exp-at, body-at}
 use Rattle.formula.specs.Places.{Node, expression, body, nodeIn}
 use Rattle.formula.specs.Kinds.{Kinds, bindKinds, kindsE, kindedE, kindedB, kinded}
-use Rattle.formula.specs.Faults.{faultsBelow, faultsIn, lower, lowestOf, kindCheck}
+use Rattle.formula.specs.Faults.{faultsBelow, faultsIn, lowestOf, kindCheck}
+use Rattle.formula.specs.FaultRows.{none-lowest}
 
 abbrev mutual
   pub AllE : Exp → Kinds → Type 0
@@ -200,19 +200,6 @@ module _ (t : List ℕ) (n : ℕ) (ok : Named t n) where
   faultless-iff r l u b kinds = (faultless-all r r (l, u) (omega arith) b kinds, all-faultless r r (l, u) (omega arith) b kinds)
 
 -- ---- the test of a sheet
-
-abbrev Passes : Check → Type 0
-Passes Passed = Unit {0}
-Passes (Fault r) = ⊥
-
-fault-lower : (r : ℕ) (c : Check) → Passes (lower r c) → ⊥
-fault-lower r Passed h = h
-fault-lower r (Fault k) h = h
-
-none-lowest : (rs : List ℕ) → lowestOf rs ≡ Passed → rs ≡ []
-unfolding lowestOf
-none-lowest [] h = refl
-none-lowest (r ∷ rs) h = absurd (fault-lower r (lowestOf rs) (subst Passes (sym h) tt))
 
 -- Test 18 passes a formula if and only if every node of its tree keeps the rule.
 pub passes-iff : (t : List ℕ) (n : ℕ) → Named t n → 1 ≤ n → (kinds : Kinds) → (kindCheck kinded t n kinds ≡ Passed) ↔ AllE (expOf t n) kinds

@@ -20,7 +20,10 @@ use Rattle.value.specs.declared.Reason.{Reason}
 use Rattle.value.specs.declared.Reason.the-variants.{ZeroDivisor, OutOfRange, Other}
 use Rattle.value.specs.declared.Value.{Value}
 use Rattle.value.specs.declared.Value.the-variants.{Whole, Truth, Err}
+use Rattle.value.specs.declared.ValueKind.{ValueKind}
 use Rattle.value.specs.Operators.{pick}
+use Rattle.value.specs.declared.ValueKind.the-variants.{Whole as whole-kind, Truth as truth-kind}
+use Rattle.value.specs.Kinds.{suits, kindOfLetter, ofKind}
 use Rattle.value.specs.Bytes.{InRange, bitOf, reasonBits, wordOf, valueOf, wholeOf, truthOf, errOf, isSome, wordBytes, wordAt, stored}
 
 -- ---- the tests of the code
@@ -60,6 +63,79 @@ module _ (w : ℕ) where
 
   pub tag-valid : (w % 256 ≡ 1 → ⊥) → (w % 256 ≡ 2 → ⊥) → (w % 256 ≡ 3 → ⊥) → false ≡ isSome (valueOf w)
   tag-valid p q r = rw (no-tag p q r) refl
+
+-- ---- the test of a kind
+
+err-suits : (k : ValueKind) (r : Reason) → suits k (Err r) ≡ true
+err-suits whole-kind r = refl
+err-suits truth-kind r = refl
+
+err-kept : (letter : ℕ) (r : Reason) → ofKind letter (some (Err r)) ≡ some (Err r)
+unfolding ofKind
+err-kept letter r = ap (λ (b : Bool). pick b (some (Err r)) none) (err-suits (kindOfLetter letter) r)
+
+module _ (w : ℕ) where
+  pub tag-one : w % 256 ≡ 1 → valueOf w ≡ wholeOf (w / 256)
+  unfolding valueOf
+  tag-one h = rw h refl
+
+  pub tag-two : w % 256 ≡ 2 → valueOf w ≡ truthOf (w / 256)
+  unfolding valueOf
+  tag-two h = rw h refl
+
+  -- An err suits every kind.
+  errs-suit : (letter : ℕ) → w % 256 ≡ 3 → ofKind letter (valueOf w) ≡ valueOf w
+  unfolding ofKind valueOf errOf
+  errs-suit letter h = rw h (go (eqb (w / 256) 0) (eqb (w / 256) 1) (eqb (w / 256) 2))
+    where
+      go : (a b c : Bool) → ofKind letter (pick a (some (Err Other)) (pick b (some (Err ZeroDivisor)) (pick c (some (Err OutOfRange)) none)))
+          ≡ pick a (some (Err Other)) (pick b (some (Err ZeroDivisor)) (pick c (some (Err OutOfRange)) none))
+      go true b c = err-kept letter Other
+      go false true c = err-kept letter ZeroDivisor
+      go false false true = err-kept letter OutOfRange
+      go false false false = refl
+
+  pub err-of-kind : (letter : ℕ) → w % 256 ≡ 3 → ltb (w / 256) 3 ≡ isSome (ofKind letter (valueOf w))
+  err-of-kind letter h = err-valid w h ∙ ap isSome (sym (errs-suit letter h))
+
+  pub tag-of-kind : (letter : ℕ) → (w % 256 ≡ 1 → ⊥) → (w % 256 ≡ 2 → ⊥) → (w % 256 ≡ 3 → ⊥) → false ≡ isSome (ofKind letter (valueOf w))
+  unfolding ofKind
+  tag-of-kind letter p q r = rw (no-tag w p q r) refl
+
+module _ (letter bits : ℕ) where
+  pub whole-not-truth : letter ≡ 84 → false ≡ isSome (ofKind letter (wholeOf bits))
+  unfolding ofKind wholeOf
+  whole-not-truth e = rw e (go (ltb bits 4294967296))
+    where
+      go : (b : Bool) → false ≡ isSome (ofKind 84 (pick b (some (Whole (toZ w32 bits))) none))
+      go true = refl
+      go false = refl
+
+  pub whole-of-kind : (letter ≡ 84 → ⊥) → ltb bits 4294967296 ≡ isSome (ofKind letter (wholeOf bits))
+  unfolding ofKind wholeOf
+  whole-of-kind n = go (ltb bits 4294967296)
+    where
+      go : (b : Bool) → b ≡ isSome (ofKind letter (pick b (some (Whole (toZ w32 bits))) none))
+      go true = rw (ne-eqb letter 84 n) refl
+      go false = refl
+
+  pub truth-of-kind : letter ≡ 84 → ltb bits 2 ≡ isSome (ofKind letter (truthOf bits))
+  unfolding ofKind truthOf
+  truth-of-kind e = rw e (go bits)
+    where
+      go : (n : ℕ) → ltb n 2 ≡ isSome (ofKind 84 (pick (eqb n 0) (some (Truth false)) (pick (eqb n 1) (some (Truth true)) none)))
+      go zero = refl
+      go (suc zero) = refl
+      go (suc (suc n)) = simp (le-ltb (suc (suc n)) 2 (omega arith), ne-eqb (suc (suc n)) 0 (λ e. omega arith), ne-eqb (suc (suc n)) 1 (λ e. omega arith))
+
+  pub truth-not-whole : (letter ≡ 84 → ⊥) → false ≡ isSome (ofKind letter (truthOf bits))
+  unfolding ofKind truthOf
+  truth-not-whole n = go (eqb bits 0) (eqb bits 1)
+    where
+      go : (a b : Bool) → false ≡ isSome (ofKind letter (pick a (some (Truth false)) (pick b (some (Truth true)) none)))
+      go true b = rw (ne-eqb letter 84 n) refl
+      go false true = rw (ne-eqb letter 84 n) refl
+      go false false = refl
 
 pub stores : (l : List ℕ) (i a b c d e : ℕ) → set (set (set (set (set l i a) (i + 1) b) (i + 2) c) (i + 3) d) (i + 4) e ≡ sets l i (a ∷ b ∷ c ∷ d ∷ e ∷ [])
 stores l i a b c d e =

@@ -3,7 +3,7 @@
 -- where they are got, no err comes from a wrong kind. Assumes nothing.
 use Prim.Native.Nat.{ℕ}
 use mathlib.Core.Path.{_≡_, refl, sym, ap, _∙_, subst}
-use mathlib.Core.Bool.{Bool, true, false, _&&_, not, false≢true}
+use mathlib.Core.Bool.{Bool, true, false, cond, _&&_, _||_, not, false≢true}
 use mathlib.Core.List.{List, [], _∷_}
 use mathlib.Core.Option.{Option, some, none}
 use lib.IntN.{ℤ, _+ℤ_, _-ℤ_, _*ℤ_, negℤ}
@@ -35,6 +35,18 @@ suits truth-kind (Whole z) = false
 suits whole-kind (Truth a) = false
 suits truth-kind (Truth a) = true
 suits k (Err r) = true
+
+-- "one letter an input, W or T"
+abbrev pub isLetter : ℕ → Bool
+isLetter b = eqb b 87 || eqb b 84
+
+abbrev pub kindOfLetter : ℕ → ValueKind
+kindOfLetter b = cond (eqb b 84) truth-kind whole-kind
+
+-- A value that is of the kind of a letter or an err; "Sets with another kind are refused with 12".
+unfoldable pub ofKind : ℕ → Option Value → Option Value
+ofKind letter (some v) = pick (suits (kindOfLetter letter) v) (some v) none
+ofKind letter none = none
 
 -- "8 to 10 want truths, the others whole numbers"
 abbrev pub wants : ℕ → ValueKind
@@ -190,7 +202,7 @@ Is-neither True = ⊥
 Is-neither False = ⊥
 Is-neither Neither = Unit {0}
 
--- "a test that is neither truth nor err": where the test is of its kind, neither true nor false is an err.
+-- "a test that is neither truth nor err": where the test is of its kind and is neither true nor false, it is an err.
 pub test-wanted : (v : Value) → suits truth-kind v ≡ true → sense v ≡ Neither → isErr v ≡ true
 test-wanted (Whole z) h e = absurd (false≢true h)
 test-wanted (Truth true) h e = absurd (subst Is-neither (sym e) tt)

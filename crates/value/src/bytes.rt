@@ -8,6 +8,7 @@ ghost use Prim.Native.Nat.{ℕ, _+_, _*_, _≤_, _<_};
 ghost use lib.ListN.{length};
 ghost use mir.Syntax.{w32};
 ghost use mir.Val.{toZ, ofZ};
+ghost use Rattle.value.specs.Kinds.{isLetter, ofKind};
 ghost use Rattle.value.specs.Bytes.{InRange, wordOf, valueOf, decoded, isSome, wordOr, wordAt, stored, wholeOf, truthOf, errOf};
 
 // The words of no token, true, false, and of the errs: the plain one and those with a reason.
@@ -22,6 +23,14 @@ pub const ERR: u64 = 3;
 pub const ZERO_DIVISOR: u64 = 259;
 
 pub const OUT_OF_RANGE: u64 = 515;
+
+// How many reasons an err can have.
+const REASONS: u64 = 3;
+
+// The letters of a kinds line; for a kind every letter but that of truths counts as that of whole numbers.
+const WHOLE_LETTER: u8 = 87;
+
+pub const TRUTH_LETTER: u8 = 84;
 
 // A whole number from its 32 bits, two's complement.
 fn signed_of(bits: u32) -> i32
@@ -128,9 +137,49 @@ pub fn is_value(w: u64) -> bool
     match w % 256 {
         1 => bits < 4294967296,
         2 => bits < 2,
-        3 => bits < 3,
+        3 => bits < REASONS,
         _ => false,
     }
+}
+
+pub fn is_letter(b: u8) -> bool
+    ensures { λ r. ⌜ r ≡ isLetter b ⌝ }
+{
+    if b == WHOLE_LETTER {
+        return true;
+    }
+    b == TRUTH_LETTER
+}
+
+// Whether a word is the byte form of a value of a letter's kind, or of an err.
+pub fn is_of_kind(letter: u8, w: u64) -> bool
+    ensures { λ r. ⌜ r ≡ isSome (ofKind letter (valueOf w)) ⌝ }
+{
+    let bits = w / 256;
+    match w % 256 {
+        1 => whole_in(letter, bits),
+        2 => truth_in(letter, bits),
+        3 => bits < REASONS,
+        _ => false,
+    }
+}
+
+fn whole_in(letter: u8, bits: u64) -> bool
+    ensures { λ r. ⌜ r ≡ isSome (ofKind letter (wholeOf bits)) ⌝ }
+{
+    if letter == TRUTH_LETTER {
+        return false;
+    }
+    bits < 4294967296
+}
+
+fn truth_in(letter: u8, bits: u64) -> bool
+    ensures { λ r. ⌜ r ≡ isSome (ofKind letter (truthOf bits)) ⌝ }
+{
+    if letter == TRUTH_LETTER {
+        return bits < 2;
+    }
+    false
 }
 
 // A word that was read, where it is a value's; that of no token where it is none.

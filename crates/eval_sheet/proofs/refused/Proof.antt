@@ -8,11 +8,11 @@ use Rattle.eval_sheet.specs.Handed.{answers}
 use mathlib.Core.Path.{ap}
 use Prim.Native.Nat.{ℕ}
 
--- src/lib.rt:59:18  EvaluateAnswer { ⏎ refusal: refusal_number(r),
+-- src/lib.rt:66:18  EvaluateAnswer { ⏎ refusal: refusal_number(r),
 refusal-number-requires : tie.Need-refusal-number-requires
 refusal-number-requires c κs = search needs
 
--- src/lib.rt:55:1  } ⏎ fn refused(r: Refusal, row: u32) -> EvaluateAnswer
+-- src/lib.rt:62:1  } ⏎ fn refused(r: Refusal, row: u32) -> EvaluateAnswer
 returns : tie.Need-returns
 returns c = ap (λ (k : ℕ). answers k (c .before .args .row) 0 0) (c .refusal-number .ensures)
 

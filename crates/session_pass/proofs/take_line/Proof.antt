@@ -26,7 +26,7 @@ use Rattle.session.specs.PassLaws.{take-width, line-handed, line-refused, drain
 blank-result-requires : tie.Need-blank-result-requires
 blank-result-requires c κs = search needs
 
--- src/lib.rt:42:30  let mut result = blank_result(); ⏎ let a = machine_calls::take(mem, &mut result);
+-- src/lib.rt:42:38  let mut result = blank_result(); ⏎ let a = machine_calls::take(mem, &mut result);
 slice-aggregate-take : tie.Need-slice-aggregate-take
 slice-aggregate-take c = search needs
 

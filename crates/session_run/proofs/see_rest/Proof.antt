@@ -19,31 +19,31 @@ Inv-loop fd turns₀ y₀ turns y = Continued y₀ y
 abbrev μ-loop : tie.MeasureT-loop
 μ-loop fd turns₀ y₀ turns y = turns
 
--- src/lib.rt:58:5  let mut y = x; ⏎ while 0 < turns {
+-- src/lib.rt:70:5  let mut y = x; ⏎ while 0 < turns {
 loop-holds : tie.Need-loop-holds Inv-loop μ-loop
 loop-holds c = nothing-more (c .args .x)
 
--- src/lib.rt:59:13  while 0 < turns { ⏎ let part = see_part(fd, y);
+-- src/lib.rt:71:13  while 0 < turns { ⏎ let part = see_part(fd, y);
 see-part-requires : tie.Need-see-part-requires Inv-loop μ-loop
 see-part-requires c κs = search needs
 
--- src/lib.rt:62:13  if !part.more { ⏎ return y;
+-- src/lib.rt:74:13  if !part.more { ⏎ return y;
 returns : tie.Need-returns Inv-loop μ-loop
 returns c = seen-on (c .before .before .before .before .before .before .args .x) (c .before .before .before .before .before .loop .y) (c .before .before .before .see-part .result .seen) (c .before .before .before .before .before .loop .inv) (c .before .before .before .see-part .ensures)
 
--- src/lib.rt:64:9  } ⏎ turns -= 1;
+-- src/lib.rt:76:9  } ⏎ turns -= 1;
 sub-turns : tie.Need-sub-turns Inv-loop μ-loop
 sub-turns c = search needs
 
--- src/lib.rt:58:5  let mut y = x; ⏎ while 0 < turns {
+-- src/lib.rt:70:5  let mut y = x; ⏎ while 0 < turns {
 loop-less : tie.Need-loop-less Inv-loop μ-loop
 loop-less c = search needs
 
--- src/lib.rt:58:5  let mut y = x; ⏎ while 0 < turns {
+-- src/lib.rt:70:5  let mut y = x; ⏎ while 0 < turns {
 loop-again : tie.Need-loop-again Inv-loop μ-loop
 loop-again c = seen-on (c .before .before .before .before .before .before .args .x) (c .before .before .before .before .before .loop .y) (c .before .before .before .see-part .result .seen) (c .before .before .before .before .before .loop .inv) (c .before .before .before .see-part .ensures)
 
--- src/lib.rt:53:1  // The rest of a file, seen. A file has fewer parts than turns. ⏎ fn see_rest(fd: i32, x: Seen) -> Seen
+-- src/lib.rt:65:1  // The rest of a file, seen. ⏎ fn see_rest(fd: i32, x: Seen) -> Seen
 returns-2 : tie.Need-returns-2 Inv-loop μ-loop
 returns-2 c = c .before .loop .inv
 

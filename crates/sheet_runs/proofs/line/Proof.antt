@@ -4,13 +4,13 @@ use Rattle.sheet_runs.proofs.line.Tie as tie
 use Rattle.sheet_runs.proofs.line.Reads as reads
 use Rattle.sheet_runs.proofs.line.Lts as lts
 use Rattle.sheet_runs.proofs.put.Reads as put-reads
+use mathlib.Core.Path.{_≡_, refl, sym}
 use Prim.Native.Nat.{ℕ}
 use mathlib.Core.Path.{_≡_, refl, ap, _∙_}
 use mathlib.Core.List.{List, [], _∷_, _++_}
 use lib.ListN.{replicate}
 use lib.Seq.{sets}
 use Rattle.sheet_runs.specs.Lines.{six, lineOf}
-use mathlib.Core.Path.{_≡_, refl, sym}
 
 -- Six fields one behind the other, and the line feed that was there.
 laid : (a b c d e f : ℕ)
@@ -19,55 +19,55 @@ laid : (a b c d e f : ℕ)
 unfolding six
 laid a b c d e f = refl
 
--- src/main.rt:53:9  let mut out = [10u8; 37]; ⏎ put(&mut out, 0, a.refusal);
+-- src/main.rt:57:9  let mut out = [10u8; 37]; ⏎ put(&mut out, 0, a.refusal);
 slice-aggregate-put : tie.Need-slice-aggregate-put
 slice-aggregate-put c = search needs
 
--- src/main.rt:53:5  let mut out = [10u8; 37]; ⏎ put(&mut out, 0, a.refusal);
+-- src/main.rt:57:5  let mut out = [10u8; 37]; ⏎ put(&mut out, 0, a.refusal);
 put-requires : tie.Need-put-requires
 put-requires c κs = search needs
 
--- src/main.rt:54:9  put(&mut out, 0, a.refusal); ⏎ put(&mut out, 6, a.row);
+-- src/main.rt:58:9  put(&mut out, 0, a.refusal); ⏎ put(&mut out, 6, a.row);
 slice-aggregate-put-2 : tie.Need-slice-aggregate-put-2
 slice-aggregate-put-2 c = search needs
 
--- src/main.rt:54:5  put(&mut out, 0, a.refusal); ⏎ put(&mut out, 6, a.row);
+-- src/main.rt:58:5  put(&mut out, 0, a.refusal); ⏎ put(&mut out, 6, a.row);
 put-requires-2 : tie.Need-put-requires-2
 put-requires-2 c κs = search needs
 
--- src/main.rt:55:9  put(&mut out, 6, a.row); ⏎ put(&mut out, 12, a.rows);
+-- src/main.rt:59:9  put(&mut out, 6, a.row); ⏎ put(&mut out, 12, a.rows);
 slice-aggregate-put-3 : tie.Need-slice-aggregate-put-3
 slice-aggregate-put-3 c = search needs
 
--- src/main.rt:55:5  put(&mut out, 6, a.row); ⏎ put(&mut out, 12, a.rows);
+-- src/main.rt:59:5  put(&mut out, 6, a.row); ⏎ put(&mut out, 12, a.rows);
 put-requires-3 : tie.Need-put-requires-3
 put-requires-3 c κs = search needs
 
--- src/main.rt:56:9  put(&mut out, 12, a.rows); ⏎ put(&mut out, 18, a.operators);
+-- src/main.rt:60:9  put(&mut out, 12, a.rows); ⏎ put(&mut out, 18, a.operators);
 slice-aggregate-put-4 : tie.Need-slice-aggregate-put-4
 slice-aggregate-put-4 c = search needs
 
--- src/main.rt:56:5  put(&mut out, 12, a.rows); ⏎ put(&mut out, 18, a.operators);
+-- src/main.rt:60:5  put(&mut out, 12, a.rows); ⏎ put(&mut out, 18, a.operators);
 put-requires-4 : tie.Need-put-requires-4
 put-requires-4 c κs = search needs
 
--- src/main.rt:57:9  put(&mut out, 18, a.operators); ⏎ put(&mut out, 24, a.inputs);
+-- src/main.rt:61:9  put(&mut out, 18, a.operators); ⏎ put(&mut out, 24, a.inputs);
 slice-aggregate-put-5 : tie.Need-slice-aggregate-put-5
 slice-aggregate-put-5 c = search needs
 
--- src/main.rt:57:5  put(&mut out, 18, a.operators); ⏎ put(&mut out, 24, a.inputs);
+-- src/main.rt:61:5  put(&mut out, 18, a.operators); ⏎ put(&mut out, 24, a.inputs);
 put-requires-5 : tie.Need-put-requires-5
 put-requires-5 c κs = search needs
 
--- src/main.rt:58:9  put(&mut out, 24, a.inputs); ⏎ put(&mut out, 30, a.results);
+-- src/main.rt:62:9  put(&mut out, 24, a.inputs); ⏎ put(&mut out, 30, a.results);
 slice-aggregate-put-6 : tie.Need-slice-aggregate-put-6
 slice-aggregate-put-6 c = search needs
 
--- src/main.rt:58:5  put(&mut out, 24, a.inputs); ⏎ put(&mut out, 30, a.results);
+-- src/main.rt:62:5  put(&mut out, 24, a.inputs); ⏎ put(&mut out, 30, a.results);
 put-requires-6 : tie.Need-put-requires-6
 put-requires-6 c κs = search needs
 
--- src/main.rt:49:1  } ⏎ fn line(a: ReadAnswer) -> [u8; 37]
+-- src/main.rt:53:1  } ⏎ fn line(a: ReadAnswer) -> [u8; 37]
 returns : tie.Need-returns
 unfolding lineOf
 returns c =

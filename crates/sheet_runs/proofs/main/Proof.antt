@@ -1,12 +1,12 @@
 -- The tests, as paths name them:
 --   tie if1  while k < 1000 { ⏎ if !show(k) {
+use borrow.Author.Needs.{needs}
 use Rattle.sheet_runs.proofs.main.Statement.{statement}
 use Rattle.sheet_runs.proofs.main.Tie as tie
 use Rattle.sheet_runs.proofs.main.Reads as reads
 use Rattle.sheet_runs.proofs.main.Lts as lts
 use Rattle.sheet_runs.proofs.show.Reads as show-reads
 use Prim.Native.Nat.{_≤_, _-_}
-use borrow.Author.Needs.{needs}
 
 abbrev Inv-loop : tie.InvT-loop
 Inv-loop k₀ k = (1 ≤ k) × (k ≤ 1000)
@@ -14,31 +14,31 @@ Inv-loop k₀ k = (1 ≤ k) × (k ≤ 1000)
 abbrev μ-loop : tie.MeasureT-loop
 μ-loop k₀ k = 1000 - k
 
--- src/main.rt:94:5  let mut k = 1u32; ⏎ while k < 1000 {
+-- src/main.rt:146:5  let mut k = 1u32; ⏎ while k < 1000 {
 loop-holds : tie.Need-loop-holds Inv-loop μ-loop
 loop-holds c = search needs
 
--- src/main.rt:95:13  while k < 1000 { ⏎ if !show(k) {
+-- src/main.rt:147:13  while k < 1000 { ⏎ if !show(k) {
 show-requires : tie.Need-show-requires Inv-loop μ-loop
 show-requires c κs = search needs
 
--- src/main.rt:96:13  if !show(k) { ⏎ return;
+-- src/main.rt:148:13  if !show(k) { ⏎ return;
 returns : tie.Need-returns Inv-loop μ-loop
 returns c = search needs
 
--- src/main.rt:98:9  } ⏎ k += 1;
+-- src/main.rt:150:9  } ⏎ k += 1;
 add-k : tie.Need-add-k Inv-loop μ-loop
 add-k c = search needs
 
--- src/main.rt:94:5  let mut k = 1u32; ⏎ while k < 1000 {
+-- src/main.rt:146:5  let mut k = 1u32; ⏎ while k < 1000 {
 loop-less : tie.Need-loop-less Inv-loop μ-loop
 loop-less c = search needs
 
--- src/main.rt:94:5  let mut k = 1u32; ⏎ while k < 1000 {
+-- src/main.rt:146:5  let mut k = 1u32; ⏎ while k < 1000 {
 loop-again : tie.Need-loop-again Inv-loop μ-loop
 loop-again c = search needs
 
--- src/main.rt:92:1  } ⏎ fn main() {
+-- src/main.rt:144:1  } ⏎ fn main() {
 returns-2 : tie.Need-returns-2 Inv-loop μ-loop
 returns-2 c = search needs
 

@@ -6,31 +6,31 @@ use Rattle.sheet_runs.proofs.path.Lts as lts
 use Rattle.sheet_runs.proofs.digit.Reads as digit-reads
 use Rattle.sheet_runs.specs.Lines.{pathOf}
 
--- src/main.rt:74:12  let mut p = [48, 48, 48, 47, 102, 111, 114, 109, 117, 108, 97, 46, 116, 120, 116]; ⏎ p[0] = digit(k / 100);
+-- src/main.rt:94:12  ]; ⏎ p[0] = digit(k / 100);
 digit-requires : tie.Need-digit-requires
 digit-requires c κs = search needs
 
--- src/main.rt:74:5  let mut p = [48, 48, 48, 47, 102, 111, 114, 109, 117, 108, 97, 46, 116, 120, 116]; ⏎ p[0] = digit(k / 100);
+-- src/main.rt:94:5  ]; ⏎ p[0] = digit(k / 100);
 array-write-p : tie.Need-array-write-p
 array-write-p c = search needs
 
--- src/main.rt:75:12  p[0] = digit(k / 100); ⏎ p[1] = digit(k / 10);
+-- src/main.rt:95:12  p[0] = digit(k / 100); ⏎ p[1] = digit(k / 10);
 digit-requires-2 : tie.Need-digit-requires-2
 digit-requires-2 c κs = search needs
 
--- src/main.rt:75:5  p[0] = digit(k / 100); ⏎ p[1] = digit(k / 10);
+-- src/main.rt:95:5  p[0] = digit(k / 100); ⏎ p[1] = digit(k / 10);
 array-write-p-2 : tie.Need-array-write-p-2
 array-write-p-2 c = search needs
 
--- src/main.rt:76:12  p[1] = digit(k / 10); ⏎ p[2] = digit(k);
+-- src/main.rt:96:12  p[1] = digit(k / 10); ⏎ p[2] = digit(k);
 digit-requires-3 : tie.Need-digit-requires-3
 digit-requires-3 c κs = search needs
 
--- src/main.rt:76:5  p[1] = digit(k / 10); ⏎ p[2] = digit(k);
+-- src/main.rt:96:5  p[1] = digit(k / 10); ⏎ p[2] = digit(k);
 array-write-p-3 : tie.Need-array-write-p-3
 array-write-p-3 c = search needs
 
--- src/main.rt:70:1  // The path of sheet k. ⏎ fn path(k: u32) -> [u8; 15]
+-- src/main.rt:74:1  // The path of sheet k. ⏎ fn path(k: u32) -> [u8; 15]
 returns : tie.Need-returns
 unfolding pathOf
 returns c = search needs

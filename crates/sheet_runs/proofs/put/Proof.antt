@@ -23,79 +23,79 @@ stored l i a b c d e f =
     let t : i + 5 ≡ suc (suc (suc (suc (suc i)))) = omega arith in
     rw (p, q, r, s, t) refl
 
--- src/main.rt:41:15  { ⏎ out[at] = place(v, 100000);
+-- src/main.rt:45:15  { ⏎ out[at] = place(v, 100000);
 place-requires : tie.Need-place-requires
 place-requires c κs = search needs
 
--- src/main.rt:41:5  { ⏎ out[at] = place(v, 100000);
+-- src/main.rt:45:5  { ⏎ out[at] = place(v, 100000);
 slice-write-out : tie.Need-slice-write-out
 slice-write-out c = search needs
 
--- src/main.rt:42:19  out[at] = place(v, 100000); ⏎ out[at + 1] = place(v, 10000);
+-- src/main.rt:46:19  out[at] = place(v, 100000); ⏎ out[at + 1] = place(v, 10000);
 place-requires-2 : tie.Need-place-requires-2
 place-requires-2 c κs = search needs
 
--- src/main.rt:42:9  out[at] = place(v, 100000); ⏎ out[at + 1] = place(v, 10000);
+-- src/main.rt:46:9  out[at] = place(v, 100000); ⏎ out[at + 1] = place(v, 10000);
 add-out : tie.Need-add-out
 add-out c = search needs
 
--- src/main.rt:42:5  out[at] = place(v, 100000); ⏎ out[at + 1] = place(v, 10000);
+-- src/main.rt:46:5  out[at] = place(v, 100000); ⏎ out[at + 1] = place(v, 10000);
 slice-write-out-2 : tie.Need-slice-write-out-2
 slice-write-out-2 c = simp length-set (omega arith)
 
--- src/main.rt:43:19  out[at + 1] = place(v, 10000); ⏎ out[at + 2] = place(v, 1000);
+-- src/main.rt:47:19  out[at + 1] = place(v, 10000); ⏎ out[at + 2] = place(v, 1000);
 place-requires-3 : tie.Need-place-requires-3
 place-requires-3 c κs = search needs
 
--- src/main.rt:43:9  out[at + 1] = place(v, 10000); ⏎ out[at + 2] = place(v, 1000);
+-- src/main.rt:47:9  out[at + 1] = place(v, 10000); ⏎ out[at + 2] = place(v, 1000);
 add-out-2 : tie.Need-add-out-2
 add-out-2 c = search needs
 
--- src/main.rt:43:5  out[at + 1] = place(v, 10000); ⏎ out[at + 2] = place(v, 1000);
+-- src/main.rt:47:5  out[at + 1] = place(v, 10000); ⏎ out[at + 2] = place(v, 1000);
 slice-write-out-3 : tie.Need-slice-write-out-3
 slice-write-out-3 c = simp length-set (omega arith)
 
--- src/main.rt:44:19  out[at + 2] = place(v, 1000); ⏎ out[at + 3] = place(v, 100);
+-- src/main.rt:48:19  out[at + 2] = place(v, 1000); ⏎ out[at + 3] = place(v, 100);
 place-requires-4 : tie.Need-place-requires-4
 place-requires-4 c κs = search needs
 
--- src/main.rt:44:9  out[at + 2] = place(v, 1000); ⏎ out[at + 3] = place(v, 100);
+-- src/main.rt:48:9  out[at + 2] = place(v, 1000); ⏎ out[at + 3] = place(v, 100);
 add-out-3 : tie.Need-add-out-3
 add-out-3 c = search needs
 
--- src/main.rt:44:5  out[at + 2] = place(v, 1000); ⏎ out[at + 3] = place(v, 100);
+-- src/main.rt:48:5  out[at + 2] = place(v, 1000); ⏎ out[at + 3] = place(v, 100);
 slice-write-out-4 : tie.Need-slice-write-out-4
 slice-write-out-4 c = simp length-set (omega arith)
 
--- src/main.rt:45:19  out[at + 3] = place(v, 100); ⏎ out[at + 4] = place(v, 10);
+-- src/main.rt:49:19  out[at + 3] = place(v, 100); ⏎ out[at + 4] = place(v, 10);
 place-requires-5 : tie.Need-place-requires-5
 place-requires-5 c κs = search needs
 
--- src/main.rt:45:9  out[at + 3] = place(v, 100); ⏎ out[at + 4] = place(v, 10);
+-- src/main.rt:49:9  out[at + 3] = place(v, 100); ⏎ out[at + 4] = place(v, 10);
 add-out-4 : tie.Need-add-out-4
 add-out-4 c = search needs
 
--- src/main.rt:45:5  out[at + 3] = place(v, 100); ⏎ out[at + 4] = place(v, 10);
+-- src/main.rt:49:5  out[at + 3] = place(v, 100); ⏎ out[at + 4] = place(v, 10);
 slice-write-out-5 : tie.Need-slice-write-out-5
 slice-write-out-5 c = simp length-set (omega arith)
 
--- src/main.rt:46:19  out[at + 4] = place(v, 10); ⏎ out[at + 5] = place(v, 1);
+-- src/main.rt:50:19  out[at + 4] = place(v, 10); ⏎ out[at + 5] = place(v, 1);
 place-requires-6 : tie.Need-place-requires-6
 place-requires-6 c κs = search needs
 
--- src/main.rt:46:9  out[at + 4] = place(v, 10); ⏎ out[at + 5] = place(v, 1);
+-- src/main.rt:50:9  out[at + 4] = place(v, 10); ⏎ out[at + 5] = place(v, 1);
 add-out-5 : tie.Need-add-out-5
 add-out-5 c = search needs
 
--- src/main.rt:46:5  out[at + 4] = place(v, 10); ⏎ out[at + 5] = place(v, 1);
+-- src/main.rt:50:5  out[at + 4] = place(v, 10); ⏎ out[at + 5] = place(v, 1);
 slice-write-out-6 : tie.Need-slice-write-out-6
 slice-write-out-6 c = simp length-set (omega arith)
 
--- src/main.rt:37:1  // Writes v in a field of six characters. ⏎ fn put(out: &mut [u8], at: usize, v: u32)
+-- src/main.rt:41:1  // Writes v in a field of six characters. ⏎ fn put(out: &mut [u8], at: usize, v: u32)
 same-length : tie.Need-same-length
 same-length c = simp length-set
 
--- src/main.rt:37:1  // Writes v in a field of six characters. ⏎ fn put(out: &mut [u8], at: usize, v: u32)
+-- src/main.rt:41:1  // Writes v in a field of six characters. ⏎ fn put(out: &mut [u8], at: usize, v: u32)
 returns : tie.Need-returns
 unfolding six
 returns c =

@@ -17,65 +17,65 @@ use mir.Facts.{toZ-ofZ}
 use Rattle.value.specs.Operators.{apply}
 use Rattle.value.proofs.Codes.{not-no-truth, negate-no-whole, apply-unknown}
 
--- src/lib.rt:246:30  10 => { ⏎ let Value::Truth(x) = a else {
+-- src/lib.rt:252:30  10 => { ⏎ let Value::Truth(x) = a else {
 enum-known-a : tie.Need-enum-known-a
 enum-known-a c = search needs
 
--- src/lib.rt:247:17  let Value::Truth(x) = a else { ⏎ return hand_on_one(a);
+-- src/lib.rt:253:17  let Value::Truth(x) = a else { ⏎ return hand_on_one(a);
 hand-on-one-requires : tie.Need-hand-on-one-requires
 hand-on-one-requires c κs = search needs
 
--- src/lib.rt:247:17  let Value::Truth(x) = a else { ⏎ return hand_on_one(a);
+-- src/lib.rt:253:17  let Value::Truth(x) = a else { ⏎ return hand_on_one(a);
 returns : tie.Need-returns
 returns c = c .hand-on-one .ensures ∙ rw (c .before .before .match .keys1) (sym (not-no-truth (c .before .before .before .args .a) (c .before .before .before .args .b) (c .before .match2 .keys2)))
 
--- src/lib.rt:252:30  11 => { ⏎ let Value::Whole(x) = a else {
+-- src/lib.rt:258:30  11 => { ⏎ let Value::Whole(x) = a else {
 enum-known-a-2 : tie.Need-enum-known-a-2
 enum-known-a-2 c = search needs
 
--- src/lib.rt:253:17  let Value::Whole(x) = a else { ⏎ return hand_on_one(a);
+-- src/lib.rt:259:17  let Value::Whole(x) = a else { ⏎ return hand_on_one(a);
 hand-on-one-requires-2 : tie.Need-hand-on-one-requires-2
 hand-on-one-requires-2 c κs = search needs
 
--- src/lib.rt:253:17  let Value::Whole(x) = a else { ⏎ return hand_on_one(a);
+-- src/lib.rt:259:17  let Value::Whole(x) = a else { ⏎ return hand_on_one(a);
 returns-2 : tie.Need-returns-2
 returns-2 c = c .hand-on-one2 .ensures ∙ rw (c .before .before .match .keys2) (sym (negate-no-whole (c .before .before .before .args .a) (c .before .before .before .args .b) (c .before .match3 .keys2)))
 
--- src/lib.rt:255:13  }; ⏎ negate(x)
+-- src/lib.rt:261:13  }; ⏎ negate(x)
 negate-requires : tie.Need-negate-requires
 negate-requires c κs = search needs
 
--- src/lib.rt:243:18  match code { ⏎ 1..=7 => apply_numbers(code, a, b),
+-- src/lib.rt:249:18  match code { ⏎ 1..=7 => apply_numbers(code, a, b),
 apply-numbers-requires : tie.Need-apply-numbers-requires
 apply-numbers-requires c κs = search needs
 
--- src/lib.rt:244:18  1..=7 => apply_numbers(code, a, b), ⏎ 8..=9 => apply_logical(code, a, b),
+-- src/lib.rt:250:18  1..=7 => apply_numbers(code, a, b), ⏎ 8..=9 => apply_logical(code, a, b),
 apply-logical-requires : tie.Need-apply-logical-requires
 apply-logical-requires c κs = search needs
 
--- src/lib.rt:257:14  } ⏎ _ => err(),
+-- src/lib.rt:263:14  } ⏎ _ => err(),
 err-requires : tie.Need-err-requires
 err-requires c κs = search needs
 
--- src/lib.rt:239:1  // The operator of a code on its operands; codes 10 and 11 do not look at the second. ⏎ pub fn apply_code(code: u8, a: Value, b: Value) -> Value
+-- src/lib.rt:245:1  // The operator of a code on its operands; codes 10 and 11 do not look at the second. ⏎ pub fn apply_code(code: u8, a: Value, b: Value) -> Value
 returns-3 : tie.Need-returns-3
 unfolding apply
 returns-3 c = rw (c .before .before .before .match .keys1, c .before .a .given .1) refl
 
--- src/lib.rt:239:1  // The operator of a code on its operands; codes 10 and 11 do not look at the second. ⏎ pub fn apply_code(code: u8, a: Value, b: Value) -> Value
+-- src/lib.rt:245:1  // The operator of a code on its operands; codes 10 and 11 do not look at the second. ⏎ pub fn apply_code(code: u8, a: Value, b: Value) -> Value
 returns-4 : tie.Need-returns-4
 unfolding apply
 returns-4 c = rw (c .before .before .before .before .match .keys2, c .before .before .a2 .given .1) (simp (toZ-ofZ {w = w32} {z = c .before .before .a2 .given .0 .0} (sfits-of (c .before .known-told2 .given .0 .1))) at (c .negate .ensures))
 
--- src/lib.rt:239:1  // The operator of a code on its operands; codes 10 and 11 do not look at the second. ⏎ pub fn apply_code(code: u8, a: Value, b: Value) -> Value
+-- src/lib.rt:245:1  // The operator of a code on its operands; codes 10 and 11 do not look at the second. ⏎ pub fn apply_code(code: u8, a: Value, b: Value) -> Value
 returns-5 : tie.Need-returns-5
 returns-5 c = c .apply-numbers .ensures
 
--- src/lib.rt:239:1  // The operator of a code on its operands; codes 10 and 11 do not look at the second. ⏎ pub fn apply_code(code: u8, a: Value, b: Value) -> Value
+-- src/lib.rt:245:1  // The operator of a code on its operands; codes 10 and 11 do not look at the second. ⏎ pub fn apply_code(code: u8, a: Value, b: Value) -> Value
 returns-6 : tie.Need-returns-6
 returns-6 c = c .apply-logical .ensures
 
--- src/lib.rt:239:1  // The operator of a code on its operands; codes 10 and 11 do not look at the second. ⏎ pub fn apply_code(code: u8, a: Value, b: Value) -> Value
+-- src/lib.rt:245:1  // The operator of a code on its operands; codes 10 and 11 do not look at the second. ⏎ pub fn apply_code(code: u8, a: Value, b: Value) -> Value
 returns-7 : tie.Need-returns-7
 returns-7 c = c .err .ensures ∙ sym (apply-unknown (c .before .before .before .args .code) (c .before .before .before .args .a) (c .before .before .before .args .b) (⊎-elim (λ l. inl (l .taken)) (λ r. inr (omega (arith, c .before .before .match .rest, r .2 .left))) (c .before .if1 .came)))
 

@@ -6,11 +6,11 @@ use Rattle.eval_sheet.proofs.row.refuse.Lts as lts
 use Rattle.value.proofs.err.Reads as err-reads
 use mathlib.Core.Path.{refl}
 
--- src/row.rt:27:23  { ⏎ let c = Cell { v: value::err() };
+-- src/row.rt:28:23  { ⏎ let c = Cell { v: value::err() };
 err-requires : tie.Need-err-requires
 err-requires c κs = search needs
 
--- src/row.rt:24:1  // A refusal: width 0, every place err, no rounds. ⏎ pub fn refuse(r: Refusal, row: usize) -> Evaluation
+-- src/row.rt:25:1  // A refusal: width 0, every place err, no rounds. ⏎ pub fn refuse(r: Refusal, row: usize) -> Evaluation
 returns : tie.Need-returns
 returns c = rw (c .err .ensures) refl
 

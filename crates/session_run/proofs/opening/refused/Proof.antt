@@ -7,7 +7,6 @@ use Rattle.text_print.proofs.put_refusal.Reads as put-refusal-reads
 use native.Mathlib.Omega.{arith}
 use borrow.Author.Tests.{not-true, not-false}
 use Rattle.session.specs.OpeningLaws.{refusal-printed, refusal-behind}
-use Rattle.session.specs.OpeningLaws.{refusal-printed, bad-few, count-few, judged-bad, judged-sets, opens-layout, opens-rows, opens-refused, inputs-few, opens-long, opens-judged, refusal-bounds, judged-bounds}
 
 -- src/opening.rt:27:5  { ⏎ text_print::put_refusal(out, 0, number, row);
 put-refusal-requires : tie.Need-put-refusal-requires

@@ -9,21 +9,21 @@ use Rattle.sheet_kinds.proofs.line.kind_at.Lts as lts
 use mathlib.Core.Path.{sym, ap}
 use lib.ListN.{getD, List·getD-eq-default}
 use borrow.Author.Tests.{ne-eqb}
-use Rattle.formula.specs.Faults.{kindOfLetter}
+use Rattle.value.specs.Kinds.{kindOfLetter}
 
--- src/line.rt:59:9  if line.len() <= i { ⏎ return WHOLE;
+-- src/line.rt:60:9  if line.len() <= i { ⏎ return WHOLE;
 returns : tie.Need-returns
 returns c = sym (ap kindOfLetter (List·getD-eq-default (c .before .args .line .now) 0 (c .if1 .taken)))
 
--- src/line.rt:61:8  } ⏎ if line[i] == b'T' {
+-- src/line.rt:62:8  } ⏎ if line[i] == b'T' {
 shared-slice-read-if2 : tie.Need-shared-slice-read-if2
 shared-slice-read-if2 c = search needs
 
--- src/line.rt:62:9  if line[i] == b'T' { ⏎ return TRUTH;
+-- src/line.rt:63:9  if line[i] == b'T' { ⏎ return TRUTH;
 returns-2 : tie.Need-returns-2
 returns-2 c = sym (ap kindOfLetter (c .if2 .taken))
 
--- src/line.rt:55:1  // The kind of letter i of a line, a whole number where there is none. ⏎ fn kind_at(line: &[u8], i: usize) -> u8
+-- src/line.rt:56:1  // The kind of letter i of a line, a whole number where there is none. ⏎ fn kind_at(line: &[u8], i: usize) -> u8
 returns-3 : tie.Need-returns-3
 returns-3 c = simp (ne-eqb (getD (c .before .before .before .args .line .now) (c .before .before .before .args .i) 0) 84 (c .if2 .left))
 

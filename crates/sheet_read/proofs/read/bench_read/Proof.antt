@@ -9,47 +9,47 @@ use mathlib.Core.Path.{refl, sym, _∙_, ap}
 use native.Mathlib.Omega.{arith}
 use Rattle.sheet_read.proofs.FigureLaws.{answer-modest, answer-low}
 
--- src/read.rt:198:11  { ⏎ match read(sheet) {
+-- src/read.rt:235:11  { ⏎ match read(sheet, kinds) {
 read-requires : tie.Need-read-requires
 read-requires c κs = search needs
 
--- src/read.rt:199:27  match read(sheet) { ⏎ Reading::Accepted(f) => ReadAnswer {
+-- src/read.rt:236:27  match read(sheet, kinds) { ⏎ Reading::Accepted(f) => ReadAnswer {
 enum-known-f : tie.Need-enum-known-f
 enum-known-f c = search needs
 
--- src/read.rt:202:19  row: 0, ⏎ rows: f.rows as u32,
-cast-t7 : tie.Need-cast-t7
-cast-t7 c = let m = answer-modest (c .before .before .before .before .before .before .args .sheet .now) (c .before .before .f .given .0 .0) (sym (c .before .before .before .before .read .ensures) ∙ c .before .before .f .given .1) .rows in record { fits = omega (arith, m) }
-
--- src/read.rt:203:24  rows: f.rows as u32, ⏎ operators: f.operators as u32,
+-- src/read.rt:239:19  row: 0, ⏎ rows: f.rows as u32,
 cast-t8 : tie.Need-cast-t8
-cast-t8 c = let m = answer-modest (c .before .before .before .before .before .before .before .args .sheet .now) (c .before .before .before .f .given .0 .0) (sym (c .before .before .before .before .before .read .ensures) ∙ c .before .before .before .f .given .1) .operators in record { fits = omega (arith, m) }
+cast-t8 c = let m = answer-modest (c .before .before .before .before .before .before .before .args .sheet .now) (c .before .before .before .before .before .before .before .args .kinds .now) (c .before .before .f .given .0 .0) (sym (c .before .before .before .before .read .ensures) ∙ c .before .before .f .given .1) .rows in record { fits = omega (arith, m) }
 
--- src/read.rt:204:21  operators: f.operators as u32, ⏎ inputs: f.inputs as u32,
+-- src/read.rt:240:24  rows: f.rows as u32, ⏎ operators: f.operators as u32,
 cast-t9 : tie.Need-cast-t9
-cast-t9 c = let m = answer-modest (c .before .before .before .before .before .before .before .before .args .sheet .now) (c .before .before .before .before .f .given .0 .0) (sym (c .before .before .before .before .before .before .read .ensures) ∙ c .before .before .before .before .f .given .1) .inputs in record { fits = omega (arith, m) }
+cast-t9 c = let m = answer-modest (c .before .before .before .before .before .before .before .before .args .sheet .now) (c .before .before .before .before .before .before .before .before .args .kinds .now) (c .before .before .before .f .given .0 .0) (sym (c .before .before .before .before .before .read .ensures) ∙ c .before .before .before .f .given .1) .operators in record { fits = omega (arith, m) }
 
--- src/read.rt:205:22  inputs: f.inputs as u32, ⏎ results: f.results as u32,
+-- src/read.rt:241:21  operators: f.operators as u32, ⏎ inputs: f.inputs as u32,
 cast-t10 : tie.Need-cast-t10
-cast-t10 c = let m = answer-modest (c .before .before .before .before .before .before .before .before .before .args .sheet .now) (c .before .before .before .before .before .f .given .0 .0) (sym (c .before .before .before .before .before .before .before .read .ensures) ∙ c .before .before .before .before .before .f .given .1) .results in record { fits = omega (arith, m) }
+cast-t10 c = let m = answer-modest (c .before .before .before .before .before .before .before .before .before .args .sheet .now) (c .before .before .before .before .before .before .before .before .before .args .kinds .now) (c .before .before .before .before .f .given .0 .0) (sym (c .before .before .before .before .before .before .read .ensures) ∙ c .before .before .before .before .f .given .1) .inputs in record { fits = omega (arith, m) }
 
--- src/read.rt:207:27  }, ⏎ Reading::Rejected(r, row) => ReadAnswer {
+-- src/read.rt:242:22  inputs: f.inputs as u32, ⏎ results: f.results as u32,
+cast-t11 : tie.Need-cast-t11
+cast-t11 c = let m = answer-modest (c .before .before .before .before .before .before .before .before .before .before .args .sheet .now) (c .before .before .before .before .before .before .before .before .before .before .args .kinds .now) (c .before .before .before .before .before .f .given .0 .0) (sym (c .before .before .before .before .before .before .before .read .ensures) ∙ c .before .before .before .before .before .f .given .1) .results in record { fits = omega (arith, m) }
+
+-- src/read.rt:244:27  }, ⏎ Reading::Rejected(r, row) => ReadAnswer {
 enum-known-r : tie.Need-enum-known-r
 enum-known-r c = search needs
 
--- src/read.rt:208:22  Reading::Rejected(r, row) => ReadAnswer { ⏎ refusal: refusal_number(r),
+-- src/read.rt:245:22  Reading::Rejected(r, row) => ReadAnswer { ⏎ refusal: refusal_number(r),
 refusal-number-requires : tie.Need-refusal-number-requires
 refusal-number-requires c κs = search needs
 
--- src/read.rt:209:18  refusal: refusal_number(r), ⏎ row: row as u32,
-cast-t12 : tie.Need-cast-t12
-cast-t12 c = let m = answer-low (c .before .before .before .before .before .before .args .sheet .now) (c .before .before .r .given .0 .0) (c .before .before .r .given .0 .1 .0) (sym (c .before .before .before .before .read .ensures) ∙ c .before .before .r .given .1) in record { fits = omega (arith, m) }
+-- src/read.rt:246:18  refusal: refusal_number(r), ⏎ row: row as u32,
+cast-t13 : tie.Need-cast-t13
+cast-t13 c = let m = answer-low (c .before .before .before .before .before .before .before .args .sheet .now) (c .before .before .before .before .before .before .before .args .kinds .now) (c .before .before .r .given .0 .0) (c .before .before .r .given .0 .1 .0) (sym (c .before .before .before .before .read .ensures) ∙ c .before .before .r .given .1) in record { fits = omega (arith, m) }
 
--- src/read.rt:194:1  // Reading for the firmware. ⏎ #[no_mangle]
+-- src/read.rt:231:1  // Reading for the firmware. ⏎ #[no_mangle]
 returns : tie.Need-returns
 returns c = rw (sym (c .before .before .before .before .before .before .before .read .ensures), c .before .before .before .before .before .f .given .1) refl
 
--- src/read.rt:194:1  // Reading for the firmware. ⏎ #[no_mangle]
+-- src/read.rt:231:1  // Reading for the firmware. ⏎ #[no_mangle]
 returns-2 : tie.Need-returns-2
 returns-2 c = rw (sym (c .before .before .before .before .read .ensures), c .before .before .r .given .1, c .refusal-number .ensures) refl
 
@@ -59,12 +59,12 @@ bench-read-spec =
     (tie.spec
     read-requires
     enum-known-f
-    cast-t7
     cast-t8
     cast-t9
     cast-t10
+    cast-t11
     enum-known-r
     refusal-number-requires
-    cast-t12
+    cast-t13
     returns
     returns-2)

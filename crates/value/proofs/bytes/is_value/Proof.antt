@@ -4,19 +4,19 @@ use Rattle.value.proofs.bytes.is_value.Reads as reads
 use Rattle.value.proofs.bytes.is_value.Lts as lts
 use Rattle.value.proofs.Words.{whole-valid, truth-valid, err-valid, tag-valid}
 
--- src/bytes.rt:124:1  // Whether a word is the byte form of a value. ⏎ pub fn is_value(w: u64) -> bool
+-- src/bytes.rt:133:1  // Whether a word is the byte form of a value. ⏎ pub fn is_value(w: u64) -> bool
 returns : tie.Need-returns
 returns c = whole-valid (c .before .args .w) (c .match .keys1)
 
--- src/bytes.rt:124:1  // Whether a word is the byte form of a value. ⏎ pub fn is_value(w: u64) -> bool
+-- src/bytes.rt:133:1  // Whether a word is the byte form of a value. ⏎ pub fn is_value(w: u64) -> bool
 returns-2 : tie.Need-returns-2
 returns-2 c = truth-valid (c .before .args .w) (c .match .keys2)
 
--- src/bytes.rt:124:1  // Whether a word is the byte form of a value. ⏎ pub fn is_value(w: u64) -> bool
+-- src/bytes.rt:133:1  // Whether a word is the byte form of a value. ⏎ pub fn is_value(w: u64) -> bool
 returns-3 : tie.Need-returns-3
 returns-3 c = err-valid (c .before .args .w) (c .match .keys3)
 
--- src/bytes.rt:124:1  // Whether a word is the byte form of a value. ⏎ pub fn is_value(w: u64) -> bool
+-- src/bytes.rt:133:1  // Whether a word is the byte form of a value. ⏎ pub fn is_value(w: u64) -> bool
 returns-4 : tie.Need-returns-4
 returns-4 c = tag-valid (c .before .args .w) (c .match .rest .0 .0 .1) (c .match .rest .0 .1) (c .match .rest .1)
 

@@ -1,0 +1,175 @@
+// The cases of tests 17 and 18 (document 02, Job 6). See the list above for how they are held to the reader.
+
+use super::rules::nest;
+use super::{lesser, List};
+use crate::sheet::write;
+
+type Row = [u32; 5];
+
+const ONE: Row = [2, 1, 0, 0, 0];
+const TRUE: Row = [3, 1, 0, 0, 0];
+
+fn name(name: u32) -> Row {
+    [1, name, 0, 0, 0]
+}
+
+/// 17 "when the kinds line has another length or letter".
+pub fn lines(list: &mut List) {
+    let bad: [(&str, &[u8]); 17] = [
+        ("empty", b""),
+        ("a line feed alone", b"\n"),
+        ("one letter", b"W\n"),
+        ("three letters", b"WWW\n"),
+        ("no line feed", b"WW"),
+        ("a third letter in the place of the line feed", b"WWW"),
+        ("two line feeds", b"WW\n\n"),
+        ("a line feed before", b"\nWW"),
+        ("a line feed between", b"W\nW"),
+        ("CR LF", b"WW\r\n"),
+        ("a CR alone", b"WW\r"),
+        ("a space behind", b"WW \n"),
+        ("a byte behind the line feed", b"WW\nW"),
+        ("small letters", b"ww\n"),
+        ("the letter F", b"WF\n"),
+        ("a byte 0x00", b"W\0\n"),
+        ("a byte 0xd7, a W but for its highest bit", b"\xd7W\n"),
+    ];
+    for (what, line) in bad {
+        list.refused_with(17, 0, &format!("kinds line: {what}"), write(&lesser()), line);
+    }
+    list.refused_with(17, 0, "kinds line: a bad letter beside one that breaks row 4", write(&lesser()), b"TX\n");
+    list.refused_with(17, 0, "kinds line: too many letters, and over 1,024 operators", write(&nest(29, 24)), b"W\n");
+    list.refused_with(9, 3, "let x = 1 in 2 with no kinds line", write(&[ONE, ONE, [6, 0, 1, 1, 2]]), b"");
+    list.refused_with(17, 0, "no inputs: an empty line", write(&[ONE]), b"");
+    list.refused_with(17, 0, "no inputs: a letter", write(&[ONE]), b"W\n");
+    list.refused_with(17, 0, "no inputs: two line feeds", write(&[ONE]), b"\n\n");
+    // x17 negated, x5 notted: the letters go by rising identifiers, not by rows.
+    let rising = [name(17), [5, 11, 1, 0, 0], name(5), [5, 10, 3, 0, 0], [4, 2, 4, 0, 0]];
+    list.accepted([5, 2, 2, 2], "letters by rising identifiers", write(&rising), "TW");
+    list.refused_with(18, 2, "letters by rows", write(&rising), b"WT\n");
+    let line = [&[b'W'; 16][..], b"\n"].concat();
+    list.refused_with(10, 0, "1,025 operators of good kinds", write(&nest(29, 24)), &line);
+    let mut broken = line.clone();
+    broken[15] = b'T';
+    list.refused_with(18, 46, "1,025 operators and a row that breaks the kinds", write(&nest(29, 24)), &broken);
+}
+
+/// "Operators [..] must get the kinds they want": each code with each kinds of its operands.
+pub fn operators(list: &mut List) {
+    for code in 1..=9 {
+        let rows = [name(0), name(1), [4, 1, 2, 0, 0], [5, code, 3, 0, 0]];
+        let wanted = if code < 8 { "WW" } else { "TT" };
+        for letters in ["WW", "WT", "TW", "TT"] {
+            let what = format!("code {code} of {letters}");
+            match letters == wanted {
+                true => list.accepted([4, 1, 2, 1], &what, write(&rows), letters),
+                false => list.refused_with(18, 4, &what, write(&rows), format!("{letters}\n").as_bytes()),
+            }
+        }
+    }
+    for (code, wanted, other) in [(10, "T", b"W\n"), (11, "W", b"T\n")] {
+        let rows = [name(0), [5, code, 1, 0, 0]];
+        list.accepted([2, 1, 1, 1], &format!("code {code} of {wanted}"), write(&rows), wanted);
+        list.refused_with(18, 2, &format!("code {code} of another kind"), write(&rows), other);
+    }
+    // not and negate of what each code gives
+    for code in 1..=9 {
+        let (letters, gives_truth) = (if code < 8 { "WW" } else { "TT" }, code > 5);
+        for above in [10, 11] {
+            let rows = [name(0), name(1), [4, 1, 2, 0, 0], [5, code, 3, 0, 0], [5, above, 4, 0, 0]];
+            let what = format!("code {above} of code {code}");
+            match gives_truth == (above == 10) {
+                true => list.accepted([5, 2, 2, 1], &what, write(&rows), letters),
+                false => list.refused_with(18, 5, &what, write(&rows), format!("{letters}\n").as_bytes()),
+            }
+        }
+    }
+}
+
+/// "tests must get the kinds they want, arms [..] must agree; else the [..] if [..] itself is at fault".
+pub fn choices(list: &mut List) {
+    let chosen = |yes: Row, no: Row| write(&[name(0), yes, no, [7, 1, 2, 3, 0]]);
+    list.refused_with(18, 4, "a test of kind W", chosen(ONE, ONE), b"W\n");
+    list.refused_with(18, 4, "arms 1 and true", chosen(ONE, TRUE), b"T\n");
+    list.refused_with(18, 4, "arms true and 1", chosen(TRUE, ONE), b"T\n");
+    // if x0 then 1, true else true, 1
+    let crossed = [name(0), ONE, TRUE, [4, 2, 3, 0, 0], TRUE, ONE, [4, 5, 6, 0, 0], [7, 1, 4, 7, 0]];
+    list.refused_with(18, 8, "arms of the same kinds in another order", write(&crossed), b"T\n");
+    // let x0 = true in not x0, beside x0 negated
+    let shadowed = [TRUE, name(0), [5, 10, 2, 0, 0], [6, 0, 1, 1, 3], name(0), [5, 11, 5, 0, 0], [4, 4, 6, 0, 0]];
+    list.accepted([7, 3, 1, 2], "a let whose identifier has another kind than the input", write(&shadowed), "W");
+}
+
+/// "loop rounds must agree; else the [..] for itself is at fault and [..] row c's kinds hold".
+pub fn loops(list: &mut List) {
+    // for x0 = x0 do if x1 then iter (row 3) else (row 5)
+    let looped =
+        |next: Row, end: Row| write(&[name(0), name(1), next, [9, 3, 0, 0, 0], end, [7, 2, 4, 5, 0], [8, 0, 1, 1, 6]]);
+    list.refused_with(18, 7, "a loop that turns a number into a truth", looped(TRUE, name(0)), b"WT\n");
+    list.refused_with(18, 7, "a loop that turns a truth into a number", looped(ONE, name(0)), b"TT\n");
+    list.refused_with(18, 6, "a body's test of kind W", looped(name(0), name(0)), b"WW\n");
+    list.refused_with(18, 6, "a body's test of kind W, and a loop of two kinds", looped(TRUE, name(0)), b"WW\n");
+    // The if 13, the for 5.
+    list.accepted([7, 18, 2, 1], "a loop over numbers that returns a truth", looped(name(0), TRUE), "WT");
+    // for x0 = x0 do if x1 then (if x1 then iter (row 4) else iter (row 6)) else x0
+    let two = |yes: Row, no: Row| {
+        let inner = [name(1), yes, [9, 4, 0, 0, 0], no, [9, 6, 0, 0, 0], [7, 3, 5, 7, 0]];
+        let outer = [name(0), [7, 2, 8, 9, 0], [8, 0, 1, 1, 10]];
+        write(&[&[name(0), name(1)][..], &inner, &outer].concat())
+    };
+    list.refused_with(18, 8, "body arms that iterate 1 and true", two(ONE, TRUE), b"WT\n");
+    list.refused_with(18, 8, "body arms that iterate true and 1", two(TRUE, ONE), b"WT\n");
+    list.refused_with(18, 11, "body arms that both iterate true", two(TRUE, TRUE), b"WT\n");
+    // for x0 = x0 do if x1 then iter x0 else if x1 then (row 6) else (row 7)
+    let ends = |yes: Row, no: Row| {
+        let inner = [name(1), yes, no, [7, 5, 6, 7, 0]];
+        write(
+            &[&[name(0), name(1), name(0), [9, 3, 0, 0, 0]][..], &inner, &[[7, 2, 4, 8, 0], [8, 0, 1, 1, 9]]].concat(),
+        )
+    };
+    list.refused_with(18, 8, "body arms that return 1 and true", ends(ONE, TRUE), b"WT\n");
+    // for x0, x1 = x0, x1 do if x1 then iter x1, x0 else x0
+    let start = [name(0), name(1), [4, 1, 2, 0, 0]];
+    let swap =
+        [name(1), name(1), name(0), [4, 5, 6, 0, 0], [9, 7, 0, 0, 0], name(0), [7, 4, 8, 9, 0], [8, 0, 2, 3, 10]];
+    list.refused_with(18, 11, "a loop that exchanges two kinds", write(&[&start[..], &swap].concat()), b"WT\n");
+    // for x0 = x0 do if x1 then (let x0 = true in if x0 then iter 1 else 1) else x0: the let's identifier has its own kind.
+    // Operators: the inner if 13, the let 2, the outer if 10, the for 5.
+    let inner = [TRUE, name(0), ONE, [9, 5, 0, 0, 0], ONE, [7, 4, 6, 7, 0], [6, 0, 1, 3, 8]];
+    let rebound = [&[name(0), name(1)][..], &inner, &[name(0), [7, 2, 9, 10, 0], [8, 0, 1, 1, 11]]].concat();
+    list.accepted([12, 30, 2, 1], "a body's let of another kind than the loop's identifier", write(&rebound), "WT");
+}
+
+/// Which kinds hold behind a fault shows in a row below it: let x1 = (the part) in x1 notted or negated, that operator being row 2.
+pub fn lower_rows(list: &mut List) {
+    let behind = |code: u32, part: &[Row]| {
+        let last = part.len() as u32 + 2;
+        write(&[&[name(1), [5, code, 1, 0, 0]][..], part, &[[6, 1, 1, last, 2]]].concat())
+    };
+    let arms = |yes: Row, no: Row| [name(0), yes, no, [7, 3, 4, 5, 0]];
+    let cases = [
+        ("arms true and 1", arms(TRUE, ONE), 10),
+        ("arms 1 and true", arms(ONE, TRUE), 11),
+        // An operator at fault gives what its code always gives.
+        ("true + 1", [name(0), ONE, [4, 3, 4, 0, 0], [5, 1, 5, 0, 0]], 11),
+        ("true < 1", [name(0), ONE, [4, 3, 4, 0, 0], [5, 6, 5, 0, 0]], 10),
+        ("true and 1", [name(0), ONE, [4, 3, 4, 0, 0], [5, 8, 5, 0, 0]], 10),
+    ];
+    for (what, part, fits) in cases {
+        for code in [10, 11] {
+            let row = if code == fits { 6 } else { 2 };
+            list.refused_with(18, row, &format!("code {code} of {what}"), behind(code, &part), b"T\n");
+        }
+    }
+    // for x1 = true do if x1 then iter 1 else x1: row c's kinds hold in the body and behind it
+    let looped = [TRUE, name(1), ONE, [9, 5, 0, 0, 0], name(1), [7, 4, 6, 7, 0], [8, 1, 1, 3, 8]];
+    list.refused_with(18, 9, "not of a loop of two kinds", behind(10, &looped), b"\n");
+    list.refused_with(18, 2, "negate of a loop of two kinds", behind(11, &looped), b"\n");
+    // for x1 = 1 do if x0 then (if x0 then 1 else true) else iter x1: the first arm's kinds hold for what is returned
+    let returned = |yes: Row, no: Row| {
+        let body = [name(0), name(0), yes, no, [7, 5, 6, 7, 0], name(1), [9, 9, 0, 0, 0], [7, 4, 8, 10, 0]];
+        [&[ONE][..], &body, &[[8, 1, 1, 3, 11]]].concat()
+    };
+    list.refused_with(18, 8, "negate of a loop that returns 1 or true", behind(11, &returned(ONE, TRUE)), b"T\n");
+    list.refused_with(18, 2, "not of a loop that returns 1 or true", behind(10, &returned(ONE, TRUE)), b"T\n");
+}

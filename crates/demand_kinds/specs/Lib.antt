@@ -1,0 +1,3 @@
+pub mod RefusedSets
+pub mod RightKinds
+pub mod LesserKinds

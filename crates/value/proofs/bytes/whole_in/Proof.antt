@@ -1,0 +1,18 @@
+-- The tests, as paths name them:
+--   tie if1  { ⏎ if letter == TRUTH_LETTER {
+use Rattle.value.proofs.bytes.whole_in.Statement.{statement}
+use Rattle.value.proofs.bytes.whole_in.Tie as tie
+use Rattle.value.proofs.bytes.whole_in.Reads as reads
+use Rattle.value.proofs.bytes.whole_in.Lts as lts
+use Rattle.value.proofs.Words.{whole-not-truth, whole-of-kind}
+
+-- src/bytes.rt:171:9  if letter == TRUTH_LETTER { ⏎ return false;
+returns : tie.Need-returns
+returns c = whole-not-truth (c .before .args .letter) (c .before .args .bits) (c .if1 .taken)
+
+-- src/bytes.rt:167:1  } ⏎ fn whole_in(letter: u8, bits: u64) -> bool
+returns-2 : tie.Need-returns-2
+returns-2 c = whole-of-kind (c .before .args .letter) (c .before .args .bits) (c .if1 .left)
+
+pub whole-in-spec : {M : Type 1} → statement M
+whole-in-spec = tie.close (tie.spec returns returns-2)
