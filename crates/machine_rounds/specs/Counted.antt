@@ -1,6 +1,6 @@
--- A call's rounds and firings. Document 02, Job 7: "The lent number .. counts rounds, and 36 is given when something can fire after them, the firings kept as at run's 36. The call gives its
+-- A call's rounds and firings. Document 02, Job 7: "36 is given when something can fire after them, the firings kept as at run's 36. The call gives its
 -- firings and its rounds, on 36 too, counting only rounds in which something fired." Assumes a memory in good standing.
-use Prim.Native.Nat.{ℕ, zero, suc, _+_, _≤_, _<_}
+use Prim.Native.Nat.{ℕ, _+_, _≤_, _<_}
 use mathlib.Core.Path.{_≡_, refl, sym, ap, subst, _∙_}
 use mathlib.Core.Bool.{Bool, true, false, false≢true}
 use mathlib.Core.List.{List}
@@ -12,7 +12,7 @@ use Rattle.formula.specs.Refusals.{numberOf}
 use Rattle.machine_layout.specs.Layout.{operatorsOf}
 use Rattle.machine_runs.specs.Run.{stillAt}
 use Rattle.machine_calls.specs.Calls.{sizeIn, standing}
-use Rattle.machine_rounds.specs.Rounds.{Rounded, rounded, roundsFrom, Outcome, outcome, answers, ended, ranRounds}
+use Rattle.machine_rounds.specs.Rounds.{Rounded, roundsFrom, Outcome, outcome, answers, ended, ranRounds}
 use Rattle.machine_rounds.specs.RoundLaws.{rounds-below, rounds-ended}
 use Rattle.machine_rounds.specs.Keeps.{Keeps, call-keeps, same-size, same-operators}
 use Rattle.machine_rounds.specs.Turns.{RoundsMade, Counted, counted, rounds-only}

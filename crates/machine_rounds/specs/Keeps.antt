@@ -8,9 +8,8 @@ use native.Mathlib.Decide.{ℕ-discrete}
 use lib.Dec.{eqb}
 use lib.ListN.{length, getD}
 use Rattle.value.specs.Operators.{pick}
-use Rattle.value.specs.Bytes.{stored}
 use Rattle.value.proofs.Words.{length-stored}
-use Rattle.machine_layout.specs.Layout.{number16, need, registerAt, capacityIn, operatorsOf}
+use Rattle.machine_layout.specs.Layout.{number16, need, registerAt, operatorsOf}
 use Rattle.machine_firing.specs.Links.{removedAt, appendedAt}
 use Rattle.machine_firing.specs.LinkLaws.{length-removed, length-appended}
 use Rattle.machine_firing.specs.Fire.{Plan, planAt, moved, performed, ableAt, firedAt}
@@ -18,7 +17,7 @@ use Rattle.machine_runs.specs.Near.{static-fired}
 use Rattle.machine_valid.specs.Figures.{valid-figures}
 use Rattle.machine_calls.specs.Calls.{sizeIn, standing}
 use Rattle.machine_calls.specs.CallLaws.{standing-good}
-use Rattle.machine_rounds.specs.Rounds.{Swept, sweep, round, Rounded, rounded, roundsFrom, Outcome, ended, ranRounds}
+use Rattle.machine_rounds.specs.Rounds.{sweep, round, Rounded, rounded, roundsFrom, Outcome, ended, ranRounds}
 use Rattle.machine_rounds.specs.RoundLaws.{rounds-refused, rounds-ended}
 
 pub record Keeps (m m′ : List ℕ) : Type 0 where

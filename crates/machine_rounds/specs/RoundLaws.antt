@@ -7,7 +7,7 @@ use mathlib.Core.List.{List}
 use native.Mathlib.Omega.{arith}
 use native.Mathlib.Numerals.{add-one}
 use native.Mathlib.Decide.{ℕ-discrete}
-use borrow.Author.Tests.{le-ltb, eq-eqb, ne-eqb, eqb-true, eqb-false}
+use borrow.Author.Tests.{le-ltb, eq-eqb, ne-eqb, eqb-true}
 use lib.Dec.{eqb}
 use lib.ListN.{length}
 use Rattle.value.specs.Operators.{pick}
@@ -15,10 +15,10 @@ use Rattle.formula.specs.declared.Refusal.the-variants.{Unfinished}
 use Rattle.formula.specs.Refusals.{numberOf}
 use Rattle.machine_layout.specs.Layout.{operatorsOf}
 use Rattle.machine_firing.specs.Fire.{ableAt, firedAt}
-use Rattle.machine_runs.specs.Run.{least, stillAt}
+use Rattle.machine_runs.specs.Run.{stillAt}
 use Rattle.machine_runs.specs.RunLaws.{Quiet, least-none, fired-idle}
 use Rattle.machine_calls.specs.Calls.{sizeIn, standing}
-use Rattle.machine_rounds.specs.Rounds.{Swept, swept, sweep, round, Rounded, rounded, roundsFrom, Outcome, outcome, answers, ended, ranRounds}
+use Rattle.machine_rounds.specs.Rounds.{Swept, swept, sweep, round, Rounded, rounded, roundsFrom, outcome, answers, ended, ranRounds}
 
 -- ---- one round
 

@@ -1,20 +1,19 @@
--- Rounds by their firings. Document 02, Job 7: "operators rising, each that is able at its turn firing once". What a round is said to be here, a firing after the other, is what the definition
--- of specs/Rounds makes, and only that. Assumes nothing.
-use Prim.Native.Nat.{ℕ, zero, suc, _+_, _-_, _≤_, _<_}
+-- Rounds by their firings. Document 02, Job 7: "operators rising, each that is able at its turn firing once". What the definition of specs/Rounds makes is
+-- such rounds, and only that. Assumes nothing.
+use Prim.Native.Nat.{ℕ, zero, suc, _+_, _-_, _*_, _≤_, _<_}
 use mathlib.Core.Path.{_≡_, refl, sym, ap, subst, _∙_}
-use mathlib.Core.Logic.{_≢_}
 use mathlib.Core.Bool.{Bool, true, false, false≢true}
 use mathlib.Core.List.{List}
 use native.Mathlib.Omega.{arith}
 use native.Mathlib.Decide.{ℕ-discrete}
-use borrow.Author.Tests.{ltb-false, eqb-true, eqb-false, not-true}
+use borrow.Author.Tests.{ltb-false, eqb-false, not-true}
 use lib.Dec.{ltb, eqb}
 use Rattle.value.specs.Operators.{pick}
 use Rattle.machine_firing.specs.Fire.{ableAt, firedAt}
 use Rattle.machine_runs.specs.Run.{leastFrom, least, stillAt}
 use Rattle.machine_runs.specs.RunLaws.{Quiet}
 use Rattle.machine_rounds.specs.Rounds.{Swept, swept, sweep, round, Rounded, rounded, roundsFrom}
-use Rattle.machine_rounds.specs.RoundLaws.{round-quiet, rounds-step, rounds-end, rounds-zero}
+use Rattle.machine_rounds.specs.RoundLaws.{rounds-step, rounds-end, rounds-zero}
 
 -- none of the operators from i on, below j, is able
 abbrev pub Passed : List ℕ → ℕ → ℕ → ℕ → Type 0
@@ -50,20 +49,20 @@ turns-pass : (size n i f : ℕ) (m m′ : List ℕ) → ableAt m size i ≡ fals
 turns-pass size n i zero m m′ e t = (t .0, passed-more m size i n e (t .1))
 turns-pass size n i (suc f) m m′ e t = (t .0, omega (arith, t .1), t .2, t .3, passed-more m size i (t .0) e (t .4), t .5)
 
-pub record Made (size n i : ℕ) (m : List ℕ) (c : ℕ) (s : Swept) : Type 0 where
+pub record SweepMade (size n i : ℕ) (m : List ℕ) (c : ℕ) (s : Swept) : Type 0 where
   pub made : ℕ
   pub counts : s .firings ≡ c + made
   pub turns : Turns size n i made m (s .mem)
 
-sweep-makes : (size n k i : ℕ) (m : List ℕ) (c : ℕ) → i + k ≡ n → Made size n i m c (sweep size k i m c)
+sweep-makes : (size n k i : ℕ) (m : List ℕ) (c : ℕ) → i + k ≡ n → SweepMade size n i m c (sweep size k i m c)
 unfolding sweep
 sweep-makes size n zero i m c e = record { made = 0; counts = omega arith; turns = (refl, λ x a b. absurd (omega arith)) }
 sweep-makes size n (suc k) i m c e =
     go (ableAt m size i) refl (sweep-makes size n k (suc i) (firedAt m size i) (c + 1) (omega arith)) (sweep-makes size n k (suc i) m c (omega arith))
   where
-    go : (b : Bool) → ableAt m size i ≡ b → Made size n (suc i) (firedAt m size i) (c + 1) (sweep size k (suc i) (firedAt m size i) (c + 1))
-        → Made size n (suc i) m c (sweep size k (suc i) m c)
-        → Made size n i m c (pick b (sweep size k (suc i) (firedAt m size i) (c + 1)) (sweep size k (suc i) m c))
+    go : (b : Bool) → ableAt m size i ≡ b → SweepMade size n (suc i) (firedAt m size i) (c + 1) (sweep size k (suc i) (firedAt m size i) (c + 1))
+        → SweepMade size n (suc i) m c (sweep size k (suc i) m c)
+        → SweepMade size n i m c (pick b (sweep size k (suc i) (firedAt m size i) (c + 1)) (sweep size k (suc i) m c))
     go true a F P = record {
       made = suc (F .made);
       counts = omega (arith, F .counts);
@@ -81,6 +80,22 @@ round-turns size n m =
     let t = sweep-makes size n n 0 m 0 (omega arith) in
     let z : t .made ≡ sweep size n 0 m 0 .firings = omega (arith, t .counts) in
     subst (λ (f : ℕ). Turns size n 0 f m (sweep size n 0 m 0 .mem)) z (t .turns)
+
+-- ---- how many firings
+
+turns-most : (size n i f : ℕ) (m m′ : List ℕ) → i ≤ n → Turns size n i f m m′ → i + f ≤ n
+turns-most size n i zero m m′ l t = omega arith
+turns-most size n i (suc f) m m′ l t =
+    let h = turns-most size n (suc (t .0)) f (firedAt m size (t .0)) m′ (omega (arith, t .2)) (t .5) in
+    omega (arith, t .1, h)
+
+-- at least one a round, and at most one for each operator
+pub rounds-bound : (size n r f : ℕ) (m m′ : List ℕ) → n ≤ 1024 → RoundsMade size n r f m m′ → (r ≤ f) × (f ≤ 1024 * r)
+rounds-bound size n zero f m m′ l t = (omega (arith, t .0), omega (arith, t .0))
+rounds-bound size n (suc r) f m m′ l t =
+    let a = turns-most size n 0 (t .0) m (t .2) (omega arith) (t .4 .turns) in
+    let h = rounds-bound size n r (t .1) (t .2) m′ l (t .5) in
+    (omega (arith, t .3, t .4 .some, h .0), omega (arith, t .3, a, h .1))
 
 -- ---- no other memory and no other number of firings is a round's
 

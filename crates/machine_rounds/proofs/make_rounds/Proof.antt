@@ -7,7 +7,6 @@ use Rattle.machine_rounds.proofs.make_rounds.Reads as reads
 use Rattle.machine_rounds.proofs.make_rounds.Lts as lts
 use Rattle.machine_rounds.proofs.one_round.Reads as one-round-reads
 use Prim.Native.Nat.{_-_}
-use mathlib.Core.Path.{sym, _∙_, ap}
 use native.Mathlib.Omega.{arith}
 use Rattle.machine_rounds.specs.RoundLaws.{Rounding, rounding-start, rounding-more, rounding-end, rounding-full}
 

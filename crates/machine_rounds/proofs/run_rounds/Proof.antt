@@ -16,7 +16,6 @@ use Rattle.machine_rounds.proofs.make_rounds.Reads as make-rounds-reads
 use Rattle.machine_rounds.proofs.reply.Reads as reply-reads
 use Rattle.machine_runs.proofs.idle.Reads as idle-reads
 use native.Mathlib.Omega.{arith}
-use Prim.Native.Nat.{ℕ, _≤_, _<_}
 use mathlib.Core.Path.{_≡_, sym, _∙_, ap}
 use mathlib.Core.Logic.{_≢_}
 use mathlib.Core.Bool.{true, false}
