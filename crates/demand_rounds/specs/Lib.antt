@@ -1,0 +1,3 @@
+pub mod RoundSteps
+pub mod FollowRounds
+pub mod Answered
