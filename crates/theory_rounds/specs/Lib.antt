@@ -1,3 +1,4 @@
 pub mod InTurn
 pub mod Shares
 pub mod TurnLaws
+pub mod RoundsReady
