@@ -2,3 +2,4 @@ pub mod InTurn
 pub mod Shares
 pub mod TurnLaws
 pub mod RoundsReady
+pub mod OneSet
