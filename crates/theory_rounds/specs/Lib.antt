@@ -3,3 +3,4 @@ pub mod Shares
 pub mod TurnLaws
 pub mod RoundsReady
 pub mod OneSet
+pub mod RunsFire
