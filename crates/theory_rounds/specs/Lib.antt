@@ -4,3 +4,4 @@ pub mod TurnLaws
 pub mod RoundsReady
 pub mod OneSet
 pub mod RunsFire
+pub mod WorkEnds

@@ -45,16 +45,16 @@ module _ (graph : ℕ → Demand) (p k source credit : ℕ) (P : Piece) (M : Mea
   abbrev pub fired : List ℕ → Links → Links
   fired = reached (enabled graph cap) (next graph cap) (output graph cap)
 
-  -- A set worked from an idle load on.
-  pub record Worked-set (vs : List Value) (σ : Load) : Type 0 where
-    pub can-push : Able cap (pushing-set vs) (rest σ)
+  -- A set worked from an idle load on, by this push and this take.
+  pub record Worked-set (push take : Demand) (σ : Load) : Type 0 where
+    pub can-push : Able cap push (rest σ)
     pub work : List ℕ
-    pub possible : Fires work (act (pushing-set vs) (rest σ))
-    pub quiet : (i : ℕ) → Able cap (graph i) (fired work (act (pushing-set vs) (rest σ))) → ⊥
-    pub can-take : Able cap taking-set (fired work (act (pushing-set vs) (rest σ)))
+    pub possible : Fires work (act push (rest σ))
+    pub quiet : (i : ℕ) → Able cap (graph i) (fired work (act push (rest σ))) → ⊥
+    pub can-take : Able cap take (fired work (act push (rest σ)))
     pub idle-load : Load
     pub is-idle : P .Idle idle-load
-    pub leads : act taking-set (fired work (act (pushing-set vs) (rest σ))) ≡ rest idle-load
+    pub leads : act take (fired work (act push (rest σ))) ≡ rest idle-load
 
   -- with more places the same firings are possible
   more-places : (w : List ℕ) (q : Links) → Feasible graph w q → Fires w q
@@ -152,7 +152,7 @@ module _ (graph : ℕ → Demand) (p k source credit : ℕ) (P : Piece) (M : Mea
         net-at = machine graph p k source credit (P .ins) (P .outs)
 
   -- A set whose evaluation ends.
-  pub works : (vs rs : List Value) (n : ℕ) (σ : Load) → P .Idle σ → Fits (P .ins) vs → eval n vs ≡ some rs → Worked-set vs σ
+  pub works : (vs rs : List Value) (n : ℕ) (σ : Load) → P .Idle σ → Fits (P .ins) vs → eval n vs ≡ some rs → Worked-set (pushing-set vs) taking-set σ
   works vs rs n σ i fits e =
       let m = F .ended n vs rs fits e in
       let s = B .serves (some-of vs) (m .1 .0) (some (some-of rs)) (m .1 .1) σ i in

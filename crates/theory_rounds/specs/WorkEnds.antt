@@ -1,0 +1,193 @@
+-- Where evaluation of each set of a list ends, working them one after another is accepted, with any lent numbers that together are large enough for each set: so
+-- the bound of document 02, Job 7 (RoundsReady: nobody-waits) is never empty. For every accepted sheet and every capacity from 1 on.
+-- Assumes an admissible sheet, one place a link and sets with a value for each input.
+use Prim.Native.Nat.{ℕ, zero, suc, _+_, _≤_, _<_}
+use mathlib.Core.Path.{_≡_, refl, sym, _∙_, ap, subst}
+use mathlib.Core.Logic.{_≢_}
+use mathlib.Core.List.{List, [], _∷_, _++_, map}
+use lib.Dec.{eqb}
+use lib.ListN.{length, getD, take}
+use borrow.Author.Tests.{eq-eqb}
+use native.Mathlib.Omega.{arith}
+use Rattle.value.specs.declared.Value.{Value}
+use Rattle.names.specs.Names.{bit, size}
+use Rattle.formula.specs.Tree.{Exp, formulaOf}
+use Rattle.formula.specs.Free.{freeE, inputsOf}
+use Rattle.formula.specs.Count.{countE}
+use Rattle.formula.specs.Admitted.{AdmittedE}
+use Rattle.formula.specs.Acceptance.{Admissible}
+use Rattle.network.specs.Values.{true-value}
+use Rattle.network.specs.Net.{val, Demand, fire, Links, Able, act}
+use Rattle.network.specs.Commute.{Free}
+use Rattle.network.specs.Wired.{wired}
+use Rattle.network.specs.Ends.{take-demand, capacities-one}
+use Rattle.theory_pieces.specs.Load.{Load, put}
+use Rattle.theory_pieces.specs.Sets.{onto}
+use Rattle.theory_pieces.specs.Tape.{Step, pushing, firing, taking}
+use Rattle.graph.specs.Translation.{graphE, portOf, madeOf}
+use Rattle.theory_reference.specs.WholeGraph.{Idle-load}
+use Rattle.theory_yields.specs.FitGraphs.{fit-E}
+use Rattle.theory_wiring.specs.Machine.{netOf, TakesAt, PutsAt}
+use Rattle.theory_wiring.specs.MadeGraph.{made-envs, room, made-wiring}
+use Rattle.theory_wiring.specs.AtRest.{none-able}
+use Rattle.theory_verdicts.specs.Admitting.{accepted-admitted, accepted-operators}
+use Rattle.theory_verdicts.specs.Results.{resultOf, EndsWith, EachEnds}
+use Rattle.theory_verdicts.specs.Owed.{pushNumber, takeNumber, sourceLink, creditLink, pieceOf, meansOf, evaluation, results-are, inputs-are, input-count, numbers}
+use Rattle.theory_verdicts.specs.Owed.{owed as maker-owed}
+use Rattle.theory_verdicts.specs.Running.{places, operatorAt, withTrigger, pushOf, takeOf, startOf, decAble, Call, pushes, fires, runs, takes, afterSteps, accept, stepsOf, stepsFrom, history, standing, pushed, taken}
+use Rattle.theory_verdicts.specs.RunningLaws.{calls-whole, Each-whole, sets-whole, first-whole, sets-sized, trigger-off}
+use Rattle.theory_rounds.specs.InTurn.{roundsOf, inTurn, AllAccepted, owed}
+use Rattle.theory_rounds.specs.TurnLaws.{graph, leads, after-append}
+use Rattle.theory_rounds.specs.RoundsReady.{can-accepted, nobody-waits}
+use Rattle.theory_rounds.specs.OneSet.{rest, Worked-set, works}
+use Rattle.theory_rounds.specs.RunsFire.{total, Fires, Quiet, runs-settle, runs-lead}
+
+-- Each set's lent numbers are together as large as it needs.
+abbrev pub Enough : List ℕ → List (List ℕ) → Type 0
+Enough [] lent = Unit {0}
+Enough (n ∷ needs) [] = ⊥
+Enough (n ∷ needs) (ns ∷ lent) = (n ≤ total ns) × Enough needs lent
+
+-- Before a take each operator would get 34.
+abbrev pub Still-before : Exp → ℕ → Call → Links → Type 0
+Still-before x capacity (pushes v) q = Unit {0}
+Still-before x capacity (fires a) q = Unit {0}
+Still-before x capacity (runs lent) q = Unit {0}
+Still-before x capacity takes q = (a : ℕ) → stepsOf x capacity (fires a) q ≡ []
+
+-- Whenever a set is taken nothing can fire.
+abbrev pub TakenAtRest : Exp → ℕ → List Call → Links → Type 0
+TakenAtRest x capacity [] q = Unit {0}
+TakenAtRest x capacity (c ∷ calls) q = Still-before x capacity c q × TakenAtRest x capacity calls (afterSteps x (stepsOf x capacity c q) q)
+
+refused-is : {A : Type 0} (s : Step) (d : Dec A) → (A → ⊥) → accept d s ≡ []
+refused-is s (yes p) n = absurd (n p)
+refused-is s (no m) n = refl
+
+-- ---- one set's calls and what follows
+
+module _ (x : Exp) (capacity : ℕ) where
+  abbrev Smooth : List Call → Links → Type 0
+  Smooth calls q = AllAccepted x capacity calls q × TakenAtRest x capacity calls q
+
+  runs-then : (ns : List ℕ) (later : List Call) (q : Links) → Smooth later (afterSteps x (stepsFrom x capacity (map runs ns) q) q) → Smooth (map runs ns ++ later) q
+  unfolding stepsFrom
+  runs-then [] later q s = s
+  runs-then (n ∷ ns) later q s =
+      let w = stepsOf x capacity (runs n) q in
+      let r = runs-then ns later (afterSteps x w q) (subst (Smooth later) (after-append x capacity w (stepsFrom x capacity (map runs ns) (afterSteps x w q)) q) s) in
+      ((tt, r .0), (tt, r .1))
+
+  set-then : (v : List Value) (ns : List ℕ) (later : List Call) (q : Links) → stepsOf x capacity (pushes v) q ≡ pushing v ∷ []
+      → (r : Links) → afterSteps x (stepsFrom x capacity (map runs ns) (act (pushOf x v) q)) (act (pushOf x v) q) ≡ r
+      → stepsOf x capacity takes r ≡ taking ∷ [] → ((a : ℕ) → stepsOf x capacity (fires a) r ≡ []) → Smooth later (act (takeOf x) r)
+      → Smooth (pushes v ∷ (map runs ns ++ (takes ∷ later))) q
+  set-then v ns later q p r e t still s =
+      let z : Smooth later (afterSteps x (stepsOf x capacity takes r) r) = subst (λ (w : List Step). Smooth later (afterSteps x w r)) (sym t) s in
+      let y : Smooth (takes ∷ later) r = ((t, z .0), (still, z .1)) in
+      let u : Smooth (map runs ns ++ (takes ∷ later)) (afterSteps x (stepsOf x capacity (pushes v) q) q) =
+      subst (λ (w : List Step). Smooth (map runs ns ++ (takes ∷ later)) (afterSteps x w q)) (sym p)
+      (runs-then ns (takes ∷ later) (act (pushOf x v) q) (subst (Smooth (takes ∷ later)) (sym e) y)) in
+      ((p, u .0), (tt, u .1))
+
+-- ---- the machine of an admitted formula
+
+module _ (x : Exp) (h : AdmittedE x) (few : countE x .operators ≤ 1024) (capacity : ℕ) (space : 1 ≤ capacity) where
+  roomy : (l : ℕ) → 1 ≤ places capacity l
+  roomy = capacities-one creditLink capacity space
+
+  -- Nothing can fire on an idle load.
+  idle-still : (σ : Load) → pieceOf x h .Idle σ → (i : ℕ) → Able (places capacity) (netOf (madeOf x .operators) i) (put σ (λ l. [])) → ⊥
+  unfolding madeOf
+  idle-still σ I i o = none-able (graphE x) (size (freeE x)) (portOf x) (fit-E x h) (made-envs x h) (room x h few) (put σ (λ l. [])) (I .calm) (places capacity) i o
+
+  free : (a b : ℕ) → a ≢ b → Free (graph x capacity a) (graph x capacity b)
+  free =
+      let E = made-wiring x h few pushNumber takeNumber sourceLink creditLink (numbers x h few) .ends in
+      wired (netOf (madeOf x .operators)) (TakesAt (madeOf x .operators)) (PutsAt (madeOf x .operators)) (E .graph-uses) (E .one-taker) (E .one-putter)
+
+  made-inputs : madeOf x .inputs ≡ length (inputsOf x)
+  unfolding madeOf
+  made-inputs = refl
+
+  ports : length (pieceOf x h .ins) ≡ madeOf x .inputs + bit (madeOf x .triggered)
+  unfolding madeOf
+  ports = input-count x h
+
+  -- a set with the trigger's value behind it is evaluated as the set
+  triggered-result : (v : List Value) → length v ≡ madeOf x .inputs → (rounds : ℕ) → evaluation x h rounds (withTrigger (madeOf x .triggered) v) ≡ resultOf x v rounds
+  triggered-result v e rounds =
+      ap (λ (m : ℕ). resultOf x (take m (withTrigger (madeOf x .triggered) v)) rounds) (sym (e ∙ made-inputs))
+      ∙ ap (λ (u : List Value). resultOf x u rounds) (trigger-off x capacity (madeOf x .triggered) v)
+
+  abbrev Idle : Load → Type 0
+  Idle σ = pieceOf x h .Idle σ
+
+  abbrev Set-worked : List Value → Load → Type 0
+  Set-worked v σ =
+      Worked-set (netOf (madeOf x .operators)) pushNumber takeNumber sourceLink creditLink (pieceOf x h) (meansOf x h) (evaluation x h) (maker-owed x h few) (places capacity) roomy idle-still
+      (pushOf x v) (takeOf x) σ
+
+  set-worked : (v r : List Value) (σ : Load) → Idle σ → length v ≡ madeOf x .inputs → EndsWith x v r → Set-worked v σ
+  set-worked v r σ i e ends =
+      subst (λ (d : Demand). Worked (pushOf x v) d) (ap (take-demand creditLink) (results-are x h))
+      (subst (λ (d : Demand). Worked d (take-demand creditLink (pieceOf x h .outs))) (ap pushOnto (inputs-are x h))
+      (works (netOf (madeOf x .operators)) pushNumber takeNumber sourceLink creditLink (pieceOf x h) (meansOf x h) (evaluation x h) (maker-owed x h few) (places capacity) roomy idle-still
+      (withTrigger (madeOf x .triggered) v) r (ends .0) σ i (sets-sized x capacity (pieceOf x h .ins) ports (v ∷ []) (e, tt) .0) (triggered-result v e (ends .0) ∙ ends .1)))
+    where
+      Worked : Demand → Demand → Type 0
+      Worked d t =
+          Worked-set (netOf (madeOf x .operators)) pushNumber takeNumber sourceLink creditLink (pieceOf x h) (meansOf x h) (evaluation x h) (maker-owed x h few) (places capacity) roomy idle-still d t σ
+
+      pushOnto : List ℕ → Demand
+      pushOnto is = fire ((creditLink, val true-value) ∷ onto is (withTrigger (madeOf x .triggered) v)) []
+
+  push-granted : (v : List Value) (q : Links) → length v ≡ madeOf x .inputs → Able (places capacity) (pushOf x v) q → stepsOf x capacity (pushes v) q ≡ pushing v ∷ []
+  unfolding stepsOf
+  push-granted v q e o = rw (eq-eqb (length v) (madeOf x .inputs) e) (can-accepted (pushing v) (decAble (places capacity) (pushOf x v) q) o)
+
+  take-granted : (q : Links) → Able (places capacity) (takeOf x) q → stepsOf x capacity takes q ≡ taking ∷ []
+  unfolding stepsOf
+  take-granted q o = can-accepted taking (decAble (places capacity) (takeOf x) q) o
+
+  quiet-refused : (q : Links) → Quiet x capacity q → (a : ℕ) → stepsOf x capacity (fires a) q ≡ []
+  unfolding stepsOf
+  quiet-refused q n a = refused-is (firing a) (decAble (places capacity) (operatorAt x a) q) (n a)
+
+  -- What is found out of sets that end: how many firings each needs lent.
+  pub record Needs (sets : List (List Value)) (q : Links) : Type 0 where
+    pub needs : List ℕ
+    pub as-many : length needs ≡ length sets
+    pub suffice : (lent : List (List ℕ)) → Enough needs lent → AllAccepted x capacity (inTurn sets lent) q × TakenAtRest x capacity (inTurn sets lent) q
+
+  one-more : (v : List Value) (sets : List (List Value)) (σ : Load) → length v ≡ madeOf x .inputs → (W : Set-worked v σ) → Needs sets (put (W .idle-load) (λ l. [])) → Needs (v ∷ sets) (put σ (λ l. []))
+  one-more v sets σ e W N =
+      record {
+        needs = suc (length (W .work)) ∷ N .needs;
+        as-many = ap suc (N .as-many);
+        suffice = suffices;
+      }
+    where
+      q : Links
+      q = act (pushOf x v) (put σ (λ l. []))
+
+      suffices : (lent : List (List ℕ)) → Enough (suc (length (W .work)) ∷ N .needs) lent
+          → AllAccepted x capacity (inTurn (v ∷ sets) lent) (put σ (λ l. [])) × TakenAtRest x capacity (inTurn (v ∷ sets) lent) (put σ (λ l. []))
+      suffices [] g = absurd g
+      suffices (ns ∷ lent) g =
+          set-then x capacity v ns (inTurn sets lent) (put σ (λ l. [])) (push-granted v (put σ (λ l. [])) e (W .can-push)) (leads x capacity (W .work) q)
+          (runs-lead x capacity free (W .work) q (W .possible) (W .quiet) ns (omega (arith, g .0)))
+          (take-granted (leads x capacity (W .work) q) (W .can-take)) (quiet-refused (leads x capacity (W .work) q) (W .quiet))
+          (subst (λ (r : Links). AllAccepted x capacity (inTurn sets lent) r × TakenAtRest x capacity (inTurn sets lent) r) (sym (W .leads)) (N .suffice lent (g .1)))
+
+  sets-end : (sets rss : List (List Value)) (σ : Load) → Idle σ → Each-whole x capacity sets → EachEnds x sets rss → Needs sets (put σ (λ l. []))
+  sets-end [] [] σ i w e = record { needs = []; as-many = refl; suffice = λ lent g. (tt, tt) }
+  sets-end [] (r ∷ rss) σ i w e = absurd e
+  sets-end (v ∷ sets) [] σ i w e = absurd e
+  sets-end (v ∷ sets) (r ∷ rss) σ i w e =
+      let W = set-worked v r σ i (w .0) (e .0) in
+      one-more v sets σ (w .0) W (sets-end sets rss (W .idle-load) (W .is-idle) (w .1) (e .1))
+
+  pub from-start : (sets rss : List (List Value)) → Each-whole x capacity sets → EachEnds x sets rss → Needs sets (startOf x)
+  unfolding maker-owed
+  from-start sets rss w e = sets-end sets rss (maker-owed x h few .fresh) (maker-owed x h few .fresh-idle) w e
