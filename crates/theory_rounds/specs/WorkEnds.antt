@@ -191,3 +191,76 @@ module _ (x : Exp) (h : AdmittedE x) (few : countE x .operators ≤ 1024) (capac
   pub from-start : (sets rss : List (List Value)) → Each-whole x capacity sets → EachEnds x sets rss → Needs sets (startOf x)
   unfolding maker-owed
   from-start sets rss w e = sets-end sets rss (maker-owed x h few .fresh) (maker-owed x h few .fresh-idle) w e
+
+-- ---- lists of calls
+
+abbrev Some-end : Exp → List Value → Type 0
+Some-end x v = (r : List Value) × EndsWith x v r
+
+gathered : (x : Exp) (k : ℕ) (vss : List (List Value)) → k ≤ length vss → ((j : ℕ) → j < k → Some-end x (getD vss j [])) → (rss : List (List Value)) × EachEnds x (take k vss) rss
+gathered x zero vss l f = ([], tt)
+gathered x (suc k) [] l f = absurd (omega arith)
+gathered x (suc k) (v ∷ vss) l f =
+    let first = f 0 (omega arith) in
+    let others = gathered x k vss (omega arith) (λ j i. f (suc j) (omega arith)) in
+    (first .0 ∷ others .0, (first .1, others .1))
+
+-- "The lent number, of 32 bits"
+abbrev pub mostLent : ℕ
+mostLent = 4294967295
+
+abbrev pub EachLentFits : List ℕ → Type 0
+EachLentFits [] = Unit {0}
+EachLentFits (n ∷ ns) = (n ≤ mostLent) × EachLentFits ns
+
+abbrev pub LentFits : List (List ℕ) → Type 0
+LentFits [] = Unit {0}
+LentFits (ns ∷ lent) = EachLentFits ns × LentFits lent
+
+-- Runs of one firing each: whatever a set needs can be lent in small numbers.
+abbrev ones : ℕ → List ℕ
+ones zero = []
+ones (suc n) = 1 ∷ ones n
+
+ones-fit : (n : ℕ) → EachLentFits (ones n)
+ones-fit zero = tt
+ones-fit (suc n) = (omega arith, ones-fit n)
+
+ones-total : (n : ℕ) → total (ones n) ≡ n
+ones-total zero = refl
+ones-total (suc n) = omega (arith, ones-total n)
+
+small-lent : (needs : List ℕ) → (lent : List (List ℕ)) × LentFits lent × Enough needs lent
+small-lent [] = ([], tt, tt)
+small-lent (n ∷ needs) =
+    let r = small-lent needs in
+    (ones n ∷ r .0, (ones-fit n, r .1), (omega (arith, ones-total n), r .2))
+
+module _ (s : List ℕ) (accepted : Admissible s) (capacity : ℕ) (space : 1 ≤ capacity) (calls : List Call) where
+  abbrev x : Exp
+  x = formulaOf s
+
+  -- "the oldest untaken set, and .. every set before it"
+  abbrev pub upToOldest : List (List Value)
+  upToOldest = take (suc (length (taken (formulaOf s) capacity calls))) (pushed (formulaOf s) capacity calls)
+
+  -- "suppose the evaluation of the oldest untaken set, and of every set before it, ends"
+  module _ (left : length (taken (formulaOf s) capacity calls) < length (pushed (formulaOf s) capacity calls))
+      (ends : (j : ℕ) → j ≤ length (taken (formulaOf s) capacity calls) → (r : List Value) × EndsWith (formulaOf s) (getD (pushed (formulaOf s) capacity calls) j []) r) where
+    -- Then working these sets one after another is accepted, however the firings that they need are lent.
+    pub work-ends : Needs (formulaOf s) (accepted-admitted s accepted) (accepted-operators s accepted) capacity space upToOldest (startOf (formulaOf s))
+    work-ends =
+        let k = length (taken x capacity calls) in
+        let g = gathered x (suc k) (pushed x capacity calls) (omega arith) (λ j l. ends j (omega arith)) in
+        from-start x (accepted-admitted s accepted) (accepted-operators s accepted) capacity space upToOldest (g .0)
+        (first-whole x capacity (suc k) (pushed x capacity calls) (sets-whole x capacity (history x capacity calls) (calls-whole x capacity calls (startOf x)))) (g .1)
+
+    -- It can be lent in numbers of 32 bits.
+    pub work-lent : (lent : List (List ℕ)) × LentFits lent × AllAccepted (formulaOf s) capacity (inTurn upToOldest lent) (startOf (formulaOf s))
+    work-lent = let r = small-lent (work-ends .needs) in (r .0, r .1, work-ends .suffice (r .0) (r .2) .0)
+
+    -- "After at most that many rounds its whole result is ready."
+    pub ready-after-owed : (lent : List (List ℕ)) → Enough (work-ends .needs) lent → (b : ℕ)
+        → owed (formulaOf s) (history (formulaOf s) capacity (inTurn upToOldest lent)) (history (formulaOf s) capacity calls) ≤ b
+        → stepsOf (formulaOf s) capacity takes (standing (formulaOf s) capacity (calls ++ roundsOf (formulaOf s) b)) ≡ taking ∷ []
+    ready-after-owed lent g b l = nobody-waits s accepted capacity space calls left lent (work-ends .suffice lent g .0) b l
