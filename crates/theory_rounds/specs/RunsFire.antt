@@ -2,7 +2,7 @@
 -- to a state in which nothing can fire, runs lent more than its length lead to that state too. Assumes for the latter that operators commute.
 use Prim.Native.Nat.{ℕ, zero, suc, _+_, _-_, _≤_, _<_}
 use mathlib.Core.Path.{_≡_, refl, sym, _∙_, ap, ap₂, subst}
-use mathlib.Core.Logic.{_≢_, if-pos, _⊎_, inl, inr}
+use mathlib.Core.Logic.{_≢_, ite, if-pos, _⊎_, inl, inr}
 use mathlib.Core.List.{List, [], _∷_, _++_, map}
 use mathlib.Core.Option.{Option, none, some}
 use lib.ListN.{length, length-append}
@@ -10,7 +10,7 @@ use native.Mathlib.Decide.{ℕ-discrete, decLt}
 use native.Mathlib.Omega.{arith}
 use Rattle.theory_schedule.specs.Schedules.{remaining, Possible, possible-append, reached-append}
 use Rattle.theory_schedule.specs.Counts.{count, count-remaining, length-remaining}
-use Rattle.theory_schedule.specs.Progress.{still-covers, still-same-state}
+use Rattle.theory_schedule.specs.Progress.{still-covers, still-counts-equal, still-same-state}
 use Rattle.network.specs.Net.{Links, Able, act}
 use Rattle.network.specs.Commute.{Free, enabled, next, output, diamond}
 use Rattle.theory_pieces.specs.Tape.{Step, pushing, firing, taking}
@@ -19,6 +19,7 @@ use Rattle.graph.specs.Translation.{madeOf}
 use Rattle.theory_verdicts.specs.Running.{places, operatorAt, decAble, Call, fires, runs, afterSteps, accept, leastFrom, leastAble, onward, runSteps, stepsOf, stepsFrom}
 use Rattle.theory_verdicts.specs.RunningLaws.{Made-in-turn, calls-made}
 use Rattle.theory_verdicts.specs.RunLaws.{run-below-lent}
+use Rattle.theory_rounds.specs.InTurn.{times}
 use Rattle.theory_rounds.specs.TurnLaws.{graph, leads, after-append, Only-firings, runs-fire}
 
 -- the lent numbers together
@@ -57,6 +58,12 @@ module _ (x : Exp) (capacity : ℕ) where
   firings-length (pushing v ∷ w) f = absurd f
   firings-length (firing b ∷ w) f = ap suc (firings-length w f)
   firings-length (taking ∷ w) f = absurd f
+
+  firings-times : (i : ℕ) (w : List Step) → Only-firings w → times i w ≡ count i (operators-of w)
+  firings-times i [] f = refl
+  firings-times i (pushing v ∷ w) f = absurd f
+  firings-times i (firing b ∷ w) f = ap (λ (z : ℕ). ite (ℕ-discrete i b) (suc z) z) (firings-times i w f)
+  firings-times i (taking ∷ w) f = absurd f
 
   -- ---- as long as lent, or up to where nothing can fire
 
@@ -146,6 +153,18 @@ module _ (x : Exp) (capacity : ℕ) where
         (diamond (graph x capacity) (places capacity) free) (operators-of w) work q
         (firings-possible w q (runs-fire x capacity ns q) (calls-made x capacity (map runs ns) q)) possible
         (subst Quiet (firings-lead w q (runs-fire x capacity ns q)) (runs-settle ns l)) quiet
+      where
+        w : List Step
+        w = stepsFrom x capacity (map runs ns) q
+
+    -- And each operator fires as often.
+    pub runs-times : (ns : List ℕ) → length work < total ns → (i : ℕ) → times i (stepsFrom x capacity (map runs ns) q) ≡ count i work
+    runs-times ns l i =
+        firings-times i w (runs-fire x capacity ns q)
+        ∙ still-counts-equal (enabled (graph x capacity) (places capacity)) (next (graph x capacity) (places capacity)) (output (graph x capacity) (places capacity))
+        (diamond (graph x capacity) (places capacity) free) (operators-of w) work q
+        (firings-possible w q (runs-fire x capacity ns q) (calls-made x capacity (map runs ns) q)) possible
+        (subst Quiet (firings-lead w q (runs-fire x capacity ns q)) (runs-settle ns l)) quiet i
       where
         w : List Step
         w = stepsFrom x capacity (map runs ns) q

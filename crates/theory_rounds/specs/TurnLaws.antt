@@ -36,6 +36,17 @@ takes-append (pushing v ∷ w) u = takes-append w u
 takes-append (firing a ∷ w) u = takes-append w u
 takes-append (taking ∷ w) u = omega (arith, takes-append w u)
 
+pub times-append : (i : ℕ) (w u : List Step) → times i (w ++ u) ≡ times i w + times i u
+times-append i [] u = omega arith
+times-append i (pushing v ∷ w) u = times-append i w u
+times-append i (firing a ∷ w) u = go (ℕ-discrete i a) (times-append i w u)
+  where
+    go : (d : Dec (i ≡ a)) → times i (w ++ u) ≡ times i w + times i u
+        → ite d (suc (times i (w ++ u))) (times i (w ++ u)) ≡ ite d (suc (times i w)) (times i w) + times i u
+    go (yes e) h = omega (arith, h)
+    go (no n) h = h
+times-append i (taking ∷ w) u = times-append i w u
+
 -- a take at the end is no firing
 pub times-end : (i : ℕ) (w : List Step) → times i (w ++ (taking ∷ [])) ≡ times i w
 times-end i [] = refl

@@ -1,7 +1,7 @@
 -- Where evaluation of each set of a list ends, working them one after another is accepted, with any lent numbers that together are large enough for each set: so
 -- the bound of document 02, Job 7 (RoundsReady: nobody-waits) is never empty. For every accepted sheet and every capacity from 1 on.
 -- Assumes an admissible sheet, one place a link and sets with a value for each input.
-use Prim.Native.Nat.{ℕ, zero, suc, _+_, _≤_, _<_}
+use Prim.Native.Nat.{ℕ, zero, suc, _+_, _-_, _≤_, _<_}
 use mathlib.Core.Path.{_≡_, refl, sym, _∙_, ap, subst}
 use mathlib.Core.Logic.{_≢_}
 use mathlib.Core.List.{List, [], _∷_, _++_, map}
@@ -9,6 +9,7 @@ use lib.Dec.{eqb}
 use lib.ListN.{length, getD, take}
 use borrow.Author.Tests.{eq-eqb}
 use native.Mathlib.Omega.{arith}
+use Rattle.theory_schedule.specs.Counts.{count}
 use Rattle.value.specs.declared.Value.{Value}
 use Rattle.names.specs.Names.{bit, size}
 use Rattle.formula.specs.Tree.{Exp, formulaOf}
@@ -36,11 +37,12 @@ use Rattle.theory_verdicts.specs.Owed.{pushNumber, takeNumber, sourceLink, cred
 use Rattle.theory_verdicts.specs.Owed.{owed as maker-owed}
 use Rattle.theory_verdicts.specs.Running.{places, operatorAt, withTrigger, pushOf, takeOf, startOf, decAble, Call, pushes, fires, runs, takes, afterSteps, accept, stepsOf, stepsFrom, history, standing, pushed, taken}
 use Rattle.theory_verdicts.specs.RunningLaws.{calls-whole, Each-whole, sets-whole, first-whole, sets-sized, trigger-off}
-use Rattle.theory_rounds.specs.InTurn.{roundsOf, inTurn, AllAccepted, owed}
-use Rattle.theory_rounds.specs.TurnLaws.{graph, leads, after-append}
+use Rattle.theory_rounds.specs.InTurn.{roundsOf, inTurn, AllAccepted, times, sumBelow, owed}
+use Rattle.theory_rounds.specs.Shares.{sum-same}
+use Rattle.theory_rounds.specs.TurnLaws.{graph, leads, after-append, steps-append, times-append}
 use Rattle.theory_rounds.specs.RoundsReady.{can-accepted, nobody-waits}
 use Rattle.theory_rounds.specs.OneSet.{rest, Worked-set, works}
-use Rattle.theory_rounds.specs.RunsFire.{total, Fires, Quiet, runs-settle, runs-lead}
+use Rattle.theory_rounds.specs.RunsFire.{total, Fires, Quiet, runs-lead, runs-times}
 
 -- Each set's lent numbers are together as large as it needs.
 abbrev pub Enough : List ℕ → List (List ℕ) → Type 0
@@ -89,6 +91,21 @@ module _ (x : Exp) (capacity : ℕ) where
       subst (λ (w : List Step). Smooth (map runs ns ++ (takes ∷ later)) (afterSteps x w q)) (sym p)
       (runs-then ns (takes ∷ later) (act (pushOf x v) q) (subst (Smooth (takes ∷ later)) (sym e) y)) in
       ((p, u .0), (tt, u .1))
+
+  -- the steps of one set's calls and of what follows
+  set-steps : (v : List Value) (ns : List ℕ) (later : List Call) (q : Links) → stepsOf x capacity (pushes v) q ≡ pushing v ∷ []
+      → (r : Links) → afterSteps x (stepsFrom x capacity (map runs ns) (act (pushOf x v) q)) (act (pushOf x v) q) ≡ r → stepsOf x capacity takes r ≡ taking ∷ []
+      → stepsFrom x capacity (pushes v ∷ (map runs ns ++ (takes ∷ later))) q
+      ≡ pushing v ∷ (stepsFrom x capacity (map runs ns) (act (pushOf x v) q) ++ (taking ∷ stepsFrom x capacity later (act (takeOf x) r)))
+  unfolding stepsFrom
+  set-steps v ns later q p r e t =
+      let all = map runs ns ++ (takes ∷ later) in
+      let q₁ = act (pushOf x v) q in
+      let w = stepsFrom x capacity (map runs ns) q₁ in
+      ap (λ (u : List Step). u ++ stepsFrom x capacity all (afterSteps x u q)) p
+      ∙ ap (λ (u : List Step). pushing v ∷ u)
+      (steps-append x capacity (map runs ns) (takes ∷ later) q₁ ∙ ap (λ (z : Links). w ++ stepsFrom x capacity (takes ∷ later) z) e
+      ∙ ap (λ (u : List Step). w ++ (u ++ stepsFrom x capacity later (afterSteps x u r))) t)
 
 -- ---- the machine of an admitted formula
 
@@ -159,6 +176,9 @@ module _ (x : Exp) (h : AdmittedE x) (few : countE x .operators ≤ 1024) (capac
     pub needs : List ℕ
     pub as-many : length needs ≡ length sets
     pub suffice : (lent : List (List ℕ)) → Enough needs lent → AllAccepted x capacity (inTurn sets lent) q × TakenAtRest x capacity (inTurn sets lent) q
+    -- how often each operator fires, however that is lent
+    pub shares : ℕ → ℕ
+    pub fired : (lent : List (List ℕ)) → Enough needs lent → (i : ℕ) → times i (stepsFrom x capacity (inTurn sets lent) q) ≡ shares i
 
   one-more : (v : List Value) (sets : List (List Value)) (σ : Load) → length v ≡ madeOf x .inputs → (W : Set-worked v σ) → Needs sets (put (W .idle-load) (λ l. [])) → Needs (v ∷ sets) (put σ (λ l. []))
   one-more v sets σ e W N =
@@ -166,22 +186,43 @@ module _ (x : Exp) (h : AdmittedE x) (few : countE x .operators ≤ 1024) (capac
         needs = suc (length (W .work)) ∷ N .needs;
         as-many = ap suc (N .as-many);
         suffice = suffices;
+        shares = λ i. count i (W .work) + N .shares i;
+        fired = fires-as;
       }
     where
       q : Links
       q = act (pushOf x v) (put σ (λ l. []))
 
+      r : Links
+      r = leads x capacity (W .work) q
+
+      push-ok : stepsOf x capacity (pushes v) (put σ (λ l. [])) ≡ pushing v ∷ []
+      push-ok = push-granted v (put σ (λ l. [])) e (W .can-push)
+
+      run-to : (ns : List ℕ) → suc (length (W .work)) ≤ total ns → afterSteps x (stepsFrom x capacity (map runs ns) q) q ≡ leads x capacity (W .work) q
+      run-to ns l = runs-lead x capacity free (W .work) q (W .possible) (W .quiet) ns (omega (arith, l))
+
       suffices : (lent : List (List ℕ)) → Enough (suc (length (W .work)) ∷ N .needs) lent
           → AllAccepted x capacity (inTurn (v ∷ sets) lent) (put σ (λ l. [])) × TakenAtRest x capacity (inTurn (v ∷ sets) lent) (put σ (λ l. []))
       suffices [] g = absurd g
       suffices (ns ∷ lent) g =
-          set-then x capacity v ns (inTurn sets lent) (put σ (λ l. [])) (push-granted v (put σ (λ l. [])) e (W .can-push)) (leads x capacity (W .work) q)
-          (runs-lead x capacity free (W .work) q (W .possible) (W .quiet) ns (omega (arith, g .0)))
-          (take-granted (leads x capacity (W .work) q) (W .can-take)) (quiet-refused (leads x capacity (W .work) q) (W .quiet))
-          (subst (λ (r : Links). AllAccepted x capacity (inTurn sets lent) r × TakenAtRest x capacity (inTurn sets lent) r) (sym (W .leads)) (N .suffice lent (g .1)))
+          set-then x capacity v ns (inTurn sets lent) (put σ (λ l. [])) push-ok r (run-to ns (g .0)) (take-granted r (W .can-take)) (quiet-refused r (W .quiet))
+          (subst (λ (z : Links). AllAccepted x capacity (inTurn sets lent) z × TakenAtRest x capacity (inTurn sets lent) z) (sym (W .leads)) (N .suffice lent (g .1)))
+
+      fires-as : (lent : List (List ℕ)) → Enough (suc (length (W .work)) ∷ N .needs) lent → (i : ℕ)
+          → times i (stepsFrom x capacity (inTurn (v ∷ sets) lent) (put σ (λ l. []))) ≡ count i (W .work) + N .shares i
+      fires-as [] g i = absurd g
+      fires-as (ns ∷ lent) g i =
+          let w = stepsFrom x capacity (map runs ns) q in
+          let u = stepsFrom x capacity (inTurn sets lent) (act (takeOf x) r) in
+          let a : times i w ≡ count i (W .work) = runs-times x capacity free (W .work) q (W .possible) (W .quiet) ns (omega (arith, g .0)) i in
+          let b : times i u ≡ N .shares i = ap (λ (z : Links). times i (stepsFrom x capacity (inTurn sets lent) z)) (W .leads) ∙ N .fired lent (g .1) i in
+          ap (times i) (set-steps x capacity v ns (inTurn sets lent) (put σ (λ l. [])) push-ok r (run-to ns (g .0)) (take-granted r (W .can-take)))
+          ∙ omega (arith, times-append i w (taking ∷ u), a, b)
 
   sets-end : (sets rss : List (List Value)) (σ : Load) → Idle σ → Each-whole x capacity sets → EachEnds x sets rss → Needs sets (put σ (λ l. []))
-  sets-end [] [] σ i w e = record { needs = []; as-many = refl; suffice = λ lent g. (tt, tt) }
+  unfolding stepsFrom
+  sets-end [] [] σ i w e = record { needs = []; as-many = refl; suffice = λ lent g. (tt, tt); shares = λ i. 0; fired = λ lent g i. refl }
   sets-end [] (r ∷ rss) σ i w e = absurd e
   sets-end (v ∷ sets) [] σ i w e = absurd e
   sets-end (v ∷ sets) (r ∷ rss) σ i w e =
@@ -254,6 +295,14 @@ module _ (s : List ℕ) (accepted : Admissible s) (capacity : ℕ) (space : 1 �
         let g = gathered x (suc k) (pushed x capacity calls) (omega arith) (λ j l. ends j (omega arith)) in
         from-start x (accepted-admitted s accepted) (accepted-operators s accepted) capacity space upToOldest (g .0)
         (first-whole x capacity (suc k) (pushed x capacity calls) (sets-whole x capacity (history x capacity calls) (calls-whole x capacity calls (startOf x)))) (g .1)
+
+    -- What is owed is one number, however they are lent: that of the firings the sets need, operator by operator, less those made.
+    pub owed-once : (lent : List (List ℕ)) → Enough (work-ends .needs) lent
+        → owed (formulaOf s) (history (formulaOf s) capacity (inTurn upToOldest lent)) (history (formulaOf s) capacity calls)
+        ≡ sumBelow (length (madeOf (formulaOf s) .operators)) (λ i. work-ends .shares i - times i (history (formulaOf s) capacity calls))
+    owed-once lent g =
+        sum-same (length (madeOf x .operators)) (λ i. times i (history x capacity (inTurn upToOldest lent)) - times i (history x capacity calls))
+        (λ i. work-ends .shares i - times i (history x capacity calls)) (λ i l. ap (λ (t : ℕ). t - times i (history x capacity calls)) (work-ends .fired lent g i))
 
     -- It can be lent in numbers of 32 bits.
     pub work-lent : (lent : List (List ℕ)) × LentFits lent × AllAccepted (formulaOf s) capacity (inTurn upToOldest lent) (startOf (formulaOf s))
