@@ -5,3 +5,4 @@ pub mod RoundsReady
 pub mod OneSet
 pub mod RunsFire
 pub mod WorkEnds
+pub mod LesserRounds
