@@ -25,9 +25,9 @@ use Rattle.theory_verdicts.specs.Running.{Call, fires, places, decAble, operato
 use Rattle.demand_view.specs.Stands.{Stands}
 use Rattle.demand_view.specs.FireCall.{stands-size}
 use Rattle.demand_begin.specs.Lent.{stands-lent, stands-behind, short-refused}
 use Rattle.demand.specs.Agree.{CallsAgree}
 use Rattle.demand.specs.Followed.{Follows, Unaltered, EachRead, shownTokens, follows-none}
-use Rattle.demand_rounds.specs.RoundSteps.{roundsCalls, roundsSteps, Same-rounds, rounds-same}
+use Rattle.demand.specs.RoundSteps.{roundsCalls, roundsSteps, Same-rounds, rounds-same}
 
 -- ---- the call by the tests that it meets
 
