@@ -1,2 +1,3 @@
 pub mod InTurn
 pub mod Traced
+pub mod WorkInTurn
