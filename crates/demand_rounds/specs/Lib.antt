@@ -1,3 +1,4 @@
 pub mod InTurn
 pub mod Traced
 pub mod WorkInTurn
+pub mod Waiting
