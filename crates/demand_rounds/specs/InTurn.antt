@@ -1,9 +1,9 @@
 -- What document 02, Job 7, says of waiting, on real memory: the operators that a list of calls on bytes fires, "working one set after another" by real calls, and
 -- what is left of those firings. Calls are those of demand/specs/MemoryCalls. Definitions only; assumes nothing.
-use Prim.Native.Nat.{ℕ, zero, suc, _-_, _≤_}
+use Prim.Native.Nat.{ℕ, zero, suc, _-_}
 use mathlib.Core.Path.{_≡_}
 use mathlib.Core.Logic.{_⊎_}
-use mathlib.Core.Bool.{Bool, cond}
+use mathlib.Core.Bool.{cond}
 use mathlib.Core.List.{List, [], _∷_, _++_, map}
 use lib.Dec.{eqb, ltb}
 use lib.ListN.{take as firstOf}

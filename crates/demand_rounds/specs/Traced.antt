@@ -2,9 +2,9 @@
 -- As demand/specs/FollowAll, with the firings told; of results only their number. Assumes the laws of `CallsAgree`.
 use Prim.Native.Nat.{ℕ, zero, suc, _+_, _≤_, _<_}
 use mathlib.Core.Path.{_≡_, refl, sym, ap, ap₂, subst, _∙_}
-use mathlib.Core.Logic.{_≢_, _⊎_, inl, inr}
+use mathlib.Core.Logic.{_≢_}
 use mathlib.Core.Bool.{Bool, true, false, cond}
-use mathlib.Core.List.{List, [], _∷_, _++_, map, append-nil}
+use mathlib.Core.List.{List, [], _∷_, _++_, append-nil}
 use mathlib.Core.Option.{Option, none, some}
 use native.Mathlib.Omega.{arith}
 use native.Mathlib.Decide.{ℕ-discrete, decLt}
@@ -32,19 +32,18 @@ use Rattle.machine_calls.specs.CallLaws.{pushed-refused, pushed-no-set, pushed-
 use Rattle.machine_rounds.specs.Rounds.{round, outcome as rounds-outcome, answers as rounds-answers, ranRounds}
 use Rattle.machine_tray.specs.Tray.{trayed, wentIn}
 use Rattle.machine_tray.specs.OneByOne.{Pushes, went-in}
-use Rattle.machine_tray.specs.TrayLaws.{trayed-refused}
 use Rattle.theory_verdicts.specs.Running as Abstract
 use Rattle.theory_verdicts.specs.Running.{places, operatorAt, pushOf, takeOf, decAble, pushes, fires, takes, accept, afterSteps, leastAble, leastFrom, onward, runSteps, stepsOf, stepsFrom}
 use Rattle.theory_verdicts.specs.RunningLaws.{handed-count}
-use Rattle.theory_verdicts.specs.RunLaws.{least-is-least, run-below-lent}
+use Rattle.theory_verdicts.specs.RunLaws.{least-is-least}
 use Rattle.theory_rounds.specs.RunsFire.{operators-of}
 use Rattle.theory_rounds.specs.TurnLaws.{after-append, steps-append, Only-firings, runs-fire}
 use Rattle.demand_view.specs.Stands.{Stands}
 use Rattle.demand_view.specs.FireCall.{stands-size}
-use Rattle.demand_view.specs.Run.{unable-on-bytes, still-refused}
+use Rattle.demand_view.specs.Run.{unable-on-bytes}
 use Rattle.demand_begin.specs.Lent.{stands-lent, stands-behind, short-refused}
 use Rattle.refusals.specs.Kept.{push-keeps, fire-keeps, take-keeps}
-use Rattle.demand.specs.MemoryCalls.{Call, push, tray, fire, run, byRounds, take, Result, result, accepted, answerOf, memoryAfter, setOf, resultOf, memoryAfterAll, setsPushed, resultsTaken}
+use Rattle.demand.specs.MemoryCalls.{Call, push, tray, fire, run, byRounds, take, result, accepted, answerOf, memoryAfter, setOf, resultOf, memoryAfterAll, setsPushed, resultsTaken}
 use Rattle.demand.specs.Agree.{CallsAgree}
 use Rattle.demand.specs.Followed.{EachRead, can-accepted}
 use Rattle.demand.specs.RoundSteps.{turnCalls, roundsCalls, roundSteps, roundsSteps, rounds-none, rounds-more, round-same}

@@ -12,7 +12,7 @@ use lib.ListN.{length, getD, take as firstOf}
 use Rattle.theory_schedule.specs.Counts.{count}
 use Rattle.value.specs.declared.Value.{Value}
 use Rattle.network.specs.Net.{Links}
-use Rattle.theory_pieces.specs.Tape.{Step, pushing, firing, taking, takes-of}
+use Rattle.theory_pieces.specs.Tape.{Step, pushing, firing, taking}
 use Rattle.formula.specs.declared.Verdict.{Verdict}
 use Rattle.formula.specs.declared.Verdict.the-variants.{Passed, Refused}
 use Rattle.formula.specs.Tree.{Exp, formulaOf}
@@ -22,11 +22,11 @@ use Rattle.graph.specs.Assembly.{upFrom}
 use Rattle.graph.specs.Translation.{madeOf}
 use Rattle.value_sets.specs.Sets.{setValues, values-set}
 use Rattle.meaning.specs.Evaluate.{evaluatedWith, evaluated, evaluationOf}
-use Rattle.machine_layout.specs.Layout.{sizeOf, need, operatorsOf}
+use Rattle.machine_layout.specs.Layout.{sizeOf, need}
 use Rattle.machine_start.specs.Start.{started}
 use Rattle.machine_start.specs.StartLaws.{AcceptedStart, accepted-start}
 use Rattle.theory_verdicts.specs.Admitting.{accepted-admitted, accepted-operators}
-use Rattle.theory_verdicts.specs.Results.{EndsWith, EachEnds}
+use Rattle.theory_verdicts.specs.Results.{EachEnds}
 use Rattle.theory_verdicts.specs.Running as Abstract
 use Rattle.theory_verdicts.specs.Running.{startOf, fires, takes, afterSteps, stepsOf, stepsFrom, history, standing, pushed, taken}
 use Rattle.theory_verdicts.specs.RunningLaws.{Each-whole, handed-count}
@@ -41,7 +41,7 @@ use Rattle.theory_rounds.specs.WorkEnds.{Enough as Lent-enough}
 use Rattle.demand_view.specs.Stands.{Stands}
 use Rattle.demand_begin.specs.StartedStands.{accepted-stands}
 use Rattle.demand.specs.MemoryCalls.{Call, byRounds, take, answerOf, memoryAfter, memoryAfterAll, setsPushed, resultsTaken}
-use Rattle.demand.specs.Claim.{Enough, Ends}
+use Rattle.demand.specs.Claim.{Ends}
 use Rattle.demand.specs.Evaluations.{enough-yields}
 use Rattle.demand.specs.Agree.{CallsAgree}
 use Rattle.demand.specs.Agreed.{calls-agree}

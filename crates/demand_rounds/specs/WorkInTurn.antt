@@ -1,6 +1,6 @@
 -- Working one set after another on bytes (InTurn `inTurn`) beside the same work of the abstract machine (theory_rounds/specs/InTurn): where one is accepted so is the
 -- other, and they fire the same operators. Assumes the laws of `CallsAgree` and that each call was lent what a machine needs.
-use Prim.Native.Nat.{ℕ, zero, suc, _≤_}
+use Prim.Native.Nat.{ℕ, _≤_}
 use mathlib.Core.Path.{_≡_, refl, sym, ap, ap₂, subst, _∙_}
 use mathlib.Core.Logic.{_⊎_, inl, inr}
 use mathlib.Core.Bool.{Bool, true, false}
@@ -11,7 +11,7 @@ use borrow.Author.Tests.{eq-eqb}
 use lib.ListN.{length, drop, take as firstOf}
 use Rattle.value.specs.declared.Value.{Value}
 use Rattle.value.specs.Operators.{pick}
-use Rattle.network.specs.Net.{Links, Able, act}
+use Rattle.network.specs.Net.{Links, act}
 use Rattle.theory_pieces.specs.Tape.{Step, pushing, taking}
 use Rattle.formula.specs.Tree.{Exp}
 use Rattle.formula.specs.declared.Refusal.the-variants.{Unfinished}
@@ -34,7 +34,7 @@ use Rattle.demand_begin.specs.Lent.{stands-behind}
 use Rattle.demand.specs.MemoryCalls.{Call, push, run, take, answerOf, memoryAfter}
 use Rattle.demand.specs.Agree.{CallsAgree}
 use Rattle.demand.specs.Followed.{EachRead}
-use Rattle.demand_rounds.specs.InTurn.{runFires, unlessRefused, firedBy, allFired, inTurn, Granted, AllAccepted}
+use Rattle.demand_rounds.specs.InTurn.{runFires, unlessRefused, firedBy, allFired, inTurn, AllAccepted}
 use Rattle.demand_rounds.specs.Traced.{operators-append, push-as, take-as, run-as, lent-stands}
 
 pub accepted-can : {A : Type 0} (s : Step) (d : Dec A) → accept d s ≡ s ∷ [] → A

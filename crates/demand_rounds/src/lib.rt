@@ -1,1 +1,1 @@
-// Nothing runs here: what a run by rounds on bytes is on the links, and that abstract calls follow it. Laws in specs/.
+// Nothing runs here: that nobody waits behind a looping beacon, on real memory. Laws in specs/.
