@@ -15,7 +15,7 @@ use Rattle.formula.specs.declared.Refusal.the-variants.{Memory, Unfinished, Alt
 use Rattle.formula.specs.Refusals.{numberOf}
 use Rattle.graph.specs.Assembly.{upFrom}
 use Rattle.graph.specs.Translation.{madeOf}
-use Rattle.machine_layout.specs.Layout.{sizeOf, need, operatorsOf}
+use Rattle.machine_layout.specs.Layout.{sizeOf, need}
 use Rattle.machine_runs.specs.Run.{stillAt}
 use Rattle.machine_rounds.specs.Rounds.{Rounded, roundsFrom, Outcome, outcome, answers, ended, ranRounds}
 use Rattle.machine_rounds.specs.RoundLaws.{rounds-refused, rounds-ended}
