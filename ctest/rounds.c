@@ -23,8 +23,10 @@ static const struct sheet loop = {
     "WT\n"};
 static const uint8_t ending[][BENCH_VALUE_BYTES] = {WHOLE(5), FALSE_VALUE}, unending[][BENCH_VALUE_BYTES] = {WHOLE(6), TRUE_VALUE};
 
-/* Bytes lent behind a machine's memory. */
-enum { BEHIND = 100 };
+/* Bytes lent behind a machine's memory; more rounds than factorial makes here; firings of which all but the first are the loop's. */
+enum { BEHIND = 100, MANY_ROUNDS = 1000, SOME_FIRINGS = 100, MANY_FIRINGS = 100000 };
+
+enum { MOST_OPERATORS = 1024 };
 
 static uint32_t operators_of(const uint8_t *mem) {
     return mem[OPERATORS_AT] + 256u * mem[OPERATORS_AT + 1];
@@ -118,22 +120,23 @@ static void refusals(void) {
     leaves_all("none lent, and something can fire", 0, BENCH_UNFINISHED);
 }
 
-/* The rounds of a machine to its end in steps of each size: 36 keeps them, and together they are those of one call. */
+/* The rounds of a machine to its end, in one call and in steps: 36 keeps them, and together they are those of the one call. */
 static void in_steps(uint32_t capacity) {
     static const uint8_t five[] = WHOLE(5), three[] = WHOLE(3), result[] = WHOLE(120), other[] = WHOLE(6);
+    static const uint32_t steps[] = {UINT32_MAX, 7, 3, 2, 1};
     bench_rounds_answer whole = {0, 0, 0};
-    for (uint32_t step = 8; step > 0; step--) {
+    for (size_t i = 0; i < sizeof steps / sizeof steps[0]; i++) {
         bench_rounds_answer sum = {BENCH_UNFINISHED, 0, 0};
         begin(&factorial, capacity);
         push(five, sizeof five);
         if (capacity > 1) {
             push(three, sizeof three);
         }
-        while (sum.refusal == BENCH_UNFINISHED) {
-            bench_rounds_answer answer = rounds("in steps", step == 8 ? UINT32_MAX : step);
+        while (sum.refusal == BENCH_UNFINISHED && sum.rounds < MANY_ROUNDS) {
+            bench_rounds_answer answer = rounds("in steps", steps[i]);
             sum = (bench_rounds_answer){answer.refusal, sum.rounds + answer.rounds, sum.firings + answer.firings};
         }
-        whole = step == 8 ? sum : whole;
+        whole = i == 0 ? sum : whole;
         same("as one call", sum, whole);
         taken("five", result);
         if (capacity > 1) {
@@ -179,39 +182,72 @@ static void bytes_behind(void) {
     free(before);
 }
 
-/* The firings of one set on a machine of its own. */
-static uint32_t alone(const uint8_t *set, size_t bytes) {
-    begin(&loop, 2);
-    push(set, bytes);
-    bench_answer answer = bench_run(memory, length, 1000);
-    expect("alone", answer.refusal, BENCH_ACCEPTED);
-    return answer.count;
+/* How often each operator has fired. */
+struct times {
+    uint32_t of[MOST_OPERATORS];
+};
+
+/* Fires the least-numbered able operator and counts it, as a run does; 0 where none is able. */
+static int fire_least(struct times *times) {
+    for (uint32_t i = 0; i < operators_of(memory); i++) {
+        if (bench_fire(memory, length, i).refusal == BENCH_ACCEPTED) {
+            times->of[i]++;
+            return 1;
+        }
+    }
+    return 0;
 }
 
-/*
- * The older set ends and the later one loops without end. However many firings a run is lent, it makes those of the loop, and the older verdict waits. By
- * rounds it is ready after at most as many as the older set's own firings.
- */
-static void nobody_waits(void) {
-    uint32_t own = alone(ending[0], sizeof ending);
+/* The older set ends, the later one loops without end. */
+static void begin_both(void) {
     begin(&loop, 2);
     push(ending[0], sizeof ending);
     push(unending[0], sizeof unending);
-    uint8_t *before = lend(memory, length);
-    bench_rounds_answer answer = rounds("from the pushes on", own);
-    expect("from the pushes on", answer.refusal, BENCH_UNFINISHED);
-    expect("from the pushes on", answer.rounds, own);
-    taken("from the pushes on", ending[0]);
-    memcpy(memory, before, length);
-    bench_answer run = bench_run(memory, length, 100000);
+}
+
+/* However many firings a run is lent, it makes those of the loop, and the older verdict waits. A round makes it ready. */
+static void nobody_waits(void) {
+    begin_both();
+    bench_answer run = bench_run(memory, length, MANY_FIRINGS);
     expect("a run", run.refusal, BENCH_UNFINISHED);
-    expect("a run", run.count, 100000);
+    expect("a run", run.count, MANY_FIRINGS);
     pending("behind the loop");
-    answer = rounds("after the run", 1);
-    expect("after the run", answer.refusal, BENCH_UNFINISHED);
+    expect("after the run", rounds("after the run", 1).refusal, BENCH_UNFINISHED);
     taken("after the run", ending[0]);
     pending("the looping set");
-    free(before);
+    expect("the looping set", rounds("the looping set", MANY_ROUNDS).rounds, MANY_ROUNDS);
+    pending("the looping set");
+}
+
+/* "Count the firings that working one set after another would make up to and including that set, less those of them already made", operator by operator. */
+static uint32_t owed(const struct times *wanted, const struct times *made) {
+    uint32_t sum = 0;
+    for (size_t i = 0; i < MOST_OPERATORS; i++) {
+        sum += wanted->of[i] > made->of[i] ? wanted->of[i] - made->of[i] : 0;
+    }
+    return sum;
+}
+
+/* "After at most that many rounds its whole result is ready": from the pushes on, and after each firing of a run. */
+static void ready_by_then(void) {
+    static struct times wanted, made;
+    begin(&loop, 2);
+    push(ending[0], sizeof ending);
+    while (fire_least(&wanted)) {
+    }
+    begin_both();
+    expect("something is owed", owed(&wanted, &made) > 0, 1);
+    for (int firings = 0; firings < SOME_FIRINGS; firings++) {
+        uint8_t *before = lend(memory, length);
+        uint32_t most = owed(&wanted, &made);
+        expect("each lent round", rounds("each lent round", most).rounds, most);
+        taken("ready by then", ending[0]);
+        memcpy(memory, before, length);
+        free(before);
+        expect("the loop goes on", (uint32_t)fire_least(&made), 1);
+    }
+    pending("after the firings");
+    expect("still owed", owed(&wanted, &made) > 0, 1);
 }
 
 int main(void) {
@@ -222,6 +258,7 @@ int main(void) {
     exactly();
     bytes_behind();
     nobody_waits();
+    ready_by_then();
     free(memory);
     return tell();
 }
