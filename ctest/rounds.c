@@ -23,7 +23,7 @@ static const struct sheet loop = {
     "WT\n"};
 static const uint8_t ending[][BENCH_VALUE_BYTES] = {WHOLE(5), FALSE_VALUE}, unending[][BENCH_VALUE_BYTES] = {WHOLE(6), TRUE_VALUE};
 
-/* Bytes lent behind a machine's memory; more rounds than factorial makes here; firings of which all but the first are the loop's. */
+/* Bytes lent behind a machine's memory; more rounds than those of a machine here that comes to rest; firings of which all but the first are the loop's. */
 enum { BEHIND = 100, MANY_ROUNDS = 1000, SOME_FIRINGS = 100, MANY_FIRINGS = 100000 };
 
 enum { MOST_OPERATORS = 1024 };

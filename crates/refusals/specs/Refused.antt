@@ -1,7 +1,8 @@
 -- DEMAND 1, second sentence: "A refused call names one of the refusals in document 01 and hands every lent byte back unaltered, save a run that has used up its
 -- lent firings", as `refused-call` over all calls; and demand 2, "A call is refused exactly when document 01 gives it a refusal, and with the first in the
--- order there", as `call-exact`. A run by rounds that has used up its lent rounds is such a run (document 02, Job 7). Of a tray of sets "the rule on unaltered memory speaks of the refused set alone" (document 02, Job 1). The calls are the
--- definitions that the contracts of their entry points cite; a sheet, a kinds line or a set is lent for reading only. Assumes nothing.
+-- order there", as `call-exact`. A run by rounds that has used up its lent rounds is such a run too: "the firings kept as at run's 36" (document 02, Job 7). Of a
+-- tray of sets "the rule on unaltered memory speaks of the refused set alone" (document 02, Job 1). The calls are the definitions that the contracts of their
+-- entry points cite; a sheet, a kinds line or a set is lent for reading only. Assumes nothing.
 use Prim.Native.Nat.{ℕ}
 use mathlib.Core.Path.{_≡_, refl, sym, _∙_, subst}
 use mathlib.Core.Logic.{_⊎_, inl, inr, _≢_, _↔_}
