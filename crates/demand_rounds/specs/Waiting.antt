@@ -22,7 +22,7 @@ use Rattle.graph.specs.Assembly.{upFrom}
 use Rattle.graph.specs.Translation.{madeOf}
 use Rattle.value_sets.specs.Sets.{setValues, values-set}
 use Rattle.meaning.specs.Evaluate.{evaluatedWith, evaluated, evaluationOf}
-use Rattle.machine_layout.specs.Layout.{sizeOf, need}
+use Rattle.machine_layout.specs.Layout.{sizeOf, need, operatorsOf}
 use Rattle.machine_start.specs.Start.{started}
 use Rattle.machine_start.specs.StartLaws.{AcceptedStart, accepted-start}
 use Rattle.theory_verdicts.specs.Admitting.{accepted-admitted, accepted-operators}
@@ -180,17 +180,45 @@ module _ (sheet line : List ℕ) (capacity : ℕ) (memory : List ℕ) (h : start
       }
 
   module _ (lent : ℕ) (enough : need (sizeOf capacity) ≤ lent) (out : List ℕ) where
+    -- What is found out of sets that end: how many firings each needs lent, in its runs together, and how often each operator then fires, however that is lent.
+    pub record Work-needs (sets : List (List ℕ)) : Type 0 where
+      pub needs : List ℕ
+      pub suffice : (firings : List (List ℕ)) → Lent-enough needs firings → AllAccepted (inTurn lent out sets firings) (started sheet line capacity memory .mem)
+      pub shares : ℕ → ℕ
+      pub fired : (firings : List (List ℕ)) → Lent-enough needs firings → (i : ℕ) → timesFired i (inTurn lent out sets firings) (started sheet line capacity memory .mem) ≡ shares i
+
+    pub work-needs : 80 ≤ length out → (sets : List (List ℕ)) → EachSetEnds sheet line sets → Work-needs sets
+    work-needs room sets e =
+        let S = sets-end sets e in
+        let N = from-start x (accepted-admitted sheet (begun .admissible)) (accepted-operators sheet (begun .admissible)) capacity (begun .some) (S .values) (S .results) (S .whole) (S .end) in
+        let granted : (firings : List (List ℕ)) → Lent-enough (N .needs) firings → AllAccepted (inTurn lent out sets firings) start
+        = λ firings g.
+        work-to-bytes x kinds capacity (begun .some) (begun .most) agree lent enough out sets (S .values) (S .read) firings start (startOf x) H room (N .suffice firings g .0) in
+        record {
+          needs = N .needs;
+          suffice = granted;
+          shares = N .shares;
+          fired = λ firings g i.
+              ap (count i)
+              (sym (work-to-links x kinds capacity (begun .some) (begun .most) agree lent enough out sets (S .values) (S .read) firings start (startOf x) H (granted firings g) .1))
+              ∙ sym (times-count i (history x capacity (Links-in-turn.inTurn (S .values) firings))) ∙ N .fired firings g i;
+        }
+
     -- Sets whose evaluation ends can be worked one after another, with runs lent numbers of 32 bits: the bound is never empty.
     pub in-turn-exists : 80 ≤ length out → (sets : List (List ℕ)) → EachSetEnds sheet line sets
         → (firings : List (List ℕ)) × LentFits firings × AllAccepted (inTurn lent out sets firings) (started sheet line capacity memory .mem)
     in-turn-exists room sets e =
-        let S = sets-end sets e in
-        let N = from-start x (accepted-admitted sheet (begun .admissible)) (accepted-operators sheet (begun .admissible)) capacity (begun .some) (S .values) (S .results) (S .whole) (S .end) in
-        let f = small-lent (N .needs) in (
-          f .0,
-          f .1,
-          work-to-bytes x kinds capacity (begun .some) (begun .most) agree lent enough out sets (S .values) (S .read) (f .0) start (startOf x) H room (N .suffice (f .0) (f .2) .0),
-        )
+        let N = work-needs room sets e in
+        let f = small-lent (N .needs) in
+        (f .0, f .1, N .suffice (f .0) (f .2))
+
+    -- What is owed of them is one number, as soon as each has what it needs.
+    pub owed-once : (sets : List (List ℕ)) (N : Work-needs sets) (calls : List Call) (firings : List (List ℕ)) → Lent-enough (N .needs) firings
+        → owed (inTurn lent out sets firings) calls (started sheet line capacity memory .mem)
+        ≡ sumBelow (operatorsOf (started sheet line capacity memory .mem)) (λ i. N .shares i - timesFired i calls (started sheet line capacity memory .mem))
+    owed-once sets N calls firings g =
+        sum-same (operatorsOf start) (λ i. timesFired i (inTurn lent out sets firings) start - timesFired i calls start) (λ i. N .shares i - timesFired i calls start)
+        (λ i l. ap (λ (t : ℕ). t - timesFired i calls start) (N .fired firings g i))
 
     -- ---- after any list of calls
 
