@@ -296,7 +296,9 @@ impl Run<'_> {
         *self.counts.entry(count.into()).or_default() += 1;
         match product::take(&mut mem, &mut [0; OUT_BYTES]).refusal {
             0 => Ok(()),
-            refusal => Err(format!("after the {owed} rounds that the oldest untaken set is owed, {ran:?}, take gives {refusal}")),
+            refusal => Err(format!(
+                "after the {owed} rounds that the oldest untaken set is owed, {ran:?}, take gives {refusal}"
+            )),
         }
     }
 
