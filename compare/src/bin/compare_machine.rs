@@ -228,7 +228,7 @@ impl Run<'_> {
 
     /// A fire, a run of either sort or a take.
     fn drive_both(&mut self, plain: &mut Side, product: &mut Side, rng: &mut Rng) -> Called {
-        let (name, ours, theirs): (_, Told, Told) = match rng.below(8) {
+        let (name, ours, theirs): (_, Told, Told) = match rng.below(9) {
             0 | 1 => {
                 let number = self.random_operator(rng);
                 let ours = memory::fire(plain.memory(), number);
@@ -237,12 +237,12 @@ impl Run<'_> {
                 }
                 ("fire", ours.into(), product::fire(product.memory(), number).into())
             }
-            2 => {
+            2 | 3 => {
                 let firings = rng.pick(&[0, 1, 2, 7, 50, 1000, 20_000]);
                 let ours = memory::run_telling(plain.memory(), firings, |operator| self.count_firing(operator));
                 ("run", ours.into(), product::run(product.memory(), firings).into())
             }
-            3 | 4 => {
+            4 | 5 => {
                 let rounds = random_rounds(&plain.mem[..plain.lent], rng);
                 let ours = memory::run_rounds_telling(plain.memory(), rounds, |operator| self.count_firing(operator));
                 ("rounds", ours.into(), product::run_rounds(product.memory(), rounds).into())
