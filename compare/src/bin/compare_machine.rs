@@ -19,8 +19,11 @@ use std::{env, process};
 const ROUNDS: u32 = 2_000;
 
 /// The firings within which a set is worked in turn, and the most rounds that a wait is followed for.
-const FIRINGS: u32 = 200_000;
-const MOST_WAIT: u64 = 3_000;
+const FIRINGS: u32 = 50_000;
+const MOST_WAIT: u64 = 1_000;
+
+/// The most rounds lent to a machine that may go on without end.
+const MANY_ROUNDS: u32 = 300;
 
 /// How many calls in a hundred are followed by a look at how long the oldest untaken set waits.
 const WAITS: usize = 10;
@@ -400,10 +403,15 @@ fn difference(ours: Told, theirs: Told, plain: &[u8], mem: &[u8]) -> String {
     format!("here {ours:?}, the product answers {theirs:?}; bytes differ at {places:?}")
 }
 
-/// Where a thousand rounds end it the greatest number may be lent too.
+/// The greatest number only where far fewer rounds end it.
 fn random_rounds(mem: &[u8], rng: &mut Rng) -> u32 {
-    let most = if memory::run_rounds(&mut mem.to_vec(), 1000).refusal == 36 { 1000 } else { u32::MAX };
-    rng.pick(&[0, 1, 2, 3, 7, 50, most])
+    let rounds = rng.pick(&[0, 1, 2, 3, 7, 50, MANY_ROUNDS, u32::MAX]);
+    let ends = || memory::run_rounds(&mut mem.to_vec(), MANY_ROUNDS).refusal != 36;
+    if rounds < u32::MAX || ends() {
+        rounds
+    } else {
+        MANY_ROUNDS
+    }
 }
 
 /// A change of one figure: header, letter, record, register, length or token, to a value about its range.
