@@ -1,3 +1,0 @@
-pub mod RoundSteps
-pub mod FollowRounds
-pub mod Answered

@@ -1,20 +1,17 @@
 -- One set worked alone on a machine at rest, for any made graph (theory_pieces/specs/Made) and any capacity of at least one place: it can be pushed, some list of
 -- firings leads to where nothing can fire and its whole result can be taken, and the take leaves the machine at rest again.
 -- Assumes that operators commute and that nothing can fire on an idle load.
-use Prim.Native.Nat.{ℕ, suc, _≤_, _<_}
+use Prim.Native.Nat.{ℕ, _≤_}
 use mathlib.Core.Path.{_≡_, refl, sym, _∙_, ap, subst}
 use mathlib.Core.Logic.{_≢_, Ne·symm, inl, inr}
 use mathlib.Core.List.{List, [], _∷_, _++_}
-use mathlib.Core.Option.{Option, none, some}
-use lib.ListN.{length}
-use native.Mathlib.Omega.{arith}
+use mathlib.Core.Option.{Option, some}
 use Rattle.theory_schedule.specs.Schedules.{Possible, reached}
 use Rattle.value.specs.declared.Value.{Value}
 use Rattle.network.specs.Values.{true-value}
-use Rattle.network.specs.Net.{Token, val, Demand, fire, halt, Links, Able, act}
+use Rattle.network.specs.Net.{val, Demand, fire, halt, Links, Able, act}
 use Rattle.network.specs.Commute.{Free, enabled, next, output, stays}
 use Rattle.network.specs.Ends.{push-demand, take-demand, machine, machine-take, machine-graph}
-use Rattle.network.specs.Uses.{In}
 use Rattle.theory_pieces.specs.Load.{Load, set-link, set-same, set-other, set-ext, put, put-app, put-off, put-set, On, Clear}
 use Rattle.theory_pieces.specs.Goes.{one-place, Feasible, led-to}
 use Rattle.theory_pieces.specs.Piece.{Piece, Means, Region, Fits, load, some-of, load-in}

@@ -3,7 +3,6 @@
 -- (theory_pieces/specs/RoundsReady). Assumes an admissible sheet, one place a link and an accepted work; that there is one where evaluation ends is WorkEnds'.
 use Prim.Native.Nat.{ℕ, zero, suc, _+_, _-_, _≤_, _<_}
 use mathlib.Core.Path.{_≡_, refl, sym, _∙_, ap, ap₂, subst}
-use mathlib.Core.Logic.{_≢_}
 use mathlib.Core.List.{List, [], _∷_, _++_, map}
 use lib.ListN.{length, take, drop, take-append-drop, length-append}
 use native.Mathlib.Decide.{ℕ-discrete}
@@ -28,11 +27,11 @@ use Rattle.theory_wiring.specs.MadeGraph.{pushLinks}
 use Rattle.theory_verdicts.specs.Admitting.{accepted-admitted, accepted-operators}
 use Rattle.theory_verdicts.specs.Owed.{pushNumber, takeNumber, sourceLink, creditLink, pieceOf, meansOf, evaluation, results-are, inputs-are, input-count, source-is-apart, credit-is-apart}
 use Rattle.theory_verdicts.specs.Owed.{owed as maker-owed}
-use Rattle.theory_verdicts.specs.Running.{places, takeOf, startOf, decAble, Call, takes, afterSteps, accept, stepsOf, stepsFrom, history, standing, pushed, taken}
+use Rattle.theory_verdicts.specs.Running.{places, takeOf, startOf, decAble, Call, takes, afterSteps, accept, stepsOf, history, standing, pushed, taken}
 use Rattle.theory_verdicts.specs.RunningLaws.{Made-in-turn, calls-made, Whole-sets, calls-whole, triggering, triggered-sets, steps-accepted, steps-after, steps-sets, steps-takes, handed-count, sets-whole, sets-sized}
-use Rattle.theory_rounds.specs.InTurn.{roundsOf, inTurn, AllAccepted, times, sumBelow, owed}
+use Rattle.theory_rounds.specs.InTurn.{roundsOf, inTurn, AllAccepted, times, owed}
 use Rattle.theory_rounds.specs.Shares.{sum-same, remaining-shares}
-use Rattle.theory_rounds.specs.TurnLaws.{times-end, past-never, events-fired, triggering-end, calls-lead, graphRounds, leads, rounds-lead, Worked-off, in-turn-works}
+use Rattle.theory_rounds.specs.TurnLaws.{times-end, past-never, events-fired, triggering-end, calls-lead, graphRounds, leads, rounds-lead, in-turn-works}
 
 pub can-accepted : {A : Type 0} (s : Step) (d : Dec A) → A → accept d s ≡ s ∷ []
 can-accepted s (yes p) a = refl

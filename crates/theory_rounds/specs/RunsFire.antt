@@ -1,22 +1,21 @@
 -- Runs one after another as one list of firings: possible, and as long as the lent numbers together, or up to where nothing can fire. Where some list of firings leads
 -- to a state in which nothing can fire, runs lent more than its length lead to that state too. Assumes for the latter that operators commute.
-use Prim.Native.Nat.{ℕ, zero, suc, _+_, _-_, _≤_, _<_}
-use mathlib.Core.Path.{_≡_, refl, sym, _∙_, ap, ap₂, subst}
+use Prim.Native.Nat.{ℕ, suc, _+_, _≤_, _<_}
+use mathlib.Core.Path.{_≡_, refl, sym, _∙_, ap, subst}
 use mathlib.Core.Logic.{_≢_, ite, if-pos, _⊎_, inl, inr}
 use mathlib.Core.List.{List, [], _∷_, _++_, map}
-use mathlib.Core.Option.{Option, none, some}
+use mathlib.Core.Option.{none}
 use lib.ListN.{length, length-append}
 use native.Mathlib.Decide.{ℕ-discrete, decLt}
 use native.Mathlib.Omega.{arith}
-use Rattle.theory_schedule.specs.Schedules.{remaining, Possible, possible-append, reached-append}
+use Rattle.theory_schedule.specs.Schedules.{remaining, Possible}
 use Rattle.theory_schedule.specs.Counts.{count, count-remaining, length-remaining}
 use Rattle.theory_schedule.specs.Progress.{still-covers, still-counts-equal, still-same-state}
 use Rattle.network.specs.Net.{Links, Able, act}
 use Rattle.network.specs.Commute.{Free, enabled, next, output, diamond}
 use Rattle.theory_pieces.specs.Tape.{Step, pushing, firing, taking}
 use Rattle.formula.specs.Tree.{Exp}
-use Rattle.graph.specs.Translation.{madeOf}
-use Rattle.theory_verdicts.specs.Running.{places, operatorAt, decAble, Call, fires, runs, afterSteps, accept, leastFrom, leastAble, onward, runSteps, stepsOf, stepsFrom}
+use Rattle.theory_verdicts.specs.Running.{places, operatorAt, decAble, runs, afterSteps, accept, runSteps, stepsOf, stepsFrom}
 use Rattle.theory_verdicts.specs.RunningLaws.{Made-in-turn, calls-made}
 use Rattle.theory_verdicts.specs.RunLaws.{run-below-lent}
 use Rattle.theory_rounds.specs.InTurn.{times}

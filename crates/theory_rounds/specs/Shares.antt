@@ -1,7 +1,7 @@
 -- What is left of a list of events after another, in numbers: where only numbers below n are left, as many as the sum over these of what each is short of.
 -- About lists of numbers alone (theory_schedule/specs/Counts); assumes nothing.
 use Prim.Native.Nat.{ℕ, zero, suc, _+_, _-_, _≤_, _<_}
-use mathlib.Core.Path.{_≡_, refl, sym, _∙_, ap, ap₂}
+use mathlib.Core.Path.{_≡_, refl, sym, _∙_}
 use mathlib.Core.Logic.{ite, if-pos, if-neg}
 use mathlib.Core.List.{List, [], _∷_}
 use lib.ListN.{length}

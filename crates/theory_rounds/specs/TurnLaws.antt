@@ -2,7 +2,7 @@
 -- last operator never fires; a round of calls is a round of the graph (theory_schedule/specs/Rounds). Assumes nothing.
 use Prim.Native.Nat.{ℕ, zero, suc, _+_, _≤_}
 use mathlib.Core.Path.{_≡_, refl, sym, _∙_, ap, ap₂, subst}
-use mathlib.Core.Logic.{_≢_, ite, if-pos, if-neg}
+use mathlib.Core.Logic.{_≢_, ite, if-neg}
 use mathlib.Core.List.{List, [], _∷_, _++_, map, append-assoc}
 use mathlib.Core.Option.{Option, none, some}
 use lib.ListN.{length}
@@ -12,25 +12,25 @@ use Rattle.theory_schedule.specs.Schedules.{reached, reached-append}
 use Rattle.theory_schedule.specs.Counts.{count}
 use Rattle.theory_schedule.specs.Rounds.{turn, roundFrom, rounds}
 use Rattle.value.specs.declared.Value.{Value}
-use Rattle.network.specs.Net.{Token, Demand, Links, Able, act}
+use Rattle.network.specs.Net.{Demand, Links, Able, act}
 use Rattle.network.specs.Commute.{enabled, next, output}
 use Rattle.theory_pieces.specs.Tape.{Step, pushing, firing, taking, sets-of, takes-of, events-of}
 use Rattle.formula.specs.Tree.{Exp}
 use Rattle.graph.specs.Translation.{madeOf}
 use Rattle.theory_wiring.specs.Machine.{netOf, net-past}
-use Rattle.theory_verdicts.specs.Running.{places, operatorAt, decAble, Call, pushes, fires, runs, takes, demandOf, afterSteps, accept, leastAble, onward, leastFrom, runSteps, stepsOf, stepsFrom}
+use Rattle.theory_verdicts.specs.Running.{places, operatorAt, decAble, Call, pushes, runs, takes, demandOf, afterSteps, accept, leastAble, onward, runSteps, stepsOf, stepsFrom}
 use Rattle.theory_verdicts.specs.RunningLaws.{Made-in-turn, triggering}
-use Rattle.theory_rounds.specs.InTurn.{firesFrom, roundsOf, inTurn, Granted, AllAccepted, times}
+use Rattle.theory_rounds.specs.InTurn.{firesFrom, roundsOf, inTurn, AllAccepted, times}
 
 -- ---- lists of steps
 
-sets-append : (w u : List Step) → sets-of (w ++ u) ≡ sets-of w ++ sets-of u
+pub sets-append : (w u : List Step) → sets-of (w ++ u) ≡ sets-of w ++ sets-of u
 sets-append [] u = refl
 sets-append (pushing v ∷ w) u = ap (λ (z : List (List Value)). v ∷ z) (sets-append w u)
 sets-append (firing a ∷ w) u = sets-append w u
 sets-append (taking ∷ w) u = sets-append w u
 
-takes-append : (w u : List Step) → takes-of (w ++ u) ≡ takes-of w + takes-of u
+pub takes-append : (w u : List Step) → takes-of (w ++ u) ≡ takes-of w + takes-of u
 takes-append [] u = omega arith
 takes-append (pushing v ∷ w) u = takes-append w u
 takes-append (firing a ∷ w) u = takes-append w u
@@ -61,19 +61,19 @@ Only-firings (pushing v ∷ w) = ⊥
 Only-firings (firing a ∷ w) = Only-firings w
 Only-firings (taking ∷ w) = ⊥
 
-firings-append : (w u : List Step) → Only-firings w → Only-firings u → Only-firings (w ++ u)
+pub firings-append : (w u : List Step) → Only-firings w → Only-firings u → Only-firings (w ++ u)
 firings-append [] u a b = b
 firings-append (pushing v ∷ w) u a b = absurd a
 firings-append (firing i ∷ w) u a b = firings-append w u a b
 firings-append (taking ∷ w) u a b = absurd a
 
-firings-push : (w : List Step) → Only-firings w → sets-of w ≡ []
+pub firings-push : (w : List Step) → Only-firings w → sets-of w ≡ []
 firings-push [] f = refl
 firings-push (pushing v ∷ w) f = absurd f
 firings-push (firing a ∷ w) f = firings-push w f
 firings-push (taking ∷ w) f = absurd f
 
-firings-take : (w : List Step) → Only-firings w → takes-of w ≡ 0
+pub firings-take : (w : List Step) → Only-firings w → takes-of w ≡ 0
 firings-take [] f = refl
 firings-take (pushing v ∷ w) f = absurd f
 firings-take (firing a ∷ w) f = firings-take w f

@@ -3,9 +3,8 @@
 -- Assumes an admissible sheet, one place a link and sets with a value for each input.
 use Prim.Native.Nat.{ℕ, zero, suc, _+_, _-_, _≤_, _<_}
 use mathlib.Core.Path.{_≡_, refl, sym, _∙_, ap, subst}
-use mathlib.Core.Logic.{_≢_}
+use mathlib.Core.Logic.{_≢_, _⊎_, inl, inr}
 use mathlib.Core.List.{List, [], _∷_, _++_, map}
-use lib.Dec.{eqb}
 use lib.ListN.{length, getD, take}
 use borrow.Author.Tests.{eq-eqb}
 use native.Mathlib.Omega.{arith}
@@ -26,7 +25,6 @@ use Rattle.theory_pieces.specs.Load.{Load, put}
 use Rattle.theory_pieces.specs.Sets.{onto}
 use Rattle.theory_pieces.specs.Tape.{Step, pushing, firing, taking}
 use Rattle.graph.specs.Translation.{graphE, portOf, madeOf}
-use Rattle.theory_reference.specs.WholeGraph.{Idle-load}
 use Rattle.theory_yields.specs.FitGraphs.{fit-E}
 use Rattle.theory_wiring.specs.Machine.{netOf, TakesAt, PutsAt}
 use Rattle.theory_wiring.specs.MadeGraph.{made-envs, room, made-wiring}
@@ -35,14 +33,15 @@ use Rattle.theory_verdicts.specs.Admitting.{accepted-admitted, accepted-operato
 use Rattle.theory_verdicts.specs.Results.{resultOf, EndsWith, EachEnds}
 use Rattle.theory_verdicts.specs.Owed.{pushNumber, takeNumber, sourceLink, creditLink, pieceOf, meansOf, evaluation, results-are, inputs-are, input-count, numbers}
 use Rattle.theory_verdicts.specs.Owed.{owed as maker-owed}
-use Rattle.theory_verdicts.specs.Running.{places, operatorAt, withTrigger, pushOf, takeOf, startOf, decAble, Call, pushes, fires, runs, takes, afterSteps, accept, stepsOf, stepsFrom, history, standing, pushed, taken}
+use Rattle.theory_verdicts.specs.Running.{places, operatorAt, withTrigger, pushOf, takeOf, startOf, decAble, Call, pushes, fires, runs, takes, afterSteps, stepsOf, stepsFrom, history, standing, pushed, taken}
 use Rattle.theory_verdicts.specs.RunningLaws.{calls-whole, Each-whole, sets-whole, first-whole, sets-sized, trigger-off}
 use Rattle.theory_rounds.specs.InTurn.{roundsOf, inTurn, AllAccepted, times, sumBelow, owed}
 use Rattle.theory_rounds.specs.Shares.{sum-same}
 use Rattle.theory_rounds.specs.TurnLaws.{graph, leads, after-append, steps-append, times-append}
 use Rattle.theory_rounds.specs.RoundsReady.{can-accepted, nobody-waits}
-use Rattle.theory_rounds.specs.OneSet.{rest, Worked-set, works}
-use Rattle.theory_rounds.specs.RunsFire.{total, Fires, Quiet, runs-lead, runs-times}
+use Rattle.theory_rounds.specs.EarlyEnd.{refused-is, ready-when-still}
+use Rattle.theory_rounds.specs.OneSet.{Worked-set, works}
+use Rattle.theory_rounds.specs.RunsFire.{total, Quiet, runs-lead, runs-times}
 
 -- Each set's lent numbers are together as large as it needs.
 abbrev pub Enough : List ℕ → List (List ℕ) → Type 0
@@ -61,10 +60,6 @@ Still-before x capacity takes q = (a : ℕ) → stepsOf x capacity (fires a) q �
 abbrev pub TakenAtRest : Exp → ℕ → List Call → Links → Type 0
 TakenAtRest x capacity [] q = Unit {0}
 TakenAtRest x capacity (c ∷ calls) q = Still-before x capacity c q × TakenAtRest x capacity calls (afterSteps x (stepsOf x capacity c q) q)
-
-refused-is : {A : Type 0} (s : Step) (d : Dec A) → (A → ⊥) → accept d s ≡ []
-refused-is s (yes p) n = absurd (n p)
-refused-is s (no m) n = refl
 
 -- ---- one set's calls and what follows
 
@@ -313,3 +308,11 @@ module _ (s : List ℕ) (accepted : Admissible s) (capacity : ℕ) (space : 1 �
         → owed (formulaOf s) (history (formulaOf s) capacity (inTurn upToOldest lent)) (history (formulaOf s) capacity calls) ≤ b
         → stepsOf (formulaOf s) capacity takes (standing (formulaOf s) capacity (calls ++ roundsOf (formulaOf s) b)) ≡ taking ∷ []
     ready-after-owed lent g b l = nobody-waits s accepted capacity space calls left lent (work-ends .suffice lent g .0) b l
+
+    -- The same of a run by rounds that is lent b: it makes them all, or ends where nothing can fire.
+    pub ready-by-rounds : capacity ≤ 16 → (lent : List (List ℕ)) → Enough (work-ends .needs) lent → (b : ℕ)
+        → owed (formulaOf s) (history (formulaOf s) capacity (inTurn upToOldest lent)) (history (formulaOf s) capacity calls) ≤ b → (rounds : ℕ)
+        → (rounds ≡ b) ⊎ ((a : ℕ) → stepsOf (formulaOf s) capacity (fires a) (standing (formulaOf s) capacity (calls ++ roundsOf (formulaOf s) rounds)) ≡ [])
+        → stepsOf (formulaOf s) capacity takes (standing (formulaOf s) capacity (calls ++ roundsOf (formulaOf s) rounds)) ≡ taking ∷ []
+    ready-by-rounds most lent g b l rounds (inl e) = ready-after-owed lent g rounds (omega (arith, e, l))
+    ready-by-rounds most lent g b l rounds (inr still) = ready-when-still s accepted capacity space most calls left rounds still

@@ -5,7 +5,7 @@ use Prim.Native.Nat.{ℕ, zero, suc, _+_, _≤_, _<_}
 use mathlib.Core.Path.{_≡_, refl, sym, ap, subst, _∙_}
 use mathlib.Core.Logic.{_≢_}
 use mathlib.Core.Bool.{Bool, true, false}
-use mathlib.Core.List.{List, [], _∷_, _++_, map, append-assoc}
+use mathlib.Core.List.{List, [], _∷_, _++_, map}
 use native.Mathlib.Omega.{arith}
 use borrow.Author.Tests.{eqb-true, eqb-false}
 use lib.Dec.{eqb}
@@ -19,12 +19,13 @@ use Rattle.graph.specs.Translation.{madeOf}
 use Rattle.machine_layout.specs.Layout.{sizeOf}
 use Rattle.machine_firing.specs.Fire.{ableAt, firedAt}
 use Rattle.machine_rounds.specs.Rounds.{Swept, sweep, round, Rounded, rounded, roundsFrom}
-use Rattle.theory_verdicts.specs.Running.{Call, fires, places, decAble, operatorAt, accept, demandOf, afterSteps, stepsOf, stepsFrom}
+use Rattle.theory_verdicts.specs.Running.{Call, fires, places, decAble, operatorAt, accept, afterSteps, stepsOf, stepsFrom}
 use Rattle.demand_view.specs.Sound.{Sound}
 use Rattle.demand_view.specs.Stands.{Stands}
 use Rattle.demand_view.specs.Able.{able-on-bytes}
 use Rattle.demand_view.specs.Fired.{fired-stands}
 use Rattle.demand_view.specs.Run.{unable-on-bytes}
+use Rattle.demand.specs.Followed.{after-append, steps-append}
 
 -- ---- the rounds of the abstract machine
 
@@ -49,22 +50,6 @@ module _ (x : Exp) (capacity : ℕ) where
   abbrev pub roundsSteps : ℕ → Links → List Step
   roundsSteps r q = stepsFrom x capacity (roundsCalls x r) q
 
-  after-append : (w u : List Step) (q : Links) → afterSteps x (w ++ u) q ≡ afterSteps x u (afterSteps x w q)
-  after-append [] u q = refl
-  after-append (s ∷ w) u q = after-append w u (act (demandOf x s) q)
-
-  steps-append : (a b : List Call) (q : Links)
-      → stepsFrom x capacity (a ++ b) q ≡ stepsFrom x capacity a q ++ stepsFrom x capacity b (afterSteps x (stepsFrom x capacity a q) q)
-  unfolding stepsFrom
-  steps-append [] b q = refl
-  steps-append (c ∷ a) b q =
-      let w = stepsOf x capacity c q in
-      let r = afterSteps x w q in
-      let u = stepsFrom x capacity a r in
-      ap (λ (z : List Step). w ++ z) (steps-append a b r)
-      ∙ sym (append-assoc w u (stepsFrom x capacity b (afterSteps x u r)))
-      ∙ ap (λ (z : Links). (w ++ u) ++ stepsFrom x capacity b z) (sym (after-append w u q))
-
   -- no round more
   pub rounds-none : (q : Links) → roundsSteps 0 q ≡ []
   unfolding roundsCalls stepsFrom
@@ -73,11 +58,11 @@ module _ (x : Exp) (capacity : ℕ) where
   -- one round more, made first
   pub rounds-more : (r : ℕ) (q : Links) → roundsSteps (suc r) q ≡ roundSteps q ++ roundsSteps r (afterSteps x (roundSteps q) q)
   unfolding roundsCalls
-  rounds-more r q = steps-append (roundCalls x) (roundsCalls x r) q
+  rounds-more r q = steps-append x capacity (roundCalls x) (roundsCalls x r) q
 
   pub rounds-after : (r : ℕ) (q : Links) → afterSteps x (roundsSteps (suc r) q) q ≡ afterSteps x (roundsSteps r (afterSteps x (roundSteps q) q)) (afterSteps x (roundSteps q) q)
   rounds-after r q =
-      ap (λ (w : List Step). afterSteps x w q) (rounds-more r q) ∙ after-append (roundSteps q) (roundsSteps r (afterSteps x (roundSteps q) q)) q
+      ap (λ (w : List Step). afterSteps x w q) (rounds-more r q) ∙ after-append x capacity (roundSteps q) (roundsSteps r (afterSteps x (roundSteps q) q)) q
 
   -- Where a round has no step, none has.
   pub rounds-idle : (r : ℕ) (q : Links) → roundSteps q ≡ [] → roundsSteps r q ≡ []

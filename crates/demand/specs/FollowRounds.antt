@@ -2,12 +2,10 @@
 -- and by none where it was not; it answers no 31. Document 02, Job 7: "Demand 3 covers this run also." Assumes the laws of `CallsAgree`.
 use Prim.Native.Nat.{ℕ, zero, suc, _≤_, _<_}
 use mathlib.Core.Path.{_≡_, refl, sym, ap, ap₂, subst, _∙_}
-use mathlib.Core.Logic.{_≢_}
 use mathlib.Core.Bool.{Bool, true, false}
 use mathlib.Core.List.{List, [], _∷_, _++_, map}
 use native.Mathlib.Omega.{arith}
 use native.Mathlib.Decide.{decLt}
-use borrow.Author.Tests.{ne-eqb}
 use lib.ListN.{length, drop, take as firstOf, take-append-drop}
 use Rattle.value.specs.Operators.{pick}
 use Rattle.network.specs.Net.{Links, Able, act}
@@ -17,28 +15,17 @@ use Rattle.formula.specs.declared.Refusal.the-variants.{Memory, Unfinished, Alt
 use Rattle.formula.specs.Refusals.{numberOf}
 use Rattle.graph.specs.Assembly.{upFrom}
 use Rattle.graph.specs.Translation.{madeOf}
-use Rattle.machine_layout.specs.Layout.{sizeOf, need, operatorsOf}
+use Rattle.machine_layout.specs.Layout.{sizeOf, need}
 use Rattle.machine_runs.specs.Run.{stillAt}
-use Rattle.machine_calls.specs.Calls.{sizeIn, standing}
 use Rattle.machine_rounds.specs.Rounds.{Rounded, roundsFrom, Outcome, outcome, answers, ended, ranRounds}
+use Rattle.machine_rounds.specs.RoundLaws.{rounds-refused, rounds-ended}
 use Rattle.theory_verdicts.specs.Running.{Call, fires, places, decAble, operatorAt, accept, handed, afterSteps, stepsOf, stepsFrom}
 use Rattle.demand_view.specs.Stands.{Stands}
 use Rattle.demand_view.specs.FireCall.{stands-size}
 use Rattle.demand_begin.specs.Lent.{stands-lent, stands-behind, short-refused}
 use Rattle.demand.specs.Agree.{CallsAgree}
 use Rattle.demand.specs.Followed.{Follows, Unaltered, EachRead, shownTokens, follows-none}
-use Rattle.demand_rounds.specs.RoundSteps.{roundsCalls, roundsSteps, Same-rounds, rounds-same}
-
--- ---- the call by the tests that it meets
-
-module _ (m : List ℕ) (rounds : ℕ) where
-  rounds-refused : standing m ≢ 0 → ranRounds m rounds ≡ outcome (answers (standing m) 0 0) m
-  unfolding ranRounds
-  rounds-refused n = simp (ne-eqb (standing m) 0 n)
-
-  rounds-ended : standing m ≡ 0 → ranRounds m rounds ≡ ended (roundsFrom (sizeIn m) (operatorsOf m) rounds m 0 0) (sizeIn m) (operatorsOf m)
-  unfolding ranRounds
-  rounds-ended st = rw st refl
+use Rattle.demand.specs.RoundSteps.{roundsCalls, roundsSteps, Same-rounds, rounds-same}
 
 -- ---- rounds make no push and no take
 

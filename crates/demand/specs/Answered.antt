@@ -23,10 +23,10 @@ use Rattle.theory_verdicts.specs.Running.{fires, places, decAble, operatorAt, a
 use Rattle.demand_view.specs.Stands.{Stands}
 use Rattle.demand_view.specs.Run.{still-refused}
 use Rattle.refusals.specs.RunCount.{unstill-able}
 use Rattle.demand.specs.Agree.{CallsAgree}
 use Rattle.demand.specs.Followed.{can-accepted}
-use Rattle.demand_rounds.specs.RoundSteps.{turnCalls, roundSteps, roundsSteps, Same-rounds}
-use Rattle.demand_rounds.specs.FollowRounds.{rounds-accepted, rounds-counted}
+use Rattle.demand.specs.RoundSteps.{turnCalls, roundSteps, roundsSteps, Same-rounds}
+use Rattle.demand.specs.FollowRounds.{rounds-accepted, rounds-counted}
 
 module _ (x : Exp) (capacity : ℕ) (q : Links) where
   -- Operators of which none fires at its turn cannot fire.
