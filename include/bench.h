@@ -125,14 +125,14 @@ typedef struct {
 bench_read_answer bench_read(const uint8_t *sheet, size_t sheet_bytes, const uint8_t *kinds, size_t kinds_bytes);
 
 /*
- * Evaluates a sheet on a set within the lent rounds; a round is one entry into a loop's body. Writes sixteen values to `out`, E past the
+ * Evaluates a sheet with its kinds line on a set within the lent rounds; a round is one entry into a loop's body. Writes sixteen values to `out`, E past the
  * width; bytes of `out` past 80 are left alone. Refusals, in this order: 11 (`out` shorter than 80 bytes), 1 to 9, 17, 18, 10, 12, 36.
  */
 bench_evaluate_answer bench_evaluate(const uint8_t *sheet, size_t sheet_bytes, const uint8_t *kinds, size_t kinds_bytes, const uint8_t *set,
                                      size_t set_bytes, uint32_t rounds, uint8_t *out, size_t out_bytes);
 
 /*
- * Starts an empty machine for a sheet, with links that hold `capacity` tokens, in `memory` (any contents). Refusals, in this order: 11
+ * Starts an empty machine for a sheet with its kinds line, with links that hold `capacity` tokens, in `memory` (any contents). Refusals, in this order: 11
  * (shorter than BENCH_MACHINE_BYTES of the capacity asked, or of 1 where that is outside 1..16), 14, 1 to 9, 17, 18, 10.
  */
 bench_start_answer bench_start(const uint8_t *sheet, size_t sheet_bytes, const uint8_t *kinds, size_t kinds_bytes, uint32_t capacity,
