@@ -1,6 +1,6 @@
--- NOBODY WAITS BEHIND A LOOPING BEACON (document 02, Job 7), on real memory. After any list of calls from an accepted start, where direct evaluation of the oldest
+-- THE OLDEST VERDICT IS READY AFTER SO MANY ROUNDS (document 02, Job 7), on real memory. After any list of calls from an accepted start, where direct evaluation of the oldest
 -- untaken set and of every set before it ends: after as many rounds as firings are owed of working these sets one after another, a take is accepted
--- (`ready-after-rounds`), and such a work there is (`in-turn-exists`, `nobody-waits`). What is owed: InTurn. Assumes an accepted start and nothing else.
+-- (`ready-after-rounds`), and such a work there is (`in-turn-exists`, `oldest-ready-by-rounds`). What is owed: InTurn. Assumes an accepted start and nothing else.
 use Prim.Native.Nat.{ℕ, zero, suc, _+_, _-_, _≤_, _<_}
 use mathlib.Core.Path.{_≡_, refl, sym, ap, ap₂, subst, _∙_}
 use mathlib.Core.Logic.{ite}
@@ -276,7 +276,7 @@ module _ (sheet line : List ℕ) (capacity : ℕ) (memory : List ℕ) (h : start
             let vss = firstOf (suc (length (taken x capacity (T .calls)))) (pushed x capacity (T .calls)) in
             let w = work-to-links x kinds capacity (begun .some) (begun .most) agree lent enough out upToOldest vss oldest-read firings start (startOf x) H g in
             let o = owed-same (inTurn lent out upToOldest firings) (Links-in-turn.inTurn vss firings) (w .1) in
-            let ready = Links-ready.nobody-waits sheet (begun .admissible) capacity (begun .some) (T .calls) (omega (arith, left, results-counted, sets-counted)) firings (w .0) (total rounds)
+            let ready = Links-ready.take-after-rounds sheet (begun .admissible) capacity (begun .some) (T .calls) (omega (arith, left, results-counted, sets-counted)) firings (w .0) (total rounds)
             (omega (arith, l, o)) in
             let q = standing x capacity (T .calls) in
             take-granted x kinds capacity (begun .some) (begun .most) agree lent-take long-take into
@@ -293,13 +293,13 @@ module _ (sheet line : List ℕ) (capacity : ℕ) (memory : List ℕ) (h : start
         ready-after-rounds firings g rounds l = ready-after-runs firings g (rounds ∷ []) (omega (arith, l))
 
         -- "suppose the evaluation of the oldest untaken set, and of every set before it, ends": then there is such a work, and the bound holds of it.
-        pub nobody-waits : 80 ≤ length out
+        pub oldest-ready-by-rounds : 80 ≤ length out
             → ((j : ℕ) → j ≤ length (resultsTaken calls (started sheet line capacity memory .mem)) → Ends sheet line (getD (setsPushed calls (started sheet line capacity memory .mem)) j []))
             → (firings : List (List ℕ)) × LentFits firings × AllAccepted (inTurn lent out upToOldest firings) (started sheet line capacity memory .mem)
             × ((rounds : ℕ) → owed (inTurn lent out upToOldest firings) calls (started sheet line capacity memory .mem) ≤ rounds
             → (lent-rounds : ℕ) → need (sizeOf capacity) ≤ lent-rounds → (lent-take : ℕ) → need (sizeOf capacity) ≤ lent-take → (into : List ℕ) → 80 ≤ length into
             → answerOf (take lent-take into) (memoryAfter (byRounds lent-rounds rounds) (memoryAfterAll calls (started sheet line capacity memory .mem))) .refusal ≡ 0)
-        nobody-waits room ends =
+        oldest-ready-by-rounds room ends =
             let f = in-turn-exists room upToOldest
             (each-of-first sheet line (suc (length (resultsTaken calls start))) (setsPushed calls start) (omega arith) (λ j i. ends j (omega arith))) in
             (f .0, f .1, f .2, ready-after-rounds (f .0) (f .2))

@@ -1,1 +1,1 @@
-// Nothing runs here: that nobody waits behind a looping beacon, on real memory. Laws in specs/.
+// Nothing runs here: after how many rounds the oldest verdict is ready, on real memory. Laws in specs/.

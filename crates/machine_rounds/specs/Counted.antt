@@ -27,9 +27,10 @@ pub record RoundsCount (m : List ℕ) (lent : ℕ) (o : Outcome) : Type 0 where
   pub operators : operatorsOf (o .mem) ≡ operatorsOf m
   -- fewer rounds than lent only where nothing can fire
   pub below : o .answer .rounds < lent → stillAt (o .mem) (sizeIn m) (operatorsOf m) ≡ true
-  -- "36 is given when something can fire after them", and then all lent rounds were made; 0 exactly when nothing can
+  -- "36 is given when something can fire after them", and then all lent rounds were made
   pub unfinished : o .answer .refusal ≡ numberOf Unfinished → (o .answer .rounds ≡ lent) × (stillAt (o .mem) (sizeIn m) (operatorsOf m) ≡ false)
   pub goes-on : stillAt (o .mem) (sizeIn m) (operatorsOf m) ≡ false → o .answer .refusal ≡ numberOf Unfinished
+  -- 0 exactly when nothing can
   pub accepted : o .answer .refusal ≡ 0 → stillAt (o .mem) (sizeIn m) (operatorsOf m) ≡ true
   pub finished : stillAt (o .mem) (sizeIn m) (operatorsOf m) ≡ true → o .answer .refusal ≡ 0
 

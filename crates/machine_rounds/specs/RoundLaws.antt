@@ -76,7 +76,7 @@ module _ (m₀ : List ℕ) (size n : ℕ) (m : List ℕ) (c i : ℕ) (g : Sweepi
 
 -- ---- a round without a firing
 
--- no operator fires twice in a round, and none unfires
+-- a round has at most as many firings as turns
 pub record Between (size k i : ℕ) (m : List ℕ) (c : ℕ) : Type 0 where
   pub from : c ≤ sweep size k i m c .firings
   pub upto : sweep size k i m c .firings ≤ c + k

@@ -178,13 +178,13 @@ module _ (s : List ℕ) (accepted : Admissible s) (capacity : ℕ) (room : 1 ≤
           (λ i m. ap (λ (t : ℕ). t - times i (history x capacity calls)) (times-end i v))
 
   -- "After at most that many rounds its whole result is ready."
-  pub nobody-waits : length (taken (formulaOf s) capacity calls) < length (pushed (formulaOf s) capacity calls) → (lent : List (List ℕ))
+  pub take-after-rounds : length (taken (formulaOf s) capacity calls) < length (pushed (formulaOf s) capacity calls) → (lent : List (List ℕ))
       → AllAccepted (formulaOf s) capacity (inTurn (take (suc (length (taken (formulaOf s) capacity calls))) (pushed (formulaOf s) capacity calls)) lent) (startOf (formulaOf s))
       → (b : ℕ)
       → owed (formulaOf s) (history (formulaOf s) capacity (inTurn (take (suc (length (taken (formulaOf s) capacity calls))) (pushed (formulaOf s) capacity calls)) lent))
       (history (formulaOf s) capacity calls) ≤ b
       → stepsOf (formulaOf s) capacity takes (standing (formulaOf s) capacity (calls ++ roundsOf (formulaOf s) b)) ≡ taking ∷ []
-  nobody-waits left lent g b l = go (pushed x capacity calls) refl left g l
+  take-after-rounds left lent g b l = go (pushed x capacity calls) refl left g l
     where
       count-taken : length (taken x capacity calls) ≡ takes-of (history x capacity calls)
       count-taken = handed-count x capacity (history x capacity calls) (startOf x)

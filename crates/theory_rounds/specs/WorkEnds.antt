@@ -1,5 +1,5 @@
 -- Where evaluation of each set of a list ends, working them one after another is accepted, with any lent numbers that together are large enough for each set: so
--- the bound of document 02, Job 7 (RoundsReady: nobody-waits) is never empty. For every accepted sheet and every capacity from 1 on.
+-- the bound of document 02, Job 7 (RoundsReady: take-after-rounds) is never empty. For every accepted sheet and every capacity from 1 on.
 -- Assumes an admissible sheet, one place a link and sets with a value for each input.
 use Prim.Native.Nat.{ℕ, zero, suc, _+_, _-_, _≤_, _<_}
 use mathlib.Core.Path.{_≡_, refl, sym, _∙_, ap, subst}
@@ -38,7 +38,7 @@ use Rattle.theory_verdicts.specs.RunningLaws.{calls-whole, Each-whole, sets-who
 use Rattle.theory_rounds.specs.InTurn.{roundsOf, inTurn, AllAccepted, times, sumBelow, owed}
 use Rattle.theory_rounds.specs.Shares.{sum-same}
 use Rattle.theory_rounds.specs.TurnLaws.{graph, leads, after-append, steps-append, times-append}
-use Rattle.theory_rounds.specs.RoundsReady.{can-accepted, nobody-waits}
+use Rattle.theory_rounds.specs.RoundsReady.{can-accepted, take-after-rounds}
 use Rattle.theory_rounds.specs.EarlyEnd.{refused-is, ready-when-still}
 use Rattle.theory_rounds.specs.OneSet.{Worked-set, works}
 use Rattle.theory_rounds.specs.RunsFire.{total, Quiet, runs-lead, runs-times}
@@ -166,7 +166,7 @@ module _ (x : Exp) (h : AdmittedE x) (few : countE x .operators ≤ 1024) (capac
   unfolding stepsOf
   quiet-refused q n a = refused-is (firing a) (decAble (places capacity) (operatorAt x a) q) (n a)
 
-  -- What is found out of sets that end: how many firings each needs lent.
+  -- What is found out of sets that end: a number for each that is more than it fires; lent as many firings, its runs end with nothing able to fire.
   pub record Needs (sets : List (List Value)) (q : Links) : Type 0 where
     pub needs : List ℕ
     pub as-many : length needs ≡ length sets
@@ -241,7 +241,7 @@ gathered x (suc k) (v ∷ vss) l f =
     let others = gathered x k vss (omega arith) (λ j i. f (suc j) (omega arith)) in
     (first .0 ∷ others .0, (first .1, others .1))
 
--- "The lent number, of 32 bits"
+-- what a lent number of 32 bits can be
 abbrev pub mostLent : ℕ
 mostLent = 4294967295
 
@@ -307,7 +307,7 @@ module _ (s : List ℕ) (accepted : Admissible s) (capacity : ℕ) (space : 1 �
     pub ready-after-owed : (lent : List (List ℕ)) → Enough (work-ends .needs) lent → (b : ℕ)
         → owed (formulaOf s) (history (formulaOf s) capacity (inTurn upToOldest lent)) (history (formulaOf s) capacity calls) ≤ b
         → stepsOf (formulaOf s) capacity takes (standing (formulaOf s) capacity (calls ++ roundsOf (formulaOf s) b)) ≡ taking ∷ []
-    ready-after-owed lent g b l = nobody-waits s accepted capacity space calls left lent (work-ends .suffice lent g .0) b l
+    ready-after-owed lent g b l = take-after-rounds s accepted capacity space calls left lent (work-ends .suffice lent g .0) b l
 
     -- The same of a run by rounds that is lent b: it makes them all, or ends where nothing can fire.
     pub ready-by-rounds : capacity ≤ 16 → (lent : List (List ℕ)) → Enough (work-ends .needs) lent → (b : ℕ)
