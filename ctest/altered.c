@@ -196,6 +196,7 @@ static void lengths(void) {
     expect("a tray, no memory", bench_push_tray(NULL, 0, five, sizeof five, 1).refusal, BENCH_MEMORY);
     expect("fire, no memory", bench_fire(NULL, 0, 0).refusal, BENCH_MEMORY);
     expect("run, no memory", bench_run(NULL, 0, 1).refusal, BENCH_MEMORY);
+    expect("run by rounds, no memory", bench_run_rounds(NULL, 0, 1).refusal, BENCH_MEMORY);
     expect("take, no memory", bench_take(NULL, 0, out, sizeof out).refusal, BENCH_MEMORY);
     expect("start, no memory", start(&pair, 1, NULL, 0).refusal, BENCH_MEMORY);
     for (uint32_t capacity = 1; capacity <= MOST_CAPACITY; capacity++) {

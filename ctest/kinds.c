@@ -31,6 +31,24 @@ static void expect_held(const char *what, const uint8_t *bytes, size_t count) {
     expect(what, held == count, 1);
 }
 
+/* 11 and 14 come before whatever is wrong with a sheet and its line. */
+static void first_of_all(const char *what, struct lent rows, struct lent line, uint8_t *mem, size_t size) {
+    uint8_t out[BENCH_RESULT_BYTES - 1];
+    memset(out, HELD, sizeof out);
+    bench_evaluate_answer short_out =
+        bench_evaluate(rows.bytes, rows.length, line.bytes, line.length, (const uint8_t *)"x", 1, 0, out, sizeof out);
+    expect(what, short_out.refusal, BENCH_MEMORY);
+    expect(what, short_out.row, 0);
+    bench_start_answer short_memory = bench_start(rows.bytes, rows.length, line.bytes, line.length, 1, mem, size - 1);
+    expect(what, short_memory.refusal, BENCH_MEMORY);
+    expect(what, short_memory.row, 0);
+    bench_start_answer no_capacity = bench_start(rows.bytes, rows.length, line.bytes, line.length, 0, mem, size);
+    expect(what, no_capacity.refusal, BENCH_CAPACITY);
+    expect(what, no_capacity.row, 0);
+    expect_held(what, out, sizeof out);
+    expect_held(what, mem, size);
+}
+
 /* What reading, evaluation and start answer; a refused one leaves all that is lent, whatever else is wrong behind it. */
 static void told(const char *what, const char *sheet, const char *kinds, uint32_t refusal, uint32_t row) {
     struct lent rows = lend_text(sheet), line = lend_text(kinds);
@@ -50,6 +68,7 @@ static void told(const char *what, const char *sheet, const char *kinds, uint32_
     expect(what, evaluated.refusal, refusal == BENCH_ACCEPTED ? BENCH_SET : refusal);
     expect(what, evaluated.row, row);
     expect_held(what, out, sizeof out);
+    first_of_all(what, rows, line, mem, size);
     bench_start_answer started = bench_start(rows.bytes, rows.length, line.bytes, line.length, 1, mem, size);
     expect(what, started.refusal, refusal);
     expect(what, started.row, row);

@@ -62,6 +62,9 @@ static inline void all_refuse(const char *what, uint32_t refusal) {
         expect(what, answers[i].refusal, refusal);
         expect(what, answers[i].count, 0);
     }
+    bench_rounds_answer rounds = bench_run_rounds(memory, length, 10);
+    expect(what, rounds.refusal, refusal);
+    expect(what, rounds.rounds == 0 && rounds.firings == 0, 1);
     expect(what, length == 0 || memcmp(memory, before, length) == 0, 1);
     expect(what, (uint32_t)memcmp(out, held, sizeof out), 0);
     free(before);

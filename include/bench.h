@@ -11,8 +11,8 @@
  *
  * Refusals. `refusal` is 0 where a call is accepted, else one of the numbers below, the first that applies in the order each call gives.
  * A refused call leaves every lent byte as it was, and its other numbers are 0, save `row` where it names a row, a run refused with
- * BENCH_UNFINISHED, which keeps its firings and gives their count, and a tray, which keeps the sets that went in before the refused one and gives
- * their count.
+ * BENCH_UNFINISHED, which keeps its firings and gives their count (one by rounds its rounds too), and a tray, which keeps the sets that went in
+ * before the refused one and gives their count.
  *
  * Values. A value is BENCH_VALUE_BYTES bytes: a tag (BENCH_WHOLE, BENCH_TRUTH or BENCH_ERR) and four bytes, lowest first: a whole number as
  * int32_t, a truth as 0 or 1, an err as its reason, one of BENCH_ERR_... below. Nothing else is a value.
@@ -77,7 +77,7 @@ enum {
     BENCH_FULL = 33,       /* an input link, or the trigger's, full */
     BENCH_NOT_ABLE = 34,   /* the operator is absent or not able to fire */
     BENCH_NO_RESULT = 35,  /* a result port empty, or no set untaken */
-    BENCH_UNFINISHED = 36  /* run: something can still fire after the lent firings; evaluation: more rounds needed than lent */
+    BENCH_UNFINISHED = 36  /* run: something can still fire after the lent firings or rounds; evaluation: more rounds needed than lent */
 };
 
 /* What a result set needs: sixteen values. */
@@ -115,18 +115,24 @@ typedef struct {
     uint32_t count; /* a run's firings, a taken result set's width, a tray's sets that went in, else 0 */
 } bench_answer;
 
+typedef struct {
+    uint32_t refusal;
+    uint32_t rounds;  /* those in which something fired */
+    uint64_t firings; /* in all of them: up to 1,024 a round, which 32 bits need not hold */
+} bench_rounds_answer;
+
 /* Reads a formula sheet with its kinds line. Refusals, in this order: 1 to 9, 17, 18, 10. */
 bench_read_answer bench_read(const uint8_t *sheet, size_t sheet_bytes, const uint8_t *kinds, size_t kinds_bytes);
 
 /*
- * Evaluates a sheet on a set within the lent rounds; a round is one entry into a loop's body. Writes sixteen values to `out`, E past the
+ * Evaluates a sheet with its kinds line on a set within the lent rounds; a round is one entry into a loop's body. Writes sixteen values to `out`, E past the
  * width; bytes of `out` past 80 are left alone. Refusals, in this order: 11 (`out` shorter than 80 bytes), 1 to 9, 17, 18, 10, 12, 36.
  */
 bench_evaluate_answer bench_evaluate(const uint8_t *sheet, size_t sheet_bytes, const uint8_t *kinds, size_t kinds_bytes, const uint8_t *set,
                                      size_t set_bytes, uint32_t rounds, uint8_t *out, size_t out_bytes);
 
 /*
- * Starts an empty machine for a sheet, with links that hold `capacity` tokens, in `memory` (any contents). Refusals, in this order: 11
+ * Starts an empty machine for a sheet with its kinds line, with links that hold `capacity` tokens, in `memory` (any contents). Refusals, in this order: 11
  * (shorter than BENCH_MACHINE_BYTES of the capacity asked, or of 1 where that is outside 1..16), 14, 1 to 9, 17, 18, 10.
  */
 bench_start_answer bench_start(const uint8_t *sheet, size_t sheet_bytes, const uint8_t *kinds, size_t kinds_bytes, uint32_t capacity,
@@ -158,6 +164,13 @@ bench_answer bench_fire(uint8_t *memory, size_t memory_bytes, uint32_t operator_
  * something can still fire after the lent firings, which are kept.
  */
 bench_answer bench_run(uint8_t *memory, size_t memory_bytes, uint32_t firings);
+
+/*
+ * Runs by rounds, up to `rounds` of them: in a round each operator in turn, from 0 on, that is able at its turn fires once. So a set that loops
+ * without end holds up none before it. A round in which nothing fires ends the call and is not counted. Refusals, in this order: 11, 31; 36
+ * where something can still fire after the lent rounds, which are kept.
+ */
+bench_rounds_answer bench_run_rounds(uint8_t *memory, size_t memory_bytes, uint32_t rounds);
 
 /*
  * Takes the result set of the oldest set untaken: sixteen values into `out`, E past the width, which is the answer's count; bytes of

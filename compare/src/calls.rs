@@ -2,7 +2,7 @@
 // "Program and readings").
 
 use crate::bytes::{OUT_BYTES, VALUE_BYTES};
-use crate::memory::{self, Answer, StartAnswer};
+use crate::memory::{self, Answer, RoundsAnswer, StartAnswer};
 
 #[derive(Clone, Copy)]
 pub struct Calls {
@@ -10,6 +10,7 @@ pub struct Calls {
     pub push: fn(&mut [u8], &[u8]) -> Answer,
     pub push_tray: fn(&mut [u8], &[u8], u32) -> Answer,
     pub run: fn(&mut [u8], u32) -> Answer,
+    pub run_rounds: fn(&mut [u8], u32) -> RoundsAnswer,
     pub take: fn(&mut [u8], &mut [u8]) -> Answer,
 }
 
@@ -18,14 +19,15 @@ pub const PLAIN: Calls = Calls {
     push: memory::push,
     push_tray: memory::push_tray,
     run: memory::run,
+    run_rounds: memory::run_rounds,
     take: memory::take,
 };
 
 /// The product's, where it is linked.
 #[cfg(feature = "product")]
 pub fn product() -> Option<Calls> {
-    use crate::product::{push, push_tray, run, start, take};
-    Some(Calls { start, push, push_tray, run, take })
+    use crate::product::{push, push_tray, run, run_rounds, start, take};
+    Some(Calls { start, push, push_tray, run, run_rounds, take })
 }
 
 #[cfg(not(feature = "product"))]

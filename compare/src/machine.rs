@@ -1,5 +1,5 @@
 // The machine (document 01, "The graph", the rules, and "Running"; Brock, section 3.2).
-// Links are queues with a capacity; push, fire, run and take give refusals 32 to 36.
+// Links are queues with a capacity; push, fire, run, a run by rounds (document 02, Job 7) and take give refusals 32 to 36.
 // Memory is never altered from outside here, so refusals 11 and 31 do not arise.
 
 use crate::graph::{Graph, Kind, Link};
@@ -51,8 +51,8 @@ pub struct Machine<'a> {
     graph: &'a Graph,
     capacity: usize,
     queues: Vec<Queue>,
-    /// Whether an FM or FS has fired before.
-    fired: Vec<bool>,
+    /// How often each operator has fired since the start.
+    times: Vec<u64>,
     /// What each FS remembers.
     memory: Vec<Value>,
     /// The operator that emits on a link and the one that takes from it.
@@ -66,6 +66,14 @@ pub struct Machine<'a> {
 pub struct Ran {
     pub refusal: u32,
     pub count: u32,
+}
+
+/// A run by rounds: the rounds in which something fired, their firings, and 36 if something can fire after the lent rounds.
+#[derive(Clone, Copy, PartialEq, Eq, Debug)]
+pub struct RanByRounds {
+    pub refusal: u32,
+    pub rounds: u32,
+    pub firings: u64,
 }
 
 impl<'a> Machine<'a> {
@@ -84,7 +92,7 @@ impl<'a> Machine<'a> {
             graph,
             capacity,
             queues: vec![Queue::EMPTY; graph.links],
-            fired: vec![false; graph.operators.len()],
+            times: vec![0; graph.operators.len()],
             memory: vec![Value::E; graph.operators.len()],
             putter,
             taker,
@@ -168,6 +176,21 @@ impl<'a> Machine<'a> {
         Ran { refusal: 0, count }
     }
 
+    /// "by rounds: operators rising, each that is able at its turn firing once", up to so many rounds.
+    pub fn run_by_rounds(&mut self, lent: u32) -> RanByRounds {
+        let (mut rounds, mut firings) = (0, 0);
+        for _ in 0..lent {
+            let fired = (0..self.graph.operators.len()).filter(|&number| self.fire(number).is_ok()).count();
+            if fired == 0 {
+                break;
+            }
+            rounds += 1;
+            firings += fired as u64;
+        }
+        let able = (0..self.graph.operators.len()).any(|number| self.can_fire(number));
+        RanByRounds { refusal: if able { 36 } else { 0 }, rounds, firings }
+    }
+
     fn least_neighbour(&self, number: usize) -> usize {
         let operator = &self.graph.operators[number];
         let before = operator.inputs.iter().filter_map(|&link| self.putter[link]);
@@ -190,7 +213,7 @@ impl<'a> Machine<'a> {
         if let Some(value) = firing.remembers {
             self.memory[number] = value;
         }
-        self.fired[number] = true;
+        self.times[number] += 1;
     }
 
     /// The firing of an operator, if "every token listed waits and each link it emits on has a free place".
@@ -223,9 +246,9 @@ impl<'a> Machine<'a> {
                 _ => Some(emit([true, false, false], Value::E)),
             },
             Kind::IC => join_control(token(0)?, token(1), token(2)),
-            Kind::FM if !self.fired[number] => Some(emit([false, false, true], token(2)?)),
+            Kind::FM if !self.has_fired(number) => Some(emit([false, false, true], token(2)?)),
             Kind::FM => merge(token(0)?, token(1), token(2)),
-            Kind::FS if !self.fired[number] => Some(remember([false, true, false], token(1)?)),
+            Kind::FS if !self.has_fired(number) => Some(remember([false, true, false], token(1)?)),
             Kind::FS => match token(0)? {
                 Value::Truth(true) => Some(emit([true, false, false], self.memory[number])),
                 _ => Some(remember([true, true, false], token(1)?)),
@@ -240,7 +263,12 @@ impl<'a> Machine<'a> {
     }
 
     pub fn has_fired(&self, number: usize) -> bool {
-        self.fired[number]
+        self.times[number] > 0
+    }
+
+    /// How often each operator has fired since the start.
+    pub fn times(&self) -> &[u64] {
+        &self.times
     }
 
     pub fn untaken(&self) -> u32 {

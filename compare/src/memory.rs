@@ -1,4 +1,4 @@
-// The calls on a machine's memory, over the bytes that docs/MEMORY.md lays out: start, push, a tray, fire, run and take, with the checks
+// The calls on a machine's memory, over the bytes that docs/MEMORY.md lays out: start, push, a tray, fire, run, a run by rounds and take, with the checks
 // of refusals 11 and 31. Plain code for the same memory as the product's, to compare every byte and to measure against. The graph and its numbering
 // are those here.
 
@@ -22,6 +22,15 @@ pub const NO_LINK: usize = 65_535;
 pub struct Answer {
     pub refusal: u32,
     pub count: u32,
+}
+
+/// What a run by rounds answers: the rounds in which something fired, and their firings.
+#[repr(C)]
+#[derive(Clone, Copy, PartialEq, Eq, Debug, Default)]
+pub struct RoundsAnswer {
+    pub refusal: u32,
+    pub rounds: u32,
+    pub firings: u64,
 }
 
 /// What start answers.
@@ -335,7 +344,7 @@ impl<'a> Machine<'a> {
     }
 
     /// Fires the least-numbered able operator again and again; a firing can only wake those that share a link with it.
-    fn run(&mut self, firings: u32) -> Answer {
+    fn run(&mut self, firings: u32, mut each: impl FnMut(usize)) -> Answer {
         let users = self.users();
         let mut awake = Awake::all(self.operators());
         let mut count = 0;
@@ -348,6 +357,7 @@ impl<'a> Machine<'a> {
                 return Answer { refusal: 36, count };
             }
             self.perform(i, &firing);
+            each(i);
             count += 1;
             for port in 0..6 {
                 if let Some(near) = users.get(self.port(i, port)) {
@@ -356,6 +366,34 @@ impl<'a> Machine<'a> {
             }
         }
         Answer { refusal: 0, count }
+    }
+
+    /// At most so many rounds; one in which nothing fires is the last and does not count.
+    fn run_rounds(&mut self, lent: u32, mut each: impl FnMut(usize)) -> RoundsAnswer {
+        let (mut rounds, mut firings) = (0, 0);
+        while rounds < lent {
+            let fired = self.round(&mut each);
+            if fired == 0 {
+                return RoundsAnswer { refusal: 0, rounds, firings };
+            }
+            rounds += 1;
+            firings += fired;
+        }
+        let able = (0..self.operators()).any(|i| self.able(i).is_some());
+        RoundsAnswer { refusal: if able { 36 } else { 0 }, rounds, firings }
+    }
+
+    /// "operators rising, each that is able at its turn firing once": how many fired.
+    fn round(&mut self, each: &mut impl FnMut(usize)) -> u64 {
+        let mut fired = 0;
+        for i in 0..self.operators() {
+            if let Some(firing) = self.able(i) {
+                self.perform(i, &firing);
+                each(i);
+                fired += 1;
+            }
+        }
+        fired
     }
 
     fn users(&self) -> Vec<Vec<u16>> {
@@ -487,9 +525,26 @@ pub fn fire(mem: &mut [u8], operator: u32) -> Answer {
 }
 
 pub fn run(mem: &mut [u8], firings: u32) -> Answer {
+    run_telling(mem, firings, |_| {})
+}
+
+/// A run that tells each operator it fires.
+pub fn run_telling(mem: &mut [u8], firings: u32, each: impl FnMut(usize)) -> Answer {
     match Machine::of(mem) {
-        Ok(mut machine) => machine.run(firings),
+        Ok(mut machine) => machine.run(firings, each),
         Err(answer) => answer,
+    }
+}
+
+pub fn run_rounds(mem: &mut [u8], rounds: u32) -> RoundsAnswer {
+    run_rounds_telling(mem, rounds, |_| {})
+}
+
+/// A run by rounds that tells each operator it fires.
+pub fn run_rounds_telling(mem: &mut [u8], rounds: u32, each: impl FnMut(usize)) -> RoundsAnswer {
+    match Machine::of(mem) {
+        Ok(mut machine) => machine.run_rounds(rounds, each),
+        Err(answer) => RoundsAnswer { refusal: answer.refusal, ..RoundsAnswer::default() },
     }
 }
 

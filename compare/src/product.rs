@@ -2,7 +2,7 @@
 // Assumes that the archive exports them with these C signatures (include/bench.h).
 
 use crate::bytes::{EvaluateAnswer, ReadAnswer};
-use crate::memory::{Answer, StartAnswer};
+use crate::memory::{Answer, RoundsAnswer, StartAnswer};
 
 extern "C" {
     fn bench_read(sheet: *const u8, sheet_len: usize, kinds: *const u8, kinds_len: usize) -> ReadAnswer;
@@ -30,6 +30,7 @@ extern "C" {
     fn bench_push_tray(mem: *mut u8, mem_len: usize, sets: *const u8, sets_len: usize, number: u32) -> Answer;
     fn bench_fire(mem: *mut u8, mem_len: usize, operator: u32) -> Answer;
     fn bench_run(mem: *mut u8, mem_len: usize, firings: u32) -> Answer;
+    fn bench_run_rounds(mem: *mut u8, mem_len: usize, rounds: u32) -> RoundsAnswer;
     fn bench_take(mem: *mut u8, mem_len: usize, out: *mut u8, out_len: usize) -> Answer;
 }
 
@@ -74,6 +75,10 @@ pub fn fire(mem: &mut [u8], operator: u32) -> Answer {
 
 pub fn run(mem: &mut [u8], firings: u32) -> Answer {
     unsafe { bench_run(mem.as_mut_ptr(), mem.len(), firings) }
+}
+
+pub fn run_rounds(mem: &mut [u8], rounds: u32) -> RoundsAnswer {
+    unsafe { bench_run_rounds(mem.as_mut_ptr(), mem.len(), rounds) }
 }
 
 pub fn take(mem: &mut [u8], out: &mut [u8]) -> Answer {

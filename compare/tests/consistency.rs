@@ -1,10 +1,12 @@
-// Demand 3 on random sheets and sets: at every capacity, in any order of pushes, firings, runs and takes, the machine
-// gives what direct evaluation gives. And what the papers say of a machine at rest.
+// Demand 3 on random sheets and sets: at every capacity, in any order of pushes, firings, runs of both sorts and takes, the machine
+// gives what direct evaluation gives. And what the papers say of a machine at rest, and of how long a set waits.
 
 use compare::bench::{bench, write_set};
+use compare::bytes::{encode_result, encode_set, OUT_BYTES};
 use compare::eval::evaluate;
 use compare::graph::{build, Graph, Kind};
-use compare::machine::{Machine, Ran};
+use compare::machine::{Machine, Ran, RanByRounds};
+use compare::memory::{self, RoundsAnswer};
 use compare::random::{accepted_sheet, fitting_set, heavy_sheet, Made, Rng};
 use compare::sheet::Sheet;
 use compare::value::{ResultSet, Value};
@@ -40,7 +42,8 @@ fn follow(case: &Case, capacity: usize, calls: usize, rng: &mut Rng) -> usize {
     for _ in 0..calls {
         match rng.below(10) {
             0..=2 if pushed < case.sets.len() => pushed += usize::from(machine.push(&case.sets[pushed]).is_ok()),
-            3 => drop(machine.run(rng.below(60) as u32)),
+            3 if rng.chance(50) => drop(machine.run(rng.below(60) as u32)),
+            3 => drop(machine.run_by_rounds(rng.below(12) as u32)),
             4 | 5 => taken += usize::from(take(case, &mut machine, taken)),
             _ => drop(machine.fire(rng.below(case.graph.operators.len() + 1))),
         }
@@ -200,4 +203,113 @@ fn run_fires_the_least_numbered_able_operator() {
             assert_eq!(quick.waiting(link), plain.waiting(link));
         }
     }
+}
+
+/// How often a wait was held to its bound, how often a set behind it does not end, and how often one round less was too few.
+#[derive(Default)]
+struct Waits {
+    held: u32,
+    looping: u32,
+    exact: u32,
+}
+
+/// Document 02, Job 7: where the oldest untaken set's evaluation and that of every set before it ends, "After at most that many rounds its whole
+/// result is ready."
+#[test]
+fn nobody_waits_longer_than_what_is_owed() {
+    let mut rng = Rng::new(7_007);
+    let mut waits = Waits::default();
+    for round in 0..3_000 {
+        let case = case(round % 50 == 0, &mut rng);
+        wait(&case, round % 16 + 1, &mut waits, &mut rng);
+    }
+    let Waits { held, looping, exact } = waits;
+    assert!(held > 4_000 && looping > 200 && exact > 50, "too few: {held}, {looping}, {exact}");
+}
+
+fn wait(case: &Case, capacity: usize, waits: &mut Waits, rng: &mut Rng) {
+    let mut machine = Machine::start(&case.graph, capacity).expect("a capacity in its range");
+    let (mut pushed, mut taken) = (0, 0);
+    for _ in 0..rng.pick(&[10, 60, 300]) {
+        match rng.below(12) {
+            0..=3 if pushed < case.sets.len() => pushed += usize::from(machine.push(&case.sets[pushed]).is_ok()),
+            4 => drop(machine.run(rng.below(60) as u32)),
+            5 => drop(machine.run_by_rounds(rng.below(6) as u32)),
+            6 => taken += usize::from(take(case, &mut machine, taken)),
+            7 if rng.chance(30) => ready_after_rounds(case, capacity, &machine, (pushed, taken), waits),
+            _ => drop(machine.fire(rng.below(case.graph.operators.len() + 1))),
+        }
+    }
+}
+
+fn ready_after_rounds(
+    case: &Case,
+    capacity: usize,
+    machine: &Machine,
+    (pushed, taken): (usize, usize),
+    waits: &mut Waits,
+) {
+    if taken == pushed || case.expected[..=taken].iter().any(Option::is_none) {
+        return;
+    }
+    let owed = owed(case, capacity, machine, taken);
+    let ready = |rounds: u32| {
+        let mut copy = machine.clone();
+        copy.run_by_rounds(rounds);
+        take(case, &mut copy, taken)
+    };
+    assert!(ready(owed), "{owed} rounds\n{}", String::from_utf8_lossy(&case.made.bytes));
+    waits.held += 1;
+    waits.looping += u32::from(case.expected[taken + 1..pushed].iter().any(Option::is_none));
+    waits.exact += u32::from(owed > 0 && !ready(owed - 1));
+}
+
+/// "Count the firings that working one set after another would make up to and including that set, less those of them already made": operator by
+/// operator, by a second machine worked in turn.
+fn owed(case: &Case, capacity: usize, machine: &Machine, taken: usize) -> u32 {
+    let mut in_turn = Machine::start(&case.graph, capacity).expect("a capacity in its range");
+    for set in &case.sets[..=taken] {
+        in_turn.push(set).expect("a machine at rest");
+        assert_eq!(in_turn.run(10_000_000).refusal, 0);
+        in_turn.take().expect("a whole result");
+    }
+    let left = in_turn.times().iter().zip(machine.times()).map(|(there, here)| there.saturating_sub(*here));
+    left.sum::<u64>() as u32
+}
+
+/// The two machines here run by the same rounds: the one over bytes and the one over queues.
+#[test]
+fn rounds_on_bytes_are_those_on_queues() {
+    let mut rng = Rng::new(70);
+    let mut fired = 0;
+    for round in 0..600 {
+        let mut case = case(round % 50 == 0, &mut rng);
+        case.graph = build(&case.sheet);
+        fired += rounds_on_both(&case, round % 16 + 1, &mut rng);
+    }
+    assert!(fired > 50_000, "too few firings were compared: {fired}");
+}
+
+fn rounds_on_both(case: &Case, capacity: usize, rng: &mut Rng) -> u64 {
+    let mut machine = Machine::start(&case.graph, capacity).expect("a capacity in its range");
+    let mut mem = vec![0; memory::need(capacity)];
+    assert_eq!(memory::start(&case.made.bytes, &case.made.kinds, capacity as u32, &mut mem).refusal, 0);
+    let (mut out, mut all) = ([0; OUT_BYTES], 0);
+    for set in &case.sets {
+        let pushed = machine.push(set).map_or_else(|refusal| refusal.number, |()| 0);
+        assert_eq!(memory::push(&mut mem, &encode_set(set)).refusal, pushed);
+        let lent = rng.pick(&[0, 1, 2, 5, 40]);
+        let RanByRounds { refusal, rounds, firings } = machine.run_by_rounds(lent);
+        assert_eq!(memory::run_rounds(&mut mem, lent), RoundsAnswer { refusal, rounds, firings });
+        assert!(if refusal == 36 { rounds == lent } else { rounds <= lent });
+        all += firings;
+        match machine.take() {
+            Ok(result) => {
+                assert_eq!(memory::take(&mut mem, &mut out).count, result.width as u32);
+                assert_eq!(out, encode_result(&result)[..]);
+            }
+            Err(refusal) => assert_eq!(memory::take(&mut mem, &mut out).refusal, refusal.number),
+        }
+    }
+    all
 }

@@ -4,7 +4,7 @@ use compare::bench::bench;
 use compare::bytes::{encode_set, OUT_BYTES, VALUE_BYTES};
 use compare::eval::evaluate;
 use compare::graph::build;
-use compare::machine::Machine;
+use compare::machine::{Machine, RanByRounds};
 use compare::memory::{self, Answer};
 use compare::sheet::{read, write, Figures, Refusal, Sheet};
 use compare::value::Value::{self, Truth, Whole};
@@ -244,6 +244,57 @@ fn negated(value: Value) -> Value {
     }
 }
 
+/// Document 02, Job 7: "operators rising, each that is able at its turn firing once", "counting only rounds in which something fired".
+#[test]
+fn a_round_fires_each_operator_that_is_able_at_its_turn() {
+    let sheet = accepted(&negations(4), "W");
+    // each operator before the one that takes its token
+    let mut graph = build(&sheet);
+    graph.operators.reverse();
+    let mut machine = Machine::start(&graph, 2).expect("a capacity in its range");
+    let ran = |refusal, rounds, firings| RanByRounds { refusal, rounds, firings };
+    assert_eq!(machine.run_by_rounds(5), ran(0, 0, 0));
+    for number in [4, 5] {
+        machine.push(&[Whole(number)]).expect("free input links");
+    }
+    assert_eq!(machine.run_by_rounds(0), ran(36, 0, 0));
+    // each of the three makes the next able in the same round
+    assert_eq!(machine.run_by_rounds(1), ran(36, 1, 3));
+    assert_eq!(machine.clone().run_by_rounds(1), ran(0, 1, 3));
+    assert_eq!(machine.run_by_rounds(u32::MAX), ran(0, 1, 3));
+    assert_eq!(machine.times(), [2, 2, 2]);
+    // the other way round a token moves by one operator a round
+    graph.operators.reverse();
+    let mut machine = Machine::start(&graph, 2).expect("a capacity in its range");
+    machine.push(&[Whole(4)]).expect("free input links");
+    assert_eq!(machine.run_by_rounds(3), ran(0, 3, 3));
+}
+
+/// Document 02, Job 7: "One set with an unending loop can keep the least-numbered operators busy while an older verdict is pending."
+#[test]
+fn an_older_verdict_is_ready_beside_a_looping_set() {
+    // not not (for x = x do if x then iter x else x): true loops without end, false ends at once
+    let loops = [[1, 0, 0, 0, 0], [1, 0, 0, 0, 0], [1, 0, 0, 0, 0], [9, 3, 0, 0, 0], [1, 0, 0, 0, 0]];
+    let rest = [[7, 2, 4, 5, 0], [8, 0, 1, 1, 6], [5, 10, 7, 0, 0], [5, 10, 8, 0, 0]];
+    let sheet = accepted(&[&loops[..], &rest[..]].concat(), "T");
+    // the loop's operators before the two that are behind it
+    let mut graph = build(&sheet);
+    graph.operators.reverse();
+    let mut machine = Machine::start(&graph, 2).expect("a capacity in its range");
+    machine.push(&[Truth(false)]).expect("a machine at rest");
+    let alone = machine.clone().run(1000).count;
+    machine.push(&[Truth(true)]).expect("a free place on each input link");
+    let mut by_rounds = machine.clone();
+    assert_eq!(machine.run(1_000_000).refusal, 36);
+    assert_eq!(machine.take(), refusal(35));
+    // nothing was made yet, so all the firings of the first set alone are owed
+    assert_eq!(by_rounds.run_by_rounds(alone).refusal, 36);
+    assert_eq!(by_rounds.take().expect("a whole result").used(), [Truth(false)]);
+    // after the run something is left to make, and rounds make it
+    machine.run_by_rounds(alone);
+    assert_eq!(machine.take().expect("a whole result").used(), [Truth(false)]);
+}
+
 /// A body if whose arms are both iters, on a test that is no truth: "each is a copy of that third output".
 #[test]
 fn an_if_of_two_iters_ends_with_errs_on_a_bad_test() {
@@ -381,14 +432,14 @@ fn bench_refusals() {
     assert_eq!(print(&identity, &vec![b' '; 65_537]), "    13     0\n");
     assert_eq!(print(&identity, b"          1\n          2"), "    12     2\n");
     assert_eq!(print(&identity, b"-2147483648\n 2147483647\n"), "     1     1     2\n-2147483648\n 2147483647\n");
-    for bad in ["-2147483649", " 2147483648", "         -0", "         01", "           ", "         1 ", "          t"]
-    {
+    for bad in ["-2147483649", " 2147483648", "         -0", "         01", "           ", "         1 "] {
         assert_eq!(
             print(&identity, format!("          1\n{bad}\n          1\n").as_bytes()),
             "    12     2\n",
             "{bad}"
         );
     }
+    assert_eq!(print_with(&identity, b"T\n", b"          T\n          t\n"), "    12     2\n");
     for bad in ["          z", "          v", "         ZV", "         -Z", "Z          ", "         Z0"] {
         assert_eq!(print(&identity, format!("          Z\n{bad}\n").as_bytes()), "    12     2\n", "{bad}");
     }

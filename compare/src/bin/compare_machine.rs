@@ -1,12 +1,12 @@
 // Runs random lists of calls through the product's machine and through the plain one here, on the same bytes, and stops at the first difference, which it
 // prints. After every call the answers and every byte must agree; bytes past the lent ones must be as they were. A tray must answer and leave what the
 // product's pushes one by one do. Where nothing but calls wrote the memory, each result taken must also be what direct evaluation gives for the set
-// pushed (demand 3).
+// pushed (demand 3), and the oldest untaken set waits no more rounds than the firings that it is owed (document 02, Job 7).
 // Usage: compare_machine CASES SEED [FIRST]. `compare_machine 1 SEED NUMBER` makes a case again.
 
 use compare::arguments::Cases;
 use compare::bytes::{self, OUT_BYTES, VALUE_BYTES};
-use compare::memory::{self, Answer, LETTERS, MOST_LINKS};
+use compare::memory::{self, Answer, RoundsAnswer, LETTERS, MOST_LINKS};
 use compare::random::faults::{plant, PLANTABLE};
 use compare::random::{accepted_sheet, heavy_sheet, random_err, random_set, random_value, Made, Rng};
 use compare::sheet::{self, Sheet};
@@ -17,6 +17,16 @@ use std::{env, process};
 
 /// The rounds within which an evaluation is looked for.
 const ROUNDS: u32 = 2_000;
+
+/// The firings within which a set is worked in turn, and the most rounds that a wait is followed for.
+const FIRINGS: u32 = 50_000;
+const MOST_WAIT: u64 = 1_000;
+
+/// The most rounds lent to a machine that may go on without end.
+const MANY_ROUNDS: u32 = 300;
+
+/// How many calls in a hundred are followed by a look at how long the oldest untaken set waits.
+const WAITS: usize = 10;
 
 /// Bytes behind the lent ones.
 const MARGIN: usize = 32;
@@ -60,13 +70,56 @@ fn random_sheet(number: u64, rng: &mut Rng) -> Made {
     }
 }
 
-/// A machine under comparison: its memory, and the sets pushed and not yet taken while nothing else wrote it.
+/// A machine under comparison: its memory, the sets pushed and not yet taken while nothing else wrote it, and how often each operator has fired. Beside it
+/// a second machine, on which the same sets are worked one after another, each whole before the next goes in.
 struct Run<'a> {
     sheet: &'a Sheet,
     mem: Vec<u8>,
     pushed: VecDeque<Vec<u8>>,
+    times: Vec<u64>,
+    in_turn: InTurn,
+    taken: usize,
     altered: bool,
     counts: &'a mut Counts,
+}
+
+/// The second machine: its memory, how often each operator has fired, and the sets worked; none where one of them does not end.
+struct InTurn {
+    mem: Vec<u8>,
+    times: Vec<u64>,
+    worked: Option<usize>,
+}
+
+impl InTurn {
+    /// Works the next set whole.
+    fn work(&mut self, set: &[u8]) {
+        let Some(worked) = self.worked else { return };
+        let pushed = memory::push(&mut self.mem, set);
+        let ran = memory::run_telling(&mut self.mem, FIRINGS, |operator| self.times[operator] += 1);
+        let taken = memory::take(&mut self.mem, &mut [0; OUT_BYTES]);
+        let whole = (pushed.refusal, ran.refusal, taken.refusal) == (0, 0, 0);
+        self.worked = whole.then_some(worked + 1);
+    }
+}
+
+/// A call's answer: of a run by rounds the count is that of its rounds.
+#[derive(Clone, Copy, PartialEq, Debug)]
+struct Told {
+    refusal: u32,
+    count: u32,
+    firings: u64,
+}
+
+impl From<Answer> for Told {
+    fn from(Answer { refusal, count }: Answer) -> Told {
+        Told { refusal, count, firings: 0 }
+    }
+}
+
+impl From<RoundsAnswer> for Told {
+    fn from(RoundsAnswer { refusal, rounds, firings }: RoundsAnswer) -> Told {
+        Told { refusal, count: rounds, firings }
+    }
 }
 
 /// What a call is lent on one side: so many bytes of a memory, and room for a result.
@@ -87,8 +140,8 @@ impl Side {
 /// A call's answers here and in the product, and its sets: of a push the one pushed, of a tray those that went in.
 struct Called {
     name: &'static str,
-    ours: Answer,
-    theirs: Answer,
+    ours: Told,
+    theirs: Told,
     sets: Vec<Vec<u8>>,
 }
 
@@ -114,7 +167,10 @@ fn compare_case(number: u64, made: &Made, counts: &mut Counts, rng: &mut Rng) ->
     }
     // The product's own graph, and now and then the one made here: the calls must do with both.
     let mem = if number % 4 == 3 { plain } else { mem };
-    let mut run = Run { sheet: &sheet, mem, pushed: VecDeque::new(), altered: false, counts };
+    let times = vec![0; sheet.figures.operators as usize];
+    let in_turn = InTurn { mem: mem[..length].to_vec(), times: times.clone(), worked: Some(0) };
+    let (pushed, altered) = (VecDeque::new(), false);
+    let mut run = Run { sheet: &sheet, mem, pushed, times, in_turn, taken: 0, altered, counts };
     let alters = rng.chance(40);
     for _ in 0..rng.between(10, 80) {
         if alters && rng.chance(15) {
@@ -122,6 +178,9 @@ fn compare_case(number: u64, made: &Made, counts: &mut Counts, rng: &mut Rng) ->
             run.altered = true;
         }
         run.call(length, rng)?;
+        if rng.chance(WAITS) && !run.altered {
+            run.wait(length)?;
+        }
     }
     Ok(())
 }
@@ -161,41 +220,93 @@ impl Run<'_> {
         if rng.chance(60) {
             let set = self.random_set(rng);
             let (ours, theirs) = (memory::push(plain.memory(), &set), product::push(product.memory(), &set));
-            return Ok(Called { name: "push", ours, theirs, sets: vec![set] });
+            return Ok(Called { name: "push", ours: ours.into(), theirs: theirs.into(), sets: vec![set] });
         }
         let (bytes, number) = self.random_tray(rng);
         let ours = memory::push_tray(plain.memory(), &bytes, number);
         let theirs = product::push_tray(product.memory(), &bytes, number);
         let sets = self.one_by_one(&bytes, number, theirs, product)?;
-        Ok(Called { name: "tray", ours, theirs, sets })
+        Ok(Called { name: "tray", ours: ours.into(), theirs: theirs.into(), sets })
     }
 
-    /// A fire, a run or a take.
-    fn drive_both(&self, plain: &mut Side, product: &mut Side, rng: &mut Rng) -> Called {
-        let (name, ours, theirs) = match rng.below(7) {
+    /// A fire, a run of either sort or a take.
+    fn drive_both(&mut self, plain: &mut Side, product: &mut Side, rng: &mut Rng) -> Called {
+        let (name, ours, theirs): (_, Told, Told) = match rng.below(9) {
             0 | 1 => {
-                let operators = self.sheet.figures.operators.max(1);
-                let number = if rng.chance(90) {
-                    rng.below(operators as usize) as u32
-                } else {
-                    rng.pick(&[0, operators - 1, operators, u32::MAX])
-                };
-                ("fire", memory::fire(plain.memory(), number), product::fire(product.memory(), number))
+                let number = self.random_operator(rng);
+                let ours = memory::fire(plain.memory(), number);
+                if ours.refusal == 0 {
+                    self.count_firing(number as usize);
+                }
+                ("fire", ours.into(), product::fire(product.memory(), number).into())
             }
             2 | 3 => {
                 let firings = rng.pick(&[0, 1, 2, 7, 50, 1000, 20_000]);
-                ("run", memory::run(plain.memory(), firings), product::run(product.memory(), firings))
+                let ours = memory::run_telling(plain.memory(), firings, |operator| self.count_firing(operator));
+                ("run", ours.into(), product::run(product.memory(), firings).into())
+            }
+            4 | 5 => {
+                let rounds = random_rounds(&plain.mem[..plain.lent], rng);
+                let ours = memory::run_rounds_telling(plain.memory(), rounds, |operator| self.count_firing(operator));
+                ("rounds", ours.into(), product::run_rounds(product.memory(), rounds).into())
             }
             _ => {
                 let ours = memory::take(&mut plain.mem[..plain.lent], &mut plain.out[..plain.room]);
-                ("take", ours, product::take(&mut product.mem[..product.lent], &mut product.out[..product.room]))
+                let theirs = product::take(&mut product.mem[..product.lent], &mut product.out[..product.room]);
+                ("take", ours.into(), theirs.into())
             }
         };
         Called { name, ours, theirs, sets: vec![] }
     }
 
+    fn random_operator(&self, rng: &mut Rng) -> u32 {
+        let operators = self.sheet.figures.operators.max(1);
+        if rng.chance(90) {
+            rng.below(operators as usize) as u32
+        } else {
+            rng.pick(&[0, operators - 1, operators, u32::MAX])
+        }
+    }
+
+    /// The second machine then has worked the sets taken and the oldest untaken one.
+    fn work_oldest(&mut self) {
+        if let (Some(worked), Some(set)) = (self.in_turn.worked, self.pushed.front()) {
+            if worked == self.taken {
+                self.in_turn.work(set);
+            }
+        }
+    }
+
+    /// Altered memory may have other operators; how often they fire nobody asks.
+    fn count_firing(&mut self, operator: usize) {
+        if let Some(times) = self.times.get_mut(operator) {
+            *times += 1;
+        }
+    }
+
+    /// Document 02, Job 7: "Count the firings that working one set after another would make up to and including that set, less those of them already
+    /// made. After at most that many rounds its whole result is ready."
+    fn wait(&mut self, length: usize) -> Result<(), String> {
+        self.work_oldest();
+        let left = self.in_turn.times.iter().zip(&self.times).map(|(there, here)| there.saturating_sub(*here));
+        let owed = left.sum::<u64>();
+        if self.in_turn.worked.is_none() || self.pushed.is_empty() || owed > MOST_WAIT {
+            return Ok(());
+        }
+        let mut mem = self.mem[..length].to_vec();
+        let ran = product::run_rounds(&mut mem, owed as u32);
+        let count = if ran.refusal == 36 { "waits with more to do" } else { "waits" };
+        *self.counts.entry(count.into()).or_default() += 1;
+        match product::take(&mut mem, &mut [0; OUT_BYTES]).refusal {
+            0 => Ok(()),
+            refusal => Err(format!(
+                "after the {owed} rounds that the oldest untaken set is owed, {ran:?}, take gives {refusal}"
+            )),
+        }
+    }
+
     /// Demand 3: the result taken is that of the oldest set untaken. A tray's sets that went in are pushed, also beside a refusal.
-    fn follow(&mut self, name: &str, answer: Answer, sets: Vec<Vec<u8>>, out: &[u8]) -> Result<(), String> {
+    fn follow(&mut self, name: &str, answer: Told, sets: Vec<Vec<u8>>, out: &[u8]) -> Result<(), String> {
         if self.altered {
             return Ok(());
         }
@@ -205,7 +316,9 @@ impl Run<'_> {
         if name != "take" || answer.refusal != 0 {
             return Ok(());
         }
+        self.work_oldest();
         let set = self.pushed.pop_front().ok_or("a result was taken that no set was pushed for")?;
+        self.taken += 1;
         let values = bytes::decode_set(&set).ok_or("a bad set was accepted")?;
         if let Ok(done) = eval::evaluate(self.sheet, &values, ROUNDS) {
             *self.counts.entry("results held to evaluation".into()).or_default() += 1;
@@ -235,7 +348,7 @@ impl Run<'_> {
         self.count_tray(number, pushes);
         match pushes == tray && mem == left.mem {
             true => Ok(went_in),
-            false => Err(format!("a tray of {number}: {}", difference(pushes, tray, &mem, &left.mem))),
+            false => Err(format!("a tray of {number}: {}", difference(pushes.into(), tray.into(), &mem, &left.mem))),
         }
     }
 
@@ -285,9 +398,20 @@ impl Run<'_> {
     }
 }
 
-fn difference(ours: Answer, theirs: Answer, plain: &[u8], mem: &[u8]) -> String {
+fn difference(ours: Told, theirs: Told, plain: &[u8], mem: &[u8]) -> String {
     let places: Vec<usize> = (0..mem.len()).filter(|&at| mem[at] != plain[at]).take(8).collect();
     format!("here {ours:?}, the product answers {theirs:?}; bytes differ at {places:?}")
+}
+
+/// The greatest number only where far fewer rounds end it.
+fn random_rounds(mem: &[u8], rng: &mut Rng) -> u32 {
+    let rounds = rng.pick(&[0, 1, 2, 3, 7, 50, MANY_ROUNDS, u32::MAX]);
+    let ends = || memory::run_rounds(&mut mem.to_vec(), MANY_ROUNDS).refusal != 36;
+    if rounds < u32::MAX || ends() {
+        rounds
+    } else {
+        MANY_ROUNDS
+    }
 }
 
 /// A change of one figure: header, letter, record, register, length or token, to a value about its range.

@@ -54,7 +54,8 @@ fn report(name: &str, steps: u32, ours: &mut dyn FnMut() -> u32, product: &mut O
     ]);
 }
 
-/// The calls on a machine at capacity 2: a start; a run of as many sets as fit, by the firing; a take with the push of another set.
+/// The calls on a machine at capacity 2: a start; a run of as many sets as fit, by the firing; the same by rounds, by the round; a take with the push of
+/// another set.
 fn machine(name: &str, made: &Made, set: &[u8]) {
     let start = calls::product().unwrap_or(PLAIN).start;
     let mut fresh = vec![0; memory::need(2)];
@@ -79,6 +80,11 @@ fn machine(name: &str, made: &Made, set: &[u8]) {
         &mut product,
     );
 
+    let ran = memory::run_rounds(&mut loaded.clone(), ROUNDS);
+    let mut product = calls::product().map(|calls| running_by_rounds(calls, &loaded));
+    let made = format!("{} rounds, {} firings", grouped(ran.rounds.into()), grouped(ran.firings as f64));
+    report(&format!("run, a round: {name} ({made})"), ran.rounds, &mut running_by_rounds(PLAIN, &loaded), &mut product);
+
     let mut done = fresh.clone();
     memory::push(&mut done, set);
     memory::run(&mut done, FIRINGS);
@@ -87,6 +93,9 @@ fn machine(name: &str, made: &Made, set: &[u8]) {
 }
 
 const FIRINGS: u32 = 1_000_000;
+
+/// The lent rounds, enough for every set that is timed.
+const ROUNDS: u32 = 1_000_000;
 
 /// A tray of as many sets as an empty machine of capacity 16 takes, here and the product's, beside the product's pushes one by one.
 fn tray(name: &str, made: &Made, set: &[u8]) {
@@ -134,6 +143,14 @@ fn running(calls: Calls, loaded: &[u8]) -> Call<'_> {
     Box::new(move || {
         restore(&mut mem, loaded);
         (calls.run)(&mut mem, FIRINGS).count
+    })
+}
+
+fn running_by_rounds(calls: Calls, loaded: &[u8]) -> Call<'_> {
+    let mut mem = loaded.to_vec();
+    Box::new(move || {
+        restore(&mut mem, loaded);
+        (calls.run_rounds)(&mut mem, ROUNDS).rounds
     })
 }
 

@@ -14,7 +14,7 @@ const PATTERN: u8 = 0xa5;
 const ROUNDS: u32 = 1000;
 const FIRINGS: u32 = 10_000;
 const MOST_ROWS: usize = 200;
-const CALLS: [&str; 8] = ["read", "evaluate", "start", "push", "tray", "fire", "run", "take"];
+const CALLS: [&str; 9] = ["read", "evaluate", "start", "push", "tray", "fire", "run", "rounds", "take"];
 
 type Row = [u32; 5];
 
@@ -54,9 +54,11 @@ fn measure(made: &Made, value: Value) -> [usize; CALLS.len()] {
     let tray = below(|| product::push_tray(&mut copy, &set, 1).refusal);
     let push = below(|| product::push(&mut mem, &set).refusal);
     let fire = deepest_fire(&mem, product::start(sheet, kinds, 1, &mut mem.clone()).operators);
+    let mut copy = mem.clone();
+    let rounds = below(|| product::run_rounds(&mut copy, FIRINGS).refusal);
     let run = below(|| product::run(&mut mem, FIRINGS).refusal);
     let take = below(|| product::take(&mut mem, &mut out).refusal);
-    [read, evaluate, start, push, tray, fire, run, take]
+    [read, evaluate, start, push, tray, fire, run, rounds, take]
 }
 
 /// The most that firing any one operator takes, able or not.

@@ -1,4 +1,4 @@
-// The cases of tests 17 and 18 (document 02, Job 6). See the list above for how they are held to the reader.
+// The cases of tests 17 and 18 (document 02, Job 6). See ../cases.rs for how they are held to the reader.
 
 use super::rules::nest;
 use super::{lesser, List};
@@ -38,7 +38,7 @@ pub fn lines(list: &mut List) {
         list.refused_with(17, 0, &format!("kinds line: {what}"), write(&lesser()), line);
     }
     list.refused_with(17, 0, "kinds line: a bad letter beside one that breaks row 4", write(&lesser()), b"TX\n");
-    list.refused_with(17, 0, "kinds line: too many letters, and over 1,024 operators", write(&nest(29, 24)), b"W\n");
+    list.refused_with(17, 0, "kinds line: too few letters, and over 1,024 operators", write(&nest(29, 24)), b"W\n");
     list.refused_with(9, 3, "let x = 1 in 2 with no kinds line", write(&[ONE, ONE, [6, 0, 1, 1, 2]]), b"");
     list.refused_with(17, 0, "no inputs: an empty line", write(&[ONE]), b"");
     list.refused_with(17, 0, "no inputs: a letter", write(&[ONE]), b"W\n");

@@ -13,13 +13,14 @@ use Rattle.graph.specs.Translation.{madeOf}
 use Rattle.machine_calls.specs.Calls.{answers}
 use Rattle.theory_verdicts.specs.Running.{afterSteps, stepsFrom}
 use Rattle.demand_view.specs.Stands.{Stands}
-use Rattle.demand.specs.MemoryCalls.{Call, push, tray, fire, run, take, answerOf, memoryAfter, setOf, resultOf, memoryAfterAll, answersOf, setsPushed, resultsTaken}
+use Rattle.demand.specs.MemoryCalls.{Call, push, tray, fire, run, byRounds, take, answerOf, memoryAfter, setOf, resultOf, memoryAfterAll, answersOf, setsPushed, resultsTaken}
 use Rattle.demand.specs.Agree.{CallsAgree}
 use Rattle.demand.specs.Followed.{Follows, Unaltered, follows-none, follows-then}
 use Rattle.demand.specs.FollowPush.{push-follows}
 use Rattle.demand.specs.FollowTray.{tray-follows}
 use Rattle.demand.specs.FollowFire.{fire-follows}
 use Rattle.demand.specs.FollowRun.{run-follows}
+use Rattle.demand.specs.FollowRounds.{rounds-follow}
 use Rattle.demand.specs.FollowTake.{take-follows}
 
 module _ (x : Exp) (kinds : List ℕ) (capacity : ℕ) (low : 1 ≤ capacity) (high : capacity ≤ 16) (A : CallsAgree x kinds capacity) where
@@ -31,6 +32,7 @@ module _ (x : Exp) (kinds : List ℕ) (capacity : ℕ) (low : 1 ≤ capacity) (h
   call-follows m q H (tray lent sets number) = tray-follows x kinds capacity low high A m q H lent sets number
   call-follows m q H (fire lent operator) = fire-follows x kinds capacity low high A m q H lent operator
   call-follows m q H (run lent firings) = run-follows x kinds capacity low high A m q H lent firings
+  call-follows m q H (byRounds lent rounds) = rounds-follow x kinds capacity low high A m q H lent rounds
   call-follows m q H (take lent out) = take-follows x kinds capacity low high A m q H lent out
 
   -- ---- a list of calls

@@ -37,6 +37,37 @@ shownTokens ts = shown (valuesIn ts)
 abbrev pub Unaltered : ℕ → Type 0
 Unaltered r = r ≢ numberOf Altered
 
+module _ (x : Exp) (capacity : ℕ) where
+  -- ---- steps one after the other
+
+  pub after-append : (w u : List Step) (q : Links) → afterSteps x (w ++ u) q ≡ afterSteps x u (afterSteps x w q)
+  after-append [] u q = refl
+  after-append (s ∷ w) u q = after-append w u (act (demandOf x s) q)
+
+  sets-append : (w u : List Step) → sets-of (w ++ u) ≡ sets-of w ++ sets-of u
+  sets-append [] u = refl
+  sets-append (pushing v ∷ w) u = ap (λ (z : List (List Value)). v ∷ z) (sets-append w u)
+  sets-append (firing a ∷ w) u = sets-append w u
+  sets-append (taking ∷ w) u = sets-append w u
+
+  handed-append : (w u : List Step) (q : Links) → handed x (w ++ u) q ≡ handed x w q ++ handed x u (afterSteps x w q)
+  handed-append [] u q = refl
+  handed-append (pushing v ∷ w) u q = handed-append w u (act (pushOf x v) q)
+  handed-append (firing a ∷ w) u q = handed-append w u (act (operatorAt x a) q)
+  handed-append (taking ∷ w) u q = ap (λ (z : List (List Token)). label (takeOf x) q ∷ z) (handed-append w u (act (takeOf x) q))
+
+  pub steps-append : (a b : List Abstract.Call) (q : Links)
+      → stepsFrom x capacity (a ++ b) q ≡ stepsFrom x capacity a q ++ stepsFrom x capacity b (afterSteps x (stepsFrom x capacity a q) q)
+  unfolding stepsFrom
+  steps-append [] b q = refl
+  steps-append (c ∷ a) b q =
+      let w = stepsOf x capacity c q in
+      let r = afterSteps x w q in
+      let u = stepsFrom x capacity a r in
+      ap (λ (z : List Step). w ++ z) (steps-append a b r)
+      ∙ sym (append-assoc w u (stepsFrom x capacity b (afterSteps x u r)))
+      ∙ ap (λ (z : Links). (w ++ u) ++ stepsFrom x capacity b z) (sym (after-append w u q))
+
 module _ (x : Exp) (kinds : List ℕ) (capacity : ℕ) where
   -- ---- what follows the bytes
 
@@ -70,36 +101,6 @@ module _ (x : Exp) (kinds : List ℕ) (capacity : ℕ) where
         shows = subst (λ (u : List Step). results ≡ map shownTokens (handed x u q)) (sym f) s;
       }
 
-  -- ---- steps one after the other
-
-  after-append : (w u : List Step) (q : Links) → afterSteps x (w ++ u) q ≡ afterSteps x u (afterSteps x w q)
-  after-append [] u q = refl
-  after-append (s ∷ w) u q = after-append w u (act (demandOf x s) q)
-
-  sets-append : (w u : List Step) → sets-of (w ++ u) ≡ sets-of w ++ sets-of u
-  sets-append [] u = refl
-  sets-append (pushing v ∷ w) u = ap (λ (z : List (List Value)). v ∷ z) (sets-append w u)
-  sets-append (firing a ∷ w) u = sets-append w u
-  sets-append (taking ∷ w) u = sets-append w u
-
-  handed-append : (w u : List Step) (q : Links) → handed x (w ++ u) q ≡ handed x w q ++ handed x u (afterSteps x w q)
-  handed-append [] u q = refl
-  handed-append (pushing v ∷ w) u q = handed-append w u (act (pushOf x v) q)
-  handed-append (firing a ∷ w) u q = handed-append w u (act (operatorAt x a) q)
-  handed-append (taking ∷ w) u q = ap (λ (z : List (List Token)). label (takeOf x) q ∷ z) (handed-append w u (act (takeOf x) q))
-
-  steps-append : (a b : List Abstract.Call) (q : Links)
-      → stepsFrom x capacity (a ++ b) q ≡ stepsFrom x capacity a q ++ stepsFrom x capacity b (afterSteps x (stepsFrom x capacity a q) q)
-  unfolding stepsFrom
-  steps-append [] b q = refl
-  steps-append (c ∷ a) b q =
-      let w = stepsOf x capacity c q in
-      let r = afterSteps x w q in
-      let u = stepsFrom x capacity a r in
-      ap (λ (z : List Step). w ++ z) (steps-append a b r)
-      ∙ sym (append-assoc w u (stepsFrom x capacity b (afterSteps x u r)))
-      ∙ ap (λ (z : Links). (w ++ u) ++ stepsFrom x capacity b z) (sym (after-append w u q))
-
   -- ---- calls one after the other
 
   read-append : (sets sets′ : List (List ℕ)) (vss vss′ : List (List Value)) → EachRead sets vss → EachRead sets′ vss′ → EachRead (sets ++ sets′) (vss ++ vss′)
@@ -115,15 +116,15 @@ module _ (x : Exp) (kinds : List ℕ) (capacity : ℕ) where
       let w = stepsFrom x capacity (F .calls) q in
       let r = afterSteps x w q in
       let u = stepsFrom x capacity (G .calls) r in
-      let e : stepsFrom x capacity (F .calls ++ G .calls) q ≡ w ++ u = steps-append (F .calls) (G .calls) q in
+      let e : stepsFrom x capacity (F .calls ++ G .calls) q ≡ w ++ u = steps-append x capacity (F .calls) (G .calls) q in
       record {
         calls = F .calls ++ G .calls;
-        stands = subst (Stands (madeOf x) kinds capacity m′) (sym (ap (λ (z : List Step). afterSteps x z q) e ∙ after-append w u q)) (G .stands);
+        stands = subst (Stands (madeOf x) kinds capacity m′) (sym (ap (λ (z : List Step). afterSteps x z q) e ∙ after-append x capacity w u q)) (G .stands);
         reads =
-            subst (EachRead (sets ++ sets′)) (sym (ap sets-of e ∙ sets-append w u)) (read-append sets sets′ (sets-of w) (sets-of u) (F .reads) (G .reads));
+            subst (EachRead (sets ++ sets′)) (sym (ap sets-of e ∙ sets-append x capacity w u)) (read-append sets sets′ (sets-of w) (sets-of u) (F .reads) (G .reads));
         shows =
             ap₂ (λ (a b : List Result). a ++ b) (F .shows) (G .shows)
-            ∙ sym (ap (λ (z : List Step). map shownTokens (handed x z q)) e ∙ ap (map shownTokens) (handed-append w u q) ∙ results-append shownTokens (handed x w q) (handed x u r));
+            ∙ sym (ap (λ (z : List Step). map shownTokens (handed x z q)) e ∙ ap (map shownTokens) (handed-append x capacity w u q) ∙ results-append shownTokens (handed x w q) (handed x u r));
       }
 
   -- ---- the sets read, one by one

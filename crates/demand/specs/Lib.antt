@@ -7,6 +7,9 @@ pub mod FollowPush
 pub mod FollowTray
 pub mod FollowFire
 pub mod FollowRun
+pub mod RoundSteps
+pub mod FollowRounds
+pub mod Answered
 pub mod FollowTake
 pub mod FollowAll
 pub mod OnMemory

@@ -1,24 +1,26 @@
 -- Lists of calls on real memory (document 01, "Running": "Demand 3 is one claim over every list of these calls"): pushes, trays of sets (document 02, Job 1),
--- fires, runs and takes, each with the bytes and numbers that the firmware lends it. What a call does is machine_calls/specs/Calls (`pushed`, `fired`, `ran`,
--- `taken`) and machine_tray/specs/Tray (`trayed`), the very definitions with which the contracts of bench_push, bench_push_tray, bench_fire, bench_run and
--- bench_take are equations. Definitions only; assumes nothing.
+-- fires, runs, runs by rounds (Job 7) and takes, each with the bytes and numbers that the firmware lends it. What a call does is machine_calls/specs/Calls
+-- (`pushed`, `fired`, `ran`, `taken`), machine_tray/specs/Tray (`trayed`) and machine_rounds/specs/Rounds (`ranRounds`), the very definitions with which the
+-- contracts of bench_push, bench_push_tray, bench_fire, bench_run, bench_run_rounds and bench_take are equations. Definitions only; assumes nothing.
 use Prim.Native.Nat.{ℕ}
 use mathlib.Core.Bool.{Bool, cond}
 use mathlib.Core.List.{List, [], _∷_, _++_}
 use lib.Dec.{eqb}
 use lib.ListN.{drop, take as firstOf}
 use Rattle.machine_calls.specs.declared.Answer.{Answer}
-use Rattle.machine_calls.specs.Calls.{pushed, fired, ran, taken}
+use Rattle.machine_calls.specs.Calls.{answers, pushed, fired, ran, taken}
 use Rattle.machine_tray.specs.Tray.{trayed, wentIn}
+use Rattle.machine_rounds.specs.Rounds.{ranRounds}
 
 -- "each push, fire, run or take is lent that memory as the call before left it (a call lent too little gets 11 and is one of the refused)": the first number
 -- says how many bytes, counted from the memory's first; a call lent more than there is gets all. Then come push's set, a tray's bytes
--- and the number of its sets, fire's operator, run's firings and the bytes into which take writes.
+-- and the number of its sets, fire's operator, run's firings, the rounds of a run by rounds and the bytes into which take writes.
 pub data Call : Type 0 where
   push : ℕ → List ℕ → Call
   tray : ℕ → List ℕ → ℕ → Call
   fire : ℕ → ℕ → Call
   run : ℕ → ℕ → Call
+  byRounds : ℕ → ℕ → Call
   take : ℕ → List ℕ → Call
 
 -- A result as the firmware gets it: the width that take's answer counts, and the eighty bytes of its sixteen values.
@@ -31,7 +33,8 @@ result w b = record { width = w; bytes = b }
 
 -- ---- one call on the memory that the call before left
 
--- Its answer, with the refusal's number, 0 where accepted, and its count; the memory as it leaves it; the sets that it pushed and the results that it took.
+-- Its answer, with the refusal's number, 0 where accepted, and its count, which for a run by rounds is its rounds; the memory as it leaves it; the sets that
+-- it pushed and the results that it took.
 pub record Done : Type 0 where
   pub answer : Answer
   pub memory : List ℕ
@@ -61,6 +64,9 @@ done (fire lent operator) m =
 done (run lent firings) m =
     let o = ran (firstOf lent m) firings in
     doing (o .answer) (o .mem ++ drop lent m) [] []
+done (byRounds lent rounds) m =
+    let o = ranRounds (firstOf lent m) rounds in
+    doing (answers (o .answer .refusal) (o .answer .rounds)) (o .mem ++ drop lent m) [] []
 done (take lent out) m =
     let h = taken (firstOf lent m) out in
     doing (h .answer) (h .mem ++ drop lent m) [] (cond (accepted (h .answer)) (result (h .answer .count) (firstOf 80 (h .out)) ∷ []) [])

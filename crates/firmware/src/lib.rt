@@ -3,6 +3,7 @@
 // include/bench.h says the same in C.
 use eval_sheet::EvaluateAnswer;
 use machine_calls::Answer;
+use machine_rounds::RoundsAnswer;
 use machine_start::StartAnswer;
 use sheet_read::read::ReadAnswer;
 ghost use mathlib.Core.Path.{_≡_};
@@ -11,6 +12,7 @@ ghost use Rattle.sheet_read.specs.Reading.{answerOf};
 ghost use Rattle.eval_sheet.specs.Handed.{handed as evaluationHanded, handedOut};
 ghost use Rattle.machine_start.specs.Start.{begun, started};
 ghost use Rattle.machine_calls.specs.Calls.{outcome, handed, pushed, fired, ran, taken};
+ghost use Rattle.machine_rounds.specs.Rounds.{outcome as roundsOutcome, ranRounds};
 ghost use Rattle.machine_tray.specs.Tray.{trayed};
 
 #[no_mangle]
@@ -71,6 +73,13 @@ pub extern "C" fn bench_run(mem: &mut [u8], firings: u32) -> Answer
     ensures { λ a. ⌜ outcome a (now (mem .exit)) ≡ ran (now (mem .entry)) firings ⌝ }
 {
     machine_calls::run(mem, firings)
+}
+
+#[no_mangle]
+pub extern "C" fn bench_run_rounds(mem: &mut [u8], rounds: u32) -> RoundsAnswer
+    ensures { λ a. ⌜ roundsOutcome a (now (mem .exit)) ≡ ranRounds (now (mem .entry)) rounds ⌝ }
+{
+    machine_rounds::run_rounds(mem, rounds)
 }
 
 #[no_mangle]

@@ -1,6 +1,6 @@
 -- The refusals of each call as an ordered table, each condition by name: document 01, "Said by what was handed in" and "Said by how the machine stands",
 -- "11 comes before all", "Order: 11, 31, 12, then these", "14 .. (start: after 11, before 1)"; document 02, Job 6, "17 .., 18 .., in this order after 9 and
--- before 10". Definitions only; assumes nothing.
+-- before 10"; document 02, Job 7, "36 is given when something can fire after them". Definitions only; assumes nothing.
 use Prim.Native.Nat.{ℕ, zero, suc, _-_, _*_}
 use mathlib.Core.Bool.{Bool, true, false, not, _&&_}
 use mathlib.Core.List.{List, [], _∷_, _++_}
@@ -25,6 +25,7 @@ use Rattle.machine_valid.specs.Below.{allBelow}
 use Rattle.machine_valid.specs.Valid.{valid}
 use Rattle.machine_runs.specs.Run.{runs, stillAt}
 use Rattle.machine_calls.specs.Calls.{sizeIn, roomsOk, pushed, resultReady}
+use Rattle.machine_rounds.specs.Rounds.{roundsFrom}
 use Rattle.refusals.specs.FirstRefusal.{Row}
 
 -- ---- how the machine stands
@@ -60,6 +61,10 @@ not-able m i = not (ltb i (operatorsOf m) && ableAt m (sizeIn m) i)
 -- 36 "run: something can still fire after the lent firings"
 abbrev pub can-still-fire : List ℕ → ℕ → Bool
 can-still-fire m firings = not (stillAt (runs (sizeIn m) (operatorsOf m) firings m 0 .mem) (sizeIn m) (operatorsOf m))
+
+-- 36 of a run by rounds: "when something can fire after them", the lent rounds
+abbrev pub can-fire-after-rounds : List ℕ → ℕ → Bool
+can-fire-after-rounds m number = not (stillAt (roundsFrom (sizeIn m) (operatorsOf m) number m 0 0 .mem) (sizeIn m) (operatorsOf m))
 
 -- 35 "a result port empty or no set untaken"
 abbrev pub no-result : List ℕ → Bool
@@ -100,6 +105,13 @@ runTable m firings =
     (short m, Memory)
     ∷ (altered m, Altered)
     ∷ (can-still-fire m firings, Unfinished)
+    ∷ []
+
+abbrev pub roundsTable : List ℕ → ℕ → List Row
+roundsTable m number =
+    (short m, Memory)
+    ∷ (altered m, Altered)
+    ∷ (can-fire-after-rounds m number, Unfinished)
     ∷ []
 
 abbrev pub takeTable : List ℕ → List ℕ → List Row
@@ -194,6 +206,9 @@ fireNumbers = 11 ∷ 31 ∷ 34 ∷ []
 
 abbrev pub runNumbers : List ℕ
 runNumbers = 11 ∷ 31 ∷ 36 ∷ []
+
+abbrev pub roundsNumbers : List ℕ
+roundsNumbers = 11 ∷ 31 ∷ 36 ∷ []
 
 abbrev pub takeNumbers : List ℕ
 takeNumbers = 11 ∷ 31 ∷ 35 ∷ []

@@ -36,11 +36,12 @@ use Rattle.machine_valid.specs.Below.{allBelow}
 use Rattle.machine_valid.specs.Valid.{valid}
 use Rattle.machine_runs.specs.Run.{Ran, runs, stillAt}
 use Rattle.machine_calls.specs.Calls.{outcome, handed, answers, refusal, sizeIn, standing, roomsOk, pushedMemory, pushed, fired, ended, ran, resultReady, written, takenMemory, taken}
+use Rattle.machine_rounds.specs.Rounds.{Rounded, roundsFrom, outcome as rounds-outcome, answers as rounds-answers, ended as rounds-ended, ranRounds}
 use Rattle.machine_start.specs.Start.{begun, byVerdict, started, refusal as startRefusal}
 use Rattle.refusals.specs.FirstRefusal.{Row, first-refusal}
-use Rattle.refusals.specs.Conditions.{short, no-room, altered, no-set, link-full, pushTable, fireTable, runTable, takeTable, failed, sheetTable, short-asked, startTable, no-values, lacking, rounds-lacking, is-none, is-unfinished, evaluateTable}
+use Rattle.refusals.specs.Conditions.{short, no-room, altered, no-set, link-full, pushTable, fireTable, runTable, roundsTable, takeTable, failed, sheetTable, short-asked, startTable, no-values, lacking, rounds-lacking, is-none, is-unfinished, evaluateTable}
 
--- ---- push, fire, run, take
+-- ---- push, fire, run, run by rounds, take
 
 sixteen : (n : ℕ) → leb 16 n ≡ not (ltb n 16)
 sixteen n = go (ltb n 16) refl
@@ -100,6 +101,23 @@ unfolding ran standing ended
 run-exact m firings =
     let r : Ran = runs (sizeIn m) (operatorsOf m) firings m 0 in
     run-order (short m) (valid m) (stillAt (r .mem) (sizeIn m) (operatorsOf m)) m (r .mem) (r .count)
+
+rounds-order : (s v t : Bool) (m m′ : List ℕ) (r f : ℕ) → pick (eqb (pick s 11 (pick v 0 31)) 0)
+    (rounds-outcome (rounds-answers (pick t 0 36) r f) m′)
+    (rounds-outcome (rounds-answers (pick s 11 (pick v 0 31)) 0 0) m) .answer .refusal
+    ≡ first-refusal ((s, Memory) ∷ (not v, Altered) ∷ (not t, Unfinished) ∷ [])
+unfolding first-refusal
+rounds-order true v t m m′ r f = refl
+rounds-order false false t m m′ r f = refl
+rounds-order false true false m m′ r f = refl
+rounds-order false true true m m′ r f = refl
+
+-- 11, 31, 36
+pub rounds-exact : (m : List ℕ) (number : ℕ) → ranRounds m number .answer .refusal ≡ first-refusal (roundsTable m number)
+unfolding ranRounds standing rounds-ended
+rounds-exact m number =
+    let w : Rounded = roundsFrom (sizeIn m) (operatorsOf m) number m 0 0 in
+    rounds-order (short m) (valid m) (stillAt (w .mem) (sizeIn m) (operatorsOf m)) m (w .mem) (w .rounds) (w .firings)
 
 take-order : (o s v t : Bool) (m m′ out out′ : List ℕ) (k : ℕ) → pick o (handed (refusal Memory) m out)
     (pick (eqb (pick s 11 (pick v 0 31)) 0)

@@ -1,6 +1,6 @@
--- What a refused call says and hands back, call by call: demand 1, "hands every lent byte back unaltered, save a run that has used up its lent firings"; a tray of
--- sets is the other exception, of which "the rule on unaltered memory speaks of the refused set alone" (document 02, Job 1); document 01, "A refusal's counts and rows are 0
--- unless stated". Here without the refusals' names, which Refused adds. Assumes nothing.
+-- What a refused call says and hands back, call by call: demand 1, "hands every lent byte back unaltered, save a run that has used up its lent firings", or, run by
+-- rounds, its lent rounds (document 02, Job 7); a tray of sets is the other exception, of which "the rule on unaltered memory speaks of the refused set alone"
+-- (document 02, Job 1); document 01, "A refusal's counts and rows are 0 unless stated". Here without the refusals' names, which Refused adds. Assumes nothing.
 use Prim.Native.Nat.{ℕ, zero, suc}
 use mathlib.Core.Path.{_≡_, refl, ap, subst}
 use mathlib.Core.Bool.{Bool, true, false, _&&_}
@@ -34,6 +34,10 @@ use Rattle.machine_valid.specs.Below.{allBelow}
 use Rattle.machine_runs.specs.Run.{runs, stillAt}
 use Rattle.machine_calls.specs.Calls.{Outcome, Handed, outcome, handed, answers, refusal, sizeIn, standing, pushed, fired, ran, resultReady, taken}
 use Rattle.machine_calls.specs.CallLaws.{ran-refused}
+use Rattle.machine_rounds.specs.Rounds.{Outcome as RoundsOutcome, ranRounds}
+use Rattle.machine_rounds.specs.RoundLaws.{rounds-refused}
+use Rattle.machine_rounds.specs.Turns.{RoundsMade}
+use Rattle.machine_rounds.specs.Counted.{RoundsCount, rounds-count}
 use Rattle.machine_tray.specs.Tray.{setBytes, trayed, cut, wentIn}
 use Rattle.machine_tray.specs.TrayLaws.{tray-of-none}
 use Rattle.machine_tray.specs.OneByOne.{either, push-leaves, Pushes, Stops, went-in, refused-set}
@@ -96,6 +100,34 @@ run-keeps m firings h = go (ℕ-discrete (standing m) 0)
             let full = C .unfinished r .0 in
             inr (r, full, subst (λ (k : ℕ). Firings (sizeIn m) (operatorsOf m) k m (ran m firings .mem)) full (C .between))
     go (no n) = let e = ran-refused m firings n in inl (ap (λ (o : Outcome). o .answer .count) e, ap (λ (o : Outcome). o .mem) e)
+
+-- A run by rounds: at 36 "the firings kept as at run's 36. The call gives its firings and its rounds, on 36 too" (document 02, Job 7). The rounds are the
+-- lent number, and the memory is the one after them.
+abbrev pub UsedUpRounds : List ℕ → ℕ → Type 0
+UsedUpRounds m number =
+    (ranRounds m number .answer .refusal ≡ numberOf Unfinished) × (ranRounds m number .answer .rounds ≡ number)
+    × RoundsMade (sizeIn m) (operatorsOf m) number (ranRounds m number .answer .firings) m (ranRounds m number .mem)
+
+-- 11 and 31 leave the memory.
+abbrev pub RoundsLeave : List ℕ → RoundsOutcome → Type 0
+RoundsLeave m o = (o .answer .rounds ≡ 0) × (o .answer .firings ≡ 0) × (o .mem ≡ m)
+
+pub rounds-keeps : (m : List ℕ) (number : ℕ) → ranRounds m number .answer .refusal ≢ 0 → RoundsLeave m (ranRounds m number) ⊎ UsedUpRounds m number
+rounds-keeps m number h = go (ℕ-discrete (standing m) 0)
+  where
+    used : RoundsCount m number (ranRounds m number) → (b : Bool) → stillAt (ranRounds m number .mem) (sizeIn m) (operatorsOf m) ≡ b
+        → RoundsLeave m (ranRounds m number) ⊎ UsedUpRounds m number
+    used C true e = absurd (h (C .finished e))
+    used C false e =
+        let r = C .goes-on e in
+        let full = C .unfinished r .0 in
+        inr (r, full, subst (λ (k : ℕ). RoundsMade (sizeIn m) (operatorsOf m) k (ranRounds m number .answer .firings) m (ranRounds m number .mem)) full (C .between))
+
+    go : Dec (standing m ≡ 0) → RoundsLeave m (ranRounds m number) ⊎ UsedUpRounds m number
+    go (yes st) = used (rounds-count m number st) (stillAt (ranRounds m number .mem) (sizeIn m) (operatorsOf m)) refl
+    go (no n) =
+        let e = rounds-refused m number n in
+        inl (ap (λ (o : RoundsOutcome). o .answer .rounds) e, ap (λ (o : RoundsOutcome). o .answer .firings) e, ap (λ (o : RoundsOutcome). o .mem) e)
 
 abbrev KeepsBoth : List ℕ → List ℕ → Handed → Type 0
 KeepsBoth m out h = h .answer .refusal ≢ 0 → (h .answer .count ≡ 0) × (h .mem ≡ m) × (h .out ≡ out)

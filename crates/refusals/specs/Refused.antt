@@ -1,7 +1,8 @@
 -- DEMAND 1, second sentence: "A refused call names one of the refusals in document 01 and hands every lent byte back unaltered, save a run that has used up its
 -- lent firings", as `refused-call` over all calls; and demand 2, "A call is refused exactly when document 01 gives it a refusal, and with the first in the
--- order there", as `call-exact`. Of a tray of sets "the rule on unaltered memory speaks of the refused set alone" (document 02, Job 1). The calls are the
--- definitions that the contracts of their entry points cite; a sheet, a kinds line or a set is lent for reading only. Assumes nothing.
+-- order there", as `call-exact`. A run by rounds that has used up its lent rounds is such a run too: "the firings kept as at run's 36" (document 02, Job 7). Of a
+-- tray of sets "the rule on unaltered memory speaks of the refused set alone" (document 02, Job 1). The calls are the definitions that the contracts of their
+-- entry points cite; a sheet, a kinds line or a set is lent for reading only. Assumes nothing.
 use Prim.Native.Nat.{ℕ}
 use mathlib.Core.Path.{_≡_, refl, sym, _∙_, subst}
 use mathlib.Core.Logic.{_⊎_, inl, inr, _≢_, _↔_}
@@ -12,14 +13,15 @@ use Rattle.formula.specs.Tests.{readingOf}
 use Rattle.sheet_read.specs.Reading.{answerOf}
 use Rattle.eval_sheet.specs.Handed.{handedOut}
 use Rattle.machine_calls.specs.Calls.{pushed, fired, ran, taken}
+use Rattle.machine_rounds.specs.Rounds.{ranRounds}
 use Rattle.machine_tray.specs.Tray.{trayed}
 use Rattle.machine_start.specs.Start.{started}
 use Rattle.refusals.specs.FirstRefusal.{Row, first-refusal, Named, Among, numbers, NoneHolds, FirstHolds, accepted-exactly, refused-exactly, first-among, first-named}
-use Rattle.refusals.specs.Conditions.{pushTable, trayTable, fireTable, runTable, takeTable, sheetTable, startTable, evaluateTable, sheetNumbers, pushNumbers, trayNumbers, fireNumbers, runNumbers, takeNumbers, startNumbers, evaluateNumbers}
+use Rattle.refusals.specs.Conditions.{pushTable, trayTable, fireTable, runTable, roundsTable, takeTable, sheetTable, startTable, evaluateTable, sheetNumbers, pushNumbers, trayNumbers, fireNumbers, runNumbers, roundsNumbers, takeNumbers, startNumbers, evaluateNumbers}
 use Rattle.refusals.specs.Rows.{RowTold}
-use Rattle.refusals.specs.Exact.{push-exact, fire-exact, run-exact, take-exact, read-exact, start-exact, evaluate-exact}
+use Rattle.refusals.specs.Exact.{push-exact, fire-exact, run-exact, rounds-exact, take-exact, read-exact, start-exact, evaluate-exact}
 use Rattle.refusals.specs.TrayExact.{tray-exact, tray-numbers}
-use Rattle.refusals.specs.Kept.{UsedUpFirings, SetRefused, read-keeps, start-keeps, push-keeps, tray-keeps, fire-keeps, run-keeps, take-keeps, evaluate-keeps}
+use Rattle.refusals.specs.Kept.{UsedUpFirings, UsedUpRounds, RoundsLeave, SetRefused, read-keeps, start-keeps, push-keeps, tray-keeps, fire-keeps, run-keeps, rounds-keeps, take-keeps, evaluate-keeps}
 
 -- The firmware's entry points with what each is lent, in the order of their parameters.
 pub data Call : Type 0 where
@@ -29,6 +31,7 @@ pub data Call : Type 0 where
   tray : List ℕ → List ℕ → ℕ → Call
   fire : List ℕ → ℕ → Call
   run : List ℕ → ℕ → Call
+  rounds : List ℕ → ℕ → Call
   take : List ℕ → List ℕ → Call
   evaluate : List ℕ → List ℕ → List ℕ → ℕ → List ℕ → Call
 
@@ -39,8 +42,9 @@ refusalOf (push m set) = pushed m set .answer .refusal
 refusalOf (tray m sets number) = trayed m sets number .answer .refusal
 refusalOf (fire m operator) = fired m operator .answer .refusal
 refusalOf (run m firings) = ran m firings .answer .refusal
+refusalOf (rounds m number) = ranRounds m number .answer .refusal
 refusalOf (take m out) = taken m out .answer .refusal
-refusalOf (evaluate sheet line set rounds out) = handedOut sheet line set rounds out .answer .refusal
+refusalOf (evaluate sheet line set number out) = handedOut sheet line set number out .answer .refusal
 
 -- The other numbers of its answer.
 unfoldable pub countsOf : Call → List ℕ
@@ -50,8 +54,9 @@ countsOf (push m set) = pushed m set .answer .count ∷ []
 countsOf (tray m sets number) = trayed m sets number .answer .count ∷ []
 countsOf (fire m operator) = fired m operator .answer .count ∷ []
 countsOf (run m firings) = ran m firings .answer .count ∷ []
+countsOf (rounds m number) = ranRounds m number .answer .rounds ∷ ranRounds m number .answer .firings ∷ []
 countsOf (take m out) = taken m out .answer .count ∷ []
-countsOf (evaluate sheet line set rounds out) = let a = handedOut sheet line set rounds out .answer in a .width ∷ a .rounds ∷ []
+countsOf (evaluate sheet line set number out) = let a = handedOut sheet line set number out .answer in a .width ∷ a .rounds ∷ []
 
 -- The bytes lent for writing, and the same at the call's end.
 unfoldable pub lent : Call → List (List ℕ)
@@ -61,8 +66,9 @@ lent (push m set) = m ∷ []
 lent (tray m sets number) = m ∷ []
 lent (fire m operator) = m ∷ []
 lent (run m firings) = m ∷ []
+lent (rounds m number) = m ∷ []
 lent (take m out) = m ∷ out ∷ []
-lent (evaluate sheet line set rounds out) = out ∷ []
+lent (evaluate sheet line set number out) = out ∷ []
 
 unfoldable pub handed-back : Call → List (List ℕ)
 handed-back (read sheet line) = []
@@ -71,8 +77,9 @@ handed-back (push m set) = pushed m set .mem ∷ []
 handed-back (tray m sets number) = trayed m sets number .mem ∷ []
 handed-back (fire m operator) = fired m operator .mem ∷ []
 handed-back (run m firings) = ran m firings .mem ∷ []
+handed-back (rounds m number) = ranRounds m number .mem ∷ []
 handed-back (take m out) = taken m out .mem ∷ taken m out .out ∷ []
-handed-back (evaluate sheet line set rounds out) = handedOut sheet line set rounds out .out ∷ []
+handed-back (evaluate sheet line set number out) = handedOut sheet line set number out .out ∷ []
 
 -- The table of its refusals, and their numbers.
 unfoldable pub tableOf : Call → List Row
@@ -82,8 +89,9 @@ tableOf (push m set) = pushTable m set
 tableOf (tray m sets number) = trayTable m sets number
 tableOf (fire m operator) = fireTable m operator
 tableOf (run m firings) = runTable m firings
+tableOf (rounds m number) = roundsTable m number
 tableOf (take m out) = takeTable m out
-tableOf (evaluate sheet line set rounds out) = evaluateTable sheet line set rounds out
+tableOf (evaluate sheet line set number out) = evaluateTable sheet line set number out
 
 unfoldable pub numbersOf : Call → List ℕ
 numbersOf (read sheet line) = sheetNumbers
@@ -92,14 +100,16 @@ numbersOf (push m set) = pushNumbers
 numbersOf (tray m sets number) = trayNumbers
 numbersOf (fire m operator) = fireNumbers
 numbersOf (run m firings) = runNumbers
+numbersOf (rounds m number) = roundsNumbers
 numbersOf (take m out) = takeNumbers
-numbersOf (evaluate sheet line set rounds out) = evaluateNumbers
+numbersOf (evaluate sheet line set number out) = evaluateNumbers
 
 abbrev pub AllZero : List ℕ → Type 0
 AllZero [] = Unit {0}
 AllZero (n ∷ ns) = (n ≡ 0) × AllZero ns
 
--- "a run that has used up its lent firings": it gives 36 and their number, and the memory is the one after them.
+-- "a run that has used up its lent firings": it gives 36 and their number, and the memory is the one after them. A run by rounds that has used up its lent
+-- rounds likewise: "the firings kept as at run's 36" (document 02, Job 7).
 abbrev pub UsedUp : Call → Type 0
 UsedUp (read sheet line) = ⊥
 UsedUp (start sheet line capacity m) = ⊥
@@ -107,8 +117,9 @@ UsedUp (push m set) = ⊥
 UsedUp (tray m sets number) = ⊥
 UsedUp (fire m operator) = ⊥
 UsedUp (run m firings) = UsedUpFirings m firings
+UsedUp (rounds m number) = UsedUpRounds m number
 UsedUp (take m out) = ⊥
-UsedUp (evaluate sheet line set rounds out) = ⊥
+UsedUp (evaluate sheet line set number out) = ⊥
 
 -- "For this call the rule on unaltered memory speaks of the refused set alone": a tray of sets (document 02, Job 1).
 abbrev pub SetAlone : Call → Type 0
@@ -118,8 +129,9 @@ SetAlone (push m set) = ⊥
 SetAlone (tray m sets number) = SetRefused m sets number
 SetAlone (fire m operator) = ⊥
 SetAlone (run m firings) = ⊥
+SetAlone (rounds m number) = ⊥
 SetAlone (take m out) = ⊥
-SetAlone (evaluate sheet line set rounds out) = ⊥
+SetAlone (evaluate sheet line set number out) = ⊥
 
 -- The row of the answers that have one.
 abbrev pub RowSaid : Call → Type 0
@@ -129,8 +141,9 @@ RowSaid (push m set) = Unit {0}
 RowSaid (tray m sets number) = Unit {0}
 RowSaid (fire m operator) = Unit {0}
 RowSaid (run m firings) = Unit {0}
+RowSaid (rounds m number) = Unit {0}
 RowSaid (take m out) = Unit {0}
-RowSaid (evaluate sheet line set rounds out) = RowTold sheet line (handedOut sheet line set rounds out .answer .refusal) (handedOut sheet line set rounds out .answer .row)
+RowSaid (evaluate sheet line set number out) = RowTold sheet line (handedOut sheet line set number out .answer .refusal) (handedOut sheet line set number out .answer .row)
 
 -- Demand 2's last sentence for every call: its refusal is the first of its table.
 pub call-exact : (c : Call) → refusalOf c ≡ first-refusal (tableOf c)
@@ -141,8 +154,9 @@ call-exact (push m set) = push-exact m set
 call-exact (tray m sets number) = tray-exact m sets number
 call-exact (fire m operator) = fire-exact m operator
 call-exact (run m firings) = run-exact m firings
+call-exact (rounds m number) = rounds-exact m number
 call-exact (take m out) = take-exact m out
-call-exact (evaluate sheet line set rounds out) = evaluate-exact sheet line set rounds out
+call-exact (evaluate sheet line set number out) = evaluate-exact sheet line set number out
 
 -- Accepted exactly where no condition of its table holds; refused with a number exactly where that number's condition is the first that holds.
 pub call-accepted : (c : Call) → (refusalOf c ≡ 0) ↔ NoneHolds (tableOf c)
@@ -159,7 +173,7 @@ pub record RefusedCall (c : Call) : Type 0 where
   pub own : Among (refusalOf c) (numbersOf c)
   -- "3 to 9 give the lowest row at fault, others row 0", and 18 "lowest row given"
   pub row : RowSaid c
-  -- "hands every lent byte back unaltered, save a run that has used up its lent firings", and a tray by its refused set alone
+  -- "hands every lent byte back unaltered, save a run that has used up its lent firings", or its lent rounds, and a tray by its refused set alone
   pub back : ((handed-back c ≡ lent c) × AllZero (countsOf c)) ⊎ (UsedUp c ⊎ SetAlone c)
 
 table-numbers : (c : Call) (n : ℕ) → Among n (numbers (tableOf c)) → Among n (numbersOf c)
@@ -170,9 +184,10 @@ table-numbers (push m set) n a = a
 table-numbers (tray m sets number) n a = tray-numbers m sets number n a
 table-numbers (fire m operator) n a = a
 table-numbers (run m firings) n a = a
+table-numbers (rounds m number) n a = a
 table-numbers (take m out) n (inl e) = inl e
 table-numbers (take m out) n (inr a) = a
-table-numbers (evaluate sheet line set rounds out) n a = a
+table-numbers (evaluate sheet line set number out) n a = a
 
 one : {m m′ : List ℕ} → m′ ≡ m → _≡_ {A = List (List ℕ)} (m′ ∷ []) (m ∷ [])
 one e = λ i. e i ∷ []
@@ -188,8 +203,9 @@ row-said (push m set) h = tt
 row-said (tray m sets number) h = tt
 row-said (fire m operator) h = tt
 row-said (run m firings) h = tt
+row-said (rounds m number) h = tt
 row-said (take m out) h = tt
-row-said (evaluate sheet line set rounds out) h = evaluate-keeps sheet line set rounds out h .0
+row-said (evaluate sheet line set number out) h = evaluate-keeps sheet line set number out h .0
 
 bytes-back : (c : Call) → refusalOf c ≢ 0 → ((handed-back c ≡ lent c) × AllZero (countsOf c)) ⊎ (UsedUp c ⊎ SetAlone c)
 unfolding refusalOf handed-back lent countsOf
@@ -211,8 +227,15 @@ bytes-back (run m firings) h = go (run-keeps m firings h)
         → ((handed-back (run m firings) ≡ lent (run m firings)) × AllZero (countsOf (run m firings))) ⊎ (UsedUp (run m firings) ⊎ SetAlone (run m firings))
     go (inl k) = inl (one (k .1), (k .0, tt))
     go (inr k) = inr (inl k)
+bytes-back (rounds m number) h = go (rounds-keeps m number h)
+  where
+    go : RoundsLeave m (ranRounds m number)
+        ⊎ UsedUpRounds m number
+        → ((handed-back (rounds m number) ≡ lent (rounds m number)) × AllZero (countsOf (rounds m number))) ⊎ (UsedUp (rounds m number) ⊎ SetAlone (rounds m number))
+    go (inl k) = inl (one (k .2), (k .0, (k .1, tt)))
+    go (inr k) = inr (inl k)
 bytes-back (take m out) h = let k = take-keeps m out h in inl (two (k .1) (k .2), (k .0, tt))
-bytes-back (evaluate sheet line set rounds out) h = let k = evaluate-keeps sheet line set rounds out h in inl (one (k .3), (k .1, (k .2, tt)))
+bytes-back (evaluate sheet line set number out) h = let k = evaluate-keeps sheet line set number out h in inl (one (k .3), (k .1, (k .2, tt)))
 
 pub refused-call : (c : Call) → refusalOf c ≢ 0 → RefusedCall c
 refused-call c h =

@@ -1,0 +1,5 @@
+pub mod InTurn
+pub mod Told
+pub mod Traced
+pub mod WorkInTurn
+pub mod Waiting
