@@ -66,7 +66,7 @@ operator-outputs k h = rw (ne-eqb k 13 (λ e. omega arith), ne-eqb k 18 (λ e. o
 
 -- A gate that the translation may use.
 abbrev pub ProperGate : Gate → Type 0
-ProperGate (const v) = InRange v
+ProperGate (const v) = InRange v × (isConstant (some v) ≡ true)
 ProperGate (oper k) = (1 ≤ k) × (k ≤ 11)
 ProperGate T = Unit {0}
 ProperGate F = Unit {0}

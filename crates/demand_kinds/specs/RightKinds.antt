@@ -15,7 +15,7 @@ use Rattle.value.specs.declared.ValueKind.{ValueKind}
 use Rattle.value.specs.declared.ValueKind.the-variants.{Truth as truth-kind}
 use Rattle.value.specs.Operators.{pick}
 use Rattle.value.specs.Bytes.{wordOf, wordAt}
-use Rattle.value.specs.Kinds.{suits, wants}
+use Rattle.value.specs.Kinds.{suits, wanted}
 use Rattle.network.specs.Values.{one-operand}
 use Rattle.network.specs.Rules.{Kind, constant, copy, operator, T-gate, F-gate, M-gate, E-gate, IC-gate, FM-gate, FS-gate}
 use Rattle.network.specs.Net.{Token, val, mark, Links}
@@ -54,29 +54,43 @@ use Rattle.demand.specs.OnMemory.{F as bytes-follow}
 
 -- ---- what is claimed
 
--- The kind that an operator or gate wants on each of its inputs 0, 1, 2; none where it looks at no kind. A copy, a constant and a gate's data take every kind.
-abbrev pub wantedAt : Kind → ℕ → Option ValueKind
-wantedAt (operator code) zero = some (wants code)
-wantedAt (operator code) (suc zero) = pick (one-operand code) none (some (wants code))
-wantedAt (operator code) (suc (suc p)) = none
-wantedAt constant p = none
-wantedAt copy p = none
-wantedAt IC-gate zero = some truth-kind
-wantedAt IC-gate (suc zero) = some truth-kind
-wantedAt IC-gate (suc (suc zero)) = some truth-kind
-wantedAt IC-gate (suc (suc (suc p))) = none
-wantedAt T-gate zero = some truth-kind
-wantedAt T-gate (suc p) = none
-wantedAt F-gate zero = some truth-kind
-wantedAt F-gate (suc p) = none
-wantedAt M-gate zero = some truth-kind
-wantedAt M-gate (suc p) = none
-wantedAt E-gate zero = some truth-kind
-wantedAt E-gate (suc p) = none
-wantedAt FM-gate zero = some truth-kind
-wantedAt FM-gate (suc p) = none
-wantedAt FS-gate zero = some truth-kind
-wantedAt FS-gate (suc p) = none
+-- The operands of an operator are of one kind, which it takes.
+abbrev pub Takes : Kind → ValueKind → Type 0
+Takes (operator code) k = wanted code (k ∷ []) ≡ true
+Takes constant k = Unit {0}
+Takes copy k = Unit {0}
+Takes IC-gate k = Unit {0}
+Takes T-gate k = Unit {0}
+Takes F-gate k = Unit {0}
+Takes M-gate k = Unit {0}
+Takes E-gate k = Unit {0}
+Takes FM-gate k = Unit {0}
+Takes FS-gate k = Unit {0}
+
+-- The kind that an operator, on operands of kind k, or a gate wants on each of its inputs 0, 1, 2; none where it looks at no kind. A copy, a constant
+-- and a gate's data take every kind.
+abbrev pub wantedAt : Kind → ValueKind → ℕ → Option ValueKind
+wantedAt (operator code) k zero = some k
+wantedAt (operator code) k (suc zero) = pick (one-operand code) none (some k)
+wantedAt (operator code) k (suc (suc p)) = none
+wantedAt constant k p = none
+wantedAt copy k p = none
+wantedAt IC-gate k zero = some truth-kind
+wantedAt IC-gate k (suc zero) = some truth-kind
+wantedAt IC-gate k (suc (suc zero)) = some truth-kind
+wantedAt IC-gate k (suc (suc (suc p))) = none
+wantedAt T-gate k zero = some truth-kind
+wantedAt T-gate k (suc p) = none
+wantedAt F-gate k zero = some truth-kind
+wantedAt F-gate k (suc p) = none
+wantedAt M-gate k zero = some truth-kind
+wantedAt M-gate k (suc p) = none
+wantedAt E-gate k zero = some truth-kind
+wantedAt E-gate k (suc p) = none
+wantedAt FM-gate k zero = some truth-kind
+wantedAt FM-gate k (suc p) = none
+wantedAt FS-gate k zero = some truth-kind
+wantedAt FS-gate k (suc p) = none
 
 -- A link's stretch in which every waiting token is the word of a value of the kind, or of an err.
 pub record WaitsOf (k : ValueKind) (s : List ℕ) : Type 0 where
@@ -85,7 +99,9 @@ pub record WaitsOf (k : ValueKind) (s : List ℕ) : Type 0 where
 -- Operator i in a memory at a capacity: its record is o's, and no token of a wrong kind waits before it.
 pub record Rightly (m : List ℕ) (capacity i : ℕ) (o : Operator) : Type 0 where
   pub recorded : Recorded m i o
-  pub inputs : (p : ℕ) (k : ValueKind) → wantedAt (o .kind) p ≡ some k → portOf m i p < linksOf m → WaitsOf k (linkPart m (sizeOf capacity) (portOf m i p))
+  pub operands : ValueKind
+  pub takes : Takes (o .kind) operands
+  pub inputs : (p : ℕ) (k : ValueKind) → wantedAt (o .kind) operands p ≡ some k → portOf m i p < linksOf m → WaitsOf k (linkPart m (sizeOf capacity) (portOf m i p))
 
 -- A result whose values are of these kinds, place by place, or errs.
 pub record OfKinds (ks : List ValueKind) (r : Result) : Type 0 where

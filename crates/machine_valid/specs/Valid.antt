@@ -8,6 +8,7 @@ use lib.ListN.{length, getD}
 use lib.Dec.{leb, ltb, eqb}
 use Rattle.value.specs.Operators.{pick}
 use Rattle.value.specs.Bytes.{isSome, valueOf, wordAt}
+use Rattle.value.specs.Constants.{isConstant}
 use Rattle.machine_queue.specs.Stretch.{waiting}
 use Rattle.value.specs.Kinds.{isLetter}
 use Rattle.machine_layout.specs.Layout.{inputKindsAt, mostOperators, mostLinks, mostCapacity, mostInputs, mostResults, mostUntaken, triggerAt, resultLinksAt, portsAt, capacityByte, operatorsOf, linksOf, inputsOf, resultsOf, untakenOf, noLink, nameAt, triggerOf, operatorAt, kindByte, registerAt, sizeOf, linkAt, part}
@@ -55,9 +56,9 @@ portOk kind links p x = pick (hasPort kind p) (ltb x links || (mayLack kind p &&
 unfoldable pub namedOk : List ℕ → ℕ → ℕ → ℕ → Bool
 namedOk m at kind p = portOk kind (linksOf m) p (nameAt m at p) && freshAt m at p
 
--- a constant holds its value, FM and FS a value or nothing yet (0), every other kind nothing
+-- a constant holds a value that a constant of a sheet can have, FM and FS a value or nothing yet (0), every other kind nothing
 unfoldable pub registerOk : ℕ → ℕ → Bool
-registerOk kind w = pick (eqb kind (byteOf constant)) (isSome (valueOf w)) (eqb w 0 || (leb (byteOf FM-gate) kind && isSome (valueOf w)))
+registerOk kind w = pick (eqb kind (byteOf constant)) (isConstant (valueOf w)) (eqb w 0 || (leb (byteOf FM-gate) kind && isSome (valueOf w)))
 
 unfoldable pub kindOk : ℕ → Bool
 kindOk kind = leb 1 kind && leb kind (byteOf FS-gate)

@@ -242,13 +242,13 @@ module _ (K : Claims) where
 
 -- ---- no wrong kind
 
--- Every token that waits on an operand is of the kind that the operator wants, or an err; every one on a control, or on an iter? of IC, is a truth
--- or an err.
+-- Every token that waits on an operand is of one kind, which the operator takes, or an err; every one on a control, or on an iter? of IC, is a
+-- truth or an err.
 abbrev pub Wanted : Kind → Ports → Links → Type 0
 Wanted constant p q = Unit {0}
 Wanted copy p q = Unit {0}
 Wanted (operator code) p q =
-    Waiting (λ v. suits (wants code) v ≡ true) (q (p .in1)) × (one-operand code ≡ false → Waiting (λ v. suits (wants code) v ≡ true) (q (p .in2)))
+    (k : ValueKind) × (wanted code (k ∷ []) ≡ true) × Waiting (λ v. suits k v ≡ true) (q (p .in1)) × (one-operand code ≡ false → Waiting (λ v. suits k v ≡ true) (q (p .in2)))
 Wanted T-gate p q = Waiting (λ v. suits truth-kind v ≡ true) (q (p .in1))
 Wanted F-gate p q = Waiting (λ v. suits truth-kind v ≡ true) (q (p .in1))
 Wanted M-gate p q = Waiting (λ v. suits truth-kind v ≡ true) (q (p .in1))
