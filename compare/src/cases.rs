@@ -243,7 +243,7 @@ fn fields(list: &mut List) {
 }
 
 fn ranges(list: &mut List) {
-    for kind in [0, 10, 11, 999_999] {
+    for kind in [0, 11, 12, 999_999] {
         list.refused(4, 1, &format!("kind {kind}"), write(&[[kind, 0, 0, 0, 0]]));
     }
     for code in [0, 12, 999_999] {

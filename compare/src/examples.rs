@@ -1,7 +1,7 @@
 // The sheets that are timed, each with its kinds line: document 01's worked examples, a long sheet, and one near the greatest number of operators.
 
 use crate::bytes;
-use crate::random::{heavy_sheet, Made, Rng};
+use crate::random::{heavy_sheet_of_wholes, Made, Rng};
 use crate::sheet::write;
 
 fn made(rows: &[[u32; 5]], kinds: &[u8]) -> Made {
@@ -32,7 +32,7 @@ pub fn negations(rows: u32) -> Made {
 /// A sheet with over 1,000 operators.
 pub fn many_operators(rng: &mut Rng) -> Made {
     loop {
-        let made = heavy_sheet(rng);
+        let made = heavy_sheet_of_wholes(rng);
         if bytes::read(&made.bytes, &made.kinds).operators > 1000 {
             return made;
         }

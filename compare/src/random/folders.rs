@@ -4,7 +4,7 @@
 use super::faults::{plant, PLANTABLE};
 use super::lines::{bad_line, likely_line, with_other_letter};
 use super::turns::altered_sheet;
-use super::{accepted_sheet, fitting_set, heavy_sheet, loose_sheet, random_value, renamed_sheet, Made, Rng};
+use super::{accepted_sheet, fitting_set, heavy_sheet, loose_sheet, renamed_sheet, value_of_another_kind, Made, Rng};
 use crate::bench::{write_set, FIELD, MOST_SET_BYTES};
 use crate::eval;
 use crate::sheet::{self, Sheet, ROW_BYTES};
@@ -112,7 +112,7 @@ fn text_of(sets: &[Vec<Value>]) -> Vec<u8> {
 fn another_kind(sets: &mut [Vec<Value>], sheet: &Sheet, rng: &mut Rng) {
     if !sets.is_empty() && !sheet.sorts.is_empty() {
         let (set, place) = (rng.below(sets.len()), rng.below(sheet.sorts.len()));
-        sets[set][place] = random_value(sheet.sorts[place].other(), rng);
+        sets[set][place] = value_of_another_kind(sheet.sorts[place], rng);
     }
 }
 
@@ -129,7 +129,7 @@ fn part_long(sets: &mut Vec<Vec<Value>>, sheet: &Sheet, rng: &mut Rng) {
     }
 }
 
-const BAD_FIELDS: [&[u8; FIELD]; 23] = [
+const BAD_FIELDS: [&[u8; FIELD]; 44] = [
     b"         -0",
     b"         +1",
     b"         01",
@@ -153,6 +153,27 @@ const BAD_FIELDS: [&[u8; FIELD]; 23] = [
     b"        1.0",
     b"00000000000",
     b"         e1",
+    b"R2139095040",
+    b"R2139095041",
+    b"R2147483647",
+    b"R4286578688",
+    b"R4294967295",
+    b"R4294967296",
+    b"R9999999999",
+    b"          R",
+    b"        R-1",
+    b"        -R1",
+    b"        R+1",
+    b"        R00",
+    b"        R01",
+    b"R0000000001",
+    b"        R0 ",
+    b"        R 1",
+    b"         r1",
+    b"         RR",
+    b"        R1R",
+    b"       R1.5",
+    b"         1R",
 ];
 
 const FAULTS: [&str; 9] = [
@@ -179,9 +200,9 @@ fn spoil(text: &mut Vec<u8>, line: usize, rng: &mut Rng) -> &'static str {
     let fault = rng.pick(&FAULTS[..if line > 1 { 9 } else { 8 }]);
     match fault {
         "unended" => drop(text.pop()),
-        "a byte changed" => text[place] = rng.pick(b" 0123456789-TFEZV\n\r\0x"),
+        "a byte changed" => text[place] = rng.pick(b" 0123456789-TFEZVR\n\r\0x"),
         "a byte left out" => drop(text.remove(place)),
-        "a byte too many" => text.insert(place, rng.pick(b" 019-TFEZV\n")),
+        "a byte too many" => text.insert(place, rng.pick(b" 019-TFEZVR\n")),
         "filled up" => text.resize(rng.pick(&[MOST_SET_BYTES, MOST_SET_BYTES + 1, 200_000]), b'\n'),
         "CR LF" => *text = String::from_utf8_lossy(text).replace('\n', "\r\n").into_bytes(),
         "two lines in one" => drop(text.remove(rng.below(lines) * line + line - 1)),
