@@ -63,6 +63,8 @@ pub fn list() -> Vec<Case> {
     rules::two_faults(&mut list);
     kinds::lines(&mut list);
     kinds::operators(&mut list);
+    kinds::fractions(&mut list);
+    kinds::kinds_that_go_on(&mut list);
     kinds::choices(&mut list);
     kinds::loops(&mut list);
     kinds::lower_rows(&mut list);
