@@ -2,7 +2,7 @@
 // Where the way of planting fixes the row that the refusal must give, it is said with the bytes.
 
 use super::lines::{bad_line, with_other_letter};
-use super::sheets::{accepted_sheet, overfull_sheet, unkinded_sheet, Made};
+use super::sheets::{accepted_sheet, mixed_sheet, overfull_sheet, unkinded_sheet, Made};
 use super::Rng;
 use crate::sheet::{self, Place, Sheet, ROW_BYTES};
 
@@ -67,15 +67,16 @@ fn planted_line(rng: &mut Rng) -> Planted {
 }
 
 /// 18: leaves of another kind, an input of another, a code of another kind, a constant with a fraction among whole numbers or the other way round, a
-/// remainder of floats; also beside too many operators.
+/// remainder of floats, operands of any kinds; also beside too many operators.
 fn broken_kinds(rng: &mut Rng) -> Option<Planted> {
-    let (made, row) = match rng.below(14) {
+    let (made, row) = match rng.below(20) {
         0..=2 => (unkinded_sheet(rng), None),
         3 => (with_other_input(overfull_sheet(rng), rng), None),
         4..=6 => (with_other_input(accepted_sheet(rng), rng), None),
         7..=9 => other_code(accepted_sheet(rng), rng)?,
         10..=12 => (other_constant(accepted_sheet(rng), rng)?, None),
-        _ => (remainder(accepted_sheet(rng), rng)?, None),
+        13..=15 => (remainder(accepted_sheet(rng), rng)?, None),
+        _ => (mixed_sheet(rng), None),
     };
     (made.refusal() == 18).then_some(Planted { made, row })
 }
@@ -103,10 +104,10 @@ fn other_constant(made: Made, rng: &mut Rng) -> Option<Made> {
     Some(Made { bytes: with_row(&sheet, number, [12 - row[0], row[1], 0, 0, 0]), kinds: made.kinds })
 }
 
-/// A quotient becomes a remainder, which of floats is a wrong kind.
+/// A sum, difference, product or quotient becomes a remainder, which of floats is a wrong kind.
 fn remainder(made: Made, rng: &mut Rng) -> Option<Made> {
     let sheet = made.sheet();
-    let number = some_row(&sheet, rng, |_, row| row[0] == 5 && row[1] == 4)?;
+    let number = some_row(&sheet, rng, |_, row| row[0] == 5 && row[1] <= 4)?;
     let row = rows_of(&sheet)[number as usize - 1];
     Some(Made { bytes: with_row(&sheet, number, [5, 5, row[2], 0, 0]), kinds: made.kinds })
 }

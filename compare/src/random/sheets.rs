@@ -53,6 +53,51 @@ pub fn unkinded_sheet(rng: &mut Rng) -> Made {
     }
 }
 
+/// A small sheet that breaks the kinds by operands of any kinds, "let x = (some) in (some of x)": which kind goes on behind a fault shows in the rows that
+/// stand below it, as those of a let often do. Now and then all operands are floats, and a remainder of them is what is at fault.
+pub fn mixed_sheet(rng: &mut Rng) -> Made {
+    const NAME: u32 = 4;
+    let kinds = [Sort::Real, Sort::Real, Sort::Whole, Sort::Truth];
+    let sorts = std::array::from_fn(|name| kinds[name % kinds.len()]);
+    let named = (0..NAME).map(|name| Tree::Identifier(name, sorts[name as usize]));
+    let leaves: Vec<Tree> =
+        [Tree::Real(500)].into_iter().chain(named).chain([Tree::Whole(1), Tree::Truth(true)]).collect();
+    loop {
+        // The first three are floats.
+        let some = if rng.chance(40) { &leaves[..3] } else { &leaves[..] };
+        let value = mixed(2, some, rng);
+        let (code, leaf) = (mixed_code(rng), mixed(0, &leaves, rng));
+        // Of which kind the let's identifier is matters to nobody here.
+        let name = Tree::Identifier(NAME, Sort::Whole);
+        let inside = match rng.below(3) {
+            _ if code == 11 => Tree::operator(code, name),
+            0 => Tree::on_two(code, name, leaf),
+            1 => Tree::on_two(code, leaf, name),
+            _ => Tree::choose(Tree::Truth(true), name, leaf),
+        };
+        let made = laid_out(&Tree::Let(NAME, 1, Box::new(value), Box::new(inside)), sorts, true, rng);
+        if made.refusal() == 18 {
+            return made;
+        }
+    }
+}
+
+fn mixed_code(rng: &mut Rng) -> u32 {
+    rng.pick(&[1, 2, 3, 4, 5, 5, 6, 7, 11])
+}
+
+/// Operators on operators on these leaves.
+fn mixed(depth: u32, leaves: &[Tree], rng: &mut Rng) -> Tree {
+    if depth == 0 || rng.chance(30) {
+        return leaves[rng.below(leaves.len())].clone();
+    }
+    let left = mixed(depth - 1, leaves, rng);
+    match mixed_code(rng) {
+        11 => Tree::operator(11, left),
+        code => Tree::on_two(code, left, mixed(depth - 1, leaves, rng)),
+    }
+}
+
 fn random_palette(rng: &mut Rng) -> Palette {
     if rng.chance(FLOATS) {
         WITH_FLOATS
