@@ -98,6 +98,9 @@ static const struct sheet chosen_pair = {
     "     7     1     4     7     0\n",
     "TT\n"};
 
+/* The tag of a float, whose four bytes are its bits, and the letter of its kind. */
+enum { FLOAT_TAG = 4, FLOAT_LETTER = 'R' };
+
 /* Values as bytes. */
 #define LEAST {BENCH_WHOLE, 0, 0, 0, 0x80}
 #define GREATEST {BENCH_WHOLE, 0xff, 0xff, 0xff, 0x7f}
