@@ -1,4 +1,5 @@
-// The sheets that are timed, each with its kinds line: document 01's worked examples, a long sheet, and one near the greatest number of operators.
+// The sheets that are timed, each with its kinds line: document 01's worked examples, one of floats, a long sheet, and one near the greatest number of
+// operators.
 
 use crate::bytes;
 use crate::random::{heavy_sheet_of_wholes, Made, Rng};

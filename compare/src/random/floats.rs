@@ -130,7 +130,7 @@ fn composed(exponent: u32, rng: &mut Rng) -> Float {
 fn fraction(rng: &mut Rng) -> u32 {
     let bits = (rng.number() >> 32) as u32 % FRACTIONS;
     match rng.below(6) {
-        0 => bits & !(FRACTIONS - 1 >> rng.between(1, 14)),
+        0 => bits & !((FRACTIONS - 1) >> rng.between(1, 14)),
         1 => bits >> rng.between(15, 23),
         2 => FRACTIONS - 1 - (bits >> rng.between(15, 23)),
         3 => 0,
@@ -183,7 +183,7 @@ fn beside_or_at(float: Float, rng: &mut Rng) -> Float {
 fn short_fractions(rng: &mut Rng) -> [Float; 2] {
     let bits = rng.between(6, 18) as u32;
     let mut short = |bits: u32| {
-        let fraction = (rng.number() >> 32) as u32 % FRACTIONS & !(FRACTIONS - 1 >> bits);
+        let fraction = ((rng.number() >> 32) as u32 % FRACTIONS) & !((FRACTIONS - 1) >> bits);
         let odd = 1 << (FRACTION_BITS - bits);
         let exponent = rng.between(ONE as usize - 50, ONE as usize + 50) as u32;
         exponent << FRACTION_BITS | fraction | odd
@@ -277,7 +277,7 @@ mod tests {
     fn readings_are_of_every_exponent_and_patterns_often_not_finite() {
         let mut rng = Rng::new(9);
         let mut seen = [0; 255];
-        (0..100_000).for_each(|_| seen[(random_float(&mut rng).bits() % SIGN >> FRACTION_BITS) as usize] += 1);
+        (0..100_000).for_each(|_| seen[((random_float(&mut rng).bits() % SIGN) >> FRACTION_BITS) as usize] += 1);
         assert!(seen.iter().all(|&count| count > 0), "{seen:?}");
         let found = (0..1_000).filter(|_| Float::of_bits(random_pattern(&mut rng)).is_none()).count();
         assert!((200..500).contains(&found), "{found}");
