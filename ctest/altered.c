@@ -19,7 +19,8 @@ static const uint8_t two_values[] = {BENCH_WHOLE, 5, 0, 0, 0, BENCH_TRUTH, 1, 0,
 
 /* What is no value and no register's 'none' either. */
 static const uint8_t no_values[][BENCH_VALUE_BYTES] = {
-    {BENCH_REAL + 1, 0, 0, 0, 0}, {BENCH_REAL, 0, 0, 0x80, 0x7f}, {BENCH_REAL, 1, 0, 0x80, 0xff}, {BENCH_TRUTH, 2, 0, 0, 0}, {BENCH_TRUTH, 0, 1, 0, 0}, {BENCH_ERR, BENCH_ERR_OUT_OF_RANGE + 1, 0, 0, 0}, {0, 1, 0, 0, 0}};
+    {BENCH_REAL + 1, 0, 0, 0, 0}, {BENCH_TRUTH, 2, 0, 0, 0}, {BENCH_TRUTH, 0, 1, 0, 0}, {BENCH_ERR, BENCH_ERR_OUT_OF_RANGE + 1, 0, 0, 0}, {0, 1, 0, 0, 0},
+    {BENCH_REAL, 0, 0, 0x80, 0x7f}, {BENCH_REAL, 0, 0, 0x80, 0xff}};
 
 static unsigned figure(size_t at) {
     return memory[at] + 256u * memory[at + 1];
@@ -97,23 +98,6 @@ static void port_of(size_t record, unsigned port) {
     }
 }
 
-/* A constant's register: the least and the greatest of each kind that a sheet can have, and the next beyond. */
-static const uint8_t constants[][BENCH_VALUE_BYTES] = {
-    WHOLE(0), {BENCH_WHOLE, 0x3f, 0x42, 0x0f, 0}, FALSE_VALUE, TRUE_VALUE, {BENCH_REAL, 0, 0, 0, 0}, {BENCH_REAL, 0xf0, 0xff, 0x79, 0x44}};
-static const uint8_t no_constants[][BENCH_VALUE_BYTES] = {
-    {BENCH_WHOLE, 0x40, 0x42, 0x0f, 0}, MINUS_ONE, LEAST, GREATEST, E_VALUE, Z_VALUE, V_VALUE, {BENCH_REAL, 0xf1, 0xff, 0x79, 0x44}, {BENCH_REAL, 0, 0, 0, 0x80}};
-
-static void constant_of(size_t at) {
-    for (size_t b = 0; b < sizeof constants / sizeof constants[0]; b++) {
-        memcpy(memory + at, constants[b], BENCH_VALUE_BYTES);
-        stands("a constant of a sheet");
-    }
-    for (size_t b = 0; b < sizeof no_constants / sizeof no_constants[0]; b++) {
-        memcpy(memory + at, no_constants[b], BENCH_VALUE_BYTES);
-        all_refuse("a value that no constant of a sheet has", BENCH_ALTERED);
-    }
-}
-
 static void register_of(unsigned kind, size_t at) {
     uint8_t held[BENCH_VALUE_BYTES];
     memcpy(held, memory + at, sizeof held);
@@ -130,7 +114,6 @@ static void register_of(unsigned kind, size_t at) {
     memset(memory + at, 0, BENCH_VALUE_BYTES);
     if (kind == CONSTANT) {
         all_refuse("a constant without a value", BENCH_ALTERED);
-        constant_of(at);
     } else {
         stands("a register before the first firing");
     }
@@ -181,9 +164,9 @@ static void link_of(size_t at) {
     for (size_t token = at + 1; token < at + STRETCH; token += BENCH_VALUE_BYTES) {
         bad_byte("tag 0", token, 0);
         bad_byte("a tag past the last", token, BENCH_REAL + 1);
+        good_byte("a float", token, BENCH_REAL);
         bad_byte("a truth that is neither", token, BENCH_TRUTH);
         bad_byte("an err of reason 5", token, BENCH_ERR);
-        good_byte("a float", token, BENCH_REAL);
         errs_at(token);
     }
     memory[at] = 1;
@@ -280,7 +263,7 @@ static void starts(void) {
 }
 
 static void orders(void) {
-    static const uint8_t bad[] = {BENCH_ERR + 1, 0, 0, 0, 0};
+    static const uint8_t bad[] = {BENCH_REAL + 1, 0, 0, 0, 0};
     uint8_t out[BENCH_RESULT_BYTES];
     begin(&factorial, CAPACITY);
     memory[UNTAKEN_AT] = MOST_UNTAKEN;
