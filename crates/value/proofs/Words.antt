@@ -1,14 +1,14 @@
 -- Laws of the byte form (specs/Bytes): a value and its word determine each other, a word and its five bytes too, and
 -- storing a word changes those five bytes alone. Assumes nothing.
 use mathlib.Core.Path.{_≡_, refl, sym, ap, _∙_}
-use mathlib.Core.Bool.{Bool, true, false, cond, not, _&&_}
+use mathlib.Core.Bool.{Bool, true, false, cond, not, _&&_, false≢true}
 use mathlib.Core.Logic.{_⊎_, inl, inr, ⊎-elim}
 use mathlib.Core.List.{List, [], _∷_, _++_, append-assoc}
 use mathlib.Core.Option.{Option, some, none, Option·some-injective, Option·none-ne-some}
 use Prim.Native.Nat.{ℕ, zero, suc, _+_, _*_, _/_, _%_, _≤_, _<_}
 use native.Mathlib.Omega.{arith}
 use native.Mathlib.Nat.{add-zero, div-div-eq-div-mul, div-add-mod', mod-eq-of-lt}
-use borrow.Author.Tests.{ne-eqb, lt-ltb, le-ltb, eqb-true, ltb-true}
+use borrow.Author.Tests.{ne-eqb, lt-ltb, le-ltb, eqb-true, ltb-true, ltb-false}
 use lib.Dec.{eqb, ltb}
 use lib.IntN.{ℤ}
 use lib.Ieee.{Float, binary32, fits, ofBits, toBits, isNan}
@@ -97,6 +97,29 @@ module _ (bits : ℕ) where
       go : (t : Bool) → pick (t && false) (some (Real (ofBits binary32 bits))) none ≡ none
       go true = refl
       go false = refl
+
+-- What the code's test of a pattern tells.
+pub pattern-some : (bits : ℕ) → isSome (floatOf bits) ≡ true
+    → (bits < 4294967296) × (bits % 2147483648 < 2139095040) × (floatOf bits ≡ some (Real (ofBits binary32 bits)))
+pattern-some bits h = go (ltb bits 4294967296) refl (finite (ofBits binary32 bits)) refl
+  where
+    wrong : {o : Option Value} → floatOf bits ≡ o → isSome o ≡ false → ⊥
+    wrong e n = false≢true (sym n ∙ ap isSome (sym e) ∙ h)
+
+    go : (t : Bool) → ltb bits 4294967296 ≡ t → (u : Bool) → finite (ofBits binary32 bits) ≡ u
+        → (bits < 4294967296) × (bits % 2147483648 < 2139095040) × (floatOf bits ≡ some (Real (ofBits binary32 bits)))
+    go true p true q =
+        let l = ltb-true bits 4294967296 p in
+        (l, ltb-true (bits % 2147483648) 2139095040 (sym (finite-bits bits) ∙ q), pattern-finite bits l q)
+    go true p false q = absurd (wrong (pattern-infinite bits q) refl)
+    go false p u q = absurd (wrong (pattern-large bits (ltb-false bits 4294967296 p)) refl)
+
+pub pattern-none : (bits : ℕ) → isSome (floatOf bits) ≡ false → floatOf bits ≡ none
+pattern-none bits h = go (floatOf bits) refl
+  where
+    go : (o : Option Value) → floatOf bits ≡ o → floatOf bits ≡ none
+    go none e = e
+    go (some v) e = absurd (false≢true (sym h ∙ ap isSome e))
 
 -- ---- the test of a kind
 

@@ -1,5 +1,5 @@
 -- And, or beside an err: document 02, Job 2, as laws of `apply`, each for both codes and both orders of the operands.
--- Together they speak of every pair of operands, and name each err by its reason, as Job 5 asks. Assumes nothing.
+-- Together they speak of every pair of operands, Job 9's floats among them, and name each err by its reason, as Job 5 asks. Assumes nothing.
 use Prim.Native.Nat.{ℕ}
 use mathlib.Core.Path.{_≡_, refl}
 use mathlib.Core.Bool.{Bool, true, false, _&&_, _||_}

@@ -1,6 +1,7 @@
 -- The byte form of a value, for tokens in memory and for the sets that the firmware lends: a tag byte and four bytes,
--- lowest first. Document 01, "Values and operators", gives the values; "Running" and "Said by .." ask of 12 and 31 that
--- a field or token outside its range is refused, and `valueOf` is the definition of that range. Assumes nothing.
+-- lowest first. Document 01, "Values and operators", gives the values, document 02, Jobs 5 and 9, the reasons of errs and the floats;
+-- "Running" and "Said by .." ask of 12 and 31 that a field or token outside its range is refused, and `valueOf` is the definition of that
+-- range. Assumes nothing.
 use Prim.Native.Nat.{ℕ, _+_, _*_, _/_, _%_, _<_}
 use mathlib.Core.Path.{_≡_}
 use mathlib.Core.Bool.{Bool, true, false, _&&_}

@@ -1,4 +1,4 @@
--- What a constant of a sheet can be: document 01, "The formula sheet", row kinds 2 and 3, and document 02, Job 9, row kind 10. Assumes nothing.
+-- The range of a sheet's constants: document 01, "The formula sheet", row kinds 2 and 3, and document 02, Job 9, row kind 10. Assumes nothing.
 use Prim.Native.Nat.{ℕ}
 use mathlib.Core.Bool.{Bool, true, false}
 use mathlib.Core.Option.{Option, some, none}
@@ -17,11 +17,11 @@ abbrev pub isWholeConstant : ℤ → Bool
 isWholeConstant (pos n) = leb n 999999
 isWholeConstant (negsuc n) = false
 
--- The range of a stored constant: those whole numbers, the truths, and the floats from 0 to 999.999, whose patterns rise with them from 0 to
--- 1,148,846,064.
-abbrev pub isConstant : Option Value → Bool
-isConstant (some (Whole z)) = isWholeConstant z
-isConstant (some (Truth b)) = true
-isConstant (some (Real x)) = leb (toBits binary32 x) 1148846064
-isConstant (some (Err r)) = false
-isConstant none = false
+-- The range of a stored constant: those whole numbers, the truths, and the floats from +0 to the greatest of row kind 10, 999.999, whose pattern is
+-- 1,148,846,064 (Examples: `thousandths-outcomes`); the patterns of floats from +0 on rise with them.
+abbrev pub inConstantRange : Option Value → Bool
+inConstantRange (some (Whole z)) = isWholeConstant z
+inConstantRange (some (Truth b)) = true
+inConstantRange (some (Real x)) = leb (toBits binary32 x) 1148846064
+inConstantRange (some (Err r)) = false
+inConstantRange none = false

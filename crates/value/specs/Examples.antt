@@ -164,7 +164,7 @@ minusZero = r 2147483648
 
 abbrev pub floats : List Case
 floats =
-    -- 0.1 + 0.2 is the float next above 0.3
+    -- 0.1 + 0.2 is the float of 0.3
     at 1 (r 1036831949) (r 1045220557) (r 1050253722)
     -- 16,777,216 + 1 and 16,777,218 + 1 lie between two floats: "to nearest even"
     ∷ at 1 (r 1266679808) (r 1065353216) (r 1266679808)
@@ -192,6 +192,7 @@ floats =
     ∷ at 4 (r 1065353216) minusZero errZ
     ∷ at 4 (r 0) minusZero errZ
     ∷ at 5 (r 1073741824) (r 1065353216) errE
+    ∷ at 5 (r 1065353216) (r 0) errE
     ∷ at 6 minusZero (r 0) (Truth false)
     ∷ at 6 (r 2147483649) (r 1) (Truth true)
     ∷ at 6 (r 1) (r 2147483649) (Truth false)
@@ -205,6 +206,7 @@ floats =
     -- "Whole numbers and floats in one operator are a wrong kind"
     ∷ at 1 (r 1065353216) (n 1) errE
     ∷ at 4 (n 1) (r 0) errE
+    ∷ at 4 (r 1065353216) (n 0) errE
     ∷ at 7 (n 0) (r 0) errE
     ∷ at 6 (r 0) (Truth true) errE
     ∷ at 1 (r 0) errZ errZ
@@ -258,9 +260,9 @@ pub values-of-forms : map (λ f. valueOf (wordAt (f .bytes) 0)) forms ≡ map (�
 unfolding valueOf wordAt ofBits
 values-of-forms = refl
 
--- no value: an unknown tag, a truth that is neither, an err of no reason, a whole number of more than 32 bits, the infinities, a NaN, a float of
--- more than 32 bits
-pub no-values : map valueOf (0 ∷ 5 ∷ 255 ∷ 514 ∷ (2 + 256 * 4294967295) ∷ (3 + 256 * 3) ∷ (1 + 256 * 4294967296) ∷ (4 + 256 * 2139095040) ∷ (4 + 256 * 4286578688) ∷ (4 + 256 * 2143289344) ∷ (4 + 256 * 4294967296) ∷ [])
-    ≡ none ∷ none ∷ none ∷ none ∷ none ∷ none ∷ none ∷ none ∷ none ∷ none ∷ none ∷ []
+-- no value: an unknown tag, a truth that is neither, an err of no reason, a whole number of more than 32 bits, the infinities, two NaNs, a
+-- float of more than 32 bits
+pub no-values : map valueOf (0 ∷ 5 ∷ 255 ∷ 514 ∷ (2 + 256 * 4294967295) ∷ (3 + 256 * 3) ∷ (1 + 256 * 4294967296) ∷ (4 + 256 * 2139095040) ∷ (4 + 256 * 4286578688) ∷ (4 + 256 * 2143289344) ∷ (4 + 256 * 4294967295) ∷ (4 + 256 * 4294967296) ∷ [])
+    ≡ none ∷ none ∷ none ∷ none ∷ none ∷ none ∷ none ∷ none ∷ none ∷ none ∷ none ∷ none ∷ []
 unfolding valueOf ofBits
 no-values = refl

@@ -76,7 +76,7 @@ unfoldable pub wantedTest : List ValueKind → Bool
 wantedTest ks = allOf truth-kind ks
 
 -- "6 and 7 give a truth", and so do and, or, not; the others a number: a float where all operands are floats and the operator takes them;
--- else a whole number, also "after any wrong kind a number's kind goes on as W".
+-- else a whole number, also "after any wrong kind a number's kind goes on as W". An operator has operands, by test 8.
 unfoldable pub given : ℕ → List ValueKind → ValueKind
 given c ks = pick (leb 6 c && leb c 10) truth-kind (pick (not (eqb c 5) && allOf real-kind ks) real-kind whole-kind)
 

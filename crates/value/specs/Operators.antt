@@ -80,7 +80,8 @@ negateOf a = fitOf (negℤ a)
 
 -- ---- floats
 
--- A finite number of the format. What the code has as a float is of the format by its type.
+-- A finite number of the format. What the code has as a float is of the format by its type, and so is what the operators below give
+-- (FloatBytes); asking for it here makes their answers' range a law without conditions.
 abbrev pub isReal : Float → Bool
 isReal x = finite x && fits binary32 x
 
@@ -100,8 +101,11 @@ unfoldable pub multiplyReal : Float → Float → Value
 unfolding realOf
 multiplyReal a b = realOf (mul binary32 a b)
 
+abbrev pub zeroFloat : Float
+zeroFloat = fin false 0 (pos 0)
+
 abbrev pub isZeroReal : Float → Bool
-isZeroReal x = eq x (fin false 0 (pos 0))
+isZeroReal x = eq x zeroFloat
 
 -- "a zero divisor, also -0, gives Z": both zeros are equal.
 unfoldable pub divideReal : Float → Float → Value

@@ -9,14 +9,14 @@ use mathlib.Core.Option.{Option, some, none}
 use lib.IntN.{ℤ, pos, _+ℤ_, _-ℤ_, _*ℤ_, negℤ}
 use lib.Signed.{quotZ, remZ}
 use lib.Dec.{eqb, leb}
-use lib.Ieee.{Float, fin, binary32, fits, add, sub, mul, div, neg}
+use lib.Ieee.{Float, binary32, fits, add, sub, mul, div, neg}
 use borrow.Author.Tests.{eqb-true, eqb-false, ne-eqb, lt-leb}
 use native.Mathlib.Omega.{arith}
 use Rattle.value.specs.declared.Reason.{Reason}
 use Rattle.value.specs.declared.Reason.the-variants.{ZeroDivisor, OutOfRange, Other}
 use Rattle.value.specs.declared.Value.{Value}
 use Rattle.value.specs.declared.Value.the-variants.{Whole, Truth, Err, Real}
-use Rattle.value.specs.Operators.{pick, inRange, isZero, isReal, isZeroReal, operands, fitOf, dividedBy, addOf, subtractOf, multiplyOf, divideOf, remainderOf, lessOf, equalOf, andOf, orOf, realOf, addReal, subtractReal, multiplyReal, divideReal, lessReal, equalReal, negateReal, handOn, wholes, numbers, besideErr, logical, apply}
+use Rattle.value.specs.Operators.{pick, inRange, isZero, isReal, zeroFloat, isZeroReal, operands, fitOf, dividedBy, addOf, subtractOf, multiplyOf, divideOf, remainderOf, lessOf, equalOf, andOf, orOf, realOf, addReal, subtractReal, multiplyReal, divideReal, lessReal, equalReal, negateReal, handOn, wholes, numbers, besideErr, logical, apply}
 
 -- "An err now has a reason": that of a value, if it is an err.
 abbrev pub reasonIn : Value → Option Reason
@@ -57,16 +57,13 @@ isThe d (Real x) = false
 isThe d (Err r) = false
 
 -- the whole number of a value, 0 where it is none
-abbrev pub numberIn : Value → ℤ
-numberIn (Whole z) = z
-numberIn (Truth a) = pos 0
-numberIn (Real x) = pos 0
-numberIn (Err r) = pos 0
+abbrev pub wholeIn : Value → ℤ
+wholeIn (Whole z) = z
+wholeIn (Truth a) = pos 0
+wholeIn (Real x) = pos 0
+wholeIn (Err r) = pos 0
 
--- the float +0, and the float of a value, +0 where it is none
-abbrev zeroFloat : Float
-zeroFloat = fin false 0 (pos 0)
-
+-- the float of a value, +0 where it is none
 abbrev pub floatIn : Value → Float
 floatIn (Whole z) = zeroFloat
 floatIn (Truth a) = zeroFloat
@@ -121,8 +118,8 @@ abbrev outOfRange : ℕ → ℤ → ℤ → Bool
 outOfRange c x y = not (inRange (exact c x y))
 
 -- Of whole numbers.
-abbrev pub ofNumbers : ℕ → ℤ → ℤ → Option Reason
-ofNumbers c x y =
+abbrev pub ofWholes : ℕ → ℤ → ℤ → Option Reason
+ofWholes c x y =
     pick (zeroDivisor c y) (some ZeroDivisor)
     (pick (outOfRange c x y) (some OutOfRange)
     none)
@@ -146,7 +143,7 @@ ofFloats c x y =
 
 -- Of operands that are wanted.
 abbrev pub ofWanted : ℕ → Value → Value → Option Reason
-ofWanted c a b = pick (isFloat a) (ofFloats c (floatIn a) (floatIn b)) (ofNumbers c (numberIn a) (numberIn b))
+ofWanted c a b = pick (isFloat a) (ofFloats c (floatIn a) (floatIn b)) (ofWholes c (wholeIn a) (wholeIn b))
 
 -- The reason that an operator's answer has, or none.
 unfoldable pub reasonOf : ℕ → Value → Value → Option Reason
@@ -196,7 +193,7 @@ divided-real x y = go (isZeroReal y)
 
 of-wholes : (f : ℤ → ℤ → Value) (g : ℤ → ℤ → Option Reason) (o : Value → Value → Option Reason) → ((x y : ℤ) → reasonIn (f x y) ≡ g x y)
     → (a b : Value)
-    → reasonIn (wholes f a b) ≡ leftmost (a ∷ b ∷ []) (pick (not (isWhole a && (isWhole b && true))) (some Other) (pick (isFloat a) (o a b) (g (numberIn a) (numberIn b))))
+    → reasonIn (wholes f a b) ≡ leftmost (a ∷ b ∷ []) (pick (not (isWhole a && (isWhole b && true))) (some Other) (pick (isFloat a) (o a b) (g (wholeIn a) (wholeIn b))))
 unfolding wholes handOn
 of-wholes f g o h (Whole x) (Whole y) = h x y
 of-wholes f g o h (Whole x) (Truth y) = refl
@@ -215,7 +212,7 @@ of-wholes f g o h (Err r) b = refl
 of-numbers : (f : ℤ → ℤ → Value) (g : Float → Float → Value) (p : ℤ → ℤ → Option Reason) (q : Float → Float → Option Reason)
     → ((x y : ℤ) → reasonIn (f x y) ≡ p x y) → ((x y : Float) → reasonIn (g x y) ≡ q x y) → (a b : Value)
     → reasonIn (numbers f g a b) ≡ leftmost (a ∷ b ∷ []) (pick (not ((isWhole a && (isWhole b && true)) || (isFloat a && (isFloat b && true)))) (some Other)
-    (pick (isFloat a) (q (floatIn a) (floatIn b)) (p (numberIn a) (numberIn b))))
+    (pick (isFloat a) (q (floatIn a) (floatIn b)) (p (wholeIn a) (wholeIn b))))
 unfolding numbers handOn
 of-numbers f g p q h i (Whole x) (Whole y) = h x y
 of-numbers f g p q h i (Whole x) (Truth y) = refl
@@ -293,31 +290,31 @@ of-one-number (Err r) b = refl
 
 of-add : Has-reason 1
 unfolding apply reasonOf operands addOf addReal
-of-add a b = of-numbers addOf addReal (ofNumbers 1) (ofFloats 1) (λ x y. fitted (x +ℤ y)) (λ x y. real-reason (add binary32 x y)) a b
+of-add a b = of-numbers addOf addReal (ofWholes 1) (ofFloats 1) (λ x y. fitted (x +ℤ y)) (λ x y. real-reason (add binary32 x y)) a b
 
 of-subtract : Has-reason 2
 unfolding apply reasonOf operands subtractOf subtractReal
-of-subtract a b = of-numbers subtractOf subtractReal (ofNumbers 2) (ofFloats 2) (λ x y. fitted (x -ℤ y)) (λ x y. real-reason (sub binary32 x y)) a b
+of-subtract a b = of-numbers subtractOf subtractReal (ofWholes 2) (ofFloats 2) (λ x y. fitted (x -ℤ y)) (λ x y. real-reason (sub binary32 x y)) a b
 
 of-multiply : Has-reason 3
 unfolding apply reasonOf operands multiplyOf multiplyReal
-of-multiply a b = of-numbers multiplyOf multiplyReal (ofNumbers 3) (ofFloats 3) (λ x y. fitted (x *ℤ y)) (λ x y. real-reason (mul binary32 x y)) a b
+of-multiply a b = of-numbers multiplyOf multiplyReal (ofWholes 3) (ofFloats 3) (λ x y. fitted (x *ℤ y)) (λ x y. real-reason (mul binary32 x y)) a b
 
 of-divide : Has-reason 4
 unfolding apply reasonOf operands divideOf
-of-divide a b = of-numbers divideOf divideReal (ofNumbers 4) (ofFloats 4) (λ x y. divided y (quotZ x y)) divided-real a b
+of-divide a b = of-numbers divideOf divideReal (ofWholes 4) (ofFloats 4) (λ x y. divided y (quotZ x y)) divided-real a b
 
 of-remainder : Has-reason 5
 unfolding apply reasonOf operands remainderOf
-of-remainder a b = of-wholes remainderOf (ofNumbers 5) (λ x y. ofFloats 5 (floatIn x) (floatIn y)) (λ x y. divided y (remZ x y)) a b
+of-remainder a b = of-wholes remainderOf (ofWholes 5) (λ x y. ofFloats 5 (floatIn x) (floatIn y)) (λ x y. divided y (remZ x y)) a b
 
 of-less : Has-reason 6
 unfolding apply reasonOf operands lessOf equalOf lessReal equalReal fits
-of-less a b = of-numbers _ _ (ofNumbers 6) (ofFloats 6) (λ x y. refl) (λ x y. refl) a b
+of-less a b = of-numbers _ _ (ofWholes 6) (ofFloats 6) (λ x y. refl) (λ x y. refl) a b
 
 of-equal : Has-reason 7
 unfolding apply reasonOf operands lessOf equalOf lessReal equalReal fits
-of-equal a b = of-numbers _ _ (ofNumbers 7) (ofFloats 7) (λ x y. refl) (λ x y. refl) a b
+of-equal a b = of-numbers _ _ (ofWholes 7) (ofFloats 7) (λ x y. refl) (λ x y. refl) a b
 
 of-and : Has-reason 8
 unfolding apply reasonOf operands andOf

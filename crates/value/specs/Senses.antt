@@ -1,5 +1,5 @@
 -- What a value is as the control of a gate or the test of an if: true, false or neither; and the plain err, the only one that anything
--- but an operator makes. Outside this crate only the program's text, the constants of rows and the two truths of the gates name a case
+-- but an operator makes of values in range. Outside this crate only the program's text, the constants of rows and the two truths of the gates name a case
 -- of a value, so a further case changes few crates. Assumes nothing.
 use mathlib.Core.Path.{_≡_, refl, sym, subst}
 use mathlib.Core.Bool.{true, false}

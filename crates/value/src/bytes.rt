@@ -3,7 +3,7 @@
 use crate::Decoded;
 use crate::Reason;
 use crate::Value;
-use crate::is_real;
+use crate::is_finite;
 ghost use mathlib.Core.Path.{_≡_};
 ghost use Prim.Native.Nat.{ℕ, _+_, _*_, _≤_, _<_};
 ghost use lib.ListN.{length};
@@ -11,7 +11,7 @@ ghost use mir.Syntax.{w32};
 ghost use mir.Val.{toZ, ofZ};
 ghost use Rattle.value.specs.Kinds.{isLetter, ofKind};
 ghost use Rattle.value.specs.Bytes.{wordOf, valueOf, decoded, isSome, wordOr, wordAt, stored, wholeOf, truthOf, errOf, floatOf};
-ghost use Rattle.value.specs.Constants.{isConstant};
+ghost use Rattle.value.specs.Constants.{inConstantRange};
 
 // The words of no token, true, false, and of the errs: the plain one and those with a reason.
 pub const NONE: u64 = 0;
@@ -84,7 +84,7 @@ fn err_word(r: Reason) -> u64
 fn real_word(x: f32) -> u64
     ensures { λ w. ⌜ w ≡ wordOf (Value.Real x) ⌝ }
 {
-    if is_real(x) {
+    if is_finite(x) {
         return 4 + 256 * (f32::to_bits(x) as u64);
     }
     OUT_OF_RANGE
@@ -155,11 +155,8 @@ fn is_pattern(bits: u64) -> bool
 fn from_real(bits: u64) -> Decoded
     ensures { λ r. ⌜ r ≡ decoded (floatOf bits) ⌝ }
 {
-    if bits < PATTERNS {
-        let pattern = bits as u32;
-        if bits % SIGN < INFINITY {
-            return Decoded::Valid(Value::Real(f32::from_bits(pattern)));
-        }
+    if is_pattern(bits) {
+        return Decoded::Valid(Value::Real(f32::from_bits(bits as u32)));
     }
     Decoded::Invalid
 }
@@ -193,9 +190,9 @@ pub fn is_value(w: u64) -> bool
     }
 }
 
-// Whether a word is the byte form of a value that a constant of a sheet can have.
-pub fn is_constant(w: u64) -> bool
-    ensures { λ r. ⌜ r ≡ isConstant (valueOf w) ⌝ }
+// Whether a word is the byte form of a value in the range of a sheet's constants.
+pub fn in_constant_range(w: u64) -> bool
+    ensures { λ r. ⌜ r ≡ inConstantRange (valueOf w) ⌝ }
 {
     let bits = w / 256;
     match w % 256 {

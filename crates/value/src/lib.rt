@@ -1,11 +1,11 @@
-// Values and their operators: document 01, "Values and operators". The meaning of each code is
+// Values and their operators: document 01, "Values and operators", and document 02, Jobs 2, 5, 6 and 9. The meaning of each code is
 // specs/Operators; the byte form of a value is the module bytes.
 pub mod bytes; // bytes.rt: a value as a tag byte and four bytes
 
 ghost use mathlib.Core.Path.{_≡_};
 ghost use Prim.Native.Nat.{ℕ, _+_, _*_, _≤_, _<_};
 ghost use lib.IntN.{pos, negsuc, _+ℤ_, _-ℤ_, _*ℤ_};
-ghost use Rattle.value.specs.Operators.{fitOf, addOf, subtractOf, multiplyOf, divideOf, remainderOf, lessOf, equalOf, andOf, orOf, isReal, realOf, divideReal, besideErr, reasonOr, handOn, handOnOne, negateOf, apply};
+ghost use Rattle.value.specs.Operators.{fitOf, addOf, subtractOf, multiplyOf, divideOf, remainderOf, lessOf, equalOf, andOf, orOf, isReal, realOf, divideReal, besideErr, reasonOr, handOn, handOnOne, negateOf, negateReal, number, apply};
 ghost use Rattle.value.specs.Senses.{err};
 ghost use Rattle.value.specs.Constants.{thousandths};
 
@@ -44,7 +44,7 @@ pub enum Decoded {
     Invalid,
 }
 
-// The plain err, the only one that anything but an operator makes.
+// The plain err, the only one that anything but an operator makes of values in range.
 pub fn err() -> Value
     ensures { λ r. ⌜ r ≡ err ⌝ }
 {
@@ -154,7 +154,7 @@ fn apply_wholes(code: u8, a: i32, b: i32) -> Value
 }
 
 // Whether a float is a finite number: between the infinities.
-fn is_real(x: f32) -> bool
+fn is_finite(x: f32) -> bool
     ensures { λ r. ⌜ r ≡ isReal x ⌝ }
 {
     let infinity = 1.0f32 / 0.0f32;
@@ -165,10 +165,10 @@ fn is_real(x: f32) -> bool
 }
 
 // The float x, or the err of an answer that is no finite number.
-fn finite(x: f32) -> Value
+fn fit_real(x: f32) -> Value
     ensures { λ r. ⌜ r ≡ realOf x ⌝ }
 {
-    if is_real(x) {
+    if is_finite(x) {
         return Value::Real(x);
     }
     Value::Err(Reason::OutOfRange)
@@ -180,7 +180,7 @@ fn divide_reals(a: f32, b: f32) -> Value
     if b == 0.0f32 {
         return Value::Err(Reason::ZeroDivisor);
     }
-    finite(a / b)
+    fit_real(a / b)
 }
 
 // Codes 1 to 7 of two floats; a remainder of floats is a wrong kind.
@@ -189,9 +189,9 @@ fn apply_reals(code: u8, a: f32, b: f32) -> Value
     ensures { λ r. ⌜ r ≡ apply code (Value.Real a) (Value.Real b) ⌝ }
 {
     match code {
-        1 => finite(a + b),
-        2 => finite(a - b),
-        3 => finite(a * b),
+        1 => fit_real(a + b),
+        2 => fit_real(a - b),
+        3 => fit_real(a * b),
         4 => divide_reals(a, b),
         5 => err(),
         6 => Value::Truth(a < b),
@@ -204,7 +204,7 @@ pub fn thousandths(a: u32) -> Value
     requires { ⌜ a ≤ 999999 ⌝ }
     ensures { λ r. ⌜ r ≡ thousandths a ⌝ }
 {
-    finite((a as f32) / 1000.0f32)
+    fit_real((a as f32) / 1000.0f32)
 }
 
 // Codes 8 and 9 of two truths.
@@ -312,12 +312,12 @@ fn apply_logical(code: u8, a: Value, b: Value) -> Value
 }
 
 // Code 11; of a float "negate turning the sign".
-fn apply_negate(a: Value, b: Value) -> Value
-    ensures { λ r. ⌜ r ≡ apply 11 a b ⌝ }
+fn apply_negate(a: Value) -> Value
+    ensures { λ r. ⌜ r ≡ number negateOf negateReal a ⌝ }
 {
     match a {
         Value::Whole(x) => negate(x),
-        Value::Real(x) => finite(-x),
+        Value::Real(x) => fit_real(-x),
         Value::Truth(_) => hand_on_one(a),
         Value::Err(_) => hand_on_one(a),
     }
@@ -336,7 +336,7 @@ pub fn apply_code(code: u8, a: Value, b: Value) -> Value
             };
             Value::Truth(!x)
         }
-        11 => apply_negate(a, b),
+        11 => apply_negate(a),
         _ => err(),
     }
 }

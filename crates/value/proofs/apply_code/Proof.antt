@@ -26,7 +26,7 @@ hand-on-one-requires c κs = search needs
 returns : tie.Need-returns
 returns c = c .hand-on-one .ensures ∙ rw (c .before .before .match .keys1) (sym (not-no-truth (c .before .before .before .args .a) (c .before .before .before .args .b) (c .before .match2 .keys2)))
 
--- src/lib.rt:339:15  } ⏎ 11 => apply_negate(a, b),
+-- src/lib.rt:339:15  } ⏎ 11 => apply_negate(a),
 apply-negate-requires : tie.Need-apply-negate-requires
 apply-negate-requires c κs = search needs
 
@@ -38,7 +38,7 @@ apply-numbers-requires c κs = search needs
 apply-logical-requires : tie.Need-apply-logical-requires
 apply-logical-requires c κs = search needs
 
--- src/lib.rt:340:14  11 => apply_negate(a, b), ⏎ _ => err(),
+-- src/lib.rt:340:14  11 => apply_negate(a), ⏎ _ => err(),
 err-requires : tie.Need-err-requires
 err-requires c κs = search needs
 
@@ -49,6 +49,7 @@ returns-2 c = rw (c .before .before .before .match .keys1, c .before .a .given .
 
 -- src/lib.rt:327:1  // The operator of a code on its operands; codes 10 and 11 do not look at the second. ⏎ pub fn apply_code(code: u8, a: Value, b: Value) -> Value
 returns-3 : tie.Need-returns-3
+unfolding apply
 returns-3 c = rw (c .before .match .keys2) (c .apply-negate .ensures)
 
 -- src/lib.rt:327:1  // The operator of a code on its operands; codes 10 and 11 do not look at the second. ⏎ pub fn apply_code(code: u8, a: Value, b: Value) -> Value

@@ -5,25 +5,25 @@ use Rattle.value.proofs.apply_reals.Reads as reads
 use Rattle.value.proofs.apply_reals.Lts as lts
 use Rattle.value.proofs.divide_reals.Reads as divide-reals-reads
 use Rattle.value.proofs.err.Reads as err-reads
-use Rattle.value.proofs.finite.Reads as finite-reads
+use Rattle.value.proofs.fit_real.Reads as fit-real-reads
 use native.Mathlib.Omega.{arith}
 use mathlib.Core.Path.{_≡_, refl}
 use lib.Ieee
 use Rattle.value.specs.Operators.{apply, addReal, subtractReal, multiplyReal, lessReal, equalReal}
 
--- src/lib.rt:192:14  match code { ⏎ 1 => finite(a + b),
-finite-requires : tie.Need-finite-requires
-finite-requires c κs = search needs
+-- src/lib.rt:192:14  match code { ⏎ 1 => fit_real(a + b),
+fit-real-requires : tie.Need-fit-real-requires
+fit-real-requires c κs = search needs
 
--- src/lib.rt:193:14  1 => finite(a + b), ⏎ 2 => finite(a - b),
-finite-requires-2 : tie.Need-finite-requires-2
-finite-requires-2 c κs = search needs
+-- src/lib.rt:193:14  1 => fit_real(a + b), ⏎ 2 => fit_real(a - b),
+fit-real-requires-2 : tie.Need-fit-real-requires-2
+fit-real-requires-2 c κs = search needs
 
--- src/lib.rt:194:14  2 => finite(a - b), ⏎ 3 => finite(a * b),
-finite-requires-3 : tie.Need-finite-requires-3
-finite-requires-3 c κs = search needs
+-- src/lib.rt:194:14  2 => fit_real(a - b), ⏎ 3 => fit_real(a * b),
+fit-real-requires-3 : tie.Need-fit-real-requires-3
+fit-real-requires-3 c κs = search needs
 
--- src/lib.rt:195:14  3 => finite(a * b), ⏎ 4 => divide_reals(a, b),
+-- src/lib.rt:195:14  3 => fit_real(a * b), ⏎ 4 => divide_reals(a, b),
 divide-reals-requires : tie.Need-divide-reals-requires
 divide-reals-requires c κs = search needs
 
@@ -34,17 +34,17 @@ err-requires c κs = search needs
 -- src/lib.rt:187:1  // Codes 1 to 7 of two floats; a remainder of floats is a wrong kind. ⏎ fn apply_reals(code: u8, a: f32, b: f32) -> Value
 returns : tie.Need-returns
 unfolding apply addReal
-returns c = rw (c .before .match .keys1) (c .finite .ensures)
+returns c = rw (c .before .match .keys1) (c .fit-real .ensures)
 
 -- src/lib.rt:187:1  // Codes 1 to 7 of two floats; a remainder of floats is a wrong kind. ⏎ fn apply_reals(code: u8, a: f32, b: f32) -> Value
 returns-2 : tie.Need-returns-2
 unfolding apply subtractReal
-returns-2 c = rw (c .before .match .keys2) (c .finite2 .ensures)
+returns-2 c = rw (c .before .match .keys2) (c .fit-real2 .ensures)
 
 -- src/lib.rt:187:1  // Codes 1 to 7 of two floats; a remainder of floats is a wrong kind. ⏎ fn apply_reals(code: u8, a: f32, b: f32) -> Value
 returns-3 : tie.Need-returns-3
 unfolding apply multiplyReal
-returns-3 c = rw (c .before .match .keys3) (c .finite3 .ensures)
+returns-3 c = rw (c .before .match .keys3) (c .fit-real3 .ensures)
 
 -- src/lib.rt:187:1  // Codes 1 to 7 of two floats; a remainder of floats is a wrong kind. ⏎ fn apply_reals(code: u8, a: f32, b: f32) -> Value
 returns-4 : tie.Need-returns-4
@@ -70,9 +70,9 @@ pub apply-reals-spec : {M : Type 1} → statement M
 apply-reals-spec =
     tie.close
     (tie.spec
-    finite-requires
-    finite-requires-2
-    finite-requires-3
+    fit-real-requires
+    fit-real-requires-2
+    fit-real-requires-3
     divide-reals-requires
     err-requires
     returns

@@ -8,15 +8,15 @@ use Rattle.value.proofs.bytes.is_letter.Lts as lts
 use mathlib.Core.Path.{refl}
 use borrow.Author.Tests.{ne-eqb}
 
--- src/bytes.rt:213:9  if b == WHOLE_LETTER { ⏎ return true;
+-- src/bytes.rt:210:9  if b == WHOLE_LETTER { ⏎ return true;
 returns : tie.Need-returns
 returns c = rw (c .if1 .taken) refl
 
--- src/bytes.rt:216:9  if b == TRUTH_LETTER { ⏎ return true;
+-- src/bytes.rt:213:9  if b == TRUTH_LETTER { ⏎ return true;
 returns-2 : tie.Need-returns-2
 returns-2 c = rw (c .if2 .taken) refl
 
--- src/bytes.rt:209:1  } ⏎ pub fn is_letter(b: u8) -> bool
+-- src/bytes.rt:206:1  } ⏎ pub fn is_letter(b: u8) -> bool
 returns-3 : tie.Need-returns-3
 returns-3 c = simp (ne-eqb (c .before .before .args .b) 87 (c .before .if1 .left), ne-eqb (c .before .before .args .b) 84 (c .if2 .left))
 

@@ -9,15 +9,15 @@ use Rattle.value.proofs.bytes.is_pattern.Reads as is-pattern-reads
 use mathlib.Core.Path.{_∙_}
 use Rattle.value.proofs.Words.{real-of-kind, real-of-none}
 
--- src/bytes.rt:260:9  if letter == REAL_LETTER { ⏎ return is_pattern(bits);
+-- src/bytes.rt:257:9  if letter == REAL_LETTER { ⏎ return is_pattern(bits);
 is-pattern-requires : tie.Need-is-pattern-requires
 is-pattern-requires c κs = search needs
 
--- src/bytes.rt:260:9  if letter == REAL_LETTER { ⏎ return is_pattern(bits);
+-- src/bytes.rt:257:9  if letter == REAL_LETTER { ⏎ return is_pattern(bits);
 returns : tie.Need-returns
 returns c = c .is-pattern .ensures ∙ real-of-kind (c .before .before .args .letter) (c .before .before .args .bits) (c .before .if1 .taken)
 
--- src/bytes.rt:256:1  } ⏎ fn real_in(letter: u8, bits: u64) -> bool
+-- src/bytes.rt:253:1  } ⏎ fn real_in(letter: u8, bits: u64) -> bool
 returns-2 : tie.Need-returns-2
 returns-2 c = real-of-none (c .before .args .letter) (c .before .args .bits) (c .if1 .left)
 
