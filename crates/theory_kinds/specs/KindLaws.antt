@@ -13,7 +13,7 @@ use Rattle.value.specs.declared.ValueKind.{ValueKind}
 use Rattle.value.specs.declared.ValueKind.the-variants.{Whole as whole-kind, Truth as truth-kind, Real as real-kind}
 use Rattle.value.specs.Senses.{err}
 use Rattle.value.specs.Constants.{thousandths}
-use Rattle.value.specs.Kinds.{sameKind, suits, allOf}
+use Rattle.value.specs.Kinds.{sameKind, suits, allOf, given, given-one}
 use Rattle.names.specs.Names.{range}
 use Rattle.formula.specs.TreeLaws.{and-true}
 use Rattle.formula.specs.Constants.{constantValue}
@@ -40,6 +40,11 @@ same-kinds (k ∷ ks) [] h = absurd (false≢true h)
 same-kinds (k ∷ ks) (l ∷ ls) h =
     let both = and-true (sameKind k l) (sameKinds ks ls) h in
     cc (same-kind k l (both .0), same-kinds ks ls (both .1))
+
+-- What an operator gives on some operands of one kind.
+pub given-alike : (c : ℕ) (k : ValueKind) (ks : List ValueKind) → 1 ≤ length ks → allOf k ks ≡ true → given c ks ≡ given c (k ∷ [])
+given-alike c k [] l h = absurd (omega arith)
+given-alike c k (j ∷ ks) l h = given-one c k j ks h
 
 -- ---- values of given kinds
 

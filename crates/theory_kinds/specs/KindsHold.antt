@@ -9,7 +9,6 @@ use mathlib.Core.Bool.{Bool, true, false, _&&_, _||_}
 use mathlib.Core.List.{List, [], _∷_, _++_}
 use mathlib.Core.Option.{Option, some}
 use lib.ListN.{length, getD, replicate}
-use native.Mathlib.Omega.{arith}
 use Rattle.value.specs.declared.Value.{Value}
 use Rattle.value.specs.declared.ValueKind.{ValueKind}
 use Rattle.value.specs.declared.ValueKind.the-variants.{Whole as whole-kind, Truth as truth-kind, Real as real-kind}
@@ -17,7 +16,7 @@ use Rattle.value.specs.declared.Sense.{Sense}
 use Rattle.value.specs.declared.Sense.the-variants.{True, False, Neither}
 use Rattle.value.specs.Senses.{err, sense}
 use Rattle.value.specs.Operators.{apply}
-use Rattle.value.specs.Kinds.{suits, allOf, wanted, wantedTest, given, one-kind, given-one, gives-its-kind}
+use Rattle.value.specs.Kinds.{suits, allOf, wanted, wantedTest, given, one-kind, gives-its-kind}
 use Rattle.formula.specs.Tree.{Exp, identifier, constant, pair, operator, letE, ifE, forE, Body, ret, iter, letB, ifB}
 use Rattle.formula.specs.TreeLaws.{and-true}
 use Rattle.formula.specs.Widths.{width, returned}
@@ -27,7 +26,7 @@ use Rattle.meaning.specs.Meaning.{Env, bind, Outcome, yields, Ending, again, re
 use Rattle.meaning.specs.WidthLaws.{SoundE, SoundB, positive}
 use Rattle.theory_kinds.specs.Strict.{alike, operandsWanted, testWanted, guard, thenS, thenBS, afterS, enterS, loopS, strictE, strictB}
 use Rattle.theory_kinds.specs.Kinded.{AllE, AllB}
-use Rattle.theory_kinds.specs.KindLaws.{same-kinds, Suited-list, suited-append, errs-suited, all-suited, constant-suited, Env-suits, bound-suits, Some-suited, first-arm, second-arm}
+use Rattle.theory_kinds.specs.KindLaws.{same-kinds, given-alike, Suited-list, suited-append, errs-suited, all-suited, constant-suited, Env-suits, bound-suits, Some-suited, first-arm, second-arm}
 
 -- ---- what the rule says of a node
 
@@ -102,11 +101,10 @@ operands-pass c truth-kind w a b h i = rw (w, h, i) (or-true (wanted c (whole-ki
 operands-pass c real-kind w a b h i =
     rw (w, h, i, or-true (wanted c (truth-kind ∷ []) && alike truth-kind a b)) (or-true (wanted c (whole-kind ∷ []) && alike whole-kind a b))
 
--- The answer of an operator on operands of one kind is of the kind that it gives on them.
+-- The answer of an operator on some operands of one kind is of the kind that it gives on them.
 answer-suits : (c : ℕ) (k : ValueKind) (ks : List ValueKind) → 1 ≤ length ks → allOf k ks ≡ true → (a b : Value) → suits k a ≡ true → suits k b ≡ true
     → suits (given c ks) (apply c a b) ≡ true
-answer-suits c k [] l e a b h i = absurd (omega arith)
-answer-suits c k (j ∷ ks) l e a b h i = ap (λ (g : ValueKind). suits g (apply c a b)) (given-one c k j ks e) ∙ gives-its-kind c k a b h i
+answer-suits c k ks l e a b h i = ap (λ (g : ValueKind). suits g (apply c a b)) (given-alike c k ks l e) ∙ gives-its-kind c k a b h i
 
 test-passes : (v : Value) → suits truth-kind v ≡ true → testWanted v ≡ true
 test-passes v h = cc h
