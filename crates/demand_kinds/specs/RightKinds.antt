@@ -4,7 +4,7 @@
 -- wrong kind, also for sets that never end. And every result taken is of its kinds, place by place, or err. Assumes an accepted start and nothing else: push
 -- refuses other sets with 12.
 use Prim.Native.Nat.{ℕ, zero, suc, _+_, _*_, _≤_, _<_}
-use mathlib.Core.Path.{_≡_, refl, sym, ap, subst, _∙_}
+use mathlib.Core.Path.{_≡_, refl, sym, ap, subst}
 use mathlib.Core.Bool.{Bool, true, false}
 use mathlib.Core.List.{List, [], _∷_, _++_, map}
 use mathlib.Core.Option.{Option, some, none, Option·some-injective, Option·none-ne-some}
@@ -131,52 +131,78 @@ linkIn o zero = link-of (o .in1)
 linkIn o (suc zero) = link-of (o .in2)
 linkIn o (suc (suc p)) = link-of (o .in3)
 
-wanted-waits : (o : Operator) (kind : Kind) (q : Links) → Wanted kind (portsOf o) q → (p : ℕ) (k : ValueKind) → wantedAt kind p ≡ some k → Waiting (λ v. suits k v ≡ true) (q (linkIn o p))
-wanted-waits o kind q = go kind
-  where
-    same : (a k : ValueKind) (l : ℕ) → some a ≡ some k → Waiting (λ v. suits a v ≡ true) (q l) → Waiting (λ v. suits k v ≡ true) (q l)
-    same a k l e h = subst (λ (z : ValueKind). Waiting (λ v. suits z v ≡ true) (q l)) (Option·some-injective a k e) h
+module _ (o : Operator) (q : Links) where
+  -- The kind of an operator's operands. A gate has none, and any kind may stand for it.
+  abbrev operandsKind : (kind : Kind) → Wanted kind (portsOf o) q → ValueKind
+  operandsKind (operator code) h = h .0
+  operandsKind constant h = truth-kind
+  operandsKind copy h = truth-kind
+  operandsKind IC-gate h = truth-kind
+  operandsKind T-gate h = truth-kind
+  operandsKind F-gate h = truth-kind
+  operandsKind M-gate h = truth-kind
+  operandsKind E-gate h = truth-kind
+  operandsKind FM-gate h = truth-kind
+  operandsKind FS-gate h = truth-kind
 
-    two : (code : ℕ) (b : Bool) (k : ValueKind) → one-operand code ≡ b → (one-operand code ≡ false → Waiting (λ v. suits (wants code) v ≡ true) (q (link-of (o .in2))))
-        → pick b none (some (wants code)) ≡ some k → Waiting (λ v. suits k v ≡ true) (q (link-of (o .in2)))
-    two code true k b h e = absurd (Option·none-ne-some k e)
-    two code false k b h e = same (wants code) k (link-of (o .in2)) e (h b)
+  operands-taken : (kind : Kind) (h : Wanted kind (portsOf o) q) → Takes kind (operandsKind kind h)
+  operands-taken (operator code) h = h .1
+  operands-taken constant h = tt
+  operands-taken copy h = tt
+  operands-taken IC-gate h = tt
+  operands-taken T-gate h = tt
+  operands-taken F-gate h = tt
+  operands-taken M-gate h = tt
+  operands-taken E-gate h = tt
+  operands-taken FM-gate h = tt
+  operands-taken FS-gate h = tt
 
-    go : (kind : Kind) → Wanted kind (portsOf o) q → (p : ℕ) (k : ValueKind) → wantedAt kind p ≡ some k → Waiting (λ v. suits k v ≡ true) (q (linkIn o p))
-    go (operator code) h zero k e = same (wants code) k (link-of (o .in1)) e (h .0)
-    go (operator code) h (suc zero) k e = two code (one-operand code) k refl (h .1) e
-    go (operator code) h (suc (suc p)) k e = absurd (Option·none-ne-some k e)
-    go constant h p k e = absurd (Option·none-ne-some k e)
-    go copy h p k e = absurd (Option·none-ne-some k e)
-    go IC-gate h zero k e = same truth-kind k (link-of (o .in1)) e (h .0)
-    go IC-gate h (suc zero) k e = same truth-kind k (link-of (o .in2)) e (h .1)
-    go IC-gate h (suc (suc zero)) k e = same truth-kind k (link-of (o .in3)) e (h .2)
-    go IC-gate h (suc (suc (suc p))) k e = absurd (Option·none-ne-some k e)
-    go T-gate h zero k e = same truth-kind k (link-of (o .in1)) e h
-    go T-gate h (suc p) k e = absurd (Option·none-ne-some k e)
-    go F-gate h zero k e = same truth-kind k (link-of (o .in1)) e h
-    go F-gate h (suc p) k e = absurd (Option·none-ne-some k e)
-    go M-gate h zero k e = same truth-kind k (link-of (o .in1)) e h
-    go M-gate h (suc p) k e = absurd (Option·none-ne-some k e)
-    go E-gate h zero k e = same truth-kind k (link-of (o .in1)) e h
-    go E-gate h (suc p) k e = absurd (Option·none-ne-some k e)
-    go FM-gate h zero k e = same truth-kind k (link-of (o .in1)) e h
-    go FM-gate h (suc p) k e = absurd (Option·none-ne-some k e)
-    go FS-gate h zero k e = same truth-kind k (link-of (o .in1)) e h
-    go FS-gate h (suc p) k e = absurd (Option·none-ne-some k e)
+  wanted-waits : (kind : Kind) (h : Wanted kind (portsOf o) q) (p : ℕ) (k : ValueKind) → wantedAt kind (operandsKind kind h) p ≡ some k → Waiting (λ v. suits k v ≡ true) (q (linkIn o p))
+  wanted-waits = go
+    where
+      same : (a k : ValueKind) (l : ℕ) → some a ≡ some k → Waiting (λ v. suits a v ≡ true) (q l) → Waiting (λ v. suits k v ≡ true) (q l)
+      same a k l e h = subst (λ (z : ValueKind). Waiting (λ v. suits z v ≡ true) (q l)) (Option·some-injective a k e) h
+
+      two : (code : ℕ) (a : ValueKind) (b : Bool) (k : ValueKind) → one-operand code ≡ b → (one-operand code ≡ false → Waiting (λ v. suits a v ≡ true) (q (link-of (o .in2))))
+          → pick b none (some a) ≡ some k → Waiting (λ v. suits k v ≡ true) (q (link-of (o .in2)))
+      two code a true k b h e = absurd (Option·none-ne-some k e)
+      two code a false k b h e = same a k (link-of (o .in2)) e (h b)
+
+      go : (kind : Kind) (h : Wanted kind (portsOf o) q) (p : ℕ) (k : ValueKind) → wantedAt kind (operandsKind kind h) p ≡ some k → Waiting (λ v. suits k v ≡ true) (q (linkIn o p))
+      go (operator code) h zero k e = same (h .0) k (link-of (o .in1)) e (h .2)
+      go (operator code) h (suc zero) k e = two code (h .0) (one-operand code) k refl (h .3) e
+      go (operator code) h (suc (suc p)) k e = absurd (Option·none-ne-some k e)
+      go constant h p k e = absurd (Option·none-ne-some k e)
+      go copy h p k e = absurd (Option·none-ne-some k e)
+      go IC-gate h zero k e = same truth-kind k (link-of (o .in1)) e (h .0)
+      go IC-gate h (suc zero) k e = same truth-kind k (link-of (o .in2)) e (h .1)
+      go IC-gate h (suc (suc zero)) k e = same truth-kind k (link-of (o .in3)) e (h .2)
+      go IC-gate h (suc (suc (suc p))) k e = absurd (Option·none-ne-some k e)
+      go T-gate h zero k e = same truth-kind k (link-of (o .in1)) e h
+      go T-gate h (suc p) k e = absurd (Option·none-ne-some k e)
+      go F-gate h zero k e = same truth-kind k (link-of (o .in1)) e h
+      go F-gate h (suc p) k e = absurd (Option·none-ne-some k e)
+      go M-gate h zero k e = same truth-kind k (link-of (o .in1)) e h
+      go M-gate h (suc p) k e = absurd (Option·none-ne-some k e)
+      go E-gate h zero k e = same truth-kind k (link-of (o .in1)) e h
+      go E-gate h (suc p) k e = absurd (Option·none-ne-some k e)
+      go FM-gate h zero k e = same truth-kind k (link-of (o .in1)) e h
+      go FM-gate h (suc p) k e = absurd (Option·none-ne-some k e)
+      go FS-gate h zero k e = same truth-kind k (link-of (o .in1)) e h
+      go FS-gate h (suc p) k e = absurd (Option·none-ne-some k e)
 
 -- No operator has more than three inputs.
-none-behind : (kind : Kind) (p : ℕ) (k : ValueKind) → wantedAt kind (suc (suc (suc p))) ≡ some k → ⊥
-none-behind (operator code) p k e = Option·none-ne-some k e
-none-behind constant p k e = Option·none-ne-some k e
-none-behind copy p k e = Option·none-ne-some k e
-none-behind IC-gate p k e = Option·none-ne-some k e
-none-behind T-gate p k e = Option·none-ne-some k e
-none-behind F-gate p k e = Option·none-ne-some k e
-none-behind M-gate p k e = Option·none-ne-some k e
-none-behind E-gate p k e = Option·none-ne-some k e
-none-behind FM-gate p k e = Option·none-ne-some k e
-none-behind FS-gate p k e = Option·none-ne-some k e
+none-behind : (kind : Kind) (a : ValueKind) (p : ℕ) (k : ValueKind) → wantedAt kind a (suc (suc (suc p))) ≡ some k → ⊥
+none-behind (operator code) a p k e = Option·none-ne-some k e
+none-behind constant a p k e = Option·none-ne-some k e
+none-behind copy a p k e = Option·none-ne-some k e
+none-behind IC-gate a p k e = Option·none-ne-some k e
+none-behind T-gate a p k e = Option·none-ne-some k e
+none-behind F-gate a p k e = Option·none-ne-some k e
+none-behind M-gate a p k e = Option·none-ne-some k e
+none-behind E-gate a p k e = Option·none-ne-some k e
+none-behind FM-gate a p k e = Option·none-ne-some k e
+none-behind FS-gate a p k e = Option·none-ne-some k e
 
 each-ith : (P : Operator → Type 0) (os : List Operator) → Each P os → (i : ℕ) (o : Operator) → Ith os i o → P o
 each-ith P [] h i o m = absurd m
@@ -233,24 +259,30 @@ module _ (sheet line : List ℕ) (ok : Admissible sheet) (told : Kinded sheet li
       (all-suit (setsPushed calls start) (Abstract.pushed x capacity (followed .calls)) (followed .reads))
 
   rightly-from : (i : ℕ) (o : Operator) → Ith (madeOf x .operators) i o → Rightly now capacity i o
-  rightly-from i o m = record { recorded = R; inputs = inputs }
+  rightly-from i o m = record { recorded = R; operands = a; takes = operands-taken o links (o .kind) W; inputs = inputs }
     where
       R : Recorded now i o
       R = followed .stands .recorded i o m
 
-      named : (p : ℕ) (k : ValueKind) → wantedAt (o .kind) p ≡ some k → portOf now i p ≡ linkIn o p
+      W : Wanted (o .kind) (portsOf o) links
+      W = each-ith (λ z. Wanted (z .kind) (portsOf z) links) (madeOf x .operators) (never .0) i o m
+
+      a : ValueKind
+      a = operandsKind o links (o .kind) W
+
+      named : (p : ℕ) (k : ValueKind) → wantedAt (o .kind) a p ≡ some k → portOf now i p ≡ linkIn o p
       named zero k e = R .in1
       named (suc zero) k e = R .in2
       named (suc (suc zero)) k e = R .in3
-      named (suc (suc (suc p))) k e = absurd (none-behind (o .kind) p k e)
+      named (suc (suc (suc p))) k e = absurd (none-behind (o .kind) a p k e)
 
-      inputs : (p : ℕ) (k : ValueKind) → wantedAt (o .kind) p ≡ some k → portOf now i p < linksOf now → WaitsOf k (linkPart now (sizeOf capacity) (portOf now i p))
+      inputs : (p : ℕ) (k : ValueKind) → wantedAt (o .kind) a p ≡ some k → portOf now i p < linksOf now → WaitsOf k (linkPart now (sizeOf capacity) (portOf now i p))
       inputs p k e l =
           let n = named p k e in
-          subst (λ (a : ℕ). WaitsOf k (linkPart now (sizeOf capacity) a)) (sym n)
+          subst (λ (b : ℕ). WaitsOf k (linkPart now (sizeOf capacity) b)) (sym n)
           (waits-of k capacity (linkPart now (sizeOf capacity) (linkIn o p)) (links (linkIn o p))
           (followed .stands .waits (linkIn o p) (omega (arith, l, n, followed .stands .links-are)))
-          (wanted-waits o (o .kind) links (each-ith (λ z. Wanted (z .kind) (portsOf z) links) (madeOf x .operators) (never .0) i o m) p k e))
+          (wanted-waits o links (o .kind) W p k e))
 
   of-kind-from : (n : ℕ) → n < length (resultsTaken calls start) → OfKinds (kindsE x (inputKinds (freeE x) line)) (getD (resultsTaken calls start) n (result 0 []))
   of-kind-from n l =

@@ -17,7 +17,7 @@ use Rattle.value.specs.declared.Sense.the-variants.{True, False, Neither}
 use Rattle.value.specs.declared.ValueKind.{ValueKind}
 use Rattle.value.specs.declared.ValueKind.the-variants.{Truth as truth-kind}
 use Rattle.value.specs.Senses.{sense}
-use Rattle.value.specs.Kinds.{suits, wants, gives-its-kind}
+use Rattle.value.specs.Kinds.{suits, wanted, gives-its-kind}
 use Rattle.network.specs.Values.{err-value, one-operand, apply}
 use Rattle.network.specs.Rules.{Kind, constant, copy, operator, T-gate, F-gate, M-gate, E-gate, IC-gate, FM-gate, FS-gate, Register, Firing, takes, gives, never, T-rule, F-rule, M-rule, E-rule, chosen, as-truth, IC-table, fired, FS-rule, operator-rule, rule}
 use Rattle.network.specs.Net.{Token, val, mark, Links, head, tail, pop, append, Able, appends, act}
@@ -165,9 +165,14 @@ module _ (K : Claims) where
     FS-safe r False t m = λ v n. passing true v (some v) (onto-given (K (p .in2)) (claimed K (p .out1)) v (t .1) n) (t .2 v n)
     FS-safe r Neither t m = λ v n. passing true v (some v) (onto-given (K (p .in2)) (claimed K (p .out1)) v (t .1) n) (t .2 v n)
 
-    operator-safe : (b : Bool) (code : ℕ) (g : Register) (a : Value) → Fits (operator code) (sides K p) → Safe false (operator-rule b code g a)
-    operator-safe true code g a t = passing false (apply code a err-value) g (onto-given _ (claimed K (p .out1)) _ (t .2) (gives-its-kind code [] a err-value)) tt
-    operator-safe false code g a t = λ b m. passing false (apply code a b) g (onto-given _ (claimed K (p .out1)) _ (t .2) (gives-its-kind code [] a b)) tt
+    operator-safe : (b : Bool) (code : ℕ) (g : Register) (a : Value) → one-operand code ≡ b → Fits (operator code) (sides K p) → Meets (K (p .in1)) a
+        → Safe false (operator-rule b code g a)
+    operator-safe true code g a e t m =
+        passing false (apply code a err-value) g
+        (onto-given _ (claimed K (p .out1)) _ (t .1 .3) (gives-its-kind code (t .0) a err-value (t .1 .1 a m) refl)) tt
+    operator-safe false code g a e t m = λ b n.
+        passing false (apply code a b) g
+        (onto-given _ (claimed K (p .out1)) _ (t .1 .3) (gives-its-kind code (t .0) a b (t .1 .1 a m) (t .1 .2 e b n))) tt
 
     -- The third output of IC has a token only where a truth or err may stand on it, or where the chosen iter? is not true.
     abbrev Unless : Bool → Type 0
@@ -212,7 +217,7 @@ module _ (K : Claims) where
     rule-safe constant (some v) t e r = λ c m. passing false v (some v) (subst (Given (claimed K (p .out1))) (e refl) t) tt
     rule-safe copy g t e r =
         λ v m. (onto-given (K (p .in1)) (claimed K (p .out1)) v (t .0) m, onto-given (K (p .in1)) (claimed K (p .out2)) v (t .1) m, absent-given (claimed K (p .out3)), tt)
-    rule-safe (operator code) g t e r = λ a m. operator-safe (one-operand code) code g a t
+    rule-safe (operator code) g t e r = λ a m. operator-safe (one-operand code) code g a refl t m
     rule-safe T-gate g t e r = λ c m. T-safe g (sense c) (t .1)
     rule-safe F-gate g t e r = λ c m. F-safe g (sense c) (t .1)
     rule-safe M-gate g t e r = λ c m. M-safe false g (sense c) t tt
@@ -265,7 +270,7 @@ module _ (K : Claims) (q : Links) (h : Clean K q) where
   pub no-wrong-kind : (k : Kind) (p : Ports) → Fits k (sides K p) → Wanted k p q
   no-wrong-kind constant p t = tt
   no-wrong-kind copy p t = tt
-  no-wrong-kind (operator code) p t = (wanting (wants code) (p .in1) (t .0), λ e. wanting (wants code) (p .in2) (t .1 e))
+  no-wrong-kind (operator code) p t = (t .0, t .1 .0, wanting (t .0) (p .in1) (t .1 .1), λ e. wanting (t .0) (p .in2) (t .1 .2 e))
   no-wrong-kind T-gate p t = wanting truth-kind (p .in1) (t .0)
   no-wrong-kind F-gate p t = wanting truth-kind (p .in1) (t .0)
   no-wrong-kind M-gate p t = wanting truth-kind (p .in1) (t .0)

@@ -64,7 +64,7 @@ loopS (suc bound) round rebind env left =
     enterS left λ l. afterS (round env l) λ vs l′. loopS bound round rebind (rebind vs) l′
 
 unfoldable mutual
-  unfolding bind guard thenS thenBS loopS branch width apply
+  unfolding bind guard thenS thenBS loopS branch width apply wanted
 
   pub strictE : Exp → Env → ℕ → Option Outcome
   strictE (identifier a) env left = some (yields (env a ∷ []) left)

@@ -12,9 +12,11 @@ use lib.Ieee.{binary32, fits, round, add, sub, mul, div, neg, lt, eq, ofBits, to
 use Rattle.value.specs.declared.Reason.the-variants.{ZeroDivisor, OutOfRange, Other}
 use Rattle.value.specs.declared.Value.{Value}
 use Rattle.value.specs.declared.Value.the-variants.{Whole, Truth, Err, Real}
+use Rattle.value.specs.declared.ValueKind.the-variants.{Whole as whole-kind, Truth as truth-kind, Real as real-kind}
 use Rattle.value.specs.Operators.{apply, realOf}
 use Rattle.value.specs.Bytes.{bytesOf, valueOf, wordOf, wordAt}
 use Rattle.value.specs.Constants.{thousandths}
+use Rattle.value.specs.Kinds.{given}
 
 pub record Case : Type 0 where
   pub code : ℕ
@@ -226,6 +228,16 @@ pub thousandths-outcomes : map thousandths (0 ∷ 1 ∷ 100 ∷ 500 ∷ 1000 ∷
     ≡ map r (0 ∷ 981668463 ∷ 1036831949 ∷ 1056964608 ∷ 1065353216 ∷ 1094975488 ∷ 1148846064 ∷ [])
 unfolding thousandths round ofBits
 thousandths-outcomes = refl
+
+-- "after any wrong kind a number's kind goes on as W"
+pub sums-kinds : map (given 1) ((real-kind ∷ real-kind ∷ []) ∷ (real-kind ∷ whole-kind ∷ []) ∷ (whole-kind ∷ real-kind ∷ []) ∷ (real-kind ∷ truth-kind ∷ []) ∷ [])
+    ≡ real-kind ∷ whole-kind ∷ whole-kind ∷ whole-kind ∷ []
+unfolding given
+sums-kinds = refl
+
+pub remainders-kind : given 5 (real-kind ∷ real-kind ∷ []) ≡ whole-kind
+unfolding given
+remainders-kind = refl
 
 -- ---- byte forms
 
