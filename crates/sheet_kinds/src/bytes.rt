@@ -1,5 +1,5 @@
-// Kinds as bytes in lent arrays (specs/Bytes): what an operator and a test want of them, what an operator gives, and how they are compared
-// and copied.
+// Kinds as bytes in lent arrays (specs/Bytes): what an operator wants of its operands' and gives, and how kinds are compared and
+// copied.
 ghost use mathlib.Core.Path.{_≡_};
 ghost use mathlib.Core.Bool.{_&&_};
 ghost use mathlib.Core.List.{[], _∷_};

@@ -1,5 +1,5 @@
-// The kinds line: "one letter an input, W or T, and a line feed" (formula's specs/Faults), R for a float, and a sheet's rows under the kinds that it
-// tells.
+// The kinds line: "one letter an input, W or T, and a line feed" (formula's specs/Faults), with R for a float, and a sheet's rows under
+// the kinds that it tells.
 use crate::bytes::REAL;
 use crate::bytes::TRUTH;
 use crate::bytes::WHOLE;

@@ -54,10 +54,11 @@ loop-less c = search needs
 
 -- src/places.rt:84:5  let mut r = n; ⏎ while 0 < r {
 loop-again : tie.Need-loop-again Inv-loop μ-loop
-loop-again c =
-    (omega arith,
-    ap (markDown (c .before .before .before .before .before .before .before .before .before .before .args .fields .now) (c .before .before .before .before .before .before .before .loop .r - 1)) (c .before .before .mark-row .ensures ∙ ap (λ s. mark (bodiesIn (inBody (c .before .before .before .before .before .before .before .loop .places) (c .before .before .before .before .before .before .before .loop .r)) s) (c .before .before .before .before .before .before .before .loop .places)) (c .before .before .before .shape-at .ensures)) ∙ sym (mark-step (c .before .before .before .before .before .before .before .before .before .before .args .fields .now) (c .before .before .before .before .before .before .before .loop .r) (c .before .before .before .before .before .before .before .loop .places) (omega arith)) ∙ c .before .before .before .before .before .before .before .loop .inv .1,
-    c .before .before .mark-row .kept .0 ∙ c .before .before .before .before .before .before .before .loop .inv .2)
+loop-again c = (
+  omega arith,
+  ap (markDown (c .before .before .before .before .before .before .before .before .before .before .args .fields .now) (c .before .before .before .before .before .before .before .loop .r - 1)) (c .before .before .mark-row .ensures ∙ ap (λ s. mark (bodiesIn (inBody (c .before .before .before .before .before .before .before .loop .places) (c .before .before .before .before .before .before .before .loop .r)) s) (c .before .before .before .before .before .before .before .loop .places)) (c .before .before .before .shape-at .ensures)) ∙ sym (mark-step (c .before .before .before .before .before .before .before .before .before .before .args .fields .now) (c .before .before .before .before .before .before .before .loop .r) (c .before .before .before .before .before .before .before .loop .places) (omega arith)) ∙ c .before .before .before .before .before .before .before .loop .inv .1,
+  c .before .before .mark-row .kept .0 ∙ c .before .before .before .before .before .before .before .loop .inv .2,
+)
 
 -- src/places.rt:79:1  // The places of n rows, in a table that has every row in an expression place. ⏎ pub fn find_places(fields: &[u32], n: usize, places: &mut [bool])
 same-length : tie.Need-same-length Inv-loop μ-loop

@@ -49,10 +49,11 @@ loop-less c = search needs
 
 -- src/rows.rt:213:5  let mut i = 0; ⏎ while i < n {
 loop-again : tie.Need-loop-again Inv-loop μ-loop
-loop-again c =
-    (omega arith,
-    c .before .before .tally-row .ensures ∙ ap (λ s. tally (namedIn s) (c .before .before .before .before .before .before .loop .times)) (c .before .before .before .shape-at .ensures) ∙ tallied-more (c .before .before .before .before .before .before .before .before .before .args .fields .now) (c .before .before .before .before .before .before .before .before .before .args .times .now) (c .before .before .before .before .before .before .loop .times) (c .before .before .before .before .before .before .loop .i) (c .before .before .before .before .before .before .loop .inv .1),
-    c .before .before .tally-row .kept .0 ∙ c .before .before .before .before .before .before .loop .inv .2)
+loop-again c = (
+  omega arith,
+  c .before .before .tally-row .ensures ∙ ap (λ s. tally (namedIn s) (c .before .before .before .before .before .before .loop .times)) (c .before .before .before .shape-at .ensures) ∙ tallied-more (c .before .before .before .before .before .before .before .before .before .args .fields .now) (c .before .before .before .before .before .before .before .before .before .args .times .now) (c .before .before .before .before .before .before .loop .times) (c .before .before .before .before .before .before .loop .i) (c .before .before .before .before .before .before .loop .inv .1),
+  c .before .before .tally-row .kept .0 ∙ c .before .before .before .before .before .before .loop .inv .2,
+)
 
 -- src/rows.rt:208:1  // How often each row is named: 0 never, 1 once, 2 more than once. ⏎ fn tally_all(fields: &[u32], n: usize, times: &mut [u8])
 same-length : tie.Need-same-length Inv-loop μ-loop
