@@ -1,5 +1,5 @@
--- Kinds as bytes in lent arrays: 2 is a truth, 4 a float, any other byte a whole number. What an array holds, as the kinds of identifiers; what a
--- write leaves of it, as a binding; and the laws of `bindKinds`. Assumes nothing.
+-- Kinds as bytes in lent arrays: 2 is a truth, 4 a float, any other byte a whole number. What an array holds, as the kinds of
+-- identifiers; what a write leaves of it, as a binding; and the laws of `bindKinds`. Assumes nothing.
 use Prim.Native.Nat.{ℕ, zero, suc, _+_, _-_, _≤_, _<_}
 use mathlib.Core.Path.{_≡_, refl, sym, ap, _∙_, fun-ext}
 use mathlib.Core.Bool.{Bool, true, false, cond, _&&_}
