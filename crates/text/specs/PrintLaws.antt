@@ -144,16 +144,8 @@ module _ (n : ℕ) where
   unfolding truthOf optionField valueField
   truth-neither p q = rw (ne-eqb n 0 p, ne-eqb n 1 q) refl
 
-  pub float-none : isSome (floatOf n) ≡ false → optionField (floatOf n) ≡ letterField 69
-  unfolding optionField valueField
-  float-none e = go (floatOf n) e
-    where
-      go : (o : Option Value) → isSome o ≡ false → optionField o ≡ letterField 69
-      go (some v) h = absurd (false≢true (sym h))
-      go none h = refl
-
   -- A finite float's field shows the pattern that its word has.
-  pub float-shown : isSome (floatOf n) ≡ true → optionField (floatOf n) ≡ shown 82 11 n
+  float-shown : isSome (floatOf n) ≡ true → optionField (floatOf n) ≡ shown 82 11 n
   unfolding floatOf optionField valueField
   float-shown = go (ltb n 4294967296) refl (finite (ofBits binary32 n)) refl
     where
@@ -172,9 +164,17 @@ module _ (w : ℕ) where
   unfolding wordField valueOf
   word-truth e = rw e refl
 
-  pub word-real : w % 256 ≡ 4 → wordField w ≡ optionField (floatOf (w / 256))
+  pub word-real : w % 256 ≡ 4 → isSome (valueOf w) ≡ true → wordField w ≡ shown 82 11 (w / 256)
   unfolding wordField
-  word-real e = ap optionField (tag-four w e)
+  word-real e h = ap optionField (tag-four w e) ∙ float-shown (w / 256) (ap isSome (sym (tag-four w e)) ∙ h)
+
+  pub word-none : isSome (valueOf w) ≡ false → wordField w ≡ letterField 69
+  unfolding wordField optionField valueField
+  word-none = go (valueOf w)
+    where
+      go : (o : Option Value) → isSome o ≡ false → optionField o ≡ letterField 69
+      go (some v) h = absurd (false≢true (sym h))
+      go none h = refl
 
   pub word-err : (r : Reason) → w ≡ wordOf (Err r) → wordField w ≡ letterField (letterOf r)
   unfolding wordOf wordField optionField valueField valueOf errOf
