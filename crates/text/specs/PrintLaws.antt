@@ -8,13 +8,11 @@ use native.Mathlib.Omega.{arith}
 use native.Mathlib.Numerals.{add-one}
 use borrow.Author.Tests.{lt-ltb, le-ltb, ne-eqb, eqb-true, ltb-true}
 use lib.IntN.{pos, negsuc}
-use lib.ListN.{length, take, drop, set, getD, replicate, length-append, length-replicate, length-set, length-take, length-drop, replicate-append-replicate}
-use lib.Seq.{sets, sets-eq, length-sets, take-at, drop-at, set-split, take-add, take-suc, take-append-le, drop-append-le, take-all, take-set-le, drop-set-lt, drop-cons, take-take, drop-drop, length-take-le, set-append-seam, take-length, set-at, take-suc-set, drop-length}
+use lib.ListN.{length, take, drop, set, replicate, length-append, length-replicate, length-set, length-drop, replicate-append-replicate}
+use lib.Seq.{sets, sets-eq, length-sets, take-at, drop-at, set-split, drop-drop, length-take-le, set-at, take-suc-set, drop-length}
 use lib.Dec.{ltb, eqb}
 use lib.Ieee.{binary32, ofBits, toBits}
 use lib.Ieee.Scale.{finite}
-use mir.Syntax.{w32}
-use mir.Val.{toZ}
 use Rattle.value.specs.declared.Reason.{Reason}
 use Rattle.value.specs.declared.Reason.the-variants.{ZeroDivisor, OutOfRange, Other}
 use Rattle.value.specs.declared.Value.{Value}

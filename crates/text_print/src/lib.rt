@@ -11,7 +11,7 @@ ghost use Prim.Native.Nat.{_+_, _*_, _%_, _≤_, _<_};
 ghost use lib.ListN.{length, replicate};
 ghost use lib.Seq.{sets};
 ghost use Rattle.value.specs.Bytes.{wholeOf, truthOf};
-ghost use Rattle.text.specs.Printed.{led as ledOf, shown, numberField, letterField, optionField, wordField, resultFields, resultLine, headLine, refusalLine};
+ghost use Rattle.text.specs.Printed.{led as ledOf, shown, numberField, letterField, optionField, wordField, resultLine, headLine, refusalLine};
 
 // The numbers of 32 bits in two's complement: those from 2^31 on stand for the number less 2^32.
 const FIRST_NEGATIVE: u64 = 2147483648;

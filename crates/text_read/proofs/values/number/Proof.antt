@@ -12,7 +12,7 @@ use Rattle.text_read.proofs.values.digit.Reads as digit-reads
 use Rattle.text_read.proofs.values.digits.Reads as digits-reads
 use native.Mathlib.Omega.{arith}
 use Prim.Native.Nat.{ℕ, _+_}
-use mathlib.Core.Path.{_≡_, sym, _∙_, ap}
+use mathlib.Core.Path.{sym, _∙_, ap}
 use lib.Seq.{slice}
 use Rattle.formula.specs.Sheet.{digitsOf, zeroOf}
 use Rattle.sheet_fields.proofs.FieldLaws.{field-zero, field-low, field-high, field-digit, zero-end, zero-more}
