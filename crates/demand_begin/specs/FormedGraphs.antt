@@ -13,7 +13,7 @@ use native.Mathlib.Omega.{arith}
 use native.Mathlib.Decide.{decLt, ℕ-discrete}
 use Rattle.value.specs.Operators.{operands}
 use Rattle.value.specs.Bytes.{InRange}
-use Rattle.value.specs.Constants.{isConstant}
+use Rattle.value.specs.Constants.{inConstantRange}
 use Rattle.names.specs.Names.{Names, common, without}
 use Rattle.machine_layout.specs.Kinds.{hasPort, mayLack, inputsOfKind, outputsOfKind}
 use Rattle.graph.specs.Assembly.{Gate, const, oper, T, F, M, E, IC, Graph, wire, nothing, beside, bind, gate, loop, free, memberOf, Env, Operator, nth, copyOf, gateOf, copiesFor, sharing, sharedLinks, firstUse, secondUse, named, spread, chain, chainEnds, ringGate, ring, total, listed, linksOf, outputs, operatorsOf}
@@ -67,7 +67,7 @@ operator-outputs k h = rw (ne-eqb k 13 (λ e. omega arith), ne-eqb k 18 (λ e. o
 
 -- A gate that the translation may use.
 abbrev pub ProperGate : Gate → Type 0
-ProperGate (const v) = InRange v × (isConstant (some v) ≡ true)
+ProperGate (const v) = InRange v × (inConstantRange (some v) ≡ true)
 ProperGate (oper k) = (1 ≤ k) × (k ≤ 11)
 ProperGate T = Unit {0}
 ProperGate F = Unit {0}

@@ -9,18 +9,18 @@ use lib.Dec.{eqb}
 use lib.Ieee.{binary32, round, toBits}
 use borrow.Author.Tests.{le-leb}
 use Rattle.value.specs.declared.Value.the-variants.{Whole, Truth}
-use Rattle.value.specs.Constants.{thousandths, isConstant}
+use Rattle.value.specs.Constants.{thousandths, inConstantRange}
 use Rattle.formula.specs.Constants.{constantValue, constantMost}
 use Rattle.demand_begin.specs.BitsRise.{thousandths-bits}
 
-thousandths-stored : (a : ℕ) → a ≤ 999999 → isConstant (some (thousandths a)) ≡ true
+thousandths-stored : (a : ℕ) → a ≤ 999999 → inConstantRange (some (thousandths a)) ≡ true
 unfolding thousandths
 thousandths-stored a h = le-leb (toBits binary32 (round binary32 false a 1000)) 1148846064 (thousandths-bits a h)
 
-pub constant-stored : (kind a : ℕ) → a ≤ constantMost kind → isConstant (some (constantValue kind a)) ≡ true
+pub constant-stored : (kind a : ℕ) → a ≤ constantMost kind → inConstantRange (some (constantValue kind a)) ≡ true
 constant-stored kind a = go (eqb kind 3) (eqb kind 10)
   where
-    go : (k3 k10 : Bool) → a ≤ cond k3 1 999999 → isConstant (some (cond k3 (Truth (eqb a 1)) (cond k10 (thousandths a) (Whole (pos a))))) ≡ true
+    go : (k3 k10 : Bool) → a ≤ cond k3 1 999999 → inConstantRange (some (cond k3 (Truth (eqb a 1)) (cond k10 (thousandths a) (Whole (pos a))))) ≡ true
     go true k10 h = refl
     go false true h = thousandths-stored a h
     go false false h = le-leb a 999999 h
