@@ -1,5 +1,5 @@
--- Of two positive floats the larger has a bit pattern that, as a number, is no smaller.
--- So for every a up to 999999 the pattern of a / 1000, rounded to binary32, is at most that of 999.999.
+-- Of two positive floats the larger has a bit pattern that, as a number, is no smaller. So for every a up to 999,999 the pattern of a / 1000, rounded to
+-- binary32, is at most that of 999.999: document 02, Job 9, row kind 10. Assumes nothing.
 use mathlib.Core.Path.{_≡_, refl, sym, subst}
 use mathlib.Core.Logic.{inl, inr}
 use mathlib.Core.Bool.{true, false}
