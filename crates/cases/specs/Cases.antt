@@ -7,11 +7,13 @@ use mathlib.Core.List.{List, [], _∷_, _++_, map}
 use native.Mathlib.Decide.{ℕ-discrete}
 use lib.IntN.{pos, negsuc}
 use lib.ListN.{length, replicate}
-use lib.Ieee.{binary32, ofBits}
+use lib.Ieee.{binary32, fits, round, mul, lt, ofBits, toBits}
 use Rattle.value.specs.declared.Reason.the-variants.{ZeroDivisor, OutOfRange}
 use Rattle.value.specs.declared.Value.{Value}
 use Rattle.value.specs.declared.Value.the-variants.{Whole, Truth, Err, Real}
+use Rattle.value.specs.Operators.{realOf}
 use Rattle.value.specs.Bytes.{bytesOf}
+use Rattle.value.specs.Constants.{thousandths}
 use Rattle.value.specs.Senses.{err}
 use Rattle.formula.specs.declared.Verdict.{Verdict}
 use Rattle.formula.specs.declared.Verdict.the-variants.{Passed, Refused}
@@ -68,7 +70,7 @@ evaluationSays Passed e = evaluates 0 0 (e .width) (e .rounds) (e .cells)
 evaluationSays (Refused r row) e = evaluates (numberOf r) row (e .width) (e .rounds) (e .cells)
 
 unfoldable pub got : Question → Answer
-unfolding readingOf countE formulaOf madeOf evaluationOf bytesOf pushRefusals marks append ℕ-discrete
+unfolding readingOf countE formulaOf madeOf evaluationOf bytesOf pushRefusals marks append ℕ-discrete realOf thousandths round mul lt ofBits toBits fits
 got (reading s line) = readingSays (readingOf s line)
 got (test-2 s) = passes (fewRows s)
 got (counted s) = operators (countE (formulaOf s) .operators)
@@ -121,7 +123,7 @@ abbrev pub threeAndFive : List Value
 threeAndFive = number 3 ∷ number 5 ∷ []
 
 unfoldable pub cases : List Case
-unfolding bytes lesser twice factorial verdict zeroDivided iterAlone letUnused halfBelow wholesLater alike constantRow
+unfolding bytes lesser twice factorial verdict zeroDivided iterAlone letUnused halfBelow wholesLater alike constantRow ofBits
 cases =
     -- "sixteen pushes at capacity 16 pass, the seventeenth gives 32": on the links; the same on the machine's memory is Pushed's
     case (pushes (bytes lesser) 16 threeAndFive 17) (refusals (replicate 16 0 ++ 32 ∷ []))

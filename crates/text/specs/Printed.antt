@@ -1,4 +1,4 @@
--- What the bench program prints (document 01, "Program and readings"): numbers in six-character fields, "an 11-character field a result",
+-- What the bench program prints (document 01, "Program and readings", and document 02, Jobs 5 and 9): numbers in six-character fields, "an 11-character field a result",
 -- "A refusal prints its number and row .. in two six-character fields". Fields are right-justified with spaces. Assumes nothing.
 use Prim.Native.Nat.{ℕ, zero, suc, _+_, _*_, _/_, _%_}
 use mathlib.Core.Bool.{true, false}
@@ -50,7 +50,8 @@ valueField (Whole (negsuc n)) = shown 45 11 (suc n)
 valueField (Truth true) = letterField 84
 valueField (Truth false) = letterField 70
 valueField (Err r) = letterField (letterOf r)
--- "R and directly after it the bit pattern in decimal without leading zeros, right-justified together"
+-- "R and directly after it the bit pattern in decimal without leading zeros, right-justified together"; what is printed was read by `valueOf`, so it
+-- is finite
 valueField (Real x) = shown 82 11 (toBits binary32 x)
 
 -- A word of the byte form; one that is no value is never handed out, and shows as the plain err.

@@ -81,7 +81,7 @@ quotient (inf s) a h = absurd h
 quotient (fin s m e) a h =
     let sign : Ieee.unlike s false ≡ false = ap (λ (t : Bool). Ieee.unlike t false) (h .0) in
     let cross : m * up e * 1 * 1000 ≡ a * (1000 * down e) =
-        ap (λ (z : ℕ). z * 1000) (h .1) ∙ thousand a (down e) in
+    ap (λ (z : ℕ). z * 1000) (h .1) ∙ thousand a (down e) in
     ap (λ (t : Bool). round binary32 t (m * up e * 1) (1000 * down e)) sign
     ∙ round-same binary32 false (m * up e * 1) (1000 * down e) a 1000 (times-pos (down e) (down-pos e)) (omega arith) cross
 

@@ -46,9 +46,10 @@ same-length c = search needs
 returns : tie.Need-returns Inv-loop μ-loop
 returns c =
     let w = fieldsWell (linesOf (c .before .before .before .before .before .before .before .before .before .args .s .now)) in
-    let e : w (c .before .before .before .before .before .before .loop .i + 1) ≡ false = sym (c .before .before .before .decode-row .ensures .0) ∙ not-true (c .before .before .before .decode-row .result) (c .if1 .taken) in
-    (sym (stops (c .before .before .before .before .before .before .before .before .before .args .n) (c .before .before .before .before .before .before .loop .i) w (c .before .before .before .before .before .loop-test .taken) e) ∙ c .before .before .before .before .before .before .loop .inv .1,
-    c .before .before .before .decode-row .ensures .1 ∙ ap (λ t. sets t (5 * c .before .before .before .before .before .before .loop .i) (lineFields (lineAt (linesOf (c .before .before .before .before .before .before .before .before .before .args .s .now)) (c .before .before .before .before .before .before .loop .i + 1)))) (c .before .before .before .before .before .before .loop .inv .2) ∙ decoded-more (c .before .before .before .before .before .before .before .before .before .args .s .now) (c .before .before .before .before .before .before .before .before .before .args .fields .now) (c .before .before .before .before .before .before .loop .i) (omega arith) (omega arith))
+    let e : w (c .before .before .before .before .before .before .loop .i + 1) ≡ false = sym (c .before .before .before .decode-row .ensures .0) ∙ not-true (c .before .before .before .decode-row .result) (c .if1 .taken) in (
+      sym (stops (c .before .before .before .before .before .before .before .before .before .args .n) (c .before .before .before .before .before .before .loop .i) w (c .before .before .before .before .before .loop-test .taken) e) ∙ c .before .before .before .before .before .before .loop .inv .1,
+      c .before .before .before .decode-row .ensures .1 ∙ ap (λ t. sets t (5 * c .before .before .before .before .before .before .loop .i) (lineFields (lineAt (linesOf (c .before .before .before .before .before .before .before .before .before .args .s .now)) (c .before .before .before .before .before .before .loop .i + 1)))) (c .before .before .before .before .before .before .loop .inv .2) ∙ decoded-more (c .before .before .before .before .before .before .before .before .before .args .s .now) (c .before .before .before .before .before .before .before .before .before .args .fields .now) (c .before .before .before .before .before .before .loop .i) (omega arith) (omega arith),
+    )
 
 -- src/decode.rt:109:9  } ⏎ i += 1;
 add-i : tie.Need-add-i Inv-loop μ-loop
@@ -62,10 +63,12 @@ loop-less c = search needs
 loop-again : tie.Need-loop-again Inv-loop μ-loop
 loop-again c =
     let w = fieldsWell (linesOf (c .before .before .before .before .before .before .before .before .before .args .s .now)) in
-    let e : w (c .before .before .before .before .before .before .loop .i + 1) ≡ true = sym (c .before .before .before .decode-row .ensures .0) ∙ not-false (c .before .before .before .decode-row .result) (c .if1 .left) in
-    (omega arith, goes-on (c .before .before .before .before .before .before .before .before .before .args .n) (c .before .before .before .before .before .before .loop .i) w (c .before .before .before .before .before .loop-test .taken) e ∙ c .before .before .before .before .before .before .loop .inv .1,
-    c .before .before .before .decode-row .ensures .1 ∙ ap (λ t. sets t (5 * c .before .before .before .before .before .before .loop .i) (lineFields (lineAt (linesOf (c .before .before .before .before .before .before .before .before .before .args .s .now)) (c .before .before .before .before .before .before .loop .i + 1)))) (c .before .before .before .before .before .before .loop .inv .2) ∙ decoded-more (c .before .before .before .before .before .before .before .before .before .args .s .now) (c .before .before .before .before .before .before .before .before .before .args .fields .now) (c .before .before .before .before .before .before .loop .i) (omega arith) (omega arith),
-    c .before .before .before .decode-row .kept .1 .1 .0 ∙ c .before .before .before .before .before .before .loop .inv .3)
+    let e : w (c .before .before .before .before .before .before .loop .i + 1) ≡ true = sym (c .before .before .before .decode-row .ensures .0) ∙ not-false (c .before .before .before .decode-row .result) (c .if1 .left) in (
+      omega arith,
+      goes-on (c .before .before .before .before .before .before .before .before .before .args .n) (c .before .before .before .before .before .before .loop .i) w (c .before .before .before .before .before .loop-test .taken) e ∙ c .before .before .before .before .before .before .loop .inv .1,
+      c .before .before .before .decode-row .ensures .1 ∙ ap (λ t. sets t (5 * c .before .before .before .before .before .before .loop .i) (lineFields (lineAt (linesOf (c .before .before .before .before .before .before .before .before .before .args .s .now)) (c .before .before .before .before .before .before .loop .i + 1)))) (c .before .before .before .before .before .before .loop .inv .2) ∙ decoded-more (c .before .before .before .before .before .before .before .before .before .args .s .now) (c .before .before .before .before .before .before .before .before .before .args .fields .now) (c .before .before .before .before .before .before .loop .i) (omega arith) (omega arith),
+      c .before .before .before .decode-row .kept .1 .1 .0 ∙ c .before .before .before .before .before .before .loop .inv .3,
+    )
 
 -- src/decode.rt:100:1  // Test 3 of the n rows of s. The rows up to the first fault are in the table. ⏎ pub fn decode(s: &[u8], n: usize, fields: &mut [u32]) -> Check
 same-length-2 : tie.Need-same-length-2 Inv-loop μ-loop

@@ -224,9 +224,10 @@ returns-6 c =
     let y = c .before .before .before .before .before .before .before .short2 .ensures (omega arith) in
     let z = c .before .before .before .before .before .short3 .ensures (omega arith) in
     let u = c .before .before .before .short4 .ensures (omega arith) in
-    let v = c .before .short5 .ensures (omega arith) in
-    (sym (fields-well-at s i (c .before .before .before .before .before .before .before .before .before .before .before .before .pre .0) ∙ simp (x, y, z, u, v)),
-    rw (line-fields-at s i (c .before .before .before .before .before .before .before .before .before .before .before .before .pre .0), x, y, z, u, v) (stored (c .before .before .before .before .before .before .before .before .before .before .before .before .args .fields .now) (5 * i) (c .before .before .before .before .before .before .before .before .before .short .result) (c .before .before .before .before .before .before .before .short2 .result) (c .before .before .before .before .before .short3 .result) (c .before .before .before .short4 .result) (c .before .short5 .result)))
+    let v = c .before .short5 .ensures (omega arith) in (
+      sym (fields-well-at s i (c .before .before .before .before .before .before .before .before .before .before .before .before .pre .0) ∙ simp (x, y, z, u, v)),
+      rw (line-fields-at s i (c .before .before .before .before .before .before .before .before .before .before .before .before .pre .0), x, y, z, u, v) (stored (c .before .before .before .before .before .before .before .before .before .before .before .before .args .fields .now) (5 * i) (c .before .before .before .before .before .before .before .before .before .short .result) (c .before .before .before .before .before .before .before .short2 .result) (c .before .before .before .before .before .short3 .result) (c .before .before .before .short4 .result) (c .before .short5 .result)),
+    )
 
 pub decode-row-spec : {M : Type 1} → statement M
 decode-row-spec =

@@ -180,9 +180,10 @@ returns c =
     let s = c .before .before .before .before .before .before .before .before .before .before .before .before .before .args .s .now in
     let i = c .before .before .before .before .before .before .before .before .before .before .before .before .before .args .i in
     let w = sym (fields-well-at s i (c .before .before .before .before .before .before .before .before .before .before .before .before .before .pre .0)) in
-    let l = line-fields-at s i (c .before .before .before .before .before .before .before .before .before .before .before .before .before .pre .0) in
-    (simp (c .all-formed .ensures, c .before .before .before .before .before .before .before .before .before .before .field-in .ensures, c .before .before .before .before .before .before .before .before .before .field-in2 .ensures, c .before .before .before .before .before .before .before .before .field-in3 .ensures, c .before .before .before .before .before .before .before .field-in4 .ensures, c .before .before .before .before .before .before .field-in5 .ensures) w,
-    rw (l, sym (c .before .before .before .before .before .before .before .before .before .before .field-in .ensures), sym (c .before .before .before .before .before .before .before .before .before .field-in2 .ensures), sym (c .before .before .before .before .before .before .before .before .field-in3 .ensures), sym (c .before .before .before .before .before .before .before .field-in4 .ensures), sym (c .before .before .before .before .before .before .field-in5 .ensures), sym (c .before .before .before .before .before .number .ensures), sym (c .before .before .before .before .number2 .ensures), sym (c .before .before .before .number3 .ensures), sym (c .before .before .number4 .ensures), sym (c .before .number5 .ensures)) (stored (c .before .before .before .before .before .before .before .before .before .before .before .before .before .args .fields .now) (5 * i) (c .before .before .before .before .before .number .result) (c .before .before .before .before .number2 .result) (c .before .before .before .number3 .result) (c .before .before .number4 .result) (c .before .number5 .result)))
+    let l = line-fields-at s i (c .before .before .before .before .before .before .before .before .before .before .before .before .before .pre .0) in (
+      simp (c .all-formed .ensures, c .before .before .before .before .before .before .before .before .before .before .field-in .ensures, c .before .before .before .before .before .before .before .before .before .field-in2 .ensures, c .before .before .before .before .before .before .before .before .field-in3 .ensures, c .before .before .before .before .before .before .before .field-in4 .ensures, c .before .before .before .before .before .before .field-in5 .ensures) w,
+      rw (l, sym (c .before .before .before .before .before .before .before .before .before .before .field-in .ensures), sym (c .before .before .before .before .before .before .before .before .before .field-in2 .ensures), sym (c .before .before .before .before .before .before .before .before .field-in3 .ensures), sym (c .before .before .before .before .before .before .before .field-in4 .ensures), sym (c .before .before .before .before .before .before .field-in5 .ensures), sym (c .before .before .before .before .before .number .ensures), sym (c .before .before .before .before .number2 .ensures), sym (c .before .before .before .number3 .ensures), sym (c .before .before .number4 .ensures), sym (c .before .number5 .ensures)) (stored (c .before .before .before .before .before .before .before .before .before .before .before .before .before .args .fields .now) (5 * i) (c .before .before .before .before .before .number .result) (c .before .before .before .before .number2 .result) (c .before .before .before .number3 .result) (c .before .before .number4 .result) (c .before .number5 .result)),
+    )
 
 pub long-row-spec : {M : Type 1} → statement M
 long-row-spec =

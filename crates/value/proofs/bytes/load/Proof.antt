@@ -97,9 +97,10 @@ add-result-4 c = search needs
 
 -- src/bytes.rt:279:1  // The word in the five bytes from `at` on. ⏎ pub fn load(s: &[u8], at: usize) -> u64
 returns : tie.Need-returns
-returns c =
-    (word-read (c .before .before .before .before .before .before .before .before .before .before .before .args .s .now) (c .before .before .before .before .before .before .before .before .before .before .before .args .at) _ _ _ _ _ (c .before .before .before .before .before .before .before .before .wide .ensures .0) (c .before .before .before .before .before .before .wide2 .ensures .0) (c .before .before .before .before .wide3 .ensures .0) (c .before .before .wide4 .ensures .0) (c .wide5 .ensures .0),
-     omega arith)
+returns c = (
+  word-read (c .before .before .before .before .before .before .before .before .before .before .before .args .s .now) (c .before .before .before .before .before .before .before .before .before .before .before .args .at) _ _ _ _ _ (c .before .before .before .before .before .before .before .before .wide .ensures .0) (c .before .before .before .before .before .before .wide2 .ensures .0) (c .before .before .before .before .wide3 .ensures .0) (c .before .before .wide4 .ensures .0) (c .wide5 .ensures .0),
+  omega arith,
+)
 
 pub load-spec : {M : Type 1} → statement M
 load-spec =
