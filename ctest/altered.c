@@ -19,7 +19,8 @@ static const uint8_t two_values[] = {BENCH_WHOLE, 5, 0, 0, 0, BENCH_TRUTH, 1, 0,
 
 /* What is no value and no register's 'none' either. */
 static const uint8_t no_values[][BENCH_VALUE_BYTES] = {
-    {BENCH_ERR + 1, 0, 0, 0, 0}, {BENCH_TRUTH, 2, 0, 0, 0}, {BENCH_TRUTH, 0, 1, 0, 0}, {BENCH_ERR, BENCH_ERR_OUT_OF_RANGE + 1, 0, 0, 0}, {0, 1, 0, 0, 0}};
+    {BENCH_REAL + 1, 0, 0, 0, 0}, {BENCH_TRUTH, 2, 0, 0, 0}, {BENCH_TRUTH, 0, 1, 0, 0}, {BENCH_ERR, BENCH_ERR_OUT_OF_RANGE + 1, 0, 0, 0}, {0, 1, 0, 0, 0},
+    {BENCH_REAL, 0, 0, 0x80, 0x7f}, {BENCH_REAL, 0, 0, 0x80, 0xff}};
 
 static unsigned figure(size_t at) {
     return memory[at] + 256u * memory[at + 1];
@@ -162,7 +163,8 @@ static void link_of(size_t at) {
     stands("a full link");
     for (size_t token = at + 1; token < at + STRETCH; token += BENCH_VALUE_BYTES) {
         bad_byte("tag 0", token, 0);
-        bad_byte("a tag past the last", token, BENCH_ERR + 1);
+        bad_byte("a tag past the last", token, BENCH_REAL + 1);
+        good_byte("a float", token, BENCH_REAL);
         bad_byte("a truth that is neither", token, BENCH_TRUTH);
         bad_byte("an err of reason 5", token, BENCH_ERR);
         errs_at(token);
@@ -261,7 +263,7 @@ static void starts(void) {
 }
 
 static void orders(void) {
-    static const uint8_t bad[] = {BENCH_ERR + 1, 0, 0, 0, 0};
+    static const uint8_t bad[] = {BENCH_REAL + 1, 0, 0, 0, 0};
     uint8_t out[BENCH_RESULT_BYTES];
     begin(&factorial, CAPACITY);
     memory[UNTAKEN_AT] = MOST_UNTAKEN;

@@ -232,7 +232,7 @@ static void stored_letters(void) {
     expect("the second letter", memory[INPUT_KINDS_AT + 1], BENCH_KIND_TRUTH);
     for (unsigned byte = 0; byte <= UINT8_MAX; byte++) {
         for (size_t input = 0; input < 2; input++) {
-            if (byte == BENCH_KIND_WHOLE || byte == BENCH_KIND_TRUTH) {
+            if (byte == BENCH_KIND_WHOLE || byte == BENCH_KIND_TRUTH || byte == BENCH_KIND_REAL) {
                 good_byte("another letter", INPUT_KINDS_AT + input, (uint8_t)byte);
             } else {
                 bad_byte("no letter", INPUT_KINDS_AT + input, (uint8_t)byte);

@@ -249,7 +249,7 @@ static void long_sheets(void) {
 
 static void sets(void) {
     value two[] = {whole(5), truth(1)}, result[] = {whole(5), truth(1), err()};
-    value bad[] = {of(0, 0), of(BENCH_ERR + 1, 0), of(BENCH_TRUTH, 2), of(BENCH_TRUTH, 256)};
+    value bad[] = {of(0, 0), of(BENCH_REAL + 1, 0), of(BENCH_REAL, 0x7f800000), of(BENCH_TRUTH, 2), of(BENCH_TRUTH, 256)};
     expect_refused("a value too few", evaluate(&pair, two, 1, 0), BENCH_SET, 0);
     expect_refused("a byte too few", evaluate_set(&pair, two, sizeof two - 1, 0), BENCH_SET, 0);
     expect_refused("a value too many", evaluate(&factorial, two, 2, 9), BENCH_SET, 0);

@@ -14,14 +14,18 @@
  * BENCH_UNFINISHED, which keeps its firings and gives their count (one by rounds its rounds too), and a tray, which keeps the sets that went in
  * before the refused one and gives their count.
  *
- * Values. A value is BENCH_VALUE_BYTES bytes: a tag (BENCH_WHOLE, BENCH_TRUTH or BENCH_ERR) and four bytes, lowest first: a whole number as
- * int32_t, a truth as 0 or 1, an err as its reason, one of BENCH_ERR_... below. Nothing else is a value.
+ * Values. A value is BENCH_VALUE_BYTES bytes: a tag (BENCH_WHOLE, BENCH_TRUTH, BENCH_ERR or BENCH_REAL) and four bytes, lowest first: a whole
+ * number as int32_t, a truth as 0 or 1, an err as its reason, one of BENCH_ERR_... below, a float as its bits, a finite IEEE 754 binary32. Nothing
+ * else is a value.
+ *
+ * Floats. Their operators are those of IEEE 754, to nearest, ties to even, with subnormal numbers. That is the processor's mode when a program
+ * starts; a call must not be made in another one (on x86-64 the rounding, flush-to-zero and denormals-are-zero bits of MXCSR are 0).
  *
  * Sets. The inputs are the identifiers that are free in the formula, and a set is one value for each, one after another, by rising identifier:
  * a formula in which 3 and 17 are free takes the value of 3, then that of 17. Results stand in the order of the formula's values.
  *
- * Kinds. A sheet comes with its kinds line: one letter an input, in the order of a set's values, BENCH_KIND_WHOLE or BENCH_KIND_TRUTH, and a line
- * feed behind them; of a formula without inputs it is the line feed alone. A set's values must be of these kinds or errs. A start stores the
+ * Kinds. A sheet comes with its kinds line: one letter an input, in the order of a set's values, BENCH_KIND_WHOLE, BENCH_KIND_TRUTH or
+ * BENCH_KIND_REAL, and a line feed behind them; of a formula without inputs it is the line feed alone. A set's values must be of these kinds or errs. A start stores the
  * letters, so that the calls on a machine need no line.
  */
 #ifndef BENCH_H
@@ -35,7 +39,7 @@ extern "C" {
 #endif
 
 /* The tags of a value, and its length. */
-enum { BENCH_WHOLE = 1, BENCH_TRUTH = 2, BENCH_ERR = 3 };
+enum { BENCH_WHOLE = 1, BENCH_TRUTH = 2, BENCH_ERR = 3, BENCH_REAL = 4 };
 #define BENCH_VALUE_BYTES 5
 
 /*
@@ -44,12 +48,12 @@ enum { BENCH_WHOLE = 1, BENCH_TRUTH = 2, BENCH_ERR = 3 };
  */
 enum {
     BENCH_ERR_OTHER = 0,        /* E: all else; also every place of a result set past its width */
-    BENCH_ERR_ZERO_DIVISOR = 1, /* Z */
-    BENCH_ERR_OUT_OF_RANGE = 2  /* V: an exact answer outside the range of whole numbers */
+    BENCH_ERR_ZERO_DIVISOR = 1, /* Z; of floats also -0 */
+    BENCH_ERR_OUT_OF_RANGE = 2  /* V: an exact answer outside the range of whole numbers, or one of floats that is no finite number */
 };
 
 /* The letters of a kinds line. */
-enum { BENCH_KIND_WHOLE = 'W', BENCH_KIND_TRUTH = 'T' };
+enum { BENCH_KIND_WHOLE = 'W', BENCH_KIND_TRUTH = 'T', BENCH_KIND_REAL = 'R' };
 
 /* Said of what was handed in. `row` counts from 1 for 3 to 9 and 18 and is 0 for the others. */
 enum {

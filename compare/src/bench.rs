@@ -1,10 +1,10 @@
-// The program bench as a function of its three files' bytes (document 01, "Program and readings"; kinds.txt: document 02, Job 6).
+// The program bench as a function of its three files' bytes (document 01, "Program and readings"; kinds.txt: document 02, Job 6; floats: Job 9).
 // Assumes nothing about the bytes; a missing file is an empty one.
 
 use crate::graph;
 use crate::machine::Machine;
 use crate::sheet::{self, refuse, Refusal, Sheet};
-use crate::value::{set_suits, Reason, Sort, Value};
+use crate::value::{set_suits, Float, Reason, Sort, Value};
 use std::fmt::Write;
 
 pub const CAPACITY: usize = 2;
@@ -53,7 +53,7 @@ fn read_line(line: &[u8], sorts: &[Sort]) -> Option<Vec<Value>> {
 }
 
 /// "a decimal number as in the sheet, with "-" for negatives (no -0), or T, F, E"; document 02, Job 5: "Set and result
-/// fields may hold Z and V".
+/// fields may hold Z and V"; Job 9: "the field is R and directly after it the bit pattern in decimal without leading zeros".
 fn read_value(field: &[u8]) -> Option<Value> {
     let blanks = field.iter().take_while(|&&byte| byte == b' ').count();
     match &field[blanks..] {
@@ -63,6 +63,8 @@ fn read_value(field: &[u8]) -> Option<Value> {
         b"Z" => Some(Value::Z),
         b"V" => Some(Value::V),
         b"0" => Some(Value::Whole(0)),
+        b"R0" => Float::of_bits(0).map(Value::Real),
+        [b'R', digits @ ..] => read_number(digits).and_then(real),
         [b'-', digits @ ..] => read_number(digits).and_then(|number| whole(-number)),
         digits => read_number(digits).and_then(whole),
     }
@@ -70,6 +72,11 @@ fn read_value(field: &[u8]) -> Option<Value> {
 
 fn whole(number: i64) -> Option<Value> {
     i32::try_from(number).ok().map(Value::Whole)
+}
+
+/// "Patterns that are not finite are refused with 12".
+fn real(pattern: i64) -> Option<Value> {
+    u32::try_from(pattern).ok().and_then(Float::of_bits).map(Value::Real)
 }
 
 /// A number above zero: digits, the first of them not 0. Eleven digits fit 64 bits.
@@ -119,6 +126,7 @@ pub fn write_set(set: &[Value]) -> String {
             Value::Whole(number) => number.to_string(),
             Value::Truth(true) => "T".into(),
             Value::Truth(false) => "F".into(),
+            Value::Real(float) => format!("R{}", float.bits()),
             Value::Err(Reason::Other) => "E".into(),
             Value::Err(Reason::ZeroDivisor) => "Z".into(),
             Value::Err(Reason::OutOfRange) => "V".into(),

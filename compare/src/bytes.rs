@@ -1,10 +1,10 @@
-// The calls that the firmware makes, over byte memory: a value is a tag byte, 1 whole number, 2 truth, 3 err,
+// The calls that the firmware makes, over byte memory: a value is a tag byte, 1 whole number, 2 truth, 3 err, 4 float,
 // and 32 bits little-endian. Documents 01 and 02 leave this form free; it is the product's, and only this file knows it.
-// A truth's bits are 0 or 1, an err's 0, 1 or 2 for E, Z or V.
+// A truth's bits are 0 or 1, an err's 0, 1 or 2 for E, Z or V, a float's its own, where they are finite.
 
 use crate::eval;
 use crate::sheet::{self, Refusal};
-use crate::value::{Reason, ResultSet, Value, PLACES};
+use crate::value::{Float, Reason, ResultSet, Value, PLACES};
 
 pub const VALUE_BYTES: usize = 5;
 pub const OUT_BYTES: usize = PLACES * VALUE_BYTES;
@@ -68,6 +68,7 @@ pub fn encode(value: Value) -> [u8; VALUE_BYTES] {
         Value::Whole(number) => (1, number as u32),
         Value::Truth(truth) => (2, u32::from(truth)),
         Value::Err(reason) => (3, reason_bits(reason)),
+        Value::Real(float) => (4, float.bits()),
     };
     let [a, b, c, d] = bits.to_le_bytes();
     [tag, a, b, c, d]
@@ -101,6 +102,7 @@ pub fn decode(bytes: &[u8]) -> Option<Value> {
         (3, 0) => Some(Value::E),
         (3, 1) => Some(Value::Z),
         (3, 2) => Some(Value::V),
+        (4, _) => Float::of_bits(bits).map(Value::Real),
         _ => None,
     }
 }
@@ -120,15 +122,22 @@ mod tests {
     #[test]
     fn a_value_is_read_back_as_it_was_written() {
         let others = [Value::Whole(i32::MIN), Value::Whole(-1), Value::Truth(true), Value::Truth(false)];
-        let values = [&others[..], &Value::ERRS].concat();
+        let floats = [0.0, -0.0, 1.5, f32::MIN, f32::MAX, f32::MIN_POSITIVE, f32::from_bits(1)].map(Value::real);
+        let values = [&others[..], &Value::ERRS, &floats].concat();
         assert_eq!(decode_set(&encode_set(&values)), Some(values));
         assert_eq!(encode(Value::Whole(-2)), [1, 0xfe, 0xff, 0xff, 0xff]);
         for (err, bits) in [(Value::E, 0), (Value::Z, 1), (Value::V, 2)] {
             assert_eq!(encode(err), [3, bits, 0, 0, 0]);
         }
         let bad_errs = [[3, 3, 0, 0, 0], [3, 255, 0, 0, 0], [3, 1, 1, 0, 0], [3, 0, 0, 0, 1]];
-        for bad in [[0, 0, 0, 0, 0], [4, 0, 0, 0, 0], [2, 2, 0, 0, 0], [2, 1, 0, 0, 1]].into_iter().chain(bad_errs) {
+        assert_eq!(encode(Value::real(-1.0)), [4, 0, 0, 0x80, 0xbf]);
+        assert_eq!(decode(&[4, 0, 0, 0, 0x80]), Some(Value::real(-0.0)));
+        for bad in [[0, 0, 0, 0, 0], [5, 0, 0, 0, 0], [2, 2, 0, 0, 0], [2, 1, 0, 0, 1]].into_iter().chain(bad_errs) {
             assert_eq!(decode_set(&bad), None);
+        }
+        // Both infinities, the patterns next to them and the last of each sign.
+        for [c, d] in [[0x80, 0x7f], [0x80, 0xff], [0xff, 0x7f], [0xff, 0xff], [0xc0, 0x7f]] {
+            assert_eq!([[4, 0, 0, c, d], [4, 1, 0, c, d], [4, 0xff, 0xff, c, d]].map(|bad| decode(&bad)), [None; 3]);
         }
         assert_eq!(decode_set(&[1, 0, 0, 0]), None);
     }

@@ -63,6 +63,8 @@ pub fn list() -> Vec<Case> {
     rules::two_faults(&mut list);
     kinds::lines(&mut list);
     kinds::operators(&mut list);
+    kinds::fractions(&mut list);
+    kinds::kinds_that_go_on(&mut list);
     kinds::choices(&mut list);
     kinds::loops(&mut list);
     kinds::lower_rows(&mut list);
@@ -243,7 +245,7 @@ fn fields(list: &mut List) {
 }
 
 fn ranges(list: &mut List) {
-    for kind in [0, 10, 11, 999_999] {
+    for kind in [0, 11, 12, 999_999] {
         list.refused(4, 1, &format!("kind {kind}"), write(&[[kind, 0, 0, 0, 0]]));
     }
     for code in [0, 12, 999_999] {

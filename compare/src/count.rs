@@ -19,7 +19,7 @@ fn own_operators(line: &Line, lines: &[Line]) -> u32 {
     let free = |number: u32| lines[number as usize - 1].free;
     let inside = match kind {
         1 => 0,
-        2 | 3 | 5 => 1,
+        2 | 3 | 5 | 10 => 1,
         4 => shared(free(a), free(b)),
         6 => shared(free(c), free(d) & !bound_names(&line.row)),
         7 => if_operators(line, lines),

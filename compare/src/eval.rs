@@ -2,7 +2,7 @@
 // The evaluator of expressions and the evaluator of bodies call each other; it knows nothing of graphs.
 // A row leaves its values on a stack. Assumes an accepted sheet.
 
-use crate::kinds::wanted_sort;
+use crate::kinds::wanted_sorts;
 use crate::sheet::{refuse, Refusal, Row, Sheet};
 use crate::value::{operands, operate, set_suits, ResultSet, Sort, Value};
 
@@ -21,6 +21,11 @@ pub struct Evaluated {
 enum Ending {
     Iterated,
     Returned,
+}
+
+/// Whether some kind that the code wants is that of all operands, an err being of any.
+fn operands_suit(code: u32, operands: &[Value]) -> bool {
+    wanted_sorts(code).iter().any(|&sort| operands.iter().all(|value| value.suits(sort)))
 }
 
 /// The evaluation needs more rounds than were lent.
@@ -59,6 +64,7 @@ impl Evaluator<'_> {
             1 => self.stack.push(self.bindings[a as usize]),
             2 => self.stack.push(Value::Whole(a as i32)),
             3 => self.stack.push(Value::Truth(a == 1)),
+            10 => self.stack.push(Value::thousandths(a)),
             4 => {
                 self.expression(a)?;
                 self.expression(b)?;
@@ -66,7 +72,7 @@ impl Evaluator<'_> {
             5 => {
                 self.expression(b)?;
                 let first = self.stack.len() - operands(a);
-                assert!(!WATCHED || self.stack[first..].iter().all(|value| value.suits(wanted_sort(a))));
+                assert!(!WATCHED || operands_suit(a, &self.stack[first..]));
                 let value = operate(a, &self.stack[first..]);
                 self.stack.truncate(first);
                 self.stack.push(value);

@@ -1,7 +1,8 @@
-// The sheets that are timed, each with its kinds line: document 01's worked examples, a long sheet, and one near the greatest number of operators.
+// The sheets that are timed, each with its kinds line: document 01's worked examples, one of floats, a long sheet, and one near the greatest number of
+// operators.
 
 use crate::bytes;
-use crate::random::{heavy_sheet, Made, Rng};
+use crate::random::{heavy_sheet_of_wholes, Made, Rng};
 use crate::sheet::write;
 
 fn made(rows: &[[u32; 5]], kinds: &[u8]) -> Made {
@@ -23,6 +24,15 @@ pub fn factorial() -> Made {
     made(&[&start[..], &next[..], &end[..]].concat(), b"W\n")
 }
 
+/// Range from strength: with s and n as 0 and 1, "if n < s then 42.195 / (s * s) else 999.999".
+pub fn range() -> Made {
+    let (s, n) = ([1, 0, 0, 0, 0], [1, 1, 0, 0, 0]);
+    let test = [n, s, [4, 1, 2, 0, 0], [5, 6, 3, 0, 0]];
+    let near = [[10, 42_195, 0, 0, 0], s, s, [4, 6, 7, 0, 0], [5, 3, 8, 0, 0], [4, 5, 9, 0, 0], [5, 4, 10, 0, 0]];
+    let end = [[10, 999_999, 0, 0, 0], [7, 4, 11, 12, 0]];
+    made(&[&test[..], &near[..], &end[..]].concat(), b"RR\n")
+}
+
 /// A name, negated again and again.
 pub fn negations(rows: u32) -> Made {
     let row = |row| if row == 1 { [1, 0, 0, 0, 0] } else { [5, 11, row - 1, 0, 0] };
@@ -32,7 +42,7 @@ pub fn negations(rows: u32) -> Made {
 /// A sheet with over 1,000 operators.
 pub fn many_operators(rng: &mut Rng) -> Made {
     loop {
-        let made = heavy_sheet(rng);
+        let made = heavy_sheet_of_wholes(rng);
         if bytes::read(&made.bytes, &made.kinds).operators > 1000 {
             return made;
         }

@@ -131,6 +131,7 @@ impl Builder<'_> {
             1 => vec![(row.a, outputs[0])],
             2 => vec![self.constant(Value::Whole(row.a as i32), outputs[0])],
             3 => vec![self.constant(Value::Truth(row.a == 1), outputs[0])],
+            10 => vec![self.constant(Value::thousandths(row.a), outputs[0])],
             4 => {
                 let (left, right) = outputs.split_at(self.sheet.line(row.a).width.into());
                 let mut uses = self.expression(row.a, left);

@@ -1,15 +1,48 @@
-// The kinds of values (document 02, Job 6): 17, the kinds line, and 18, a row that breaks the kinds.
-// Kinds are bits, 1 for a truth: of a row's values, the first lowest, and of the identifiers, by their numbers.
+// The kinds of values (document 02, Job 6; floats: Job 9): 17, the kinds line, and 18, a row that breaks the kinds.
 // Assumes rows that passed tests 1 to 9, so that the widths fit and each row is met once, from the one that names it.
 
 use crate::sheet::{bound_names, refuse, Line, Refusal, Row};
 use crate::value::{operands, Sort};
 
-/// The kinds of a row's values or of the 32 identifiers.
-type Truths = u64;
+/// The kinds of a row's values, the first lowest, or of the 32 identifiers, by their numbers: a bit where the value is a truth, one where it is a float.
+/// A whole number has neither.
+#[derive(Clone, Copy, PartialEq, Eq)]
+struct Kinds {
+    truths: u64,
+    reals: u64,
+}
 
-/// What a test gives: one truth.
-const TRUTH: Truths = 1;
+/// The kinds of one value.
+const WHOLE: Kinds = Kinds { truths: 0, reals: 0 };
+const TRUTH: Kinds = Kinds { truths: 1, reals: 0 };
+const REAL: Kinds = Kinds { truths: 0, reals: 1 };
+
+impl Kinds {
+    /// So many values of one kind.
+    fn all(sort: Sort, count: usize) -> Kinds {
+        let ones = (1 << count) - 1;
+        match sort {
+            Sort::Whole => WHOLE,
+            Sort::Truth => Kinds { truths: ones, ..WHOLE },
+            Sort::Real => Kinds { reals: ones, ..WHOLE },
+        }
+    }
+
+    /// The kind of one identifier.
+    fn at(self, name: u32) -> Kinds {
+        Kinds { truths: self.truths >> name & 1, reals: self.reals >> name & 1 }
+    }
+
+    /// These and, from a place on, others; nothing stands there yet.
+    fn and(self, others: Kinds, place: u32) -> Kinds {
+        Kinds { truths: self.truths | others.truths << place, reals: self.reals | others.reals << place }
+    }
+
+    /// Those at the places of a mask.
+    fn within(self, mask: u64) -> Kinds {
+        Kinds { truths: self.truths & mask, reals: self.reals & mask }
+    }
+}
 
 /// 17 "when the kinds line has another length or letter": one letter an input and a line feed.
 pub fn read_line(line: &[u8], inputs: usize) -> Result<Vec<Sort>, Refusal> {
@@ -25,7 +58,7 @@ pub fn write_line(sorts: &[Sort]) -> Vec<u8> {
 
 /// 18 "when a row breaks the kinds, lowest row given"; the inputs by their identifiers.
 pub fn test(lines: &[Line], inputs: impl Iterator<Item = (u32, Sort)>) -> Result<(), Refusal> {
-    let names = inputs.filter(|&(_, sort)| sort == Sort::Truth).fold(0, |names, (name, _)| names | 1 << name);
+    let names = inputs.fold(WHOLE, |names, (name, sort)| names.and(Kinds::all(sort, 1), name));
     let mut checker = Checker { lines, lowest: None };
     checker.expression(lines.len() as u32, names);
     checker.lowest.map_or(Ok(()), |row| refuse(18, row as usize))
@@ -33,8 +66,8 @@ pub fn test(lines: &[Line], inputs: impl Iterator<Item = (u32, Sort)>) -> Result
 
 /// The kinds that a body iterates and returns, none where it does not.
 struct Ends {
-    iterated: Option<Truths>,
-    returned: Option<Truths>,
+    iterated: Option<Kinds>,
+    returned: Option<Kinds>,
 }
 
 struct Checker<'a> {
@@ -56,21 +89,22 @@ impl Checker<'_> {
     }
 
     /// The kinds of an expression's values, where the identifiers have these.
-    fn expression(&mut self, number: u32, names: Truths) -> Truths {
+    fn expression(&mut self, number: u32, names: Kinds) -> Kinds {
         let row = self.line(number).row;
         let Row { kind, a, b, c, d } = row;
         match kind {
-            1 => names >> a & 1,
-            2 => 0,
+            1 => names.at(a),
+            2 => WHOLE,
             3 => TRUTH,
+            10 => REAL,
             4 => {
                 let left = self.expression(a, names);
-                left | self.expression(b, names) << self.line(a).width
+                left.and(self.expression(b, names), self.line(a).width.into())
             }
             5 => {
                 let values = self.expression(b, names);
-                self.demand(number, values == wanted(a));
-                given(a)
+                self.demand(number, wanted_sorts(a).iter().any(|&sort| values == Kinds::all(sort, operands(a))));
+                given(a, values)
             }
             6 => {
                 let inner = self.bound(&row, names);
@@ -89,23 +123,23 @@ impl Checker<'_> {
     }
 
     /// What a for's body returns, whose rounds must agree with row c.
-    fn repeated(&mut self, number: u32, names: Truths) -> Truths {
+    fn repeated(&mut self, number: u32, names: Kinds) -> Kinds {
         let row = self.line(number).row;
         // "row c's kinds hold": the identifiers keep them, whatever the rounds iterate.
         let inner = self.bound(&row, names);
         let body = self.body(row.d, inner);
-        let started = (inner & bound_names(&row)) >> row.a;
-        self.demand(number, body.iterated == Some(started));
+        let started = inner.within(bound_names(&row));
+        self.demand(number, body.iterated.map(|values| WHOLE.and(values, row.a)) == Some(started));
         body.returned.expect("a for has a returned width")
     }
 
     /// The identifiers' kinds inside a let or a for: those bound have the kinds of row c.
-    fn bound(&mut self, row: &Row, names: Truths) -> Truths {
+    fn bound(&mut self, row: &Row, names: Kinds) -> Kinds {
         let values = self.expression(row.c, names);
-        names & !bound_names(row) | values << row.a
+        names.within(!bound_names(row)).and(values, row.a)
     }
 
-    fn body(&mut self, number: u32, names: Truths) -> Ends {
+    fn body(&mut self, number: u32, names: Kinds) -> Ends {
         let row = self.line(number).row;
         match row.kind {
             6 => {
@@ -126,26 +160,26 @@ impl Checker<'_> {
 }
 
 /// Arms agree in what both have.
-fn agree(yes: Option<Truths>, no: Option<Truths>) -> bool {
+fn agree(yes: Option<Kinds>, no: Option<Kinds>) -> bool {
     yes.is_none() || no.is_none() || yes == no
 }
 
-/// "8 to 10 want truths, the others whole numbers".
-pub fn wanted_sort(code: u32) -> Sort {
+/// "8 to 10 want truths, the others whole numbers"; document 02, Job 9: "Codes 1 to 4, 6, 7 and 11 take two (or one) such values", floats. All operands
+/// are of one of these kinds.
+pub fn wanted_sorts(code: u32) -> &'static [Sort] {
     match code {
-        8..=10 => Sort::Truth,
-        _ => Sort::Whole,
+        5 => &[Sort::Whole],
+        8..=10 => &[Sort::Truth],
+        _ => &[Sort::Whole, Sort::Real],
     }
 }
 
-fn wanted(code: u32) -> Truths {
-    match wanted_sort(code) {
-        Sort::Truth => (1 << operands(code)) - 1,
-        Sort::Whole => 0,
+/// The kind of an operator's value: 6 and 7 compare, 8 to 10 work on truths. Job 9: "after any wrong kind a number's kind goes on as W".
+fn given(code: u32, values: Kinds) -> Kinds {
+    match code {
+        6..=10 => TRUTH,
+        5 => WHOLE,
+        _ if values == Kinds::all(Sort::Real, operands(code)) => REAL,
+        _ => WHOLE,
     }
-}
-
-/// The kind of an operator's value: 6 and 7 compare, 8 to 10 work on truths.
-fn given(code: u32) -> Truths {
-    Truths::from((6..=10).contains(&code))
 }

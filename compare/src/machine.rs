@@ -401,6 +401,20 @@ mod tests {
         assert_eq!(got, [vec![NO], vec![], vec![Whole(1), Whole(1), Whole(1), Z, Z]]);
     }
 
+    /// Floats pass as data, whatever their bits; as a control one is no truth.
+    #[test]
+    fn a_float_passes_and_is_no_truth() {
+        let (minus_zero, one) = (Value::real(-0.0), Value::real(1.0));
+        assert_eq!(fired(Kind::Copy, &[&[minus_zero]], 2), [vec![], vec![minus_zero], vec![minus_zero]]);
+        assert_eq!(fired(Kind::T, &[&[YES, one], &[minus_zero, one]], 1), [vec![], vec![], vec![minus_zero]]);
+        assert_eq!(fired(Kind::M, &[&[one, NO], &[], &[minus_zero]], 1), [vec![], vec![], vec![], vec![E, minus_zero]]);
+        assert_eq!(fired(Kind::E, &[&[one, YES], &[minus_zero]], 1), [vec![], vec![], vec![E, minus_zero]]);
+        let got = fired(Kind::IC, &[&[one, YES], &[minus_zero], &[]], 3);
+        assert_eq!(got, [vec![], vec![], vec![], vec![NO, NO], vec![], vec![E, YES]]);
+        let got = fired(Kind::FS, &[&[YES, one], &[minus_zero, Whole(1)]], 1);
+        assert_eq!(got, [vec![], vec![], vec![minus_zero, minus_zero, Whole(1)]]);
+    }
+
     /// "each link it emits on has a free place": in this firing.
     #[test]
     fn a_dropping_gate_needs_no_free_place() {

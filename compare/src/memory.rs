@@ -16,6 +16,9 @@ pub const MOST_OPERATORS: usize = 1_024;
 pub const MOST_LINKS: usize = 3_105;
 pub const NO_LINK: usize = 65_535;
 
+/// The pattern of 999.999, the greatest constant of row kind 10.
+pub const GREATEST_CONSTANT: u32 = 1_148_846_064;
+
 /// What push, a tray, fire, run and take answer.
 #[repr(C)]
 #[derive(Clone, Copy, PartialEq, Eq, Debug, Default)]
@@ -205,11 +208,22 @@ fn operator_valid(mem: &[u8], i: usize, links: usize) -> bool {
     };
     let register = &mem[REGISTERS + 5 * i..][..5];
     let register_valid = match kind {
-        12 => decode(register).is_some(),
+        12 => decode(register).is_some_and(is_constant),
         19 | 20 => register == [0; 5] || decode(register).is_some(),
         _ => register == [0; 5],
     };
     (1..=20).contains(&kind) && (0..6).all(port_valid) && all_differ(mem, at + 2, 6) && register_valid
+}
+
+/// What a constant's register may hold: what row kinds 2, 3 and 10 and the constants of iter? can make. The patterns of floats not below zero rise
+/// with the numbers.
+fn is_constant(value: Value) -> bool {
+    match value {
+        Value::Whole(number) => (0..=999_999).contains(&number),
+        Value::Truth(_) => true,
+        Value::Real(float) => float.bits() <= GREATEST_CONSTANT,
+        Value::Err(_) => false,
+    }
 }
 
 fn link_valid(stretch: &[u8]) -> bool {

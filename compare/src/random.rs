@@ -2,6 +2,7 @@
 // The generator of numbers is Marsaglia's xorshift with a multiplied output.
 
 pub mod faults;
+pub mod floats;
 pub mod folders;
 pub mod formulas;
 pub mod lines;
@@ -12,7 +13,10 @@ pub mod turns;
 use crate::bytes::VALUE_BYTES;
 use crate::sheet::Sheet;
 use crate::value::{Sort, Value};
-pub use sheets::{accepted_sheet, heavy_sheet, loose_sheet, renamed_sheet, unkinded_sheet, Made};
+pub use floats::{random_float, random_pattern};
+pub use sheets::{
+    accepted_sheet, heavy_sheet, heavy_sheet_of_wholes, loose_sheet, renamed_sheet, unkinded_sheet, Made,
+};
 
 pub struct Rng(u64);
 
@@ -60,7 +64,7 @@ pub fn random_set(sheet: &Sheet, rng: &mut Rng) -> Vec<Value> {
     let mut set = fitting_set(sheet, rng);
     if !set.is_empty() && rng.chance(OTHER_KINDS) {
         let place = rng.below(set.len());
-        set[place] = random_value(sheet.sorts[place].other(), rng);
+        set[place] = value_of_another_kind(sheet.sorts[place], rng);
     }
     set
 }
@@ -75,10 +79,23 @@ pub fn random_value(sort: Sort, rng: &mut Rng) -> Value {
     match (rng.below(100), sort) {
         (0..=4, _) => rng.pick(&Value::ERRS),
         (_, Sort::Truth) => Value::Truth(rng.chance(50)),
+        (_, Sort::Real) => Value::Real(random_float(rng)),
         (5..=84, Sort::Whole) => Value::Whole(rng.between(0, 14) as i32 - 3),
         (85..=94, Sort::Whole) => Value::Whole(rng.pick(&[i32::MIN, i32::MIN + 1, i32::MAX, i32::MAX - 1, -1, 0])),
         _ => Value::Whole(rng.number() as i32),
     }
+}
+
+/// A value of one of the two other kinds, now and then an err.
+pub fn value_of_another_kind(sort: Sort, rng: &mut Rng) -> Value {
+    let other = rng.pick(&sort.others());
+    random_value(other, rng)
+}
+
+/// The bytes of a float of any pattern; one that is not finite is no value.
+pub fn random_float_bytes(rng: &mut Rng) -> [u8; VALUE_BYTES] {
+    let [a, b, c, d] = random_pattern(rng).to_le_bytes();
+    [4, a, b, c, d]
 }
 
 /// The bytes of an err of any reason, or of none, which is no value.

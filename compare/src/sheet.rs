@@ -1,6 +1,6 @@
 // Reading a formula sheet: tests 1 to 9 of document 01, "The formula sheet" and "Said by what was handed in".
 // Each test goes over the whole sheet before the next, in one pass over the rows, and gives the lowest row at fault.
-// Tests 17 and 18 of document 02, Job 6, stand in kinds.rs, test 10 in count.rs. Assumes nothing about the bytes.
+// Row kind 10 is document 02's, Job 9. Tests 17 and 18 of its Job 6 stand in kinds.rs, test 10 in count.rs. Assumes nothing about the bytes.
 
 use crate::value::{operands, Sort, CODES, PLACES};
 use crate::{count, kinds};
@@ -192,7 +192,8 @@ fn fields_in_range(row: &Row) -> bool {
     let Row { kind, a, b, c, d } = *row;
     match kind {
         1 => a <= 31 && (b, c, d) == (0, 0, 0),
-        2 => a <= 999_999 && (b, c, d) == (0, 0, 0),
+        // Document 02, Job 9: row kind 10 has the range of a whole number.
+        2 | 10 => a <= 999_999 && (b, c, d) == (0, 0, 0),
         3 => a <= 1 && (b, c, d) == (0, 0, 0),
         4 => (c, d) == (0, 0),
         5 => CODES.contains(&a) && (c, d) == (0, 0),
@@ -284,7 +285,7 @@ fn widths(line: &Line, before: &[Line]) -> Option<(u8, u8)> {
     let Row { kind, a, b, c, d } = line.row;
     let row = |number: u32| &before[number as usize - 1];
     match kind {
-        1..=3 => Some((0, 1)),
+        1..=3 | 10 => Some((0, 1)),
         4 => {
             let sum = row(a).width + row(b).width;
             (sum <= PLACES as u8).then_some((0, sum))
@@ -347,7 +348,7 @@ pub fn names_inside(row: &Row, lines: &[Line]) -> u64 {
     let free = |number: u32| lines[number as usize - 1].free;
     match row.kind {
         1 => 1 << row.a,
-        2 | 3 => TRIGGER,
+        2 | 3 | 10 => TRIGGER,
         4 => free(row.a) | free(row.b),
         5 => free(row.b),
         6 | 8 => free(row.c) | (free(row.d) & !bound_names(row)),

@@ -7,7 +7,8 @@ use compare::graph::build;
 use compare::machine::{Machine, RanByRounds};
 use compare::memory::{self, Answer};
 use compare::sheet::{read, write, Figures, Refusal, Sheet};
-use compare::value::Value::{self, Truth, Whole};
+use compare::value::Float;
+use compare::value::Value::{self, Real, Truth, Whole};
 
 const E: Value = Value::E;
 const Z: Value = Value::Z;
@@ -232,7 +233,7 @@ fn a_tray_stops_at_the_first_refused_and_says_how_many_went_in() {
     // not wholly lent; bytes past the last; a bad value in the middle
     assert_eq!(tray(16, &sets[..14], 3), (12, 2));
     assert_eq!(tray(16, &sets[..19], 3), (0, 3));
-    assert_eq!(tray(16, &[&sets[..10], &[4; 5], &sets[15..]].concat(), u32::MAX), (12, 2));
+    assert_eq!(tray(16, &[&sets[..10], &[5; 5], &sets[15..]].concat(), u32::MAX), (12, 2));
     let mut none = vec![];
     assert_eq!(memory::push_tray(&mut none, &sets, 0).refusal, 11);
 }
@@ -502,4 +503,217 @@ fn bench_prints_36_last() {
     assert_eq!(*lines.last().unwrap(), "    36     0");
     assert!(lines[1..lines.len() - 1].iter().all(|line| *line == "          0"));
     assert_eq!(lines.len(), 5);
+}
+
+/// Document 02, Job 9, from here on. A float by its pattern.
+fn bits(pattern: u32) -> Value {
+    Real(Float::of_bits(pattern).expect("a finite pattern"))
+}
+
+const PLUS_ZERO: u32 = 0;
+const MINUS_ZERO: u32 = 2_147_483_648;
+const ONE: u32 = 1_065_353_216;
+const TWO: u32 = 1_073_741_824;
+const GREATEST: u32 = 2_139_095_039;
+const LEAST: u32 = 1;
+
+/// A sheet of one operator over inputs.
+fn one_operator(code: u32) -> Vec<[u32; 5]> {
+    let (x, y) = ([1, 0, 0, 0, 0], [1, 1, 0, 0, 0]);
+    match code {
+        10 | 11 => vec![x, [5, code, 1, 0, 0]],
+        _ => vec![x, y, [4, 1, 2, 0, 0], [5, code, 3, 0, 0]],
+    }
+}
+
+/// "Codes 1 to 4, 6, 7 and 11 take two (or one) such values as IEEE 754 does, to nearest even, negate turning the sign; a zero divisor, also -0, gives Z,
+/// and another result that is no finite number gives V."
+#[test]
+fn operators_on_floats() {
+    let tenths = [1_036_831_949, 1_045_220_557];
+    let cases = [
+        (1, tenths, bits(1_050_253_722)),
+        (1, [1_266_679_808, ONE], bits(1_266_679_808)),
+        (1, [GREATEST, GREATEST], V),
+        (1, [MINUS_ZERO, MINUS_ZERO], bits(MINUS_ZERO)),
+        (2, [ONE, ONE], bits(PLUS_ZERO)),
+        (2, [ONE, TWO], bits(ONE + MINUS_ZERO)),
+        (3, [GREATEST, TWO], V),
+        (3, [LEAST, LEAST], bits(PLUS_ZERO)),
+        (4, [LEAST, TWO], bits(PLUS_ZERO)),
+        (4, [ONE, MINUS_ZERO], Z),
+        (4, [PLUS_ZERO, PLUS_ZERO], Z),
+        (4, [PLUS_ZERO, MINUS_ZERO], Z),
+        (4, [GREATEST, LEAST], V),
+        (6, [MINUS_ZERO, PLUS_ZERO], Truth(false)),
+        (6, [ONE, TWO], Truth(true)),
+        (7, [MINUS_ZERO, PLUS_ZERO], Truth(true)),
+        (7, [ONE, ONE + 1], Truth(false)),
+    ];
+    for (code, patterns, result) in cases {
+        let (sheet, set) = (accepted(&one_operator(code), "RR"), patterns.map(bits));
+        assert_eq!(values(&sheet, &set), [result], "code {code} of {patterns:?}");
+        assert_eq!(worked(&sheet, &set), [result], "code {code} of {patterns:?}");
+    }
+    let negate = accepted(&one_operator(11), "R");
+    for (value, result) in [(bits(PLUS_ZERO), bits(MINUS_ZERO)), (bits(ONE), bits(ONE + MINUS_ZERO)), (Z, Z), (V, V)] {
+        assert_eq!(values(&negate, &[value]), [result]);
+        assert_eq!(worked(&negate, &[value]), [result]);
+    }
+    // An err beside a float is handed on.
+    for err in Value::ERRS {
+        for code in [1, 2, 3, 4, 6, 7] {
+            let sheet = accepted(&one_operator(code), "RR");
+            assert_eq!(values(&sheet, &[bits(ONE), err]), [err]);
+            assert_eq!(values(&sheet, &[err, bits(MINUS_ZERO)]), [err]);
+        }
+    }
+}
+
+/// "Row kind 10 is a constant: a, 0 to 999,999, divided by 1000 with one rounding."
+#[test]
+fn constants_with_a_fraction() {
+    for (a, pattern) in [(0, 0), (1, 981_668_463), (100, 1_036_831_949), (1_000, ONE), (999_999, 1_148_846_064)] {
+        let rows = [[10, a, 0, 0, 0]];
+        let sheet = accepted(&rows, "");
+        assert_eq!(sheet.figures, Figures { rows: 1, operators: 1, inputs: 0, results: 1 });
+        assert_eq!(values(&sheet, &[]), [bits(pattern)]);
+        assert_eq!(worked(&sheet, &[]), [bits(pattern)]);
+        let printed = String::from_utf8(bench(&write(&rows), b"\n", b"\n")).unwrap();
+        assert_eq!(printed, format!("     0     1     1\n{:>11}\n", format!("R{pattern}")));
+    }
+    for unlisted in [[10, 1, 1, 0, 0], [10, 1, 0, 1, 0], [10, 1, 0, 0, 1]] {
+        assert_eq!(refused(&[unlisted]), (4, 1));
+    }
+    assert_eq!(refused(&[[11, 0, 0, 0, 0]]), (4, 1));
+}
+
+/// "In files the field is R and directly after it the bit pattern in decimal without leading zeros, right-justified together. Patterns that are not
+/// finite are refused with 12".
+#[test]
+fn bench_reads_and_prints_floats() {
+    let print = |kinds: &[u8], field: &str| {
+        let sets = format!("          E\n{field}\n");
+        String::from_utf8(bench(&write(&[[1, 0, 0, 0, 0]]), kinds, sets.as_bytes())).unwrap()
+    };
+    let good =
+        ["         R0", "         R1", "R2147483648", "R2139095039", "R4286578687", "R1065353216", "  R16777216"];
+    for field in good.into_iter().chain(["          Z", "          V"]) {
+        assert_eq!(print(b"R\n", field), format!("     1     1     2\n          E\n{field}\n"));
+    }
+    for field in good {
+        assert_eq!([b"W\n", b"T\n"].map(|kinds| print(kinds, field)), ["    12     2\n"; 2], "{field}");
+    }
+    for field in ["          1", "          0", "          T", "          F"] {
+        assert_eq!(print(b"R\n", field), "    12     2\n", "{field}");
+    }
+    let not_finite = ["R2139095040", "R2139095041", "R2147483647", "R4286578688", "R4294967295"];
+    let malformed =
+        ["          R", "        R-1", "        R00", "        R01", "R0000000001", "        R1 ", "R         1"];
+    let others =
+        ["R4294967296", "R9999999999", "         r1", "         1R", "        R+1", "       R1.5", "        -R1"];
+    for field in not_finite.into_iter().chain(malformed).chain(others) {
+        for kinds in [b"R\n", b"W\n"] {
+            assert_eq!(print(kinds, field), "    12     2\n", "{field}");
+        }
+    }
+}
+
+/// "Whole numbers and floats in one operator are a wrong kind; after any wrong kind a number's kind goes on as W."
+#[test]
+fn kinds_of_floats() {
+    for code in [1, 2, 3, 4, 6, 7] {
+        assert_eq!(accepted(&one_operator(code), "RR").figures.inputs, 2);
+        for mixed in [b"RW\n", b"WR\n", b"RT\n", b"TR\n"] {
+            assert_eq!(refused_with(&one_operator(code), mixed), (18, 4), "code {code}");
+        }
+    }
+    for code in [5, 8, 9] {
+        assert_eq!(refused_with(&one_operator(code), b"RR\n"), (18, 4), "code {code}");
+    }
+    assert_eq!(refused_with(&one_operator(10), b"R\n"), (18, 2));
+    // let y = x + 1 in y + 1 with the second sum before the first: of a float x the first alone is at fault; with 1.0 for the last constant both are
+    let behind = |constant: [u32; 5]| {
+        let (x, y, one) = ([1, 0, 0, 0, 0], [1, 1, 0, 0, 0], [2, 1, 0, 0, 0]);
+        let last = [y, constant, [4, 1, 2, 0, 0], [5, 1, 3, 0, 0]];
+        [&last[..], &[x, one, [4, 5, 6, 0, 0], [5, 1, 7, 0, 0], [6, 1, 1, 8, 4]]].concat()
+    };
+    assert_eq!(refused_with(&behind([2, 1, 0, 0, 0]), b"R\n"), (18, 8));
+    assert_eq!(refused_with(&behind([10, 1_000, 0, 0, 0]), b"R\n"), (18, 4));
+}
+
+/// Through a loop's gates: "for i, y = n, s do if 0 < i then iter i - 1, y / 2 else y" halves a float.
+#[test]
+fn floats_travel_through_loops() {
+    let (i, y, n, s) = ([1, 0, 0, 0, 0], [1, 1, 0, 0, 0], [1, 2, 0, 0, 0], [1, 3, 0, 0, 0]);
+    let start = [n, s, [4, 1, 2, 0, 0], [2, 0, 0, 0, 0], i, [4, 4, 5, 0, 0], [5, 6, 6, 0, 0]];
+    let less = [i, [2, 1, 0, 0, 0], [4, 8, 9, 0, 0], [5, 2, 10, 0, 0]];
+    let half = [y, [10, 2_000, 0, 0, 0], [4, 12, 13, 0, 0], [5, 4, 14, 0, 0]];
+    let end = [[4, 11, 15, 0, 0], [9, 16, 0, 0, 0], y, [7, 7, 17, 18, 0], [8, 0, 2, 3, 19]];
+    let sheet = accepted(&[&start[..], &less, &half, &end].concat(), "WR");
+    for (set, result) in [
+        ([Whole(0), bits(MINUS_ZERO)], bits(MINUS_ZERO)),
+        ([Whole(2), bits(ONE)], bits(1_048_576_000)),
+        ([Whole(149), bits(ONE)], bits(LEAST)),
+        ([Whole(150), bits(ONE)], bits(PLUS_ZERO)),
+        ([Whole(150), bits(ONE + MINUS_ZERO)], bits(MINUS_ZERO)),
+        ([Whole(3), V], V),
+        ([E, bits(ONE)], E),
+    ] {
+        assert_eq!(values(&sheet, &set), [result]);
+        assert_eq!(worked(&sheet, &set), [result]);
+    }
+    assert_eq!(evaluate(&sheet, &[Whole(1), Whole(1)], 9), refusal(12));
+    assert_eq!(evaluate(&sheet, &[bits(ONE), bits(ONE)], 9), refusal(12));
+}
+
+/// Patterns that are not finite "are refused with 12, in a stored token with 31". A set is lent as tag 4 and the four bytes, lowest first.
+#[test]
+fn bytes_of_floats_that_are_not_finite() {
+    let rows = [[1, 0, 0, 0, 0], [10, 500, 0, 0, 0], [4, 1, 2, 0, 0], [5, 1, 3, 0, 0]];
+    let mut mem = vec![0; memory::need(1)];
+    assert_eq!(memory::start(&write(&rows), b"R\n", 1, &mut mem).refusal, 0);
+    let started = mem.clone();
+    let bytes = |pattern: u32| [&[4][..], &pattern.to_le_bytes()].concat();
+    for pattern in [GREATEST + 1, GREATEST + 2, MINUS_ZERO - 1, GREATEST + 1 + MINUS_ZERO, u32::MAX] {
+        assert_eq!(memory::push(&mut mem, &bytes(pattern)).refusal, 12);
+        assert_eq!(mem, started);
+    }
+    assert_eq!(memory::push(&mut mem, &bytes(ONE)).refusal, 0);
+    // The token on the input link, with every other pattern in its place.
+    let link = usize::from(u16::from_le_bytes([mem[10], mem[11]]));
+    let token = 21_760 + 6 * link;
+    assert_eq!(mem[token..token + 6], [1, 4, 0, 0, 0x80, 0x3f]);
+    let stored = |pattern: u32| {
+        let mut copy = mem.clone();
+        copy[token + 2..token + 6].copy_from_slice(&pattern.to_le_bytes());
+        memory::run(&mut copy, 100).refusal
+    };
+    for pattern in [GREATEST + 1, MINUS_ZERO - 1, GREATEST + 1 + MINUS_ZERO, u32::MAX] {
+        assert_eq!(stored(pattern), 31);
+    }
+    for pattern in [PLUS_ZERO, MINUS_ZERO, GREATEST, GREATEST + MINUS_ZERO, LEAST] {
+        assert_eq!(stored(pattern), 0);
+    }
+    // What a constant's register may hold.
+    let constant = (0..3).find(|i| mem[256 + 16 * i] == 12).expect("a constant");
+    let register = 16_640 + 5 * constant;
+    assert_eq!(mem[register..register + 5], [4, 0, 0, 0, 0x3f]);
+    let held = |tag: u8, bits: u32| {
+        let mut copy = mem.clone();
+        copy[register] = tag;
+        copy[register + 1..register + 5].copy_from_slice(&bits.to_le_bytes());
+        memory::run(&mut copy, 100).refusal
+    };
+    for (tag, bits) in [(1, 0), (1, 999_999), (2, 0), (2, 1), (4, 0), (4, LEAST), (4, 1_148_846_064)] {
+        assert_eq!(held(tag, bits), 0, "{tag} {bits}");
+    }
+    let beyond = [(4, 1_148_846_065), (4, GREATEST), (4, GREATEST + 1), (4, MINUS_ZERO), (1, 1_000_000), (1, u32::MAX)];
+    for (tag, bits) in beyond.into_iter().chain([(2, 2), (3, 0), (3, 1), (3, 2), (0, 0), (5, 0)]) {
+        assert_eq!(held(tag, bits), 31, "{tag} {bits}");
+    }
+    // A letter may be R; r is none.
+    assert_eq!(mem[106], b'R');
+    mem[106] = b'r';
+    assert_eq!(memory::run(&mut mem, 100).refusal, 31);
 }

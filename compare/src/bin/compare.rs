@@ -6,7 +6,7 @@ use compare::arguments::Cases;
 use compare::bytes::{self, EvaluateAnswer, OUT_BYTES, VALUE_BYTES};
 use compare::product;
 use compare::random::turns::random_sheet;
-use compare::random::{random_err, random_set, random_value, Made, Rng};
+use compare::random::{random_err, random_float_bytes, random_set, random_value, Made, Rng};
 use compare::sheet;
 use compare::value::{Sort, Value};
 use std::collections::BTreeMap;
@@ -49,7 +49,7 @@ const MARGIN: usize = 64;
 
 impl Surrounded {
     fn new(middle: &[u8], rng: &mut Rng) -> Surrounded {
-        let mut margin = || (0..MARGIN).map(|_| rng.pick(b" 0123456789WT\n\x01\x02\x03")).collect::<Vec<u8>>();
+        let mut margin = || (0..MARGIN).map(|_| rng.pick(b" 0123456789WTR\n\x01\x02\x03\x04")).collect::<Vec<u8>>();
         Surrounded { memory: [&margin(), middle, &margin()].concat(), length: middle.len() }
     }
 
@@ -111,20 +111,21 @@ fn compare_evaluate(made: &Made, counts: &mut Counts, rng: &mut Rng) -> Result<(
     ))
 }
 
-/// How many accepted evaluations have a result that is no err, and how many a Z or a V.
+/// How many accepted evaluations have a result that is no err, and how many a Z, a V or a float.
 fn count_results(answer: &EvaluateAnswer, out: &[u8], counts: &mut Counts) {
     let results = || out.chunks_exact(VALUE_BYTES).take(answer.width as usize).filter_map(bytes::decode);
     let mut count = |kind: &str, found: bool| *counts.entry(kind.into()).or_default() += u64::from(found);
     count("evaluated to more than errs", results().any(|value| !value.is_err()));
     count("evaluated to Z", results().any(|value| value == Value::Z));
     count("evaluated to V", results().any(|value| value == Value::V));
+    count("evaluated to a float", results().any(|value| matches!(value, Value::Real(_))));
 }
 
 /// Mostly a set that fits the sheet; else one with a value of another kind, a value or a byte too many or too few, or with a bad value.
 fn random_set_bytes(made: &Made, rng: &mut Rng) -> Vec<u8> {
     let mut values = match sheet::read(&made.bytes, &made.kinds) {
         Ok(sheet) => random_set(&sheet, rng),
-        Err(_) => (0..rng.below(4)).map(|_| random_value(Sort::Whole, rng)).collect(),
+        Err(_) => (0..rng.below(4)).map(|_| random_value(rng.pick(&[Sort::Whole, Sort::Real]), rng)).collect(),
     };
     let change = rng.below(40);
     match change {
@@ -145,6 +146,10 @@ fn random_set_bytes(made: &Made, rng: &mut Rng) -> Vec<u8> {
         6 if !set.is_empty() => {
             let place = rng.below(values.len()) * VALUE_BYTES;
             set[place..place + VALUE_BYTES].copy_from_slice(&random_err(rng));
+        }
+        7 | 8 if !set.is_empty() => {
+            let place = rng.below(values.len()) * VALUE_BYTES;
+            set[place..place + VALUE_BYTES].copy_from_slice(&random_float_bytes(rng));
         }
         _ => {}
     }

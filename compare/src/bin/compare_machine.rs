@@ -6,9 +6,11 @@
 
 use compare::arguments::Cases;
 use compare::bytes::{self, OUT_BYTES, VALUE_BYTES};
-use compare::memory::{self, Answer, RoundsAnswer, LETTERS, MOST_LINKS};
+use compare::memory::{self, Answer, RoundsAnswer, GREATEST_CONSTANT, LETTERS, MOST_LINKS};
 use compare::random::faults::{plant, PLANTABLE};
-use compare::random::{accepted_sheet, heavy_sheet, random_err, random_set, random_value, Made, Rng};
+use compare::random::{
+    accepted_sheet, heavy_sheet, random_err, random_float_bytes, random_pattern, random_set, random_value, Made, Rng,
+};
 use compare::sheet::{self, Sheet};
 use compare::value::Sort;
 use compare::{eval, product};
@@ -380,16 +382,17 @@ impl Run<'_> {
     fn random_set(&self, rng: &mut Rng) -> Vec<u8> {
         let mut values = random_set(self.sheet, rng);
         if rng.chance(3) {
-            values.push(random_value(Sort::Whole, rng));
+            values.push(random_value(rng.pick(&[Sort::Whole, Sort::Real]), rng));
         }
         let mut set = bytes::encode_set(&values);
         if rng.chance(3) && !set.is_empty() {
             let at = rng.below(set.len());
             set[at] = rng.pick(&[0, 1, 2, 3, 4, 255]);
         }
-        if rng.chance(3) && !values.is_empty() {
+        if rng.chance(5) && !values.is_empty() {
             let at = rng.below(values.len()) * VALUE_BYTES;
-            set[at..at + VALUE_BYTES].copy_from_slice(&random_err(rng));
+            let value = if rng.chance(50) { random_err(rng) } else { random_float_bytes(rng) };
+            set[at..at + VALUE_BYTES].copy_from_slice(&value);
         }
         if rng.chance(2) {
             set.pop();
@@ -422,7 +425,7 @@ fn alter(mem: &mut [u8], length: usize, rng: &mut Rng) {
     let operator = rng.below(operators);
     // A changed capacity moves the stretches: the last place then stands for one past the end.
     let link = (21_760 + rng.below(links) * size).min(length - 6);
-    match rng.below(13) {
+    match rng.below(15) {
         0 => mem[rng.pick(&[0, 5, 6, 7])] = rng.pick(&[0, 1, 2, 15, 16, 17, 31, 32, 33, 255]),
         1 => write(
             mem,
@@ -439,7 +442,7 @@ fn alter(mem: &mut [u8], length: usize, rng: &mut Rng) {
         6 => mem[16_640 + 5 * operator + rng.below(5)] = rng.pick(&[0, 1, 2, 3, 4, 255]),
         7 | 8 => mem[link] = rng.pick(&[0, 1, 2, 15, 16, 17, 255]),
         9 | 10 => {
-            let err = random_err(rng);
+            let (err, float) = (random_err(rng), random_float_bytes(rng));
             let value = rng.pick(&[
                 [1, 5, 0, 0, 0],
                 [2, 0, 0, 0, 0],
@@ -447,15 +450,37 @@ fn alter(mem: &mut [u8], length: usize, rng: &mut Rng) {
                 [2, 2, 0, 0, 0],
                 err,
                 err,
+                float,
+                float,
+                float,
                 [0; 5],
-                [4, 0, 0, 0, 0],
+                [5, 0, 0, 0, 0],
             ]);
             mem[link + 1..link + 6].copy_from_slice(&value);
             mem[link] = mem[link].max(1);
         }
-        11 => mem[LETTERS + rng.below(usize::from(mem[INPUTS_AT]).clamp(1, 33))] = rng.pick(b"WTTTWwF\0\x01\x02"),
+        11 => mem[LETTERS + rng.below(usize::from(mem[INPUTS_AT]).clamp(1, 33))] = rng.pick(b"WTRRTTWwrF\0\x01\x02"),
+        12 | 13 => alter_register(mem, operators, rng),
         _ => mem[rng.below(length)] = rng.number() as u8,
     }
+}
+
+/// Another value in the register of a constant, an FM or an FS, about the ends of what a constant may be.
+fn alter_register(mem: &mut [u8], operators: usize, rng: &mut Rng) {
+    let holding: Vec<usize> = (0..operators).filter(|i| matches!(mem[256 + 16 * i], 12 | 19 | 20)).collect();
+    if holding.is_empty() {
+        return;
+    }
+    let at = 16_640 + 5 * rng.pick(&holding);
+    let (tag, bits) = match rng.below(8) {
+        0 | 1 => (1, rng.pick(&[0, 1, 999_999, 1_000_000, u32::MAX, 1 << 31])),
+        2 => (2, rng.pick(&[0, 1, 2])),
+        3 => (3, rng.pick(&[0, 1, 2, 3])),
+        4 => (4, random_pattern(rng)),
+        _ => (4, rng.pick(&[0, 1, GREATEST_CONSTANT - 1, GREATEST_CONSTANT, GREATEST_CONSTANT + 1, 1 << 31])),
+    };
+    mem[at] = tag;
+    mem[at + 1..at + VALUE_BYTES].copy_from_slice(&bits.to_le_bytes());
 }
 
 fn rng_link(links: usize, step: usize) -> usize {

@@ -4,7 +4,7 @@
 
 use compare::bytes::{self, OUT_BYTES, VALUE_BYTES};
 use compare::calls::{self, Calls, PLAIN};
-use compare::examples::{factorial, lesser, many_operators, negations};
+use compare::examples::{factorial, lesser, many_operators, negations, range};
 use compare::memory;
 use compare::random::{fitting_set, Made, Rng};
 use compare::table::{grouped, head, row, speed};
@@ -55,7 +55,7 @@ fn report(name: &str, steps: u32, ours: &mut dyn FnMut() -> u32, product: &mut O
 }
 
 /// The calls on a machine at capacity 2: a start; a run of as many sets as fit, by the firing; the same by rounds, by the round; a take with the push of
-/// another set.
+/// another set; the whole way of one set.
 fn machine(name: &str, made: &Made, set: &[u8]) {
     let start = calls::product().unwrap_or(PLAIN).start;
     let mut fresh = vec![0; memory::need(2)];
@@ -90,6 +90,9 @@ fn machine(name: &str, made: &Made, set: &[u8]) {
     memory::run(&mut done, FIRINGS);
     let mut product = calls::product().map(|calls| taking(calls, &done, set));
     report(&format!("take and push: {name}"), 1, &mut taking(PLAIN, &done, set), &mut product);
+
+    let mut product = calls::product().map(|calls| whole_way(calls, &fresh, set));
+    report(&format!("push, run and take: {name}"), 1, &mut whole_way(PLAIN, &fresh, set), &mut product);
 }
 
 const FIRINGS: u32 = 1_000_000;
@@ -163,6 +166,16 @@ fn taking<'a>(calls: Calls, done: &'a [u8], set: &'a [u8]) -> Call<'a> {
     })
 }
 
+/// A machine from which the one set is taken is ready for the next.
+fn whole_way<'a>(calls: Calls, fresh: &[u8], set: &'a [u8]) -> Call<'a> {
+    let mut mem = fresh.to_vec();
+    let mut out = [0; OUT_BYTES];
+    Box::new(move || {
+        let pushed = (calls.push)(&mut mem, set).refusal;
+        pushed + (calls.run)(&mut mem, FIRINGS).refusal + (calls.take)(&mut mem, &mut out).refusal
+    })
+}
+
 /// The part of a machine that its calls change, as it was: registers and links.
 fn restore(mem: &mut [u8], from: &[u8]) {
     let figure = |at: usize| usize::from(u16::from_le_bytes([from[at], from[at + 1]]));
@@ -204,6 +217,7 @@ fn sheets() -> Vec<(String, Made)> {
     vec![
         ("the lesser of two".into(), lesser()),
         ("factorial".into(), factorial()),
+        ("range from strength".into(), range()),
         ("50 rows of negations".into(), negations(50)),
         ("100 rows of negations".into(), negations(100)),
         ("200 rows of negations".into(), negations(200)),
@@ -223,6 +237,7 @@ fn evaluations() -> Vec<(String, Made, Vec<u8>, u32)> {
     let set = bytes::encode_set(&fitting_set(&sheet, &mut rng));
     vec![
         ("the lesser of two".into(), lesser(), pair, 0),
+        ("range from strength, in floats".into(), range(), bytes::encode_set(&[1.37, 0.02].map(Value::real)), 0),
         ("factorial of 12".into(), factorial(), number(12), 100),
         ("10,000 rounds of factorial".into(), factorial(), number(10_000), 10_000),
         ("200 rows of negations".into(), negations(200), number(7), 0),

@@ -103,12 +103,15 @@ const NAME: Row = [1, 0, 0, 0, 0];
 fn sheets() -> Vec<(&'static str, Made, Value)> {
     let (whole, yes, no) = (Value::Whole(7), Value::Truth(true), Value::Truth(false));
     let sum = |last| vec![NAME, [4, last + 1, last, 0, 0], [5, 1, last + 2, 0, 0]];
+    let quotient = |last| vec![NAME, [4, last + 1, last, 0, 0], [5, 4, last + 2, 0, 0]];
     let inner_let = |last| vec![NAME, [6, 0, 1, last + 1, last]];
     let many = examples::many_operators(&mut Rng::new(1));
     vec![
         ("the lesser of two", examples::lesser(), whole),
         ("negations", chain(NEGATE, |last| vec![[5, NEGATE, last, 0, 0]]), whole),
         ("sums in sums", chain(NEGATE, sum), Value::Whole(0)),
+        ("quotients of floats in quotients", of_floats(chain(NEGATE, quotient)), Value::real(1.0)),
+        ("range from strength", examples::range(), Value::real(1.5)),
         ("lets in lets", chain(NEGATE, inner_let), whole),
         ("ifs in ifs", chain(NOT, |last| vec![NAME, NAME, [7, last + 1, last, last + 2, 0]]), yes),
         ("ifs in the tests of ifs", chain(NOT, |last| vec![NAME, NAME, [7, last, last + 1, last + 2, 0]]), yes),
@@ -136,6 +139,11 @@ fn chain(code: u32, part: impl Fn(u32) -> Vec<Row>) -> Made {
     }
     let kinds = if code == NOT { b"T\n" } else { b"W\n" };
     Made { bytes: write(&rows), kinds: kinds.to_vec() }
+}
+
+/// The same rows over an input of kind R.
+fn of_floats(made: Made) -> Made {
+    Made { kinds: b"R\n".to_vec(), ..made }
 }
 
 /// for x = x do if x then iter x else (row `last`)

@@ -1,4 +1,4 @@
-// The cases of tests 17 and 18 (document 02, Job 6). See ../cases.rs for how they are held to the reader.
+// The cases of tests 17 and 18 (document 02, Job 6; kind R: Job 9). See ../cases.rs for how they are held to the reader.
 
 use super::rules::nest;
 use super::{lesser, List};
@@ -8,6 +8,7 @@ type Row = [u32; 5];
 
 const ONE: Row = [2, 1, 0, 0, 0];
 const TRUE: Row = [3, 1, 0, 0, 0];
+const HALF: Row = [10, 500, 0, 0, 0];
 
 fn name(name: u32) -> Row {
     [1, name, 0, 0, 0]
@@ -15,7 +16,7 @@ fn name(name: u32) -> Row {
 
 /// 17 "when the kinds line has another length or letter".
 pub fn lines(list: &mut List) {
-    let bad: [(&str, &[u8]); 17] = [
+    let bad: [(&str, &[u8]); 20] = [
         ("empty", b""),
         ("a line feed alone", b"\n"),
         ("one letter", b"W\n"),
@@ -31,6 +32,9 @@ pub fn lines(list: &mut List) {
         ("a byte behind the line feed", b"WW\nW"),
         ("small letters", b"ww\n"),
         ("the letter F", b"WF\n"),
+        ("a small r", b"Rr\n"),
+        ("the letter S, next to R", b"SR\n"),
+        ("a byte 0xd2, an R but for its highest bit", b"R\xd2\n"),
         ("a byte 0x00", b"W\0\n"),
         ("a byte 0xd7, a W but for its highest bit", b"\xd7W\n"),
     ];
@@ -54,23 +58,38 @@ pub fn lines(list: &mut List) {
     list.refused_with(18, 46, "1,025 operators and a row that breaks the kinds", write(&nest(29, 24)), &broken);
 }
 
+/// Whether a code wants these letters: document 02, Job 9, "Codes 1 to 4, 6, 7 and 11 take two (or one) such values", floats.
+fn wants(code: u32, letters: &str) -> bool {
+    match code {
+        5 => letters == "WW",
+        8 | 9 => letters == "TT",
+        10 => letters == "T",
+        11 => letters == "W" || letters == "R",
+        _ => letters == "WW" || letters == "RR",
+    }
+}
+
 /// "Operators [..] must get the kinds they want": each code with each kinds of its operands.
 pub fn operators(list: &mut List) {
     for code in 1..=9 {
         let rows = [name(0), name(1), [4, 1, 2, 0, 0], [5, code, 3, 0, 0]];
-        let wanted = if code < 8 { "WW" } else { "TT" };
-        for letters in ["WW", "WT", "TW", "TT"] {
+        for letters in ["WW", "WT", "WR", "TW", "TT", "TR", "RW", "RT", "RR"] {
             let what = format!("code {code} of {letters}");
-            match letters == wanted {
+            match wants(code, letters) {
                 true => list.accepted([4, 1, 2, 1], &what, write(&rows), letters),
                 false => list.refused_with(18, 4, &what, write(&rows), format!("{letters}\n").as_bytes()),
             }
         }
     }
-    for (code, wanted, other) in [(10, "T", b"W\n"), (11, "W", b"T\n")] {
+    for code in [10, 11] {
         let rows = [name(0), [5, code, 1, 0, 0]];
-        list.accepted([2, 1, 1, 1], &format!("code {code} of {wanted}"), write(&rows), wanted);
-        list.refused_with(18, 2, &format!("code {code} of another kind"), write(&rows), other);
+        for letters in ["W", "T", "R"] {
+            let what = format!("code {code} of {letters}");
+            match wants(code, letters) {
+                true => list.accepted([2, 1, 1, 1], &what, write(&rows), letters),
+                false => list.refused_with(18, 2, &what, write(&rows), format!("{letters}\n").as_bytes()),
+            }
+        }
     }
     // not and negate of what each code gives
     for code in 1..=9 {
@@ -84,6 +103,114 @@ pub fn operators(list: &mut List) {
             }
         }
     }
+    // What each code gives of floats, compared with a constant: a float for 1 to 4, a truth, which cannot be compared, for 6 and 7.
+    for code in [1, 2, 3, 4, 6, 7] {
+        for (what, constant, fits) in [("0.5", HALF, code < 5), ("1", ONE, false), ("true", TRUE, false)] {
+            let operator = [name(0), name(1), [4, 1, 2, 0, 0], [5, code, 3, 0, 0]];
+            let rows = [&operator[..], &[constant, [4, 4, 5, 0, 0], [5, 6, 6, 0, 0]]].concat();
+            let what = format!("code {code} of floats, less than {what}");
+            match fits {
+                true => list.accepted([7, 3, 2, 1], &what, write(&rows), "RR"),
+                false => list.refused_with(18, 7, &what, write(&rows), b"RR\n"),
+            }
+        }
+    }
+}
+
+/// Document 02, Job 9: "Row kind 10 is a constant: a, 0 to 999,999", and has the kind R.
+pub fn fractions(list: &mut List) {
+    for a in [0, 1, 1_000, 999_999] {
+        list.accepted([1, 1, 0, 1], &format!("{a} thousandths"), write(&[[10, a, 0, 0, 0]]), "");
+    }
+    for field in 2..5 {
+        let mut row = HALF;
+        row[field] = 1;
+        list.refused(4, 1, &format!("kind 10 with 1 in unlisted field {field}"), write(&[row]));
+    }
+    list.refused(8, 2, "the sum of one constant with a fraction", write(&[HALF, [5, 1, 1, 0, 0]]));
+    list.refused(8, 3, "a let of two identifiers to a fraction", write(&[HALF, name(0), [6, 0, 2, 1, 2]]));
+    list.refused(9, 3, "let x = 0.5 in 0.5", write(&[HALF, HALF, [6, 0, 1, 1, 2]]));
+    list.refused(6, 1, "two fractions, the first not named", write(&[HALF, HALF]));
+    // Both constants take the trigger, which is copied once: 0.5 + 0.5 has 4 operators.
+    list.accepted([4, 4, 0, 1], "0.5 + 0.5", write(&[HALF, HALF, [4, 1, 2, 0, 0], [5, 1, 3, 0, 0]]), "");
+    list.refused_with(18, 4, "0.5 + 1", write(&[HALF, ONE, [4, 1, 2, 0, 0], [5, 1, 3, 0, 0]]), b"\n");
+    list.refused_with(18, 4, "1 + 0.5", write(&[ONE, HALF, [4, 1, 2, 0, 0], [5, 1, 3, 0, 0]]), b"\n");
+    list.refused_with(18, 2, "not 0.5", write(&[HALF, [5, 10, 1, 0, 0]]), b"\n");
+    list.accepted([7, 8, 2, 1], "the lesser of two floats", write(&lesser()), "RR");
+    list.refused_with(18, 4, "the lesser of a float and a number", write(&lesser()), b"RW\n");
+    list.refused_with(18, 4, "the lesser of a number and a float", write(&lesser()), b"WR\n");
+    let chosen = |yes: Row, no: Row| write(&[name(0), yes, no, [7, 1, 2, 3, 0]]);
+    list.refused_with(18, 4, "a test of kind R", chosen(ONE, ONE), b"R\n");
+    for (what, yes, no) in [("1 and 0.5", ONE, HALF), ("0.5 and 1", HALF, ONE), ("0.5 and true", HALF, TRUE)] {
+        list.refused_with(18, 4, &format!("arms {what}"), chosen(yes, no), b"T\n");
+    }
+    // A T and an F on the trigger, an M, both constants, two copies of the test, one of the trigger: 8.
+    list.accepted([4, 8, 1, 1], "arms 0.5 and 0.5", chosen(HALF, HALF), "T");
+    // for x0 = x0 do if x1 then iter (row 3) else (row 5); its operators are counted among the loops below
+    let looped =
+        |next: Row, end: Row| write(&[name(0), name(1), next, [9, 3, 0, 0, 0], end, [7, 2, 4, 5, 0], [8, 0, 1, 1, 6]]);
+    list.accepted([7, 18, 2, 1], "a loop over numbers that returns a float", looped(name(0), HALF), "WT");
+    list.accepted([7, 18, 2, 1], "a loop over floats that returns a number", looped(name(0), ONE), "RT");
+    list.refused_with(18, 7, "a loop that turns a number into a float", looped(HALF, name(0)), b"WT\n");
+    list.refused_with(18, 7, "a loop that turns a float into a number", looped(ONE, name(0)), b"RT\n");
+    list.refused_with(18, 7, "a loop that turns a float into a truth", looped(TRUE, name(0)), b"RT\n");
+    list.refused_with(18, 6, "a body's test of kind R", looped(name(0), name(0)), b"RR\n");
+    // x31, x30 and x29 as the results: the letters go by rising identifiers
+    let three = [name(31), name(30), name(29), [5, 10, 2, 0, 0], [4, 1, 4, 0, 0], [4, 5, 3, 0, 0]];
+    list.accepted([6, 1, 3, 3], "three inputs of three kinds", write(&three), "RTW");
+    list.refused_with(18, 4, "three inputs of three kinds in another order", write(&three), b"TRW\n");
+}
+
+/// Document 02, Job 9: "after any wrong kind a number's kind goes on as W". It shows in a row below the fault: let x1 = (the part) in x1 + a constant,
+/// that sum being row 4. It is at fault besides where the constant is not of the kind that goes on.
+pub fn kinds_that_go_on(list: &mut List) {
+    let behind = |constant: Row, part: &[Row]| {
+        let last = part.len() as u32 + 4;
+        let sum = [name(1), constant, [4, 1, 2, 0, 0], [5, 1, 3, 0, 0]];
+        write(&[&sum[..], part, &[[6, 1, 1, last, 4]]].concat())
+    };
+    let on_two = |code: u32, left: Row, right: Row| vec![left, right, [4, 5, 6, 0, 0], [5, code, 7, 0, 0]];
+    let test = |yes: Row, no: Row| vec![TRUE, yes, no, [7, 5, 6, 7, 0]];
+    // The part with x0 of kind R, its row at fault, and whether a float goes on, as the first arm's and row c's kind does.
+    let parts = [
+        ("x + 1", on_two(1, name(0), ONE), 8, false),
+        ("1 - x", on_two(2, ONE, name(0)), 8, false),
+        ("x * true", on_two(3, name(0), TRUE), 8, false),
+        ("true / x", on_two(4, TRUE, name(0)), 8, false),
+        ("x remainder x", on_two(5, name(0), name(0)), 8, false),
+        ("x remainder 1", on_two(5, name(0), ONE), 8, false),
+        ("arms x and 1", test(name(0), ONE), 8, true),
+        ("arms 1 and x", test(ONE, name(0)), 8, false),
+        // for x1 = x0 do if true then iter 1 else x1
+        (
+            "a loop of two kinds",
+            vec![name(0), TRUE, ONE, [9, 7, 0, 0, 0], name(1), [7, 6, 8, 9, 0], [8, 1, 1, 5, 10]],
+            11,
+            true,
+        ),
+        // x < 1 is a truth all the same, so that the test over it is sound
+        (
+            "if x < 1 then x else x",
+            [&on_two(6, name(0), ONE)[..], &[name(0), name(0), [7, 8, 9, 10, 0]]].concat(),
+            8,
+            true,
+        ),
+    ];
+    for (what, part, row, goes_on) in parts {
+        for (constant, sound) in [(HALF, goes_on), (ONE, !goes_on)] {
+            let number = if constant == HALF { "0.5" } else { "1" };
+            let row = if sound { row } else { 4 };
+            list.refused_with(18, row, &format!("{number} added to {what}"), behind(constant, &part), b"R\n");
+        }
+    }
+    // A fault, and a sum of it with a whole number: the second row is sound, and with the first mended it is the one at fault.
+    let sum = |first: Row, second: Row, third: Row| {
+        let rows = [first, second, [4, 1, 2, 0, 0], [5, 1, 3, 0, 0], third, [4, 4, 5, 0, 0], [5, 1, 6, 0, 0]];
+        write(&rows)
+    };
+    list.refused_with(18, 4, "x + 1 + 1 of a float x", sum(name(0), ONE, ONE), b"R\n");
+    list.refused_with(18, 7, "x + 0.5 + 1 of a float x", sum(name(0), HALF, ONE), b"R\n");
+    list.refused_with(18, 7, "x + 1 + 0.5 of a number x", sum(name(0), ONE, HALF), b"W\n");
 }
 
 /// "tests must get the kinds they want, arms [..] must agree; else the [..] if [..] itself is at fault".

@@ -148,10 +148,10 @@ pub fn operators(list: &mut List) {
 /// The fault with the higher number stands on the lower row.
 pub fn two_faults(list: &mut List) {
     let mut rows = lesser();
-    rows[0] = [10, 0, 0, 0, 0];
+    rows[0] = [11, 0, 0, 0, 0];
     let mut bytes = write(&rows);
     bytes[31 * 5 + 5] = b'x';
-    list.refused(3, 6, "kind 10 in row 1, a malformed field in row 6", bytes);
+    list.refused(3, 6, "kind 11 in row 1, a malformed field in row 6", bytes);
     let mut rows = lesser();
     rows[2] = [4, 1, 7, 0, 0];
     rows[5] = [1, 32, 0, 0, 0];

@@ -2,7 +2,7 @@
 // Where the way of planting fixes the row that the refusal must give, it is said with the bytes.
 
 use super::lines::{bad_line, with_other_letter};
-use super::sheets::{accepted_sheet, overfull_sheet, unkinded_sheet, Made};
+use super::sheets::{accepted_sheet, mixed_sheet, overfull_sheet, unkinded_sheet, Made};
 use super::Rng;
 use crate::sheet::{self, Place, Sheet, ROW_BYTES};
 
@@ -66,13 +66,17 @@ fn planted_line(rng: &mut Rng) -> Planted {
     Planted { made, row: Some(0) }
 }
 
-/// 18: leaves of another kind, an input of another, a code of another kind; also beside too many operators.
+/// 18: leaves of another kind, an input of another, a code of another kind, a constant with a fraction among whole numbers or the other way round, a
+/// remainder of floats, operands of any kinds; also beside too many operators.
 fn broken_kinds(rng: &mut Rng) -> Option<Planted> {
-    let (made, row) = match rng.below(10) {
+    let (made, row) = match rng.below(20) {
         0..=2 => (unkinded_sheet(rng), None),
         3 => (with_other_input(overfull_sheet(rng), rng), None),
         4..=6 => (with_other_input(accepted_sheet(rng), rng), None),
-        _ => other_code(accepted_sheet(rng), rng)?,
+        7..=9 => other_code(accepted_sheet(rng), rng)?,
+        10..=12 => (other_constant(accepted_sheet(rng), rng)?, None),
+        13..=15 => (remainder(accepted_sheet(rng), rng)?, None),
+        _ => (mixed_sheet(rng), None),
     };
     (made.refusal() == 18).then_some(Planted { made, row })
 }
@@ -90,6 +94,22 @@ fn other_code(made: Made, rng: &mut Rng) -> Option<(Made, Option<u32>)> {
     let code = if row[1] < 8 { rng.pick(&[8, 9]) } else { rng.pick(&[6, 7]) };
     let bytes = with_row(&sheet, number, [5, code, row[2], 0, 0]);
     Some((Made { bytes, kinds: made.kinds }, Some(number)))
+}
+
+/// A constant of row kind 2 becomes one of row kind 10, or the other way round.
+fn other_constant(made: Made, rng: &mut Rng) -> Option<Made> {
+    let sheet = made.sheet();
+    let number = some_row(&sheet, rng, |_, row| matches!(row[0], 2 | 10))?;
+    let row = rows_of(&sheet)[number as usize - 1];
+    Some(Made { bytes: with_row(&sheet, number, [12 - row[0], row[1], 0, 0, 0]), kinds: made.kinds })
+}
+
+/// A sum, difference, product or quotient becomes a remainder, which of floats is a wrong kind.
+fn remainder(made: Made, rng: &mut Rng) -> Option<Made> {
+    let sheet = made.sheet();
+    let number = some_row(&sheet, rng, |_, row| row[0] == 5 && row[1] <= 4)?;
+    let row = rows_of(&sheet)[number as usize - 1];
+    Some(Made { bytes: with_row(&sheet, number, [5, 5, row[2], 0, 0]), kinds: made.kinds })
 }
 
 fn known(bytes: Vec<u8>, row: u32) -> Broken {
@@ -161,7 +181,7 @@ fn out_of_range(sheet: &Sheet, rng: &mut Rng) -> Broken {
     let number = rng.between(1, sheet.last() as usize) as u32;
     let row = rows_of(sheet)[number as usize - 1];
     let unlisted: &[usize] = match row[0] {
-        1..=3 | 9 => &[2, 3, 4],
+        1..=3 | 9 | 10 => &[2, 3, 4],
         4 | 5 => &[3, 4],
         7 => &[4],
         _ => &[],
@@ -175,7 +195,7 @@ fn out_of_range(sheet: &Sheet, rng: &mut Rng) -> Broken {
         (6 | 8, 1) => changed[1] = rng.pick(&[33 - row[2], 32, 999_999]),
         (6 | 8, _) => changed[2] = rng.pick(&[33 - row[1], 33, 999_999]),
         (_, 1) if !unlisted.is_empty() => changed[rng.pick(unlisted)] = rng.pick(&[1, 2, 999_999]),
-        _ => changed[0] = rng.pick(&[0, 10, 11, 999_999]),
+        _ => changed[0] = rng.pick(&[0, 11, 12, 999_999]),
     }
     known(with_row(sheet, number, changed), number)
 }

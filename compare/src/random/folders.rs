@@ -4,11 +4,11 @@
 use super::faults::{plant, PLANTABLE};
 use super::lines::{bad_line, likely_line, with_other_letter};
 use super::turns::altered_sheet;
-use super::{accepted_sheet, fitting_set, heavy_sheet, loose_sheet, random_value, renamed_sheet, Made, Rng};
+use super::{accepted_sheet, fitting_set, heavy_sheet, loose_sheet, renamed_sheet, value_of_another_kind, Made, Rng};
 use crate::bench::{write_set, FIELD, MOST_SET_BYTES};
 use crate::eval;
 use crate::sheet::{self, Sheet, ROW_BYTES};
-use crate::value::Value;
+use crate::value::{Sort, Value};
 
 /// A set that needs more rounds keeps a loop going for long.
 const ROUNDS: u32 = 300;
@@ -101,7 +101,7 @@ fn random_sets(sheet: &Sheet, rng: &mut Rng) -> (&'static str, Vec<u8>) {
         return ("another kind", text_of(&sets));
     }
     let mut text = text_of(&sets);
-    (if rng.chance(25) { spoil(&mut text, line, rng) } else { kind }, text)
+    (if rng.chance(25) { spoil(&mut text, &sheet.sorts, rng) } else { kind }, text)
 }
 
 fn text_of(sets: &[Vec<Value>]) -> Vec<u8> {
@@ -112,7 +112,7 @@ fn text_of(sets: &[Vec<Value>]) -> Vec<u8> {
 fn another_kind(sets: &mut [Vec<Value>], sheet: &Sheet, rng: &mut Rng) {
     if !sets.is_empty() && !sheet.sorts.is_empty() {
         let (set, place) = (rng.below(sets.len()), rng.below(sheet.sorts.len()));
-        sets[set][place] = random_value(sheet.sorts[place].other(), rng);
+        sets[set][place] = value_of_another_kind(sheet.sorts[place], rng);
     }
 }
 
@@ -155,6 +155,71 @@ const BAD_FIELDS: [&[u8; FIELD]; 23] = [
     b"         e1",
 ];
 
+/// Fields that are nearly a float's.
+const BAD_FLOATS: [&[u8; FIELD]; 21] = [
+    b"R2139095040",
+    b"R2139095041",
+    b"R2147483647",
+    b"R4286578688",
+    b"R4294967295",
+    b"R4294967296",
+    b"R9999999999",
+    b"          R",
+    b"        R-1",
+    b"        -R1",
+    b"        R+1",
+    b"        R00",
+    b"        R01",
+    b"R0000000001",
+    b"        R0 ",
+    b"        R 1",
+    b"         r1",
+    b"         RR",
+    b"        R1R",
+    b"       R1.5",
+    b"         1R",
+];
+
+/// Fields that are good for an input of their kind.
+const GOOD_FIELDS: [&[u8; FIELD]; 20] = [
+    b"          0",
+    b"          7",
+    b"         -1",
+    b" 2147483647",
+    b"-2147483648",
+    b"          T",
+    b"          F",
+    b"          E",
+    b"          Z",
+    b"          V",
+    b"         R0",
+    b"         R1",
+    b"        R10",
+    b"   R8388607",
+    b"   R8388608",
+    b"R1065353216",
+    b"R2139095039",
+    b"R2147483648",
+    b"R2147483649",
+    b"R4286578687",
+];
+
+/// Each field of these in the second of two sets, for an input of each kind, and random numbers behind an R: which of them are good shows there one by
+/// one, as it seldom does in a random folder.
+pub fn field_folders(rng: &mut Rng) -> Vec<Folder> {
+    let numbers =
+        (0..60).map(|_| format!("{:>FIELD$}", format!("R{}", rng.number() >> rng.between(31, 63))).into_bytes());
+    let fixed = GOOD_FIELDS.iter().chain(&BAD_FIELDS).chain(&BAD_FLOATS).map(|field| field.to_vec());
+    let fields: Vec<Vec<u8>> = fixed.chain(numbers).collect();
+    let folder = |letter: u8, field: &Vec<u8>| Folder {
+        formula: Some(sheet::write(&[[1, 0, 0, 0, 0]])),
+        kinds: Some(vec![letter, b'\n']),
+        sets: Some([&b"          E\n"[..], field, b"\n"].concat()),
+        made: ["an identifier", "of one letter", "a field"],
+    };
+    b"WTR".iter().flat_map(|&letter| fields.iter().map(move |field| folder(letter, field))).collect()
+}
+
 const FAULTS: [&str; 9] = [
     "unended",
     "a byte changed",
@@ -168,7 +233,8 @@ const FAULTS: [&str; 9] = [
 ];
 
 /// Makes one fault in the text of sets, where it has room for it, and says which; another byte may be as good as the one it replaces.
-fn spoil(text: &mut Vec<u8>, line: usize, rng: &mut Rng) -> &'static str {
+fn spoil(text: &mut Vec<u8>, sorts: &[Sort], rng: &mut Rng) -> &'static str {
+    let line = FIELD * sorts.len() + 1;
     let lines = text.len() / line;
     if lines == 0 {
         *text = rng.pick(&[&b" "[..], b"x\n", b"\r\n", b"          1"]).to_vec();
@@ -179,15 +245,17 @@ fn spoil(text: &mut Vec<u8>, line: usize, rng: &mut Rng) -> &'static str {
     let fault = rng.pick(&FAULTS[..if line > 1 { 9 } else { 8 }]);
     match fault {
         "unended" => drop(text.pop()),
-        "a byte changed" => text[place] = rng.pick(b" 0123456789-TFEZV\n\r\0x"),
+        "a byte changed" => text[place] = rng.pick(b" 0123456789-TFEZVR\n\r\0x"),
         "a byte left out" => drop(text.remove(place)),
-        "a byte too many" => text.insert(place, rng.pick(b" 019-TFEZV\n")),
+        "a byte too many" => text.insert(place, rng.pick(b" 019-TFEZVR\n")),
         "filled up" => text.resize(rng.pick(&[MOST_SET_BYTES, MOST_SET_BYTES + 1, 200_000]), b'\n'),
         "CR LF" => *text = String::from_utf8_lossy(text).replace('\n', "\r\n").into_bytes(),
         "two lines in one" => drop(text.remove(rng.below(lines) * line + line - 1)),
         "a bad field" => {
-            let field = rng.below(lines) * line + rng.below(line / FIELD) * FIELD;
-            text[field..field + FIELD].copy_from_slice(rng.pick::<&[u8; FIELD]>(&BAD_FIELDS));
+            let place = rng.below(sorts.len());
+            let near: &[&[u8; FIELD]] = if sorts[place] == Sort::Real { &BAD_FLOATS } else { &BAD_FIELDS };
+            let field = rng.below(lines) * line + place * FIELD;
+            text[field..field + FIELD].copy_from_slice(rng.pick::<&[u8; FIELD]>(near));
         }
         _ => text.extend(rng.pick(&[&b"\n"[..], b" ", b"          1", b"\n\n"])),
     }
@@ -208,6 +276,19 @@ mod tests {
     use super::*;
     use crate::bench::read_sets;
     use std::collections::BTreeMap;
+
+    #[test]
+    fn bad_fields_are_bad_and_good_ones_good_for_one_kind_or_all() {
+        let good = |field: &[u8; FIELD], sort: Sort| read_sets(&[&field[..], b"\n"].concat(), &[sort]).is_ok();
+        let kinds =
+            |field| [Sort::Whole, Sort::Truth, Sort::Real].into_iter().filter(|&sort| good(field, sort)).count();
+        assert!(BAD_FIELDS.iter().chain(&BAD_FLOATS).all(|field| kinds(field) == 0));
+        assert!(GOOD_FIELDS.iter().all(|field| matches!(kinds(field), 1 | 3)));
+        let folders = field_folders(&mut Rng::new(1));
+        assert_eq!(folders.len(), 3 * (20 + 23 + 21 + 60));
+        let length = |folder: &Folder| folder.sets.as_ref().map_or(0, Vec::len);
+        assert!(folders.iter().all(|folder| length(folder) == 2 * (FIELD + 1)));
+    }
 
     #[test]
     fn each_refusal_of_the_files_occurs_and_half_are_accepted() {

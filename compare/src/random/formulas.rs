@@ -9,6 +9,22 @@ use crate::value::Sort;
 /// The identifiers in use, by the sort of their values.
 pub type Scope = [Option<Sort>; 32];
 
+/// The sorts that the values of a formula are picked from, some of them more often.
+pub type Palette = &'static [Sort];
+
+pub const WITHOUT_FLOATS: Palette = &[Sort::Whole, Sort::Whole, Sort::Truth];
+pub const WITH_FLOATS: Palette = &[Sort::Whole, Sort::Real, Sort::Real, Sort::Truth];
+
+/// How a formula is made: fuel is about its number of rows, and wrong how often, in a hundred, a leaf is of another sort.
+pub struct Manner {
+    pub fuel: i32,
+    pub wrong: usize,
+    pub palette: Palette,
+}
+
+/// How many counting loops in a hundred count by floats, in a formula that has them.
+const FLOAT_COUNTERS: usize = 20;
+
 /// The loop around a body: its first identifier, the sorts iterated and returned, and the identifier that counts down.
 #[derive(Clone)]
 struct Loop {
@@ -32,24 +48,26 @@ struct Maker<'a> {
     rng: &'a mut Rng,
     fuel: i32,
     wrong: usize,
+    palette: Palette,
 }
 
-/// A random expression with values of these sorts that uses these names; fuel is about its number of rows, and wrong how
-/// often, in a hundred, a leaf is of the other sort.
-pub fn random_expression(
-    sorts: &[Sort],
-    must: Vec<u32>,
-    scope: &Scope,
-    fuel: i32,
-    wrong: usize,
-    rng: &mut Rng,
-) -> Tree {
-    Maker { rng, fuel, wrong }.expression(sorts, must, scope)
+/// A random expression with values of these sorts that uses these names.
+pub fn random_expression(sorts: &[Sort], must: Vec<u32>, scope: &Scope, manner: &Manner, rng: &mut Rng) -> Tree {
+    let &Manner { fuel, wrong, palette } = manner;
+    Maker { rng, fuel, wrong, palette }.expression(sorts, must, scope)
 }
 
-/// Sorts for so many values, whole numbers more often than truths.
-pub fn random_sorts(count: usize, rng: &mut Rng) -> Vec<Sort> {
-    (0..count).map(|_| rng.pick(&[Sort::Whole, Sort::Whole, Sort::Truth])).collect()
+/// Sorts for so many values.
+pub fn random_sorts(count: usize, palette: Palette, rng: &mut Rng) -> Vec<Sort> {
+    (0..count).map(|_| rng.pick(palette)).collect()
+}
+
+/// A small number as a constant of this sort, which is no truth.
+fn constant(sort: Sort, number: u32) -> Tree {
+    match sort {
+        Sort::Real => Tree::Real(1000 * number),
+        _ => Tree::Whole(number),
+    }
 }
 
 impl Maker<'_> {
@@ -63,7 +81,8 @@ impl Maker<'_> {
     }
 
     fn leaf(&mut self, sort: Sort, scope: &Scope) -> Tree {
-        let sort = if self.rng.chance(self.wrong) { self.rng.pick(&[Sort::Whole, Sort::Truth]) } else { sort };
+        let sort =
+            if self.rng.chance(self.wrong) { self.rng.pick(&[Sort::Whole, Sort::Truth, Sort::Real]) } else { sort };
         let names: Vec<u32> = (0..32).filter(|&name| scope[name as usize] == Some(sort)).collect();
         if !names.is_empty() && self.rng.chance(70) {
             return Tree::Identifier(self.rng.pick(&names), sort);
@@ -72,17 +91,29 @@ impl Maker<'_> {
             Sort::Truth => Tree::Truth(self.rng.chance(50)),
             Sort::Whole if self.rng.chance(90) => Tree::Whole(self.rng.below(8) as u32),
             Sort::Whole => Tree::Whole(self.rng.below(1_000_000) as u32),
+            Sort::Real if self.rng.chance(50) => Tree::Real(250 * self.rng.below(16) as u32),
+            Sort::Real => Tree::Real(self.rng.below(1_000_000) as u32),
         }
     }
 
-    /// A name as a value of this sort, over a test or a comparison where it is of the other.
+    fn has_floats(&self) -> bool {
+        self.palette.contains(&Sort::Real)
+    }
+
+    /// A name as a value of this sort, over a test or a comparison where it is of another.
     fn name_as(&mut self, name: u32, sort: Sort, scope: &Scope) -> Tree {
         let has = scope[name as usize].unwrap_or(sort);
         let identifier = Tree::Identifier(name, has);
-        match (has, sort) {
-            (Sort::Truth, Sort::Whole) => Tree::choose(identifier, Tree::Whole(1), Tree::Whole(0)),
-            (Sort::Whole, Sort::Truth) => Tree::on_two(6, identifier, Tree::Whole(self.rng.below(6) as u32)),
-            _ => identifier,
+        if has == sort {
+            return identifier;
+        }
+        let test = match has {
+            Sort::Truth => identifier,
+            _ => Tree::on_two(6, identifier, constant(has, self.rng.below(6) as u32)),
+        };
+        match sort {
+            Sort::Truth => test,
+            _ => Tree::choose(test, constant(sort, 1), constant(sort, 0)),
         }
     }
 
@@ -97,7 +128,7 @@ impl Maker<'_> {
             [] => self.leaf(sorts[0], scope),
             [name] => self.name_as(name, sorts[0], scope),
             _ => {
-                let code = if sorts[0] == Sort::Whole { self.rng.between(1, 3) } else { self.rng.between(8, 9) };
+                let code = if sorts[0] == Sort::Truth { self.rng.between(8, 9) } else { self.rng.between(1, 3) };
                 let (left, right) = must.split_at(self.rng.between(1, must.len() - 1));
                 Tree::on_two(code as u32, self.least(sorts, left, scope), self.least(sorts, right, scope))
             }
@@ -143,8 +174,14 @@ impl Maker<'_> {
         let code = match sort {
             Sort::Whole => self.rng.pick(&[1, 1, 2, 2, 3, 3, 4, 5, 11]),
             Sort::Truth => self.rng.pick(&[6, 6, 7, 8, 9, 10]),
+            Sort::Real => self.rng.pick(&[1, 1, 2, 2, 3, 3, 4, 4, 11]),
         };
-        let wanted = if (8..=10).contains(&code) { Sort::Truth } else { Sort::Whole };
+        let wanted = match code {
+            8..=10 => Sort::Truth,
+            6 | 7 if self.has_floats() && self.rng.chance(60) => Sort::Real,
+            6 | 7 => Sort::Whole,
+            _ => sort,
+        };
         let operands = vec![wanted; crate::value::operands(code)];
         Tree::operator(code, self.expression(&operands, must, scope))
     }
@@ -159,7 +196,7 @@ impl Maker<'_> {
         inside: impl FnOnce(&mut Self, Vec<u32>, &Scope) -> Tree,
     ) -> Tree {
         let count = self.count();
-        let sorts = random_sorts(count, self.rng);
+        let sorts = random_sorts(count, self.palette, self.rng);
         let near = around.filter(|_| self.rng.chance(50));
         let (first, bound, inner) = self.bind(near, &sorts, scope);
         let (for_value, for_inside) = self.part(&must, &bound);
@@ -207,9 +244,10 @@ impl Maker<'_> {
     fn repetition(&mut self, sorts: &[Sort], must: Vec<u32>, scope: &Scope) -> Tree {
         let count = self.count();
         let counted = self.rng.chance(85);
-        let mut iterated = random_sorts(count, self.rng);
+        let mut iterated = random_sorts(count, self.palette, self.rng);
         if counted {
-            iterated[0] = Sort::Whole;
+            let by_floats = self.has_floats() && self.rng.chance(FLOAT_COUNTERS);
+            iterated[0] = if by_floats { Sort::Real } else { Sort::Whole };
         }
         let (first, bound, inner) = self.bind(None, &iterated, scope);
         let (for_start, for_body) = self.part(&must, &bound);
@@ -226,9 +264,10 @@ impl Maker<'_> {
         if more && self.rng.chance(20) {
             return self.binding(Some(around.first), must, scope, |maker, must, inner| {
                 let mut around = around.clone();
-                // A let that rebinds the counter: to a truth, or now and then, the loop counts down no more, and need not end.
+                // A let that rebinds the counter: to another sort, or now and then, the loop counts down no more, and need not end.
                 let rebound = around.counter.filter(|name| must.contains(name));
-                if rebound.is_some_and(|name| inner[name as usize] == Some(Sort::Truth) || maker.rng.chance(30)) {
+                let counts = Some(around.iterated[0]);
+                if rebound.is_some_and(|name| inner[name as usize] != counts || maker.rng.chance(30)) {
                     around.counter = None;
                 }
                 maker.body(&around, must, inner, endings)
@@ -256,8 +295,9 @@ impl Maker<'_> {
                 inner.guarded = true;
                 yes.iter = endings.iter;
                 no.may_iter = false;
-                let least = Tree::Whole(self.rng.below(3) as u32);
-                let guard = Tree::on_two(6, least, Tree::Identifier(name, Sort::Whole));
+                let sort = around.iterated[0];
+                let least = constant(sort, self.rng.below(3) as u32);
+                let guard = Tree::on_two(6, least, Tree::Identifier(name, sort));
                 match parts[0].is_empty() {
                     true => guard,
                     false => Tree::on_two(8, guard, self.least(&[Sort::Truth], &parts[0], scope)),
@@ -282,12 +322,13 @@ impl Maker<'_> {
         }
     }
 
-    /// The values of an iter; the counter is one less.
+    /// The values of an iter; the counter is less.
     fn next_values(&mut self, around: &Loop, must: Vec<u32>, scope: &Scope) -> Tree {
         let Some(counter) = around.counter else {
             return self.expression(&around.iterated, must, scope);
         };
-        let less = Tree::on_two(2, Tree::Identifier(counter, Sort::Whole), Tree::Whole(1));
+        let sort = around.iterated[0];
+        let less = self.counted_down(counter, sort);
         let rest = &around.iterated[1..];
         if !rest.is_empty() {
             return Tree::pair(less, self.expression(rest, must, scope));
@@ -295,7 +336,13 @@ impl Maker<'_> {
         if must.iter().all(|&name| name == counter) {
             return less;
         }
-        let nothing = Tree::on_two(3, Tree::Whole(0), self.least(&[Sort::Whole], &must, scope));
+        let nothing = Tree::on_two(3, constant(sort, 0), self.least(&[sort], &must, scope));
         Tree::on_two(1, less, nothing)
+    }
+
+    /// One less; of a float, from which 1 may be too little to take, as often its half.
+    fn counted_down(&mut self, counter: u32, sort: Sort) -> Tree {
+        let (code, by) = if sort == Sort::Real && self.rng.chance(50) { (4, 2) } else { (2, 1) };
+        Tree::on_two(code, Tree::Identifier(counter, sort), constant(sort, by))
     }
 }

@@ -2,8 +2,9 @@
 
 use super::Rng;
 use crate::kinds::write_line;
-use crate::random::formulas::random_sorts;
+use crate::random::formulas::{random_sorts, WITHOUT_FLOATS, WITH_FLOATS};
 use crate::sheet;
+use crate::value::Sort;
 
 /// How many lines are tried for one that the rows keep to.
 const TRIES: usize = 12;
@@ -28,7 +29,8 @@ pub fn likely_line(bytes: &[u8], given: &[u8], rng: &mut Rng) -> Vec<u8> {
 }
 
 fn random_line(letters: usize, rng: &mut Rng) -> Vec<u8> {
-    write_line(&random_sorts(letters, rng))
+    let palette = if rng.chance(50) { WITHOUT_FLOATS } else { WITH_FLOATS };
+    write_line(&random_sorts(letters, palette, rng))
 }
 
 /// A line that is at fault for a sheet whose good line is given: of another length, with another letter, or not ended.
@@ -38,10 +40,10 @@ pub fn bad_line(good: &[u8], rng: &mut Rng) -> Vec<u8> {
     match rng.below(9) {
         0 => line.clear(),
         1 => drop(line.pop()),
-        2 => line.push(rng.pick(b"\n WT\0")),
-        3 => line.insert(rng.below(letters + 1), rng.pick(b"WT")),
+        2 => line.push(rng.pick(b"\n WTR\0")),
+        3 => line.insert(rng.below(letters + 1), rng.pick(b"WTR")),
         4 if letters > 0 => drop(line.remove(rng.below(letters))),
-        5 if letters > 0 => line[rng.below(letters)] = rng.pick(b"wtFEVSUX \n\0\xd7\xd4"),
+        5 if letters > 0 => line[rng.below(letters)] = rng.pick(b"wtrFEVSUXQ \n\0\xd7\xd4\xd2"),
         6 => line = random_line(rng.pick(&[MOST_INPUTS, MOST_INPUTS + 1, 100, 70_000]), rng),
         7 => line.insert(letters, b'\r'),
         _ => line = vec![rng.pick(b" \r\0W"); good.len().max(1)],
@@ -52,12 +54,13 @@ pub fn bad_line(good: &[u8], rng: &mut Rng) -> Vec<u8> {
     line
 }
 
-/// The line with one letter exchanged for the other, where it has one.
+/// The line with one letter exchanged for another, where it has one.
 pub fn with_other_letter(good: &[u8], rng: &mut Rng) -> Vec<u8> {
     let mut line = good.to_vec();
     if let Some(letters @ 1..) = good.len().checked_sub(1) {
         let letter = &mut line[rng.below(letters)];
-        *letter = if *letter == b'W' { b'T' } else { b'W' };
+        let sort = Sort::of_letter(*letter).expect("a good line");
+        *letter = rng.pick(&sort.others()).letter();
     }
     line
 }

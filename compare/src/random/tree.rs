@@ -10,6 +10,8 @@ pub enum Tree {
     Identifier(u32, Sort),
     Whole(u32),
     Truth(bool),
+    /// A float, by its thousandths.
+    Real(u32),
     Pair(Box<Tree>, Box<Tree>),
     Operator(u32, Box<Tree>),
     /// Identifiers from the first on, so many, bound to a value, in a row.
@@ -38,7 +40,7 @@ impl Tree {
 
     fn children(&self) -> Vec<&Tree> {
         match self {
-            Tree::Identifier(..) | Tree::Whole(_) | Tree::Truth(_) => vec![],
+            Tree::Identifier(..) | Tree::Whole(_) | Tree::Truth(_) | Tree::Real(_) => vec![],
             Tree::Operator(_, one) | Tree::Iter(one) => vec![one],
             Tree::Pair(one, two) | Tree::Let(_, _, one, two) | Tree::For(_, _, one, two) => vec![one, two],
             Tree::If(one, two, three) => vec![one, two, three],
@@ -51,6 +53,7 @@ impl Tree {
             Tree::Identifier(_, sort) => Some(sort),
             Tree::Whole(_) => Some(Sort::Whole),
             Tree::Truth(_) => Some(Sort::Truth),
+            Tree::Real(_) => Some(Sort::Real),
             _ => None,
         }
     }
@@ -65,6 +68,7 @@ impl Tree {
             Tree::Identifier(name, _) => [1, name, 0, 0, 0],
             Tree::Whole(number) => [2, number, 0, 0, 0],
             Tree::Truth(truth) => [3, truth.into(), 0, 0, 0],
+            Tree::Real(thousandths) => [10, thousandths, 0, 0, 0],
             Tree::Pair(..) => [4, rows[0], rows[1], 0, 0],
             Tree::Operator(code, _) => [5, code, rows[0], 0, 0],
             Tree::Let(first, count, ..) => [6, first, count, rows[0], rows[1]],
@@ -77,7 +81,7 @@ impl Tree {
     /// Calls on every leaf, from the left.
     pub fn each_leaf(&mut self, call: &mut impl FnMut(&mut Tree)) {
         match self {
-            Tree::Identifier(..) | Tree::Whole(_) | Tree::Truth(_) => call(self),
+            Tree::Identifier(..) | Tree::Whole(_) | Tree::Truth(_) | Tree::Real(_) => call(self),
             Tree::Operator(_, one) | Tree::Iter(one) => one.each_leaf(call),
             Tree::Pair(one, two) | Tree::Let(_, _, one, two) | Tree::For(_, _, one, two) => {
                 one.each_leaf(call);

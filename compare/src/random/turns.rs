@@ -2,6 +2,7 @@
 
 use super::faults::plant;
 use super::lines::{bad_line, likely_line};
+use super::sheets::mixed_sheet;
 use super::{accepted_sheet, heavy_sheet, loose_sheet, mutate, renamed_sheet, Made, Rng};
 
 /// How many cases in a hundred get a kinds line at fault besides.
@@ -18,7 +19,7 @@ pub fn random_sheet(number: u64, rng: &mut Rng) -> (String, Made) {
 
 fn by_turns(number: u64, rng: &mut Rng) -> (String, Made) {
     let fault = |number: u32, rng: &mut Rng| (format!("sheet with fault {number:2}"), plant(number, rng).made);
-    match number % 44 {
+    match number % 46 {
         0 | 1 => ("sheet with many operators".into(), heavy_sheet(rng)),
         turn @ 2..=11 => fault(turn as u32 - 1, rng),
         12 => fault(17, rng),
@@ -27,6 +28,7 @@ fn by_turns(number: u64, rng: &mut Rng) -> (String, Made) {
         19..=20 => ("rows at random".into(), loose_sheet(rng)),
         21..=22 => ("sheet with other names".into(), renamed_sheet(rng)),
         23 => ("bytes at random".into(), Made { bytes: random_bytes(rng), kinds: b"W\n".to_vec() }),
+        24 => ("operands of any kinds".into(), mixed_sheet(rng)),
         _ => ("accepted sheet".into(), accepted_sheet(rng)),
     }
 }
@@ -56,13 +58,13 @@ mod tests {
     #[test]
     fn each_refusal_occurs_and_half_are_accepted() {
         let mut seen: BTreeMap<u32, u32> = BTreeMap::new();
-        for case in 0..4_400 {
+        for case in 0..4_600 {
             let (_, made) = random_sheet(case, &mut Rng::new(case));
             *seen.entry(made.refusal()).or_default() += 1;
         }
         for refusal in (0..=10).chain([17, 18]) {
             assert!(seen.get(&refusal).is_some_and(|&count| count >= 80), "{refusal}: {seen:?}");
         }
-        assert!(seen[&0] > 2_200, "{seen:?}");
+        assert!(seen[&0] > 2_300, "{seen:?}");
     }
 }

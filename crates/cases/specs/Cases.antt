@@ -1,5 +1,5 @@
 -- Document 01's marked examples (p), "one list of definitions' outcomes with one proof over the list", and what document 02 asks for: the verdict
--- of Job 2, the reasons of Job 5 and the kinds of Job 6, with which every sheet comes. A case is a question and what it gives; a question that a later part answers is one constructor more, in `Question`, `Answer` and `got`.
+-- of Job 2, the reasons of Job 5, the kinds of Job 6, with which every sheet comes, and the floats of Job 9. A case is a question and what it gives; a question that a later part answers is one constructor more, in `Question`, `Answer` and `got`.
 use Prim.Native.Nat.{ℕ}
 use mathlib.Core.Path.{_≡_, refl}
 use mathlib.Core.Bool.{Bool, true, false}
@@ -7,10 +7,13 @@ use mathlib.Core.List.{List, [], _∷_, _++_, map}
 use native.Mathlib.Decide.{ℕ-discrete}
 use lib.IntN.{pos, negsuc}
 use lib.ListN.{length, replicate}
+use lib.Ieee.{binary32, fits, round, mul, lt, ofBits, toBits}
 use Rattle.value.specs.declared.Reason.the-variants.{ZeroDivisor, OutOfRange}
 use Rattle.value.specs.declared.Value.{Value}
-use Rattle.value.specs.declared.Value.the-variants.{Whole, Truth, Err}
+use Rattle.value.specs.declared.Value.the-variants.{Whole, Truth, Err, Real}
+use Rattle.value.specs.Operators.{realOf}
 use Rattle.value.specs.Bytes.{bytesOf}
+use Rattle.value.specs.Constants.{thousandths}
 use Rattle.value.specs.Senses.{err}
 use Rattle.formula.specs.declared.Verdict.{Verdict}
 use Rattle.formula.specs.declared.Verdict.the-variants.{Passed, Refused}
@@ -30,7 +33,7 @@ use Rattle.theory_reference.specs.Marks.{marks}
 use Rattle.theory_verdicts.specs.Running.{startOf}
 use Rattle.demand_ends.specs.ResultBytes.{spelled}
 use Rattle.demand.specs.Pushes.{pushRefusals}
-use Rattle.examples.specs.Sheets.{bytes, lesser, twice, factorial, verdict, zeroDivided, iterAlone, letUnused, alike, constantRow}
+use Rattle.examples.specs.Sheets.{bytes, lesser, twice, factorial, verdict, zeroDivided, iterAlone, letUnused, halfBelow, wholesLater, alike, constantRow}
 
 -- What can be asked of the definitions.
 pub data Question : Type 0 where
@@ -67,7 +70,7 @@ evaluationSays Passed e = evaluates 0 0 (e .width) (e .rounds) (e .cells)
 evaluationSays (Refused r row) e = evaluates (numberOf r) row (e .width) (e .rounds) (e .cells)
 
 unfoldable pub got : Question → Answer
-unfolding readingOf countE formulaOf madeOf evaluationOf bytesOf pushRefusals marks append ℕ-discrete
+unfolding readingOf countE formulaOf madeOf evaluationOf bytesOf pushRefusals marks append ℕ-discrete realOf thousandths round mul lt ofBits toBits fits
 got (reading s line) = readingSays (readingOf s line)
 got (test-2 s) = passes (fewRows s)
 got (counted s) = operators (countE (formulaOf s) .operators)
@@ -106,6 +109,10 @@ three v a b = evaluates 0 0 3 0 (cell v ∷ cell a ∷ cell b ∷ replicate 13 (
 abbrev refusal : ℕ → Answer
 refusal n = evaluates n 0 0 0 (replicate 16 (cell err))
 
+-- The float of a pattern.
+abbrev float : ℕ → Value
+float bits = Real (ofBits binary32 bits)
+
 abbrev zeroDivisor : Value
 zeroDivisor = Err ZeroDivisor
 
@@ -116,7 +123,7 @@ abbrev pub threeAndFive : List Value
 threeAndFive = number 3 ∷ number 5 ∷ []
 
 unfoldable pub cases : List Case
-unfolding bytes lesser twice factorial verdict zeroDivided iterAlone letUnused alike constantRow
+unfolding bytes lesser twice factorial verdict zeroDivided iterAlone letUnused halfBelow wholesLater alike constantRow ofBits
 cases =
     -- "sixteen pushes at capacity 16 pass, the seventeenth gives 32": on the links; the same on the machine's memory is Pushed's
     case (pushes (bytes lesser) 16 threeAndFive 17) (refusals (replicate 16 0 ++ 32 ∷ []))
@@ -166,6 +173,18 @@ cases =
     -- 18: "A club compared a truth with a voltage": the less is row 4
     ∷ case (reading (bytes lesser) (bytes "WT\n")) (refuses 18 4)
     ∷ case (evaluation (bytes lesser) (bytes "TW\n") threeAndFive 0) (evaluates 18 4 0 0 (replicate 16 (cell err)))
+    -- floats: 24, the float next below 24.5 and 24.5 halved, against 12.25; an err; a whole number is no such reading
+    ∷ case (reading (bytes halfBelow) (bytes "R\n")) (accepted 7 5 1 1)
+    ∷ case (made (bytes halfBelow)) (operators 5)
+    ∷ case (evaluation (bytes halfBelow) (bytes "R\n") (float 1103101952 ∷ []) 0) (one (Truth true) 0)
+    ∷ case (evaluation (bytes halfBelow) (bytes "R\n") (float 1103364095 ∷ []) 0) (one (Truth true) 0)
+    ∷ case (evaluation (bytes halfBelow) (bytes "R\n") (float 1103364096 ∷ []) 0) (one (Truth false) 0)
+    ∷ case (evaluation (bytes halfBelow) (bytes "R\n") (zeroDivisor ∷ []) 0) (one zeroDivisor 0)
+    ∷ case (evaluation (bytes halfBelow) (bytes "R\n") (number 24 ∷ []) 0) (refusal 12)
+    -- "Whole numbers and floats in one operator are a wrong kind"; "after any wrong kind a number's kind goes on as W": row 4 gets W
+    ∷ case (reading (bytes halfBelow) (bytes "W\n")) (refuses 18 4)
+    ∷ case (reading (bytes wholesLater) (bytes "W\n")) (accepted 9 5 1 1)
+    ∷ case (reading (bytes wholesLater) (bytes "R\n")) (refuses 18 8)
     -- "iter as the formula: 7", "let x = 1 in 2: 9"; both come before 17
     ∷ case (reading (bytes iterAlone) (bytes "")) (refuses 7 2)
     ∷ case (reading (bytes letUnused) (bytes "")) (refuses 9 3)

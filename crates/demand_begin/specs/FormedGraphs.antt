@@ -1,6 +1,6 @@
 -- Each operator of a made graph has the ports and the register of its kind (demand_view/specs/Sound: Formed): for a copy, a gate and the gates of a loop, and
 -- from there by induction over the graph language (graph/specs/Assembly). Document 01, refusal 31: "a stored figure .. outside its range". Assumes of a
--- graph that it is fit and that its operators have codes 1 to 11 and its constants values in range.
+-- graph that it is fit, that its operators have codes 1 to 11 and that its constants are in range and such as a sheet can have.
 use Prim.Native.Nat.{ℕ, zero, suc, _+_, _≤_, _<_}
 use mathlib.Core.Path.{_≡_, refl, sym, _∙_, subst}
 use mathlib.Core.Bool.{Bool, true, false}
@@ -13,6 +13,7 @@ use native.Mathlib.Omega.{arith}
 use native.Mathlib.Decide.{decLt, ℕ-discrete}
 use Rattle.value.specs.Operators.{operands}
 use Rattle.value.specs.Bytes.{InRange}
+use Rattle.value.specs.Constants.{inConstantRange}
 use Rattle.names.specs.Names.{Names, common, without}
 use Rattle.machine_layout.specs.Kinds.{hasPort, mayLack, inputsOfKind, outputsOfKind}
 use Rattle.graph.specs.Assembly.{Gate, const, oper, T, F, M, E, IC, Graph, wire, nothing, beside, bind, gate, loop, free, memberOf, Env, Operator, nth, copyOf, gateOf, copiesFor, sharing, sharedLinks, firstUse, secondUse, named, spread, chain, chainEnds, ringGate, ring, total, listed, linksOf, outputs, operatorsOf}
@@ -66,7 +67,7 @@ operator-outputs k h = rw (ne-eqb k 13 (λ e. omega arith), ne-eqb k 18 (λ e. o
 
 -- A gate that the translation may use.
 abbrev pub ProperGate : Gate → Type 0
-ProperGate (const v) = InRange v
+ProperGate (const v) = InRange v × (inConstantRange (some v) ≡ true)
 ProperGate (oper k) = (1 ≤ k) × (k ≤ 11)
 ProperGate T = Unit {0}
 ProperGate F = Unit {0}

@@ -1,5 +1,7 @@
 pub mod Positions
 pub mod FormedGraphs
+pub mod BitsRise
+pub mod StoredConstants
 pub mod MadeSound
 pub mod StandsValid
 pub mod Lent

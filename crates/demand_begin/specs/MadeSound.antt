@@ -27,6 +27,7 @@ use Rattle.machine_start.specs.Completed.{made-inputs, made-results}
 use Rattle.demand_view.specs.Sound.{Formed, Sound}
 use Rattle.demand_begin.specs.FormedGraphs.{ProperGate, Proper, graph-formed}
 use Rattle.demand_begin.specs.Positions.{each-ith}
+use Rattle.demand_begin.specs.StoredConstants.{constant-stored}
 
 -- ---- codes and constants of the translation
 
@@ -82,7 +83,7 @@ mutual
 
   proper-E : (x : Exp) → AdmittedE x → Proper (graphE x)
   proper-E (identifier a) h = tt
-  proper-E (constant k a) h = (constant-in-range k a h, tt)
+  proper-E (constant k a) h = ((constant-in-range k a h, constant-stored k a h), tt)
   proper-E (pair x y) h = (proper-E x (h .1), proper-E y (h .2))
   proper-E (operator k x) h = (h .1, proper-E x (h .2))
   proper-E (letE a b x y) h = (proper-E x (h .2), proper-E y (h .3))
@@ -91,8 +92,8 @@ mutual
   proper-E (forE a b x y) h = (proper-E x (h .2), proper-B (returned y) y (h .3))
 
   proper-B : (w : ℕ) (y : Body) → AdmittedB y → Proper (graphB w y)
-  proper-B w (ret x) h = ((tt, tt), proper-E x (h .1))
-  proper-B w (iter x) h = ((tt, tt), proper-E x (h .1))
+  proper-B w (ret x) h = (((tt, refl), tt), proper-E x (h .1))
+  proper-B w (iter x) h = (((tt, refl), tt), proper-E x (h .1))
   proper-B w (letB a b x y) h = (proper-E x (h .2), proper-B w y (h .3))
   proper-B w (ifB t x y) h =
       (proper-E t (h .1), (arm-proper T (freeB x) (graphB w x) tt (proper-B w x (h .2)), (arm-proper F (freeB y) (graphB w y) tt (proper-B w y (h .3)), joined-proper w x y)))

@@ -15,6 +15,7 @@ use native.Mathlib.Decide.{ℕ-discrete}
 use Rattle.value.specs.declared.Value.{Value}
 use Rattle.value.specs.Operators.{pick}
 use Rattle.value.specs.Bytes.{InRange, wordOf, valueOf, isSome}
+use Rattle.value.specs.Constants.{inConstantRange}
 use Rattle.value.specs.Kinds.{isLetter}
 use Rattle.value.proofs.Words.{value-of-word}
 use Rattle.names.specs.Names.{bit}
@@ -120,19 +121,19 @@ value-ok v h = ap isSome (value-of-word v h)
 nothing-held : (k : ℕ) (g h : Register) → (k ≡ 12 → ⊥) → h ≡ none → h ≡ g → registerOk k (wordIn g) ≡ true
 unfolding registerOk
 nothing-held k g h n e f =
-    ap (λ (r : Register). registerOk k (wordIn r)) (sym f ∙ e) ∙ ap (λ (b : Bool). pick b (isSome (valueOf 0)) true) (ne-eqb k 12 n)
+    ap (λ (r : Register). registerOk k (wordIn r)) (sym f ∙ e) ∙ ap (λ (b : Bool). pick b (inConstantRange (valueOf 0)) true) (ne-eqb k 12 n)
 
 any-held : (k : ℕ) (g : Register) → (k ≡ 12 → ⊥) → 19 ≤ k → Fine g → registerOk k (wordIn g) ≡ true
 unfolding registerOk
-any-held k none n h f = ap (λ (b : Bool). pick b (isSome (valueOf 0)) true) (ne-eqb k 12 n)
+any-held k none n h f = ap (λ (b : Bool). pick b (inConstantRange (valueOf 0)) true) (ne-eqb k 12 n)
 any-held k (some v) n h f =
-    ap (λ (b : Bool). pick b (isSome (valueOf (wordOf v))) (eqb (wordOf v) 0 || (leb 19 k && isSome (valueOf (wordOf v))))) (ne-eqb k 12 n)
+    ap (λ (b : Bool). pick b (inConstantRange (valueOf (wordOf v))) (eqb (wordOf v) 0 || (leb 19 k && isSome (valueOf (wordOf v))))) (ne-eqb k 12 n)
     ∙ or-second (eqb (wordOf v) 0) (and-both (le-leb 19 k h) (value-ok v f))
 
 constant-held : (g h : Register) → HeldOf constant h → h ≡ g → registerOk 12 (wordIn g) ≡ true
 unfolding registerOk
 constant-held g none p e = absurd p
-constant-held g (some v) p e = ap (λ (r : Register). isSome (valueOf (wordIn r))) (sym e) ∙ value-ok v p
+constant-held g (some v) p e = ap (λ (r : Register). inConstantRange (valueOf (wordIn r))) (sym e) ∙ ap inConstantRange (value-of-word v (p .0)) ∙ p .1
 
 register-ok : (k : Kind) (p : Ports) (q : Links) (g : Register) → Coded k → HeldOf k (p .held) → Fine g → Holds (remembering k) p q g → registerOk (byteOf k) (wordIn g) ≡ true
 register-ok constant p q g c h f r = constant-held g (p .held) h r

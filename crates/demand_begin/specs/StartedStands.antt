@@ -50,7 +50,7 @@ use Rattle.demand_begin.specs.WrittenRecords.{Holds-record, Same-operato
 
 held-fine : (k : Kind) (r : Register) → HeldOf k r → Fine r
 held-fine constant none h = absurd h
-held-fine constant (some v) h = h
+held-fine constant (some v) h = h .0
 held-fine copy r h = subst Fine (sym h) tt
 held-fine (operator code) r h = subst Fine (sym h) tt
 held-fine T-gate r h = subst Fine (sym h) tt

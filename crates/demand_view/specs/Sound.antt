@@ -9,6 +9,7 @@ use mathlib.Core.Option.{Option, none, some}
 use lib.ListN.{length}
 use Rattle.names.specs.Names.{bit}
 use Rattle.value.specs.Bytes.{InRange}
+use Rattle.value.specs.Constants.{inConstantRange}
 use Rattle.network.specs.Rules.{Kind, constant, copy, operator, T-gate, F-gate, M-gate, E-gate, IC-gate, FM-gate, FS-gate, Register}
 use Rattle.machine_layout.specs.Kinds.{byteOf, Coded, hasPort, mayLack}
 use Rattle.graph.specs.Assembly.{Operator}
@@ -28,10 +29,10 @@ PortOf true lacks (some l) = Unit {0}
 PortOf false lacks none = Unit {0}
 PortOf false lacks (some l) = ⊥
 
--- The register before the first firing: a constant's value, else nothing.
+-- The register before the first firing: a value that a constant of a sheet can have, else nothing.
 abbrev pub HeldOf : Kind → Register → Type 0
 HeldOf constant none = ⊥
-HeldOf constant (some v) = InRange v
+HeldOf constant (some v) = InRange v × (inConstantRange (some v) ≡ true)
 HeldOf copy g = g ≡ none
 HeldOf (operator code) g = g ≡ none
 HeldOf T-gate g = g ≡ none

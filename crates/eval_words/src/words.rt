@@ -9,6 +9,7 @@ ghost use mathlib.Core.List.{[], _∷_};
 ghost use Prim.Native.Nat.{ℕ, _+_, _≤_, _<_};
 ghost use lib.ListN.{length, replicate};
 ghost use lib.Seq.{paste};
+ghost use Rattle.value.specs.Bytes.{InRange};
 ghost use Rattle.value.specs.Operators.{apply};
 ghost use Rattle.value.specs.Senses.{err, sense};
 ghost use Rattle.formula.specs.Constants.{constantValue, constantMost};
@@ -27,6 +28,7 @@ pub fn held(w: u64) -> Value
 
 // A word of the value.
 fn word(v: Value) -> u64
+    requires { ⌜ InRange v ⌝ }
     ensures { λ w. ⌜ heldOf w ≡ v ⌝ }
 {
     value::bytes::to_word(v)

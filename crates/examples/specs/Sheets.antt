@@ -1,4 +1,4 @@
--- The example sheets of document 01, "Program and readings" and "Marked for proof", that of examples/verdict, and one that divides by zero, as text. Assumes nothing.
+-- The example sheets of document 01, "Program and readings" and "Marked for proof", that of examples/verdict, one that divides by zero and two with floats, as text. Assumes nothing.
 use Prim.Native.Nat.{ℕ, zero, suc}
 use Prim.Native.String.{String, [] as endS, _∷_ as _∷S_}
 use Prim.Native.Char as Char
@@ -29,6 +29,14 @@ verdict = "     1     0     0     0     0\n     2   900     0     0     0\n     
 -- 1 / 0, and if 1 / 0 < 2 then 3 else 4
 unfoldable pub zeroDivided : String
 zeroDivided = "     2     1     0     0     0\n     2     0     0     0     0\n     4     1     2     0     0\n     5     4     3     0     0\n     2     1     0     0     0\n     2     0     0     0     0\n     4     5     6     0     0\n     5     4     7     0     0\n     2     2     0     0     0\n     4     8     9     0     0\n     5     6    10     0     0\n     2     3     0     0     0\n     2     4     0     0     0\n     7    11    12    13     0\n     4     4    14     0     0\n"
+
+-- x * 0.5 < 12.25
+unfoldable pub halfBelow : String
+halfBelow = "     1     0     0     0     0\n    10   500     0     0     0\n     4     1     2     0     0\n     5     3     3     0     0\n    10 12250     0     0     0\n     4     4     5     0     0\n     5     6     6     0     0\n"
+
+-- let y = x + 1 in y + 2, whose rows d stand before row c; x is identifier 0.
+unfoldable pub wholesLater : String
+wholesLater = "     1     1     0     0     0\n     2     2     0     0     0\n     4     1     2     0     0\n     5     1     3     0     0\n     1     0     0     0     0\n     2     1     0     0     0\n     4     5     6     0     0\n     5     1     7     0     0\n     6     1     1     8     4\n"
 
 -- An iter as the formula.
 unfoldable pub iterAlone : String

@@ -56,7 +56,7 @@ unfoldable pub kindCheck : Rule → List ℕ → ℕ → Kinds → Check
 unfolding faultsIn lowestOf
 kindCheck rule t n kinds = lowestOf (faultsIn rule n t false kinds n)
 
--- ---- the kinds line: "one letter an input, W or T, and a line feed"
+-- ---- the kinds line: "one letter an input, W or T, and a line feed", with Job 9 "kind letter R"
 
 -- The letters of this many inputs, then a line feed, and no more.
 unfoldable pub lineWell : ℕ → List ℕ → Bool

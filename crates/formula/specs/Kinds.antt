@@ -7,7 +7,7 @@ use mathlib.Core.List.{List, [], _∷_, _++_}
 use lib.ListN.{getD}
 use lib.Dec.{eqb}
 use Rattle.value.specs.declared.ValueKind.{ValueKind}
-use Rattle.value.specs.declared.ValueKind.the-variants.{Whole as whole-kind, Truth as truth-kind}
+use Rattle.value.specs.declared.ValueKind.the-variants.{Whole as whole-kind, Truth as truth-kind, Real as real-kind}
 use Rattle.value.specs.Kinds.{sameKind, wanted, wantedTest, given}
 use Rattle.names.specs.Names.{range}
 use Rattle.formula.specs.Tree.{Exp, identifier, constant, pair, operator, letE, ifE, forE, Body, ret, iter, letB, ifB}
@@ -21,9 +21,9 @@ Kinds = ℕ → ValueKind
 unfoldable pub bindKinds : ℕ → ℕ → List ValueKind → Kinds → Kinds
 bindKinds a b ks kinds k = cond (range a b k) (getD ks (k - a) whole-kind) (kinds k)
 
--- "2 whole number", "3 truth"
+-- "2 whole number", "3 truth", 10 a float
 abbrev pub kindOfConstant : ℕ → ValueKind
-kindOfConstant kind = cond (eqb kind 3) truth-kind whole-kind
+kindOfConstant kind = cond (eqb kind 3) truth-kind (cond (eqb kind 10) real-kind whole-kind)
 
 -- "the first arm's .. kinds hold": of two arms those of the first that has some.
 abbrev pub eitherKinds : List ValueKind → List ValueKind → List ValueKind

@@ -1,5 +1,5 @@
--- Document 01, "The formula sheet": the bytes of a sheet as rows of five decimal fields, a row by its kind, and the rows
--- that it names. A sheet is a list of bytes; its fields are one list of numbers, five a row.
+-- Document 01, "The formula sheet", and document 02, Job 9, row kind 10: the bytes of a sheet as rows of five decimal fields, a row by its
+-- kind, and the rows that it names. A sheet is a list of bytes; its fields are one list of numbers, five a row.
 use Prim.Native.Nat.{ℕ, zero, suc, _+_, _*_, _-_, _/_}
 use mathlib.Core.Bool.{Bool, cond, _&&_}
 use mathlib.Core.List.{List, [], _∷_}
@@ -87,7 +87,8 @@ shapeOf kind a b c d =
     (cond (eqb kind 7) (If a b c)
     (cond (eqb kind 8) (For a b c d)
     (cond (eqb kind 9) (Iter a)
-    (Constant 2 0)))))))))
+    (cond (eqb kind 10) (Constant 10 a)
+    (Constant 2 0))))))))))
 
 unfoldable pub shapeAt : List ℕ → ℕ → Shape
 unfolding shapeOf

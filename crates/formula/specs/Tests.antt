@@ -90,7 +90,9 @@ inRange kind a b c d =
     (cond (eqb kind 7) (eqb d 0)
     (cond (eqb kind 8) (bindsWell a b)
     (cond (eqb kind 9) (eqb b 0 && eqb c 0 && eqb d 0)
-    false))))))))
+    -- "Row kind 10 is a constant: a, 0 to 999,999"
+    (cond (eqb kind 10) (leb a 999999 && eqb b 0 && eqb c 0 && eqb d 0)
+    false)))))))))
 
 unfoldable pub rangesWell : List ℕ → ℕ → Bool
 unfolding inRange

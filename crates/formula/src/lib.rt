@@ -49,7 +49,7 @@ pub enum Check {
     Fault(usize),
 }
 
-// The refusals of document 01, in its order.
+// The refusals, by their numbers.
 pub enum Refusal {
     // 1: empty, not in 31-byte rows, or a row without its line feed
     Layout,
@@ -117,8 +117,10 @@ pub enum Reading {
     Rejected(Refusal, usize),
 }
 
-// The row kind of a truth.
+// The row kinds of a truth and of a float.
 const TRUTH: u32 = 3;
+
+const FLOAT: u32 = 10;
 
 // The value of a constant's row, from its kind and its field a.
 pub fn constant(kind: u32, a: u32) -> Value
@@ -128,10 +130,13 @@ pub fn constant(kind: u32, a: u32) -> Value
     if kind == TRUTH {
         return Value::Truth(a == 1);
     }
+    if kind == FLOAT {
+        return value::thousandths(a);
+    }
     Value::Whole(a as i32)
 }
 
-// Document 01's number of a refusal.
+// The number of a refusal.
 pub fn refusal_number(r: Refusal) -> u32
     ensures { λ n. ⌜ n ≡ numberOf r ⌝ }
 {

@@ -8,6 +8,7 @@ use lib.ListN.{length, getD}
 use lib.Dec.{leb, ltb, eqb}
 use Rattle.value.specs.Operators.{pick}
 use Rattle.value.specs.Bytes.{isSome, valueOf, wordAt}
+use Rattle.value.specs.Constants.{inConstantRange}
 use Rattle.machine_queue.specs.Stretch.{waiting}
 use Rattle.value.specs.Kinds.{isLetter}
 use Rattle.machine_layout.specs.Layout.{inputKindsAt, mostOperators, mostLinks, mostCapacity, mostInputs, mostResults, mostUntaken, triggerAt, resultLinksAt, portsAt, capacityByte, operatorsOf, linksOf, inputsOf, resultsOf, untakenOf, noLink, nameAt, triggerOf, operatorAt, kindByte, registerAt, sizeOf, linkAt, part}
@@ -55,9 +56,9 @@ portOk kind links p x = pick (hasPort kind p) (ltb x links || (mayLack kind p &&
 unfoldable pub namedOk : List ℕ → ℕ → ℕ → ℕ → Bool
 namedOk m at kind p = portOk kind (linksOf m) p (nameAt m at p) && freshAt m at p
 
--- a constant holds its value, FM and FS a value or nothing yet (0), every other kind nothing
+-- a constant holds a value in the range of a sheet's constants, FM and FS a value or nothing yet (0), every other kind nothing
 unfoldable pub registerOk : ℕ → ℕ → Bool
-registerOk kind w = pick (eqb kind (byteOf constant)) (isSome (valueOf w)) (eqb w 0 || (leb (byteOf FM-gate) kind && isSome (valueOf w)))
+registerOk kind w = pick (eqb kind (byteOf constant)) (inConstantRange (valueOf w)) (eqb w 0 || (leb (byteOf FM-gate) kind && isSome (valueOf w)))
 
 unfoldable pub kindOk : ℕ → Bool
 kindOk kind = leb 1 kind && leb kind (byteOf FS-gate)
@@ -67,7 +68,7 @@ operatorOk m i =
     kindOk (kindByte m i)
     && (allBelow 6 (namedOk m (operatorAt i + portsAt) (kindByte m i)) && registerOk (kindByte m i) (wordAt m (registerAt i)))
 
--- ---- links: no more tokens than the capacity, and each token a value
+-- ---- links: no more tokens than the capacity, and each token a value; "Patterns that are not finite are refused with 12, in a stored token with 31"
 
 unfoldable pub tokenOk : List ℕ → ℕ → Bool
 tokenOk q j = isSome (valueOf (wordAt q (5 * j + 1)))

@@ -337,7 +337,7 @@ fn register_ok(kind: u8, word: u64) -> bool
     ensures { λ r. ⌜ r ≡ registerOk kind word ⌝ }
 {
     if kind == machine_layout::CONSTANT {
-        return value::bytes::is_value(word);
+        return value::bytes::in_constant_range(word);
     }
     if word == 0 {
         return true;

@@ -38,6 +38,7 @@ fn shape_of(kind: u32, a: u32, b: u32, c: u32, d: u32) -> Shape
         7 => Shape::If(row_number(a), row_number(b), row_number(c)),
         8 => Shape::For(a, b, row_number(c), row_number(d)),
         9 => Shape::Iter(row_number(a)),
+        10 => Shape::Constant(kind, a),
         _ => Shape::Constant(2, 0),
     }
 }

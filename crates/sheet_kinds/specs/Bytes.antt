@@ -1,5 +1,5 @@
--- Kinds as bytes in lent arrays: 2 is a truth, any other byte a whole number. What an array holds, as the kinds of identifiers; what a
--- write leaves of it, as a binding; and the laws of `bindKinds`. Assumes nothing.
+-- Kinds as bytes in lent arrays: 2 is a truth, 4 a float, any other byte a whole number. What an array holds, as the kinds of
+-- identifiers; what a write leaves of it, as a binding; and the laws of `bindKinds`. Assumes nothing.
 use Prim.Native.Nat.{ℕ, zero, suc, _+_, _-_, _≤_, _<_}
 use mathlib.Core.Path.{_≡_, refl, sym, ap, _∙_, fun-ext}
 use mathlib.Core.Bool.{Bool, true, false, cond, _&&_}
@@ -10,13 +10,13 @@ use lib.Seq.{getD-append-add, getD-set-same, getD-set-other, paste}
 use borrow.Author.Tests.{leb-true, leb-false, ltb-true, ltb-false, le-leb, lt-leb, lt-ltb, le-ltb}
 use native.Mathlib.Omega.{arith}
 use Rattle.value.specs.declared.ValueKind.{ValueKind}
-use Rattle.value.specs.declared.ValueKind.the-variants.{Whole as whole-kind, Truth as truth-kind}
+use Rattle.value.specs.declared.ValueKind.the-variants.{Whole as whole-kind, Truth as truth-kind, Real as real-kind}
 use Rattle.value.specs.Kinds.{sameKind, allOf}
 use Rattle.formula.specs.Kinds.{Kinds, bindKinds, eitherKinds, sameKinds, agreeKinds}
 use Rattle.eval_words.specs.Words.{paste-before, paste-among, paste-behind}
 
 abbrev pub kindOfByte : ℕ → ValueKind
-kindOfByte b = cond (eqb b 2) truth-kind whole-kind
+kindOfByte b = cond (eqb b 2) truth-kind (cond (eqb b 4) real-kind whole-kind)
 
 -- The kinds that an array's bytes stand for.
 unfoldable pub kindsIn : List ℕ → Kinds

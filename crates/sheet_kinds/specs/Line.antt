@@ -1,5 +1,5 @@
--- The kinds line's letters one by one, and how they reach the environment (document 02: "one letter an input, W or T, and a line feed").
--- Assumes nothing.
+-- The kinds line's letters one by one, and how they reach the environment (document 02: "one letter an input, W or T, and a line feed",
+-- "kind letter R"). Assumes nothing.
 use Prim.Native.Nat.{ℕ, zero, suc, _+_, _-_, _≤_, _<_}
 use mathlib.Core.Path.{_≡_, refl, sym, ap, _∙_, subst, fun-ext}
 use mathlib.Core.Bool.{Bool, true, false, _&&_, false≢true}

@@ -7,7 +7,7 @@ use mathlib.Core.List.{List, [], _∷_, _++_}
 use lib.ListN.{length}
 use Rattle.value.specs.declared.ValueKind.{ValueKind}
 use Rattle.value.specs.declared.ValueKind.the-variants.{Truth as truth-kind}
-use Rattle.value.specs.Kinds.{wants, allOf, wanted, wantedTest, given}
+use Rattle.value.specs.Kinds.{allOf, wanted, wantedTest, given}
 use Rattle.formula.specs.declared.Shape.{Shape}
 use Rattle.formula.specs.declared.Shape.the-variants.{Identifier, Constant, Pair, Operator, Let, If, For}
 use Rattle.formula.specs.declared.Check.{Check}
@@ -85,18 +85,18 @@ module _ (t ws : List ℕ) (r : ℕ) (h : ExpRow t ws r) (kinds : Kinds) (at : �
       )
       ((λ j. lesser (p .1 j) (q .1 j)) ∙ sym (lowest-append (faultsAt kinded t false kinds a) (faultsAt kinded t false kinds b)))
 
-  pub tell-operator : (k b g : ℕ) → shapeAt t r ≡ Operator k b → (z z′ : List ℕ) (f : Check) (ok : Bool) (want : ValueKind)
-      → Told t b kinds 0 z z′ f → want ≡ wants k → ok ≡ allOf want (stretch (kindsIn z′) 0 (W ws b))
-      → kindOfByte g ≡ given k [] → Written at (kindOfByte g ∷ []) o o′
+  pub tell-operator : (k b g n : ℕ) → shapeAt t r ≡ Operator k b → n ≡ W ws b → (z z′ : List ℕ) (f : Check) (ok : Bool)
+      → Told t b kinds 0 z z′ f → ok ≡ wanted k (stretch (kindsIn z′) 0 n)
+      → kindOfByte g ≡ given k (stretch (kindsIn z′) 0 n) → Written at (kindOfByte g ∷ []) o o′
       → Told t r kinds at o o′ (lesser (own r ok) f)
-  unfolding kindsE expNode kindedE faultsBelow wanted given
-  tell-operator k b g e z z′ f ok want p c i u w =
+  unfolding kindsE expNode kindedE faultsBelow
+  tell-operator k b g n e i z z′ f ok p c u w =
       let xs : List ValueKind = kindsE (expOf t b) kinds in
-      let operands : stretch (kindsIn z′) 0 (W ws b) ≡ xs =
-      read 0 (W ws b) xs z z′ (p .0) (counted t ws b (exp-children t ws r h (Operator k b) e .0) kinds)
+      let operands : stretch (kindsIn z′) 0 n ≡ xs =
+      read 0 n xs z z′ (p .0) (i ∙ counted t ws b (exp-children t ws r h (Operator k b) e .0) kinds)
       in
-      tell (Operator k b) e (kindOfByte g ∷ []) (lesser (own r ok) f) (ap (λ (x : ValueKind). x ∷ []) (sym u)) w
-      (λ j. lesser (own r ((i ∙ (λ l. allOf (c l) (operands l))) j)) (p .1 j))
+      tell (Operator k b) e (kindOfByte g ∷ []) (lesser (own r ok) f) (ap (λ (x : ValueKind). x ∷ []) (sym (u ∙ ap (given k) operands))) w
+      (λ j. lesser (own r ((c ∙ ap (wanted k) operands) j)) (p .1 j))
 
   pub tell-let : (a b c d : ℕ) → shapeAt t r ≡ Let a b c d → (z z′ : List ℕ) (f g : Check) → kindsIn z ≡ kinds
       → Told t c kinds a z z′ f → Told t d (kindsIn z′) at o o′ g → Told t r kinds at o o′ (lesser f g)

@@ -1,22 +1,30 @@
-// Kinds as bytes in lent arrays (specs/Bytes), by the tags of their values: what an operator and a test want of them, and how they are
-// compared and copied.
+// Kinds as bytes in lent arrays (specs/Bytes): what an operator wants of its operands' and gives, and how kinds are compared and
+// copied.
 ghost use mathlib.Core.Path.{_≡_};
 ghost use mathlib.Core.Bool.{_&&_};
 ghost use mathlib.Core.List.{[], _∷_};
 ghost use Prim.Native.Nat.{_+_, _≤_, _<_};
+ghost use lib.Dec.{leb};
 ghost use lib.ListN.{length};
-ghost use Rattle.value.specs.Kinds.{sameKind, wants, allOf, given};
+ghost use Rattle.value.specs.Kinds.{sameKind, allOf, wanted, given};
 ghost use Rattle.formula.specs.Kinds.{kindOfConstant, eitherKinds, sameKinds, agreeKinds};
 ghost use Rattle.sheet_kinds.specs.Bytes.{kindOfByte, kindsIn, stretch, Written};
 
+// A kind's byte is the tag of its values.
 pub const WHOLE: u8 = 1;
 
 pub const TRUTH: u8 = 2;
 
-// The row kind of a truth.
+pub const REAL: u8 = 4;
+
+// The row kinds of a truth and of a float.
 const TRUTH_ROW: u32 = 3;
 
-// Codes 6 to 10 give a truth, 8 to 10 want truths.
+const FLOAT_ROW: u32 = 10;
+
+// The remainder takes no floats; codes 6 to 10 give a truth, 8 to 10 want truths.
+const REMAINDER: u32 = 5;
+
 const LESS: u32 = 6;
 
 const AND: u32 = 8;
@@ -30,33 +38,10 @@ pub fn constant_kind(kind: u32) -> u8
     if kind == TRUTH_ROW {
         return TRUTH;
     }
+    if kind == FLOAT_ROW {
+        return REAL;
+    }
     WHOLE
-}
-
-// The kind that the operator of a code wants.
-pub fn wanted_kind(code: u32) -> u8
-    ensures { λ k. ⌜ kindOfByte k ≡ wants code ⌝ }
-{
-    if code < AND {
-        return WHOLE;
-    }
-    if NOT < code {
-        return WHOLE;
-    }
-    TRUTH
-}
-
-// The kind that it gives.
-pub fn given_kind(code: u32) -> u8
-    ensures { λ k. ⌜ kindOfByte k ≡ given code [] ⌝ }
-{
-    if code < LESS {
-        return WHOLE;
-    }
-    if NOT < code {
-        return WHOLE;
-    }
-    TRUTH
 }
 
 pub fn both(a: bool, b: bool) -> bool
@@ -74,7 +59,13 @@ fn same_kind(a: u8, b: u8) -> bool
     if a == TRUTH {
         return b == TRUTH;
     }
-    b != TRUTH
+    if b == TRUTH {
+        return false;
+    }
+    if a == REAL {
+        return b == REAL;
+    }
+    b != REAL
 }
 
 // Whether the n kinds of `a` from `at` on are the first m of `b`.
@@ -108,6 +99,50 @@ pub fn all_kinds(k: u8, l: &[u8], n: usize) -> bool
         i += 1;
     }
     true
+}
+
+// Whether a code is one of those from `first` to `last`.
+fn among(code: u32, first: u32, last: u32) -> bool
+    ensures { λ r. ⌜ r ≡ leb first code && leb code last ⌝ }
+{
+    if code < first {
+        return false;
+    }
+    code <= last
+}
+
+// Whether the operator of a code wants operands of the first n kinds.
+pub fn wanted_kinds(code: u32, l: &[u8], n: usize) -> bool
+    requires { ⌜ n ≤ length (now l) ⌝ }
+    ensures { λ r. ⌜ r ≡ wanted code (stretch (kindsIn (now (l .entry))) 0 n) ⌝ }
+{
+    if among(code, AND, NOT) {
+        return all_kinds(TRUTH, l, n);
+    }
+    if all_kinds(WHOLE, l, n) {
+        return true;
+    }
+    if code == REMAINDER {
+        return false;
+    }
+    all_kinds(REAL, l, n)
+}
+
+// The kind that it gives on them.
+pub fn given_kind(code: u32, l: &[u8], n: usize) -> u8
+    requires { ⌜ n ≤ length (now l) ⌝ }
+    ensures { λ k. ⌜ kindOfByte k ≡ given code (stretch (kindsIn (now (l .entry))) 0 n) ⌝ }
+{
+    if among(code, LESS, NOT) {
+        return TRUTH;
+    }
+    if code == REMAINDER {
+        return WHOLE;
+    }
+    if all_kinds(REAL, l, n) {
+        return REAL;
+    }
+    WHOLE
 }
 
 // Whether body arms with n and m kinds agree in what both have.

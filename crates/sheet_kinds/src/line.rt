@@ -1,10 +1,13 @@
-// The kinds line: "one letter an input, W or T, and a line feed" (formula's specs/Faults), and a sheet's rows under the kinds that it
-// tells.
+// The kinds line: "one letter an input, W or T, and a line feed" (formula's specs/Faults), with R for a float, and a sheet's rows under
+// the kinds that it tells.
+use crate::bytes::REAL;
 use crate::bytes::TRUTH;
 use crate::bytes::WHOLE;
 use crate::walk::exp_kinds;
 use eval_words::inputs::next;
 use formula::Check;
+use value::bytes::REAL_LETTER;
+use value::bytes::TRUTH_LETTER;
 ghost use mathlib.Core.Path.{_≡_};
 ghost use mathlib.Core.Bool.{true};
 ghost use lib.ListN.{length, getD};
@@ -50,8 +53,11 @@ fn kind_at(line: &[u8], i: usize) -> u8
     if line.len() <= i {
         return WHOLE;
     }
-    if line[i] == b'T' {
+    if line[i] == TRUTH_LETTER {
         return TRUTH;
+    }
+    if line[i] == REAL_LETTER {
+        return REAL;
     }
     WHOLE
 }

@@ -13,7 +13,7 @@ use crate::bytes::given_kind;
 use crate::bytes::hold_first;
 use crate::bytes::put_kind;
 use crate::bytes::same_kinds;
-use crate::bytes::wanted_kind;
+use crate::bytes::wanted_kinds;
 use crate::checks::lower;
 use crate::checks::own;
 use eval_words::words::wide;
@@ -90,8 +90,9 @@ fn codes(
 {
     let mut operands = [0; 2];
     let fault = exp_kinds(t, widths, b, env, &mut operands, 0);
-    let ok = all_kinds(wanted_kind(code), &operands, width_at(widths, b));
-    put_kind(out, at, given_kind(code));
+    let n = width_at(widths, b);
+    let ok = wanted_kinds(code, &operands, n);
+    put_kind(out, at, given_kind(code, &operands, n));
     lower(own(r, ok), fault)
 }
 

@@ -19,7 +19,9 @@ ghost use Rattle.sheet_rows.specs.Tallies.{tally, tallied};
 // The bounds of test 4.
 const LAST_IDENTIFIER: u32 = 31;
 
-const LARGEST_WHOLE: u32 = 999999;
+const LARGEST_NUMBER: u32 = 999999;
+
+const LARGEST_TRUTH: u32 = 1;
 
 const LAST_OPERATOR: u32 = 11;
 
@@ -49,26 +51,24 @@ fn binds_well(a: u32, b: u32) -> bool
     a <= TRIGGER - b
 }
 
+// A row with a field a up to `most` alone.
+fn only_up_to(most: u32, a: u32, b: u32, c: u32, d: u32) -> bool
+    ensures { λ r. ⌜ r ≡ (leb a most && eqb b 0 && eqb c 0 && eqb d 0) ⌝ }
+{
+    if a <= most {
+        return none_of(b, c, d);
+    }
+    false
+}
+
 // Test 4 of one row's fields.
 fn in_range(kind: u32, a: u32, b: u32, c: u32, d: u32) -> bool
     ensures { λ r. ⌜ r ≡ inRange kind a b c d ⌝ }
 {
     match kind {
-        1 => {
-            if a <= LAST_IDENTIFIER {
-                none_of(b, c, d)
-            } else {
-                false
-            }
-        }
-        2 => {
-            if a <= LARGEST_WHOLE {
-                none_of(b, c, d)
-            } else {
-                false
-            }
-        }
-        3 => { if a <= 1 { none_of(b, c, d) } else { false } }
+        1 => only_up_to(LAST_IDENTIFIER, a, b, c, d),
+        2 => only_up_to(LARGEST_NUMBER, a, b, c, d),
+        3 => only_up_to(LARGEST_TRUTH, a, b, c, d),
         4 => none_of(0, c, d),
         5 => {
             if a < 1 {
@@ -84,6 +84,7 @@ fn in_range(kind: u32, a: u32, b: u32, c: u32, d: u32) -> bool
         7 => d == 0,
         8 => binds_well(a, b),
         9 => none_of(b, c, d),
+        10 => only_up_to(LARGEST_NUMBER, a, b, c, d),
         _ => false,
     }
 }

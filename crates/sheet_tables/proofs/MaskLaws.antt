@@ -104,7 +104,7 @@ low-part a b c h = and-true a b (and-true (a && b) c h .0) .0
 binds : (a b : ℕ) → bindsWell a b ≡ true → a + b ≤ 32
 binds a b h = leb-true (a + b) 32 (and-true (leb 1 b) (leb (a + b) 32) h .1)
 
-ranged-by : (a b c d : ℕ) (k1 k2 k3 k4 k5 k6 k7 k8 k9 : Bool)
+ranged-by : (a b c d : ℕ) (k1 k2 k3 k4 k5 k6 k7 k8 k9 k10 : Bool)
     → cond k1 (leb a 31 && eqb b 0 && eqb c 0 && eqb d 0)
     (cond k2 (leb a 999999 && eqb b 0 && eqb c 0 && eqb d 0)
     (cond k3 (leb a 1 && eqb b 0 && eqb c 0 && eqb d 0)
@@ -114,7 +114,8 @@ ranged-by : (a b c d : ℕ) (k1 k2 k3 k4 k5 k6 k7 k8 k9 : Bool)
     (cond k7 (eqb d 0)
     (cond k8 (bindsWell a b)
     (cond k9 (eqb b 0 && eqb c 0 && eqb d 0)
-    false)))))))) ≡ true
+    (cond k10 (leb a 999999 && eqb b 0 && eqb c 0 && eqb d 0)
+    false))))))))) ≡ true
     → Ranged
     (cond k1 (Identifier a)
     (cond k2 (Constant 2 a)
@@ -125,25 +126,27 @@ ranged-by : (a b c d : ℕ) (k1 k2 k3 k4 k5 k6 k7 k8 k9 : Bool)
     (cond k7 (If a b c)
     (cond k8 (For a b c d)
     (cond k9 (Iter a)
-    (Constant 2 0))))))))))
-ranged-by a b c d true k2 k3 k4 k5 k6 k7 k8 k9 h =
+    (cond k10 (Constant 10 a)
+    (Constant 2 0)))))))))))
+ranged-by a b c d true k2 k3 k4 k5 k6 k7 k8 k9 k10 h =
     let e : a ≤ 31 = leb-true a 31 (low-part (leb a 31) (eqb b 0) (eqb c 0) (and-true (leb a 31 && eqb b 0 && eqb c 0) (eqb d 0) h .0)) in omega arith
-ranged-by a b c d false true k3 k4 k5 k6 k7 k8 k9 h = tt
-ranged-by a b c d false false true k4 k5 k6 k7 k8 k9 h = tt
-ranged-by a b c d false false false true k5 k6 k7 k8 k9 h = tt
-ranged-by a b c d false false false false true k6 k7 k8 k9 h = tt
-ranged-by a b c d false false false false false true k7 k8 k9 h = binds a b h
-ranged-by a b c d false false false false false false true k8 k9 h = tt
-ranged-by a b c d false false false false false false false true k9 h = binds a b h
-ranged-by a b c d false false false false false false false false true h = tt
-ranged-by a b c d false false false false false false false false false h = tt
+ranged-by a b c d false true k3 k4 k5 k6 k7 k8 k9 k10 h = tt
+ranged-by a b c d false false true k4 k5 k6 k7 k8 k9 k10 h = tt
+ranged-by a b c d false false false true k5 k6 k7 k8 k9 k10 h = tt
+ranged-by a b c d false false false false true k6 k7 k8 k9 k10 h = tt
+ranged-by a b c d false false false false false true k7 k8 k9 k10 h = binds a b h
+ranged-by a b c d false false false false false false true k8 k9 k10 h = tt
+ranged-by a b c d false false false false false false false true k9 k10 h = binds a b h
+ranged-by a b c d false false false false false false false false true k10 h = tt
+ranged-by a b c d false false false false false false false false false true h = tt
+ranged-by a b c d false false false false false false false false false false h = tt
 
 module _ (t : List ℕ) (n : ℕ) (p : List Bool) (ok : Ready t n p) where
   pub ranged-at : (r : ℕ) → 1 ≤ r → r ≤ n → Ranged (shapeAt t r)
   unfolding shapeAt shapeOf rangesWell inRange
   ranged-at r a b =
       ranged-by (field t r 1) (field t r 2) (field t r 3) (field t r 4) (eqb (field t r 0) 1) (eqb (field t r 0) 2) (eqb (field t r 0) 3)
-      (eqb (field t r 0) 4) (eqb (field t r 0) 5) (eqb (field t r 0) 6) (eqb (field t r 0) 7) (eqb (field t r 0) 8) (eqb (field t r 0) 9) (ok .ranges r a b)
+      (eqb (field t r 0) 4) (eqb (field t r 0) 5) (eqb (field t r 0) 6) (eqb (field t r 0) 7) (eqb (field t r 0) 8) (eqb (field t r 0) 9) (eqb (field t r 0) 10) (ok .ranges r a b)
 
   module _ (i : ℕ) (l : i < n) (m : List ℕ) (hm : Holds 0 m i (λ k. mask (freeIn (nodeAt t p k)))) (s : Shape) (e : s ≡ shapeAt t (i + 1)) where
     pub names-of : AllBetween (i + 1) (namedIn s)

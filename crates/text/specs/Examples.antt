@@ -1,9 +1,10 @@
 -- The worked example of document 01, "Program and readings", as text: the set lines of the lesser of two, of which document 02, Job 6, leaves three, and the
--- four lines that it prints. Beside them the ends of the values' range, errs with a reason, fields that are no value, and a refusal. They hold the definitions to the papers. Assumes nothing.
+-- four lines that it prints. Beside them the ends of the values' range, errs with a reason, floats, fields that are no value, and a refusal. They hold the definitions to the papers. Assumes nothing.
 use Prim.Native.Nat.{ℕ, zero, suc}
 use Prim.Native.String.{String}
 use mathlib.Core.Path.{_≡_, refl}
 use mathlib.Core.List.{List, [], _∷_, _++_, map}
+use lib.Ieee.{ofBits, toBits, fits}
 use lib.ListN.{length}
 use Rattle.value.specs.Bytes.{wordOf, wordBytes, wordAt, valueOf}
 use Rattle.examples.specs.Sheets.{bytes}
@@ -65,6 +66,19 @@ least = 1 ∷ 0 ∷ 0 ∷ 0 ∷ 128 ∷ []
 abbrev greatest : List ℕ
 greatest = 1 ∷ 255 ∷ 255 ∷ 255 ∷ 127 ∷ []
 
+-- Floats by their patterns' bytes: 0, -0, the nearest to 0.3, the least.
+abbrev real : ℕ → ℕ → ℕ → ℕ → List ℕ
+real a b c d = 4 ∷ a ∷ b ∷ c ∷ d ∷ []
+
+abbrev zeros : List ℕ
+zeros = real 0 0 0 0 ++ real 0 0 0 128
+
+abbrev three-tenths : List ℕ
+three-tenths = real 154 153 153 62
+
+abbrev leastReal : List ℕ
+leastReal = real 255 255 127 255
+
 -- "places past the width hold err"
 unfoldable errs : ℕ → List ℕ
 errs zero = []
@@ -102,9 +116,26 @@ cases =
     -- "another number of values than inputs", "a file line unended"
     ∷ case (reading "WW" "          7\n") (reads (badLine 1))
     ∷ case (reading "W" "          7\n          7") (reads (badLine 2))
+    -- "the field is R and directly after it the bit pattern in decimal without leading zeros, right-justified together"
+    ∷ case (reading "RRRR" "         R0R2147483648R1050253722R4286578687\n") (reads (sets ((zeros ++ three-tenths ++ leastReal) ∷ [])))
+    ∷ case (printing 4 4 ((zeros ++ three-tenths ++ leastReal ++ errs 12) ∷ []))
+    (prints (bytes "     4     4     1\n         R0R2147483648R1050253722R4286578687\n"))
+    ∷ case (reading "R" "          E\n          1\n") (reads (badLine 2))
+    ∷ case (reading "R" "          T\n") (reads (badLine 1))
+    ∷ case (reading "W" "         R1\n") (reads (badLine 1))
+    ∷ case (reading "R" "          R\n") (reads (badLine 1))
+    ∷ case (reading "R" "        R01\n") (reads (badLine 1))
+    ∷ case (reading "R" "        R-1\n") (reads (badLine 1))
+    ∷ case (reading "R" "        R 1\n") (reads (badLine 1))
+    ∷ case (reading "R" "         r1\n") (reads (badLine 1))
+    -- "Patterns that are not finite are refused with 12": infinity, minus infinity, a NaN; and a pattern of more than 32 bits
+    ∷ case (reading "R" "R2139095040\n") (reads (badLine 1))
+    ∷ case (reading "R" "R4286578688\n") (reads (badLine 1))
+    ∷ case (reading "R" "R2143289344\n") (reads (badLine 1))
+    ∷ case (reading "R" "R4294967296\n") (reads (badLine 1))
     ∷ case (refusing 12 3) (prints (bytes "    12     3\n"))
     ∷ []
 
 pub cases-worked : map (λ c. got (c .asks)) cases ≡ map (λ c. c .gives) cases
-unfolding cases got
+unfolding cases got ofBits toBits fits
 cases-worked = refl

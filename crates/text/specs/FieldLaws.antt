@@ -1,26 +1,25 @@
 -- A value field's definition, one byte at a time, over the part of the bytes from i to end, and the words of its values. Assumes nothing.
-use Prim.Native.Nat.{ℕ, zero, suc, _+_, _*_, _-_, _≤_, _<_}
+use Prim.Native.Nat.{ℕ, zero, suc, _+_, _*_, _-_, _/_, _%_, _≤_, _<_}
 use mathlib.Core.Path.{_≡_, refl, sym, ap, _∙_}
 use mathlib.Core.Bool.{Bool, true, false, cond}
-use mathlib.Core.List.{List, [], _∷_}
+use mathlib.Core.List.{List, _∷_}
 use mathlib.Core.Option.{Option, some, none}
 use native.Mathlib.Omega.{arith}
 use native.Mathlib.Numerals.{add-one}
-use borrow.Author.Tests.{le-leb, lt-leb, eq-eqb, ne-eqb, eqb-true, eqb-false}
+use borrow.Author.Tests.{le-leb, lt-leb, ne-eqb, eqb-true, eqb-false}
 use lib.ListN.{length, getD}
 use lib.Seq.{slice, slice-cons, slice-empty}
-use lib.Dec.{eqb, leb}
+use lib.Dec.{eqb}
 use Rattle.value.specs.declared.Reason.{Reason}
 use Rattle.value.specs.declared.Reason.the-variants.{ZeroDivisor, OutOfRange, Other}
 use Rattle.value.specs.declared.Value.{Value}
-use Rattle.value.specs.declared.Value.the-variants.{Whole, Truth, Err}
+use Rattle.value.specs.declared.Value.the-variants.{Truth, Err}
 use Rattle.value.specs.Operators.{pick}
-use Rattle.value.specs.Bytes.{wordOf}
+use Rattle.value.specs.Bytes.{wordOf, valueOf, floatOf, decoded, wordOr}
+use Rattle.value.proofs.Words.{tag-four, pattern-large}
 use Rattle.formula.specs.declared.Field.the-variants.{Number, Malformed}
-use Rattle.formula.specs.declared.Field.{Field}
-use Rattle.formula.specs.Sheet.{digitsOf, fieldOf, zeroOf}
-use Rattle.sheet_fields.proofs.FieldLaws.{field-zero, zero-end, zero-more}
-use Rattle.text.specs.Fields.{positive, negative, behindMinus, alone, fieldValue, wordBy}
+use Rattle.formula.specs.Sheet.{digitsOf, fieldOf}
+use Rattle.text.specs.Fields.{positive, negative, behindMinus, patterned, behindR, alone, fieldValue, wordBy}
 use Rattle.text.specs.Printed.{letterOf}
 
 -- ---- numbers
@@ -55,7 +54,28 @@ pub negative-malformed : wordBy (negative Malformed) ≡ 0
 unfolding negative
 negative-malformed = refl
 
--- ---- a letter, and the zero of one digit
+-- ---- floats
+
+pub patterned-word : (n : ℕ) → wordOr (decoded (valueOf (4 + 256 * n))) ≡ wordBy (patterned (Number n))
+unfolding patterned
+patterned-word n =
+    let t : (4 + 256 * n) % 256 ≡ 4 = omega arith in
+    let b : (4 + 256 * n) / 256 ≡ n = omega arith in
+    go (valueOf (4 + 256 * n)) ∙ ap wordBy (tag-four (4 + 256 * n) t ∙ ap floatOf b)
+  where
+    go : (o : Option Value) → wordOr (decoded o) ≡ wordBy o
+    go (some v) = refl
+    go none = refl
+
+pub patterned-large : (n : ℕ) → 4294967296 ≤ n → wordBy (patterned (Number n)) ≡ 0
+unfolding patterned
+patterned-large n h = ap wordBy (pattern-large n h)
+
+pub patterned-malformed : wordBy (patterned Malformed) ≡ 0
+unfolding patterned
+patterned-malformed = refl
+
+-- ---- a letter
 
 pub alone-word : (s : List ℕ) (i end : ℕ) (v : Value) → i ≤ end → end ≤ length s → wordBy (alone (slice i end s) v) ≡ pick (eqb i end) (wordOf v) 0
 unfolding alone
@@ -75,6 +95,10 @@ alone-word s i end v h k = go (eqb i end) refl
 pub minus-end : (s : List ℕ) (end : ℕ) → wordBy (behindMinus (slice end end s)) ≡ 0
 unfolding behindMinus
 minus-end s end = rw (slice-empty end s) refl
+
+pub real-end : (s : List ℕ) (end : ℕ) → wordBy (behindR (slice end end s)) ≡ 0
+unfolding behindR
+real-end s end = rw (slice-empty end s) refl
 
 pub value-end : (s : List ℕ) (end : ℕ) → fieldValue (slice end end s) ≡ none
 unfolding fieldValue
@@ -96,6 +120,17 @@ module _ (s : List ℕ) (i end : ℕ) (h : i < end) (k : end ≤ length s) where
   unfolding behindMinus
   minus-digit p q = rw (cons, le-leb 49 (getD s i 0) p, le-leb (getD s i 0) 57 q) refl
 
+  pub real-space : getD s i 0 ≡ 32 → wordBy (behindR (slice i end s)) ≡ 0
+  unfolding behindR
+  real-space p = ap (λ (l : List ℕ). wordBy (behindR l)) cons ∙ rw p refl
+
+  pub real-digits : (getD s i 0 ≡ 32 → ⊥) → behindR (slice i end s) ≡ patterned (fieldOf (slice i end s))
+  unfolding behindR
+  real-digits p =
+      ap behindR cons
+      ∙ ap (λ (t : Bool). cond t none (patterned (fieldOf (getD s i 0 ∷ slice (i + 1) end s)))) (ne-eqb (getD s i 0) 32 p)
+      ∙ ap (λ (l : List ℕ). patterned (fieldOf l)) (sym cons)
+
   pub value-space : getD s i 0 ≡ 32 → fieldValue (slice i end s) ≡ fieldValue (slice (i + 1) end s)
   unfolding fieldValue
   value-space p = ap fieldValue cons ∙ rw p refl
@@ -114,26 +149,17 @@ module _ (s : List ℕ) (i end : ℕ) (h : i < end) (k : end ≤ length s) where
   value-err ZeroDivisor p = ap fieldValue cons ∙ rw p refl
   value-err OutOfRange p = ap fieldValue cons ∙ rw p refl
 
+  pub value-real : getD s i 0 ≡ 82 → fieldValue (slice i end s) ≡ behindR (slice (i + 1) end s)
+  unfolding fieldValue
+  value-real p = ap fieldValue cons ∙ rw p refl
+
   pub value-minus : getD s i 0 ≡ 45 → fieldValue (slice i end s) ≡ behindMinus (slice (i + 1) end s)
   unfolding fieldValue
   value-minus p = ap fieldValue cons ∙ rw p refl
 
   pub value-number : (getD s i 0 ≡ 32 → ⊥) → (getD s i 0 ≡ 84 → ⊥) → (getD s i 0 ≡ 70 → ⊥) → (getD s i 0 ≡ 69 → ⊥) → (getD s i 0 ≡ 90 → ⊥)
-      → (getD s i 0 ≡ 86 → ⊥) → (getD s i 0 ≡ 45 → ⊥) → fieldValue (slice i end s) ≡ positive (fieldOf (slice i end s))
+      → (getD s i 0 ≡ 86 → ⊥) → (getD s i 0 ≡ 82 → ⊥) → (getD s i 0 ≡ 45 → ⊥) → fieldValue (slice i end s) ≡ positive (fieldOf (slice i end s))
   unfolding fieldValue
-  value-number space t f e z v minus =
+  value-number space t f e z v r minus =
       rw cons
-      (simp (ne-eqb (getD s i 0) 32 space, ne-eqb (getD s i 0) 84 t, ne-eqb (getD s i 0) 70 f, ne-eqb (getD s i 0) 69 e, ne-eqb (getD s i 0) 90 z, ne-eqb (getD s i 0) 86 v, ne-eqb (getD s i 0) 45 minus))
-
-  -- "zero is one digit 0"
-  pub zero-word : getD s i 0 ≡ 48 → wordBy (positive (fieldOf (slice i end s))) ≡ pick (eqb (i + 1) end) 1 0
-  unfolding positive wordOf
-  zero-word p =
-      ap (λ (f : Field). wordBy (positive f)) (field-zero s i end h k p)
-      ∙ go (eqb (i + 1) end) refl
-    where
-      go : (b : Bool) → eqb (i + 1) end ≡ b → wordBy (positive (zeroOf (slice (i + 1) end s))) ≡ pick b 1 0
-      go true e = let q : i + 1 ≡ end = eqb-true (i + 1) end e in rw q (ap (λ (f : Field). wordBy (positive f)) (zero-end s end))
-      go false e =
-          let n = eqb-false (i + 1) end e in
-          ap (λ (f : Field). wordBy (positive f)) (zero-more s (i + 1) end (omega (arith, n, h)) k)
+      (simp (ne-eqb (getD s i 0) 32 space, ne-eqb (getD s i 0) 84 t, ne-eqb (getD s i 0) 70 f, ne-eqb (getD s i 0) 69 e, ne-eqb (getD s i 0) 90 z, ne-eqb (getD s i 0) 86 v, ne-eqb (getD s i 0) 82 r, ne-eqb (getD s i 0) 45 minus))

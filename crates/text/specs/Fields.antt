@@ -1,6 +1,7 @@
 -- A value field of a set line (document 01, "Program and readings"): "one 11-character field a value, right-justified ..: a decimal number as in the
 -- sheet, with "-" for negatives (no -0), or T, F, E"; document 02, Job 5: "An err now has a reason: Z zero divisor, V answer out of range, E all else",
--- "Set and result fields may hold Z and V". A number outside the values' range is a bad field. Assumes nothing.
+-- "Set and result fields may hold Z and V"; Job 9: "In files the field is R and directly after it the bit pattern in decimal without leading
+-- zeros, right-justified together." A number outside the values' range is a bad field. Assumes nothing.
 use Prim.Native.Nat.{ℕ, zero, suc, _+_, _*_, _-_}
 use mathlib.Core.Bool.{Bool, true, false, cond, _&&_}
 use mathlib.Core.List.{List, [], _∷_}
@@ -11,7 +12,7 @@ use Rattle.value.specs.declared.Reason.the-variants.{ZeroDivisor, OutOfRange, O
 use Rattle.value.specs.declared.Value.{Value}
 use Rattle.value.specs.declared.Value.the-variants.{Whole, Truth, Err}
 use Rattle.value.specs.Operators.{pick}
-use Rattle.value.specs.Bytes.{wordOf}
+use Rattle.value.specs.Bytes.{wordOf, floatOf}
 use Rattle.formula.specs.declared.Field.{Field}
 use Rattle.formula.specs.declared.Field.the-variants.{Number, Malformed}
 use Rattle.formula.specs.Sheet.{digitsOf, fieldOf}
@@ -34,13 +35,24 @@ unfolding negative digitsOf
 behindMinus [] = none
 behindMinus (b ∷ s) = cond (leb 49 b && leb b 57) (negative (digitsOf (b - 48) s)) none
 
+-- "Patterns that are not finite are refused with 12": the number is that of a finite float's 32 bits.
+unfoldable pub patterned : Field → Option Value
+patterned (Number n) = floatOf n
+patterned Malformed = none
+
+-- The digits behind an R: "directly after it", as in the sheet.
+unfoldable pub behindR : List ℕ → Option Value
+unfolding patterned fieldOf
+behindR [] = none
+behindR (b ∷ s) = cond (eqb b 32) none (patterned (fieldOf (b ∷ s)))
+
 -- A letter is the last character.
 unfoldable pub alone : List ℕ → Value → Option Value
 alone [] v = some v
 alone (b ∷ s) v = none
 
 unfoldable pub fieldValue : List ℕ → Option Value
-unfolding behindMinus alone positive fieldOf
+unfolding behindMinus behindR alone positive fieldOf
 fieldValue [] = none
 fieldValue (b ∷ s) =
     cond (eqb b 32) (fieldValue s)
@@ -49,8 +61,9 @@ fieldValue (b ∷ s) =
     (cond (eqb b 69) (alone s (Err Other))
     (cond (eqb b 90) (alone s (Err ZeroDivisor))
     (cond (eqb b 86) (alone s (Err OutOfRange))
+    (cond (eqb b 82) (behindR s)
     (cond (eqb b 45) (behindMinus s)
-    (positive (fieldOf (b ∷ s)))))))))
+    (positive (fieldOf (b ∷ s))))))))))
 
 -- The word of a value's byte form; 0 for none.
 abbrev pub wordBy : Option Value → ℕ

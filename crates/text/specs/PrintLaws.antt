@@ -1,51 +1,51 @@
 -- Laws of the printed fields: their lengths, a field from its last digit on, and bytes written one part behind another. Assumes nothing.
 use Prim.Native.Nat.{ℕ, zero, suc, _+_, _*_, _-_, _/_, _%_, _≤_, _<_}
 use mathlib.Core.Path.{_≡_, refl, sym, ap, _∙_}
-use mathlib.Core.Bool.{Bool, true, false}
+use mathlib.Core.Bool.{Bool, true, false, _&&_, false≢true}
 use mathlib.Core.List.{List, [], _∷_, _++_, append-assoc, append-nil}
 use mathlib.Core.Option.{Option, some, none}
 use native.Mathlib.Omega.{arith}
 use native.Mathlib.Numerals.{add-one}
-use borrow.Author.Tests.{lt-ltb, le-ltb, eq-eqb, ne-eqb, eqb-true}
+use borrow.Author.Tests.{lt-ltb, le-ltb, ne-eqb, eqb-true, ltb-true}
 use lib.IntN.{pos, negsuc}
-use lib.ListN.{length, take, drop, set, getD, replicate, length-append, length-replicate, length-set, length-take, length-drop, replicate-append-replicate}
-use lib.Seq.{sets, sets-eq, length-sets, take-at, drop-at, set-split, take-add, take-suc, take-append-le, drop-append-le, take-all, take-set-le, drop-set-lt, drop-cons, take-take, drop-drop, length-take-le, set-append-seam, take-length, set-at, take-suc-set, drop-length}
+use lib.ListN.{length, take, drop, set, replicate, length-append, length-replicate, length-set, length-drop, replicate-append-replicate}
+use lib.Seq.{sets, sets-eq, length-sets, take-at, drop-at, set-split, drop-drop, length-take-le, set-at, take-suc-set, drop-length}
 use lib.Dec.{ltb, eqb}
-use mir.Syntax.{w32}
-use mir.Val.{toZ}
+use lib.Ieee.{binary32, ofBits, toBits}
+use lib.Ieee.Scale.{finite}
 use Rattle.value.specs.declared.Reason.{Reason}
 use Rattle.value.specs.declared.Reason.the-variants.{ZeroDivisor, OutOfRange, Other}
 use Rattle.value.specs.declared.Value.{Value}
-use Rattle.value.specs.declared.Value.the-variants.{Whole, Truth, Err}
+use Rattle.value.specs.declared.Value.the-variants.{Whole, Truth, Err, Real}
 use Rattle.value.specs.Operators.{pick}
 use Rattle.value.specs.Senses.{err}
-use Rattle.value.specs.Bytes.{wordOf, valueOf, wholeOf, truthOf, errOf, wordAt}
+use Rattle.value.specs.Bytes.{isSome, wordOf, valueOf, wholeOf, truthOf, errOf, floatOf, wordAt}
 use Rattle.value.proofs.Sign.{high, low-z}
+use Rattle.value.proofs.Words.{tag-four, pattern-back}
 use Rattle.text.specs.Printed.{led, shown, numberField, letterField, letterOf, valueField, optionField, wordField, resultFields, resultLine, headLine, refusalLine}
 
 -- ---- lengths
 
-pub led-length : (minus : Bool) (w : ℕ) → length (led minus w) ≡ w
+pub led-length : (before : ℕ) (w : ℕ) → length (led before w) ≡ w
 unfolding led
-led-length false w = length-replicate {A = ℕ} w 32
-led-length true zero = refl
-led-length true (suc w) = length-append (replicate w 32) (45 ∷ []) ∙ rw (length-replicate {A = ℕ} w 32) (omega arith)
+led-length before zero = refl
+led-length before (suc w) = length-append (replicate w 32) (before ∷ []) ∙ rw (length-replicate {A = ℕ} w 32) (omega arith)
 
 ahead-length : (b : Bool) (l r : List ℕ) (w : ℕ) → length l ≡ w → length r ≡ w → length (pick b l r) ≡ w
 ahead-length true l r w p q = p
 ahead-length false l r w p q = q
 
-pub shown-length : (minus : Bool) (w n : ℕ) → length (shown minus w n) ≡ w
+pub shown-length : (before : ℕ) (w n : ℕ) → length (shown before w n) ≡ w
 unfolding shown
-shown-length minus zero n = refl
-shown-length minus (suc w) n =
-    let e = length-append (pick (ltb n 10) (led minus w) (shown minus w (n / 10))) ((48 + n % 10) ∷ []) in
-    let a = ahead-length (ltb n 10) (led minus w) (shown minus w (n / 10)) w (led-length minus w) (shown-length minus w (n / 10)) in
+shown-length before zero n = refl
+shown-length before (suc w) n =
+    let e = length-append (pick (ltb n 10) (led before w) (shown before w (n / 10))) ((48 + n % 10) ∷ []) in
+    let a = ahead-length (ltb n 10) (led before w) (shown before w (n / 10)) w (led-length before w) (shown-length before w (n / 10)) in
     e ∙ omega arith
 
 pub number-length : (n : ℕ) → length (numberField n) ≡ 6
 unfolding numberField
-number-length n = shown-length false 6 n
+number-length n = shown-length 32 6 n
 
 pub letter-length : (c : ℕ) → length (letterField c) ≡ 11
 unfolding letterField
@@ -53,11 +53,12 @@ letter-length c = refl
 
 pub value-length : (v : Value) → length (valueField v) ≡ 11
 unfolding valueField
-value-length (Whole (pos n)) = shown-length false 11 n
-value-length (Whole (negsuc n)) = shown-length true 11 (suc n)
+value-length (Whole (pos n)) = shown-length 32 11 n
+value-length (Whole (negsuc n)) = shown-length 45 11 (suc n)
 value-length (Truth true) = refl
 value-length (Truth false) = refl
 value-length (Err r) = refl
+value-length (Real x) = shown-length 82 11 (toBits binary32 x)
 
 option-length : (o : Option Value) → length (optionField o) ≡ 11
 unfolding optionField
@@ -100,26 +101,26 @@ head-length a b c =
 
 -- ---- a field from its last digit on
 
-pub shown-last : (minus : Bool) (w n : ℕ) → n < 10 → shown minus (suc w) n ≡ led minus w ++ ((48 + n % 10) ∷ [])
+pub shown-last : (before : ℕ) (w n : ℕ) → n < 10 → shown before (suc w) n ≡ led before w ++ ((48 + n % 10) ∷ [])
 unfolding shown
-shown-last minus w n h = rw (lt-ltb n 10 h) refl
+shown-last before w n h = rw (lt-ltb n 10 h) refl
 
-pub shown-more : (minus : Bool) (w n : ℕ) → 10 ≤ n → shown minus (suc w) n ≡ shown minus w (n / 10) ++ ((48 + n % 10) ∷ [])
+pub shown-more : (before : ℕ) (w n : ℕ) → 10 ≤ n → shown before (suc w) n ≡ shown before w (n / 10) ++ ((48 + n % 10) ∷ [])
 unfolding shown
-shown-more minus w n h = rw (le-ltb n 10 h) refl
+shown-more before w n h = rw (le-ltb n 10 h) refl
 
-pub shown-none : (minus : Bool) (n : ℕ) → shown minus 0 n ≡ []
+pub shown-none : (before : ℕ) (n : ℕ) → shown before 0 n ≡ []
 unfolding shown
-shown-none minus n = refl
+shown-none before n = refl
 
 -- ---- a field by its word
 
 module _ (n : ℕ) where
-  pub whole-positive : n < 2147483648 → optionField (wholeOf n) ≡ shown false 11 n
+  pub whole-positive : n < 2147483648 → optionField (wholeOf n) ≡ shown 32 11 n
   unfolding wholeOf optionField valueField
   whole-positive h = rw (lt-ltb n 4294967296 (omega arith), low-z n h) refl
 
-  pub whole-negative : 2147483648 ≤ n → n < 4294967296 → optionField (wholeOf n) ≡ shown true 11 (4294967296 - n)
+  pub whole-negative : 2147483648 ≤ n → n < 4294967296 → optionField (wholeOf n) ≡ shown 45 11 (4294967296 - n)
   unfolding wholeOf optionField valueField
   whole-negative h k =
       let s : suc (4294967295 - n) ≡ 4294967296 - n = omega arith in
@@ -141,6 +142,17 @@ module _ (n : ℕ) where
   unfolding truthOf optionField valueField
   truth-neither p q = rw (ne-eqb n 0 p, ne-eqb n 1 q) refl
 
+  -- A finite float's field shows the pattern that its word has.
+  float-shown : isSome (floatOf n) ≡ true → optionField (floatOf n) ≡ shown 82 11 n
+  unfolding floatOf optionField valueField
+  float-shown = go (ltb n 4294967296) refl (finite (ofBits binary32 n)) refl
+    where
+      go : (a : Bool) → ltb n 4294967296 ≡ a → (b : Bool) → finite (ofBits binary32 n) ≡ b
+          → isSome (pick (a && b) (some (Real (ofBits binary32 n))) none) ≡ true → optionField (pick (a && b) (some (Real (ofBits binary32 n))) none) ≡ shown 82 11 n
+      go true p true q h = ap (shown 82 11) (pattern-back n (ltb-true n 4294967296 p) q)
+      go true p false q h = absurd (false≢true h)
+      go false p b q h = absurd (false≢true h)
+
 module _ (w : ℕ) where
   pub word-whole : w % 256 ≡ 1 → wordField w ≡ optionField (wholeOf (w / 256))
   unfolding wordField valueOf
@@ -150,15 +162,27 @@ module _ (w : ℕ) where
   unfolding wordField valueOf
   word-truth e = rw e refl
 
+  pub word-real : w % 256 ≡ 4 → isSome (valueOf w) ≡ true → wordField w ≡ shown 82 11 (w / 256)
+  unfolding wordField
+  word-real e h = ap optionField (tag-four w e) ∙ float-shown (w / 256) (ap isSome (sym (tag-four w e)) ∙ h)
+
+  pub word-none : isSome (valueOf w) ≡ false → wordField w ≡ letterField 69
+  unfolding wordField optionField valueField
+  word-none = go (valueOf w)
+    where
+      go : (o : Option Value) → isSome o ≡ false → optionField o ≡ letterField 69
+      go (some v) h = absurd (false≢true (sym h))
+      go none h = refl
+
   pub word-err : (r : Reason) → w ≡ wordOf (Err r) → wordField w ≡ letterField (letterOf r)
   unfolding wordOf wordField optionField valueField valueOf errOf
   word-err ZeroDivisor e = rw e refl
   word-err OutOfRange e = rw e refl
   word-err Other e = rw e refl
 
-  pub word-other : (w % 256 ≡ 1 → ⊥) → (w % 256 ≡ 2 → ⊥) → (w ≡ wordOf (Err ZeroDivisor) → ⊥) → (w ≡ wordOf (Err OutOfRange) → ⊥) → wordField w ≡ letterField 69
+  pub word-other : (w % 256 ≡ 1 → ⊥) → (w % 256 ≡ 2 → ⊥) → (w % 256 ≡ 4 → ⊥) → (w ≡ wordOf (Err ZeroDivisor) → ⊥) → (w ≡ wordOf (Err OutOfRange) → ⊥) → wordField w ≡ letterField 69
   unfolding wordOf wordField optionField valueField valueOf errOf
-  word-other p q z v = rw (ne-eqb (w % 256) 1 p, ne-eqb (w % 256) 2 q) (go (eqb (w % 256) 3) refl)
+  word-other p q f z v = rw (ne-eqb (w % 256) 1 p, ne-eqb (w % 256) 2 q, ne-eqb (w % 256) 4 f) (go (eqb (w % 256) 3) refl)
     where
       plain : (b : Bool) → optionField (pick b (some err) none) ≡ letterField 69
       plain true = refl
@@ -196,35 +220,38 @@ pub lent-part : (l : List ℕ) (at n : ℕ) (v : List ℕ) → length v ≡ n �
 lent-part l at n v e h =
     rw (drop-drop n at l) (sym (append-assoc (take at l) v (drop (at + n) l)) ∙ sym (written-part l at n v e h))
 
--- ---- spaces and the sign, byte by byte
+-- ---- spaces and the character before a number, byte by byte
 
 pub space-more : (l : List ℕ) (i : ℕ) → i < length l → take i l ≡ replicate i 32 → take (i + 1) (set l i 32) ≡ replicate (i + 1) 32
 space-more l i h e =
     rw add-one
     (take-suc-set l i 32 h ∙ rw e (replicate-append-replicate i 1 32 ∙ rw add-one refl))
 
-pub sign-last : (n : ℕ) → 0 < n → set (replicate {A = ℕ} n 32) (n - 1) 45 ≡ led true n
+space-last : (n : ℕ) → replicate {A = ℕ} n 32 ++ (32 ∷ []) ≡ replicate (suc n) 32
+space-last n = replicate-append-replicate n 1 32 ∙ rw add-one refl
+
+pub led-spaces : (n : ℕ) → led 32 n ≡ replicate n 32
 unfolding led
-sign-last zero h = absurd (omega arith)
-sign-last (suc n) h =
+led-spaces zero = refl
+led-spaces (suc n) = space-last n
+
+led-last : (before n : ℕ) → 0 < n → set (replicate {A = ℕ} n 32) (n - 1) before ≡ led before n
+unfolding led
+led-last before zero h = absurd (omega arith)
+led-last before (suc n) h =
     let e : suc n - 1 ≡ n = omega arith in
-    let r : replicate {A = ℕ} (suc n) 32 ≡ replicate n 32 ++ (32 ∷ []) = sym (replicate-append-replicate n 1 32 ∙ rw add-one refl) in
-    ap (λ (x : List ℕ). set x (suc n - 1) 45) r
-    ∙ ap (λ (j : ℕ). set (replicate n 32 ++ (32 ∷ [])) j 45) e
-    ∙ set-at (replicate n 32) 32 [] 45 n (length-replicate {A = ℕ} n 32)
+    ap (λ (x : List ℕ). set x (suc n - 1) before) (sym (space-last n))
+    ∙ ap (λ (j : ℕ). set (replicate n 32 ++ (32 ∷ [])) j before) e
+    ∙ set-at (replicate n 32) 32 [] before n (length-replicate {A = ℕ} n 32)
 
-pub sign-none : led true 0 ≡ []
+led-none : (before : ℕ) → led before 0 ≡ []
 unfolding led
-sign-none = refl
-
-pub led-spaces : (n : ℕ) → led false n ≡ replicate n 32
-unfolding led
-led-spaces n = refl
+led-none before = refl
 
 -- ---- a number from its last digit on
 
 -- The digits behind place i are written, and what is left of the number stands in front.
-module _ (minus : Bool) (l : List ℕ) (w n : ℕ) (i rest : ℕ) (h : 0 < i) (k : i ≤ length l) (e : shown minus i rest ++ drop i l ≡ shown minus w n) where
+module _ (before : ℕ) (l : List ℕ) (w n : ℕ) (i rest : ℕ) (h : 0 < i) (k : i ≤ length l) (e : shown before i rest ++ drop i l ≡ shown before w n) where
   one : i ≡ suc (i - 1)
   one = omega arith
 
@@ -237,24 +264,24 @@ module _ (minus : Bool) (l : List ℕ) (w n : ℕ) (i rest : ℕ) (h : 0 < i) (k
       ∙ drop-at (take (i - 1) l) ((48 + rest % 10) ∷ drop (suc (i - 1)) l) (i - 1) (length-take-le (i - 1) l (omega arith))
       ∙ rw (← one) refl
 
-  front : (f : List ℕ) → shown minus (suc (i - 1)) rest ≡ f ++ digit → f ++ drop (i - 1) (set l (i - 1) (48 + rest % 10)) ≡ shown minus w n
+  front : (f : List ℕ) → shown before (suc (i - 1)) rest ≡ f ++ digit → f ++ drop (i - 1) (set l (i - 1) (48 + rest % 10)) ≡ shown before w n
   unfolding digit
   front f p =
       ap (λ (x : List ℕ). f ++ x) behind
       ∙ sym (append-assoc f digit (drop i l))
-      ∙ ap (λ (x : List ℕ). x ++ drop i l) (sym p ∙ ap (λ (j : ℕ). shown minus j rest) (sym one))
+      ∙ ap (λ (x : List ℕ). x ++ drop i l) (sym p ∙ ap (λ (j : ℕ). shown before j rest) (sym one))
       ∙ e
 
-  pub digit-last : rest < 10 → led minus (i - 1) ++ drop (i - 1) (set l (i - 1) (48 + rest % 10)) ≡ shown minus w n
+  pub digit-last : rest < 10 → led before (i - 1) ++ drop (i - 1) (set l (i - 1) (48 + rest % 10)) ≡ shown before w n
   unfolding digit
-  digit-last p = front (led minus (i - 1)) (shown-last minus (i - 1) rest p)
+  digit-last p = front (led before (i - 1)) (shown-last before (i - 1) rest p)
 
-  pub digit-more : 10 ≤ rest → shown minus (i - 1) (rest / 10) ++ drop (i - 1) (set l (i - 1) (48 + rest % 10)) ≡ shown minus w n
+  pub digit-more : 10 ≤ rest → shown before (i - 1) (rest / 10) ++ drop (i - 1) (set l (i - 1) (48 + rest % 10)) ≡ shown before w n
   unfolding digit
-  digit-more p = front (shown minus (i - 1) (rest / 10)) (shown-more minus (i - 1) rest p)
+  digit-more p = front (shown before (i - 1) (rest / 10)) (shown-more before (i - 1) rest p)
 
-pub number-start : (minus : Bool) (l : List ℕ) (n : ℕ) → shown minus (length l) n ++ drop (length l) l ≡ shown minus (length l) n
-number-start minus l n = rw (drop-length l) (append-nil (shown minus (length l) n))
+pub number-start : (before : ℕ) (l : List ℕ) (n : ℕ) → shown before (length l) n ++ drop (length l) l ≡ shown before (length l) n
+number-start before l n = rw (drop-length l) (append-nil (shown before (length l) n))
 
 -- ---- lines from their parts
 
@@ -308,25 +335,25 @@ results-end l at k r h =
 
 -- ---- what the code leaves in a lent part
 
-pub sign-put : (l : List ℕ) (n : ℕ) → l ≡ replicate n 32 → 0 < length l → set l (length l - 1) 45 ≡ led true n
-sign-put l n e h =
+pub led-put : (before : ℕ) (l : List ℕ) (n : ℕ) → l ≡ replicate n 32 → 0 < length l → set l (length l - 1) before ≡ led before n
+led-put before l n e h =
     let q : length l ≡ n = ap length e ∙ length-replicate {A = ℕ} n 32 in
-    rw (q, e) (sign-last n (omega arith))
+    rw (q, e) (led-last before n (omega arith))
 
-pub sign-empty : (l : List ℕ) (n : ℕ) → l ≡ replicate n 32 → length l ≤ 0 → l ≡ led true n
-sign-empty l n e h =
+pub led-empty : (before : ℕ) (l : List ℕ) (n : ℕ) → l ≡ replicate n 32 → length l ≤ 0 → l ≡ led before n
+led-empty before l n e h =
     let q : n ≡ 0 = omega (arith, ap length e ∙ length-replicate {A = ℕ} n 32, h) in
-    e ∙ rw q (sym sign-none)
+    e ∙ rw q (sym (led-none before))
 
 mid-length : (l : List ℕ) (at n : ℕ) → at + n ≤ length l → length (take n (drop at l)) ≡ n
 mid-length l at n h = length-take-le n (drop at l) (rw (length-drop at l) (omega arith))
 
-pub number-put : (l v : List ℕ) (at n k : ℕ) (minus : Bool) → at + n ≤ length l → v ≡ shown minus (length (take (at + n - at) (drop at l))) k
-    → take at l ++ (v ++ drop (at + n - at) (drop at l)) ≡ sets l at (shown minus n k)
-number-put l v at n k minus h e =
+pub number-put : (l v : List ℕ) (at n k : ℕ) (before : ℕ) → at + n ≤ length l → v ≡ shown before (length (take (at + n - at) (drop at l))) k
+    → take at l ++ (v ++ drop (at + n - at) (drop at l)) ≡ sets l at (shown before n k)
+number-put l v at n k before h e =
     let q : at + n - at ≡ n = omega arith in
-    let w : v ≡ shown minus n k = e ∙ rw (q, mid-length l at n h) refl in
-    rw (q, w) (lent-part l at n (shown minus n k) (shown-length minus n k) h)
+    let w : v ≡ shown before n k = e ∙ rw (q, mid-length l at n h) refl in
+    rw (q, w) (lent-part l at n (shown before n k) (shown-length before n k) h)
 
 pub spaces-put : (l v : List ℕ) (at n : ℕ) → at + n ≤ length l → v ≡ replicate (length (take (at + n - at) (drop at l))) 32
     → take at l ++ (v ++ drop (at + n - at) (drop at l)) ≡ sets l at (replicate n 32)

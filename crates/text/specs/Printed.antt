@@ -1,36 +1,36 @@
--- What the bench program prints (document 01, "Program and readings"): numbers in six-character fields, "an 11-character field a result",
+-- What the bench program prints (document 01, "Program and readings", and document 02, Jobs 5 and 9): numbers in six-character fields, "an 11-character field a result",
 -- "A refusal prints its number and row .. in two six-character fields". Fields are right-justified with spaces. Assumes nothing.
 use Prim.Native.Nat.{ℕ, zero, suc, _+_, _*_, _/_, _%_}
-use mathlib.Core.Bool.{Bool, true, false}
+use mathlib.Core.Bool.{true, false}
 use mathlib.Core.List.{List, [], _∷_, _++_}
 use mathlib.Core.Option.{Option, some, none}
 use lib.IntN.{pos, negsuc}
 use lib.ListN.{replicate}
 use lib.Dec.{ltb}
+use lib.Ieee.{binary32, toBits}
 use Rattle.value.specs.declared.Reason.{Reason}
 use Rattle.value.specs.declared.Reason.the-variants.{ZeroDivisor, OutOfRange, Other}
 use Rattle.value.specs.declared.Value.{Value}
-use Rattle.value.specs.declared.Value.the-variants.{Whole, Truth, Err}
+use Rattle.value.specs.declared.Value.the-variants.{Whole, Truth, Err, Real}
 use Rattle.value.specs.Operators.{pick}
 use Rattle.value.specs.Senses.{err}
 use Rattle.value.specs.Bytes.{valueOf, wordAt}
 
--- What stands in front of a number's first digit: spaces, "with "-" for negatives".
-unfoldable pub led : Bool → ℕ → List ℕ
-led false w = replicate w 32
-led true zero = []
-led true (suc w) = replicate w 32 ++ (45 ∷ [])
+-- What stands in front of a number's first digit: spaces, and last a character: a space, "-" or R.
+unfoldable pub led : ℕ → ℕ → List ℕ
+led before zero = []
+led before (suc w) = replicate w 32 ++ (before ∷ [])
 
--- A number right-justified in w characters: its last digit, and before it the rest, if there is any.
-unfoldable pub shown : Bool → ℕ → ℕ → List ℕ
+-- A number right-justified in w characters behind that character: its last digit, and before it the rest, if there is any.
+unfoldable pub shown : ℕ → ℕ → ℕ → List ℕ
 unfolding led
-shown minus zero n = []
-shown minus (suc w) n = pick (ltb n 10) (led minus w) (shown minus w (n / 10)) ++ ((48 + n % 10) ∷ [])
+shown before zero n = []
+shown before (suc w) n = pick (ltb n 10) (led before w) (shown before w (n / 10)) ++ ((48 + n % 10) ∷ [])
 
 -- "six-character fields"
 unfoldable pub numberField : ℕ → List ℕ
 unfolding shown
-numberField n = shown false 6 n
+numberField n = shown 32 6 n
 
 unfoldable pub letterField : ℕ → List ℕ
 letterField c = replicate 10 32 ++ (c ∷ [])
@@ -45,11 +45,14 @@ letterOf Other = 69
 -- result fields may hold Z and V"
 unfoldable pub valueField : Value → List ℕ
 unfolding shown letterField
-valueField (Whole (pos n)) = shown false 11 n
-valueField (Whole (negsuc n)) = shown true 11 (suc n)
+valueField (Whole (pos n)) = shown 32 11 n
+valueField (Whole (negsuc n)) = shown 45 11 (suc n)
 valueField (Truth true) = letterField 84
 valueField (Truth false) = letterField 70
 valueField (Err r) = letterField (letterOf r)
+-- "R and directly after it the bit pattern in decimal without leading zeros, right-justified together"; what is printed was read by `valueOf`, so it
+-- is finite
+valueField (Real x) = shown 82 11 (toBits binary32 x)
 
 -- A word of the byte form; one that is no value is never handed out, and shows as the plain err.
 unfoldable pub optionField : Option Value → List ℕ

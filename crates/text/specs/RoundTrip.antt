@@ -4,27 +4,30 @@ use Prim.Native.Nat.{ℕ, zero, suc, _+_, _*_, _-_, _/_, _%_, _^_, _≤_, _<_}
 use mathlib.Core.Path.{_≡_, refl, sym, ap, _∙_}
 use mathlib.Core.Bool.{Bool, true, false, cond}
 use mathlib.Core.List.{List, [], _∷_, _++_, map, append-assoc, append-nil}
-use mathlib.Core.Option.{some}
+use mathlib.Core.Option.{some, none}
 use native.Mathlib.Omega.{arith}
 use native.Mathlib.Decide.{decLt}
 use native.Mathlib.Nat.{pow-suc}
 use borrow.Author.Tests.{le-leb, eq-eqb, ne-eqb}
 use lib.IntN.{pos, negsuc}
+use lib.Ieee.{Float, binary32, toBits}
 use lib.ListN.{length, getD, take, drop, replicate, length-append}
 use lib.Seq.{take-at, drop-at, getD-at, take-suc, take-length, drop-append-add}
 use Rattle.value.specs.declared.Reason.the-variants.{ZeroDivisor, OutOfRange, Other}
 use Rattle.value.specs.declared.Value.{Value}
-use Rattle.value.specs.declared.Value.the-variants.{Whole, Truth, Err}
+use Rattle.value.specs.declared.Value.the-variants.{Whole, Truth, Err, Real}
+use Rattle.value.specs.Operators.{isReal}
 use Rattle.value.specs.Senses.{err}
 use Rattle.value.specs.Kinds.{suits, kindOfLetter, ofKind}
-use Rattle.value.specs.Bytes.{InRange, wordOf, wordBytes, bytesOf, wordAt}
-use Rattle.value.proofs.Words.{value-of-word, word-lt, stored-parts, word-stored}
+use Rattle.value.specs.Bytes.{InRange, wordOf, valueOf, floatOf, wordBytes, bytesOf, wordAt}
+use Rattle.value.proofs.Floats.{bits-below, real-parts}
+use Rattle.value.proofs.Words.{value-of-word, real-word-is, tag-four, word-lt, stored-parts, word-stored}
 use Rattle.formula.specs.declared.Field.{Field}
 use Rattle.formula.specs.declared.Field.the-variants.{Number, Malformed}
 use Rattle.formula.specs.Sheet.{isDigit, digitsOf, zeroOf, fieldOf}
-use Rattle.text.specs.Fields.{positive, negative, behindMinus, alone, fieldValue}
+use Rattle.text.specs.Fields.{positive, negative, behindMinus, patterned, behindR, alone, fieldValue}
 use Rattle.text.specs.Printed.{led, shown, numberField, letterField, valueField, optionField, wordField, resultFields, resultLine}
-use Rattle.text.specs.PrintLaws.{shown-last, shown-more, value-length}
+use Rattle.text.specs.PrintLaws.{led-spaces, shown-last, shown-more, value-length}
 use Rattle.text.specs.SetLines.{linesOf, fieldAt, fieldsWell, fieldBytes, isSetLine, sets, oneMore, setsFrom, setsOf}
 use Rattle.text.specs.SetLineLaws.{drop-take, good-line, no-line}
 
@@ -48,94 +51,97 @@ digits-onward d h v (b ∷ s) = go (isDigit b) (digits-onward d h (v * 10 + (b -
 
 -- ---- a printed number: what stands in front, a first digit that is not 0, and the rest
 
--- The numbers that fit w characters; a sign is one of them.
+-- The numbers that fit w characters; where the character before the number must stand, it is one of them.
 abbrev room : Bool → ℕ → ℕ
 room false w = 10 ^ w
 room true zero = 0
 room true (suc w) = 10 ^ w
 
-room-none : (minus : Bool) (n : ℕ) → 0 < n → n < room minus 0 → ⊥
+room-none : (stands : Bool) (n : ℕ) → 0 < n → n < room stands 0 → ⊥
 room-none false n p h = omega arith
 room-none true n p h = omega arith
 
-room-tenth : (minus : Bool) (w n : ℕ) → 10 ≤ n → n < room minus (suc w) → n / 10 < room minus w
+room-tenth : (stands : Bool) (w n : ℕ) → 10 ≤ n → n < room stands (suc w) → n / 10 < room stands w
 room-tenth false w n k h = omega (arith, pow-suc 10 w)
 room-tenth true zero n k h = absurd (omega arith)
 room-tenth true (suc w) n k h = omega (arith, pow-suc 10 w)
 
-abbrev Signed : Bool → ℕ → Type 0
-Signed false k = Unit
-Signed true k = 0 < k
+abbrev Led : Bool → ℕ → Type 0
+Led false k = Unit
+Led true k = 0 < k
 
-signed : (minus : Bool) (w n : ℕ) → 0 < n → n < room minus (suc w) → Signed minus w
-signed false w n p h = tt
-signed true zero n p h = absurd (omega arith)
-signed true (suc w) n p h = omega arith
+is-led : (stands : Bool) (w n : ℕ) → 0 < n → n < room stands (suc w) → Led stands w
+is-led false w n p h = tt
+is-led true zero n p h = absurd (omega arith)
+is-led true (suc w) n p h = omega arith
 
-record Written (minus : Bool) (w n : ℕ) : Type 0 where
+record Written (stands : Bool) (before w n : ℕ) : Type 0 where
   ahead : ℕ
   first : ℕ
   rest : List ℕ
-  text : shown minus w n ≡ led minus ahead ++ (first ∷ rest)
-  sign : Signed minus ahead
+  text : shown before w n ≡ led before ahead ++ (first ∷ rest)
+  lead : Led stands ahead
   low : 49 ≤ first
   high : first ≤ 57
   number : digitsOf (first - 48) rest ≡ Number n
 
-written-last : (minus : Bool) (w n : ℕ) → 0 < n → n < 10 → n < room minus (suc w) → Written minus (suc w) n
+written-last : (stands : Bool) (before w n : ℕ) → 0 < n → n < 10 → n < room stands (suc w) → Written stands before (suc w) n
 unfolding digitsOf
-written-last minus w n p k h =
+written-last stands before w n p k h =
     let e : 48 + n % 10 - 48 ≡ n = omega arith in
     record {
       ahead = w;
       first = 48 + n % 10;
       rest = [];
-      text = shown-last minus w n k;
-      sign = signed minus w n p h;
+      text = shown-last before w n k;
+      lead = is-led stands w n p h;
       low = omega arith;
       high = omega arith;
       number = ap Number e;
     }
 
-written-more : (minus : Bool) (w n : ℕ) → 10 ≤ n → Written minus w (n / 10) → Written minus (suc w) n
-written-more minus w n k W =
+written-more : (stands : Bool) (before w n : ℕ) → 10 ≤ n → Written stands before w (n / 10) → Written stands before (suc w) n
+written-more stands before w n k W =
     let d : List ℕ = (48 + n % 10) ∷ [] in
     let e : n / 10 * 10 + n % 10 ≡ n = omega arith in
     record {
       ahead = W .ahead;
       first = W .first;
       rest = W .rest ++ d;
-      text = shown-more minus w n k ∙ ap (λ (x : List ℕ). x ++ d) (W .text) ∙ append-assoc (led minus (W .ahead)) (W .first ∷ W .rest) d;
-      sign = W .sign;
+      text = shown-more before w n k ∙ ap (λ (x : List ℕ). x ++ d) (W .text) ∙ append-assoc (led before (W .ahead)) (W .first ∷ W .rest) d;
+      lead = W .lead;
       low = W .low;
       high = W .high;
       number = digits-onward (n % 10) (omega arith) (W .first - 48) (W .rest) ∙ ap (onward (n % 10)) (W .number) ∙ ap Number e;
     }
 
-written : (minus : Bool) (w n : ℕ) → 0 < n → n < room minus w → Written minus w n
-written minus zero n p h = absurd (room-none minus n p h)
-written minus (suc w) n p h = go (decLt n 10) (λ k. written minus w (n / 10) (omega arith) (room-tenth minus w n k h))
+written : (stands : Bool) (before w n : ℕ) → 0 < n → n < room stands w → Written stands before w n
+written stands before zero n p h = absurd (room-none stands n p h)
+written stands before (suc w) n p h = go (decLt n 10) (λ k. written stands before w (n / 10) (omega arith) (room-tenth stands w n k h))
   where
-    go : Dec (n < 10) → (10 ≤ n → Written minus w (n / 10)) → Written minus (suc w) n
-    go (yes k) shorter = written-last minus w n p k h
-    go (no k) shorter = let l : 10 ≤ n = omega arith in written-more minus w n l (shorter l)
+    go : Dec (n < 10) → (10 ≤ n → Written stands before w (n / 10)) → Written stands before (suc w) n
+    go (yes k) shorter = written-last stands before w n p k h
+    go (no k) shorter = let l : 10 ≤ n = omega arith in written-more stands before w n l (shorter l)
 
 -- ---- a number of the sheet
 
-spaces-skipped : (k : ℕ) (s : List ℕ) → fieldOf (replicate k 32 ++ s) ≡ fieldOf s
+spaces-skipped : (k : ℕ) (s : List ℕ) → fieldOf (led 32 k ++ s) ≡ fieldOf s
 unfolding fieldOf
-spaces-skipped zero s = refl
-spaces-skipped (suc k) s = spaces-skipped k s
+spaces-skipped k s = ap (λ (l : List ℕ). fieldOf (l ++ s)) (led-spaces k) ∙ go k
+  where
+    go : (n : ℕ) → fieldOf (replicate n 32 ++ s) ≡ fieldOf s
+    go zero = refl
+    go (suc n) = go n
 
 first-digit : (b : ℕ) (s : List ℕ) → 49 ≤ b → b ≤ 57 → fieldOf (b ∷ s) ≡ digitsOf (b - 48) s
 unfolding fieldOf
 first-digit b s l h = rw (ne-eqb b 32 (λ e. omega arith), ne-eqb b 48 (λ e. omega arith), le-leb 48 b (omega arith), le-leb b 57 h) refl
 
-pub field-reads-back : (w n : ℕ) → n < 10 ^ suc w → fieldOf (shown false (suc w) n) ≡ Number n
-unfolding led fieldOf zeroOf
-field-reads-back w zero h = ap fieldOf (shown-last false w 0 (omega arith)) ∙ spaces-skipped w (48 ∷ [])
+pub field-reads-back : (w n : ℕ) → n < 10 ^ suc w → fieldOf (shown 32 (suc w) n) ≡ Number n
+unfolding fieldOf zeroOf
+field-reads-back w zero h = ap fieldOf (shown-last 32 w 0 (omega arith)) ∙ spaces-skipped w (48 ∷ [])
 field-reads-back w (suc n) h =
-    let W = written false (suc w) (suc n) (omega arith) h in
+    let W = written false 32 (suc w) (suc n) (omega arith) h in
     ap fieldOf (W .text)
     ∙ spaces-skipped (W .ahead) (W .first ∷ W .rest)
     ∙ first-digit (W .first) (W .rest) (W .low) (W .high)
@@ -156,39 +162,64 @@ blanks-skipped (suc k) s = blanks-skipped k s
 digit-first : (b : ℕ) (s : List ℕ) → 48 ≤ b → b ≤ 57 → fieldValue (b ∷ s) ≡ positive (fieldOf (b ∷ s))
 unfolding fieldValue
 digit-first b s l h =
-    simp (ne-eqb b 32 (λ e. omega arith), ne-eqb b 84 (λ e. omega arith), ne-eqb b 70 (λ e. omega arith), ne-eqb b 69 (λ e. omega arith), ne-eqb b 90 (λ e. omega arith), ne-eqb b 86 (λ e. omega arith), ne-eqb b 45 (λ e. omega arith))
+    simp (ne-eqb b 32 (λ e. omega arith), ne-eqb b 84 (λ e. omega arith), ne-eqb b 70 (λ e. omega arith), ne-eqb b 69 (λ e. omega arith), ne-eqb b 90 (λ e. omega arith), ne-eqb b 86 (λ e. omega arith), ne-eqb b 82 (λ e. omega arith), ne-eqb b 45 (λ e. omega arith))
 
 minus-first : (b : ℕ) (s : List ℕ) → 49 ≤ b → b ≤ 57 → fieldValue (45 ∷ b ∷ s) ≡ negative (digitsOf (b - 48) s)
 unfolding fieldValue behindMinus
 minus-first b s l h = rw (le-leb 49 b l, le-leb b 57 h) refl
 
-pub positive-reads-back : (w n : ℕ) → n < 10 ^ suc w → fieldValue (shown false (suc w) n) ≡ positive (Number n)
-unfolding led fieldOf zeroOf
+r-first : (b : ℕ) (s : List ℕ) → 48 ≤ b → fieldValue (82 ∷ b ∷ s) ≡ patterned (fieldOf (b ∷ s))
+unfolding fieldValue behindR
+r-first b s l = ap (λ (t : Bool). cond t none (patterned (fieldOf (b ∷ s)))) (ne-eqb b 32 (λ e. omega arith))
+
+pub positive-reads-back : (w n : ℕ) → n < 10 ^ suc w → fieldValue (shown 32 (suc w) n) ≡ positive (Number n)
+unfolding fieldOf zeroOf
 positive-reads-back w zero h =
-    ap fieldValue (shown-last false w 0 (omega arith)) ∙ blanks-skipped w (48 ∷ []) ∙ digit-first 48 [] (omega arith) (omega arith)
+    ap fieldValue (shown-last 32 w 0 (omega arith) ∙ ap (λ (l : List ℕ). l ++ (48 ∷ [])) (led-spaces w))
+    ∙ blanks-skipped w (48 ∷ [])
+    ∙ digit-first 48 [] (omega arith) (omega arith)
 positive-reads-back w (suc n) h =
-    let W = written false (suc w) (suc n) (omega arith) h in
-    ap fieldValue (W .text)
+    let W = written false 32 (suc w) (suc n) (omega arith) h in
+    ap fieldValue (W .text ∙ ap (λ (l : List ℕ). l ++ (W .first ∷ W .rest)) (led-spaces (W .ahead)))
     ∙ blanks-skipped (W .ahead) (W .first ∷ W .rest)
     ∙ digit-first (W .first) (W .rest) (omega (arith, W .low)) (W .high)
     ∙ ap positive (first-digit (W .first) (W .rest) (W .low) (W .high) ∙ W .number)
 
-sign-skipped : (k : ℕ) (s : List ℕ) → 0 < k → fieldValue (led true k ++ s) ≡ fieldValue (45 ∷ s)
+led-skipped : (before k : ℕ) (s : List ℕ) → 0 < k → fieldValue (led before k ++ s) ≡ fieldValue (before ∷ s)
 unfolding led
-sign-skipped zero s h = absurd (omega arith)
-sign-skipped (suc k) s h = ap fieldValue (append-assoc (replicate k 32) (45 ∷ []) s) ∙ blanks-skipped k (45 ∷ s)
+led-skipped before zero s h = absurd (omega arith)
+led-skipped before (suc k) s h = ap fieldValue (append-assoc (replicate k 32) (before ∷ []) s) ∙ blanks-skipped k (before ∷ s)
 
-pub negative-reads-back : (w n : ℕ) → 0 < n → n < 10 ^ w → fieldValue (shown true (suc w) n) ≡ negative (Number n)
+pub negative-reads-back : (w n : ℕ) → 0 < n → n < 10 ^ w → fieldValue (shown 45 (suc w) n) ≡ negative (Number n)
 negative-reads-back w n p h =
-    let W = written true (suc w) n p h in
+    let W = written true 45 (suc w) n p h in
     ap fieldValue (W .text)
-    ∙ sign-skipped (W .ahead) (W .first ∷ W .rest) (W .sign)
+    ∙ led-skipped 45 (W .ahead) (W .first ∷ W .rest) (W .lead)
     ∙ minus-first (W .first) (W .rest) (W .low) (W .high)
     ∙ ap negative (W .number)
 
+pub pattern-reads-back : (w n : ℕ) → 0 < w → n < 10 ^ w → fieldValue (shown 82 (suc w) n) ≡ patterned (Number n)
+unfolding fieldOf zeroOf
+pattern-reads-back w zero p h =
+    ap fieldValue (shown-last 82 w 0 (omega arith)) ∙ led-skipped 82 w (48 ∷ []) p ∙ r-first 48 [] (omega arith)
+pattern-reads-back w (suc n) p h =
+    let W = written true 82 (suc w) (suc n) (omega arith) h in
+    ap fieldValue (W .text)
+    ∙ led-skipped 82 (W .ahead) (W .first ∷ W .rest) (W .lead)
+    ∙ r-first (W .first) (W .rest) (omega (arith, W .low))
+    ∙ ap patterned (first-digit (W .first) (W .rest) (W .low) (W .high) ∙ W .number)
+
+-- A float's pattern is its own.
+pattern-of-real : (x : Float) → isReal x ≡ true → floatOf (toBits binary32 x) ≡ some (Real x)
+pattern-of-real x h =
+    let n : ℕ = toBits binary32 x in
+    let t : (4 + 256 * n) % 256 ≡ 4 = omega arith in
+    let b : (4 + 256 * n) / 256 ≡ n = omega arith in
+    ap floatOf (sym b) ∙ sym (tag-four (4 + 256 * n) t) ∙ ap valueOf (sym (real-word-is x h)) ∙ value-of-word (Real x) h
+
 -- Every value that is printed is read back as itself.
 pub value-reads-back : (v : Value) → InRange v → fieldValue (valueField v) ≡ some v
-unfolding valueField letterField fieldValue alone positive negative
+unfolding valueField letterField fieldValue alone positive negative patterned
 value-reads-back (Whole (pos n)) h = positive-reads-back 10 n (omega arith) ∙ rw (le-leb n 2147483647 (omega arith)) refl
 value-reads-back (Whole (negsuc n)) h = negative-reads-back 10 (suc n) (omega arith) (omega arith) ∙ rw (le-leb n 2147483647 (omega arith)) refl
 value-reads-back (Truth true) h = refl
@@ -196,6 +227,8 @@ value-reads-back (Truth false) h = refl
 value-reads-back (Err ZeroDivisor) h = refl
 value-reads-back (Err OutOfRange) h = refl
 value-reads-back (Err Other) h = refl
+value-reads-back (Real x) h =
+    pattern-reads-back 10 (toBits binary32 x) (omega arith) (omega (arith, bits-below x (real-parts x h .1))) ∙ pattern-of-real x h
 
 -- ---- a line of values
 

@@ -24,7 +24,7 @@ use Rattle.formula.specs.Sheet.{digitsOf, fieldOf, zeroOf, isDigit}
 use Rattle.formula.specs.Tests.{wellFormed}
 use Rattle.text.specs.declared.Lines.{Lines}
 use Rattle.text.specs.declared.Lines.the-variants.{Sets as counted, Bad as bad}
-use Rattle.text.specs.Fields.{positive, negative, behindMinus, alone, fieldValue, wordBy}
+use Rattle.text.specs.Fields.{positive, negative, behindMinus, patterned, behindR, alone, fieldValue, wordBy}
 use Rattle.text.specs.SetLines.{before, linesOf, lineAt, fieldAt, fieldsWell, fieldBytes, isSetLine, SetFile, sets as setsIn, badLine, oneMore, setsFrom, setsOf, countOf}
 
 false-true : {A : Type 0} → _≡_ {A = Bool} false true → A
@@ -97,6 +97,20 @@ minus-no-feed (b ∷ s) e = go (leb 49 b) refl (leb b 57) refl e
     go true p false q r = false-true r
     go false p y q r = false-true r
 
+patterned-formed : (f : Field) → isSome (patterned f) ≡ true → wellFormed f ≡ true
+unfolding patterned
+patterned-formed (Number n) e = refl
+patterned-formed Malformed e = e
+
+real-no-feed : (s : List ℕ) → isSome (behindR s) ≡ true → NoFeed s
+unfolding behindR
+real-no-feed [] e = tt
+real-no-feed (b ∷ s) e = go (eqb b 32) e
+  where
+    go : (x : Bool) → isSome (cond x none (patterned (fieldOf (b ∷ s)))) ≡ true → NoFeed (b ∷ s)
+    go true r = false-true r
+    go false r = field-no-feed (b ∷ s) (patterned-formed (fieldOf (b ∷ s)) r)
+
 alone-no-feed : (s : List ℕ) (v : Value) → isSome (alone s v) ≡ true → NoFeed s
 unfolding alone
 alone-no-feed [] v e = tt
@@ -106,26 +120,27 @@ value-no-feed : (s : List ℕ) → isSome (fieldValue s) ≡ true → NoFeed s
 unfolding fieldValue
 value-no-feed [] e = tt
 value-no-feed (b ∷ s) e =
-    go (λ r. value-no-feed s r) (eqb b 32) refl (eqb b 84) refl (eqb b 70) refl (eqb b 69) refl (eqb b 90) refl (eqb b 86) refl (eqb b 45) refl e
+    go (λ r. value-no-feed s r) (eqb b 32) refl (eqb b 84) refl (eqb b 70) refl (eqb b 69) refl (eqb b 90) refl (eqb b 86) refl (eqb b 82) refl (eqb b 45) refl e
   where
     letter : (c : ℕ) (v : Value) → 10 < c → eqb b c ≡ true → isSome (alone s v) ≡ true → NoFeed (b ∷ s)
     letter c v h p f = (ne-eqb b 10 (λ k. omega (arith, k, h, eqb-true b c p)), alone-no-feed s v f)
 
     go : (isSome (fieldValue s) ≡ true → NoFeed s) → (space : Bool) → eqb b 32 ≡ space → (t : Bool) → eqb b 84 ≡ t → (f : Bool) → eqb b 70 ≡ f
-        → (e : Bool) → eqb b 69 ≡ e → (z : Bool) → eqb b 90 ≡ z → (v : Bool) → eqb b 86 ≡ v → (minus : Bool) → eqb b 45 ≡ minus
+        → (e : Bool) → eqb b 69 ≡ e → (z : Bool) → eqb b 90 ≡ z → (v : Bool) → eqb b 86 ≡ v → (r : Bool) → eqb b 82 ≡ r → (minus : Bool) → eqb b 45 ≡ minus
         → isSome (cond space (fieldValue s)
         (cond t (alone s (Truth true)) (cond f (alone s (Truth false))
         (cond e (alone s (Err Other)) (cond z (alone s (Err ZeroDivisor)) (cond v (alone s (Err OutOfRange))
-        (cond minus (behindMinus s) (positive (fieldOf (b ∷ s)))))))))) ≡ true
+        (cond r (behindR s) (cond minus (behindMinus s) (positive (fieldOf (b ∷ s))))))))))) ≡ true
         → NoFeed (b ∷ s)
-    go later true p t _ f _ e _ z _ v _ m _ k = (ne-eqb b 10 (λ h. omega (arith, h, eqb-true b 32 p)), later k)
-    go later false _ true p f _ e _ z _ v _ m _ k = letter 84 (Truth true) (omega arith) p k
-    go later false _ false _ true p e _ z _ v _ m _ k = letter 70 (Truth false) (omega arith) p k
-    go later false _ false _ false _ true p z _ v _ m _ k = letter 69 (Err Other) (omega arith) p k
-    go later false _ false _ false _ false _ true p v _ m _ k = letter 90 (Err ZeroDivisor) (omega arith) p k
-    go later false _ false _ false _ false _ false _ true p m _ k = letter 86 (Err OutOfRange) (omega arith) p k
-    go later false _ false _ false _ false _ false _ false _ true p k = (ne-eqb b 10 (λ h. omega (arith, h, eqb-true b 45 p)), minus-no-feed s k)
-    go later false _ false _ false _ false _ false _ false _ false _ k = field-no-feed (b ∷ s) (positive-formed (fieldOf (b ∷ s)) k)
+    go later true p t _ f _ e _ z _ v _ r _ m _ k = (ne-eqb b 10 (λ h. omega (arith, h, eqb-true b 32 p)), later k)
+    go later false _ true p f _ e _ z _ v _ r _ m _ k = letter 84 (Truth true) (omega arith) p k
+    go later false _ false _ true p e _ z _ v _ r _ m _ k = letter 70 (Truth false) (omega arith) p k
+    go later false _ false _ false _ true p z _ v _ r _ m _ k = letter 69 (Err Other) (omega arith) p k
+    go later false _ false _ false _ false _ true p v _ r _ m _ k = letter 90 (Err ZeroDivisor) (omega arith) p k
+    go later false _ false _ false _ false _ false _ true p r _ m _ k = letter 86 (Err OutOfRange) (omega arith) p k
+    go later false _ false _ false _ false _ false _ false _ true p m _ k = (ne-eqb b 10 (λ h. omega (arith, h, eqb-true b 82 p)), real-no-feed s k)
+    go later false _ false _ false _ false _ false _ false _ false _ true p k = (ne-eqb b 10 (λ h. omega (arith, h, eqb-true b 45 p)), minus-no-feed s k)
+    go later false _ false _ false _ false _ false _ false _ false _ false _ k = field-no-feed (b ∷ s) (positive-formed (fieldOf (b ∷ s)) k)
 
 -- ---- what is of a kind is a value
 

@@ -1,6 +1,6 @@
 -- The bytes that are read from a set line are values' bytes: each field's value is in the values' range, and its word stands in its place. So a set line is a
 -- set that passes 12 in push, with the same kinds. Assumes nothing.
-use Prim.Native.Nat.{ℕ, zero, suc, _+_, _*_, _-_, _≤_, _<_}
+use Prim.Native.Nat.{ℕ, zero, suc, _+_, _*_, _-_, _/_, _%_, _≤_, _<_}
 use mathlib.Core.Path.{_≡_, refl, sym, ap, subst, _∙_}
 use mathlib.Core.Bool.{Bool, true, false, cond, _&&_}
 use mathlib.Core.List.{List, [], _∷_, _++_, append-nil}
@@ -15,13 +15,13 @@ use Rattle.value.specs.declared.Reason.the-variants.{ZeroDivisor, OutOfRange, O
 use Rattle.value.specs.declared.Value.{Value}
 use Rattle.value.specs.declared.Value.the-variants.{Whole, Truth, Err}
 use Rattle.value.specs.Operators.{pick}
-use Rattle.value.specs.Bytes.{InRange, isSome, valueOf, wordAt, stored}
+use Rattle.value.specs.Bytes.{InRange, isSome, valueOf, floatOf, wordAt, stored}
 use Rattle.value.specs.Kinds.{ofKind}
-use Rattle.value.proofs.Words.{value-of-word, word-lt, word-stored, word-before}
+use Rattle.value.proofs.Words.{value-of-word, value-in-range, tag-four, word-lt, word-stored, word-before}
 use Rattle.formula.specs.declared.Field.{Field}
 use Rattle.formula.specs.declared.Field.the-variants.{Number, Malformed}
 use Rattle.formula.specs.Sheet.{digitsOf, fieldOf}
-use Rattle.text.specs.Fields.{positive, negative, behindMinus, alone, fieldValue, wordBy}
+use Rattle.text.specs.Fields.{positive, negative, behindMinus, patterned, behindR, alone, fieldValue, wordBy}
 use Rattle.text.specs.SetLines.{fieldAt, fieldsWell, fieldBytes}
 use Rattle.text.specs.SetLineLaws.{bytes-length, bytes-more, wells-at}
 
@@ -55,6 +55,23 @@ minus-in-range (b ∷ s) v e = go (leb 49 b && leb b 57) e
     go true q = negative-in-range (digitsOf (b - 48) s) v q
     go false q = absurd (Option·none-ne-some v q)
 
+patterned-in-range : (f : Field) (v : Value) → patterned f ≡ some v → InRange v
+unfolding patterned
+patterned-in-range (Number n) v e =
+    let t : (4 + 256 * n) % 256 ≡ 4 = omega arith in
+    let b : (4 + 256 * n) / 256 ≡ n = omega arith in
+    value-in-range (4 + 256 * n) v (tag-four (4 + 256 * n) t ∙ ap floatOf b ∙ e)
+patterned-in-range Malformed v e = absurd (Option·none-ne-some v e)
+
+real-in-range : (s : List ℕ) (v : Value) → behindR s ≡ some v → InRange v
+unfolding behindR
+real-in-range [] v e = absurd (Option·none-ne-some v e)
+real-in-range (b ∷ s) v e = go (eqb b 32) e
+  where
+    go : (x : Bool) → cond x none (patterned (fieldOf (b ∷ s))) ≡ some v → InRange v
+    go true q = absurd (Option·none-ne-some v q)
+    go false q = patterned-in-range (fieldOf (b ∷ s)) v q
+
 alone-in-range : (s : List ℕ) (u v : Value) → InRange u → alone s u ≡ some v → InRange v
 unfolding alone
 alone-in-range [] u v i e = subst InRange (Option·some-injective u v e) i
@@ -63,22 +80,23 @@ alone-in-range (b ∷ s) u v i e = absurd (Option·none-ne-some v e)
 field-in-range : (s : List ℕ) (v : Value) → fieldValue s ≡ some v → InRange v
 unfolding fieldValue
 field-in-range [] v e = absurd (Option·none-ne-some v e)
-field-in-range (b ∷ s) v e = go (λ q. field-in-range s v q) (eqb b 32) (eqb b 84) (eqb b 70) (eqb b 69) (eqb b 90) (eqb b 86) (eqb b 45) e
+field-in-range (b ∷ s) v e = go (λ q. field-in-range s v q) (eqb b 32) (eqb b 84) (eqb b 70) (eqb b 69) (eqb b 90) (eqb b 86) (eqb b 82) (eqb b 45) e
   where
-    go : (fieldValue s ≡ some v → InRange v) → (space t f e z o minus : Bool)
+    go : (fieldValue s ≡ some v → InRange v) → (space t f e z o r minus : Bool)
         → cond space (fieldValue s)
         (cond t (alone s (Truth true)) (cond f (alone s (Truth false))
         (cond e (alone s (Err Other)) (cond z (alone s (Err ZeroDivisor)) (cond o (alone s (Err OutOfRange))
-        (cond minus (behindMinus s) (positive (fieldOf (b ∷ s))))))))) ≡ some v
+        (cond r (behindR s) (cond minus (behindMinus s) (positive (fieldOf (b ∷ s)))))))))) ≡ some v
         → InRange v
-    go later true t f e z o m q = later q
-    go later false true f e z o m q = alone-in-range s (Truth true) v tt q
-    go later false false true e z o m q = alone-in-range s (Truth false) v tt q
-    go later false false false true z o m q = alone-in-range s (Err Other) v tt q
-    go later false false false false true o m q = alone-in-range s (Err ZeroDivisor) v tt q
-    go later false false false false false true m q = alone-in-range s (Err OutOfRange) v tt q
-    go later false false false false false false true q = minus-in-range s v q
-    go later false false false false false false false q = positive-in-range (fieldOf (b ∷ s)) v q
+    go later true t f e z o r m q = later q
+    go later false true f e z o r m q = alone-in-range s (Truth true) v tt q
+    go later false false true e z o r m q = alone-in-range s (Truth false) v tt q
+    go later false false false true z o r m q = alone-in-range s (Err Other) v tt q
+    go later false false false false true o r m q = alone-in-range s (Err ZeroDivisor) v tt q
+    go later false false false false false true r m q = alone-in-range s (Err OutOfRange) v tt q
+    go later false false false false false false true m q = real-in-range s v q
+    go later false false false false false false false true q = minus-in-range s v q
+    go later false false false false false false false false q = positive-in-range (fieldOf (b ∷ s)) v q
 
 -- A field's word is its value's, and that of no value where it has none.
 pub field-word : (s : List ℕ) → valueOf (wordBy (fieldValue s)) ≡ fieldValue s

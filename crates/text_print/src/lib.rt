@@ -4,13 +4,14 @@ use text::NUMBER_FIELD;
 use text::VALUE_BYTES;
 use text::VALUE_FIELD;
 use value::bytes::OUT_OF_RANGE;
+use value::bytes::REAL_LETTER;
 use value::bytes::ZERO_DIVISOR;
 ghost use mathlib.Core.Path.{_≡_};
-ghost use Prim.Native.Nat.{_+_, _*_, _≤_, _<_};
+ghost use Prim.Native.Nat.{_+_, _*_, _%_, _≤_, _<_};
 ghost use lib.ListN.{length, replicate};
 ghost use lib.Seq.{sets};
 ghost use Rattle.value.specs.Bytes.{wholeOf, truthOf};
-ghost use Rattle.text.specs.Printed.{led as ledOf, shown, numberField, letterField, optionField, wordField, resultFields, resultLine, headLine, refusalLine};
+ghost use Rattle.text.specs.Printed.{led as ledOf, shown, numberField, letterField, optionField, wordField, resultLine, headLine, refusalLine};
 
 // The numbers of 32 bits in two's complement: those from 2^31 on stand for the number less 2^32.
 const FIRST_NEGATIVE: u64 = 2147483648;
@@ -31,6 +32,8 @@ const WHOLE: u64 = 1;
 
 const TRUTH: u64 = 2;
 
+const REAL: u64 = 4;
+
 fn spaces(part: &mut [u8])
     ensures { λ _. ⌜ now (part .exit) ≡ replicate (length (now (part .entry))) 32 ⌝ }
 {
@@ -41,22 +44,20 @@ fn spaces(part: &mut [u8])
     }
 }
 
-// Spaces, and a "-" behind them for a negative number.
-fn lead(part: &mut [u8], minus: bool)
-    ensures { λ _. ⌜ now (part .exit) ≡ ledOf minus (length (now (part .entry))) ⌝ }
+// Spaces, and last the character before a number.
+fn lead(part: &mut [u8], before: u8)
+    ensures { λ _. ⌜ now (part .exit) ≡ ledOf before (length (now (part .entry))) ⌝ }
 {
     spaces(part);
-    if minus {
-        if 0 < part.len() {
-            let last = part.len() - 1;
-            part[last] = b'-';
-        }
+    if 0 < part.len() {
+        let last = part.len() - 1;
+        part[last] = before;
     }
 }
 
-// A number right-justified in the whole of a field.
-fn show(field: &mut [u8], minus: bool, n: u64)
-    ensures { λ _. ⌜ now (field .exit) ≡ shown minus (length (now (field .entry))) n ⌝ }
+// A number right-justified in the whole of a field, behind a space, "-" or R.
+fn show(field: &mut [u8], before: u8, n: u64)
+    ensures { λ _. ⌜ now (field .exit) ≡ shown before (length (now (field .entry))) n ⌝ }
 {
     let mut i = field.len();
     let mut rest = n;
@@ -64,7 +65,7 @@ fn show(field: &mut [u8], minus: bool, n: u64)
         i -= 1;
         field[i] = b'0' + (rest % 10) as u8;
         if rest < 10 {
-            lead(&mut field[..i], minus);
+            lead(&mut field[..i], before);
             return;
         }
         rest /= 10;
@@ -77,7 +78,7 @@ pub fn put_number(out: &mut [u8], at: usize, n: u32)
     ensures { λ _. ⌜ now (out .exit) ≡ sets (now (out .entry)) at (numberField n) ⌝ }
 {
     let end = at + NUMBER_FIELD;
-    show(&mut out[at..end], false, n as u64);
+    show(&mut out[at..end], b' ', n as u64);
 }
 
 // A letter in eleven characters.
@@ -97,11 +98,11 @@ fn put_whole(out: &mut [u8], at: usize, bits: u64)
 {
     let end = at + VALUE_FIELD;
     if bits < FIRST_NEGATIVE {
-        show(&mut out[at..end], false, bits);
+        show(&mut out[at..end], b' ', bits);
         return;
     }
     if bits < WRAP {
-        show(&mut out[at..end], true, WRAP - bits);
+        show(&mut out[at..end], b'-', WRAP - bits);
         return;
     }
     put_letter(out, at, b'E');
@@ -122,6 +123,19 @@ fn put_truth(out: &mut [u8], at: usize, bits: u64)
     put_letter(out, at, b'E');
 }
 
+// The value of a float's word: its pattern.
+fn put_real(out: &mut [u8], at: usize, word: u64)
+    requires { ⌜ (at + 11 ≤ length (now out)) × (word % 256 ≡ 4) ⌝ }
+    ensures { λ _. ⌜ now (out .exit) ≡ sets (now (out .entry)) at (wordField word) ⌝ }
+{
+    if value::bytes::is_value(word) {
+        let end = at + VALUE_FIELD;
+        show(&mut out[at..end], REAL_LETTER, word / 256);
+        return;
+    }
+    put_letter(out, at, b'E');
+}
+
 // The value of a word in eleven characters.
 pub fn put_value(out: &mut [u8], at: usize, word: u64)
     requires { ⌜ at + 11 ≤ length (now out) ⌝ }
@@ -135,6 +149,10 @@ pub fn put_value(out: &mut [u8], at: usize, word: u64)
     }
     if tag == TRUTH {
         put_truth(out, at, bits);
+        return;
+    }
+    if tag == REAL {
+        put_real(out, at, word);
         return;
     }
     if word == ZERO_DIVISOR {

@@ -5,8 +5,10 @@ use text::VALUE_FIELD;
 use value::bytes::ERR;
 use value::bytes::FALSE;
 use value::bytes::OUT_OF_RANGE;
+use value::bytes::REAL_LETTER;
 use value::bytes::TRUE;
 use value::bytes::ZERO_DIVISOR;
+use value::bytes::token_word;
 ghost use mathlib.Core.Path.{_≡_};
 ghost use mathlib.Core.Bool.{Bool};
 ghost use Prim.Native.Nat.{_+_, _-_, _≤_, _<_};
@@ -14,20 +16,21 @@ ghost use lib.ListN.{length, getD};
 ghost use lib.Seq.{slice};
 ghost use lib.Dec.{eqb};
 ghost use Rattle.value.specs.Operators.{pick};
-ghost use Rattle.formula.specs.Sheet.{digitsOf};
-ghost use Rattle.text.specs.Fields.{asField, wordBy, positive as positiveOf, negative as negativeOf, behindMinus, fieldValue};
+ghost use Rattle.formula.specs.Sheet.{digitsOf, fieldOf};
+ghost use Rattle.text.specs.Fields.{asField, wordBy, positive as positiveOf, negative as negativeOf, behindMinus, patterned, behindR, fieldValue};
 
-// "-2,147,483,648 to 2,147,483,647", as distances from 0, and what a number below 0 is added to in two's complement.
+// "-2,147,483,648 to 2,147,483,647", as distances from 0.
 const GREATEST: u64 = 2147483647;
 
 const LEAST: u64 = 2147483648;
 
-const WRAP: u64 = 4294967296;
+// How many patterns 32 bits have, which a number below 0 is added to in two's complement, and the tag of a float's word.
+const PATTERNS: u64 = 4294967296;
 
-// The words of no value and of the number 0; those of the letters' values are the byte form's own.
+const REAL: u64 = 4;
+
+// The word of no value; those of the letters' values are the byte form's own.
 const NO_VALUE: u64 = 0;
-
-const ZERO: u64 = 1;
 
 fn digit(b: u8) -> u64
     requires { ⌜ 48 ≤ b ⌝ }
@@ -82,7 +85,7 @@ fn negative(d: Digits) -> u64
                 return NO_VALUE;
             }
             if n <= LEAST {
-                return 1 + 256 * (WRAP - n);
+                return 1 + 256 * (PATTERNS - n);
             }
             NO_VALUE
         }
@@ -105,6 +108,55 @@ fn behind_minus(s: &[u8], i: usize, end: usize) -> u64
         return NO_VALUE;
     }
     negative(digits(s, i + 1, end, digit(b)))
+}
+
+// The word of the float of a pattern.
+fn real(d: Digits) -> u64
+    ensures { λ r. ⌜ r ≡ wordBy (patterned (asField d)) ⌝ }
+{
+    match d {
+        Digits::Count(n) => {
+            if n < PATTERNS {
+                return token_word(REAL + 256 * n);
+            }
+            NO_VALUE
+        }
+        Digits::Broken => NO_VALUE,
+    }
+}
+
+// A number as in the sheet, behind its spaces.
+fn number(s: &[u8], i: usize, end: usize) -> Digits
+    requires { ⌜ (i < end) × (end ≤ length (now s)) × (end - i ≤ 11) × (getD (now s) i 0 ≡ 32 → ⊥) ⌝ }
+    ensures { λ r. ⌜ asField r ≡ fieldOf (slice i end (now (s .entry))) ⌝ }
+{
+    let b = s[i];
+    if b == b'0' {
+        if i + 1 == end {
+            return Digits::Count(0);
+        }
+        return Digits::Broken;
+    }
+    if b < b'0' {
+        return Digits::Broken;
+    }
+    if b'9' < b {
+        return Digits::Broken;
+    }
+    digits(s, i + 1, end, digit(b))
+}
+
+fn behind_r(s: &[u8], i: usize, end: usize) -> u64
+    requires { ⌜ (i ≤ end) × (end ≤ length (now s)) × (end - i ≤ 10) ⌝ }
+    ensures { λ r. ⌜ r ≡ wordBy (behindR (slice i end (now (s .entry)))) ⌝ }
+{
+    if i == end {
+        return NO_VALUE;
+    }
+    if s[i] == b' ' {
+        return NO_VALUE;
+    }
+    real(number(s, i, end))
 }
 
 fn alone(i: usize, end: usize, word: u64) -> u64
@@ -134,19 +186,13 @@ fn unspaced(s: &[u8], i: usize, end: usize) -> u64
     if b == b'V' {
         return alone(i + 1, end, OUT_OF_RANGE);
     }
+    if b == REAL_LETTER {
+        return behind_r(s, i + 1, end);
+    }
     if b == b'-' {
         return behind_minus(s, i + 1, end);
     }
-    if b == b'0' {
-        return alone(i + 1, end, ZERO);
-    }
-    if b < b'0' {
-        return NO_VALUE;
-    }
-    if b'9' < b {
-        return NO_VALUE;
-    }
-    positive(digits(s, i + 1, end, digit(b)))
+    positive(number(s, i, end))
 }
 
 // The field whose eleven characters start at `at`.

@@ -4,12 +4,12 @@ use Prim.Native.Nat.{ℕ}
 use mathlib.Core.Path.{_≡_, refl, sym, ap}
 use mathlib.Core.Logic.{_⊎_}
 use mathlib.Core.Bool.{true, false, false≢true}
-use mathlib.Core.List.{[]}
+use mathlib.Core.List.{[], _∷_}
 use mathlib.Core.Option.{Option, none, some}
 use Rattle.value.specs.declared.Value.{Value}
 use Rattle.value.specs.declared.ValueKind.{ValueKind}
 use Rattle.value.specs.declared.ValueKind.the-variants.{Whole as whole-kind, Truth as truth-kind}
-use Rattle.value.specs.Kinds.{suits, wants, given}
+use Rattle.value.specs.Kinds.{suits, wanted, given}
 use Rattle.network.specs.Values.{true-value, err-value, one-operand}
 use Rattle.network.specs.Rules.{Kind, constant, copy, operator, T-gate, F-gate, M-gate, E-gate, IC-gate, FM-gate, FS-gate, Register}
 use Rattle.network.specs.Fill.{Ports}
@@ -88,13 +88,16 @@ Merges s = Truthlike (s .in1) × Onto (s .in2) (s .out1) × Onto (s .in3) (s .ou
 abbrev pub Third : Sides → Type 0
 Third s = Onto truths (s .out3) ⊎ (Under (s .in2) only-true × Under (s .in3) only-true × Onto only-err (s .out3))
 
+-- "Operators .. must get the kinds they want": operands of one kind, which the operator takes, and the kind that it gives on them.
+abbrev pub Operates : ℕ → ValueKind → Sides → Type 0
+Operates code k s =
+    (wanted code (k ∷ []) ≡ true) × Under (s .in1) (of-kind k) × (one-operand code ≡ false → Under (s .in2) (of-kind k)) × Onto (of-kind (given code (k ∷ []))) (s .out1)
+
 -- The claims that the firings of a kind keep.
 abbrev pub Fits : Kind → Sides → Type 0
 Fits constant s = Given (s .out1) (s .held)
 Fits copy s = Onto (s .in1) (s .out1) × Onto (s .in1) (s .out2)
--- "Operators .. must get the kinds they want"
-Fits (operator code) s =
-    Under (s .in1) (of-kind (wants code)) × (one-operand code ≡ false → Under (s .in2) (of-kind (wants code))) × Onto (of-kind (given code [])) (s .out1)
+Fits (operator code) s = (k : ValueKind) × Operates code k s
 Fits T-gate s = Truthlike (s .in1) × Onto (s .in2) (s .out1)
 Fits F-gate s = Truthlike (s .in1) × Onto (s .in2) (s .out1)
 Fits M-gate s = Merges s

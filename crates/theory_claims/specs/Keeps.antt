@@ -1,6 +1,7 @@
 -- "no err comes from a wrong kind or a test that is neither truth nor err" (document 02, Job 6), for the machine: where every waiting token meets
 -- its link's claim, a firing of an operator whose links have claims that fit its gate leaves it so (`firing-keeps`), and every token that waits
--- on an operand or a control is of the kind wanted there or an err (`no-wrong-kind`). So it stays through firings in any order, whether a set
+-- on an operand or a control is of the kind wanted there or an err (`no-wrong-kind`), an operator's operands both of one kind that follows from
+-- the claims alone (`operandKind`). So it stays through firings in any order, whether a set
 -- ever ends or not. A register is a link here too; the mark of one that has never fired counts as err.
 use Prim.Native.Nat.{ℕ, _<_}
 use mathlib.Core.Path.{_≡_, refl, sym, ap, subst}
@@ -17,12 +18,12 @@ use Rattle.value.specs.declared.Sense.the-variants.{True, False, Neither}
 use Rattle.value.specs.declared.ValueKind.{ValueKind}
 use Rattle.value.specs.declared.ValueKind.the-variants.{Truth as truth-kind}
 use Rattle.value.specs.Senses.{sense}
-use Rattle.value.specs.Kinds.{suits, wants, gives-its-kind}
+use Rattle.value.specs.Kinds.{suits, wanted, gives-its-kind}
 use Rattle.network.specs.Values.{err-value, one-operand, apply}
 use Rattle.network.specs.Rules.{Kind, constant, copy, operator, T-gate, F-gate, M-gate, E-gate, IC-gate, FM-gate, FS-gate, Register, Firing, takes, gives, never, T-rule, F-rule, M-rule, E-rule, chosen, as-truth, IC-table, fired, FS-rule, operator-rule, rule}
 use Rattle.network.specs.Net.{Token, val, mark, Links, head, tail, pop, append, Able, appends, act}
 use Rattle.network.specs.Fill.{Ports, input, value-of, register-of, register-token, emission, emissions, wire, remembering, kept, filled, fill}
-use Rattle.theory_claims.specs.Claims.{Claim, of-kind, only-err, Meets, Under, truths, err-only, Given, Onto, Merges, Third, Fits, Claims, claimed, sides}
+use Rattle.theory_claims.specs.Claims.{Claim, of-kind, only-err, Meets, Under, truths, err-only, Sides, Given, Onto, Merges, Third, Fits, Claims, claimed, sides}
 
 -- ---- tokens
 
@@ -165,9 +166,14 @@ module _ (K : Claims) where
     FS-safe r False t m = λ v n. passing true v (some v) (onto-given (K (p .in2)) (claimed K (p .out1)) v (t .1) n) (t .2 v n)
     FS-safe r Neither t m = λ v n. passing true v (some v) (onto-given (K (p .in2)) (claimed K (p .out1)) v (t .1) n) (t .2 v n)
 
-    operator-safe : (b : Bool) (code : ℕ) (g : Register) (a : Value) → Fits (operator code) (sides K p) → Safe false (operator-rule b code g a)
-    operator-safe true code g a t = passing false (apply code a err-value) g (onto-given _ (claimed K (p .out1)) _ (t .2) (gives-its-kind code [] a err-value)) tt
-    operator-safe false code g a t = λ b m. passing false (apply code a b) g (onto-given _ (claimed K (p .out1)) _ (t .2) (gives-its-kind code [] a b)) tt
+    operator-safe : (b : Bool) (code : ℕ) (g : Register) (a : Value) → one-operand code ≡ b → Fits (operator code) (sides K p) → Meets (K (p .in1)) a
+        → Safe false (operator-rule b code g a)
+    operator-safe true code g a e t m =
+        passing false (apply code a err-value) g
+        (onto-given _ (claimed K (p .out1)) _ (t .1 .3) (gives-its-kind code (t .0) a err-value (t .1 .1 a m) refl)) tt
+    operator-safe false code g a e t m = λ b n.
+        passing false (apply code a b) g
+        (onto-given _ (claimed K (p .out1)) _ (t .1 .3) (gives-its-kind code (t .0) a b (t .1 .1 a m) (t .1 .2 e b n))) tt
 
     -- The third output of IC has a token only where a truth or err may stand on it, or where the chosen iter? is not true.
     abbrev Unless : Bool → Type 0
@@ -212,7 +218,7 @@ module _ (K : Claims) where
     rule-safe constant (some v) t e r = λ c m. passing false v (some v) (subst (Given (claimed K (p .out1))) (e refl) t) tt
     rule-safe copy g t e r =
         λ v m. (onto-given (K (p .in1)) (claimed K (p .out1)) v (t .0) m, onto-given (K (p .in1)) (claimed K (p .out2)) v (t .1) m, absent-given (claimed K (p .out3)), tt)
-    rule-safe (operator code) g t e r = λ a m. operator-safe (one-operand code) code g a t
+    rule-safe (operator code) g t e r = λ a m. operator-safe (one-operand code) code g a refl t m
     rule-safe T-gate g t e r = λ c m. T-safe g (sense c) (t .1)
     rule-safe F-gate g t e r = λ c m. F-safe g (sense c) (t .1)
     rule-safe M-gate g t e r = λ c m. M-safe false g (sense c) t tt
@@ -242,30 +248,69 @@ module _ (K : Claims) where
 
 -- ---- no wrong kind
 
--- Every token that waits on an operand is of the kind that the operator wants, or an err; every one on a control, or on an iter? of IC, is a truth
+-- The kind of operands that an operator takes. At a gate it means nothing, and every kind may stand for it.
+abbrev pub Takes : Kind → ValueKind → Type 0
+Takes constant k = Unit {0}
+Takes copy k = Unit {0}
+Takes (operator code) k = wanted code (k ∷ []) ≡ true
+Takes T-gate k = Unit {0}
+Takes F-gate k = Unit {0}
+Takes M-gate k = Unit {0}
+Takes E-gate k = Unit {0}
+Takes IC-gate k = Unit {0}
+Takes FM-gate k = Unit {0}
+Takes FS-gate k = Unit {0}
+
+-- Every token that waits on an operand is of kind k or an err, on both operands of the same; every one on a control, or on an iter? of IC, is a truth
 -- or an err.
-abbrev pub Wanted : Kind → Ports → Links → Type 0
-Wanted constant p q = Unit {0}
-Wanted copy p q = Unit {0}
-Wanted (operator code) p q =
-    Waiting (λ v. suits (wants code) v ≡ true) (q (p .in1)) × (one-operand code ≡ false → Waiting (λ v. suits (wants code) v ≡ true) (q (p .in2)))
-Wanted T-gate p q = Waiting (λ v. suits truth-kind v ≡ true) (q (p .in1))
-Wanted F-gate p q = Waiting (λ v. suits truth-kind v ≡ true) (q (p .in1))
-Wanted M-gate p q = Waiting (λ v. suits truth-kind v ≡ true) (q (p .in1))
-Wanted E-gate p q = Waiting (λ v. suits truth-kind v ≡ true) (q (p .in1))
-Wanted IC-gate p q =
+abbrev pub Wanted : Kind → ValueKind → Ports → Links → Type 0
+Wanted constant k p q = Unit {0}
+Wanted copy k p q = Unit {0}
+Wanted (operator code) k p q =
+    Waiting (λ v. suits k v ≡ true) (q (p .in1)) × (one-operand code ≡ false → Waiting (λ v. suits k v ≡ true) (q (p .in2)))
+Wanted T-gate k p q = Waiting (λ v. suits truth-kind v ≡ true) (q (p .in1))
+Wanted F-gate k p q = Waiting (λ v. suits truth-kind v ≡ true) (q (p .in1))
+Wanted M-gate k p q = Waiting (λ v. suits truth-kind v ≡ true) (q (p .in1))
+Wanted E-gate k p q = Waiting (λ v. suits truth-kind v ≡ true) (q (p .in1))
+Wanted IC-gate k p q =
     Waiting (λ v. suits truth-kind v ≡ true) (q (p .in1)) × Waiting (λ v. suits truth-kind v ≡ true) (q (p .in2)) × Waiting (λ v. suits truth-kind v ≡ true) (q (p .in3))
-Wanted FM-gate p q = Waiting (λ v. suits truth-kind v ≡ true) (q (p .in1))
-Wanted FS-gate p q = Waiting (λ v. suits truth-kind v ≡ true) (q (p .in1))
+Wanted FM-gate k p q = Waiting (λ v. suits truth-kind v ≡ true) (q (p .in1))
+Wanted FS-gate k p q = Waiting (λ v. suits truth-kind v ≡ true) (q (p .in1))
+
+module _ (s : Sides) where
+  -- The kind of an operator's operands, by the claims of its links alone.
+  abbrev pub operandKind : (g : Kind) → Fits g s → ValueKind
+  operandKind constant t = truth-kind
+  operandKind copy t = truth-kind
+  operandKind (operator code) t = t .0
+  operandKind T-gate t = truth-kind
+  operandKind F-gate t = truth-kind
+  operandKind M-gate t = truth-kind
+  operandKind E-gate t = truth-kind
+  operandKind IC-gate t = truth-kind
+  operandKind FM-gate t = truth-kind
+  operandKind FS-gate t = truth-kind
+
+  pub operand-kind-taken : (g : Kind) (t : Fits g s) → Takes g (operandKind g t)
+  operand-kind-taken constant t = tt
+  operand-kind-taken copy t = tt
+  operand-kind-taken (operator code) t = t .1 .0
+  operand-kind-taken T-gate t = tt
+  operand-kind-taken F-gate t = tt
+  operand-kind-taken M-gate t = tt
+  operand-kind-taken E-gate t = tt
+  operand-kind-taken IC-gate t = tt
+  operand-kind-taken FM-gate t = tt
+  operand-kind-taken FS-gate t = tt
 
 module _ (K : Claims) (q : Links) (h : Clean K q) where
   wanting : (k : ValueKind) (l : ℕ) → Under (K l) (of-kind k) → Waiting (λ v. suits k v ≡ true) (q l)
   wanting k l u = waiting-under (Meets (K l)) (λ v. suits k v ≡ true) (q l) u (h l)
 
-  pub no-wrong-kind : (k : Kind) (p : Ports) → Fits k (sides K p) → Wanted k p q
+  pub no-wrong-kind : (g : Kind) (p : Ports) (t : Fits g (sides K p)) → Wanted g (operandKind (sides K p) g t) p q
   no-wrong-kind constant p t = tt
   no-wrong-kind copy p t = tt
-  no-wrong-kind (operator code) p t = (wanting (wants code) (p .in1) (t .0), λ e. wanting (wants code) (p .in2) (t .1 e))
+  no-wrong-kind (operator code) p t = (wanting (t .0) (p .in1) (t .1 .1), λ e. wanting (t .0) (p .in2) (t .1 .2 e))
   no-wrong-kind T-gate p t = wanting truth-kind (p .in1) (t .0)
   no-wrong-kind F-gate p t = wanting truth-kind (p .in1) (t .0)
   no-wrong-kind M-gate p t = wanting truth-kind (p .in1) (t .0)

@@ -180,10 +180,10 @@ module _ (p : ℕ) (S : Telling) (ins : List ℕ) (is : List Claim) (n : ℕ) (o
   unfolding gateOf gateInputs gateOutputs operands
   gate-typed (const v) o t = let z : links S n ≡ at os 0 = start (o 0 (omega arith)) in rw z (t .2)
   gate-typed (oper k) o t =
-      let z : links S n ≡ at os 0 = start (o 0 (omega arith)) in (
-        rw (first (one-operand k) (t .0)) (t .2 .0),
-        (λ e. rw (second (one-operand k) e (t .0)) (t .2 .1 e)),
-        rw z (t .2 .2),
+      let z : links S n ≡ at os 0 = start (o 0 (omega arith)) in
+      let f = t .2 .1 in (
+        t .2 .0,
+        (f .0, rw (first (one-operand k) (t .0)) (f .1), (λ e. rw (second (one-operand k) e (t .0)) (f .2 e)), rw z (f .3)),
       )
     where
       first : (b : Bool) → length is ≡ pick b 1 2 → links S (link-of (nth ins 0)) ≡ at is 0

@@ -1,7 +1,8 @@
 -- "In a passed sheet, given inputs of their kinds or errs, no err comes from a wrong kind or a test that is neither truth nor err" (document 02,
 -- Job 6), for the machine of a formula and every list of calls (theory_verdicts/specs/Running), refused calls included: after it every token that
--- waits on an operand is of the kind wanted there or an err, and every one on a control is a truth or err. So no firing ever computes on a wrong
--- kind, also for sets that never end. And each result taken is of the kinds of the formula's values or errs. Assumes claims as MadeClaims.antt has
+-- waits on an operand is of the kind wanted there or an err, and every one on a control is a truth or err. The two operands of an operator have one
+-- kind, the same at every capacity and after every list of calls. So no firing ever computes on a wrong kind, also for sets that never end. And each
+-- result taken is of the kinds of the formula's values or errs. Assumes claims as MadeClaims.antt has
 -- them.
 use Prim.Native.Nat.{ℕ, zero, suc, _<_, _≤_, _+_, _-_}
 use mathlib.Core.Path.{_≡_, refl, sym, _∙_, ap, subst}
@@ -37,8 +38,8 @@ use Rattle.theory_wiring.specs.MadeGraph.{trigger-link, port-count, pushLinks}
 use Rattle.theory_verdicts.specs.Owed.{creditLink}
 use Rattle.theory_verdicts.specs.Running.{places, withTrigger, pushOf, takeOf, startOf, Call, afterSteps, handed, history, standing, pushed, taken}
 use Rattle.theory_verdicts.specs.RunningLaws.{Made-in-turn, calls-made, Whole-sets, calls-whole}
-use Rattle.theory_claims.specs.Claims.{Claim, Meets, Fits, Claims, sides}
-use Rattle.theory_claims.specs.Keeps.{Waiting, waiting-head, Clean, pop-keeps, Fine, appends-keep, firing-keeps, Wanted, no-wrong-kind}
+use Rattle.theory_claims.specs.Claims.{Claim, Meets, Sides, Fits, Claims, sides}
+use Rattle.theory_claims.specs.Keeps.{Waiting, waiting-head, Clean, pop-keeps, Fine, appends-keep, firing-keeps, Takes, Wanted, operandKind, operand-kind-taken, no-wrong-kind}
 use Rattle.theory_claims.specs.MadeClaims.{Kinds-at, Claimed}
 
 -- ---- sets and results
@@ -62,6 +63,13 @@ Tokens-of-kinds (t ∷ ts) (k ∷ ks) = (suits k (value-of t) ≡ true) × Token
 abbrev pub Results-of-kinds : List (List Token) → List ValueKind → Type 0
 Results-of-kinds [] ks = Unit {0}
 Results-of-kinds (r ∷ rs) ks = Tokens-of-kinds r ks × Results-of-kinds rs ks
+
+-- Operator o has one kind of operands, which it takes, such that at any capacity, after any list of calls with good sets, no token of another kind
+-- waits on them, nor one that is no truth on a control.
+abbrev pub Of-one-kind : Exp → (List (List Value) → Type 0) → Operator → Type 0
+Of-one-kind x Good o =
+    (k : ValueKind) × Takes (o .kind) k
+    × ((capacity : ℕ) (calls : List Call) → Good (pushed x capacity calls) → Wanted (o .kind) k (portsOf o) (standing x capacity calls))
 
 -- ---- the parts of a step
 
@@ -118,7 +126,7 @@ registers-behind (o ∷ os) = ((λ e. behind (link-of (o .out1))), registers-beh
 
 -- ---- lists of calls
 
-module _ (x : Exp) (kinds : Kinds) (K : Claims) (H : Claimed x kinds K) (capacity : ℕ) where
+module _ (x : Exp) (kinds : Kinds) (K : Claims) (H : Claimed x kinds K) where
   start-clean : Clean K (startOf x)
   start-clean l = go (on-or-off l (marks os))
     where
@@ -193,14 +201,14 @@ module _ (x : Exp) (kinds : Kinds) (K : Claims) (H : Claimed x kinds K) (capacit
   take-keeps q h = collect-keeps K (madeOf x .results) (λ ts. ask creditLink (λ u. fire [] ts)) (λ ts r i. pop-keeps K r creditLink i) q h
 
   -- Steps that can be made, with sets of their kinds: every waiting token meets its link's claim, every result is of its kinds.
-  steps-keep : (w : List Step) (q : Links) → Made-in-turn x capacity w q → Whole-sets x capacity w → Sets-of-kinds x kinds (sets-of w) → Clean K q
+  steps-keep : (capacity : ℕ) (w : List Step) (q : Links) → Made-in-turn x capacity w q → Whole-sets x capacity w → Sets-of-kinds x kinds (sets-of w) → Clean K q
       → Clean K (afterSteps x w q) × Results-of-kinds (handed x w q) (kindsE x kinds)
-  steps-keep [] q m n s h = (h, tt)
-  steps-keep (pushing v ∷ w) q m n s h = steps-keep w (act (pushOf x v) q) (m .1) (n .1) (s .1) (push-keeps v q (n .0) (s .0) h)
-  steps-keep (firing a ∷ w) q m n s h =
-      steps-keep w (act (netOf (madeOf x .operators) a) q) (m .1) n s (net-keeps K (places capacity) (madeOf x .operators) (H .operators) a q (m .0) h)
-  steps-keep (taking ∷ w) q m n s h =
-      let rest = steps-keep w (act (takeOf x) q) (m .1) n s (take-keeps q h) in (
+  steps-keep capacity [] q m n s h = (h, tt)
+  steps-keep capacity (pushing v ∷ w) q m n s h = steps-keep capacity w (act (pushOf x v) q) (m .1) (n .1) (s .1) (push-keeps v q (n .0) (s .0) h)
+  steps-keep capacity (firing a ∷ w) q m n s h =
+      steps-keep capacity w (act (netOf (madeOf x .operators) a) q) (m .1) n s (net-keeps K (places capacity) (madeOf x .operators) (H .operators) a q (m .0) h)
+  steps-keep capacity (taking ∷ w) q m n s h =
+      let rest = steps-keep capacity w (act (takeOf x) q) (m .1) n s (take-keeps q h) in (
         rest .0,
         (
           collect-hands K (places capacity) (madeOf x .results) (kindsE x kinds) (H .results) (λ ts. ask creditLink (λ u. fire [] ts))
@@ -209,13 +217,27 @@ module _ (x : Exp) (kinds : Kinds) (K : Claims) (H : Claimed x kinds K) (capacit
         ),
       )
 
-  each-wanted : (q : Links) → Clean K q → (os : List Operator) → Each (λ o. Fits (o .kind) (sides K (portsOf o))) os → Each (λ o. Wanted (o .kind) (portsOf o) q) os
-  each-wanted q h [] f = tt
-  each-wanted q h (o ∷ os) f = (no-wrong-kind K q h (o .kind) (portsOf o) (f .0), each-wanted q h os (f .1))
+  calls-keep : (capacity : ℕ) (calls : List Call) → Sets-of-kinds x kinds (pushed x capacity calls)
+      → Clean K (standing x capacity calls) × Results-of-kinds (taken x capacity calls) (kindsE x kinds)
+  calls-keep capacity calls s =
+      steps-keep capacity (history x capacity calls) (startOf x) (calls-made x capacity calls (startOf x)) (calls-whole x capacity calls (startOf x)) s start-clean
 
-  -- NO WRONG KIND after any list of calls, and none in any result taken.
-  pub never-a-wrong-kind : (calls : List Call) → Sets-of-kinds x kinds (pushed x capacity calls)
-      → Each (λ o. Wanted (o .kind) (portsOf o) (standing x capacity calls)) (madeOf x .operators) × Results-of-kinds (taken x capacity calls) (kindsE x kinds)
-  never-a-wrong-kind calls s =
-      let kept = steps-keep (history x capacity calls) (startOf x) (calls-made x capacity calls (startOf x)) (calls-whole x capacity calls (startOf x)) s start-clean in
-      (each-wanted (standing x capacity calls) (kept .0) (madeOf x .operators) (H .operators), kept .1)
+  each-of-one-kind : (os : List Operator) → Each (λ o. Fits (o .kind) (sides K (portsOf o))) os → Each (Of-one-kind x (Sets-of-kinds x kinds)) os
+  each-of-one-kind [] f = tt
+  each-of-one-kind (o ∷ os) f =
+      let s : Sides = sides K (portsOf o) in (
+        (
+          operandKind s (o .kind) (f .0),
+          operand-kind-taken s (o .kind) (f .0),
+          λ capacity calls h. no-wrong-kind K (standing x capacity calls) (calls-keep capacity calls h .0) (o .kind) (portsOf o) (f .0),
+        ),
+        each-of-one-kind os (f .1),
+      )
+
+  -- NO WRONG KIND before any operator, after any list of calls.
+  pub never-a-wrong-kind : Each (Of-one-kind x (Sets-of-kinds x kinds)) (madeOf x .operators)
+  never-a-wrong-kind = each-of-one-kind (madeOf x .operators) (H .operators)
+
+  -- And none in any result taken.
+  pub results-of-kinds : (capacity : ℕ) (calls : List Call) → Sets-of-kinds x kinds (pushed x capacity calls) → Results-of-kinds (taken x capacity calls) (kindsE x kinds)
+  results-of-kinds capacity calls s = calls-keep capacity calls s .1

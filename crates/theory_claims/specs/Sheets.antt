@@ -13,16 +13,16 @@ use Rattle.formula.specs.Free.{freeE}
 use Rattle.formula.specs.Acceptance.{Admissible}
 use Rattle.formula.specs.Kinds.{Kinds, kindsE, kinded}
 use Rattle.formula.specs.Faults.{inputKinds, kindCheck}
+use Rattle.graph.specs.Assembly.{Operator}
 use Rattle.graph.specs.Translation.{portOf, madeOf}
 use Rattle.theory_kinds.specs.Inputs.{Set-suits, sheet-passes-iff}
-use Rattle.theory_reference.specs.Plugged.{nowhere, portsOf, Each}
+use Rattle.theory_reference.specs.Plugged.{nowhere, Each}
 use Rattle.theory_verdicts.specs.Admitting.{accepted-admitted}
-use Rattle.theory_verdicts.specs.Running.{Call, standing, pushed, taken}
+use Rattle.theory_verdicts.specs.Running.{Call, pushed, taken}
 use Rattle.theory_verdicts.specs.Verdicts.{accepted-graph}
 use Rattle.theory_claims.specs.Claims.{Claims}
-use Rattle.theory_claims.specs.Keeps.{Wanted}
 use Rattle.theory_claims.specs.MadeClaims.{Claimed, made-claimed}
-use Rattle.theory_claims.specs.Runs.{Sets-of-kinds, Results-of-kinds, never-a-wrong-kind}
+use Rattle.theory_claims.specs.Runs.{Sets-of-kinds, Results-of-kinds, Of-one-kind, never-a-wrong-kind, results-of-kinds}
 
 -- "inputs of their kinds or errs": the values of each set, by the letters of the line (theory_kinds/specs/Inputs).
 abbrev pub All-suit : List ℕ → List (List Value) → Type 0
@@ -49,9 +49,18 @@ module _ (s line : List ℕ) (h : Admissible s) where
         within : (l : ℕ) → l ≤ 3105 → l ≤ nowhere
         within l p = omega arith
 
-    -- At any capacity, after any list of calls whose pushed sets have values of their kinds or errs: no operator and no gate of the sheet's graph has
-    -- a token of a wrong kind before it, and each value taken is of its result's kind or an err.
-    pub sheet-never-a-wrong-kind : (capacity : ℕ) (calls : List Call) → All-suit line (pushed x capacity calls)
-        → Each (λ o. Wanted (o .kind) (portsOf o) (standing x capacity calls)) (madeOf x .operators) × Results-of-kinds (taken x capacity calls) (kindsE x kinds)
-    sheet-never-a-wrong-kind capacity calls a =
-        never-a-wrong-kind x kinds (sheet-claimed .0) (sheet-claimed .1) capacity calls (sets-of-kinds (pushed x capacity calls) a)
+    -- For each operator of the sheet's graph there is one kind, by sheet and line alone, which it takes, such that at any capacity, after any list of
+    -- calls whose pushed sets have values of their kinds or errs, no token of another kind waits before it; before no gate one of a wrong kind.
+    pub sheet-never-a-wrong-kind : Each (Of-one-kind x (All-suit line)) (madeOf x .operators)
+    sheet-never-a-wrong-kind = each-suited (madeOf x .operators) (never-a-wrong-kind x kinds (sheet-claimed .0) (sheet-claimed .1))
+      where
+        each-suited : (os : List Operator) → Each (Of-one-kind x (Sets-of-kinds x kinds)) os → Each (Of-one-kind x (All-suit line)) os
+        each-suited [] f = tt
+        each-suited (o ∷ os) f =
+            ((f .0 .0, f .0 .1, λ capacity calls a. f .0 .2 capacity calls (sets-of-kinds (pushed x capacity calls) a)), each-suited os (f .1))
+
+    -- Each value taken is of its result's kind or an err.
+    pub sheet-results-of-kinds : (capacity : ℕ) (calls : List Call) → All-suit line (pushed x capacity calls)
+        → Results-of-kinds (taken x capacity calls) (kindsE x kinds)
+    sheet-results-of-kinds capacity calls a =
+        results-of-kinds x kinds (sheet-claimed .0) (sheet-claimed .1) capacity calls (sets-of-kinds (pushed x capacity calls) a)

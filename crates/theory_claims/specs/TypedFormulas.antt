@@ -11,7 +11,7 @@ use native.Mathlib.Omega.{arith}
 use Rattle.value.specs.declared.ValueKind.{ValueKind}
 use Rattle.value.specs.declared.ValueKind.the-variants.{Truth as truth-kind}
 use Rattle.value.specs.declared.Value.the-variants.{Truth}
-use Rattle.value.specs.Kinds.{wants, given}
+use Rattle.value.specs.Kinds.{given, one-kind}
 use Rattle.names.specs.Names.{trigger}
 use Rattle.network.specs.Values.{err-value}
 use Rattle.formula.specs.Constants.{constantValue}
@@ -27,13 +27,13 @@ use Rattle.graph.specs.Fit.{gateInputs}
 use Rattle.graph.specs.Translation.{testName, returnedName, mergeRow, armNames, joined, graphE, graphB}
 use Rattle.meaning.specs.WidthLaws.{operator-fits, let-fits, if-fits, for-fits, let-fits-B, if-fits-B}
 use Rattle.theory_kinds.specs.Kinded.{AllE, AllB}
-use Rattle.theory_kinds.specs.KindLaws.{constant-suited}
+use Rattle.theory_kinds.specs.KindLaws.{given-alike, constant-suited}
 use Rattle.theory_kinds.specs.KindsHold.{operator-rule, if-rule, for-rule, if-rule-B}
 use Rattle.theory_yields.specs.Naming.{within-upFrom}
 use Rattle.theory_yields.specs.BodyWidths.{wide-enough, not-too-wide, returns-some}
 use Rattle.theory_yields.specs.FreeNames.{small-B, free-B}
 use Rattle.theory_yields.specs.FitGraphs.{Returning, arms-returning, let-returning, loop-returning}
-use Rattle.theory_claims.specs.Claims.{Claim, of-kind, Meets, truths, Claims}
+use Rattle.theory_claims.specs.Claims.{Claim, of-kind, Meets, Under, truths, Claims}
 use Rattle.theory_claims.specs.TypedGraphs.{claimsOf, at, Typed}
 use Rattle.theory_claims.specs.Parts.{same-under, claims-nil}
 use Rattle.theory_claims.specs.KindClaims.{claimsFor, length-claims, claims-append, all-under, one-wanted, claims-err, returned-some}
@@ -99,6 +99,9 @@ module _ (t x y : Exp) (kinds : Kinds) (C : Claims) (h : AdmittedE (ifE t x y)) 
 
 -- ---- the tree
 
+some-kinds : (x : Exp) (kinds : Kinds) → AdmittedE x → 1 ≤ length (kindsE x kinds)
+some-kinds x kinds h = rw (kinds-length x kinds) (wide-enough x h)
+
 mutual
   unfolding kindsE iteratedKinds returns graphE graphB gateInputs gateOutputs given bodyClaims returnedBy width
 
@@ -113,10 +116,14 @@ mutual
     typed-E y kinds (h .2) (k .2) C N,
   )
   typed-E (operator c x) kinds h k C N =
-      let want = all-under (wants c) (kindsE x kinds) (operator-rule c x kinds (k .0)) in (
-        claimsFor (kindsE x kinds),
+      let ks : List ValueKind = kindsE x kinds in
+      let kind = one-kind c ks (operator-rule c x kinds (k .0)) in
+      let want = all-under (kind .0) ks (kind .2) in
+      let gives : Under (of-kind (given c (kind .0 ∷ []))) (of-kind (given c ks)) =
+      same-under _ _ (ap of-kind (sym (given-alike c (kind .0) ks (some-kinds x kinds (h .2)) (kind .2)))) in (
+        claimsFor ks,
         typed-E x kinds (h .2) (k .1) C N,
-        (length-claims (kindsE x kinds) ∙ kinds-length x kinds ∙ operator-fits c x (h .0 .0), refl, (want 0, (λ e. want 1), λ v m. m)),
+        (length-claims ks ∙ kinds-length x kinds ∙ operator-fits c x (h .0 .0), refl, (kind .0, (kind .1, want 0, (λ e. want 1), gives))),
       )
   typed-E (letE a b x y) kinds h k C N =
       let ks : List ValueKind = kindsE x kinds in
@@ -159,13 +166,10 @@ mutual
   typed-B w (ret x) kinds h r k C N = (
     truths ∷ [],
     claimsFor (kindsE x kinds),
-    ap (λ (cs : List Claim). truths ∷ cs) (returned-some w (kindsE x kinds) (some-kinds (kinds-length x kinds) (wide-enough x (h .1)))),
+    ap (λ (cs : List Claim). truths ∷ cs) (returned-some w (kindsE x kinds) (some-kinds x kinds (h .1))),
     constant-typed C (Truth false) truths refl,
     typed-E x kinds (h .1) k C N,
   )
-    where
-      some-kinds : {l m : ℕ} → l ≡ m → 1 ≤ m → 1 ≤ l
-      some-kinds e p = omega arith
   typed-B w (iter x) kinds h r k C N = (
     iterFor false ∷ [],
     claimsFor (kindsE x kinds),

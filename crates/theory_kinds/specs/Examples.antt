@@ -1,6 +1,6 @@
 -- By computation: which rows of document 01's examples are at fault with some kinds lines, and where strict evaluation stops. Document 02,
 -- Job 6, takes the set (true, 1) from the lesser-of-two example: strict evaluation stops at it. So the guards and the rule do refuse; and which
--- kinds hold behind a row at fault. Assumes nothing.
+-- kinds hold behind a row at fault. The same with floats, Job 9. Assumes nothing.
 use Prim.Native.Nat.{ℕ, zero, suc}
 use Prim.Native.String.{String}
 use mathlib.Core.Path.{_≡_, refl}
@@ -8,10 +8,12 @@ use mathlib.Core.Bool.{true, false}
 use mathlib.Core.List.{List, [], _∷_}
 use mathlib.Core.Option.{Option, some, none}
 use lib.IntN.{pos}
+use lib.Ieee.{binary32, fits, mul, lt, ofBits}
 use Rattle.value.specs.declared.Value.{Value}
-use Rattle.value.specs.declared.Value.the-variants.{Whole, Truth}
+use Rattle.value.specs.declared.Value.the-variants.{Whole, Truth, Real}
 use Rattle.value.specs.declared.ValueKind.the-variants.{Whole as whole-kind}
 use Rattle.value.specs.Senses.{err}
+use Rattle.value.specs.Constants.{thousandths}
 use Rattle.examples.specs.Sheets.{bytes, lesser, factorial}
 use Rattle.formula.specs.declared.Check.{Check}
 use Rattle.formula.specs.declared.Check.the-variants.{Passed, Fault}
@@ -22,7 +24,7 @@ use Rattle.formula.specs.Free.{freeE}
 use Rattle.formula.specs.Tests.{verdictOf}
 use Rattle.formula.specs.Acceptance.{passed-admissible}
 use Rattle.formula.specs.Kinds.{kindedE, kinded}
-use Rattle.formula.specs.Faults.{lineWell, inputKinds, kindCheck}
+use Rattle.formula.specs.Faults.{lineWell, inputKinds, faultsIn, kindCheck}
 use Rattle.meaning.specs.Meaning.{Outcome, yields, inputsHold, evalE}
 use Rattle.theory_kinds.specs.Strict.{strictE}
 use Rattle.theory_kinds.specs.Inputs.{Set-suits, sheet-kinds-hold}
@@ -98,7 +100,7 @@ number-tested : checked numberTested "W\n" ≡ Fault 4
 unfolding kindCheck kinded inputKinds freeE formulaOf bytes numberTested
 number-tested = refl
 
--- The kinds line: "one letter an input, W or T, and a line feed".
+-- The kinds line: "one letter an input, W or T, and a line feed", "kind letter R".
 line-of-none : lineWell 0 (bytes "\n") ≡ true
 unfolding lineWell bytes
 line-of-none = refl
@@ -110,6 +112,10 @@ line-missing = refl
 line-of-one : lineWell 1 (bytes "T\n") ≡ true
 unfolding lineWell bytes
 line-of-one = refl
+
+line-of-float : lineWell 1 (bytes "R\n") ≡ true
+unfolding lineWell bytes
+line-of-float = refl
 
 line-without-end : lineWell 1 (bytes "W") ≡ false
 unfolding lineWell bytes
@@ -186,3 +192,74 @@ first-round = refl
 second-round-stops : strict turning (number 1 ∷ []) 2 ≡ none
 unfolding strictE inputsHold freeE
 second-round-stops = refl
+
+-- ---- floats: document 02, Job 9
+
+-- All rows at fault.
+abbrev faults : String → String → List ℕ
+faults sheet line =
+    faultsIn kinded (rowCount (bytes sheet)) (fieldsOf (bytes sheet)) false (inputKinds (freeE (formulaOf (bytes sheet))) (bytes line)) (rowCount (bytes sheet))
+
+-- x * 0.5 < 12.25
+unfoldable halved : String
+halved = "     1     0     0     0     0\n    10   500     0     0     0\n     4     1     2     0     0\n     5     3     3     0     0\n    10 12250     0     0     0\n     4     4     5     0     0\n     5     6     6     0     0\n"
+
+halved-passes : checked halved "R\n" ≡ Passed
+unfolding kindCheck kinded inputKinds freeE formulaOf bytes halved
+halved-passes = refl
+
+-- "Whole numbers and floats in one operator are a wrong kind": the multiply, row 4. It goes on as a whole number, which the less, row 7, gets
+-- beside 12.25.
+halved-faults : faults halved "W\n" ≡ 7 ∷ 4 ∷ []
+unfolding faultsIn kinded inputKinds freeE formulaOf bytes halved
+halved-faults = refl
+
+-- (x + 1) + 1, where x is a float: "after any wrong kind a number's kind goes on as W", so the inner add, row 4, alone is at fault.
+unfoldable numberAdded : String
+numberAdded = "     1     0     0     0     0\n     2     1     0     0     0\n     4     1     2     0     0\n     5     1     3     0     0\n     2     1     0     0     0\n     4     4     5     0     0\n     5     1     6     0     0\n"
+
+number-added : faults numberAdded "R\n" ≡ 4 ∷ []
+unfolding faultsIn kinded inputKinds freeE formulaOf bytes numberAdded
+number-added = refl
+
+-- (x + 1) + 0.5: the outer add, row 7, is at fault too.
+unfoldable floatAdded : String
+floatAdded = "     1     0     0     0     0\n     2     1     0     0     0\n     4     1     2     0     0\n     5     1     3     0     0\n    10   500     0     0     0\n     4     4     5     0     0\n     5     1     6     0     0\n"
+
+float-added : faults floatAdded "R\n" ≡ 7 ∷ 4 ∷ []
+unfolding faultsIn kinded inputKinds freeE formulaOf bytes floatAdded
+float-added = refl
+
+-- x % y + 1: remainder, row 4, takes no floats and goes on as a whole number.
+unfoldable remainderTaken : String
+remainderTaken = "     1     0     0     0     0\n     1     1     0     0     0\n     4     1     2     0     0\n     5     5     3     0     0\n     2     1     0     0     0\n     4     4     5     0     0\n     5     1     6     0     0\n"
+
+remainder-of-floats : faults remainderTaken "RR\n" ≡ 4 ∷ []
+unfolding faultsIn kinded inputKinds freeE formulaOf bytes remainderTaken
+remainder-of-floats = refl
+
+remainder-of-numbers : checked remainderTaken "WW\n" ≡ Passed
+unfolding kindCheck kinded inputKinds freeE formulaOf bytes remainderTaken
+remainder-of-numbers = refl
+
+-- The float of a pattern.
+abbrev float : ℕ → Value
+float bits = Real (ofBits binary32 bits)
+
+-- 24 * 0.5 < 12.25, and 24.5 * 0.5 < 12.25
+halved-less : strict (formulaOf (bytes halved)) (float 1103101952 ∷ []) 0 ≡ some (yields (Truth true ∷ []) 0)
+unfolding strictE inputsHold freeE formulaOf bytes halved thousandths ofBits mul lt fits
+halved-less = refl
+
+halved-not-less : strict (formulaOf (bytes halved)) (float 1103364096 ∷ []) 0 ≡ some (yields (Truth false ∷ []) 0)
+unfolding strictE inputsHold freeE formulaOf bytes halved thousandths ofBits mul lt fits
+halved-not-less = refl
+
+-- A float beside a whole number, and a remainder of floats.
+mixed-stops : strict (operator 1 (pair (identifier 0) (constant 2 1))) (float 1103101952 ∷ []) 0 ≡ none
+unfolding strictE inputsHold freeE
+mixed-stops = refl
+
+remainder-stops : strict (formulaOf (bytes remainderTaken)) (float 1103364096 ∷ float 1103101952 ∷ []) 0 ≡ none
+unfolding strictE inputsHold freeE formulaOf bytes remainderTaken
+remainder-stops = refl

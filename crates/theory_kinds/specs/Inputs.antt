@@ -13,7 +13,7 @@ use native.Mathlib.Omega.{arith}
 use native.Mathlib.Decide.{decLt}
 use Rattle.value.specs.declared.Value.{Value}
 use Rattle.value.specs.declared.ValueKind.{ValueKind}
-use Rattle.value.specs.declared.ValueKind.the-variants.{Whole as whole-kind, Truth as truth-kind}
+use Rattle.value.specs.declared.ValueKind.the-variants.{Whole as whole-kind, Truth as truth-kind, Real as real-kind}
 use Rattle.value.specs.Senses.{err}
 use Rattle.value.specs.Kinds.{suits, kindOfLetter}
 use Rattle.value_sets.specs.Sets.{setValues, IsSet, values-set}
@@ -41,6 +41,7 @@ Set-suits line vs = (i : ℕ) → suits (kindOfLetter (getD line i 0)) (getD vs 
 err-suits : (k : ValueKind) → suits k err ≡ true
 err-suits whole-kind = refl
 err-suits truth-kind = refl
+err-suits real-kind = refl
 
 take-short : (n : ℕ) (l : List ℕ) → length (take n l) ≤ n
 take-short zero l = omega arith

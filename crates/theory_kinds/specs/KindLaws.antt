@@ -10,9 +10,10 @@ use native.Mathlib.Omega.{arith}
 use Rattle.value.specs.declared.Value.{Value}
 use Rattle.value.specs.declared.Value.the-variants.{Whole, Truth}
 use Rattle.value.specs.declared.ValueKind.{ValueKind}
-use Rattle.value.specs.declared.ValueKind.the-variants.{Whole as whole-kind, Truth as truth-kind}
+use Rattle.value.specs.declared.ValueKind.the-variants.{Whole as whole-kind, Truth as truth-kind, Real as real-kind}
 use Rattle.value.specs.Senses.{err}
-use Rattle.value.specs.Kinds.{sameKind, suits, allOf}
+use Rattle.value.specs.Constants.{thousandths}
+use Rattle.value.specs.Kinds.{sameKind, suits, allOf, given, given-one}
 use Rattle.names.specs.Names.{range}
 use Rattle.formula.specs.TreeLaws.{and-true}
 use Rattle.formula.specs.Constants.{constantValue}
@@ -24,8 +25,13 @@ use Rattle.meaning.specs.Meaning.{Env, bind}
 pub same-kind : (k l : ValueKind) → sameKind k l ≡ true → k ≡ l
 same-kind whole-kind whole-kind h = refl
 same-kind whole-kind truth-kind h = absurd (false≢true h)
+same-kind whole-kind real-kind h = absurd (false≢true h)
 same-kind truth-kind whole-kind h = absurd (false≢true h)
 same-kind truth-kind truth-kind h = refl
+same-kind truth-kind real-kind h = absurd (false≢true h)
+same-kind real-kind whole-kind h = absurd (false≢true h)
+same-kind real-kind truth-kind h = absurd (false≢true h)
+same-kind real-kind real-kind h = refl
 
 pub same-kinds : (ks ls : List ValueKind) → sameKinds ks ls ≡ true → ks ≡ ls
 same-kinds [] [] h = refl
@@ -34,6 +40,11 @@ same-kinds (k ∷ ks) [] h = absurd (false≢true h)
 same-kinds (k ∷ ks) (l ∷ ls) h =
     let both = and-true (sameKind k l) (sameKinds ks ls) h in
     cc (same-kind k l (both .0), same-kinds ks ls (both .1))
+
+-- What an operator gives on some operands of one kind.
+pub given-alike : (c : ℕ) (k : ValueKind) (ks : List ValueKind) → 1 ≤ length ks → allOf k ks ≡ true → given c ks ≡ given c (k ∷ [])
+given-alike c k [] l h = absurd (omega arith)
+given-alike c k (j ∷ ks) l h = given-one c k j ks h
 
 -- ---- values of given kinds
 
@@ -73,11 +84,13 @@ all-suited w (v ∷ vs) (k ∷ ks) a h zero =
 all-suited w (v ∷ vs) (k ∷ ks) a h (suc j) = all-suited w vs ks (and-true (sameKind w k) (allOf w ks) a .1) (h .1) j
 
 pub constant-suited : (k a : ℕ) → suits (kindOfConstant k) (constantValue k a) ≡ true
-constant-suited k a = go (eqb k 3)
+unfolding thousandths
+constant-suited k a = go (eqb k 3) (eqb k 10)
   where
-    go : (b : Bool) → suits (cond b truth-kind whole-kind) (cond b (Truth (eqb a 1)) (Whole (pos a))) ≡ true
-    go true = refl
-    go false = refl
+    go : (b c : Bool) → suits (cond b truth-kind (cond c real-kind whole-kind)) (cond b (Truth (eqb a 1)) (cond c (thousandths a) (Whole (pos a)))) ≡ true
+    go true c = refl
+    go false true = refl
+    go false false = refl
 
 -- ---- an environment of given kinds
 

@@ -3,20 +3,20 @@
 -- stops and yields what the meaning yields; and each value is of its kind or an err. So it is for every number of rounds, enough or
 -- not. Assumes that every node passes test 8 (SoundE) and keeps the rule of kinds (AllE).
 use Prim.Native.Nat.{ℕ, zero, suc, _≤_}
-use mathlib.Core.Path.{_≡_, refl, sym, subst}
+use mathlib.Core.Path.{_≡_, refl, sym, ap, subst, _∙_}
 use mathlib.Core.Logic.{_⊎_, inl, inr, ⊎-elim}
-use mathlib.Core.Bool.{Bool, true, _&&_}
+use mathlib.Core.Bool.{Bool, true, false, _&&_, _||_}
 use mathlib.Core.List.{List, [], _∷_, _++_}
 use mathlib.Core.Option.{Option, some}
 use lib.ListN.{length, getD, replicate}
 use Rattle.value.specs.declared.Value.{Value}
 use Rattle.value.specs.declared.ValueKind.{ValueKind}
-use Rattle.value.specs.declared.ValueKind.the-variants.{Truth as truth-kind}
+use Rattle.value.specs.declared.ValueKind.the-variants.{Whole as whole-kind, Truth as truth-kind, Real as real-kind}
 use Rattle.value.specs.declared.Sense.{Sense}
 use Rattle.value.specs.declared.Sense.the-variants.{True, False, Neither}
 use Rattle.value.specs.Senses.{err, sense}
 use Rattle.value.specs.Operators.{apply}
-use Rattle.value.specs.Kinds.{suits, wants, allOf, wanted, wantedTest, gives-its-kind}
+use Rattle.value.specs.Kinds.{suits, allOf, wanted, wantedTest, given, one-kind, gives-its-kind}
 use Rattle.formula.specs.Tree.{Exp, identifier, constant, pair, operator, letE, ifE, forE, Body, ret, iter, letB, ifB}
 use Rattle.formula.specs.TreeLaws.{and-true}
 use Rattle.formula.specs.Widths.{width, returned}
@@ -24,14 +24,14 @@ use Rattle.formula.specs.Kinds.{Kinds, bindKinds, eitherKinds, sameKinds, agree
 use Rattle.formula.specs.KindWidths.{kinds-length, returned-length}
 use Rattle.meaning.specs.Meaning.{Env, bind, Outcome, yields, Ending, again, returns, then, thenB, after, enter, loop, branch, evalE, evalB}
 use Rattle.meaning.specs.WidthLaws.{SoundE, SoundB, positive}
-use Rattle.theory_kinds.specs.Strict.{operandsWanted, testWanted, guard, thenS, thenBS, afterS, enterS, loopS, strictE, strictB}
+use Rattle.theory_kinds.specs.Strict.{alike, operandsWanted, testWanted, guard, thenS, thenBS, afterS, enterS, loopS, strictE, strictB}
 use Rattle.theory_kinds.specs.Kinded.{AllE, AllB}
-use Rattle.theory_kinds.specs.KindLaws.{same-kinds, Suited-list, suited-append, errs-suited, all-suited, constant-suited, Env-suits, bound-suits, Some-suited, first-arm, second-arm}
+use Rattle.theory_kinds.specs.KindLaws.{same-kinds, given-alike, Suited-list, suited-append, errs-suited, all-suited, constant-suited, Env-suits, bound-suits, Some-suited, first-arm, second-arm}
 
 -- ---- what the rule says of a node
 
-pub operator-rule : (k : ℕ) (x : Exp) (kinds : Kinds) → kindedE (operator k x) kinds ≡ true → allOf (wants k) (kindsE x kinds) ≡ true
-unfolding kindedE wanted
+pub operator-rule : (k : ℕ) (x : Exp) (kinds : Kinds) → kindedE (operator k x) kinds ≡ true → wanted k (kindsE x kinds) ≡ true
+unfolding kindedE
 operator-rule k x kinds h = h
 
 pub if-rule : (t x y : Exp) (kinds : Kinds) → kindedE (ifE t x y) kinds ≡ true → (allOf truth-kind (kindsE t kinds) ≡ true) × (kindsE x kinds ≡ kindsE y kinds)
@@ -91,8 +91,20 @@ guarded : {A : Type 0} (P : Option A → Type 0) (b : Bool) (p : Option A) → b
 unfolding guard
 guarded P b p e h = rw e h
 
-operands-pass : (k : ℕ) (a b : Value) → suits (wants k) a ≡ true → suits (wants k) b ≡ true → operandsWanted k a b ≡ true
-operands-pass k a b h i = cc (h, i)
+or-true : (t : Bool) → t || true ≡ true
+or-true true = refl
+or-true false = refl
+
+operands-pass : (c : ℕ) (k : ValueKind) → wanted c (k ∷ []) ≡ true → (a b : Value) → suits k a ≡ true → suits k b ≡ true → operandsWanted c a b ≡ true
+operands-pass c whole-kind w a b h i = rw (w, h, i) refl
+operands-pass c truth-kind w a b h i = rw (w, h, i) (or-true (wanted c (whole-kind ∷ []) && alike whole-kind a b))
+operands-pass c real-kind w a b h i =
+    rw (w, h, i, or-true (wanted c (truth-kind ∷ []) && alike truth-kind a b)) (or-true (wanted c (whole-kind ∷ []) && alike whole-kind a b))
+
+-- The answer of an operator on some operands of one kind is of the kind that it gives on them.
+answer-suits : (c : ℕ) (k : ValueKind) (ks : List ValueKind) → 1 ≤ length ks → allOf k ks ≡ true → (a b : Value) → suits k a ≡ true → suits k b ≡ true
+    → suits (given c ks) (apply c a b) ≡ true
+answer-suits c k ks l e a b h i = ap (λ (g : ValueKind). suits g (apply c a b)) (given-alike c k ks l e) ∙ gives-its-kind c k a b h i
 
 test-passes : (v : Value) → suits truth-kind v ≡ true → testWanted v ≡ true
 test-passes v h = cc h
@@ -175,10 +187,11 @@ mutual
       let one : List ValueKind = kindsE (operator k x) kinds in
       then-holds (kindsE x kinds) one (strictE x env l) (evalE x env l) _ _ (kinds-hold x kinds (s .1) (h .1) env e l)
       (λ vs l₁ i.
-      let want = all-suited (wants k) vs (kindsE x kinds) (operator-rule k x kinds (h .0)) i in
+      let kind = one-kind k (kindsE x kinds) (operator-rule k x kinds (h .0)) in
+      let want = all-suited (kind .0) vs (kindsE x kinds) (kind .2) i in
       guarded (λ (p : Option Outcome). Holds one p (yields (apply k (getD vs 0 err) (getD vs 1 err) ∷ []) l₁)) _ _
-      (operands-pass k (getD vs 0 err) (getD vs 1 err) (want 0) (want 1))
-      (refl, (gives-its-kind k (kindsE x kinds) (getD vs 0 err) (getD vs 1 err), tt)))
+      (operands-pass k (kind .0) (kind .1) (getD vs 0 err) (getD vs 1 err) (want 0) (want 1))
+      (refl, (answer-suits k (kind .0) (kindsE x kinds) (some-kinds x kinds (s .1)) (kind .2) (getD vs 0 err) (getD vs 1 err) (want 0) (want 1), tt)))
   kinds-hold (letE a b x y) kinds s h env e l =
       let inner : Kinds = bindKinds a b (kindsE x kinds) kinds in
       then-holds (kindsE x kinds) (kindsE y inner) (strictE x env l) (evalE x env l) _ _ (kinds-hold x kinds (s .1) (h .1) env e l)

@@ -2,23 +2,31 @@
 -- It is document 01's meaning (meaning/specs/Meaning), clause by clause, with a guard before each operator and before each test, and
 -- `none` where a guard has stopped it. Assumes nothing.
 use Prim.Native.Nat.{ℕ, zero, suc}
-use mathlib.Core.Bool.{Bool, true, false, _&&_}
+use mathlib.Core.Bool.{Bool, true, false, _&&_, _||_}
 use mathlib.Core.List.{List, [], _∷_, _++_}
 use mathlib.Core.Option.{Option, some, none}
 use lib.ListN.{getD, replicate}
 use Rattle.value.specs.declared.Value.{Value}
-use Rattle.value.specs.declared.ValueKind.the-variants.{Truth as truth-kind}
+use Rattle.value.specs.declared.ValueKind.{ValueKind}
+use Rattle.value.specs.declared.ValueKind.the-variants.{Whole as whole-kind, Truth as truth-kind, Real as real-kind}
 use Rattle.value.specs.Senses.{err, sense}
 use Rattle.value.specs.Operators.{apply}
-use Rattle.value.specs.Kinds.{suits, wants}
+use Rattle.value.specs.Kinds.{suits, wanted}
 use Rattle.formula.specs.Constants.{constantValue}
 use Rattle.formula.specs.Tree.{Exp, identifier, constant, pair, operator, letE, ifE, forE, Body, ret, iter, letB, ifB}
 use Rattle.formula.specs.Widths.{width, returned}
 use Rattle.meaning.specs.Meaning.{Env, bind, Outcome, yields, Ending, again, returns, branch}
 
--- "8 to 10 want truths, the others whole numbers": each operand is of that kind or an err.
+-- The operands are of one kind or errs.
+abbrev pub alike : ValueKind → Value → Value → Bool
+alike k a b = suits k a && suits k b
+
+-- "8 to 10 want truths, the others whole numbers", "Codes 1 to 4, 6, 7 and 11 take two (or one)" floats: of one kind, which the operator takes.
 abbrev pub operandsWanted : ℕ → Value → Value → Bool
-operandsWanted c a b = suits (wants c) a && suits (wants c) b
+operandsWanted c a b =
+    (wanted c (whole-kind ∷ []) && alike whole-kind a b)
+    || ((wanted c (truth-kind ∷ []) && alike truth-kind a b)
+    || (wanted c (real-kind ∷ []) && alike real-kind a b))
 
 -- "a test that is neither truth nor err" is not passed.
 abbrev pub testWanted : Value → Bool
@@ -56,7 +64,7 @@ loopS (suc bound) round rebind env left =
     enterS left λ l. afterS (round env l) λ vs l′. loopS bound round rebind (rebind vs) l′
 
 unfoldable mutual
-  unfolding bind guard thenS thenBS loopS branch width apply
+  unfolding bind guard thenS thenBS loopS branch width apply wanted
 
   pub strictE : Exp → Env → ℕ → Option Outcome
   strictE (identifier a) env left = some (yields (env a ∷ []) left)

@@ -1,15 +1,17 @@
--- The meaning of each operator: document 01, "Values and operators", in its order; and, or with document 02, Job 2, errs with Job 5.
--- Other crates ask `apply` (code, first operand, second operand) and cite its laws in AndOr, Reasons and proofs/Codes, or unfold it
+-- The meaning of each operator: document 01, "Values and operators", in its order; and, or with document 02, Job 2, errs with Job 5,
+-- floats with Job 9, where "as IEEE 754 does, to nearest even" is the toolchain's `lib.Ieee` at binary32. Other crates ask `apply` (code, first operand, second operand) and cite its laws in AndOr, Reasons and proofs/Codes, or unfold it
 -- to compute; the pieces before it are for this crate's functions. Assumes nothing.
 use Prim.Native.Nat.{ℕ, zero, suc}
 use mathlib.Core.Bool.{Bool, true, false, _&&_, not, _||_}
 use lib.IntN.{ℤ, pos, negsuc, _+ℤ_, _-ℤ_, _*ℤ_, negℤ}
 use lib.Signed.{leZ, ltZ, quotZ, remZ}
 use lib.Dec.{eqb}
+use lib.Ieee.{Float, fin, binary32, fits, add, sub, mul, div, neg, lt, eq}
+use lib.Ieee.Scale.{finite}
 use Rattle.value.specs.declared.Reason.{Reason}
 use Rattle.value.specs.declared.Reason.the-variants.{ZeroDivisor, OutOfRange, Other}
 use Rattle.value.specs.declared.Value.{Value}
-use Rattle.value.specs.declared.Value.the-variants.{Whole, Truth, Err}
+use Rattle.value.specs.declared.Value.the-variants.{Whole, Truth, Err, Real}
 
 -- the first where the test holds, else the second
 abbrev pub pick {ℓ} : {A : Type ℓ} → Bool → A → A → A
@@ -76,10 +78,58 @@ notOf a = Truth (not a)
 unfoldable pub negateOf : ℤ → Value
 negateOf a = fitOf (negℤ a)
 
+-- ---- floats
+
+-- A finite number of the format. What the code has as a float is of the format by its type, and so is what the operators below give
+-- (FloatBytes); asking for it here makes their answers' range a law without conditions.
+abbrev pub isReal : Float → Bool
+isReal x = finite x && fits binary32 x
+
+-- "another result that is no finite number gives V"
+unfoldable pub realOf : Float → Value
+realOf x = pick (isReal x) (Real x) (Err OutOfRange)
+
+unfoldable pub addReal : Float → Float → Value
+unfolding realOf
+addReal a b = realOf (add binary32 a b)
+
+unfoldable pub subtractReal : Float → Float → Value
+unfolding realOf
+subtractReal a b = realOf (sub binary32 a b)
+
+unfoldable pub multiplyReal : Float → Float → Value
+unfolding realOf
+multiplyReal a b = realOf (mul binary32 a b)
+
+abbrev pub zeroFloat : Float
+zeroFloat = fin false 0 (pos 0)
+
+abbrev pub isZeroReal : Float → Bool
+isZeroReal x = eq x zeroFloat
+
+-- "a zero divisor, also -0, gives Z": both zeros are equal.
+unfoldable pub divideReal : Float → Float → Value
+unfolding realOf
+divideReal a b = pick (isZeroReal b) (Err ZeroDivisor) (realOf (div binary32 a b))
+
+unfoldable pub lessReal : Float → Float → Value
+lessReal a b = Truth (lt a b)
+
+unfoldable pub equalReal : Float → Float → Value
+equalReal a b = Truth (eq a b)
+
+-- "negate turning the sign"
+unfoldable pub negateReal : Float → Value
+unfolding realOf
+negateReal a = realOf (neg a)
+
+-- ---- operands
+
 -- The reason of an operand that is an err, or the one given.
 abbrev pub reasonOr : Value → Reason → Reason
 reasonOr (Whole a) given = given
 reasonOr (Truth a) given = given
+reasonOr (Real a) given = given
 reasonOr (Err r) given = r
 
 -- "An err operand, a wrong kind .. gives err": "hands on the leftmost err, also beside an operand of a wrong kind"; without an err
@@ -96,8 +146,23 @@ unfoldable pub wholes : (ℤ → ℤ → Value) → Value → Value → Value
 wholes f (Whole a) (Whole b) = f a b
 wholes f (Whole a) (Truth b) = handOn (Whole a) (Truth b)
 wholes f (Whole a) (Err s) = handOn (Whole a) (Err s)
+wholes f (Whole a) (Real b) = handOn (Whole a) (Real b)
 wholes f (Truth a) b = handOn (Truth a) b
+wholes f (Real a) b = handOn (Real a) b
 wholes f (Err r) b = handOn (Err r) b
+
+-- Two whole numbers or two floats: "Whole numbers and floats in one operator are a wrong kind".
+unfoldable pub numbers : (ℤ → ℤ → Value) → (Float → Float → Value) → Value → Value → Value
+numbers f g (Whole a) (Whole b) = f a b
+numbers f g (Real a) (Real b) = g a b
+numbers f g (Whole a) (Real b) = handOn (Whole a) (Real b)
+numbers f g (Real a) (Whole b) = handOn (Real a) (Whole b)
+numbers f g (Whole a) (Truth b) = handOn (Whole a) (Truth b)
+numbers f g (Real a) (Truth b) = handOn (Real a) (Truth b)
+numbers f g (Whole a) (Err s) = handOn (Whole a) (Err s)
+numbers f g (Real a) (Err s) = handOn (Real a) (Err s)
+numbers f g (Truth a) b = handOn (Truth a) b
+numbers f g (Err r) b = handOn (Err r) b
 
 -- A truth beside an err, where the truth d decides: document 02, Job 2.
 unfoldable pub besideErr : Bool → Bool → Reason → Value
@@ -115,37 +180,42 @@ logical d f (Truth a) (Truth b) = f a b
 logical d f (Truth a) (Err s) = besideErr d a s
 logical d f (Err r) (Truth b) = besideErr d b r
 logical d f (Err r) (Err s) = handOn (Err r) (Err s)
--- "Both operands must still be truths or err; a whole number gives err": the leftmost err, where there is one.
+-- "Both operands must still be truths or err; a whole number gives err", and so does a float: the leftmost err, where there is one.
 logical d f (Whole a) b = handOn (Whole a) b
+logical d f (Real a) b = handOn (Real a) b
 logical d f (Truth a) (Whole b) = handOn (Truth a) (Whole b)
+logical d f (Truth a) (Real b) = handOn (Truth a) (Real b)
 logical d f (Err r) (Whole b) = handOn (Err r) (Whole b)
+logical d f (Err r) (Real b) = handOn (Err r) (Real b)
 
 unfoldable pub truth : (Bool → Value) → Value → Value
 truth f (Truth a) = f a
 truth f (Whole a) = handOnOne (Whole a)
+truth f (Real a) = handOnOne (Real a)
 truth f (Err r) = handOnOne (Err r)
 
-unfoldable pub whole : (ℤ → Value) → Value → Value
-whole f (Whole a) = f a
-whole f (Truth a) = handOnOne (Truth a)
-whole f (Err r) = handOnOne (Err r)
+unfoldable pub number : (ℤ → Value) → (Float → Value) → Value → Value
+number f g (Whole a) = f a
+number f g (Real a) = g a
+number f g (Truth a) = handOnOne (Truth a)
+number f g (Err r) = handOnOne (Err r)
 
 -- "1 add, 2 subtract, 3 multiply, 4 divide, 5 remainder, 6 less, 7 equal, 8 and, 9 or, 10 not, 11 negate."
--- "8 to 10 want truths, the others whole numbers". False decides and, true decides or. A code that is none of these has no operator: "E all else".
+-- "8 to 10 want truths, the others whole numbers"; "Codes 1 to 4, 6, 7 and 11 take two (or one)" floats too. False decides and, true decides or. A code that is none of these has no operator: "E all else".
 unfoldable pub apply : ℕ → Value → Value → Value
-unfolding fitOf dividedBy addOf subtractOf multiplyOf divideOf remainderOf lessOf equalOf andOf orOf notOf negateOf handOn handOnOne wholes besideErr logical truth whole
+unfolding fitOf dividedBy addOf subtractOf multiplyOf divideOf remainderOf lessOf equalOf andOf orOf notOf negateOf addReal subtractReal multiplyReal divideReal lessReal equalReal negateReal handOn handOnOne wholes numbers besideErr logical truth number
 apply c a b =
-    pick (eqb c 1) (wholes addOf a b)
-    (pick (eqb c 2) (wholes subtractOf a b)
-    (pick (eqb c 3) (wholes multiplyOf a b)
-    (pick (eqb c 4) (wholes divideOf a b)
+    pick (eqb c 1) (numbers addOf addReal a b)
+    (pick (eqb c 2) (numbers subtractOf subtractReal a b)
+    (pick (eqb c 3) (numbers multiplyOf multiplyReal a b)
+    (pick (eqb c 4) (numbers divideOf divideReal a b)
     (pick (eqb c 5) (wholes remainderOf a b)
-    (pick (eqb c 6) (wholes lessOf a b)
-    (pick (eqb c 7) (wholes equalOf a b)
+    (pick (eqb c 6) (numbers lessOf lessReal a b)
+    (pick (eqb c 7) (numbers equalOf equalReal a b)
     (pick (eqb c 8) (logical false andOf a b)
     (pick (eqb c 9) (logical true orOf a b)
     (pick (eqb c 10) (truth notOf a)
-    (pick (eqb c 11) (whole negateOf a)
+    (pick (eqb c 11) (number negateOf negateReal a)
     (Err Other)))))))))))
 
 -- "10 and 11 take one operand, the rest two."

@@ -3,13 +3,15 @@
 use crate::Decoded;
 use crate::Reason;
 use crate::Value;
+use crate::is_finite;
 ghost use mathlib.Core.Path.{_≡_};
 ghost use Prim.Native.Nat.{ℕ, _+_, _*_, _≤_, _<_};
 ghost use lib.ListN.{length};
 ghost use mir.Syntax.{w32};
 ghost use mir.Val.{toZ, ofZ};
 ghost use Rattle.value.specs.Kinds.{isLetter, ofKind};
-ghost use Rattle.value.specs.Bytes.{InRange, wordOf, valueOf, decoded, isSome, wordOr, wordAt, stored, wholeOf, truthOf, errOf};
+ghost use Rattle.value.specs.Bytes.{wordOf, valueOf, decoded, isSome, wordOr, wordAt, stored, wholeOf, truthOf, errOf, floatOf};
+ghost use Rattle.value.specs.Constants.{inConstantRange};
 
 // The words of no token, true, false, and of the errs: the plain one and those with a reason.
 pub const NONE: u64 = 0;
@@ -27,10 +29,25 @@ pub const OUT_OF_RANGE: u64 = 515;
 // How many reasons an err can have.
 const REASONS: u64 = 3;
 
-// The letters of a kinds line; for a kind every letter but that of truths counts as that of whole numbers.
-const WHOLE_LETTER: u8 = 87;
+// How many numbers 32 bits have.
+const PATTERNS: u64 = 4294967296;
 
-pub const TRUTH_LETTER: u8 = 84;
+// The bit of a float's sign, and the pattern of infinity: without its sign, the patterns below it are those of the finite numbers.
+const SIGN: u64 = 2147483648;
+
+const INFINITY: u64 = 2139095040;
+
+// The greatest constants of a sheet: a whole number, and the pattern of 999.999.
+const MOST_WHOLE: u64 = 999999;
+
+const MOST_REAL: u64 = 1148846064;
+
+// The letters of a kinds line; for a kind every other letter counts as that of whole numbers.
+const WHOLE_LETTER: u8 = b'W';
+
+pub const TRUTH_LETTER: u8 = b'T';
+
+pub const REAL_LETTER: u8 = b'R';
 
 // A whole number from its 32 bits, two's complement.
 fn signed_of(bits: u32) -> i32
@@ -63,9 +80,18 @@ fn err_word(r: Reason) -> u64
     }
 }
 
-// The word of a value; and whoever hands in a value learns that it is in range.
+// A float that is no finite number, which nothing here makes, has the word of V.
+fn real_word(x: f32) -> u64
+    ensures { λ w. ⌜ w ≡ wordOf (Value.Real x) ⌝ }
+{
+    if is_finite(x) {
+        return 4 + 256 * (f32::to_bits(x) as u64);
+    }
+    OUT_OF_RANGE
+}
+
 pub fn to_word(v: Value) -> u64
-    ensures { λ r. ⌜ (r ≡ wordOf v) × InRange v ⌝ }
+    ensures { λ r. ⌜ r ≡ wordOf v ⌝ }
 {
     match v {
         Value::Whole(z) => 1 + 256 * (bits_of(z) as u64),
@@ -76,13 +102,14 @@ pub fn to_word(v: Value) -> u64
             FALSE
         }
         Value::Err(r) => err_word(r),
+        Value::Real(x) => real_word(x),
     }
 }
 
 fn from_whole(bits: u64) -> Decoded
     ensures { λ r. ⌜ r ≡ decoded (wholeOf bits) ⌝ }
 {
-    if bits < 4294967296 {
+    if bits < PATTERNS {
         return Decoded::Valid(Value::Whole(signed_of(bits as u32)));
     }
     Decoded::Invalid
@@ -115,6 +142,25 @@ fn from_err(bits: u64) -> Decoded
     Decoded::Invalid
 }
 
+// Whether bits are the pattern of a finite number.
+fn is_pattern(bits: u64) -> bool
+    ensures { λ r. ⌜ r ≡ isSome (floatOf bits) ⌝ }
+{
+    if bits < PATTERNS {
+        return bits % SIGN < INFINITY;
+    }
+    false
+}
+
+fn from_real(bits: u64) -> Decoded
+    ensures { λ r. ⌜ r ≡ decoded (floatOf bits) ⌝ }
+{
+    if is_pattern(bits) {
+        return Decoded::Valid(Value::Real(f32::from_bits(bits as u32)));
+    }
+    Decoded::Invalid
+}
+
 // The value that a word is the byte form of, or none.
 pub fn from_word(w: u64) -> Decoded
     ensures { λ r. ⌜ r ≡ decoded (valueOf w) ⌝ }
@@ -125,6 +171,7 @@ pub fn from_word(w: u64) -> Decoded
         1 => from_whole(bits),
         2 => from_truth(bits),
         3 => from_err(bits),
+        4 => from_real(bits),
         _ => Decoded::Invalid,
     }
 }
@@ -135,9 +182,23 @@ pub fn is_value(w: u64) -> bool
 {
     let bits = w / 256;
     match w % 256 {
-        1 => bits < 4294967296,
+        1 => bits < PATTERNS,
         2 => bits < 2,
         3 => bits < REASONS,
+        4 => is_pattern(bits),
+        _ => false,
+    }
+}
+
+// Whether a word is the byte form of a value in the range of a sheet's constants.
+pub fn in_constant_range(w: u64) -> bool
+    ensures { λ r. ⌜ r ≡ inConstantRange (valueOf w) ⌝ }
+{
+    let bits = w / 256;
+    match w % 256 {
+        1 => bits <= MOST_WHOLE,
+        2 => bits < 2,
+        4 => bits <= MOST_REAL,
         _ => false,
     }
 }
@@ -148,7 +209,10 @@ pub fn is_letter(b: u8) -> bool
     if b == WHOLE_LETTER {
         return true;
     }
-    b == TRUTH_LETTER
+    if b == TRUTH_LETTER {
+        return true;
+    }
+    b == REAL_LETTER
 }
 
 // Whether a word is the byte form of a value of a letter's kind, or of an err.
@@ -160,6 +224,7 @@ pub fn is_of_kind(letter: u8, w: u64) -> bool
         1 => whole_in(letter, bits),
         2 => truth_in(letter, bits),
         3 => bits < REASONS,
+        4 => real_in(letter, bits),
         _ => false,
     }
 }
@@ -170,7 +235,10 @@ fn whole_in(letter: u8, bits: u64) -> bool
     if letter == TRUTH_LETTER {
         return false;
     }
-    bits < 4294967296
+    if letter == REAL_LETTER {
+        return false;
+    }
+    bits < PATTERNS
 }
 
 fn truth_in(letter: u8, bits: u64) -> bool
@@ -178,6 +246,15 @@ fn truth_in(letter: u8, bits: u64) -> bool
 {
     if letter == TRUTH_LETTER {
         return bits < 2;
+    }
+    false
+}
+
+fn real_in(letter: u8, bits: u64) -> bool
+    ensures { λ r. ⌜ r ≡ isSome (ofKind letter (floatOf bits)) ⌝ }
+{
+    if letter == REAL_LETTER {
+        return is_pattern(bits);
     }
     false
 }

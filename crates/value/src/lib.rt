@@ -1,12 +1,13 @@
-// Values and their operators: document 01, "Values and operators". The meaning of each code is
+// Values and their operators: document 01, "Values and operators", and document 02, Jobs 2, 5, 6 and 9. The meaning of each code is
 // specs/Operators; the byte form of a value is the module bytes.
 pub mod bytes; // bytes.rt: a value as a tag byte and four bytes
 
 ghost use mathlib.Core.Path.{_≡_};
 ghost use Prim.Native.Nat.{ℕ, _+_, _*_, _≤_, _<_};
 ghost use lib.IntN.{pos, negsuc, _+ℤ_, _-ℤ_, _*ℤ_};
-ghost use Rattle.value.specs.Operators.{fitOf, addOf, subtractOf, multiplyOf, divideOf, remainderOf, lessOf, equalOf, andOf, orOf, besideErr, reasonOr, handOn, handOnOne, negateOf, apply};
+ghost use Rattle.value.specs.Operators.{fitOf, addOf, subtractOf, multiplyOf, divideOf, remainderOf, lessOf, equalOf, andOf, orOf, isReal, realOf, divideReal, besideErr, reasonOr, handOn, handOnOne, negateOf, negateReal, number, apply};
 ghost use Rattle.value.specs.Senses.{err};
+ghost use Rattle.value.specs.Constants.{thousandths};
 
 // "An err now has a reason: Z zero divisor, V answer out of range, E all else."
 pub enum Reason {
@@ -15,17 +16,19 @@ pub enum Reason {
     Other,
 }
 
-// "A value is a whole number .., a truth, or err."
+// "A value is a whole number .., a truth, or err." "A value gains a fourth case that carries an f32": a finite number.
 pub enum Value {
     Whole(i32),
     Truth(bool),
     Err(Reason),
+    Real(f32),
 }
 
 // The kind that a value is told beforehand to have; an err suits every kind.
 pub enum ValueKind {
     Whole,
     Truth,
+    Real,
 }
 
 // What a value is as a control or a test.
@@ -41,7 +44,7 @@ pub enum Decoded {
     Invalid,
 }
 
-// The plain err, the only one that anything but an operator makes.
+// The plain err, the only one that anything but an operator makes of values in range.
 pub fn err() -> Value
     ensures { λ r. ⌜ r ≡ err ⌝ }
 {
@@ -150,6 +153,60 @@ fn apply_wholes(code: u8, a: i32, b: i32) -> Value
     }
 }
 
+// Whether a float is a finite number: between the infinities.
+fn is_finite(x: f32) -> bool
+    ensures { λ r. ⌜ r ≡ isReal x ⌝ }
+{
+    let infinity = 1.0f32 / 0.0f32;
+    if x < infinity {
+        return -infinity < x;
+    }
+    false
+}
+
+// The float x, or the err of an answer that is no finite number.
+fn fit_real(x: f32) -> Value
+    ensures { λ r. ⌜ r ≡ realOf x ⌝ }
+{
+    if is_finite(x) {
+        return Value::Real(x);
+    }
+    Value::Err(Reason::OutOfRange)
+}
+
+fn divide_reals(a: f32, b: f32) -> Value
+    ensures { λ r. ⌜ r ≡ divideReal a b ⌝ }
+{
+    if b == 0.0f32 {
+        return Value::Err(Reason::ZeroDivisor);
+    }
+    fit_real(a / b)
+}
+
+// Codes 1 to 7 of two floats; a remainder of floats is a wrong kind.
+fn apply_reals(code: u8, a: f32, b: f32) -> Value
+    requires { ⌜ (1 ≤ code) × (code ≤ 7) ⌝ }
+    ensures { λ r. ⌜ r ≡ apply code (Value.Real a) (Value.Real b) ⌝ }
+{
+    match code {
+        1 => fit_real(a + b),
+        2 => fit_real(a - b),
+        3 => fit_real(a * b),
+        4 => divide_reals(a, b),
+        5 => err(),
+        6 => Value::Truth(a < b),
+        _ => Value::Truth(a == b),
+    }
+}
+
+// a / 1000, rounded once: the quotient of two floats that are exact.
+pub fn thousandths(a: u32) -> Value
+    requires { ⌜ a ≤ 999999 ⌝ }
+    ensures { λ r. ⌜ r ≡ thousandths a ⌝ }
+{
+    fit_real((a as f32) / 1000.0f32)
+}
+
 // Codes 8 and 9 of two truths.
 fn apply_truths(code: u8, a: bool, b: bool) -> Value
     requires { ⌜ (8 ≤ code) × (code ≤ 9) ⌝ }
@@ -168,6 +225,7 @@ fn reason_or(v: Value, given: Reason) -> Reason
     match v {
         Value::Whole(_) => given,
         Value::Truth(_) => given,
+        Value::Real(_) => given,
         Value::Err(r) => r,
     }
 }
@@ -191,13 +249,22 @@ pub fn apply_numbers(code: u8, a: Value, b: Value) -> Value
     requires { ⌜ (1 ≤ code) × (code ≤ 7) ⌝ }
     ensures { λ r. ⌜ r ≡ apply code a b ⌝ }
 {
-    let Value::Whole(x) = a else {
-        return hand_on(a, b);
-    };
-    let Value::Whole(y) = b else {
-        return hand_on(a, b);
-    };
-    apply_wholes(code, x, y)
+    match a {
+        Value::Whole(x) => {
+            let Value::Whole(y) = b else {
+                return hand_on(a, b);
+            };
+            apply_wholes(code, x, y)
+        }
+        Value::Real(x) => {
+            let Value::Real(y) = b else {
+                return hand_on(a, b);
+            };
+            apply_reals(code, x, y)
+        }
+        Value::Truth(_) => hand_on(a, b),
+        Value::Err(_) => hand_on(a, b),
+    }
 }
 
 // A truth beside an err, where the truth d decides.
@@ -231,13 +298,28 @@ fn apply_logical(code: u8, a: Value, b: Value) -> Value
             Value::Truth(y) => apply_truths(code, x, y),
             Value::Err(s) => apply_beside_err(code, x, s),
             Value::Whole(_) => hand_on(a, b),
+            Value::Real(_) => hand_on(a, b),
         },
         Value::Err(r) => match b {
             Value::Truth(y) => apply_beside_err(code, y, r),
             Value::Err(_) => hand_on(a, b),
             Value::Whole(_) => hand_on(a, b),
+            Value::Real(_) => hand_on(a, b),
         },
         Value::Whole(_) => hand_on(a, b),
+        Value::Real(_) => hand_on(a, b),
+    }
+}
+
+// Code 11; of a float "negate turning the sign".
+fn apply_negate(a: Value) -> Value
+    ensures { λ r. ⌜ r ≡ number negateOf negateReal a ⌝ }
+{
+    match a {
+        Value::Whole(x) => negate(x),
+        Value::Real(x) => fit_real(-x),
+        Value::Truth(_) => hand_on_one(a),
+        Value::Err(_) => hand_on_one(a),
     }
 }
 
@@ -254,12 +336,7 @@ pub fn apply_code(code: u8, a: Value, b: Value) -> Value
             };
             Value::Truth(!x)
         }
-        11 => {
-            let Value::Whole(x) = a else {
-                return hand_on_one(a);
-            };
-            negate(x)
-        }
+        11 => apply_negate(a),
         _ => err(),
     }
 }

@@ -54,7 +54,7 @@ loop-less c = search needs
 
 -- src/lib.rt:79:5  let mut j = 0; ⏎ while j < 16 {
 loop-again : tie.Need-loop-again Inv-loop μ-loop
-loop-again c = (omega arith, c .before .before .store .ensures ∙ rw (c .before .before .before .to-word .ensures .0, c .before .before .before .before .before .before .before .loop .inv .1) refl ∙ sym (written-more (c .before .before .before .before .before .before .before .before .before .args .t1) (c .before .before .before .before .before .before .before .before .before .args .out .now) (c .before .before .before .before .before .before .before .loop .j) (cell (Whole (pos 0))) (let k = c .before .before .before .before .before .before .before .before .before .good .0 .1 .0 .1 in omega (arith, k))), omega (arith, c .before .before .before .before .before .before .before .loop .inv .2))
+loop-again c = (omega arith, c .before .before .store .ensures ∙ rw (c .before .before .before .to-word .ensures, c .before .before .before .before .before .before .before .loop .inv .1) refl ∙ sym (written-more (c .before .before .before .before .before .before .before .before .before .args .t1) (c .before .before .before .before .before .before .before .before .before .args .out .now) (c .before .before .before .before .before .before .before .loop .j) (cell (Whole (pos 0))) (let k = c .before .before .before .before .before .before .before .before .before .good .0 .1 .0 .1 in omega (arith, k))), omega (arith, c .before .before .before .before .before .before .before .loop .inv .2))
 
 -- src/lib.rt:74:1  // Sixteen values of five bytes each. ⏎ fn write_cells(cells: [Cell; 16], out: &mut [u8])
 same-length : tie.Need-same-length Inv-loop μ-loop

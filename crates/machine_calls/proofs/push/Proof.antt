@@ -202,7 +202,7 @@ returns-5 c =
     let b : ltb (untakenOf (c .before .before .before .before .before .before .before .before .before .before .before .before .before .before .before .before .before .before .before .before .before .before .before .before .before .before .before .before .before .before .before .args .mem .now)) 16 ≡ true = lt-ltb (untakenOf (c .before .before .before .before .before .before .before .before .before .before .before .before .before .before .before .before .before .before .before .before .before .before .before .before .before .before .before .before .before .before .before .args .mem .now)) 16 (omega (arith, c .before .before .before .before .before .before .before .before .before .before .before .before .before .before .before .before .before .before .before .before .before .untaken .ensures .0)) in
     let s : c .before .before .before .before .before .before .before .before .before .before .before .before .before .before .before .stretch-size .result ≡ sizeIn (c .before .before .before .before .before .before .before .before .before .before .before .before .before .before .before .before .before .before .before .before .before .before .before .before .before .before .before .before .before .before .before .args .mem .now) = c .before .before .before .before .before .before .before .before .before .before .before .before .before .before .before .stretch-size .ensures ∙ ap sizeOf (c .before .before .before .before .before .before .before .before .before .before .before .before .before .before .before .before .capacity .ensures .0) in
     let d : roomsOk (c .before .before .before .before .before .before .before .before .before .before .before .before .before .before .before .before .before .before .before .before .before .before .before .before .before .before .before .before .before .before .before .args .mem .now) (sizeIn (c .before .before .before .before .before .before .before .before .before .before .before .before .before .before .before .before .before .before .before .before .before .before .before .before .before .before .before .before .before .before .before .args .mem .now)) (inputsOf (c .before .before .before .before .before .before .before .before .before .before .before .before .before .before .before .before .before .before .before .before .before .before .before .before .before .before .before .before .before .before .before .args .mem .now)) ≡ true = rw (← (c .before .before .before .before .before .before .before .before .before .before .before .before .before .before .before .before .before .before .inputs .ensures .0), ← s) (sym (c .before .before .before .before .before .before .before .before .before .before .before .before .before .have-room .ensures) ∙ not-false (c .before .before .before .before .before .before .before .before .before .before .before .before .before .have-room .result) (c .before .before .before .before .before .before .before .before .before .before .before .before .if4 .left)) in
-    rw (c .reply2 .ensures) (ap (outcome (answers 0 0)) (rw (c .before .before .before .append-to .ensures, c .before .before .before .before .before .before .before .before .enter .ensures, c .before .before .before .before .before .to-word .ensures .0, c .before .before .before .before .before .before .before .before .before .before .trigger .ensures .0, c .before .before .before .before .before .before .before .before .before .before .before .before .before .before .before .before .before .before .inputs .ensures .0, c .before .before .before .before .before .before .before .before .before .before .before .before .before .before .before .before .before .before .before .before .before .untaken .ensures .0, s) refl) ∙ sym (pushed-accepted (c .before .before .before .before .before .before .before .before .before .before .before .before .before .before .before .before .before .before .before .before .before .before .before .before .before .before .before .before .before .before .before .args .mem .now) st (c .before .before .before .before .before .before .before .before .before .before .before .before .before .before .before .before .before .before .before .before .before .before .before .before .before .before .before .before .before .before .before .args .set .now) a b d))
+    rw (c .reply2 .ensures) (ap (outcome (answers 0 0)) (rw (c .before .before .before .append-to .ensures, c .before .before .before .before .before .before .before .before .enter .ensures, c .before .before .before .before .before .to-word .ensures, c .before .before .before .before .before .before .before .before .before .before .trigger .ensures .0, c .before .before .before .before .before .before .before .before .before .before .before .before .before .before .before .before .before .before .inputs .ensures .0, c .before .before .before .before .before .before .before .before .before .before .before .before .before .before .before .before .before .before .before .before .before .untaken .ensures .0, s) refl) ∙ sym (pushed-accepted (c .before .before .before .before .before .before .before .before .before .before .before .before .before .before .before .before .before .before .before .before .before .before .before .before .before .before .before .before .before .before .before .args .mem .now) st (c .before .before .before .before .before .before .before .before .before .before .before .before .before .before .before .before .before .before .before .before .before .before .before .before .before .before .before .before .before .before .before .args .set .now) a b d))
 
 pub push-spec : {M : Type 1} → statement M
 push-spec =

@@ -10,49 +10,49 @@ use mathlib.Core.Path.{_≡_, sym, _∙_, refl, ap}
 use Rattle.value.specs.Bytes.{wordOf}
 use Rattle.machine_gates.specs.Gates.{applied}
 
--- src/lib.rt:73:29  { ⏎ let Decoded::Valid(x) = value::bytes::from_word(a) else {
+-- src/lib.rt:72:29  { ⏎ let Decoded::Valid(x) = value::bytes::from_word(a) else {
 from-word-requires : tie.Need-from-word-requires
 from-word-requires c κs = search needs
 
--- src/lib.rt:73:24  { ⏎ let Decoded::Valid(x) = value::bytes::from_word(a) else {
+-- src/lib.rt:72:24  { ⏎ let Decoded::Valid(x) = value::bytes::from_word(a) else {
 enum-known-x : tie.Need-enum-known-x
 enum-known-x c = search needs
 
--- src/lib.rt:74:9  let Decoded::Valid(x) = value::bytes::from_word(a) else { ⏎ return NONE;
+-- src/lib.rt:73:9  let Decoded::Valid(x) = value::bytes::from_word(a) else { ⏎ return NONE;
 enum-told : tie.Need-enum-told
 enum-told c = search needs
 
--- src/lib.rt:74:9  let Decoded::Valid(x) = value::bytes::from_word(a) else { ⏎ return NONE;
+-- src/lib.rt:73:9  let Decoded::Valid(x) = value::bytes::from_word(a) else { ⏎ return NONE;
 returns : tie.Need-returns
 returns c = rw (sym (c .before .before .from-word .ensures) ∙ c .enum-told .given .1) refl
 
--- src/lib.rt:76:29  }; ⏎ let Decoded::Valid(y) = value::bytes::from_word(b) else {
+-- src/lib.rt:75:29  }; ⏎ let Decoded::Valid(y) = value::bytes::from_word(b) else {
 from-word-requires-2 : tie.Need-from-word-requires-2
 from-word-requires-2 c κs = search needs
 
--- src/lib.rt:76:24  }; ⏎ let Decoded::Valid(y) = value::bytes::from_word(b) else {
+-- src/lib.rt:75:24  }; ⏎ let Decoded::Valid(y) = value::bytes::from_word(b) else {
 enum-known-y : tie.Need-enum-known-y
 enum-known-y c = search needs
 
--- src/lib.rt:77:9  let Decoded::Valid(y) = value::bytes::from_word(b) else { ⏎ return NONE;
+-- src/lib.rt:76:9  let Decoded::Valid(y) = value::bytes::from_word(b) else { ⏎ return NONE;
 enum-told-2 : tie.Need-enum-told-2
 enum-told-2 c = search needs
 
--- src/lib.rt:77:9  let Decoded::Valid(y) = value::bytes::from_word(b) else { ⏎ return NONE;
+-- src/lib.rt:76:9  let Decoded::Valid(y) = value::bytes::from_word(b) else { ⏎ return NONE;
 returns-2 : tie.Need-returns-2
 returns-2 c = rw (sym (c .before .before .before .before .before .before .from-word .ensures) ∙ c .before .before .before .before .x .given .1, sym (c .before .before .from-word2 .ensures) ∙ c .enum-told2 .given .1) refl
 
--- src/lib.rt:79:27  }; ⏎ value::bytes::to_word(value::apply_code(code, x, y))
+-- src/lib.rt:78:27  }; ⏎ value::bytes::to_word(value::apply_code(code, x, y))
 apply-code-requires : tie.Need-apply-code-requires
 apply-code-requires c κs = search needs
 
--- src/lib.rt:79:5  }; ⏎ value::bytes::to_word(value::apply_code(code, x, y))
+-- src/lib.rt:78:5  }; ⏎ value::bytes::to_word(value::apply_code(code, x, y))
 to-word-requires : tie.Need-to-word-requires
 to-word-requires c κs = search needs
 
--- src/lib.rt:70:1  // What the operator of a code gives; one that takes a single operand does not look at the second. ⏎ pub fn applied_to(code: u8, a: u64, b: u64) -> u64
+-- src/lib.rt:69:1  // What the operator of a code gives; one that takes a single operand does not look at the second. ⏎ pub fn applied_to(code: u8, a: u64, b: u64) -> u64
 returns-3 : tie.Need-returns-3
-returns-3 c = rw (sym (c .before .before .before .before .before .before .before .before .before .from-word .ensures) ∙ c .before .before .before .before .before .before .before .x .given .1, sym (c .before .before .before .before .before .from-word2 .ensures) ∙ c .before .before .before .y .given .1) (c .to-word .ensures .0 ∙ ap wordOf (c .before .apply-code .ensures))
+returns-3 c = rw (sym (c .before .before .before .before .before .before .before .before .before .from-word .ensures) ∙ c .before .before .before .before .before .before .before .x .given .1, sym (c .before .before .before .before .before .from-word2 .ensures) ∙ c .before .before .before .y .given .1) (c .to-word .ensures ∙ ap wordOf (c .before .apply-code .ensures))
 
 pub applied-to-spec : {M : Type 1} → statement M
 applied-to-spec =

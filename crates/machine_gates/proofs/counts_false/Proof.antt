@@ -11,19 +11,19 @@ use mathlib.Core.Path.{_≡_, sym, _∙_, ap}
 use mathlib.Core.Bool.{not}
 use Rattle.machine_gates.proofs.Senses.{else-false, absent-not}
 
--- src/lib.rt:54:8  { ⏎ if is_absent(token) {
+-- src/lib.rt:53:8  { ⏎ if is_absent(token) {
 is-absent-requires : tie.Need-is-absent-requires
 is-absent-requires c κs = search needs
 
--- src/lib.rt:55:9  if is_absent(token) { ⏎ return false;
+-- src/lib.rt:54:9  if is_absent(token) { ⏎ return false;
 returns : tie.Need-returns
 returns c = λ t e. absent-not t (sym (c .before .is-absent .ensures t e) ∙ c .if1 .taken) .1
 
--- src/lib.rt:57:6  } ⏎ !is_true(token)
+-- src/lib.rt:56:6  } ⏎ !is_true(token)
 is-true-requires : tie.Need-is-true-requires
 is-true-requires c κs = search needs
 
--- src/lib.rt:51:1  // Whether a token is there and, as an iter?, counts as false: any but true. ⏎ fn counts_false(token: u64) -> bool
+-- src/lib.rt:50:1  // Whether a token is there and, as an iter?, counts as false: any but true. ⏎ pub fn counts_false(token: u64) -> bool
 returns-2 : tie.Need-returns-2
 returns-2 c = λ t e. ap not (c .is-true .ensures t e) ∙ else-false t (sym (c .before .before .is-absent .ensures t e) ∙ c .before .if1 .left)
 

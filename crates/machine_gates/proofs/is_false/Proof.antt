@@ -4,7 +4,7 @@ use Rattle.machine_gates.proofs.is_false.Reads as reads
 use Rattle.machine_gates.proofs.is_false.Lts as lts
 use Rattle.machine_gates.proofs.Senses.{false-word}
 
--- src/lib.rt:31:1  } ⏎ pub fn is_false(token: u64) -> bool
+-- src/lib.rt:30:1  } ⏎ pub fn is_false(token: u64) -> bool
 returns : tie.Need-returns
 returns c = λ t e. rw e (false-word t)
 

@@ -19,31 +19,31 @@ Inv-loop mem k p₀ p = (p ≤ k) × (allBelow p (inputOk mem) ≡ true)
 abbrev μ-loop : tie.MeasureT-loop
 μ-loop mem k p₀ p = k - p
 
--- src/lib.rt:103:5  let mut p = 0; ⏎ while p < k {
+-- src/lib.rt:100:5  let mut p = 0; ⏎ while p < k {
 loop-holds : tie.Need-loop-holds Inv-loop μ-loop
 loop-holds c = (omega arith, below-zero (inputOk (c .before .args .mem .now)))
 
--- src/lib.rt:104:12  while p < k { ⏎ if input_ok(mem, p) {
+-- src/lib.rt:101:12  while p < k { ⏎ if input_ok(mem, p) {
 input-ok-requires : tie.Need-input-ok-requires Inv-loop μ-loop
 input-ok-requires c κs = search needs
 
--- src/lib.rt:105:13  if input_ok(mem, p) { ⏎ p += 1;
+-- src/lib.rt:102:13  if input_ok(mem, p) { ⏎ p += 1;
 add-p : tie.Need-add-p Inv-loop μ-loop
 add-p c = search needs
 
--- src/lib.rt:103:5  let mut p = 0; ⏎ while p < k {
+-- src/lib.rt:100:5  let mut p = 0; ⏎ while p < k {
 loop-less : tie.Need-loop-less Inv-loop μ-loop
 loop-less c = search needs
 
--- src/lib.rt:103:5  let mut p = 0; ⏎ while p < k {
+-- src/lib.rt:100:5  let mut p = 0; ⏎ while p < k {
 loop-again : tie.Need-loop-again Inv-loop μ-loop
 loop-again c = (omega arith, below-step (c .before .before .before .loop .p) (inputOk (c .before .before .before .before .before .args .mem .now)) (c .before .before .before .loop .inv .1) (sym (c .before .input-ok .ensures) ∙ c .if1 .taken))
 
--- src/lib.rt:107:13  } else { ⏎ return false;
+-- src/lib.rt:104:13  } else { ⏎ return false;
 returns : tie.Need-returns Inv-loop μ-loop
 returns c = sym (below-fail (c .before .before .before .before .before .args .k) (inputOk (c .before .before .before .before .before .args .mem .now)) (c .before .before .before .loop .p) (omega arith) (sym (c .before .input-ok .ensures) ∙ c .if1 .left))
 
--- src/lib.rt:98:1  } ⏎ fn inputs_ok(mem: &[u8], k: usize) -> bool
+-- src/lib.rt:95:1  } ⏎ fn inputs_ok(mem: &[u8], k: usize) -> bool
 returns-2 : tie.Need-returns-2 Inv-loop μ-loop
 returns-2 c = let e : c .before .loop .p ≡ (c .before .before .before .args .k) = omega arith in sym (rw e at (c .before .loop .inv .1))
 

@@ -20,41 +20,41 @@ Inv-loop mem at p x q₀ q = (q ≤ p) × (allBelow q (unlikeAt mem at p) ≡ tr
 abbrev μ-loop : tie.MeasureT-loop
 μ-loop mem at p x q₀ q = p - q
 
--- src/lib.rt:47:9  { ⏎ let x = machine_layout::name_at(mem, at, p);
+-- src/lib.rt:44:9  { ⏎ let x = machine_layout::name_at(mem, at, p);
 name-at-requires : tie.Need-name-at-requires Inv-loop μ-loop
 name-at-requires c κs = search needs
 
--- src/lib.rt:49:5  let mut q = 0; ⏎ while q < p {
+-- src/lib.rt:46:5  let mut q = 0; ⏎ while q < p {
 loop-holds : tie.Need-loop-holds Inv-loop μ-loop
 loop-holds c = (omega arith, below-zero (unlikeAt (c .before .before .args .mem .now) (c .before .before .args .at) (c .before .before .args .p)))
 
--- src/lib.rt:50:25  while q < p { ⏎ if is_unlike(x, machine_layout::name_at(mem, at, q)) {
+-- src/lib.rt:47:25  while q < p { ⏎ if is_unlike(x, machine_layout::name_at(mem, at, q)) {
 name-at-requires-2 : tie.Need-name-at-requires-2 Inv-loop μ-loop
 name-at-requires-2 c κs = search needs
 
--- src/lib.rt:50:12  while q < p { ⏎ if is_unlike(x, machine_layout::name_at(mem, at, q)) {
+-- src/lib.rt:47:12  while q < p { ⏎ if is_unlike(x, machine_layout::name_at(mem, at, q)) {
 is-unlike-requires : tie.Need-is-unlike-requires Inv-loop μ-loop
 is-unlike-requires c κs = search needs
 
--- src/lib.rt:51:13  if is_unlike(x, machine_layout::name_at(mem, at, q)) { ⏎ q += 1;
+-- src/lib.rt:48:13  if is_unlike(x, machine_layout::name_at(mem, at, q)) { ⏎ q += 1;
 add-q : tie.Need-add-q Inv-loop μ-loop
 add-q c = search needs
 
--- src/lib.rt:49:5  let mut q = 0; ⏎ while q < p {
+-- src/lib.rt:46:5  let mut q = 0; ⏎ while q < p {
 loop-less : tie.Need-loop-less Inv-loop μ-loop
 loop-less c = search needs
 
--- src/lib.rt:49:5  let mut q = 0; ⏎ while q < p {
+-- src/lib.rt:46:5  let mut q = 0; ⏎ while q < p {
 loop-again : tie.Need-loop-again Inv-loop μ-loop
 unfolding unlikeAt
 loop-again c = (omega arith, below-step (c .before .before .before .before .loop .q) (unlikeAt (c .before .before .before .before .before .before .before .args .mem .now) (c .before .before .before .before .before .before .before .args .at) (c .before .before .before .before .before .before .before .args .p)) (c .before .before .before .before .loop .inv .1) (simp (sym (c .before .before .before .before .before .name-at .ensures .0), sym (c .before .before .name-at2 .ensures .0)) (sym (c .before .is-unlike .ensures) ∙ c .if1 .taken)))
 
--- src/lib.rt:53:13  } else { ⏎ return false;
+-- src/lib.rt:50:13  } else { ⏎ return false;
 returns : tie.Need-returns Inv-loop μ-loop
 unfolding unlikeAt freshAt
 returns c = sym (below-fail (c .before .before .before .before .before .before .before .args .p) (unlikeAt (c .before .before .before .before .before .before .before .args .mem .now) (c .before .before .before .before .before .before .before .args .at) (c .before .before .before .before .before .before .before .args .p)) (c .before .before .before .before .loop .q) (omega arith) (simp (sym (c .before .before .before .before .before .name-at .ensures .0), sym (c .before .before .name-at2 .ensures .0)) (sym (c .before .is-unlike .ensures) ∙ c .if1 .left)))
 
--- src/lib.rt:43:1  // Whether name p of a row is like none before it. ⏎ fn is_fresh(mem: &[u8], at: usize, p: usize) -> bool
+-- src/lib.rt:40:1  // Whether name p of a row is like none before it. ⏎ fn is_fresh(mem: &[u8], at: usize, p: usize) -> bool
 returns-2 : tie.Need-returns-2 Inv-loop μ-loop
 unfolding freshAt
 returns-2 c = let e : c .before .loop .q ≡ c .before .before .before .before .args .p = omega arith in sym (rw e at (c .before .loop .inv .1))

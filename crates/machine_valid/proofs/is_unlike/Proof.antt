@@ -8,12 +8,12 @@ use mathlib.Core.Path.{_≡_, sym, _∙_, refl, ap}
 use borrow.Author.Tests.{eq-eqb, ne-eqb, le-leb, lt-leb, lt-ltb, le-ltb}
 use Rattle.machine_valid.specs.Valid.{unlike, unlikeAt, freshAt, resultOk, inputOk, portOk, namedOk, registerOk, kindOk, operatorOk, tokenOk, stretchOk, linkOk, figuresOk, valid}
 
--- src/lib.rt:37:9  if x == y { ⏎ return x == machine_firing::NOWHERE;
+-- src/lib.rt:34:9  if x == y { ⏎ return x == machine_firing::NOWHERE;
 returns : tie.Need-returns
 unfolding unlike
 returns c = simp (eq-eqb _ _ (c .if1 .taken))
 
--- src/lib.rt:33:1  const WHOLE_LETTER: u8 = b'W'; ⏎ fn is_unlike(x: usize, y: usize) -> bool
+-- src/lib.rt:30:1  const TWO_NONES: usize = 4294967295; ⏎ fn is_unlike(x: usize, y: usize) -> bool
 returns-2 : tie.Need-returns-2
 unfolding unlike
 returns-2 c = simp (ne-eqb _ _ (c .if1 .left))

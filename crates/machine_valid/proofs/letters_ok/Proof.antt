@@ -19,31 +19,31 @@ Inv-loop mem k j₀ j = (j ≤ k) × (allBelow j (letterOk mem) ≡ true)
 abbrev μ-loop : tie.MeasureT-loop
 μ-loop mem k j₀ j = k - j
 
--- src/lib.rt:130:5  let mut j = 0; ⏎ while j < k {
+-- src/lib.rt:123:5  let mut j = 0; ⏎ while j < k {
 loop-holds : tie.Need-loop-holds Inv-loop μ-loop
 loop-holds c = (omega arith, below-zero (letterOk (c .before .args .mem .now)))
 
--- src/lib.rt:131:12  while j < k { ⏎ if letter_ok(mem, j) {
+-- src/lib.rt:124:12  while j < k { ⏎ if letter_ok(mem, j) {
 letter-ok-requires : tie.Need-letter-ok-requires Inv-loop μ-loop
 letter-ok-requires c κs = search needs
 
--- src/lib.rt:132:13  if letter_ok(mem, j) { ⏎ j += 1;
+-- src/lib.rt:125:13  if letter_ok(mem, j) { ⏎ j += 1;
 add-j : tie.Need-add-j Inv-loop μ-loop
 add-j c = search needs
 
--- src/lib.rt:130:5  let mut j = 0; ⏎ while j < k {
+-- src/lib.rt:123:5  let mut j = 0; ⏎ while j < k {
 loop-less : tie.Need-loop-less Inv-loop μ-loop
 loop-less c = search needs
 
--- src/lib.rt:130:5  let mut j = 0; ⏎ while j < k {
+-- src/lib.rt:123:5  let mut j = 0; ⏎ while j < k {
 loop-again : tie.Need-loop-again Inv-loop μ-loop
 loop-again c = (omega arith, below-step (c .before .before .before .loop .j) (letterOk (c .before .before .before .before .before .args .mem .now)) (c .before .before .before .loop .inv .1) (sym (c .before .letter-ok .ensures) ∙ c .if1 .taken))
 
--- src/lib.rt:134:13  } else { ⏎ return false;
+-- src/lib.rt:127:13  } else { ⏎ return false;
 returns : tie.Need-returns Inv-loop μ-loop
 returns c = sym (below-fail (c .before .before .before .before .before .args .k) (letterOk (c .before .before .before .before .before .args .mem .now)) (c .before .before .before .loop .j) (omega arith) (sym (c .before .letter-ok .ensures) ∙ c .if1 .left))
 
--- src/lib.rt:125:1  } ⏎ fn letters_ok(mem: &[u8], k: usize) -> bool
+-- src/lib.rt:118:1  } ⏎ fn letters_ok(mem: &[u8], k: usize) -> bool
 returns-2 : tie.Need-returns-2 Inv-loop μ-loop
 returns-2 c = let e : c .before .loop .j ≡ (c .before .before .before .args .k) = omega arith in sym (rw e at (c .before .loop .inv .1))
 

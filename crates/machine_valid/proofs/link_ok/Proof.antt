@@ -10,31 +10,31 @@ use mathlib.Core.Path.{_≡_, sym, _∙_, refl, ap}
 use Prim.Native.Nat.{ℕ, _+_, _-_, _*_, _≤_, _<_}
 use Rattle.machine_valid.specs.Valid.{unlike, unlikeAt, freshAt, resultOk, inputOk, portOk, namedOk, registerOk, kindOk, operatorOk, tokenOk, stretchOk, linkOk, figuresOk, valid}
 
--- src/lib.rt:413:9  { ⏎ let a = machine_layout::link_at(size, l);
+-- src/lib.rt:406:9  { ⏎ let a = machine_layout::link_at(size, l);
 link-at-requires : tie.Need-link-at-requires
 link-at-requires c κs = search needs
 
--- src/lib.rt:414:13  let a = machine_layout::link_at(size, l); ⏎ let e = a + size;
+-- src/lib.rt:407:13  let a = machine_layout::link_at(size, l); ⏎ let e = a + size;
 add-e : tie.Need-add-e
 add-e c = search needs
 
--- src/lib.rt:415:16  let e = a + size; ⏎ stretch_ok(&mem[a..e])
+-- src/lib.rt:408:16  let e = a + size; ⏎ stretch_ok(&mem[a..e])
 sub-stretch-ok : tie.Need-sub-stretch-ok
 sub-stretch-ok c = search needs
 
--- src/lib.rt:415:16  let e = a + size; ⏎ stretch_ok(&mem[a..e])
+-- src/lib.rt:408:16  let e = a + size; ⏎ stretch_ok(&mem[a..e])
 part-stretch-ok-start : tie.Need-part-stretch-ok-start
 part-stretch-ok-start c = search needs
 
--- src/lib.rt:415:16  let e = a + size; ⏎ stretch_ok(&mem[a..e])
+-- src/lib.rt:408:16  let e = a + size; ⏎ stretch_ok(&mem[a..e])
 part-stretch-ok-end : tie.Need-part-stretch-ok-end
 part-stretch-ok-end c = search needs
 
--- src/lib.rt:415:5  let e = a + size; ⏎ stretch_ok(&mem[a..e])
+-- src/lib.rt:408:5  let e = a + size; ⏎ stretch_ok(&mem[a..e])
 stretch-ok-requires : tie.Need-stretch-ok-requires
 stretch-ok-requires c κs = search needs
 
--- src/lib.rt:409:1  } ⏎ fn link_ok(mem: &[u8], size: usize, l: usize) -> bool
+-- src/lib.rt:402:1  } ⏎ fn link_ok(mem: &[u8], size: usize, l: usize) -> bool
 returns : tie.Need-returns
 unfolding linkOk
 returns c = let k : c .before .before .link-at .result + c .before .before .before .before .args .size - c .before .before .link-at .result ≡ c .before .before .before .before .args .size = omega arith in (rw (k, c .before .before .link-at .ensures .0) at (c .stretch-ok .ensures))

@@ -19,31 +19,31 @@ Inv-loop mem size k l₀ l = (l ≤ k) × (allBelow l (linkOk mem size) ≡ true
 abbrev μ-loop : tie.MeasureT-loop
 μ-loop mem size k l₀ l = k - l
 
--- src/lib.rt:423:5  let mut l = 0; ⏎ while l < k {
+-- src/lib.rt:416:5  let mut l = 0; ⏎ while l < k {
 loop-holds : tie.Need-loop-holds Inv-loop μ-loop
 loop-holds c = (omega arith, below-zero (linkOk (c .before .args .mem .now) (c .before .args .size)))
 
--- src/lib.rt:424:12  while l < k { ⏎ if link_ok(mem, size, l) {
+-- src/lib.rt:417:12  while l < k { ⏎ if link_ok(mem, size, l) {
 link-ok-requires : tie.Need-link-ok-requires Inv-loop μ-loop
 link-ok-requires c κs = search needs
 
--- src/lib.rt:425:13  if link_ok(mem, size, l) { ⏎ l += 1;
+-- src/lib.rt:418:13  if link_ok(mem, size, l) { ⏎ l += 1;
 add-l : tie.Need-add-l Inv-loop μ-loop
 add-l c = search needs
 
--- src/lib.rt:423:5  let mut l = 0; ⏎ while l < k {
+-- src/lib.rt:416:5  let mut l = 0; ⏎ while l < k {
 loop-less : tie.Need-loop-less Inv-loop μ-loop
 loop-less c = search needs
 
--- src/lib.rt:423:5  let mut l = 0; ⏎ while l < k {
+-- src/lib.rt:416:5  let mut l = 0; ⏎ while l < k {
 loop-again : tie.Need-loop-again Inv-loop μ-loop
 loop-again c = (omega arith, below-step (c .before .before .before .loop .l) (linkOk (c .before .before .before .before .before .args .mem .now) (c .before .before .before .before .before .args .size)) (c .before .before .before .loop .inv .1) (sym (c .before .link-ok .ensures) ∙ c .if1 .taken))
 
--- src/lib.rt:427:13  } else { ⏎ return false;
+-- src/lib.rt:420:13  } else { ⏎ return false;
 returns : tie.Need-returns Inv-loop μ-loop
 returns c = sym (below-fail (c .before .before .before .before .before .args .k) (linkOk (c .before .before .before .before .before .args .mem .now) (c .before .before .before .before .before .args .size)) (c .before .before .before .loop .l) (omega arith) (sym (c .before .link-ok .ensures) ∙ c .if1 .left))
 
--- src/lib.rt:418:1  } ⏎ fn links_ok(mem: &[u8], size: usize, k: usize) -> bool
+-- src/lib.rt:411:1  } ⏎ fn links_ok(mem: &[u8], size: usize, k: usize) -> bool
 returns-2 : tie.Need-returns-2 Inv-loop μ-loop
 returns-2 c = let e : c .before .loop .l ≡ (c .before .before .before .args .k) = omega arith in sym (rw e at (c .before .loop .inv .1))
 

@@ -15,35 +15,35 @@ use mathlib.Core.List.{List, [], _∷_}
 use Rattle.machine_layout.specs.Layout.{nameAt}
 use Rattle.machine_valid.specs.Ports.{shaped-linked, shaped-not, two-not, two-none}
 
--- src/lib.rt:263:9  { ⏎ if !both_none(mem, at, OUT2) {
+-- src/lib.rt:256:9  { ⏎ if !both_none(mem, at, OUT2) {
 both-none-requires : tie.Need-both-none-requires
 both-none-requires c κs = search needs
 
--- src/lib.rt:264:9  if !both_none(mem, at, OUT2) { ⏎ return false;
+-- src/lib.rt:257:9  if !both_none(mem, at, OUT2) { ⏎ return false;
 returns : tie.Need-returns
 returns c = shaped-not (c .before .before .before .args .links) (nameAt (c .before .before .before .args .mem .now) (c .before .before .before .args .at) 3 ∷ nameAt (c .before .before .before .args .mem .now) (c .before .before .before .args .at) 0 ∷ []) (nameAt (c .before .before .before .args .mem .now) (c .before .before .before .args .at) 5 ∷ nameAt (c .before .before .before .args .mem .now) (c .before .before .before .args .at) 4 ∷ nameAt (c .before .before .before .args .mem .now) (c .before .before .before .args .at) 2 ∷ nameAt (c .before .before .before .args .mem .now) (c .before .before .before .args .at) 1 ∷ []) (two-not (nameAt (c .before .before .before .args .mem .now) (c .before .before .before .args .at) 5) (nameAt (c .before .before .before .args .mem .now) (c .before .before .before .args .at) 4) (nameAt (c .before .before .before .args .mem .now) (c .before .before .before .args .at) 2 ∷ nameAt (c .before .before .before .args .mem .now) (c .before .before .before .args .at) 1 ∷ []) (sym (c .before .both-none .ensures) ∙ not-true (c .before .both-none .result) (c .if1 .taken)))
 
--- src/lib.rt:266:9  } ⏎ if !both_none(mem, at, IN2) {
+-- src/lib.rt:259:9  } ⏎ if !both_none(mem, at, IN2) {
 both-none-requires-2 : tie.Need-both-none-requires-2
 both-none-requires-2 c κs = search needs
 
--- src/lib.rt:267:9  if !both_none(mem, at, IN2) { ⏎ return false;
+-- src/lib.rt:260:9  if !both_none(mem, at, IN2) { ⏎ return false;
 returns-2 : tie.Need-returns-2
 returns-2 c = shaped-not (c .before .before .before .before .before .args .links) (nameAt (c .before .before .before .before .before .args .mem .now) (c .before .before .before .before .before .args .at) 3 ∷ nameAt (c .before .before .before .before .before .args .mem .now) (c .before .before .before .before .before .args .at) 0 ∷ []) (nameAt (c .before .before .before .before .before .args .mem .now) (c .before .before .before .before .before .args .at) 5 ∷ nameAt (c .before .before .before .before .before .args .mem .now) (c .before .before .before .before .before .args .at) 4 ∷ nameAt (c .before .before .before .before .before .args .mem .now) (c .before .before .before .before .before .args .at) 2 ∷ nameAt (c .before .before .before .before .before .args .mem .now) (c .before .before .before .before .before .args .at) 1 ∷ []) (two-none (nameAt (c .before .before .before .before .before .args .mem .now) (c .before .before .before .before .before .args .at) 5) (nameAt (c .before .before .before .before .before .args .mem .now) (c .before .before .before .before .before .args .at) 4) (nameAt (c .before .before .before .before .before .args .mem .now) (c .before .before .before .before .before .args .at) 2 ∷ nameAt (c .before .before .before .before .before .args .mem .now) (c .before .before .before .before .before .args .at) 1 ∷ []) (sym (c .before .before .before .both-none .ensures) ∙ not-false (c .before .before .before .both-none .result) (c .before .before .if1 .left)) ∙ (sym (c .before .both-none2 .ensures) ∙ not-true (c .before .both-none2 .result) (c .if2 .taken)))
 
--- src/lib.rt:271:9  links, ⏎ machine_layout::name_at(mem, at, IN1),
+-- src/lib.rt:264:9  links, ⏎ machine_layout::name_at(mem, at, IN1),
 name-at-requires : tie.Need-name-at-requires
 name-at-requires c κs = search needs
 
--- src/lib.rt:272:9  machine_layout::name_at(mem, at, IN1), ⏎ machine_layout::name_at(mem, at, OUT1),
+-- src/lib.rt:265:9  machine_layout::name_at(mem, at, IN1), ⏎ machine_layout::name_at(mem, at, OUT1),
 name-at-requires-2 : tie.Need-name-at-requires-2
 name-at-requires-2 c κs = search needs
 
--- src/lib.rt:269:5  } ⏎ are_two(
+-- src/lib.rt:262:5  } ⏎ are_two(
 are-two-requires : tie.Need-are-two-requires
 are-two-requires c κs = search needs
 
--- src/lib.rt:259:1  } ⏎ fn one_to_one(mem: &[u8], links: usize, at: usize) -> bool
+-- src/lib.rt:252:1  } ⏎ fn one_to_one(mem: &[u8], links: usize, at: usize) -> bool
 returns-3 : tie.Need-returns-3
 returns-3 c =
     (rw (c .before .before .name-at .ensures .0, c .before .name-at2 .ensures .0) at (c .are-two .ensures))

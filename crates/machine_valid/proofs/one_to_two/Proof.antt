@@ -15,39 +15,39 @@ use mathlib.Core.List.{List, [], _∷_}
 use Rattle.machine_layout.specs.Layout.{nameAt}
 use Rattle.machine_valid.specs.Ports.{shaped-linked, shaped-not, one-not, one-none}
 
--- src/lib.rt:280:8  { ⏎ if machine_layout::name_at(mem, at, OUT3) != machine_firing::NOWHERE {
+-- src/lib.rt:273:8  { ⏎ if machine_layout::name_at(mem, at, OUT3) != machine_firing::NOWHERE {
 name-at-requires : tie.Need-name-at-requires
 name-at-requires c κs = search needs
 
--- src/lib.rt:281:9  if machine_layout::name_at(mem, at, OUT3) != machine_firing::NOWHERE { ⏎ return false;
+-- src/lib.rt:274:9  if machine_layout::name_at(mem, at, OUT3) != machine_firing::NOWHERE { ⏎ return false;
 returns : tie.Need-returns
 returns c = shaped-not (c .before .before .before .args .links) (nameAt (c .before .before .before .args .mem .now) (c .before .before .before .args .at) 4 ∷ nameAt (c .before .before .before .args .mem .now) (c .before .before .before .args .at) 3 ∷ nameAt (c .before .before .before .args .mem .now) (c .before .before .before .args .at) 0 ∷ []) (nameAt (c .before .before .before .args .mem .now) (c .before .before .before .args .at) 5 ∷ nameAt (c .before .before .before .args .mem .now) (c .before .before .before .args .at) 2 ∷ nameAt (c .before .before .before .args .mem .now) (c .before .before .before .args .at) 1 ∷ []) (one-not (nameAt (c .before .before .before .args .mem .now) (c .before .before .before .args .at) 5) (nameAt (c .before .before .before .args .mem .now) (c .before .before .before .args .at) 2 ∷ nameAt (c .before .before .before .args .mem .now) (c .before .before .before .args .at) 1 ∷ []) (λ e. c .if1 .taken (c .before .name-at .ensures .0 ∙ e)))
 
--- src/lib.rt:283:9  } ⏎ if !both_none(mem, at, IN2) {
+-- src/lib.rt:276:9  } ⏎ if !both_none(mem, at, IN2) {
 both-none-requires : tie.Need-both-none-requires
 both-none-requires c κs = search needs
 
--- src/lib.rt:284:9  if !both_none(mem, at, IN2) { ⏎ return false;
+-- src/lib.rt:277:9  if !both_none(mem, at, IN2) { ⏎ return false;
 returns-2 : tie.Need-returns-2
 returns-2 c = shaped-not (c .before .before .before .before .before .args .links) (nameAt (c .before .before .before .before .before .args .mem .now) (c .before .before .before .before .before .args .at) 4 ∷ nameAt (c .before .before .before .before .before .args .mem .now) (c .before .before .before .before .before .args .at) 3 ∷ nameAt (c .before .before .before .before .before .args .mem .now) (c .before .before .before .before .before .args .at) 0 ∷ []) (nameAt (c .before .before .before .before .before .args .mem .now) (c .before .before .before .before .before .args .at) 5 ∷ nameAt (c .before .before .before .before .before .args .mem .now) (c .before .before .before .before .before .args .at) 2 ∷ nameAt (c .before .before .before .before .before .args .mem .now) (c .before .before .before .before .before .args .at) 1 ∷ []) (one-none (nameAt (c .before .before .before .before .before .args .mem .now) (c .before .before .before .before .before .args .at) 5) (nameAt (c .before .before .before .before .before .args .mem .now) (c .before .before .before .before .before .args .at) 2 ∷ nameAt (c .before .before .before .before .before .args .mem .now) (c .before .before .before .before .before .args .at) 1 ∷ []) (sym (c .before .before .before .name-at .ensures .0) ∙ c .before .before .if1 .left) ∙ (sym (c .before .both-none .ensures) ∙ not-true (c .before .both-none .result) (c .if2 .taken)))
 
--- src/lib.rt:288:9  links, ⏎ machine_layout::name_at(mem, at, IN1),
+-- src/lib.rt:281:9  links, ⏎ machine_layout::name_at(mem, at, IN1),
 name-at-requires-2 : tie.Need-name-at-requires-2
 name-at-requires-2 c κs = search needs
 
--- src/lib.rt:289:9  machine_layout::name_at(mem, at, IN1), ⏎ machine_layout::name_at(mem, at, OUT1),
+-- src/lib.rt:282:9  machine_layout::name_at(mem, at, IN1), ⏎ machine_layout::name_at(mem, at, OUT1),
 name-at-requires-3 : tie.Need-name-at-requires-3
 name-at-requires-3 c κs = search needs
 
--- src/lib.rt:290:9  machine_layout::name_at(mem, at, OUT1), ⏎ machine_layout::name_at(mem, at, OUT2),
+-- src/lib.rt:283:9  machine_layout::name_at(mem, at, OUT1), ⏎ machine_layout::name_at(mem, at, OUT2),
 name-at-requires-4 : tie.Need-name-at-requires-4
 name-at-requires-4 c κs = search needs
 
--- src/lib.rt:286:5  } ⏎ are_three(
+-- src/lib.rt:279:5  } ⏎ are_three(
 are-three-requires : tie.Need-are-three-requires
 are-three-requires c κs = search needs
 
--- src/lib.rt:276:1  } ⏎ fn one_to_two(mem: &[u8], links: usize, at: usize) -> bool
+-- src/lib.rt:269:1  } ⏎ fn one_to_two(mem: &[u8], links: usize, at: usize) -> bool
 returns-3 : tie.Need-returns-3
 returns-3 c =
     (rw (c .before .before .before .name-at2 .ensures .0, c .before .before .name-at3 .ensures .0, c .before .name-at4 .ensures .0) at (c .are-three .ensures))

@@ -20,35 +20,35 @@ Inv-loop mem n links i₀ i = (i ≤ n) × (allBelow i (operatorOk mem) ≡ true
 abbrev μ-loop : tie.MeasureT-loop
 μ-loop mem n links i₀ i = n - i
 
--- src/lib.rt:375:9  { ⏎ let links = machine_layout::links(mem);
+-- src/lib.rt:368:9  { ⏎ let links = machine_layout::links(mem);
 links-requires : tie.Need-links-requires Inv-loop μ-loop
 links-requires c κs = search needs
 
--- src/lib.rt:377:5  let mut i = 0; ⏎ while i < n {
+-- src/lib.rt:370:5  let mut i = 0; ⏎ while i < n {
 loop-holds : tie.Need-loop-holds Inv-loop μ-loop
 loop-holds c = (omega arith, below-zero (operatorOk (c .before .before .args .mem .now)))
 
--- src/lib.rt:378:12  while i < n { ⏎ if operator_ok(mem, links, i) {
+-- src/lib.rt:371:12  while i < n { ⏎ if operator_ok(mem, links, i) {
 operator-ok-requires : tie.Need-operator-ok-requires Inv-loop μ-loop
 operator-ok-requires c κs = search needs
 
--- src/lib.rt:379:13  if operator_ok(mem, links, i) { ⏎ i += 1;
+-- src/lib.rt:372:13  if operator_ok(mem, links, i) { ⏎ i += 1;
 add-i : tie.Need-add-i Inv-loop μ-loop
 add-i c = search needs
 
--- src/lib.rt:377:5  let mut i = 0; ⏎ while i < n {
+-- src/lib.rt:370:5  let mut i = 0; ⏎ while i < n {
 loop-less : tie.Need-loop-less Inv-loop μ-loop
 loop-less c = search needs
 
--- src/lib.rt:377:5  let mut i = 0; ⏎ while i < n {
+-- src/lib.rt:370:5  let mut i = 0; ⏎ while i < n {
 loop-again : tie.Need-loop-again Inv-loop μ-loop
 loop-again c = (omega arith, below-step (c .before .before .before .loop .i) (operatorOk (c .before .before .before .before .before .before .args .mem .now)) (c .before .before .before .loop .inv .1) (sym (c .before .operator-ok .ensures) ∙ c .if1 .taken))
 
--- src/lib.rt:381:13  } else { ⏎ return false;
+-- src/lib.rt:374:13  } else { ⏎ return false;
 returns : tie.Need-returns Inv-loop μ-loop
 returns c = sym (below-fail (c .before .before .before .before .before .before .args .n) (operatorOk (c .before .before .before .before .before .before .args .mem .now)) (c .before .before .before .loop .i) (omega arith) (sym (c .before .operator-ok .ensures) ∙ c .if1 .left))
 
--- src/lib.rt:371:1  } ⏎ fn operators_ok(mem: &[u8], n: usize) -> bool
+-- src/lib.rt:364:1  } ⏎ fn operators_ok(mem: &[u8], n: usize) -> bool
 returns-2 : tie.Need-returns-2 Inv-loop μ-loop
 returns-2 c = let e : c .before .loop .i ≡ (c .before .before .before .before .args .n) = omega arith in sym (rw e at (c .before .loop .inv .1))
 

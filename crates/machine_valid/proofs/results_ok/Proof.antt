@@ -19,31 +19,31 @@ Inv-loop mem k p₀ p = (p ≤ k) × (allBelow p (resultOk mem 74) ≡ true)
 abbrev μ-loop : tie.MeasureT-loop
 μ-loop mem k p₀ p = k - p
 
--- src/lib.rt:74:5  let mut p = 0; ⏎ while p < k {
+-- src/lib.rt:71:5  let mut p = 0; ⏎ while p < k {
 loop-holds : tie.Need-loop-holds Inv-loop μ-loop
 loop-holds c = (omega arith, below-zero (resultOk (c .before .args .mem .now) 74))
 
--- src/lib.rt:75:12  while p < k { ⏎ if result_ok(mem, p) {
+-- src/lib.rt:72:12  while p < k { ⏎ if result_ok(mem, p) {
 result-ok-requires : tie.Need-result-ok-requires Inv-loop μ-loop
 result-ok-requires c κs = search needs
 
--- src/lib.rt:76:13  if result_ok(mem, p) { ⏎ p += 1;
+-- src/lib.rt:73:13  if result_ok(mem, p) { ⏎ p += 1;
 add-p : tie.Need-add-p Inv-loop μ-loop
 add-p c = search needs
 
--- src/lib.rt:74:5  let mut p = 0; ⏎ while p < k {
+-- src/lib.rt:71:5  let mut p = 0; ⏎ while p < k {
 loop-less : tie.Need-loop-less Inv-loop μ-loop
 loop-less c = search needs
 
--- src/lib.rt:74:5  let mut p = 0; ⏎ while p < k {
+-- src/lib.rt:71:5  let mut p = 0; ⏎ while p < k {
 loop-again : tie.Need-loop-again Inv-loop μ-loop
 loop-again c = (omega arith, below-step (c .before .before .before .loop .p) (resultOk (c .before .before .before .before .before .args .mem .now) 74) (c .before .before .before .loop .inv .1) (sym (c .before .result-ok .ensures) ∙ c .if1 .taken))
 
--- src/lib.rt:78:13  } else { ⏎ return false;
+-- src/lib.rt:75:13  } else { ⏎ return false;
 returns : tie.Need-returns Inv-loop μ-loop
 returns c = sym (below-fail (c .before .before .before .before .before .args .k) (resultOk (c .before .before .before .before .before .args .mem .now) 74) (c .before .before .before .loop .p) (omega arith) (sym (c .before .result-ok .ensures) ∙ c .if1 .left))
 
--- src/lib.rt:69:1  } ⏎ fn results_ok(mem: &[u8], k: usize) -> bool
+-- src/lib.rt:66:1  } ⏎ fn results_ok(mem: &[u8], k: usize) -> bool
 returns-2 : tie.Need-returns-2 Inv-loop μ-loop
 returns-2 c = let e : c .before .loop .p ≡ (c .before .before .before .args .k) = omega arith in sym (rw e at (c .before .loop .inv .1))
 

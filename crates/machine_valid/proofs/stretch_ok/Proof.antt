@@ -26,67 +26,67 @@ Inv-loop q n j₀ j = (j ≤ n) × (allBelow j (tokenOk q) ≡ true)
 abbrev μ-loop : tie.MeasureT-loop
 μ-loop q n j₀ j = n - j
 
--- src/lib.rt:391:9  { ⏎ let n = machine_queue::waiting(q);
+-- src/lib.rt:384:9  { ⏎ let n = machine_queue::waiting(q);
 waiting-requires : tie.Need-waiting-requires Inv-loop μ-loop
 waiting-requires c κs = search needs
 
--- src/lib.rt:393:9  if n == 0 { ⏎ return true;
+-- src/lib.rt:386:9  if n == 0 { ⏎ return true;
 returns : tie.Need-returns Inv-loop μ-loop
 unfolding stretchOk allBelow
 returns c = let z : waiting (c .before .before .before .args .q .now) ≡ 0 = sym (c .before .waiting .ensures .0) ∙ c .if1 .taken in rw (z, le-leb 1 (length (c .before .before .before .args .q .now)) (omega arith)) refl
 
--- src/lib.rt:395:18  } ⏎ if q.len() < 5 * n + 1 {
+-- src/lib.rt:388:18  } ⏎ if q.len() < 5 * n + 1 {
 mul-if2 : tie.Need-mul-if2 Inv-loop μ-loop
 mul-if2 c = search needs
 
--- src/lib.rt:395:18  } ⏎ if q.len() < 5 * n + 1 {
+-- src/lib.rt:388:18  } ⏎ if q.len() < 5 * n + 1 {
 add-if2 : tie.Need-add-if2 Inv-loop μ-loop
 add-if2 c = search needs
 
--- src/lib.rt:396:9  if q.len() < 5 * n + 1 { ⏎ return false;
+-- src/lib.rt:389:9  if q.len() < 5 * n + 1 { ⏎ return false;
 returns-2 : tie.Need-returns-2 Inv-loop μ-loop
 unfolding stretchOk
 returns-2 c = simp (lt-leb (5 * waiting (c .before .before .before .before .args .q .now) + 1) (length (c .before .before .before .before .args .q .now)) (omega (arith, c .before .before .waiting .ensures .0)))
 
--- src/lib.rt:399:5  let mut j = 0; ⏎ while j < n {
+-- src/lib.rt:392:5  let mut j = 0; ⏎ while j < n {
 loop-holds : tie.Need-loop-holds Inv-loop μ-loop
 loop-holds c = (omega arith, below-zero (tokenOk (c .before .before .before .before .args .q .now)))
 
--- src/lib.rt:400:57  while j < n { ⏎ if value::bytes::is_value(value::bytes::load(q, 5 * j + 1)) {
+-- src/lib.rt:393:57  while j < n { ⏎ if value::bytes::is_value(value::bytes::load(q, 5 * j + 1)) {
 mul-load : tie.Need-mul-load Inv-loop μ-loop
 mul-load c = search needs
 
--- src/lib.rt:400:57  while j < n { ⏎ if value::bytes::is_value(value::bytes::load(q, 5 * j + 1)) {
+-- src/lib.rt:393:57  while j < n { ⏎ if value::bytes::is_value(value::bytes::load(q, 5 * j + 1)) {
 add-load : tie.Need-add-load Inv-loop μ-loop
 add-load c = search needs
 
--- src/lib.rt:400:35  while j < n { ⏎ if value::bytes::is_value(value::bytes::load(q, 5 * j + 1)) {
+-- src/lib.rt:393:35  while j < n { ⏎ if value::bytes::is_value(value::bytes::load(q, 5 * j + 1)) {
 load-requires : tie.Need-load-requires Inv-loop μ-loop
 load-requires c κs = omega arith
 
--- src/lib.rt:400:12  while j < n { ⏎ if value::bytes::is_value(value::bytes::load(q, 5 * j + 1)) {
+-- src/lib.rt:393:12  while j < n { ⏎ if value::bytes::is_value(value::bytes::load(q, 5 * j + 1)) {
 is-value-requires : tie.Need-is-value-requires Inv-loop μ-loop
 is-value-requires c κs = search needs
 
--- src/lib.rt:401:13  if value::bytes::is_value(value::bytes::load(q, 5 * j + 1)) { ⏎ j += 1;
+-- src/lib.rt:394:13  if value::bytes::is_value(value::bytes::load(q, 5 * j + 1)) { ⏎ j += 1;
 add-j : tie.Need-add-j Inv-loop μ-loop
 add-j c = search needs
 
--- src/lib.rt:399:5  let mut j = 0; ⏎ while j < n {
+-- src/lib.rt:392:5  let mut j = 0; ⏎ while j < n {
 loop-less : tie.Need-loop-less Inv-loop μ-loop
 loop-less c = search needs
 
--- src/lib.rt:399:5  let mut j = 0; ⏎ while j < n {
+-- src/lib.rt:392:5  let mut j = 0; ⏎ while j < n {
 loop-again : tie.Need-loop-again Inv-loop μ-loop
 unfolding tokenOk
 loop-again c = (omega arith, below-step (c .before .before .before .before .loop .j) (tokenOk (c .before .before .before .before .before .before .before .before .before .args .q .now)) (c .before .before .before .before .loop .inv .1) (simp (sym (c .before .before .load .ensures .0)) (sym (c .before .is-value .ensures) ∙ c .if3 .taken)))
 
--- src/lib.rt:403:13  } else { ⏎ return false;
+-- src/lib.rt:396:13  } else { ⏎ return false;
 returns-3 : tie.Need-returns-3 Inv-loop μ-loop
 unfolding tokenOk stretchOk
 returns-3 c = simp (le-leb (5 * waiting (c .before .before .before .before .before .before .before .before .before .args .q .now) + 1) (length (c .before .before .before .before .before .before .before .before .before .args .q .now)) (omega (arith, c .before .before .before .before .before .before .before .waiting .ensures .0)), below-fail (waiting (c .before .before .before .before .before .before .before .before .before .args .q .now)) (tokenOk (c .before .before .before .before .before .before .before .before .before .args .q .now)) (c .before .before .before .before .loop .j) (omega (arith, c .before .before .before .before .before .before .before .waiting .ensures .0)) (simp (sym (c .before .before .load .ensures .0)) (sym (c .before .is-value .ensures) ∙ c .if3 .left)))
 
--- src/lib.rt:387:1  } ⏎ fn stretch_ok(q: &[u8]) -> bool
+-- src/lib.rt:380:1  } ⏎ fn stretch_ok(q: &[u8]) -> bool
 returns-4 : tie.Need-returns-4 Inv-loop μ-loop
 unfolding stretchOk
 returns-4 c = let e : c .before .loop .j ≡ waiting (c .before .before .before .before .before .before .args .q .now) = omega (arith, c .before .before .before .before .waiting .ensures .0) in simp (le-leb (5 * waiting (c .before .before .before .before .before .before .args .q .now) + 1) (length (c .before .before .before .before .before .before .args .q .now)) (omega (arith, c .before .before .before .before .waiting .ensures .0))) (sym (rw e at (c .before .loop .inv .1)))

@@ -12,45 +12,45 @@ use mathlib.Core.Path.{sym, _∙_}
 use Rattle.machine_layout.specs.Layout.{nameAt}
 use Rattle.machine_valid.specs.Ports.{ic-lacking, ic-whole}
 
--- src/lib.rt:315:9  { ⏎ let in1 = machine_layout::name_at(mem, at, IN1);
+-- src/lib.rt:308:9  { ⏎ let in1 = machine_layout::name_at(mem, at, IN1);
 name-at-requires : tie.Need-name-at-requires
 name-at-requires c κs = search needs
 
--- src/lib.rt:316:9  let in1 = machine_layout::name_at(mem, at, IN1); ⏎ let in2 = machine_layout::name_at(mem, at, IN2);
+-- src/lib.rt:309:9  let in1 = machine_layout::name_at(mem, at, IN1); ⏎ let in2 = machine_layout::name_at(mem, at, IN2);
 name-at-requires-2 : tie.Need-name-at-requires-2
 name-at-requires-2 c κs = search needs
 
--- src/lib.rt:317:9  let in2 = machine_layout::name_at(mem, at, IN2); ⏎ let in3 = machine_layout::name_at(mem, at, IN3);
+-- src/lib.rt:310:9  let in2 = machine_layout::name_at(mem, at, IN2); ⏎ let in3 = machine_layout::name_at(mem, at, IN3);
 name-at-requires-3 : tie.Need-name-at-requires-3
 name-at-requires-3 c κs = search needs
 
--- src/lib.rt:318:9  let in3 = machine_layout::name_at(mem, at, IN3); ⏎ let out1 = machine_layout::name_at(mem, at, OUT1);
+-- src/lib.rt:311:9  let in3 = machine_layout::name_at(mem, at, IN3); ⏎ let out1 = machine_layout::name_at(mem, at, OUT1);
 name-at-requires-4 : tie.Need-name-at-requires-4
 name-at-requires-4 c κs = search needs
 
--- src/lib.rt:319:9  let out1 = machine_layout::name_at(mem, at, OUT1); ⏎ let out2 = machine_layout::name_at(mem, at, OUT2);
+-- src/lib.rt:312:9  let out1 = machine_layout::name_at(mem, at, OUT1); ⏎ let out2 = machine_layout::name_at(mem, at, OUT2);
 name-at-requires-5 : tie.Need-name-at-requires-5
 name-at-requires-5 c κs = search needs
 
--- src/lib.rt:320:9  let out2 = machine_layout::name_at(mem, at, OUT2); ⏎ let out3 = machine_layout::name_at(mem, at, OUT3);
+-- src/lib.rt:313:9  let out2 = machine_layout::name_at(mem, at, OUT2); ⏎ let out3 = machine_layout::name_at(mem, at, OUT3);
 name-at-requires-6 : tie.Need-name-at-requires-6
 name-at-requires-6 c κs = search needs
 
--- src/lib.rt:322:9  if out2 == machine_firing::NOWHERE { ⏎ return are_five(links, in1, in2, in3, out1, out3);
+-- src/lib.rt:315:9  if out2 == machine_firing::NOWHERE { ⏎ return are_five(links, in1, in2, in3, out1, out3);
 are-five-requires : tie.Need-are-five-requires
 are-five-requires c κs = search needs
 
--- src/lib.rt:322:9  if out2 == machine_firing::NOWHERE { ⏎ return are_five(links, in1, in2, in3, out1, out3);
+-- src/lib.rt:315:9  if out2 == machine_firing::NOWHERE { ⏎ return are_five(links, in1, in2, in3, out1, out3);
 returns : tie.Need-returns
 returns c =
     (rw (c .before .before .before .before .before .before .before .name-at .ensures .0, c .before .before .before .before .before .before .name-at2 .ensures .0, c .before .before .before .before .before .name-at3 .ensures .0, c .before .before .before .before .name-at4 .ensures .0, c .before .before .name-at6 .ensures .0) at (c .are-five .ensures))
     ∙ sym (ic-lacking (c .before .before .before .before .before .before .before .before .before .args .links) (nameAt (c .before .before .before .before .before .before .before .before .before .args .mem .now) (c .before .before .before .before .before .before .before .before .before .args .at)) (sym (c .before .before .before .name-at5 .ensures .0) ∙ c .before .if1 .taken))
 
--- src/lib.rt:324:5  } ⏎ are_six(links, in1, in2, in3, out1, out2, out3)
+-- src/lib.rt:317:5  } ⏎ are_six(links, in1, in2, in3, out1, out2, out3)
 are-six-requires : tie.Need-are-six-requires
 are-six-requires c κs = search needs
 
--- src/lib.rt:311:1  // IC. "An output with no user": the second. ⏎ fn three_to_three(mem: &[u8], links: usize, at: usize) -> bool
+-- src/lib.rt:304:1  // IC. "An output with no user": the second. ⏎ fn three_to_three(mem: &[u8], links: usize, at: usize) -> bool
 returns-2 : tie.Need-returns-2
 returns-2 c =
     (rw (c .before .before .before .before .before .before .before .name-at .ensures .0, c .before .before .before .before .before .before .name-at2 .ensures .0, c .before .before .before .before .before .name-at3 .ensures .0, c .before .before .before .before .name-at4 .ensures .0, c .before .before .before .name-at5 .ensures .0, c .before .before .name-at6 .ensures .0) at (c .are-six .ensures))

@@ -15,39 +15,39 @@ use mathlib.Core.List.{List, [], _∷_}
 use Rattle.machine_layout.specs.Layout.{nameAt}
 use Rattle.machine_valid.specs.Ports.{nones, shaped-linked, shaped-not, two-not, two-none, one-not, one-none}
 
--- src/lib.rt:245:9  { ⏎ if !both_none(mem, at, OUT2) {
+-- src/lib.rt:238:9  { ⏎ if !both_none(mem, at, OUT2) {
 both-none-requires : tie.Need-both-none-requires
 both-none-requires c κs = search needs
 
--- src/lib.rt:246:9  if !both_none(mem, at, OUT2) { ⏎ return false;
+-- src/lib.rt:239:9  if !both_none(mem, at, OUT2) { ⏎ return false;
 returns : tie.Need-returns
 returns c = shaped-not (c .before .before .before .args .links) (nameAt (c .before .before .before .args .mem .now) (c .before .before .before .args .at) 3 ∷ nameAt (c .before .before .before .args .mem .now) (c .before .before .before .args .at) 1 ∷ nameAt (c .before .before .before .args .mem .now) (c .before .before .before .args .at) 0 ∷ []) (nameAt (c .before .before .before .args .mem .now) (c .before .before .before .args .at) 5 ∷ nameAt (c .before .before .before .args .mem .now) (c .before .before .before .args .at) 4 ∷ nameAt (c .before .before .before .args .mem .now) (c .before .before .before .args .at) 2 ∷ []) (two-not (nameAt (c .before .before .before .args .mem .now) (c .before .before .before .args .at) 5) (nameAt (c .before .before .before .args .mem .now) (c .before .before .before .args .at) 4) (nameAt (c .before .before .before .args .mem .now) (c .before .before .before .args .at) 2 ∷ []) (sym (c .before .both-none .ensures) ∙ not-true (c .before .both-none .result) (c .if1 .taken)))
 
--- src/lib.rt:248:8  } ⏎ if machine_layout::name_at(mem, at, IN3) != machine_firing::NOWHERE {
+-- src/lib.rt:241:8  } ⏎ if machine_layout::name_at(mem, at, IN3) != machine_firing::NOWHERE {
 name-at-requires : tie.Need-name-at-requires
 name-at-requires c κs = search needs
 
--- src/lib.rt:249:9  if machine_layout::name_at(mem, at, IN3) != machine_firing::NOWHERE { ⏎ return false;
+-- src/lib.rt:242:9  if machine_layout::name_at(mem, at, IN3) != machine_firing::NOWHERE { ⏎ return false;
 returns-2 : tie.Need-returns-2
 returns-2 c = shaped-not (c .before .before .before .before .before .args .links) (nameAt (c .before .before .before .before .before .args .mem .now) (c .before .before .before .before .before .args .at) 3 ∷ nameAt (c .before .before .before .before .before .args .mem .now) (c .before .before .before .before .before .args .at) 1 ∷ nameAt (c .before .before .before .before .before .args .mem .now) (c .before .before .before .before .before .args .at) 0 ∷ []) (nameAt (c .before .before .before .before .before .args .mem .now) (c .before .before .before .before .before .args .at) 5 ∷ nameAt (c .before .before .before .before .before .args .mem .now) (c .before .before .before .before .before .args .at) 4 ∷ nameAt (c .before .before .before .before .before .args .mem .now) (c .before .before .before .before .before .args .at) 2 ∷ []) (two-none (nameAt (c .before .before .before .before .before .args .mem .now) (c .before .before .before .before .before .args .at) 5) (nameAt (c .before .before .before .before .before .args .mem .now) (c .before .before .before .before .before .args .at) 4) (nameAt (c .before .before .before .before .before .args .mem .now) (c .before .before .before .before .before .args .at) 2 ∷ []) (sym (c .before .before .before .both-none .ensures) ∙ not-false (c .before .before .before .both-none .result) (c .before .before .if1 .left)) ∙ one-not (nameAt (c .before .before .before .before .before .args .mem .now) (c .before .before .before .before .before .args .at) 2) [] (λ e. c .if2 .taken (c .before .name-at .ensures .0 ∙ e)))
 
--- src/lib.rt:253:9  links, ⏎ machine_layout::name_at(mem, at, IN1),
+-- src/lib.rt:246:9  links, ⏎ machine_layout::name_at(mem, at, IN1),
 name-at-requires-2 : tie.Need-name-at-requires-2
 name-at-requires-2 c κs = search needs
 
--- src/lib.rt:254:9  machine_layout::name_at(mem, at, IN1), ⏎ machine_layout::name_at(mem, at, IN2),
+-- src/lib.rt:247:9  machine_layout::name_at(mem, at, IN1), ⏎ machine_layout::name_at(mem, at, IN2),
 name-at-requires-3 : tie.Need-name-at-requires-3
 name-at-requires-3 c κs = search needs
 
--- src/lib.rt:255:9  machine_layout::name_at(mem, at, IN2), ⏎ machine_layout::name_at(mem, at, OUT1),
+-- src/lib.rt:248:9  machine_layout::name_at(mem, at, IN2), ⏎ machine_layout::name_at(mem, at, OUT1),
 name-at-requires-4 : tie.Need-name-at-requires-4
 name-at-requires-4 c κs = search needs
 
--- src/lib.rt:251:5  } ⏎ are_three(
+-- src/lib.rt:244:5  } ⏎ are_three(
 are-three-requires : tie.Need-are-three-requires
 are-three-requires c κs = search needs
 
--- src/lib.rt:241:1  } ⏎ fn two_to_one(mem: &[u8], links: usize, at: usize) -> bool
+-- src/lib.rt:234:1  } ⏎ fn two_to_one(mem: &[u8], links: usize, at: usize) -> bool
 returns-3 : tie.Need-returns-3
 unfolding nones
 returns-3 c =

@@ -1,3 +1,4 @@
+use native.Mathlib.Omega.{arith}
 use borrow.Author.Needs.{needs}
 use Rattle.maker_parts.proofs.constant.Statement.{statement}
 use Rattle.maker_parts.proofs.constant.Tie as tie
@@ -10,7 +11,6 @@ use Rattle.machine_layout.specs.Record.{placed}
 use Rattle.maker_parts.specs.Parts.{done-constant, constantRecord}
 use Prim.Native.Nat.{ℕ}
 use lib.ListN.{getD}
-use native.Mathlib.Omega.{arith}
 
 -- src/lib.rt:113:13  { ⏎ let n = next.link as u16;
 cast-n : tie.Need-cast-n
@@ -50,7 +50,7 @@ same-length c = search needs
 
 -- src/lib.rt:109:1  // "A constant takes one trigger" ⏎ pub fn constant(mem: &mut [u8], v: Value, env: [u16; 33], next: Next) -> Emitted
 returns : tie.Need-returns
-returns c = done-constant (c .before .before .before .before .before .before .before .before .before .args .v) (c .before .before .before .before .before .before .before .before .before .args .next .link) (c .before .before .before .before .before .before .before .before .before .args .next .operator) _ _ _ _ (c .before .before .before .before .store-operator .ensures ∙ ap (λ (z : ℕ). placed (c .before .before .before .before .before .before .before .before .before .args .mem .now) (c .before .before .before .before .before .before .before .before .before .args .next .operator) (record { kind = 12; in1 = getD (c .before .before .before .before .before .before .before .before .before .args .t3) 32 0; in2 = 65535; in3 = 65535; out1 = c .before .before .before .before .before .before .before .before .before .args .next .link; out2 = 65535; out3 = 65535; register = z })) (c .before .before .before .before .before .before .to-word .ensures .0)) refl (omega arith)
+returns c = done-constant (c .before .before .before .before .before .before .before .before .before .args .v) (c .before .before .before .before .before .before .before .before .before .args .next .link) (c .before .before .before .before .before .before .before .before .before .args .next .operator) _ _ _ _ (c .before .before .before .before .store-operator .ensures ∙ ap (λ (z : ℕ). placed (c .before .before .before .before .before .before .before .before .before .args .mem .now) (c .before .before .before .before .before .before .before .before .before .args .next .operator) (record { kind = 12; in1 = getD (c .before .before .before .before .before .before .before .before .before .args .t3) 32 0; in2 = 65535; in3 = 65535; out1 = c .before .before .before .before .before .before .before .before .before .args .next .link; out2 = 65535; out3 = 65535; register = z })) (c .before .before .before .before .before .before .to-word .ensures)) refl (omega arith)
 
 pub constant-spec : {M : Type 1} → statement M
 constant-spec =

@@ -8,82 +8,76 @@ use Rattle.text_print.proofs.put_whole.Reads as reads
 use Rattle.text_print.proofs.put_whole.Lts as lts
 use Rattle.text_print.proofs.put_letter.Reads as put-letter-reads
 use Rattle.text_print.proofs.show.Reads as show-reads
-use native.Mathlib.Omega.{arith}
-use Prim.Native.Nat.{ℕ, suc, _+_, _-_, _*_, _/_, _%_, _^_, _≤_, _<_}
-use mathlib.Core.Path.{_≡_, sym, _∙_, ap, refl}
-use mathlib.Core.List.{List, [], _∷_, _++_}
-use mathlib.Core.Bool.{Bool, true, false}
-use lib.ListN.{length, getD, take, drop, set, replicate, length-set, length-append, length-take, length-drop, length-replicate}
-use lib.Seq.{slice, sets, length-sets, length-front, length-take-le}
-use Rattle.value.specs.Bytes.{wholeOf, truthOf, wordAt}
-use Rattle.text.specs.Printed.{led, shown, numberField, letterField, optionField, wordField, resultFields, resultLine, headLine, refusalLine}
-use Rattle.text.specs.PrintLaws.{led-length, shown-length, number-length, letter-length, word-length, line-length, space-more, sign-put, sign-empty, led-spaces, digit-last, digit-more, number-start, shown-none, number-put, spaces-put, letter-parts, refusal-parts, head-parts, results-none, results-more, results-end, whole-positive, whole-negative, whole-outside, truth-false, truth-true, truth-neither, word-whole, word-truth, word-other}
+use Prim.Native.Nat.{_-_}
+use mathlib.Core.Path.{sym, _∙_, ap}
+use lib.Seq.{sets}
+use Rattle.text.specs.PrintLaws.{number-put, whole-positive, whole-negative, whole-outside}
 
--- src/lib.rt:98:15  { ⏎ let end = at + VALUE_FIELD;
+-- src/lib.rt:99:15  { ⏎ let end = at + VALUE_FIELD;
 add-end : tie.Need-add-end
 add-end c = search needs
 
--- src/lib.rt:100:14  if bits < FIRST_NEGATIVE { ⏎ show(&mut out[at..end], false, bits);
+-- src/lib.rt:101:14  if bits < FIRST_NEGATIVE { ⏎ show(&mut out[at..end], b' ', bits);
 sub-show : tie.Need-sub-show
 sub-show c = search needs
 
--- src/lib.rt:100:14  if bits < FIRST_NEGATIVE { ⏎ show(&mut out[at..end], false, bits);
+-- src/lib.rt:101:14  if bits < FIRST_NEGATIVE { ⏎ show(&mut out[at..end], b' ', bits);
 part-show-start : tie.Need-part-show-start
 part-show-start c = search needs
 
--- src/lib.rt:100:14  if bits < FIRST_NEGATIVE { ⏎ show(&mut out[at..end], false, bits);
+-- src/lib.rt:101:14  if bits < FIRST_NEGATIVE { ⏎ show(&mut out[at..end], b' ', bits);
 part-show-end : tie.Need-part-show-end
 part-show-end c = search needs
 
--- src/lib.rt:100:9  if bits < FIRST_NEGATIVE { ⏎ show(&mut out[at..end], false, bits);
+-- src/lib.rt:101:9  if bits < FIRST_NEGATIVE { ⏎ show(&mut out[at..end], b' ', bits);
 show-requires : tie.Need-show-requires
 show-requires c κs = search needs
 
--- src/lib.rt:101:9  show(&mut out[at..end], false, bits); ⏎ return;
+-- src/lib.rt:102:9  show(&mut out[at..end], b' ', bits); ⏎ return;
 same-length : tie.Need-same-length
 same-length c = search needs
 
--- src/lib.rt:101:9  show(&mut out[at..end], false, bits); ⏎ return;
+-- src/lib.rt:102:9  show(&mut out[at..end], b' ', bits); ⏎ return;
 returns : tie.Need-returns
-returns c = number-put (c .before .before .before .before .before .before .args .out .now) (c .before .before .show .last .0) (c .before .before .before .before .before .before .args .at) 11 (c .before .before .before .before .before .before .args .bits) false (c .before .before .before .before .before .before .pre) (c .before .before .show .ensures) ∙ ap (sets (c .before .before .before .before .before .before .args .out .now) (c .before .before .before .before .before .before .args .at)) (sym (whole-positive (c .before .before .before .before .before .before .args .bits) (c .before .before .before .before .if1 .taken)))
+returns c = number-put (c .before .before .before .before .before .before .args .out .now) (c .before .before .show .last .0) (c .before .before .before .before .before .before .args .at) 11 (c .before .before .before .before .before .before .args .bits) 32 (c .before .before .before .before .before .before .pre) (c .before .before .show .ensures) ∙ ap (sets (c .before .before .before .before .before .before .args .out .now) (c .before .before .before .before .before .before .args .at)) (sym (whole-positive (c .before .before .before .before .before .before .args .bits) (c .before .before .before .before .if1 .taken)))
 
--- src/lib.rt:104:14  if bits < WRAP { ⏎ show(&mut out[at..end], true, WRAP - bits);
+-- src/lib.rt:105:14  if bits < WRAP { ⏎ show(&mut out[at..end], b'-', WRAP - bits);
 sub-show-2 : tie.Need-sub-show-2
 sub-show-2 c = search needs
 
--- src/lib.rt:104:14  if bits < WRAP { ⏎ show(&mut out[at..end], true, WRAP - bits);
+-- src/lib.rt:105:14  if bits < WRAP { ⏎ show(&mut out[at..end], b'-', WRAP - bits);
 part-show-start-2 : tie.Need-part-show-start-2
 part-show-start-2 c = search needs
 
--- src/lib.rt:104:14  if bits < WRAP { ⏎ show(&mut out[at..end], true, WRAP - bits);
+-- src/lib.rt:105:14  if bits < WRAP { ⏎ show(&mut out[at..end], b'-', WRAP - bits);
 part-show-end-2 : tie.Need-part-show-end-2
 part-show-end-2 c = search needs
 
--- src/lib.rt:104:39  if bits < WRAP { ⏎ show(&mut out[at..end], true, WRAP - bits);
+-- src/lib.rt:105:39  if bits < WRAP { ⏎ show(&mut out[at..end], b'-', WRAP - bits);
 sub-show-3 : tie.Need-sub-show-3
 sub-show-3 c = search needs
 
--- src/lib.rt:104:9  if bits < WRAP { ⏎ show(&mut out[at..end], true, WRAP - bits);
+-- src/lib.rt:105:9  if bits < WRAP { ⏎ show(&mut out[at..end], b'-', WRAP - bits);
 show-requires-2 : tie.Need-show-requires-2
 show-requires-2 c κs = search needs
 
--- src/lib.rt:105:9  show(&mut out[at..end], true, WRAP - bits); ⏎ return;
+-- src/lib.rt:106:9  show(&mut out[at..end], b'-', WRAP - bits); ⏎ return;
 same-length-2 : tie.Need-same-length-2
 same-length-2 c = search needs
 
--- src/lib.rt:105:9  show(&mut out[at..end], true, WRAP - bits); ⏎ return;
+-- src/lib.rt:106:9  show(&mut out[at..end], b'-', WRAP - bits); ⏎ return;
 returns-2 : tie.Need-returns-2
-returns-2 c = number-put (c .before .before .before .before .before .before .before .args .out .now) (c .before .before .show2 .last .0) (c .before .before .before .before .before .before .before .args .at) 11 (4294967296 - c .before .before .before .before .before .before .before .args .bits) true (c .before .before .before .before .before .before .before .pre) (c .before .before .show2 .ensures) ∙ ap (sets (c .before .before .before .before .before .before .before .args .out .now) (c .before .before .before .before .before .before .before .args .at)) (sym (whole-negative (c .before .before .before .before .before .before .before .args .bits) (c .before .before .before .before .before .if1 .left) (c .before .before .before .before .if2 .taken)))
+returns-2 c = number-put (c .before .before .before .before .before .before .before .args .out .now) (c .before .before .show2 .last .0) (c .before .before .before .before .before .before .before .args .at) 11 (4294967296 - c .before .before .before .before .before .before .before .args .bits) 45 (c .before .before .before .before .before .before .before .pre) (c .before .before .show2 .ensures) ∙ ap (sets (c .before .before .before .before .before .before .before .args .out .now) (c .before .before .before .before .before .before .before .args .at)) (sym (whole-negative (c .before .before .before .before .before .before .before .args .bits) (c .before .before .before .before .before .if1 .left) (c .before .before .before .before .if2 .taken)))
 
--- src/lib.rt:107:5  } ⏎ put_letter(out, at, b'E');
+-- src/lib.rt:108:5  } ⏎ put_letter(out, at, b'E');
 put-letter-requires : tie.Need-put-letter-requires
 put-letter-requires c κs = search needs
 
--- src/lib.rt:94:1  // A whole number by its 32 bits, two's complement. ⏎ fn put_whole(out: &mut [u8], at: usize, bits: u64)
+-- src/lib.rt:95:1  // A whole number by its 32 bits, two's complement. ⏎ fn put_whole(out: &mut [u8], at: usize, bits: u64)
 same-length-3 : tie.Need-same-length-3
 same-length-3 c = search needs
 
--- src/lib.rt:94:1  // A whole number by its 32 bits, two's complement. ⏎ fn put_whole(out: &mut [u8], at: usize, bits: u64)
+-- src/lib.rt:95:1  // A whole number by its 32 bits, two's complement. ⏎ fn put_whole(out: &mut [u8], at: usize, bits: u64)
 returns-3 : tie.Need-returns-3
 returns-3 c = c .before .before .put-letter .ensures ∙ ap (sets (c .before .before .before .before .before .before .before .args .out .now) (c .before .before .before .before .before .before .before .args .at)) (sym (whole-outside (c .before .before .before .before .before .before .before .args .bits) (c .before .before .before .before .if2 .left)))
 

@@ -2,18 +2,13 @@ use Rattle.text_print.proofs.spaces.Statement.{statement}
 use Rattle.text_print.proofs.spaces.Tie as tie
 use Rattle.text_print.proofs.spaces.Reads as reads
 use Rattle.text_print.proofs.spaces.Lts as lts
-use lib.Seq.{take-suc-set, take-length}
+use lib.Seq.{take-length}
 use borrow.Author.Needs.{needs}
 use native.Mathlib.Omega.{arith}
-use Prim.Native.Nat.{ℕ, suc, _+_, _-_, _*_, _/_, _%_, _^_, _≤_, _<_}
+use Prim.Native.Nat.{ℕ, _-_, _≤_}
 use mathlib.Core.Path.{_≡_, sym, _∙_, ap, refl}
-use mathlib.Core.List.{List, [], _∷_, _++_}
-use mathlib.Core.Bool.{Bool, true, false}
-use lib.ListN.{length, getD, take, drop, set, replicate, length-set, length-append, length-take, length-drop, length-replicate}
-use lib.Seq.{slice, sets, length-sets}
-use Rattle.text.specs.Printed.{led, shown, numberField, letterField, optionField, wordField, resultFields, resultLine, headLine, refusalLine}
-use Rattle.text.specs.PrintLaws.{led-length, shown-length, number-length, letter-length, word-length, line-length, space-more, sign-last, sign-none, led-spaces, digit-last, digit-more, number-start, shown-none, lent-part, letter-parts, refusal-parts, head-parts, results-none, results-more, results-end, whole-positive, whole-negative, whole-outside, truth-false, truth-true, truth-neither, word-whole, word-truth, word-other}
-use lib.Seq.{take-length}
+use lib.ListN.{length, take, replicate, length-set}
+use Rattle.text.specs.PrintLaws.{space-more}
 
 abbrev Inv-loop : tie.InvT-loop
 Inv-loop part₀ i₀ part i = (length part ≡ length part₀) × (i ≤ length part₀) × (take i part ≡ replicate i 32)
@@ -21,31 +16,31 @@ Inv-loop part₀ i₀ part i = (length part ≡ length part₀) × (i ≤ length
 abbrev μ-loop : tie.MeasureT-loop
 μ-loop part₀ i₀ part i = length part₀ - i
 
--- src/lib.rt:38:5  let mut i = 0; ⏎ while i < part.len() {
+-- src/lib.rt:41:5  let mut i = 0; ⏎ while i < part.len() {
 loop-holds : tie.Need-loop-holds Inv-loop μ-loop
 loop-holds c = (refl, omega arith, refl)
 
--- src/lib.rt:39:9  while i < part.len() { ⏎ part[i] = b' ';
+-- src/lib.rt:42:9  while i < part.len() { ⏎ part[i] = b' ';
 slice-write-part : tie.Need-slice-write-part Inv-loop μ-loop
 slice-write-part c = omega arith
 
--- src/lib.rt:40:9  part[i] = b' '; ⏎ i += 1;
+-- src/lib.rt:43:9  part[i] = b' '; ⏎ i += 1;
 add-i : tie.Need-add-i Inv-loop μ-loop
 add-i c = search needs
 
--- src/lib.rt:38:5  let mut i = 0; ⏎ while i < part.len() {
+-- src/lib.rt:41:5  let mut i = 0; ⏎ while i < part.len() {
 loop-less : tie.Need-loop-less Inv-loop μ-loop
 loop-less c = omega (arith, c .before .loop .inv .0)
 
--- src/lib.rt:38:5  let mut i = 0; ⏎ while i < part.len() {
+-- src/lib.rt:41:5  let mut i = 0; ⏎ while i < part.len() {
 loop-again : tie.Need-loop-again Inv-loop μ-loop
 loop-again c = (length-set (c .before .loop .part) (c .before .loop .i) 32 ∙ c .before .loop .inv .0, omega (arith, c .before .loop .inv .0), space-more (c .before .loop .part) (c .before .loop .i) (c .loop-test .taken) (c .before .loop .inv .2))
 
--- src/lib.rt:34:1  const TRUTH: u64 = 2; ⏎ fn spaces(part: &mut [u8])
+-- src/lib.rt:37:1  const REAL: u64 = 4; ⏎ fn spaces(part: &mut [u8])
 same-length : tie.Need-same-length Inv-loop μ-loop
 same-length c = c .before .loop .inv .0
 
--- src/lib.rt:34:1  const TRUTH: u64 = 2; ⏎ fn spaces(part: &mut [u8])
+-- src/lib.rt:37:1  const REAL: u64 = 4; ⏎ fn spaces(part: &mut [u8])
 returns : tie.Need-returns Inv-loop μ-loop
 returns c = let e : c .before .loop .i ≡ length (c .before .loop .part) = omega (arith, c .before .loop .inv .0) in sym (take-length (c .before .loop .part)) ∙ (rw e at (c .before .loop .inv .2)) ∙ ap (λ (n : ℕ). replicate n 32) (c .before .loop .inv .0)
 

@@ -7,12 +7,12 @@ use Rattle.value.proofs.and.Lts as lts
 use Rattle.value.specs.Operators.{andOf}
 use mathlib.Core.Path.{refl}
 
--- src/lib.rt:123:9  if a { ⏎ return Value::Truth(b);
+-- src/lib.rt:126:9  if a { ⏎ return Value::Truth(b);
 returns : tie.Need-returns
 unfolding andOf
 returns c = rw (c .if1 .taken) refl
 
--- src/lib.rt:119:1  } ⏎ fn and(a: bool, b: bool) -> Value
+-- src/lib.rt:122:1  } ⏎ fn and(a: bool, b: bool) -> Value
 returns-2 : tie.Need-returns-2
 unfolding andOf
 returns-2 c = rw (c .if1 .left) refl

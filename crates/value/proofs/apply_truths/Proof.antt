@@ -9,20 +9,20 @@ use native.Mathlib.Omega.{arith}
 use mathlib.Core.Path.{_≡_}
 use Rattle.value.specs.Operators.{apply}
 
--- src/lib.rt:159:14  match code { ⏎ 8 => and(a, b),
+-- src/lib.rt:216:14  match code { ⏎ 8 => and(a, b),
 and-requires : tie.Need-and-requires
 and-requires c κs = search needs
 
--- src/lib.rt:160:14  8 => and(a, b), ⏎ _ => or(a, b),
+-- src/lib.rt:217:14  8 => and(a, b), ⏎ _ => or(a, b),
 or-requires : tie.Need-or-requires
 or-requires c κs = search needs
 
--- src/lib.rt:154:1  // Codes 8 and 9 of two truths. ⏎ fn apply_truths(code: u8, a: bool, b: bool) -> Value
+-- src/lib.rt:211:1  // Codes 8 and 9 of two truths. ⏎ fn apply_truths(code: u8, a: bool, b: bool) -> Value
 returns : tie.Need-returns
 unfolding apply
 returns c = rw (c .before .match .keys1) (c .and .ensures)
 
--- src/lib.rt:154:1  // Codes 8 and 9 of two truths. ⏎ fn apply_truths(code: u8, a: bool, b: bool) -> Value
+-- src/lib.rt:211:1  // Codes 8 and 9 of two truths. ⏎ fn apply_truths(code: u8, a: bool, b: bool) -> Value
 returns-2 : tie.Need-returns-2
 unfolding apply
 returns-2 c = let e : c .before .before .args .code ≡ 9 = omega (arith, c .before .match .rest .1, c .before .before .pre) in rw e (c .or .ensures)

@@ -24,11 +24,11 @@ the-other false false r e = absurd (false≢true (sym e))
 the-other true false r e = refl
 the-other false true r e = refl
 
--- src/lib.rt:208:9  if a == d { ⏎ return Value::Truth(d);
+-- src/lib.rt:275:9  if a == d { ⏎ return Value::Truth(d);
 returns : tie.Need-returns
 returns c = the-deciding (c .before .args .d) (c .before .args .a) (c .before .args .reason) (c .if1 .taken)
 
--- src/lib.rt:204:1  // A truth beside an err, where the truth d decides. ⏎ fn beside_err(d: bool, a: bool, reason: Reason) -> Value
+-- src/lib.rt:271:1  // A truth beside an err, where the truth d decides. ⏎ fn beside_err(d: bool, a: bool, reason: Reason) -> Value
 returns-2 : tie.Need-returns-2
 returns-2 c = the-other (c .before .args .d) (c .before .args .a) (c .before .args .reason) (c .if1 .left)
 

@@ -7,7 +7,7 @@ use Rattle.value.specs.declared.Value.the-variants.{Truth}
 use Rattle.value.proofs.Whole.{eq-bits}
 use Rattle.value.specs.Operators.{equalOf}
 
--- src/lib.rt:107:1  } ⏎ fn equal(a: i32, b: i32) -> Value
+-- src/lib.rt:110:1  } ⏎ fn equal(a: i32, b: i32) -> Value
 returns : tie.Need-returns
 unfolding equalOf
 returns c = ap Truth (eq-bits (c .args .a) (c .args .b) (c .fits .a) (c .fits .b))

@@ -5,7 +5,7 @@ use Rattle.value.proofs.less.Lts as lts
 use Rattle.value.proofs.Whole.{back}
 use Rattle.value.specs.Operators.{lessOf}
 
--- src/lib.rt:101:1  } ⏎ fn less(a: i32, b: i32) -> Value
+-- src/lib.rt:104:1  } ⏎ fn less(a: i32, b: i32) -> Value
 returns : tie.Need-returns
 unfolding lessOf
 returns c = simp (back (c .fits .a), back (c .fits .b))

@@ -7,12 +7,12 @@ use Rattle.value.proofs.or.Lts as lts
 use Rattle.value.specs.Operators.{orOf}
 use mathlib.Core.Path.{refl}
 
--- src/lib.rt:132:9  if a { ⏎ return Value::Truth(true);
+-- src/lib.rt:135:9  if a { ⏎ return Value::Truth(true);
 returns : tie.Need-returns
 unfolding orOf
 returns c = rw (c .if1 .taken) refl
 
--- src/lib.rt:128:1  } ⏎ fn or(a: bool, b: bool) -> Value
+-- src/lib.rt:131:1  } ⏎ fn or(a: bool, b: bool) -> Value
 returns-2 : tie.Need-returns-2
 unfolding orOf
 returns-2 c = rw (c .if1 .left) refl

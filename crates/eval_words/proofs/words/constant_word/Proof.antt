@@ -5,17 +5,19 @@ use Rattle.eval_words.proofs.words.constant_word.Reads as reads
 use Rattle.eval_words.proofs.words.constant_word.Lts as lts
 use Rattle.eval_words.proofs.words.word.Reads as word-reads
 use Rattle.formula.proofs.constant.Reads as constant-reads
-use mathlib.Core.Path.{_∙_}
+use mathlib.Core.Path.{_∙_, sym, subst}
+use Rattle.value.specs.Bytes.{InRange}
+use Rattle.formula.specs.Constants.{constant-in-range}
 
--- src/words.rt:77:10  { ⏎ word(formula::constant(kind, a))
+-- src/words.rt:83:10  { ⏎ word(formula::constant(kind, a))
 constant-requires : tie.Need-constant-requires
 constant-requires c κs = search needs
 
--- src/words.rt:77:5  { ⏎ word(formula::constant(kind, a))
+-- src/words.rt:83:5  { ⏎ word(formula::constant(kind, a))
 word-requires : tie.Need-word-requires
-word-requires c κs = search needs
+word-requires c κs = subst InRange (sym (c .constant .ensures)) (constant-in-range (c .before .args .kind) (c .before .args .a) (c .before .pre))
 
--- src/words.rt:73:1  // A word of a constant. ⏎ pub fn constant_word(kind: u32, a: u32) -> u64
+-- src/words.rt:79:1  // A word of a constant. ⏎ pub fn constant_word(kind: u32, a: u32) -> u64
 returns : tie.Need-returns
 returns c = c .word .ensures ∙ c .before .constant .ensures
 

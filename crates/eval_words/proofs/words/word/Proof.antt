@@ -7,13 +7,13 @@ use Rattle.value.proofs.bytes.to_word.Reads as to-word-reads
 use mathlib.Core.Path.{_≡_, _∙_, ap}
 use Rattle.eval_words.specs.Words.{heldOf, held-word}
 
--- src/words.rt:32:5  { ⏎ value::bytes::to_word(v)
+-- src/words.rt:34:5  { ⏎ value::bytes::to_word(v)
 to-word-requires : tie.Need-to-word-requires
 to-word-requires c κs = search needs
 
--- src/words.rt:29:1  // A word of the value. ⏎ fn word(v: Value) -> u64
+-- src/words.rt:30:1  // A word of the value. ⏎ fn word(v: Value) -> u64
 returns : tie.Need-returns
-returns c = ap heldOf (c .to-word .ensures .0) ∙ held-word (c .before .args .v) (c .to-word .ensures .1)
+returns c = ap heldOf (c .to-word .ensures) ∙ held-word (c .before .args .v) (c .before .pre)
 
 pub word-spec : {M : Type 1} → statement M
 word-spec = tie.close (tie.spec to-word-requires returns)

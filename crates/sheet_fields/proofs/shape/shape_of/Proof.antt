@@ -99,9 +99,14 @@ returns-9 c = rw (c .before .match .keys9, c .row-number11 .ensures)
 -- src/shape.rt:28:1  } ⏎ fn shape_of(kind: u32, a: u32, b: u32, c: u32, d: u32) -> Shape
 returns-10 : tie.Need-returns-10
 unfolding shapeOf
-returns-10 c =
+returns-10 c = rw (c .match .keys10)
+
+-- src/shape.rt:28:1  } ⏎ fn shape_of(kind: u32, a: u32, b: u32, c: u32, d: u32) -> Shape
+returns-11 : tie.Need-returns-11
+unfolding shapeOf
+returns-11 c =
     let r = c .match .rest in
-    simp (ne-eqb _ _ (r .0 .0 .0 .0 .0 .0 .0 .0 .1), ne-eqb _ _ (r .0 .0 .0 .0 .0 .0 .0 .1), ne-eqb _ _ (r .0 .0 .0 .0 .0 .0 .1), ne-eqb _ _ (r .0 .0 .0 .0 .0 .1), ne-eqb _ _ (r .0 .0 .0 .0 .1), ne-eqb _ _ (r .0 .0 .0 .1), ne-eqb _ _ (r .0 .0 .1), ne-eqb _ _ (r .0 .1), ne-eqb _ _ (r .1))
+    simp (ne-eqb _ _ (r .0 .0 .0 .0 .0 .0 .0 .0 .0 .1), ne-eqb _ _ (r .0 .0 .0 .0 .0 .0 .0 .0 .1), ne-eqb _ _ (r .0 .0 .0 .0 .0 .0 .0 .1), ne-eqb _ _ (r .0 .0 .0 .0 .0 .0 .1), ne-eqb _ _ (r .0 .0 .0 .0 .0 .1), ne-eqb _ _ (r .0 .0 .0 .0 .1), ne-eqb _ _ (r .0 .0 .0 .1), ne-eqb _ _ (r .0 .0 .1), ne-eqb _ _ (r .0 .1), ne-eqb _ _ (r .1))
 
 pub shape-of-spec : {M : Type 1} → statement M
 shape-of-spec =
@@ -127,4 +132,5 @@ shape-of-spec =
     returns-7
     returns-8
     returns-9
-    returns-10)
+    returns-10
+    returns-11)

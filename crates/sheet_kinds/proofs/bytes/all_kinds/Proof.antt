@@ -20,35 +20,35 @@ Inv-loop k l n i₀ i = (i ≤ n) × (allOf (kindOfByte k) (stretch (kindsIn l) 
 abbrev μ-loop : tie.MeasureT-loop
 μ-loop k l n i₀ i = n - i
 
--- src/bytes.rt:104:5  let mut i = 0; ⏎ while i < n {
+-- src/bytes.rt:95:5  let mut i = 0; ⏎ while i < n {
 loop-holds : tie.Need-loop-holds Inv-loop μ-loop
 loop-holds c = (omega arith, all-start (kindOfByte (c .before .args .k)) (c .before .args .l .now) (c .before .args .n))
 
--- src/bytes.rt:105:26  while i < n { ⏎ if !same_kind(k, l[i]) {
+-- src/bytes.rt:96:26  while i < n { ⏎ if !same_kind(k, l[i]) {
 shared-slice-read-same-kind : tie.Need-shared-slice-read-same-kind Inv-loop μ-loop
 shared-slice-read-same-kind c = search needs
 
--- src/bytes.rt:105:13  while i < n { ⏎ if !same_kind(k, l[i]) {
+-- src/bytes.rt:96:13  while i < n { ⏎ if !same_kind(k, l[i]) {
 same-kind-requires : tie.Need-same-kind-requires Inv-loop μ-loop
 same-kind-requires c κs = search needs
 
--- src/bytes.rt:106:13  if !same_kind(k, l[i]) { ⏎ return false;
+-- src/bytes.rt:97:13  if !same_kind(k, l[i]) { ⏎ return false;
 returns : tie.Need-returns Inv-loop μ-loop
 returns c = let e : c .before .same-kind .result ≡ false = not-true (c .before .same-kind .result) (c .if1 .taken) in sym (c .before .before .before .before .loop .inv .1 ∙ all-step (kindOfByte (c .before .before .before .before .before .before .args .k)) (c .before .before .before .before .before .before .args .l .now) (c .before .before .before .before .before .before .args .n) (c .before .before .before .before .loop .i) (c .before .before .before .loop-test .taken) (c .before .same-kind .result) (c .before .same-kind .ensures) ∙ ap (λ (x : Bool). x && allFrom (kindOfByte (c .before .before .before .before .before .before .args .k)) (c .before .before .before .before .before .before .args .l .now) (c .before .before .before .before .before .before .args .n) (c .before .before .before .before .loop .i + 1)) e)
 
--- src/bytes.rt:108:9  } ⏎ i += 1;
+-- src/bytes.rt:99:9  } ⏎ i += 1;
 add-i : tie.Need-add-i Inv-loop μ-loop
 add-i c = search needs
 
--- src/bytes.rt:104:5  let mut i = 0; ⏎ while i < n {
+-- src/bytes.rt:95:5  let mut i = 0; ⏎ while i < n {
 loop-less : tie.Need-loop-less Inv-loop μ-loop
 loop-less c = search needs
 
--- src/bytes.rt:104:5  let mut i = 0; ⏎ while i < n {
+-- src/bytes.rt:95:5  let mut i = 0; ⏎ while i < n {
 loop-again : tie.Need-loop-again Inv-loop μ-loop
 loop-again c = let e : c .before .same-kind .result ≡ true = not-false (c .before .same-kind .result) (c .if1 .left) in (omega arith, c .before .before .before .before .loop .inv .1 ∙ all-step (kindOfByte (c .before .before .before .before .before .before .args .k)) (c .before .before .before .before .before .before .args .l .now) (c .before .before .before .before .before .before .args .n) (c .before .before .before .before .loop .i) (c .before .before .before .loop-test .taken) (c .before .same-kind .result) (c .before .same-kind .ensures) ∙ ap (λ (x : Bool). x && allFrom (kindOfByte (c .before .before .before .before .before .before .args .k)) (c .before .before .before .before .before .before .args .l .now) (c .before .before .before .before .before .before .args .n) (c .before .before .before .before .loop .i + 1)) e)
 
--- src/bytes.rt:99:1  // Whether the first n kinds are all k. ⏎ pub fn all_kinds(k: u8, l: &[u8], n: usize) -> bool
+-- src/bytes.rt:90:1  // Whether the first n kinds are all k. ⏎ pub fn all_kinds(k: u8, l: &[u8], n: usize) -> bool
 returns-2 : tie.Need-returns-2 Inv-loop μ-loop
 returns-2 c = sym (c .before .loop .inv .1 ∙ all-end (kindOfByte (c .before .before .before .args .k)) (c .before .before .before .args .l .now) (c .before .before .before .args .n) (c .before .loop .i) (c .loop-test .left))
 

@@ -19,39 +19,39 @@ Inv-loop env₀ m line k₀ i₀ env k i = (k ≤ 32) × (i ≡ below (setIn m) 
 abbrev μ-loop : tie.MeasureT-loop
 μ-loop env₀ m line k₀ i₀ env k i = 32 - k
 
--- src/line.rt:75:5  let mut i = 0; ⏎ while k < IDENTIFIERS {
+-- src/line.rt:72:5  let mut i = 0; ⏎ while k < IDENTIFIERS {
 loop-holds : tie.Need-loop-holds Inv-loop μ-loop
 loop-holds c = (omega arith, sym (below-zero (setIn (c .before .before .args .m))), omega arith, tells-none (c .before .before .args .line .now) (c .before .before .args .m) (c .before .before .args .env .now) (c .before .before .pre))
 
--- src/line.rt:76:18  while k < IDENTIFIERS { ⏎ env[k] = kind_at(line, i);
+-- src/line.rt:73:18  while k < IDENTIFIERS { ⏎ env[k] = kind_at(line, i);
 kind-at-requires : tie.Need-kind-at-requires Inv-loop μ-loop
 kind-at-requires c κs = search needs
 
--- src/line.rt:76:9  while k < IDENTIFIERS { ⏎ env[k] = kind_at(line, i);
+-- src/line.rt:73:9  while k < IDENTIFIERS { ⏎ env[k] = kind_at(line, i);
 slice-write-env : tie.Need-slice-write-env Inv-loop μ-loop
 slice-write-env c = search needs
 
--- src/line.rt:77:9  env[k] = kind_at(line, i); ⏎ i = next(m, k, i);
+-- src/line.rt:74:9  env[k] = kind_at(line, i); ⏎ i = next(m, k, i);
 next-requires : tie.Need-next-requires Inv-loop μ-loop
 next-requires c κs = search needs
 
--- src/line.rt:78:9  i = next(m, k, i); ⏎ k += 1;
+-- src/line.rt:75:9  i = next(m, k, i); ⏎ k += 1;
 add-k : tie.Need-add-k Inv-loop μ-loop
 add-k c = search needs
 
--- src/line.rt:75:5  let mut i = 0; ⏎ while k < IDENTIFIERS {
+-- src/line.rt:72:5  let mut i = 0; ⏎ while k < IDENTIFIERS {
 loop-less : tie.Need-loop-less Inv-loop μ-loop
 loop-less c = search needs
 
--- src/line.rt:75:5  let mut i = 0; ⏎ while k < IDENTIFIERS {
+-- src/line.rt:72:5  let mut i = 0; ⏎ while k < IDENTIFIERS {
 loop-again : tie.Need-loop-again Inv-loop μ-loop
 loop-again c = (omega arith, c .next .ensures .0 ∙ below-more (c .before .before .before .before .before .before .args .m) (c .before .before .before .loop .k) (c .before .before .before .loop .i) (c .before .before .before .loop .inv .1), omega (arith, c .next .ensures .1, c .before .before .before .loop .inv .2), tells-more (c .before .before .before .before .before .before .args .line .now) (c .before .before .before .before .before .before .args .m) (c .before .before .before .loop .env) (c .before .before .before .loop .k) (c .before .before .before .loop .i) (c .before .kind-at .result) (c .before .before .loop-test .taken) (c .before .before .before .loop .inv .1) (c .before .kind-at .ensures) (c .before .before .before .loop .inv .3))
 
--- src/line.rt:69:1  // The identifiers in the mask, rising, get the line's kinds in its order. ⏎ fn tell_kinds(env: &mut [u8], m: u64, line: &[u8])
+-- src/line.rt:66:1  // The identifiers in the mask, rising, get the line's kinds in its order. ⏎ fn tell_kinds(env: &mut [u8], m: u64, line: &[u8])
 same-length : tie.Need-same-length Inv-loop μ-loop
 same-length c = search needs
 
--- src/line.rt:69:1  // The identifiers in the mask, rising, get the line's kinds in its order. ⏎ fn tell_kinds(env: &mut [u8], m: u64, line: &[u8])
+-- src/line.rt:66:1  // The identifiers in the mask, rising, get the line's kinds in its order. ⏎ fn tell_kinds(env: &mut [u8], m: u64, line: &[u8])
 returns : tie.Need-returns Inv-loop μ-loop
 returns c = let e : c .before .loop .k ≡ 32 = omega arith in rw e at (c .before .loop .inv .3)
 

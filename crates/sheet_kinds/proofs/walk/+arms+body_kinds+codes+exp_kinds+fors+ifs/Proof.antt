@@ -35,7 +35,7 @@ use Rattle.sheet_kinds.proofs.bytes.given_kind.Reads as given-kind-read
 use Rattle.sheet_kinds.proofs.bytes.hold_first.Reads as hold-first-reads
 use Rattle.sheet_kinds.proofs.bytes.put_kind.Reads as put-kind-reads
 use Rattle.sheet_kinds.proofs.bytes.same_kinds.Reads as same-kinds-reads
-use Rattle.sheet_kinds.proofs.bytes.wanted_kind.Reads as wanted-kind-reads
+use Rattle.sheet_kinds.proofs.bytes.wanted_kinds.Reads as wanted-kinds-reads
 use Rattle.sheet_kinds.proofs.checks.lower.Reads as lower-reads
 use Rattle.sheet_kinds.proofs.checks.own.Reads as own-reads
 use Rattle.sheet_kinds.proofs.walk.+arms+body_kinds+codes+exp_kinds+fors+ifs.{statement}
@@ -45,7 +45,6 @@ use mathlib.Core.Path.{_≡_, refl, sym, ap, _∙_, subst}
 use mathlib.Core.Bool.{Bool, true, _&&_}
 use mathlib.Core.List.{[], _∷_}
 use lib.ListN.{length, getD, replicate}
-use Rattle.value.specs.Kinds.{allOf}
 use Rattle.formula.specs.declared.Check.{Check}
 use Rattle.formula.specs.declared.Shape.the-variants.{Identifier, Constant, Pair, Operator, Let, If, For, Iter}
 use Rattle.formula.specs.declared.Way.the-variants.{Iter as iter-way, Let as let-way, If as if-way, End}
@@ -54,7 +53,7 @@ use Rattle.formula.specs.Tree.{bodyOf}
 use Rattle.formula.specs.Kinds.{sameKinds}
 use Rattle.meaning.specs.Rows.{ExpRow, ExpChildren, BodyChildren, exp-children, body-children, ending-row}
 use Rattle.eval_words.specs.Needs.{W, ExpNeeds, BodyNeeds, exp-needs, body-needs, narrow}
-use Rattle.sheet_kinds.specs.Bytes.{kindOfByte, kindsIn, stretch}
+use Rattle.sheet_kinds.specs.Bytes.{kindsIn, stretch}
 use Rattle.sheet_kinds.specs.Checks.{lesser, own}
 use Rattle.sheet_kinds.specs.KindWidths.{counted-back}
 use Rattle.sheet_kinds.specs.Walk.{lowestAt, Told, tell-identifier, tell-constant, tell-pair, tell-operator, tell-let, tell-if, tell-for}
@@ -117,7 +116,7 @@ ifs-at t = and 4 ifs-kinds.ps (is 4 ifs-kinds.ps μ-ifs t) ifs.Pre
 abbrev ifs-below : ℕ → In 4 ifs-kinds.ps
 ifs-below t = and 4 ifs-kinds.ps (falls 4 ifs-kinds.ps _<_ μ-ifs t) ifs.Pre
 
--- src/walk.rt:204:47  let mut test = [0; 1]; ⏎ let tested = exp_kinds(t, widths, a, env, &mut test, 0);
+-- src/walk.rt:205:47  let mut test = [0; 1]; ⏎ let tested = exp_kinds(t, widths, a, env, &mut test, 0);
 arms-slice-aggregate-exp-kinds : (t : ℕ) → arms-lts.Need-slice-aggregate-exp-kinds (
   exp-kinds-below t,
   exp-kinds.Post,
@@ -138,7 +137,7 @@ arms-slice-aggregate-exp-kinds : (t : ℕ) → arms-lts.Need-slice-aggregate-exp
 ) (arms-at t) arms.Post
 arms-slice-aggregate-exp-kinds t c = search needs
 
--- src/walk.rt:204:9  let mut test = [0; 1]; ⏎ let tested = exp_kinds(t, widths, a, env, &mut test, 0);
+-- src/walk.rt:205:9  let mut test = [0; 1]; ⏎ let tested = exp_kinds(t, widths, a, env, &mut test, 0);
 arms-exp-kinds-requires : (t : ℕ) → arms-lts.Need-exp-kinds-requires (
   exp-kinds-below t,
   exp-kinds.Post,
@@ -159,7 +158,7 @@ arms-exp-kinds-requires : (t : ℕ) → arms-lts.Need-exp-kinds-requires (
 ) (arms-at t) arms.Post
 arms-exp-kinds-requires t c κs = let k : BodyChildren (c .before .before .before .before .before .args .t .now) (c .before .before .before .before .before .args .widths .now) (c .before .before .before .before .before .args .r) (If (c .before .before .before .before .before .args .a) (c .before .before .before .before .before .args .b) (c .before .before .before .before .before .args .c)) = body-children (c .before .before .before .before .before .args .t .now) (c .before .before .before .before .before .args .widths .now) (c .before .before .before .before .before .args .r) (c .before .before .before .before .before .pre .1 .0) (If (c .before .before .before .before .before .args .a) (c .before .before .before .before .before .args .b) (c .before .before .before .before .before .args .c)) (c .before .before .before .before .before .pre .1 .4) in let f : BodyNeeds (c .before .before .before .before .before .args .t .now) (c .before .before .before .before .before .args .widths .now) (c .before .before .before .before .before .args .r) (If (c .before .before .before .before .before .args .a) (c .before .before .before .before .before .args .b) (c .before .before .before .before .before .args .c)) = body-needs (c .before .before .before .before .before .args .t .now) (c .before .before .before .before .before .args .widths .now) (c .before .before .before .before .before .args .r) (c .before .before .before .before .before .pre .1 .0) (If (c .before .before .before .before .before .args .a) (c .before .before .before .before .before .args .b) (c .before .before .before .before .before .args .c)) (c .before .before .before .before .before .pre .1 .4) in (omega (arith, k .0 .1), (k .0 .0, c .before .before .before .before .before .pre .1 .1, omega (arith, f .0)))
 
--- src/walk.rt:205:9  let tested = exp_kinds(t, widths, a, env, &mut test, 0); ⏎ let first = body_kinds(t, widths, b, env, again, back);
+-- src/walk.rt:206:9  let tested = exp_kinds(t, widths, a, env, &mut test, 0); ⏎ let first = body_kinds(t, widths, b, env, again, back);
 arms-body-kinds-requires : (t : ℕ) → arms-lts.Need-body-kinds-requires (
   exp-kinds-below t,
   exp-kinds.Post,
@@ -180,7 +179,7 @@ arms-body-kinds-requires : (t : ℕ) → arms-lts.Need-body-kinds-requires (
 ) (arms-at t) arms.Post
 arms-body-kinds-requires t c κs = let k : BodyChildren (c .before .before .before .before .before .before .before .before .before .args .t .now) (c .before .before .before .before .before .before .before .before .before .args .widths .now) (c .before .before .before .before .before .before .before .before .before .args .r) (If (c .before .before .before .before .before .before .before .before .before .args .a) (c .before .before .before .before .before .before .before .before .before .args .b) (c .before .before .before .before .before .before .before .before .before .args .c)) = body-children (c .before .before .before .before .before .before .before .before .before .args .t .now) (c .before .before .before .before .before .before .before .before .before .args .widths .now) (c .before .before .before .before .before .before .before .before .before .args .r) (c .before .before .before .before .before .before .before .before .before .pre .1 .0) (If (c .before .before .before .before .before .before .before .before .before .args .a) (c .before .before .before .before .before .before .before .before .before .args .b) (c .before .before .before .before .before .before .before .before .before .args .c)) (c .before .before .before .before .before .before .before .before .before .pre .1 .4) in (omega (arith, k .1 .1), (k .1 .0, c .before .before .before .before .before .before .before .before .before .pre .1 .1, c .before .before .before .before .before .before .before .before .before .pre .1 .2, c .before .before .before .before .before .before .before .before .before .pre .1 .3))
 
--- src/walk.rt:208:48  let mut back2 = [0; 16]; ⏎ let second = body_kinds(t, widths, c, env, &mut again2, &mut back2);
+-- src/walk.rt:209:48  let mut back2 = [0; 16]; ⏎ let second = body_kinds(t, widths, c, env, &mut again2, &mut back2);
 arms-slice-aggregate-body-kinds : (t : ℕ) → arms-lts.Need-slice-aggregate-body-kinds (
   exp-kinds-below t,
   exp-kinds.Post,
@@ -201,7 +200,7 @@ arms-slice-aggregate-body-kinds : (t : ℕ) → arms-lts.Need-slice-aggregate-bo
 ) (arms-at t) arms.Post
 arms-slice-aggregate-body-kinds t c = search needs
 
--- src/walk.rt:208:61  let mut back2 = [0; 16]; ⏎ let second = body_kinds(t, widths, c, env, &mut again2, &mut back2);
+-- src/walk.rt:209:61  let mut back2 = [0; 16]; ⏎ let second = body_kinds(t, widths, c, env, &mut again2, &mut back2);
 arms-slice-aggregate-body-kinds-2 : (t : ℕ) → arms-lts.Need-slice-aggregate-body-kinds-2 (
   exp-kinds-below t,
   exp-kinds.Post,
@@ -222,7 +221,7 @@ arms-slice-aggregate-body-kinds-2 : (t : ℕ) → arms-lts.Need-slice-aggregate-
 ) (arms-at t) arms.Post
 arms-slice-aggregate-body-kinds-2 t c = search needs
 
--- src/walk.rt:208:9  let mut back2 = [0; 16]; ⏎ let second = body_kinds(t, widths, c, env, &mut again2, &mut back2);
+-- src/walk.rt:209:9  let mut back2 = [0; 16]; ⏎ let second = body_kinds(t, widths, c, env, &mut again2, &mut back2);
 arms-body-kinds-requires-2 : (t : ℕ) → arms-lts.Need-body-kinds-requires-2 (
   exp-kinds-below t,
   exp-kinds.Post,
@@ -243,7 +242,7 @@ arms-body-kinds-requires-2 : (t : ℕ) → arms-lts.Need-body-kinds-requires-2 (
 ) (arms-at t) arms.Post
 arms-body-kinds-requires-2 t c κs = let k : BodyChildren (c .before .before .before .before .before .before .before .before .before .before .before .before .before .before .before .before .args .t .now) (c .before .before .before .before .before .before .before .before .before .before .before .before .before .before .before .before .args .widths .now) (c .before .before .before .before .before .before .before .before .before .before .before .before .before .before .before .before .args .r) (If (c .before .before .before .before .before .before .before .before .before .before .before .before .before .before .before .before .args .a) (c .before .before .before .before .before .before .before .before .before .before .before .before .before .before .before .before .args .b) (c .before .before .before .before .before .before .before .before .before .before .before .before .before .before .before .before .args .c)) = body-children (c .before .before .before .before .before .before .before .before .before .before .before .before .before .before .before .before .args .t .now) (c .before .before .before .before .before .before .before .before .before .before .before .before .before .before .before .before .args .widths .now) (c .before .before .before .before .before .before .before .before .before .before .before .before .before .before .before .before .args .r) (c .before .before .before .before .before .before .before .before .before .before .before .before .before .before .before .before .pre .1 .0) (If (c .before .before .before .before .before .before .before .before .before .before .before .before .before .before .before .before .args .a) (c .before .before .before .before .before .before .before .before .before .before .before .before .before .before .before .before .args .b) (c .before .before .before .before .before .before .before .before .before .before .before .before .before .before .before .before .args .c)) (c .before .before .before .before .before .before .before .before .before .before .before .before .before .before .before .before .pre .1 .4) in (omega (arith, k .2 .1), (k .2 .0, c .before .before .before .before .before .before .before .before .before .before .before .before .before .before .before .before .pre .1 .1, refl, refl))
 
--- src/walk.rt:209:44  let second = body_kinds(t, widths, c, env, &mut again2, &mut back2); ⏎ let rounds = agree(again, first.again, &again2, second.again);
+-- src/walk.rt:210:44  let second = body_kinds(t, widths, c, env, &mut again2, &mut back2); ⏎ let rounds = agree(again, first.again, &again2, second.again);
 arms-slice-aggregate-agree : (t : ℕ) → arms-lts.Need-slice-aggregate-agree (
   exp-kinds-below t,
   exp-kinds.Post,
@@ -264,7 +263,7 @@ arms-slice-aggregate-agree : (t : ℕ) → arms-lts.Need-slice-aggregate-agree (
 ) (arms-at t) arms.Post
 arms-slice-aggregate-agree t c = search needs
 
--- src/walk.rt:209:9  let second = body_kinds(t, widths, c, env, &mut again2, &mut back2); ⏎ let rounds = agree(again, first.again, &again2, second.again);
+-- src/walk.rt:210:9  let second = body_kinds(t, widths, c, env, &mut again2, &mut back2); ⏎ let rounds = agree(again, first.again, &again2, second.again);
 arms-agree-requires : (t : ℕ) → arms-lts.Need-agree-requires (
   exp-kinds-below t,
   exp-kinds.Post,
@@ -285,7 +284,7 @@ arms-agree-requires : (t : ℕ) → arms-lts.Need-agree-requires (
 ) (arms-at t) arms.Post
 arms-agree-requires t c κs = (omega (arith, c .before .before .before .before .before .before .before .before .before .before .before .body-kinds .ensures .0 .0 .2, c .before .before .before .before .before .before .before .before .before .before .before .body-kinds .ensures .1), omega (arith, c .before .before .before .before .body-kinds2 .ensures .0 .0 .2, c .before .before .before .before .body-kinds2 .ensures .1))
 
--- src/walk.rt:210:40  let rounds = agree(again, first.again, &again2, second.again); ⏎ let ends = agree(back, first.back, &back2, second.back);
+-- src/walk.rt:211:40  let rounds = agree(again, first.again, &again2, second.again); ⏎ let ends = agree(back, first.back, &back2, second.back);
 arms-slice-aggregate-agree-2 : (t : ℕ) → arms-lts.Need-slice-aggregate-agree-2 (
   exp-kinds-below t,
   exp-kinds.Post,
@@ -306,7 +305,7 @@ arms-slice-aggregate-agree-2 : (t : ℕ) → arms-lts.Need-slice-aggregate-agree
 ) (arms-at t) arms.Post
 arms-slice-aggregate-agree-2 t c = search needs
 
--- src/walk.rt:210:9  let rounds = agree(again, first.again, &again2, second.again); ⏎ let ends = agree(back, first.back, &back2, second.back);
+-- src/walk.rt:211:9  let rounds = agree(again, first.again, &again2, second.again); ⏎ let ends = agree(back, first.back, &back2, second.back);
 arms-agree-requires-2 : (t : ℕ) → arms-lts.Need-agree-requires-2 (
   exp-kinds-below t,
   exp-kinds.Post,
@@ -327,7 +326,7 @@ arms-agree-requires-2 : (t : ℕ) → arms-lts.Need-agree-requires-2 (
 ) (arms-at t) arms.Post
 arms-agree-requires-2 t c κs = (omega (arith, c .before .before .before .before .before .before .before .before .before .before .before .before .before .before .body-kinds .ensures .0 .0 .3, c .before .before .before .before .before .before .before .before .before .before .before .before .before .before .body-kinds .ensures .2), omega (arith, c .before .before .before .before .before .before .before .body-kinds2 .ensures .0 .0 .3, c .before .before .before .before .before .before .before .body-kinds2 .ensures .2))
 
--- src/walk.rt:211:41  let ends = agree(back, first.back, &back2, second.back); ⏎ let ok = both(both(all_kinds(TRUTH, &test, 1), rounds), ends);
+-- src/walk.rt:212:41  let ends = agree(back, first.back, &back2, second.back); ⏎ let ok = both(both(all_kinds(TRUTH, &test, 1), rounds), ends);
 arms-slice-aggregate-all-kinds : (t : ℕ) → arms-lts.Need-slice-aggregate-all-kinds (
   exp-kinds-below t,
   exp-kinds.Post,
@@ -348,7 +347,7 @@ arms-slice-aggregate-all-kinds : (t : ℕ) → arms-lts.Need-slice-aggregate-all
 ) (arms-at t) arms.Post
 arms-slice-aggregate-all-kinds t c = search needs
 
--- src/walk.rt:211:24  let ends = agree(back, first.back, &back2, second.back); ⏎ let ok = both(both(all_kinds(TRUTH, &test, 1), rounds), ends);
+-- src/walk.rt:212:24  let ends = agree(back, first.back, &back2, second.back); ⏎ let ok = both(both(all_kinds(TRUTH, &test, 1), rounds), ends);
 arms-all-kinds-requires : (t : ℕ) → arms-lts.Need-all-kinds-requires (
   exp-kinds-below t,
   exp-kinds.Post,
@@ -369,7 +368,7 @@ arms-all-kinds-requires : (t : ℕ) → arms-lts.Need-all-kinds-requires (
 ) (arms-at t) arms.Post
 arms-all-kinds-requires t c κs = omega (arith, c .before .before .before .before .before .before .before .before .before .before .before .before .before .before .before .before .before .before .before .before .exp-kinds .ensures .0 .1)
 
--- src/walk.rt:211:19  let ends = agree(back, first.back, &back2, second.back); ⏎ let ok = both(both(all_kinds(TRUTH, &test, 1), rounds), ends);
+-- src/walk.rt:212:19  let ends = agree(back, first.back, &back2, second.back); ⏎ let ok = both(both(all_kinds(TRUTH, &test, 1), rounds), ends);
 arms-both-requires : (t : ℕ) → arms-lts.Need-both-requires (
   exp-kinds-below t,
   exp-kinds.Post,
@@ -390,7 +389,7 @@ arms-both-requires : (t : ℕ) → arms-lts.Need-both-requires (
 ) (arms-at t) arms.Post
 arms-both-requires t c κs = search needs
 
--- src/walk.rt:211:9  let ends = agree(back, first.back, &back2, second.back); ⏎ let ok = both(both(all_kinds(TRUTH, &test, 1), rounds), ends);
+-- src/walk.rt:212:9  let ends = agree(back, first.back, &back2, second.back); ⏎ let ok = both(both(all_kinds(TRUTH, &test, 1), rounds), ends);
 arms-both-requires-2 : (t : ℕ) → arms-lts.Need-both-requires-2 (
   exp-kinds-below t,
   exp-kinds.Post,
@@ -411,7 +410,7 @@ arms-both-requires-2 : (t : ℕ) → arms-lts.Need-both-requires-2 (
 ) (arms-at t) arms.Post
 arms-both-requires-2 t c κs = search needs
 
--- src/walk.rt:215:22  BodyKinds { ⏎ fault: lower(own(r, ok), lower(tested, lower(fault1, fault2))),
+-- src/walk.rt:216:22  BodyKinds { ⏎ fault: lower(own(r, ok), lower(tested, lower(fault1, fault2))),
 arms-own-requires : (t : ℕ) → arms-lts.Need-own-requires (
   exp-kinds-below t,
   exp-kinds.Post,
@@ -432,7 +431,7 @@ arms-own-requires : (t : ℕ) → arms-lts.Need-own-requires (
 ) (arms-at t) arms.Post
 arms-own-requires t c κs = search needs
 
--- src/walk.rt:215:48  BodyKinds { ⏎ fault: lower(own(r, ok), lower(tested, lower(fault1, fault2))),
+-- src/walk.rt:216:48  BodyKinds { ⏎ fault: lower(own(r, ok), lower(tested, lower(fault1, fault2))),
 arms-lower-requires : (t : ℕ) → arms-lts.Need-lower-requires (
   exp-kinds-below t,
   exp-kinds.Post,
@@ -453,7 +452,7 @@ arms-lower-requires : (t : ℕ) → arms-lts.Need-lower-requires (
 ) (arms-at t) arms.Post
 arms-lower-requires t c κs = search needs
 
--- src/walk.rt:215:34  BodyKinds { ⏎ fault: lower(own(r, ok), lower(tested, lower(fault1, fault2))),
+-- src/walk.rt:216:34  BodyKinds { ⏎ fault: lower(own(r, ok), lower(tested, lower(fault1, fault2))),
 arms-lower-requires-2 : (t : ℕ) → arms-lts.Need-lower-requires-2 (
   exp-kinds-below t,
   exp-kinds.Post,
@@ -474,7 +473,7 @@ arms-lower-requires-2 : (t : ℕ) → arms-lts.Need-lower-requires-2 (
 ) (arms-at t) arms.Post
 arms-lower-requires-2 t c κs = search needs
 
--- src/walk.rt:215:16  BodyKinds { ⏎ fault: lower(own(r, ok), lower(tested, lower(fault1, fault2))),
+-- src/walk.rt:216:16  BodyKinds { ⏎ fault: lower(own(r, ok), lower(tested, lower(fault1, fault2))),
 arms-lower-requires-3 : (t : ℕ) → arms-lts.Need-lower-requires-3 (
   exp-kinds-below t,
   exp-kinds.Post,
@@ -495,7 +494,7 @@ arms-lower-requires-3 : (t : ℕ) → arms-lts.Need-lower-requires-3 (
 ) (arms-at t) arms.Post
 arms-lower-requires-3 t c κs = search needs
 
--- src/walk.rt:216:47  fault: lower(own(r, ok), lower(tested, lower(fault1, fault2))), ⏎ again: hold_first(again, first.again, &again2, second.again),
+-- src/walk.rt:217:47  fault: lower(own(r, ok), lower(tested, lower(fault1, fault2))), ⏎ again: hold_first(again, first.again, &again2, second.again),
 arms-slice-aggregate-hold-first : (t : ℕ) → arms-lts.Need-slice-aggregate-hold-first (
   exp-kinds-below t,
   exp-kinds.Post,
@@ -516,7 +515,7 @@ arms-slice-aggregate-hold-first : (t : ℕ) → arms-lts.Need-slice-aggregate-ho
 ) (arms-at t) arms.Post
 arms-slice-aggregate-hold-first t c = search needs
 
--- src/walk.rt:216:16  fault: lower(own(r, ok), lower(tested, lower(fault1, fault2))), ⏎ again: hold_first(again, first.again, &again2, second.again),
+-- src/walk.rt:217:16  fault: lower(own(r, ok), lower(tested, lower(fault1, fault2))), ⏎ again: hold_first(again, first.again, &again2, second.again),
 arms-hold-first-requires : (t : ℕ) → arms-lts.Need-hold-first-requires (
   exp-kinds-below t,
   exp-kinds.Post,
@@ -537,7 +536,7 @@ arms-hold-first-requires : (t : ℕ) → arms-lts.Need-hold-first-requires (
 ) (arms-at t) arms.Post
 arms-hold-first-requires t c κs = (c .before .before .before .before .before .before .before .before .before .before .before .before .before .before .before .before .before .before .before .before .before .before .before .before .before .body-kinds .ensures .0 .0 .2, c .before .before .before .before .before .before .before .before .before .before .before .before .before .before .before .before .before .before .body-kinds2 .ensures .0 .0 .2, c .before .before .before .before .before .before .before .before .before .before .before .before .before .before .before .before .before .before .before .before .before .before .before .before .before .body-kinds .ensures .1, c .before .before .before .before .before .before .before .before .before .before .before .before .before .before .before .before .before .before .body-kinds2 .ensures .1)
 
--- src/walk.rt:217:44  again: hold_first(again, first.again, &again2, second.again), ⏎ back: hold_first(back, first.back, &back2, second.back),
+-- src/walk.rt:218:44  again: hold_first(again, first.again, &again2, second.again), ⏎ back: hold_first(back, first.back, &back2, second.back),
 arms-slice-aggregate-hold-first-2 : (t : ℕ) → arms-lts.Need-slice-aggregate-hold-first-2 (
   exp-kinds-below t,
   exp-kinds.Post,
@@ -558,7 +557,7 @@ arms-slice-aggregate-hold-first-2 : (t : ℕ) → arms-lts.Need-slice-aggregate-
 ) (arms-at t) arms.Post
 arms-slice-aggregate-hold-first-2 t c = search needs
 
--- src/walk.rt:217:15  again: hold_first(again, first.again, &again2, second.again), ⏎ back: hold_first(back, first.back, &back2, second.back),
+-- src/walk.rt:218:15  again: hold_first(again, first.again, &again2, second.again), ⏎ back: hold_first(back, first.back, &back2, second.back),
 arms-hold-first-requires-2 : (t : ℕ) → arms-lts.Need-hold-first-requires-2 (
   exp-kinds-below t,
   exp-kinds.Post,
@@ -579,7 +578,7 @@ arms-hold-first-requires-2 : (t : ℕ) → arms-lts.Need-hold-first-requires-2 (
 ) (arms-at t) arms.Post
 arms-hold-first-requires-2 t c κs = (c .before .before .before .before .before .before .before .before .before .before .before .before .before .before .before .before .before .before .before .before .before .before .before .before .before .before .before .before .before .before .body-kinds .ensures .0 .0 .3, c .before .before .before .before .before .before .before .before .before .before .before .before .before .before .before .before .before .before .before .before .before .before .before .body-kinds2 .ensures .0 .0 .3, c .before .before .before .before .before .before .before .before .before .before .before .before .before .before .before .before .before .before .before .before .before .before .before .before .before .before .before .before .before .before .body-kinds .ensures .2, c .before .before .before .before .before .before .before .before .before .before .before .before .before .before .before .before .before .before .before .before .before .before .before .body-kinds2 .ensures .2)
 
--- src/walk.rt:189:1  // Row r, a body's if with the test's row a and the arms' rows b and c. ⏎ fn arms(
+-- src/walk.rt:190:1  // Row r, a body's if with the test's row a and the arms' rows b and c. ⏎ fn arms(
 arms-same-length : (t : ℕ) → arms-lts.Need-same-length (
   exp-kinds-below t,
   exp-kinds.Post,
@@ -600,7 +599,7 @@ arms-same-length : (t : ℕ) → arms-lts.Need-same-length (
 ) (arms-at t) arms.Post
 arms-same-length t c = c .before .before .before .before .before .before .before .hold-first .ensures .2 ∙ sym (c .before .before .before .before .before .before .before .before .before .before .before .before .before .before .before .before .before .before .before .before .before .before .before .before .before .before .before .before .before .before .before .before .before .before .before .before .before .before .before .before .before .before .before .pre .1 .2)
 
--- src/walk.rt:189:1  // Row r, a body's if with the test's row a and the arms' rows b and c. ⏎ fn arms(
+-- src/walk.rt:190:1  // Row r, a body's if with the test's row a and the arms' rows b and c. ⏎ fn arms(
 arms-same-length-2 : (t : ℕ) → arms-lts.Need-same-length-2 (
   exp-kinds-below t,
   exp-kinds.Post,
@@ -621,7 +620,7 @@ arms-same-length-2 : (t : ℕ) → arms-lts.Need-same-length-2 (
 ) (arms-at t) arms.Post
 arms-same-length-2 t c = c .before .before .hold-first2 .ensures .2 ∙ sym (c .before .before .before .before .before .before .before .before .before .before .before .before .before .before .before .before .before .before .before .before .before .before .before .before .before .before .before .before .before .before .before .before .before .before .before .before .before .before .before .before .before .before .before .pre .1 .3)
 
--- src/walk.rt:189:1  // Row r, a body's if with the test's row a and the arms' rows b and c. ⏎ fn arms(
+-- src/walk.rt:190:1  // Row r, a body's if with the test's row a and the arms' rows b and c. ⏎ fn arms(
 arms-returns : (t : ℕ) → arms-lts.Need-returns (
   exp-kinds-below t,
   exp-kinds.Post,
@@ -642,7 +641,7 @@ arms-returns : (t : ℕ) → arms-lts.Need-returns (
 ) (arms-at t) arms.Post
 arms-returns t c = let p : Held (bodyOf (c .before .before .before .before .before .before .before .before .before .before .before .before .before .before .before .before .before .before .before .before .before .before .before .before .before .before .before .before .before .before .before .before .before .before .before .before .before .before .before .before .before .before .before .args .t .now) (c .before .before .before .before .before .before .before .before .before .before .before .before .before .before .before .before .before .before .before .before .before .before .before .before .before .before .before .before .before .before .before .before .before .before .before .before .before .before .before .before .before .before .before .args .r)) (kindsIn (c .before .before .before .before .before .before .before .before .before .before .before .before .before .before .before .before .before .before .before .before .before .before .before .before .before .before .before .before .before .before .before .before .before .before .before .before .before .before .before .before .before .before .before .args .env .now)) (c .before .before .before .before .before .before .before .hold-first .last .0) (c .before .before .before .before .before .before .before .hold-first .result) (c .before .before .hold-first2 .last .0) (c .before .before .hold-first2 .result) × (lesser (own (c .before .before .before .before .before .before .before .before .before .before .before .before .before .before .before .before .before .before .before .before .before .before .before .before .before .before .before .before .before .before .before .before .before .before .before .before .before .before .before .before .before .before .before .args .r) (c .before .before .before .before .before .before .before .before .before .before .before .before .before .before .both2 .result)) (lesser (c .before .before .before .before .before .before .before .before .before .before .before .before .before .before .before .before .before .before .before .before .before .before .before .before .before .before .before .before .before .before .before .before .before .before .before .before .before .exp-kinds .result) (lesser (c .before .before .before .before .before .before .before .before .before .before .before .before .before .before .before .before .before .before .before .before .before .before .before .before .before .before .before .before .before .before .before .before .before .body-kinds .result .fault) (c .before .before .before .before .before .before .before .before .before .before .before .before .before .before .before .before .before .before .before .before .before .before .before .before .before .before .body-kinds2 .result .fault))) ≡ lowestAt (c .before .before .before .before .before .before .before .before .before .before .before .before .before .before .before .before .before .before .before .before .before .before .before .before .before .before .before .before .before .before .before .before .before .before .before .before .before .before .before .before .before .before .before .args .t .now) true (kindsIn (c .before .before .before .before .before .before .before .before .before .before .before .before .before .before .before .before .before .before .before .before .before .before .before .before .before .before .before .before .before .before .before .before .before .before .before .before .before .before .before .before .before .before .before .args .env .now)) (c .before .before .before .before .before .before .before .before .before .before .before .before .before .before .before .before .before .before .before .before .before .before .before .before .before .before .before .before .before .before .before .before .before .before .before .before .before .before .before .before .before .before .before .args .r)) = tell-if-B (c .before .before .before .before .before .before .before .before .before .before .before .before .before .before .before .before .before .before .before .before .before .before .before .before .before .before .before .before .before .before .before .before .before .before .before .before .before .before .before .before .before .before .before .args .t .now) (c .before .before .before .before .before .before .before .before .before .before .before .before .before .before .before .before .before .before .before .before .before .before .before .before .before .before .before .before .before .before .before .before .before .before .before .before .before .before .before .before .before .before .before .args .widths .now) (c .before .before .before .before .before .before .before .before .before .before .before .before .before .before .before .before .before .before .before .before .before .before .before .before .before .before .before .before .before .before .before .before .before .before .before .before .before .before .before .before .before .before .before .args .r) (c .before .before .before .before .before .before .before .before .before .before .before .before .before .before .before .before .before .before .before .before .before .before .before .before .before .before .before .before .before .before .before .before .before .before .before .before .before .before .before .before .before .before .before .pre .1 .0) (kindsIn (c .before .before .before .before .before .before .before .before .before .before .before .before .before .before .before .before .before .before .before .before .before .before .before .before .before .before .before .before .before .before .before .before .before .before .before .before .before .before .before .before .before .before .before .args .env .now)) (c .before .before .before .before .before .before .before .before .before .before .before .before .before .before .before .before .before .before .before .before .before .before .before .before .before .before .before .before .before .before .before .before .before .before .before .before .before .before .before .before .before .before .before .args .a) (c .before .before .before .before .before .before .before .before .before .before .before .before .before .before .before .before .before .before .before .before .before .before .before .before .before .before .before .before .before .before .before .before .before .before .before .before .before .before .before .before .before .before .before .args .b) (c .before .before .before .before .before .before .before .before .before .before .before .before .before .before .before .before .before .before .before .before .before .before .before .before .before .before .before .before .before .before .before .before .before .before .before .before .before .before .before .before .before .before .before .args .c) (c .before .before .before .before .before .before .before .before .before .before .before .before .before .before .before .before .before .before .before .before .before .before .before .before .before .before .before .before .before .before .before .before .before .before .before .before .before .before .before .before .before .before .before .pre .1 .4) (0 ∷ []) (c .before .before .before .before .before .before .before .before .before .before .before .before .before .before .before .before .before .before .before .before .before .before .before .before .before .before .before .before .before .before .before .before .before .before .before .before .before .exp-kinds .last .1 .1 .1 .1 .0) (c .before .before .before .before .before .before .before .before .before .before .before .before .before .before .before .before .before .before .before .before .before .before .before .before .before .before .before .before .before .before .before .before .before .body-kinds .last .1 .1 .1 .1 .0) (c .before .before .before .before .before .before .before .before .before .before .before .before .before .before .before .before .before .before .before .before .before .before .before .before .before .before .before .before .before .before .before .before .before .body-kinds .last .1 .1 .1 .1 .1 .0) (c .before .before .before .before .before .before .before .before .before .before .before .before .before .before .before .before .before .before .before .before .before .before .before .before .before .before .body-kinds2 .last .1 .1 .1 .1 .0) (c .before .before .before .before .before .before .before .before .before .before .before .before .before .before .before .before .before .before .before .before .before .before .before .before .before .before .body-kinds2 .last .1 .1 .1 .1 .1 .0) (c .before .before .before .before .before .before .before .hold-first .last .0) (c .before .before .hold-first2 .last .0) (c .before .before .before .before .before .before .before .before .before .before .before .before .before .before .before .before .before .before .before .before .before .before .before .before .before .before .before .before .before .before .before .before .before .body-kinds .result .again) (c .before .before .before .before .before .before .before .before .before .before .before .before .before .before .before .before .before .before .before .before .before .before .before .before .before .before .before .before .before .before .before .before .before .body-kinds .result .back) (c .before .before .before .before .before .before .before .before .before .before .before .before .before .before .before .before .before .before .before .before .before .before .before .before .before .before .body-kinds2 .result .again) (c .before .before .before .before .before .before .before .before .before .before .before .before .before .before .before .before .before .before .before .before .before .before .before .before .before .before .body-kinds2 .result .back) (c .before .before .before .before .before .before .before .hold-first .result) (c .before .before .hold-first2 .result) (c .before .before .before .before .before .before .before .before .before .before .before .before .before .before .before .before .before .before .before .before .before .before .before .before .before .before .before .before .before .before .before .before .before .before .before .before .before .exp-kinds .result) (c .before .before .before .before .before .before .before .before .before .before .before .before .before .before .before .before .before .before .before .before .before .before .before .before .before .before .before .before .before .before .before .before .before .body-kinds .result .fault) (c .before .before .before .before .before .before .before .before .before .before .before .before .before .before .before .before .before .before .before .before .before .before .before .before .before .before .body-kinds2 .result .fault) (c .before .before .before .before .before .before .before .before .before .before .before .before .before .before .before .before .all-kinds .result) (c .before .before .before .before .before .before .before .before .before .before .before .before .before .before .before .before .before .before .before .before .before .agree .result) (c .before .before .before .before .before .before .before .before .before .before .before .before .before .before .before .before .before .before .agree2 .result) (c .before .before .before .before .before .before .before .before .before .before .before .before .before .before .both2 .result) (c .before .before .before .before .before .before .before .before .before .before .before .before .before .before .before .before .before .before .before .before .before .before .before .before .before .before .before .before .before .before .before .before .before .before .before .before .before .exp-kinds .ensures) (c .before .before .before .before .before .before .before .before .before .before .before .before .before .before .before .before .before .before .before .before .before .before .before .before .before .before .before .before .before .before .before .before .before .body-kinds .ensures .0) (c .before .before .before .before .before .before .before .before .before .before .before .before .before .before .before .before .before .before .before .before .before .before .before .before .before .before .body-kinds2 .ensures .0) (c .before .before .before .before .before .before .before .before .before .before .before .before .before .before .before .before .all-kinds .ensures) (c .before .before .before .before .before .before .before .before .before .before .before .before .before .before .before .before .before .before .before .before .before .agree .ensures) (c .before .before .before .before .before .before .before .before .before .before .before .before .before .before .before .before .before .before .agree2 .ensures) (c .before .before .before .before .before .before .before .before .before .before .before .before .before .before .both2 .ensures ∙ ap (λ (z : Bool). z && c .before .before .before .before .before .before .before .before .before .before .before .before .before .before .before .before .before .before .agree2 .result) (c .before .before .before .before .before .before .before .before .before .before .before .before .before .before .before .both .ensures)) (c .before .before .before .before .before .before .before .hold-first .ensures .0, c .before .before .before .before .before .before .before .hold-first .ensures .1) (c .before .before .hold-first2 .ensures .0, c .before .before .hold-first2 .ensures .1) in ((p .0, c .before .before .before .before .before .before .before .before .before .before .lower3 .ensures ∙ (λ j. lesser (c .before .before .before .before .before .before .before .before .before .before .before .before .before .own .ensures j) ((c .before .before .before .before .before .before .before .before .before .before .before .lower2 .ensures ∙ ap (lesser (c .before .before .before .before .before .before .before .before .before .before .before .before .before .before .before .before .before .before .before .before .before .before .before .before .before .before .before .before .before .before .before .before .before .before .before .before .before .exp-kinds .result)) (c .before .before .before .before .before .before .before .before .before .before .before .before .lower .ensures)) j)) ∙ p .1), c .before .before .before .before .before .before .before .hold-first .ensures .2, c .before .before .hold-first2 .ensures .2)
 
--- src/walk.rt:162:11  { ⏎ match way_at(t, r) {
+-- src/walk.rt:163:11  { ⏎ match way_at(t, r) {
 body-kinds-way-at-requires : (t : ℕ) → body-kinds-lts.Need-way-at-requires (
   way-at-reads.Asked,
   way-at-reads.Learnt,
@@ -663,7 +662,7 @@ body-kinds-way-at-requires : (t : ℕ) → body-kinds-lts.Need-way-at-requires (
 ) (body-kinds-at t) body-kinds.Post
 body-kinds-way-at-requires t c κs = search needs
 
--- src/walk.rt:163:19  match way_at(t, r) { ⏎ Way::Iter(a) => BodyKinds {
+-- src/walk.rt:164:19  match way_at(t, r) { ⏎ Way::Iter(a) => BodyKinds {
 body-kinds-enum-known-a : (t : ℕ) → body-kinds-lts.Need-enum-known-a (
   way-at-reads.Asked,
   way-at-reads.Learnt,
@@ -684,7 +683,7 @@ body-kinds-enum-known-a : (t : ℕ) → body-kinds-lts.Need-enum-known-a (
 ) (body-kinds-at t) body-kinds.Post
 body-kinds-enum-known-a t c = search needs
 
--- src/walk.rt:164:20  Way::Iter(a) => BodyKinds { ⏎ fault: exp_kinds(t, widths, a, env, again, 0),
+-- src/walk.rt:165:20  Way::Iter(a) => BodyKinds { ⏎ fault: exp_kinds(t, widths, a, env, again, 0),
 body-kinds-exp-kinds-requires : (t : ℕ) → body-kinds-lts.Need-exp-kinds-requires (
   way-at-reads.Asked,
   way-at-reads.Learnt,
@@ -705,7 +704,7 @@ body-kinds-exp-kinds-requires : (t : ℕ) → body-kinds-lts.Need-exp-kinds-requ
 ) (body-kinds-at t) body-kinds.Post
 body-kinds-exp-kinds-requires t c κs = let k : BodyChildren (c .before .before .before .before .before .before .before .before .before .args .t .now) (c .before .before .before .before .before .before .before .before .before .args .widths .now) (c .before .before .before .before .before .before .before .before .before .args .r) (Iter (c .before .before .a .given .0 .0)) = body-children (c .before .before .before .before .before .before .before .before .before .args .t .now) (c .before .before .before .before .before .before .before .before .before .args .widths .now) (c .before .before .before .before .before .before .before .before .before .args .r) (c .before .before .before .before .before .before .before .before .before .pre .1 .0) (Iter (c .before .before .a .given .0 .0)) (shaped-as (shapeAt (c .before .before .before .before .before .before .before .before .before .args .t .now) (c .before .before .before .before .before .before .before .before .before .args .r)) (iter-way (c .before .before .a .given .0 .0)) (sym (c .before .before .a .given .1) ∙ c .before .before .before .before .way-at .ensures)) in (omega (arith, k .1), (k .0, c .before .before .before .before .before .before .before .before .before .pre .1 .1, omega (arith, narrow (c .before .before .before .before .before .before .before .before .before .args .t .now) (c .before .before .before .before .before .before .before .before .before .args .widths .now) (c .before .before .a .given .0 .0) (k .0), c .before .before .before .before .before .before .before .before .before .pre .1 .2)))
 
--- src/walk.rt:165:20  fault: exp_kinds(t, widths, a, env, again, 0), ⏎ again: width_at(widths, a),
+-- src/walk.rt:166:20  fault: exp_kinds(t, widths, a, env, again, 0), ⏎ again: width_at(widths, a),
 body-kinds-width-at-requires : (t : ℕ) → body-kinds-lts.Need-width-at-requires (
   way-at-reads.Asked,
   way-at-reads.Learnt,
@@ -726,7 +725,7 @@ body-kinds-width-at-requires : (t : ℕ) → body-kinds-lts.Need-width-at-requir
 ) (body-kinds-at t) body-kinds.Post
 body-kinds-width-at-requires t c κs = let k : BodyChildren (c .before .before .before .before .before .before .before .before .before .before .before .before .args .t .now) (c .before .before .before .before .before .before .before .before .before .before .before .before .args .widths .now) (c .before .before .before .before .before .before .before .before .before .before .before .before .args .r) (Iter (c .before .before .before .before .before .a .given .0 .0)) = body-children (c .before .before .before .before .before .before .before .before .before .before .before .before .args .t .now) (c .before .before .before .before .before .before .before .before .before .before .before .before .args .widths .now) (c .before .before .before .before .before .before .before .before .before .before .before .before .args .r) (c .before .before .before .before .before .before .before .before .before .before .before .before .pre .1 .0) (Iter (c .before .before .before .before .before .a .given .0 .0)) (shaped-as (shapeAt (c .before .before .before .before .before .before .before .before .before .before .before .before .args .t .now) (c .before .before .before .before .before .before .before .before .before .before .before .before .args .r)) (iter-way (c .before .before .before .before .before .a .given .0 .0)) (sym (c .before .before .before .before .before .a .given .1) ∙ c .before .before .before .before .before .before .before .way-at .ensures)) in (k .0 .low, omega (arith, k .0 .high, k .0 .accepted .table))
 
--- src/walk.rt:168:18  }, ⏎ Way::Let(a, _, c, d) => {
+-- src/walk.rt:169:18  }, ⏎ Way::Let(a, _, c, d) => {
 body-kinds-enum-known-a-2 : (t : ℕ) → body-kinds-lts.Need-enum-known-a-2 (
   way-at-reads.Asked,
   way-at-reads.Learnt,
@@ -747,7 +746,7 @@ body-kinds-enum-known-a-2 : (t : ℕ) → body-kinds-lts.Need-enum-known-a-2 (
 ) (body-kinds-at t) body-kinds.Post
 body-kinds-enum-known-a-2 t c = search needs
 
--- src/walk.rt:169:29  Way::Let(a, _, c, d) => { ⏎ let mut inner = copied(env);
+-- src/walk.rt:170:29  Way::Let(a, _, c, d) => { ⏎ let mut inner = copied(env);
 body-kinds-copied-requires : (t : ℕ) → body-kinds-lts.Need-copied-requires (
   way-at-reads.Asked,
   way-at-reads.Learnt,
@@ -768,7 +767,7 @@ body-kinds-copied-requires : (t : ℕ) → body-kinds-lts.Need-copied-requires (
 ) (body-kinds-at t) body-kinds.Post
 body-kinds-copied-requires t c κs = search needs
 
--- src/walk.rt:170:54  let mut inner = copied(env); ⏎ let bound = exp_kinds(t, widths, c, env, &mut inner, wide(a));
+-- src/walk.rt:171:54  let mut inner = copied(env); ⏎ let bound = exp_kinds(t, widths, c, env, &mut inner, wide(a));
 body-kinds-slice-aggregate-exp-kinds : (t : ℕ) → body-kinds-lts.Need-slice-aggregate-exp-kinds (
   way-at-reads.Asked,
   way-at-reads.Learnt,
@@ -789,7 +788,7 @@ body-kinds-slice-aggregate-exp-kinds : (t : ℕ) → body-kinds-lts.Need-slice-a
 ) (body-kinds-at t) body-kinds.Post
 body-kinds-slice-aggregate-exp-kinds t c = search needs
 
--- src/walk.rt:170:66  let mut inner = copied(env); ⏎ let bound = exp_kinds(t, widths, c, env, &mut inner, wide(a));
+-- src/walk.rt:171:66  let mut inner = copied(env); ⏎ let bound = exp_kinds(t, widths, c, env, &mut inner, wide(a));
 body-kinds-wide-requires : (t : ℕ) → body-kinds-lts.Need-wide-requires (
   way-at-reads.Asked,
   way-at-reads.Learnt,
@@ -810,7 +809,7 @@ body-kinds-wide-requires : (t : ℕ) → body-kinds-lts.Need-wide-requires (
 ) (body-kinds-at t) body-kinds.Post
 body-kinds-wide-requires t c κs = search needs
 
--- src/walk.rt:170:17  let mut inner = copied(env); ⏎ let bound = exp_kinds(t, widths, c, env, &mut inner, wide(a));
+-- src/walk.rt:171:17  let mut inner = copied(env); ⏎ let bound = exp_kinds(t, widths, c, env, &mut inner, wide(a));
 body-kinds-exp-kinds-requires-2 : (t : ℕ) → body-kinds-lts.Need-exp-kinds-requires-2 (
   way-at-reads.Asked,
   way-at-reads.Learnt,
@@ -831,7 +830,7 @@ body-kinds-exp-kinds-requires-2 : (t : ℕ) → body-kinds-lts.Need-exp-kinds-re
 ) (body-kinds-at t) body-kinds.Post
 body-kinds-exp-kinds-requires-2 t c κs = let k : BodyChildren (c .before .before .before .before .before .before .before .before .before .before .before .args .t .now) (c .before .before .before .before .before .before .before .before .before .before .before .args .widths .now) (c .before .before .before .before .before .before .before .before .before .before .before .args .r) (Let (c .before .before .before .before .a2 .given .0 .0) (c .before .before .before .before .a2 .given .0 .1 .0) (c .before .before .before .before .a2 .given .0 .1 .1 .0) (c .before .before .before .before .a2 .given .0 .1 .1 .1 .0)) = body-children (c .before .before .before .before .before .before .before .before .before .before .before .args .t .now) (c .before .before .before .before .before .before .before .before .before .before .before .args .widths .now) (c .before .before .before .before .before .before .before .before .before .before .before .args .r) (c .before .before .before .before .before .before .before .before .before .before .before .pre .1 .0) (Let (c .before .before .before .before .a2 .given .0 .0) (c .before .before .before .before .a2 .given .0 .1 .0) (c .before .before .before .before .a2 .given .0 .1 .1 .0) (c .before .before .before .before .a2 .given .0 .1 .1 .1 .0)) (shaped-as (shapeAt (c .before .before .before .before .before .before .before .before .before .before .before .args .t .now) (c .before .before .before .before .before .before .before .before .before .before .before .args .r)) (let-way (c .before .before .before .before .a2 .given .0 .0) (c .before .before .before .before .a2 .given .0 .1 .0) (c .before .before .before .before .a2 .given .0 .1 .1 .0) (c .before .before .before .before .a2 .given .0 .1 .1 .1 .0)) (sym (c .before .before .before .before .a2 .given .1) ∙ c .before .before .before .before .before .before .way-at .ensures)) in let f : BodyNeeds (c .before .before .before .before .before .before .before .before .before .before .before .args .t .now) (c .before .before .before .before .before .before .before .before .before .before .before .args .widths .now) (c .before .before .before .before .before .before .before .before .before .before .before .args .r) (Let (c .before .before .before .before .a2 .given .0 .0) (c .before .before .before .before .a2 .given .0 .1 .0) (c .before .before .before .before .a2 .given .0 .1 .1 .0) (c .before .before .before .before .a2 .given .0 .1 .1 .1 .0)) = body-needs (c .before .before .before .before .before .before .before .before .before .before .before .args .t .now) (c .before .before .before .before .before .before .before .before .before .before .before .args .widths .now) (c .before .before .before .before .before .before .before .before .before .before .before .args .r) (c .before .before .before .before .before .before .before .before .before .before .before .pre .1 .0) (Let (c .before .before .before .before .a2 .given .0 .0) (c .before .before .before .before .a2 .given .0 .1 .0) (c .before .before .before .before .a2 .given .0 .1 .1 .0) (c .before .before .before .before .a2 .given .0 .1 .1 .1 .0)) (shaped-as (shapeAt (c .before .before .before .before .before .before .before .before .before .before .before .args .t .now) (c .before .before .before .before .before .before .before .before .before .before .before .args .r)) (let-way (c .before .before .before .before .a2 .given .0 .0) (c .before .before .before .before .a2 .given .0 .1 .0) (c .before .before .before .before .a2 .given .0 .1 .1 .0) (c .before .before .before .before .a2 .given .0 .1 .1 .1 .0)) (sym (c .before .before .before .before .a2 .given .1) ∙ c .before .before .before .before .before .before .way-at .ensures)) in (omega (arith, k .0 .1), (k .0 .0, c .before .before .before .before .before .before .before .before .before .before .before .pre .1 .1, omega (arith, f .0, f .1, c .wide .ensures, ap length (c .before .before .copied .ensures), c .before .before .before .before .before .before .before .before .before .before .before .pre .1 .1)))
 
--- src/walk.rt:171:17  let bound = exp_kinds(t, widths, c, env, &mut inner, wide(a)); ⏎ let rest = body_kinds(t, widths, d, &inner, again, back);
+-- src/walk.rt:172:17  let bound = exp_kinds(t, widths, c, env, &mut inner, wide(a)); ⏎ let rest = body_kinds(t, widths, d, &inner, again, back);
 body-kinds-body-kinds-requires : (t : ℕ) → body-kinds-lts.Need-body-kinds-requires (
   way-at-reads.Asked,
   way-at-reads.Learnt,
@@ -852,7 +851,7 @@ body-kinds-body-kinds-requires : (t : ℕ) → body-kinds-lts.Need-body-kinds-re
 ) (body-kinds-at t) body-kinds.Post
 body-kinds-body-kinds-requires t c κs = let k : BodyChildren (c .before .before .before .before .before .before .before .before .before .before .before .before .before .before .before .before .args .t .now) (c .before .before .before .before .before .before .before .before .before .before .before .before .before .before .before .before .args .widths .now) (c .before .before .before .before .before .before .before .before .before .before .before .before .before .before .before .before .args .r) (Let (c .before .before .before .before .before .before .before .before .before .a2 .given .0 .0) (c .before .before .before .before .before .before .before .before .before .a2 .given .0 .1 .0) (c .before .before .before .before .before .before .before .before .before .a2 .given .0 .1 .1 .0) (c .before .before .before .before .before .before .before .before .before .a2 .given .0 .1 .1 .1 .0)) = body-children (c .before .before .before .before .before .before .before .before .before .before .before .before .before .before .before .before .args .t .now) (c .before .before .before .before .before .before .before .before .before .before .before .before .before .before .before .before .args .widths .now) (c .before .before .before .before .before .before .before .before .before .before .before .before .before .before .before .before .args .r) (c .before .before .before .before .before .before .before .before .before .before .before .before .before .before .before .before .pre .1 .0) (Let (c .before .before .before .before .before .before .before .before .before .a2 .given .0 .0) (c .before .before .before .before .before .before .before .before .before .a2 .given .0 .1 .0) (c .before .before .before .before .before .before .before .before .before .a2 .given .0 .1 .1 .0) (c .before .before .before .before .before .before .before .before .before .a2 .given .0 .1 .1 .1 .0)) (shaped-as (shapeAt (c .before .before .before .before .before .before .before .before .before .before .before .before .before .before .before .before .args .t .now) (c .before .before .before .before .before .before .before .before .before .before .before .before .before .before .before .before .args .r)) (let-way (c .before .before .before .before .before .before .before .before .before .a2 .given .0 .0) (c .before .before .before .before .before .before .before .before .before .a2 .given .0 .1 .0) (c .before .before .before .before .before .before .before .before .before .a2 .given .0 .1 .1 .0) (c .before .before .before .before .before .before .before .before .before .a2 .given .0 .1 .1 .1 .0)) (sym (c .before .before .before .before .before .before .before .before .before .a2 .given .1) ∙ c .before .before .before .before .before .before .before .before .before .before .before .way-at .ensures)) in (omega (arith, k .1 .1), (k .1 .0, c .before .before .before .before .exp-kinds2 .ensures .0 .1 ∙ ap length (c .before .before .before .before .before .before .before .copied .ensures) ∙ c .before .before .before .before .before .before .before .before .before .before .before .before .before .before .before .before .pre .1 .1, c .before .before .before .before .before .before .before .before .before .before .before .before .before .before .before .before .pre .1 .2, c .before .before .before .before .before .before .before .before .before .before .before .before .before .before .before .before .pre .1 .3))
 
--- src/walk.rt:174:24  BodyKinds { ⏎ fault: lower(bound, below),
+-- src/walk.rt:175:24  BodyKinds { ⏎ fault: lower(bound, below),
 body-kinds-lower-requires : (t : ℕ) → body-kinds-lts.Need-lower-requires (
   way-at-reads.Asked,
   way-at-reads.Learnt,
@@ -873,7 +872,7 @@ body-kinds-lower-requires : (t : ℕ) → body-kinds-lts.Need-lower-requires (
 ) (body-kinds-at t) body-kinds.Post
 body-kinds-lower-requires t c κs = search needs
 
--- src/walk.rt:179:17  } ⏎ Way::If(a, b, c) => arms(t, widths, r, a, b, c, env, again, back),
+-- src/walk.rt:180:17  } ⏎ Way::If(a, b, c) => arms(t, widths, r, a, b, c, env, again, back),
 body-kinds-enum-known-a-3 : (t : ℕ) → body-kinds-lts.Need-enum-known-a-3 (
   way-at-reads.Asked,
   way-at-reads.Learnt,
@@ -894,7 +893,7 @@ body-kinds-enum-known-a-3 : (t : ℕ) → body-kinds-lts.Need-enum-known-a-3 (
 ) (body-kinds-at t) body-kinds.Post
 body-kinds-enum-known-a-3 t c = search needs
 
--- src/walk.rt:179:29  } ⏎ Way::If(a, b, c) => arms(t, widths, r, a, b, c, env, again, back),
+-- src/walk.rt:180:29  } ⏎ Way::If(a, b, c) => arms(t, widths, r, a, b, c, env, again, back),
 body-kinds-arms-requires : (t : ℕ) → body-kinds-lts.Need-arms-requires (
   way-at-reads.Asked,
   way-at-reads.Learnt,
@@ -915,7 +914,7 @@ body-kinds-arms-requires : (t : ℕ) → body-kinds-lts.Need-arms-requires (
 ) (body-kinds-at t) body-kinds.Post
 body-kinds-arms-requires t c κs = (omega arith, (c .before .before .before .before .before .before .before .before .before .before .pre .1 .0, c .before .before .before .before .before .before .before .before .before .before .pre .1 .1, c .before .before .before .before .before .before .before .before .before .before .pre .1 .2, c .before .before .before .before .before .before .before .before .before .before .pre .1 .3, (shaped-as (shapeAt (c .before .before .before .before .before .before .before .before .before .before .args .t .now) (c .before .before .before .before .before .before .before .before .before .before .args .r)) (if-way (c .before .before .before .a3 .given .0 .0) (c .before .before .before .a3 .given .0 .1 .0) (c .before .before .before .a3 .given .0 .1 .1 .0)) (sym (c .before .before .before .a3 .given .1) ∙ c .before .before .before .before .before .way-at .ensures))))
 
--- src/walk.rt:181:49  Way::End => BodyKinds { ⏎ fault: exp_kinds(t, widths, r, env, back, 0),
+-- src/walk.rt:182:49  Way::End => BodyKinds { ⏎ fault: exp_kinds(t, widths, r, env, back, 0),
 body-kinds-enum-told : (t : ℕ) → body-kinds-lts.Need-enum-told (
   way-at-reads.Asked,
   way-at-reads.Learnt,
@@ -936,7 +935,7 @@ body-kinds-enum-told : (t : ℕ) → body-kinds-lts.Need-enum-told (
 ) (body-kinds-at t) body-kinds.Post
 body-kinds-enum-told t c = search needs
 
--- src/walk.rt:181:20  Way::End => BodyKinds { ⏎ fault: exp_kinds(t, widths, r, env, back, 0),
+-- src/walk.rt:182:20  Way::End => BodyKinds { ⏎ fault: exp_kinds(t, widths, r, env, back, 0),
 body-kinds-exp-kinds-requires-3 : (t : ℕ) → body-kinds-lts.Need-exp-kinds-requires-3 (
   way-at-reads.Asked,
   way-at-reads.Learnt,
@@ -957,7 +956,7 @@ body-kinds-exp-kinds-requires-3 : (t : ℕ) → body-kinds-lts.Need-exp-kinds-re
 ) (body-kinds-at t) body-kinds.Post
 body-kinds-exp-kinds-requires-3 t c κs = let k : ExpRow (c .before .before .before .before .before .before .before .before .args .t .now) (c .before .before .before .before .before .before .before .before .args .widths .now) (c .before .before .before .before .before .before .before .before .args .r) = ending-row (c .before .before .before .before .before .before .before .before .args .t .now) (c .before .before .before .before .before .before .before .before .args .widths .now) (c .before .before .before .before .before .before .before .before .args .r) (c .before .before .before .before .before .before .before .before .pre .1 .0) (shaped-as (shapeAt (c .before .before .before .before .before .before .before .before .args .t .now) (c .before .before .before .before .before .before .before .before .args .r)) End (sym (c .before .enum-told .given .1) ∙ c .before .before .before .way-at .ensures)) in (omega arith, (k, c .before .before .before .before .before .before .before .before .pre .1 .1, omega (arith, narrow (c .before .before .before .before .before .before .before .before .args .t .now) (c .before .before .before .before .before .before .before .before .args .widths .now) (c .before .before .before .before .before .before .before .before .args .r) k, c .before .before .before .before .before .before .before .before .pre .1 .3)))
 
--- src/walk.rt:183:19  again: 0, ⏎ back: width_at(widths, r),
+-- src/walk.rt:184:19  again: 0, ⏎ back: width_at(widths, r),
 body-kinds-width-at-requires-2 : (t : ℕ) → body-kinds-lts.Need-width-at-requires-2 (
   way-at-reads.Asked,
   way-at-reads.Learnt,
@@ -978,7 +977,7 @@ body-kinds-width-at-requires-2 : (t : ℕ) → body-kinds-lts.Need-width-at-requ
 ) (body-kinds-at t) body-kinds.Post
 body-kinds-width-at-requires-2 t c κs = (c .before .before .before .before .before .before .before .before .before .before .before .pre .1 .0 .low, omega (arith, c .before .before .before .before .before .before .before .before .before .before .before .pre .1 .0 .high, c .before .before .before .before .before .before .before .before .before .before .before .pre .1 .0 .accepted .table))
 
--- src/walk.rt:151:1  // Row r as a body: the kinds of its iter's values go to the first bytes of `again`, of those returned to the first of `back`. ⏎ fn body_kinds(
+-- src/walk.rt:152:1  // Row r as a body: the kinds of its iter's values go to the first bytes of `again`, of those returned to the first of `back`. ⏎ fn body_kinds(
 body-kinds-same-length : (t : ℕ) → body-kinds-lts.Need-same-length (
   way-at-reads.Asked,
   way-at-reads.Learnt,
@@ -999,7 +998,7 @@ body-kinds-same-length : (t : ℕ) → body-kinds-lts.Need-same-length (
 ) (body-kinds-at t) body-kinds.Post
 body-kinds-same-length t c = c .before .before .before .exp-kinds .ensures .0 .1
 
--- src/walk.rt:151:1  // Row r as a body: the kinds of its iter's values go to the first bytes of `again`, of those returned to the first of `back`. ⏎ fn body_kinds(
+-- src/walk.rt:152:1  // Row r as a body: the kinds of its iter's values go to the first bytes of `again`, of those returned to the first of `back`. ⏎ fn body_kinds(
 body-kinds-returns : (t : ℕ) → body-kinds-lts.Need-returns (
   way-at-reads.Asked,
   way-at-reads.Learnt,
@@ -1020,7 +1019,7 @@ body-kinds-returns : (t : ℕ) → body-kinds-lts.Need-returns (
 ) (body-kinds-at t) body-kinds.Post
 body-kinds-returns t c = (tell-iter (c .before .before .before .before .before .before .before .before .before .before .before .before .before .args .t .now) (c .before .before .before .before .before .before .before .before .before .before .before .before .before .args .widths .now) (c .before .before .before .before .before .before .before .before .before .before .before .before .before .args .r) (c .before .before .before .before .before .before .before .before .before .before .before .before .before .pre .1 .0) (kindsIn (c .before .before .before .before .before .before .before .before .before .before .before .before .before .args .env .now)) (c .before .before .before .before .before .before .a .given .0 .0) (c .width-at .result) (shaped-as (shapeAt (c .before .before .before .before .before .before .before .before .before .before .before .before .before .args .t .now) (c .before .before .before .before .before .before .before .before .before .before .before .before .before .args .r)) (iter-way (c .before .before .before .before .before .before .a .given .0 .0)) (sym (c .before .before .before .before .before .before .a .given .1) ∙ c .before .before .before .before .before .before .before .before .way-at .ensures)) (c .width-at .ensures .0) (c .before .before .before .before .before .before .before .before .before .before .before .before .before .args .again .now) (c .before .before .before .exp-kinds .last .1 .1 .1 .1 .0) (c .before .before .before .before .before .before .before .before .before .before .before .before .before .args .back .now) (c .before .before .before .exp-kinds .result) (c .before .before .before .exp-kinds .ensures), c .before .before .before .exp-kinds .ensures .0 .1 ∙ c .before .before .before .before .before .before .before .before .before .before .before .before .before .pre .1 .2, c .before .before .before .before .before .before .before .before .before .before .before .before .before .pre .1 .3)
 
--- src/walk.rt:151:1  // Row r as a body: the kinds of its iter's values go to the first bytes of `again`, of those returned to the first of `back`. ⏎ fn body_kinds(
+-- src/walk.rt:152:1  // Row r as a body: the kinds of its iter's values go to the first bytes of `again`, of those returned to the first of `back`. ⏎ fn body_kinds(
 body-kinds-same-length-2 : (t : ℕ) → body-kinds-lts.Need-same-length-2 (
   way-at-reads.Asked,
   way-at-reads.Learnt,
@@ -1041,7 +1040,7 @@ body-kinds-same-length-2 : (t : ℕ) → body-kinds-lts.Need-same-length-2 (
 ) (body-kinds-at t) body-kinds.Post
 body-kinds-same-length-2 t c = c .before .before .before .before .before .body-kinds .ensures .1 ∙ sym (c .before .before .before .before .before .before .before .before .before .before .before .before .before .before .before .before .before .before .before .before .before .before .pre .1 .2)
 
--- src/walk.rt:151:1  // Row r as a body: the kinds of its iter's values go to the first bytes of `again`, of those returned to the first of `back`. ⏎ fn body_kinds(
+-- src/walk.rt:152:1  // Row r as a body: the kinds of its iter's values go to the first bytes of `again`, of those returned to the first of `back`. ⏎ fn body_kinds(
 body-kinds-same-length-3 : (t : ℕ) → body-kinds-lts.Need-same-length-3 (
   way-at-reads.Asked,
   way-at-reads.Learnt,
@@ -1062,7 +1061,7 @@ body-kinds-same-length-3 : (t : ℕ) → body-kinds-lts.Need-same-length-3 (
 ) (body-kinds-at t) body-kinds.Post
 body-kinds-same-length-3 t c = c .before .before .before .before .before .body-kinds .ensures .2 ∙ sym (c .before .before .before .before .before .before .before .before .before .before .before .before .before .before .before .before .before .before .before .before .before .before .pre .1 .3)
 
--- src/walk.rt:151:1  // Row r as a body: the kinds of its iter's values go to the first bytes of `again`, of those returned to the first of `back`. ⏎ fn body_kinds(
+-- src/walk.rt:152:1  // Row r as a body: the kinds of its iter's values go to the first bytes of `again`, of those returned to the first of `back`. ⏎ fn body_kinds(
 body-kinds-returns-2 : (t : ℕ) → body-kinds-lts.Need-returns-2 (
   way-at-reads.Asked,
   way-at-reads.Learnt,
@@ -1083,7 +1082,7 @@ body-kinds-returns-2 : (t : ℕ) → body-kinds-lts.Need-returns-2 (
 ) (body-kinds-at t) body-kinds.Post
 body-kinds-returns-2 t c = let w : Told (c .before .before .before .before .before .before .before .before .before .before .before .before .before .before .before .before .before .before .before .before .before .before .args .t .now) (c .before .before .before .before .before .before .before .before .before .before .before .before .before .before .before .a2 .given .0 .1 .1 .0) (kindsIn (c .before .before .before .before .before .before .before .before .before .before .before .before .before .before .before .before .before .before .before .before .before .before .args .env .now)) (c .before .before .before .before .before .before .before .before .before .before .before .before .before .before .before .a2 .given .0 .0) (c .before .before .before .before .before .before .before .before .before .before .before .before .before .copied .result) (c .before .before .before .before .before .before .before .before .before .before .exp-kinds2 .last .1 .1 .1 .1 .0) (c .before .before .before .before .before .before .before .before .before .before .exp-kinds2 .result) = subst (λ (z : ℕ). Told (c .before .before .before .before .before .before .before .before .before .before .before .before .before .before .before .before .before .before .before .before .before .before .args .t .now) (c .before .before .before .before .before .before .before .before .before .before .before .before .before .before .before .a2 .given .0 .1 .1 .0) (kindsIn (c .before .before .before .before .before .before .before .before .before .before .before .before .before .before .before .before .before .before .before .before .before .before .args .env .now)) z (c .before .before .before .before .before .before .before .before .before .before .before .before .before .copied .result) (c .before .before .before .before .before .before .before .before .before .before .exp-kinds2 .last .1 .1 .1 .1 .0) (c .before .before .before .before .before .before .before .before .before .before .exp-kinds2 .result)) (c .before .before .before .before .before .before .before .before .before .before .before .wide .ensures) (c .before .before .before .before .before .before .before .before .before .before .exp-kinds2 .ensures) in let p : Held (bodyOf (c .before .before .before .before .before .before .before .before .before .before .before .before .before .before .before .before .before .before .before .before .before .before .args .t .now) (c .before .before .before .before .before .before .before .before .before .before .before .before .before .before .before .before .before .before .before .before .before .before .args .r)) (kindsIn (c .before .before .before .before .before .before .before .before .before .before .before .before .before .before .before .before .before .before .before .before .before .before .args .env .now)) (c .before .before .before .before .before .body-kinds .last .1 .1 .1 .1 .0) (c .before .before .before .before .before .body-kinds .result .again) (c .before .before .before .before .before .body-kinds .last .1 .1 .1 .1 .1 .0) (c .before .before .before .before .before .body-kinds .result .back) × (lesser (c .before .before .before .before .before .before .before .before .before .before .exp-kinds2 .result) (c .before .before .before .before .before .body-kinds .result .fault) ≡ lowestAt (c .before .before .before .before .before .before .before .before .before .before .before .before .before .before .before .before .before .before .before .before .before .before .args .t .now) true (kindsIn (c .before .before .before .before .before .before .before .before .before .before .before .before .before .before .before .before .before .before .before .before .before .before .args .env .now)) (c .before .before .before .before .before .before .before .before .before .before .before .before .before .before .before .before .before .before .before .before .before .before .args .r)) = tell-let-B (c .before .before .before .before .before .before .before .before .before .before .before .before .before .before .before .before .before .before .before .before .before .before .args .t .now) (c .before .before .before .before .before .before .before .before .before .before .before .before .before .before .before .before .before .before .before .before .before .before .args .widths .now) (c .before .before .before .before .before .before .before .before .before .before .before .before .before .before .before .before .before .before .before .before .before .before .args .r) (c .before .before .before .before .before .before .before .before .before .before .before .before .before .before .before .before .before .before .before .before .before .before .pre .1 .0) (kindsIn (c .before .before .before .before .before .before .before .before .before .before .before .before .before .before .before .before .before .before .before .before .before .before .args .env .now)) (c .before .before .before .before .before .before .before .before .before .before .before .before .before .before .before .a2 .given .0 .0) (c .before .before .before .before .before .before .before .before .before .before .before .before .before .before .before .a2 .given .0 .1 .0) (c .before .before .before .before .before .before .before .before .before .before .before .before .before .before .before .a2 .given .0 .1 .1 .0) (c .before .before .before .before .before .before .before .before .before .before .before .before .before .before .before .a2 .given .0 .1 .1 .1 .0) (shaped-as (shapeAt (c .before .before .before .before .before .before .before .before .before .before .before .before .before .before .before .before .before .before .before .before .before .before .args .t .now) (c .before .before .before .before .before .before .before .before .before .before .before .before .before .before .before .before .before .before .before .before .before .before .args .r)) (let-way (c .before .before .before .before .before .before .before .before .before .before .before .before .before .before .before .a2 .given .0 .0) (c .before .before .before .before .before .before .before .before .before .before .before .before .before .before .before .a2 .given .0 .1 .0) (c .before .before .before .before .before .before .before .before .before .before .before .before .before .before .before .a2 .given .0 .1 .1 .0) (c .before .before .before .before .before .before .before .before .before .before .before .before .before .before .before .a2 .given .0 .1 .1 .1 .0)) (sym (c .before .before .before .before .before .before .before .before .before .before .before .before .before .before .before .a2 .given .1) ∙ c .before .before .before .before .before .before .before .before .before .before .before .before .before .before .before .before .before .way-at .ensures)) (c .before .before .before .before .before .before .before .before .before .before .before .before .before .copied .result) (c .before .before .before .before .before .before .before .before .before .before .exp-kinds2 .last .1 .1 .1 .1 .0) (c .before .before .before .before .before .body-kinds .last .1 .1 .1 .1 .0) (c .before .before .before .before .before .body-kinds .last .1 .1 .1 .1 .1 .0) (c .before .before .before .before .before .body-kinds .result .again) (c .before .before .before .before .before .body-kinds .result .back) (c .before .before .before .before .before .before .before .before .before .before .exp-kinds2 .result) (c .before .before .before .before .before .body-kinds .result .fault) (ap kindsIn (c .before .before .before .before .before .before .before .before .before .before .before .before .before .copied .ensures)) w (c .before .before .before .before .before .body-kinds .ensures .0) in ((p .0, c .lower .ensures ∙ p .1), c .before .before .before .before .before .body-kinds .ensures .1, c .before .before .before .before .before .body-kinds .ensures .2)
 
--- src/walk.rt:151:1  // Row r as a body: the kinds of its iter's values go to the first bytes of `again`, of those returned to the first of `back`. ⏎ fn body_kinds(
+-- src/walk.rt:152:1  // Row r as a body: the kinds of its iter's values go to the first bytes of `again`, of those returned to the first of `back`. ⏎ fn body_kinds(
 body-kinds-same-length-4 : (t : ℕ) → body-kinds-lts.Need-same-length-4 (
   way-at-reads.Asked,
   way-at-reads.Learnt,
@@ -1104,7 +1103,7 @@ body-kinds-same-length-4 : (t : ℕ) → body-kinds-lts.Need-same-length-4 (
 ) (body-kinds-at t) body-kinds.Post
 body-kinds-same-length-4 t c = c .before .before .before .before .arms .ensures .1 ∙ sym (c .before .before .before .before .before .before .before .before .before .before .before .before .before .before .before .pre .1 .2)
 
--- src/walk.rt:151:1  // Row r as a body: the kinds of its iter's values go to the first bytes of `again`, of those returned to the first of `back`. ⏎ fn body_kinds(
+-- src/walk.rt:152:1  // Row r as a body: the kinds of its iter's values go to the first bytes of `again`, of those returned to the first of `back`. ⏎ fn body_kinds(
 body-kinds-same-length-5 : (t : ℕ) → body-kinds-lts.Need-same-length-5 (
   way-at-reads.Asked,
   way-at-reads.Learnt,
@@ -1125,7 +1124,7 @@ body-kinds-same-length-5 : (t : ℕ) → body-kinds-lts.Need-same-length-5 (
 ) (body-kinds-at t) body-kinds.Post
 body-kinds-same-length-5 t c = c .before .before .before .before .arms .ensures .2 ∙ sym (c .before .before .before .before .before .before .before .before .before .before .before .before .before .before .before .pre .1 .3)
 
--- src/walk.rt:151:1  // Row r as a body: the kinds of its iter's values go to the first bytes of `again`, of those returned to the first of `back`. ⏎ fn body_kinds(
+-- src/walk.rt:152:1  // Row r as a body: the kinds of its iter's values go to the first bytes of `again`, of those returned to the first of `back`. ⏎ fn body_kinds(
 body-kinds-returns-3 : (t : ℕ) → body-kinds-lts.Need-returns-3 (
   way-at-reads.Asked,
   way-at-reads.Learnt,
@@ -1146,7 +1145,7 @@ body-kinds-returns-3 : (t : ℕ) → body-kinds-lts.Need-returns-3 (
 ) (body-kinds-at t) body-kinds.Post
 body-kinds-returns-3 t c = c .before .before .before .before .arms .ensures
 
--- src/walk.rt:151:1  // Row r as a body: the kinds of its iter's values go to the first bytes of `again`, of those returned to the first of `back`. ⏎ fn body_kinds(
+-- src/walk.rt:152:1  // Row r as a body: the kinds of its iter's values go to the first bytes of `again`, of those returned to the first of `back`. ⏎ fn body_kinds(
 body-kinds-same-length-6 : (t : ℕ) → body-kinds-lts.Need-same-length-6 (
   way-at-reads.Asked,
   way-at-reads.Learnt,
@@ -1167,7 +1166,7 @@ body-kinds-same-length-6 : (t : ℕ) → body-kinds-lts.Need-same-length-6 (
 ) (body-kinds-at t) body-kinds.Post
 body-kinds-same-length-6 t c = c .before .before .before .exp-kinds3 .ensures .0 .1
 
--- src/walk.rt:151:1  // Row r as a body: the kinds of its iter's values go to the first bytes of `again`, of those returned to the first of `back`. ⏎ fn body_kinds(
+-- src/walk.rt:152:1  // Row r as a body: the kinds of its iter's values go to the first bytes of `again`, of those returned to the first of `back`. ⏎ fn body_kinds(
 body-kinds-returns-4 : (t : ℕ) → body-kinds-lts.Need-returns-4 (
   way-at-reads.Asked,
   way-at-reads.Learnt,
@@ -1192,12 +1191,10 @@ body-kinds-returns-4 t c = (tell-ending (c .before .before .before .before .befo
 codes-slice-aggregate-exp-kinds : (t : ℕ) → codes-lts.Need-slice-aggregate-exp-kinds (
   exp-kinds-below t,
   exp-kinds.Post,
-  wanted-kind-reads.Asked,
-  wanted-kind-reads.Learnt,
   width-at-reads.Asked,
   width-at-reads.Learnt,
-  all-kinds-reads.Asked,
-  all-kinds-reads.Learnt,
+  wanted-kinds-reads.Asked,
+  wanted-kinds-reads.Learnt,
   given-kind-reads.Asked,
   given-kind-reads.Learnt,
   put-kind-reads.Asked,
@@ -1213,12 +1210,10 @@ codes-slice-aggregate-exp-kinds t c = search needs
 codes-exp-kinds-requires : (t : ℕ) → codes-lts.Need-exp-kinds-requires (
   exp-kinds-below t,
   exp-kinds.Post,
-  wanted-kind-reads.Asked,
-  wanted-kind-reads.Learnt,
   width-at-reads.Asked,
   width-at-reads.Learnt,
-  all-kinds-reads.Asked,
-  all-kinds-reads.Learnt,
+  wanted-kinds-reads.Asked,
+  wanted-kinds-reads.Learnt,
   given-kind-reads.Asked,
   given-kind-reads.Learnt,
   put-kind-reads.Asked,
@@ -1230,58 +1225,14 @@ codes-exp-kinds-requires : (t : ℕ) → codes-lts.Need-exp-kinds-requires (
 ) (codes-at t) codes.Post
 codes-exp-kinds-requires t c κs = let k : ExpChildren (c .before .before .before .before .args .t .now) (c .before .before .before .before .args .widths .now) (c .before .before .before .before .args .r) (Operator (c .before .before .before .before .args .code) (c .before .before .before .before .args .b)) = exp-children (c .before .before .before .before .args .t .now) (c .before .before .before .before .args .widths .now) (c .before .before .before .before .args .r) (c .before .before .before .before .pre .1 .0) (Operator (c .before .before .before .before .args .code) (c .before .before .before .before .args .b)) (c .before .before .before .before .pre .1 .3) in let f : ExpNeeds (c .before .before .before .before .args .t .now) (c .before .before .before .before .args .widths .now) (c .before .before .before .before .args .r) (Operator (c .before .before .before .before .args .code) (c .before .before .before .before .args .b)) = exp-needs (c .before .before .before .before .args .t .now) (c .before .before .before .before .args .widths .now) (c .before .before .before .before .args .r) (c .before .before .before .before .pre .1 .0) (Operator (c .before .before .before .before .args .code) (c .before .before .before .before .args .b)) (c .before .before .before .before .pre .1 .3) in (omega (arith, k .1), (k .0, c .before .before .before .before .pre .1 .1, omega (arith, f .1)))
 
--- src/walk.rt:93:24  let fault = exp_kinds(t, widths, b, env, &mut operands, 0); ⏎ let ok = all_kinds(wanted_kind(code), &operands, width_at(widths, b));
-codes-wanted-kind-requires : (t : ℕ) → codes-lts.Need-wanted-kind-requires (
-  exp-kinds-below t,
-  exp-kinds.Post,
-  wanted-kind-reads.Asked,
-  wanted-kind-reads.Learnt,
-  width-at-reads.Asked,
-  width-at-reads.Learnt,
-  all-kinds-reads.Asked,
-  all-kinds-reads.Learnt,
-  given-kind-reads.Asked,
-  given-kind-reads.Learnt,
-  put-kind-reads.Asked,
-  put-kind-reads.Learnt,
-  own-reads.Asked,
-  own-reads.Learnt,
-  lower-reads.Asked,
-  lower-reads.Learnt,
-) (codes-at t) codes.Post
-codes-wanted-kind-requires t c κs = search needs
-
--- src/walk.rt:93:43  let fault = exp_kinds(t, widths, b, env, &mut operands, 0); ⏎ let ok = all_kinds(wanted_kind(code), &operands, width_at(widths, b));
-codes-slice-aggregate-all-kinds : (t : ℕ) → codes-lts.Need-slice-aggregate-all-kinds (
-  exp-kinds-below t,
-  exp-kinds.Post,
-  wanted-kind-reads.Asked,
-  wanted-kind-reads.Learnt,
-  width-at-reads.Asked,
-  width-at-reads.Learnt,
-  all-kinds-reads.Asked,
-  all-kinds-reads.Learnt,
-  given-kind-reads.Asked,
-  given-kind-reads.Learnt,
-  put-kind-reads.Asked,
-  put-kind-reads.Learnt,
-  own-reads.Asked,
-  own-reads.Learnt,
-  lower-reads.Asked,
-  lower-reads.Learnt,
-) (codes-at t) codes.Post
-codes-slice-aggregate-all-kinds t c = search needs
-
--- src/walk.rt:93:54  let fault = exp_kinds(t, widths, b, env, &mut operands, 0); ⏎ let ok = all_kinds(wanted_kind(code), &operands, width_at(widths, b));
+-- src/walk.rt:93:9  let fault = exp_kinds(t, widths, b, env, &mut operands, 0); ⏎ let n = width_at(widths, b);
 codes-width-at-requires : (t : ℕ) → codes-lts.Need-width-at-requires (
   exp-kinds-below t,
   exp-kinds.Post,
-  wanted-kind-reads.Asked,
-  wanted-kind-reads.Learnt,
   width-at-reads.Asked,
   width-at-reads.Learnt,
-  all-kinds-reads.Asked,
-  all-kinds-reads.Learnt,
+  wanted-kinds-reads.Asked,
+  wanted-kinds-reads.Learnt,
   given-kind-reads.Asked,
   given-kind-reads.Learnt,
   put-kind-reads.Asked,
@@ -1291,18 +1242,16 @@ codes-width-at-requires : (t : ℕ) → codes-lts.Need-width-at-requires (
   lower-reads.Asked,
   lower-reads.Learnt,
 ) (codes-at t) codes.Post
-codes-width-at-requires t c κs = let k : ExpChildren (c .before .before .before .before .before .before .before .before .args .t .now) (c .before .before .before .before .before .before .before .before .args .widths .now) (c .before .before .before .before .before .before .before .before .args .r) (Operator (c .before .before .before .before .before .before .before .before .args .code) (c .before .before .before .before .before .before .before .before .args .b)) = exp-children (c .before .before .before .before .before .before .before .before .args .t .now) (c .before .before .before .before .before .before .before .before .args .widths .now) (c .before .before .before .before .before .before .before .before .args .r) (c .before .before .before .before .before .before .before .before .pre .1 .0) (Operator (c .before .before .before .before .before .before .before .before .args .code) (c .before .before .before .before .before .before .before .before .args .b)) (c .before .before .before .before .before .before .before .before .pre .1 .3) in (k .0 .low, omega (arith, k .0 .high, k .0 .accepted .table))
+codes-width-at-requires t c κs = let k : ExpChildren (c .before .before .before .before .before .before .args .t .now) (c .before .before .before .before .before .before .args .widths .now) (c .before .before .before .before .before .before .args .r) (Operator (c .before .before .before .before .before .before .args .code) (c .before .before .before .before .before .before .args .b)) = exp-children (c .before .before .before .before .before .before .args .t .now) (c .before .before .before .before .before .before .args .widths .now) (c .before .before .before .before .before .before .args .r) (c .before .before .before .before .before .before .pre .1 .0) (Operator (c .before .before .before .before .before .before .args .code) (c .before .before .before .before .before .before .args .b)) (c .before .before .before .before .before .before .pre .1 .3) in (k .0 .low, omega (arith, k .0 .high, k .0 .accepted .table))
 
--- src/walk.rt:93:9  let fault = exp_kinds(t, widths, b, env, &mut operands, 0); ⏎ let ok = all_kinds(wanted_kind(code), &operands, width_at(widths, b));
-codes-all-kinds-requires : (t : ℕ) → codes-lts.Need-all-kinds-requires (
+-- src/walk.rt:94:33  let n = width_at(widths, b); ⏎ let ok = wanted_kinds(code, &operands, n);
+codes-slice-aggregate-wanted-kinds : (t : ℕ) → codes-lts.Need-slice-aggregate-wanted-kinds (
   exp-kinds-below t,
   exp-kinds.Post,
-  wanted-kind-reads.Asked,
-  wanted-kind-reads.Learnt,
   width-at-reads.Asked,
   width-at-reads.Learnt,
-  all-kinds-reads.Asked,
-  all-kinds-reads.Learnt,
+  wanted-kinds-reads.Asked,
+  wanted-kinds-reads.Learnt,
   given-kind-reads.Asked,
   given-kind-reads.Learnt,
   put-kind-reads.Asked,
@@ -1312,18 +1261,54 @@ codes-all-kinds-requires : (t : ℕ) → codes-lts.Need-all-kinds-requires (
   lower-reads.Asked,
   lower-reads.Learnt,
 ) (codes-at t) codes.Post
-codes-all-kinds-requires t c κs = let f : ExpNeeds (c .before .before .before .before .before .before .before .before .before .args .t .now) (c .before .before .before .before .before .before .before .before .before .args .widths .now) (c .before .before .before .before .before .before .before .before .before .args .r) (Operator (c .before .before .before .before .before .before .before .before .before .args .code) (c .before .before .before .before .before .before .before .before .before .args .b)) = exp-needs (c .before .before .before .before .before .before .before .before .before .args .t .now) (c .before .before .before .before .before .before .before .before .before .args .widths .now) (c .before .before .before .before .before .before .before .before .before .args .r) (c .before .before .before .before .before .before .before .before .before .pre .1 .0) (Operator (c .before .before .before .before .before .before .before .before .before .args .code) (c .before .before .before .before .before .before .before .before .before .args .b)) (c .before .before .before .before .before .before .before .before .before .pre .1 .3) in omega (arith, f .1, c .width-at .ensures .0, c .before .before .before .before .exp-kinds .ensures .0 .1)
+codes-slice-aggregate-wanted-kinds t c = search needs
 
--- src/walk.rt:94:23  let ok = all_kinds(wanted_kind(code), &operands, width_at(widths, b)); ⏎ put_kind(out, at, given_kind(code));
+-- src/walk.rt:94:9  let n = width_at(widths, b); ⏎ let ok = wanted_kinds(code, &operands, n);
+codes-wanted-kinds-requires : (t : ℕ) → codes-lts.Need-wanted-kinds-requires (
+  exp-kinds-below t,
+  exp-kinds.Post,
+  width-at-reads.Asked,
+  width-at-reads.Learnt,
+  wanted-kinds-reads.Asked,
+  wanted-kinds-reads.Learnt,
+  given-kind-reads.Asked,
+  given-kind-reads.Learnt,
+  put-kind-reads.Asked,
+  put-kind-reads.Learnt,
+  own-reads.Asked,
+  own-reads.Learnt,
+  lower-reads.Asked,
+  lower-reads.Learnt,
+) (codes-at t) codes.Post
+codes-wanted-kinds-requires t c κs = let f : ExpNeeds (c .before .before .before .before .before .before .before .before .args .t .now) (c .before .before .before .before .before .before .before .before .args .widths .now) (c .before .before .before .before .before .before .before .before .args .r) (Operator (c .before .before .before .before .before .before .before .before .args .code) (c .before .before .before .before .before .before .before .before .args .b)) = exp-needs (c .before .before .before .before .before .before .before .before .args .t .now) (c .before .before .before .before .before .before .before .before .args .widths .now) (c .before .before .before .before .before .before .before .before .args .r) (c .before .before .before .before .before .before .before .before .pre .1 .0) (Operator (c .before .before .before .before .before .before .before .before .args .code) (c .before .before .before .before .before .before .before .before .args .b)) (c .before .before .before .before .before .before .before .before .pre .1 .3) in omega (arith, f .1, c .before .width-at .ensures .0, c .before .before .before .exp-kinds .ensures .0 .1)
+
+-- src/walk.rt:95:40  let ok = wanted_kinds(code, &operands, n); ⏎ put_kind(out, at, given_kind(code, &operands, n));
+codes-slice-aggregate-given-kind : (t : ℕ) → codes-lts.Need-slice-aggregate-given-kind (
+  exp-kinds-below t,
+  exp-kinds.Post,
+  width-at-reads.Asked,
+  width-at-reads.Learnt,
+  wanted-kinds-reads.Asked,
+  wanted-kinds-reads.Learnt,
+  given-kind-reads.Asked,
+  given-kind-reads.Learnt,
+  put-kind-reads.Asked,
+  put-kind-reads.Learnt,
+  own-reads.Asked,
+  own-reads.Learnt,
+  lower-reads.Asked,
+  lower-reads.Learnt,
+) (codes-at t) codes.Post
+codes-slice-aggregate-given-kind t c = search needs
+
+-- src/walk.rt:95:23  let ok = wanted_kinds(code, &operands, n); ⏎ put_kind(out, at, given_kind(code, &operands, n));
 codes-given-kind-requires : (t : ℕ) → codes-lts.Need-given-kind-requires (
   exp-kinds-below t,
   exp-kinds.Post,
-  wanted-kind-reads.Asked,
-  wanted-kind-reads.Learnt,
   width-at-reads.Asked,
   width-at-reads.Learnt,
-  all-kinds-reads.Asked,
-  all-kinds-reads.Learnt,
+  wanted-kinds-reads.Asked,
+  wanted-kinds-reads.Learnt,
   given-kind-reads.Asked,
   given-kind-reads.Learnt,
   put-kind-reads.Asked,
@@ -1333,18 +1318,16 @@ codes-given-kind-requires : (t : ℕ) → codes-lts.Need-given-kind-requires (
   lower-reads.Asked,
   lower-reads.Learnt,
 ) (codes-at t) codes.Post
-codes-given-kind-requires t c κs = search needs
+codes-given-kind-requires t c κs = let f : ExpNeeds (c .before .before .before .before .before .before .before .before .before .before .before .args .t .now) (c .before .before .before .before .before .before .before .before .before .before .before .args .widths .now) (c .before .before .before .before .before .before .before .before .before .before .before .args .r) (Operator (c .before .before .before .before .before .before .before .before .before .before .before .args .code) (c .before .before .before .before .before .before .before .before .before .before .before .args .b)) = exp-needs (c .before .before .before .before .before .before .before .before .before .before .before .args .t .now) (c .before .before .before .before .before .before .before .before .before .before .before .args .widths .now) (c .before .before .before .before .before .before .before .before .before .before .before .args .r) (c .before .before .before .before .before .before .before .before .before .before .before .pre .1 .0) (Operator (c .before .before .before .before .before .before .before .before .before .before .before .args .code) (c .before .before .before .before .before .before .before .before .before .before .before .args .b)) (c .before .before .before .before .before .before .before .before .before .before .before .pre .1 .3) in omega (arith, f .1, c .before .before .before .before .width-at .ensures .0, c .before .before .before .before .before .before .exp-kinds .ensures .0 .1)
 
--- src/walk.rt:94:5  let ok = all_kinds(wanted_kind(code), &operands, width_at(widths, b)); ⏎ put_kind(out, at, given_kind(code));
+-- src/walk.rt:95:5  let ok = wanted_kinds(code, &operands, n); ⏎ put_kind(out, at, given_kind(code, &operands, n));
 codes-put-kind-requires : (t : ℕ) → codes-lts.Need-put-kind-requires (
   exp-kinds-below t,
   exp-kinds.Post,
-  wanted-kind-reads.Asked,
-  wanted-kind-reads.Learnt,
   width-at-reads.Asked,
   width-at-reads.Learnt,
-  all-kinds-reads.Asked,
-  all-kinds-reads.Learnt,
+  wanted-kinds-reads.Asked,
+  wanted-kinds-reads.Learnt,
   given-kind-reads.Asked,
   given-kind-reads.Learnt,
   put-kind-reads.Asked,
@@ -1356,16 +1339,14 @@ codes-put-kind-requires : (t : ℕ) → codes-lts.Need-put-kind-requires (
 ) (codes-at t) codes.Post
 codes-put-kind-requires t c κs = let f : ExpNeeds (c .before .before .before .before .before .before .before .before .before .before .before .before .args .t .now) (c .before .before .before .before .before .before .before .before .before .before .before .before .args .widths .now) (c .before .before .before .before .before .before .before .before .before .before .before .before .args .r) (Operator (c .before .before .before .before .before .before .before .before .before .before .before .before .args .code) (c .before .before .before .before .before .before .before .before .before .before .before .before .args .b)) = exp-needs (c .before .before .before .before .before .before .before .before .before .before .before .before .args .t .now) (c .before .before .before .before .before .before .before .before .before .before .before .before .args .widths .now) (c .before .before .before .before .before .before .before .before .before .before .before .before .args .r) (c .before .before .before .before .before .before .before .before .before .before .before .before .pre .1 .0) (Operator (c .before .before .before .before .before .before .before .before .before .before .before .before .args .code) (c .before .before .before .before .before .before .before .before .before .before .before .before .args .b)) (c .before .before .before .before .before .before .before .before .before .before .before .before .pre .1 .3) in omega (arith, f .0, c .before .before .before .before .before .before .before .before .before .before .before .before .pre .1 .2)
 
--- src/walk.rt:95:11  put_kind(out, at, given_kind(code)); ⏎ lower(own(r, ok), fault)
+-- src/walk.rt:96:11  put_kind(out, at, given_kind(code, &operands, n)); ⏎ lower(own(r, ok), fault)
 codes-own-requires : (t : ℕ) → codes-lts.Need-own-requires (
   exp-kinds-below t,
   exp-kinds.Post,
-  wanted-kind-reads.Asked,
-  wanted-kind-reads.Learnt,
   width-at-reads.Asked,
   width-at-reads.Learnt,
-  all-kinds-reads.Asked,
-  all-kinds-reads.Learnt,
+  wanted-kinds-reads.Asked,
+  wanted-kinds-reads.Learnt,
   given-kind-reads.Asked,
   given-kind-reads.Learnt,
   put-kind-reads.Asked,
@@ -1377,16 +1358,14 @@ codes-own-requires : (t : ℕ) → codes-lts.Need-own-requires (
 ) (codes-at t) codes.Post
 codes-own-requires t c κs = search needs
 
--- src/walk.rt:95:5  put_kind(out, at, given_kind(code)); ⏎ lower(own(r, ok), fault)
+-- src/walk.rt:96:5  put_kind(out, at, given_kind(code, &operands, n)); ⏎ lower(own(r, ok), fault)
 codes-lower-requires : (t : ℕ) → codes-lts.Need-lower-requires (
   exp-kinds-below t,
   exp-kinds.Post,
-  wanted-kind-reads.Asked,
-  wanted-kind-reads.Learnt,
   width-at-reads.Asked,
   width-at-reads.Learnt,
-  all-kinds-reads.Asked,
-  all-kinds-reads.Learnt,
+  wanted-kinds-reads.Asked,
+  wanted-kinds-reads.Learnt,
   given-kind-reads.Asked,
   given-kind-reads.Learnt,
   put-kind-reads.Asked,
@@ -1402,12 +1381,10 @@ codes-lower-requires t c κs = search needs
 codes-same-length : (t : ℕ) → codes-lts.Need-same-length (
   exp-kinds-below t,
   exp-kinds.Post,
-  wanted-kind-reads.Asked,
-  wanted-kind-reads.Learnt,
   width-at-reads.Asked,
   width-at-reads.Learnt,
-  all-kinds-reads.Asked,
-  all-kinds-reads.Learnt,
+  wanted-kinds-reads.Asked,
+  wanted-kinds-reads.Learnt,
   given-kind-reads.Asked,
   given-kind-reads.Learnt,
   put-kind-reads.Asked,
@@ -1423,12 +1400,10 @@ codes-same-length t c = c .before .before .before .before .put-kind .ensures .1
 codes-returns : (t : ℕ) → codes-lts.Need-returns (
   exp-kinds-below t,
   exp-kinds.Post,
-  wanted-kind-reads.Asked,
-  wanted-kind-reads.Learnt,
   width-at-reads.Asked,
   width-at-reads.Learnt,
-  all-kinds-reads.Asked,
-  all-kinds-reads.Learnt,
+  wanted-kinds-reads.Asked,
+  wanted-kinds-reads.Learnt,
   given-kind-reads.Asked,
   given-kind-reads.Learnt,
   put-kind-reads.Asked,
@@ -1438,7 +1413,7 @@ codes-returns : (t : ℕ) → codes-lts.Need-returns (
   lower-reads.Asked,
   lower-reads.Learnt,
 ) (codes-at t) codes.Post
-codes-returns t c = let p : Told (c .before .before .before .before .before .before .before .before .before .before .before .before .before .before .before .before .before .args .t .now) (c .before .before .before .before .before .before .before .before .before .before .before .before .before .before .before .before .before .args .r) (kindsIn (c .before .before .before .before .before .before .before .before .before .before .before .before .before .before .before .before .before .args .env .now)) (c .before .before .before .before .before .before .before .before .before .before .before .before .before .before .before .before .before .args .at) (c .before .before .before .before .before .before .before .before .before .before .before .before .before .before .before .before .before .args .out .now) (c .before .before .before .before .put-kind .last .0) (lesser (own (c .before .before .before .before .before .before .before .before .before .before .before .before .before .before .before .before .before .args .r) (c .before .before .before .before .before .before .before .all-kinds .result)) (c .before .before .before .before .before .before .before .before .before .before .before .before .exp-kinds .result)) = tell-operator (c .before .before .before .before .before .before .before .before .before .before .before .before .before .before .before .before .before .args .t .now) (c .before .before .before .before .before .before .before .before .before .before .before .before .before .before .before .before .before .args .widths .now) (c .before .before .before .before .before .before .before .before .before .before .before .before .before .before .before .before .before .args .r) (c .before .before .before .before .before .before .before .before .before .before .before .before .before .before .before .before .before .pre .1 .0) (kindsIn (c .before .before .before .before .before .before .before .before .before .before .before .before .before .before .before .before .before .args .env .now)) (c .before .before .before .before .before .before .before .before .before .before .before .before .before .before .before .before .before .args .at) (c .before .before .before .before .before .before .before .before .before .before .before .before .before .before .before .before .before .args .out .now) (c .before .before .before .before .put-kind .last .0) (c .before .before .before .before .before .before .before .before .before .before .before .before .before .before .before .before .before .args .code) (c .before .before .before .before .before .before .before .before .before .before .before .before .before .before .before .before .before .args .b) (c .before .before .before .before .before .given-kind .result) (c .before .before .before .before .before .before .before .before .before .before .before .before .before .before .before .before .before .pre .1 .3) (0 ∷ 0 ∷ []) (c .before .before .before .before .before .before .before .before .before .before .before .before .exp-kinds .last .1 .1 .1 .1 .0) (c .before .before .before .before .before .before .before .before .before .before .before .before .exp-kinds .result) (c .before .before .before .before .before .before .before .all-kinds .result) (kindOfByte (c .before .before .before .before .before .before .before .before .before .before .wanted-kind .result)) (c .before .before .before .before .before .before .before .before .before .before .before .before .exp-kinds .ensures) (c .before .before .before .before .before .before .before .before .before .before .wanted-kind .ensures) (c .before .before .before .before .before .before .before .all-kinds .ensures ∙ ap (λ (z : ℕ). allOf (kindOfByte (c .before .before .before .before .before .before .before .before .before .before .wanted-kind .result)) (stretch (kindsIn (c .before .before .before .before .before .before .before .before .before .before .before .before .exp-kinds .last .1 .1 .1 .1 .0)) 0 z)) (c .before .before .before .before .before .before .before .before .width-at .ensures .0)) (c .before .before .before .before .before .given-kind .ensures) (c .before .before .before .before .put-kind .ensures) in (p .0, c .lower .ensures ∙ ap (λ (z : Check). lesser z (c .before .before .before .before .before .before .before .before .before .before .before .before .exp-kinds .result)) (c .before .own .ensures) ∙ p .1)
+codes-returns t c = let p : Told (c .before .before .before .before .before .before .before .before .before .before .before .before .before .before .before .before .before .args .t .now) (c .before .before .before .before .before .before .before .before .before .before .before .before .before .before .before .before .before .args .r) (kindsIn (c .before .before .before .before .before .before .before .before .before .before .before .before .before .before .before .before .before .args .env .now)) (c .before .before .before .before .before .before .before .before .before .before .before .before .before .before .before .before .before .args .at) (c .before .before .before .before .before .before .before .before .before .before .before .before .before .before .before .before .before .args .out .now) (c .before .before .before .before .put-kind .last .0) (lesser (own (c .before .before .before .before .before .before .before .before .before .before .before .before .before .before .before .before .before .args .r) (c .before .before .before .before .before .before .before .before .wanted-kinds .result)) (c .before .before .before .before .before .before .before .before .before .before .before .before .exp-kinds .result)) = tell-operator (c .before .before .before .before .before .before .before .before .before .before .before .before .before .before .before .before .before .args .t .now) (c .before .before .before .before .before .before .before .before .before .before .before .before .before .before .before .before .before .args .widths .now) (c .before .before .before .before .before .before .before .before .before .before .before .before .before .before .before .before .before .args .r) (c .before .before .before .before .before .before .before .before .before .before .before .before .before .before .before .before .before .pre .1 .0) (kindsIn (c .before .before .before .before .before .before .before .before .before .before .before .before .before .before .before .before .before .args .env .now)) (c .before .before .before .before .before .before .before .before .before .before .before .before .before .before .before .before .before .args .at) (c .before .before .before .before .before .before .before .before .before .before .before .before .before .before .before .before .before .args .out .now) (c .before .before .before .before .put-kind .last .0) (c .before .before .before .before .before .before .before .before .before .before .before .before .before .before .before .before .before .args .code) (c .before .before .before .before .before .before .before .before .before .before .before .before .before .before .before .before .before .args .b) (c .before .before .before .before .before .given-kind .result) (c .before .before .before .before .before .before .before .before .before .before .width-at .result) (c .before .before .before .before .before .before .before .before .before .before .before .before .before .before .before .before .before .pre .1 .3) (c .before .before .before .before .before .before .before .before .before .before .width-at .ensures .0) (0 ∷ 0 ∷ []) (c .before .before .before .before .before .before .before .before .before .before .before .before .exp-kinds .last .1 .1 .1 .1 .0) (c .before .before .before .before .before .before .before .before .before .before .before .before .exp-kinds .result) (c .before .before .before .before .before .before .before .before .wanted-kinds .result) (c .before .before .before .before .before .before .before .before .before .before .before .before .exp-kinds .ensures) (c .before .before .before .before .before .before .before .before .wanted-kinds .ensures) (c .before .before .before .before .before .given-kind .ensures) (c .before .before .before .before .put-kind .ensures) in (p .0, c .lower .ensures ∙ ap (λ (z : Check). lesser z (c .before .before .before .before .before .before .before .before .before .before .before .before .exp-kinds .result)) (c .before .own .ensures) ∙ p .1)
 
 -- src/walk.rt:49:11  { ⏎ match shape_at(t, r) {
 exp-kinds-shape-at-requires : (t : ℕ) → exp-kinds-lts.Need-shape-at-requires (
@@ -2656,7 +2631,7 @@ exp-kinds-returns-8 : (t : ℕ) → exp-kinds-lts.Need-returns-8 (
 ) (exp-kinds-at t) exp-kinds.Post
 exp-kinds-returns-8 t c = absurd (exp-children (c .before .before .before .before .before .before .args .t .now) (c .before .before .before .before .before .before .args .widths .now) (c .before .before .before .before .before .before .args .r) (c .before .before .before .before .before .before .pre .1 .0) (Iter (c .enum-told .given .0 .0)) (sym (c .before .before .shape-at .ensures) ∙ c .enum-told .given .1))
 
--- src/walk.rt:139:21  { ⏎ let mut inner = copied(env);
+-- src/walk.rt:140:21  { ⏎ let mut inner = copied(env);
 fors-copied-requires : (t : ℕ) → fors-lts.Need-copied-requires (
   copied-reads.Asked,
   copied-reads.Learnt,
@@ -2675,7 +2650,7 @@ fors-copied-requires : (t : ℕ) → fors-lts.Need-copied-requires (
 ) (fors-at t) fors.Post
 fors-copied-requires t c κs = search needs
 
--- src/walk.rt:140:48  let mut inner = copied(env); ⏎ let started = exp_kinds(t, widths, c, env, &mut inner, a);
+-- src/walk.rt:141:48  let mut inner = copied(env); ⏎ let started = exp_kinds(t, widths, c, env, &mut inner, a);
 fors-slice-aggregate-exp-kinds : (t : ℕ) → fors-lts.Need-slice-aggregate-exp-kinds (
   copied-reads.Asked,
   copied-reads.Learnt,
@@ -2694,7 +2669,7 @@ fors-slice-aggregate-exp-kinds : (t : ℕ) → fors-lts.Need-slice-aggregate-exp
 ) (fors-at t) fors.Post
 fors-slice-aggregate-exp-kinds t c = search needs
 
--- src/walk.rt:140:9  let mut inner = copied(env); ⏎ let started = exp_kinds(t, widths, c, env, &mut inner, a);
+-- src/walk.rt:141:9  let mut inner = copied(env); ⏎ let started = exp_kinds(t, widths, c, env, &mut inner, a);
 fors-exp-kinds-requires : (t : ℕ) → fors-lts.Need-exp-kinds-requires (
   copied-reads.Asked,
   copied-reads.Learnt,
@@ -2713,7 +2688,7 @@ fors-exp-kinds-requires : (t : ℕ) → fors-lts.Need-exp-kinds-requires (
 ) (fors-at t) fors.Post
 fors-exp-kinds-requires t c κs = let k : ExpChildren (c .before .before .before .before .before .args .t .now) (c .before .before .before .before .before .args .widths .now) (c .before .before .before .before .before .args .r) (For (c .before .before .before .before .before .args .a) (c .before .before .before .before .before .args .b) (c .before .before .before .before .before .args .c) (c .before .before .before .before .before .args .d)) = exp-children (c .before .before .before .before .before .args .t .now) (c .before .before .before .before .before .args .widths .now) (c .before .before .before .before .before .args .r) (c .before .before .before .before .before .pre .1 .0) (For (c .before .before .before .before .before .args .a) (c .before .before .before .before .before .args .b) (c .before .before .before .before .before .args .c) (c .before .before .before .before .before .args .d)) (c .before .before .before .before .before .pre .1 .3) in let f : ExpNeeds (c .before .before .before .before .before .args .t .now) (c .before .before .before .before .before .args .widths .now) (c .before .before .before .before .before .args .r) (For (c .before .before .before .before .before .args .a) (c .before .before .before .before .before .args .b) (c .before .before .before .before .before .args .c) (c .before .before .before .before .before .args .d)) = exp-needs (c .before .before .before .before .before .args .t .now) (c .before .before .before .before .before .args .widths .now) (c .before .before .before .before .before .args .r) (c .before .before .before .before .before .pre .1 .0) (For (c .before .before .before .before .before .args .a) (c .before .before .before .before .before .args .b) (c .before .before .before .before .before .args .c) (c .before .before .before .before .before .args .d)) (c .before .before .before .before .before .pre .1 .3) in (omega (arith, k .0 .1), (k .0 .0, c .before .before .before .before .before .pre .1 .1, omega (arith, f .0, f .1, ap length (c .before .copied .ensures), c .before .before .before .before .before .pre .1 .1)))
 
--- src/walk.rt:143:50  let mut back = [0; 16]; ⏎ let round = body_kinds(t, widths, d, &inner, &mut again, &mut back);
+-- src/walk.rt:144:50  let mut back = [0; 16]; ⏎ let round = body_kinds(t, widths, d, &inner, &mut again, &mut back);
 fors-slice-aggregate-body-kinds : (t : ℕ) → fors-lts.Need-slice-aggregate-body-kinds (
   copied-reads.Asked,
   copied-reads.Learnt,
@@ -2732,7 +2707,7 @@ fors-slice-aggregate-body-kinds : (t : ℕ) → fors-lts.Need-slice-aggregate-bo
 ) (fors-at t) fors.Post
 fors-slice-aggregate-body-kinds t c = search needs
 
--- src/walk.rt:143:62  let mut back = [0; 16]; ⏎ let round = body_kinds(t, widths, d, &inner, &mut again, &mut back);
+-- src/walk.rt:144:62  let mut back = [0; 16]; ⏎ let round = body_kinds(t, widths, d, &inner, &mut again, &mut back);
 fors-slice-aggregate-body-kinds-2 : (t : ℕ) → fors-lts.Need-slice-aggregate-body-kinds-2 (
   copied-reads.Asked,
   copied-reads.Learnt,
@@ -2751,7 +2726,7 @@ fors-slice-aggregate-body-kinds-2 : (t : ℕ) → fors-lts.Need-slice-aggregate-
 ) (fors-at t) fors.Post
 fors-slice-aggregate-body-kinds-2 t c = search needs
 
--- src/walk.rt:143:9  let mut back = [0; 16]; ⏎ let round = body_kinds(t, widths, d, &inner, &mut again, &mut back);
+-- src/walk.rt:144:9  let mut back = [0; 16]; ⏎ let round = body_kinds(t, widths, d, &inner, &mut again, &mut back);
 fors-body-kinds-requires : (t : ℕ) → fors-lts.Need-body-kinds-requires (
   copied-reads.Asked,
   copied-reads.Learnt,
@@ -2770,7 +2745,7 @@ fors-body-kinds-requires : (t : ℕ) → fors-lts.Need-body-kinds-requires (
 ) (fors-at t) fors.Post
 fors-body-kinds-requires t c κs = let k : ExpChildren (c .before .before .before .before .before .before .before .before .before .before .args .t .now) (c .before .before .before .before .before .before .before .before .before .before .args .widths .now) (c .before .before .before .before .before .before .before .before .before .before .args .r) (For (c .before .before .before .before .before .before .before .before .before .before .args .a) (c .before .before .before .before .before .before .before .before .before .before .args .b) (c .before .before .before .before .before .before .before .before .before .before .args .c) (c .before .before .before .before .before .before .before .before .before .before .args .d)) = exp-children (c .before .before .before .before .before .before .before .before .before .before .args .t .now) (c .before .before .before .before .before .before .before .before .before .before .args .widths .now) (c .before .before .before .before .before .before .before .before .before .before .args .r) (c .before .before .before .before .before .before .before .before .before .before .pre .1 .0) (For (c .before .before .before .before .before .before .before .before .before .before .args .a) (c .before .before .before .before .before .before .before .before .before .before .args .b) (c .before .before .before .before .before .before .before .before .before .before .args .c) (c .before .before .before .before .before .before .before .before .before .before .args .d)) (c .before .before .before .before .before .before .before .before .before .before .pre .1 .3) in (omega (arith, k .1 .1), (k .1 .0, c .before .before .before .before .exp-kinds .ensures .0 .1 ∙ ap length (c .before .before .before .before .before .before .copied .ensures) ∙ c .before .before .before .before .before .before .before .before .before .before .pre .1 .1, refl, refl))
 
--- src/walk.rt:144:25  let round = body_kinds(t, widths, d, &inner, &mut again, &mut back); ⏎ let ok = same_kinds(&inner, a, b, &again, round.again);
+-- src/walk.rt:145:25  let round = body_kinds(t, widths, d, &inner, &mut again, &mut back); ⏎ let ok = same_kinds(&inner, a, b, &again, round.again);
 fors-slice-aggregate-same-kinds : (t : ℕ) → fors-lts.Need-slice-aggregate-same-kinds (
   copied-reads.Asked,
   copied-reads.Learnt,
@@ -2789,7 +2764,7 @@ fors-slice-aggregate-same-kinds : (t : ℕ) → fors-lts.Need-slice-aggregate-sa
 ) (fors-at t) fors.Post
 fors-slice-aggregate-same-kinds t c = search needs
 
--- src/walk.rt:144:39  let round = body_kinds(t, widths, d, &inner, &mut again, &mut back); ⏎ let ok = same_kinds(&inner, a, b, &again, round.again);
+-- src/walk.rt:145:39  let round = body_kinds(t, widths, d, &inner, &mut again, &mut back); ⏎ let ok = same_kinds(&inner, a, b, &again, round.again);
 fors-slice-aggregate-same-kinds-2 : (t : ℕ) → fors-lts.Need-slice-aggregate-same-kinds-2 (
   copied-reads.Asked,
   copied-reads.Learnt,
@@ -2808,7 +2783,7 @@ fors-slice-aggregate-same-kinds-2 : (t : ℕ) → fors-lts.Need-slice-aggregate-
 ) (fors-at t) fors.Post
 fors-slice-aggregate-same-kinds-2 t c = search needs
 
--- src/walk.rt:144:9  let round = body_kinds(t, widths, d, &inner, &mut again, &mut back); ⏎ let ok = same_kinds(&inner, a, b, &again, round.again);
+-- src/walk.rt:145:9  let round = body_kinds(t, widths, d, &inner, &mut again, &mut back); ⏎ let ok = same_kinds(&inner, a, b, &again, round.again);
 fors-same-kinds-requires : (t : ℕ) → fors-lts.Need-same-kinds-requires (
   copied-reads.Asked,
   copied-reads.Learnt,
@@ -2827,7 +2802,7 @@ fors-same-kinds-requires : (t : ℕ) → fors-lts.Need-same-kinds-requires (
 ) (fors-at t) fors.Post
 fors-same-kinds-requires t c κs = let f : ExpNeeds (c .before .before .before .before .before .before .before .before .before .before .before .before .before .before .before .args .t .now) (c .before .before .before .before .before .before .before .before .before .before .before .before .before .before .before .args .widths .now) (c .before .before .before .before .before .before .before .before .before .before .before .before .before .before .before .args .r) (For (c .before .before .before .before .before .before .before .before .before .before .before .before .before .before .before .args .a) (c .before .before .before .before .before .before .before .before .before .before .before .before .before .before .before .args .b) (c .before .before .before .before .before .before .before .before .before .before .before .before .before .before .before .args .c) (c .before .before .before .before .before .before .before .before .before .before .before .before .before .before .before .args .d)) = exp-needs (c .before .before .before .before .before .before .before .before .before .before .before .before .before .before .before .args .t .now) (c .before .before .before .before .before .before .before .before .before .before .before .before .before .before .before .args .widths .now) (c .before .before .before .before .before .before .before .before .before .before .before .before .before .before .before .args .r) (c .before .before .before .before .before .before .before .before .before .before .before .before .before .before .before .pre .1 .0) (For (c .before .before .before .before .before .before .before .before .before .before .before .before .before .before .before .args .a) (c .before .before .before .before .before .before .before .before .before .before .before .before .before .before .before .args .b) (c .before .before .before .before .before .before .before .before .before .before .before .before .before .before .before .args .c) (c .before .before .before .before .before .before .before .before .before .before .before .before .before .before .before .args .d)) (c .before .before .before .before .before .before .before .before .before .before .before .before .before .before .before .pre .1 .3) in (omega (arith, f .1, c .before .before .before .before .before .before .before .before .before .exp-kinds .ensures .0 .1, ap length (c .before .before .before .before .before .before .before .before .before .before .before .copied .ensures), c .before .before .before .before .before .before .before .before .before .before .before .before .before .before .before .pre .1 .1), omega (arith, c .before .before .before .before .body-kinds .ensures .0 .0 .2, c .before .before .before .before .body-kinds .ensures .1))
 
--- src/walk.rt:145:19  let ok = same_kinds(&inner, a, b, &again, round.again); ⏎ copy(out, at, &back, round.back);
+-- src/walk.rt:146:19  let ok = same_kinds(&inner, a, b, &again, round.again); ⏎ copy(out, at, &back, round.back);
 fors-slice-aggregate-copy : (t : ℕ) → fors-lts.Need-slice-aggregate-copy (
   copied-reads.Asked,
   copied-reads.Learnt,
@@ -2846,7 +2821,7 @@ fors-slice-aggregate-copy : (t : ℕ) → fors-lts.Need-slice-aggregate-copy (
 ) (fors-at t) fors.Post
 fors-slice-aggregate-copy t c = search needs
 
--- src/walk.rt:145:5  let ok = same_kinds(&inner, a, b, &again, round.again); ⏎ copy(out, at, &back, round.back);
+-- src/walk.rt:146:5  let ok = same_kinds(&inner, a, b, &again, round.again); ⏎ copy(out, at, &back, round.back);
 fors-copy-requires : (t : ℕ) → fors-lts.Need-copy-requires (
   copied-reads.Asked,
   copied-reads.Learnt,
@@ -2865,7 +2840,7 @@ fors-copy-requires : (t : ℕ) → fors-lts.Need-copy-requires (
 ) (fors-at t) fors.Post
 fors-copy-requires t c κs = let m : c .before .before .before .before .before .before .before .body-kinds .result .back ≡ W (c .before .before .before .before .before .before .before .before .before .before .before .before .before .before .before .before .before .before .args .widths .now) (c .before .before .before .before .before .before .before .before .before .before .before .before .before .before .before .before .before .before .args .r) = counted-back (c .before .before .before .before .before .before .before .before .before .before .before .before .before .before .before .before .before .before .args .t .now) (c .before .before .before .before .before .before .before .before .before .before .before .before .before .before .before .before .before .before .args .widths .now) (c .before .before .before .before .before .before .before .before .before .before .before .before .before .before .before .before .before .before .args .r) (c .before .before .before .before .before .before .before .before .before .before .before .before .before .before .before .before .before .before .pre .1 .0) (c .before .before .before .before .before .before .before .before .before .before .before .before .before .before .before .before .before .before .args .a) (c .before .before .before .before .before .before .before .before .before .before .before .before .before .before .before .before .before .before .args .b) (c .before .before .before .before .before .before .before .before .before .before .before .before .before .before .before .before .before .before .args .c) (c .before .before .before .before .before .before .before .before .before .before .before .before .before .before .before .before .before .before .args .d) (c .before .before .before .before .before .before .before .before .before .before .before .before .before .before .before .before .before .before .pre .1 .3) (c .before .before .before .before .before .before .before .body-kinds .last .1 .1 .1 .1 .1 .0) (c .before .before .before .before .before .before .before .body-kinds .result .back) (kindsIn (c .before .before .before .before .before .before .before .before .before .before .before .before .exp-kinds .last .1 .1 .1 .1 .0)) (c .before .before .before .before .before .before .before .body-kinds .ensures .0 .0 .1) in (omega (arith, m, c .before .before .before .before .before .before .before .before .before .before .before .before .before .before .before .before .before .before .pre .1 .2), omega (arith, c .before .before .before .before .before .before .before .body-kinds .ensures .0 .0 .3, c .before .before .before .before .before .before .before .body-kinds .ensures .2))
 
--- src/walk.rt:147:11  let below = round.fault; ⏎ lower(own(r, ok), lower(started, below))
+-- src/walk.rt:148:11  let below = round.fault; ⏎ lower(own(r, ok), lower(started, below))
 fors-own-requires : (t : ℕ) → fors-lts.Need-own-requires (
   copied-reads.Asked,
   copied-reads.Learnt,
@@ -2884,7 +2859,7 @@ fors-own-requires : (t : ℕ) → fors-lts.Need-own-requires (
 ) (fors-at t) fors.Post
 fors-own-requires t c κs = search needs
 
--- src/walk.rt:147:23  let below = round.fault; ⏎ lower(own(r, ok), lower(started, below))
+-- src/walk.rt:148:23  let below = round.fault; ⏎ lower(own(r, ok), lower(started, below))
 fors-lower-requires : (t : ℕ) → fors-lts.Need-lower-requires (
   copied-reads.Asked,
   copied-reads.Learnt,
@@ -2903,7 +2878,7 @@ fors-lower-requires : (t : ℕ) → fors-lts.Need-lower-requires (
 ) (fors-at t) fors.Post
 fors-lower-requires t c κs = search needs
 
--- src/walk.rt:147:5  let below = round.fault; ⏎ lower(own(r, ok), lower(started, below))
+-- src/walk.rt:148:5  let below = round.fault; ⏎ lower(own(r, ok), lower(started, below))
 fors-lower-requires-2 : (t : ℕ) → fors-lts.Need-lower-requires-2 (
   copied-reads.Asked,
   copied-reads.Learnt,
@@ -2922,7 +2897,7 @@ fors-lower-requires-2 : (t : ℕ) → fors-lts.Need-lower-requires-2 (
 ) (fors-at t) fors.Post
 fors-lower-requires-2 t c κs = search needs
 
--- src/walk.rt:124:1  // Row r, a for with the identifiers a to a+b-1, started from row c, with the body row d. ⏎ fn fors(
+-- src/walk.rt:125:1  // Row r, a for with the identifiers a to a+b-1, started from row c, with the body row d. ⏎ fn fors(
 fors-same-length : (t : ℕ) → fors-lts.Need-same-length (
   copied-reads.Asked,
   copied-reads.Learnt,
@@ -2941,7 +2916,7 @@ fors-same-length : (t : ℕ) → fors-lts.Need-same-length (
 ) (fors-at t) fors.Post
 fors-same-length t c = c .before .before .before .before .before .copy .ensures .1
 
--- src/walk.rt:124:1  // Row r, a for with the identifiers a to a+b-1, started from row c, with the body row d. ⏎ fn fors(
+-- src/walk.rt:125:1  // Row r, a for with the identifiers a to a+b-1, started from row c, with the body row d. ⏎ fn fors(
 fors-returns : (t : ℕ) → fors-lts.Need-returns (
   copied-reads.Asked,
   copied-reads.Learnt,
@@ -2960,7 +2935,7 @@ fors-returns : (t : ℕ) → fors-lts.Need-returns (
 ) (fors-at t) fors.Post
 fors-returns t c = let p : Told (c .before .before .before .before .before .before .before .before .before .before .before .before .before .before .before .before .before .before .before .before .before .before .before .before .args .t .now) (c .before .before .before .before .before .before .before .before .before .before .before .before .before .before .before .before .before .before .before .before .before .before .before .before .args .r) (kindsIn (c .before .before .before .before .before .before .before .before .before .before .before .before .before .before .before .before .before .before .before .before .before .before .before .before .args .env .now)) (c .before .before .before .before .before .before .before .before .before .before .before .before .before .before .before .before .before .before .before .before .before .before .before .before .args .at) (c .before .before .before .before .before .before .before .before .before .before .before .before .before .before .before .before .before .before .before .before .before .before .before .before .args .out .now) (c .before .before .before .before .before .copy .last .0) (lesser (own (c .before .before .before .before .before .before .before .before .before .before .before .before .before .before .before .before .before .before .before .before .before .before .before .before .args .r) (c .before .before .before .before .before .before .before .before .same-kinds .result)) (lesser (c .before .before .before .before .before .before .before .before .before .before .before .before .before .before .before .before .before .before .exp-kinds .result) (c .before .before .before .before .before .before .before .before .before .before .before .before .before .body-kinds .result .fault))) = tell-for (c .before .before .before .before .before .before .before .before .before .before .before .before .before .before .before .before .before .before .before .before .before .before .before .before .args .t .now) (c .before .before .before .before .before .before .before .before .before .before .before .before .before .before .before .before .before .before .before .before .before .before .before .before .args .widths .now) (c .before .before .before .before .before .before .before .before .before .before .before .before .before .before .before .before .before .before .before .before .before .before .before .before .args .r) (c .before .before .before .before .before .before .before .before .before .before .before .before .before .before .before .before .before .before .before .before .before .before .before .before .pre .1 .0) (kindsIn (c .before .before .before .before .before .before .before .before .before .before .before .before .before .before .before .before .before .before .before .before .before .before .before .before .args .env .now)) (c .before .before .before .before .before .before .before .before .before .before .before .before .before .before .before .before .before .before .before .before .before .before .before .before .args .at) (c .before .before .before .before .before .before .before .before .before .before .before .before .before .before .before .before .before .before .before .before .before .before .before .before .args .out .now) (c .before .before .before .before .before .copy .last .0) (c .before .before .before .before .before .before .before .before .before .before .before .before .before .before .before .before .before .before .before .before .before .before .before .before .args .a) (c .before .before .before .before .before .before .before .before .before .before .before .before .before .before .before .before .before .before .before .before .before .before .before .before .args .b) (c .before .before .before .before .before .before .before .before .before .before .before .before .before .before .before .before .before .before .before .before .before .before .before .before .args .c) (c .before .before .before .before .before .before .before .before .before .before .before .before .before .before .before .before .before .before .before .before .before .before .before .before .args .d) (c .before .before .before .before .before .before .before .before .before .before .before .before .before .before .before .before .before .before .before .before .before .before .before .before .pre .1 .3) (c .before .before .before .before .before .before .before .before .before .before .before .before .before .before .before .before .before .before .before .before .copied .result) (c .before .before .before .before .before .before .before .before .before .before .before .before .before .before .before .before .before .before .exp-kinds .last .1 .1 .1 .1 .0) (c .before .before .before .before .before .before .before .before .before .before .before .before .before .body-kinds .last .1 .1 .1 .1 .0) (c .before .before .before .before .before .before .before .before .before .before .before .before .before .body-kinds .last .1 .1 .1 .1 .1 .0) (c .before .before .before .before .before .before .before .before .before .before .before .before .before .body-kinds .result .again) (c .before .before .before .before .before .before .before .before .before .before .before .before .before .body-kinds .result .back) (c .before .before .before .before .before .before .before .before .before .before .before .before .before .before .before .before .before .before .exp-kinds .result) (c .before .before .before .before .before .before .before .before .before .before .before .before .before .body-kinds .result .fault) (c .before .before .before .before .before .before .before .before .same-kinds .result) (ap kindsIn (c .before .before .before .before .before .before .before .before .before .before .before .before .before .before .before .before .before .before .before .before .copied .ensures)) (c .before .before .before .before .before .before .before .before .before .before .before .before .before .before .before .before .before .before .exp-kinds .ensures) (c .before .before .before .before .before .before .before .before .before .before .before .before .before .body-kinds .ensures .0 .0 .0) (c .before .before .before .before .before .before .before .before .before .before .before .before .before .body-kinds .ensures .0 .0 .1) (c .before .before .before .before .before .before .before .before .before .before .before .before .before .body-kinds .ensures .0 .1) (c .before .before .before .before .before .before .before .before .same-kinds .ensures) (c .before .before .before .before .before .copy .ensures) in (p .0, c .lower2 .ensures ∙ (λ j. lesser (c .before .before .own .ensures j) (c .before .lower .ensures j)) ∙ p .1)
 
--- src/walk.rt:114:47  let mut test = [0; 1]; ⏎ let tested = exp_kinds(t, widths, a, env, &mut test, 0);
+-- src/walk.rt:115:47  let mut test = [0; 1]; ⏎ let tested = exp_kinds(t, widths, a, env, &mut test, 0);
 ifs-slice-aggregate-exp-kinds : (t : ℕ) → ifs-lts.Need-slice-aggregate-exp-kinds (
   exp-kinds-below t,
   exp-kinds.Post,
@@ -2979,7 +2954,7 @@ ifs-slice-aggregate-exp-kinds : (t : ℕ) → ifs-lts.Need-slice-aggregate-exp-k
 ) (ifs-at t) ifs.Post
 ifs-slice-aggregate-exp-kinds t c = search needs
 
--- src/walk.rt:114:9  let mut test = [0; 1]; ⏎ let tested = exp_kinds(t, widths, a, env, &mut test, 0);
+-- src/walk.rt:115:9  let mut test = [0; 1]; ⏎ let tested = exp_kinds(t, widths, a, env, &mut test, 0);
 ifs-exp-kinds-requires : (t : ℕ) → ifs-lts.Need-exp-kinds-requires (
   exp-kinds-below t,
   exp-kinds.Post,
@@ -2998,7 +2973,7 @@ ifs-exp-kinds-requires : (t : ℕ) → ifs-lts.Need-exp-kinds-requires (
 ) (ifs-at t) ifs.Post
 ifs-exp-kinds-requires t c κs = let k : ExpChildren (c .before .before .before .before .args .t .now) (c .before .before .before .before .args .widths .now) (c .before .before .before .before .args .r) (If (c .before .before .before .before .args .a) (c .before .before .before .before .args .b) (c .before .before .before .before .args .c)) = exp-children (c .before .before .before .before .args .t .now) (c .before .before .before .before .args .widths .now) (c .before .before .before .before .args .r) (c .before .before .before .before .pre .1 .0) (If (c .before .before .before .before .args .a) (c .before .before .before .before .args .b) (c .before .before .before .before .args .c)) (c .before .before .before .before .pre .1 .3) in let f : ExpNeeds (c .before .before .before .before .args .t .now) (c .before .before .before .before .args .widths .now) (c .before .before .before .before .args .r) (If (c .before .before .before .before .args .a) (c .before .before .before .before .args .b) (c .before .before .before .before .args .c)) = exp-needs (c .before .before .before .before .args .t .now) (c .before .before .before .before .args .widths .now) (c .before .before .before .before .args .r) (c .before .before .before .before .pre .1 .0) (If (c .before .before .before .before .args .a) (c .before .before .before .before .args .b) (c .before .before .before .before .args .c)) (c .before .before .before .before .pre .1 .3) in (omega (arith, k .0 .1), (k .0 .0, c .before .before .before .before .pre .1 .1, omega (arith, f .0)))
 
--- src/walk.rt:115:9  let tested = exp_kinds(t, widths, a, env, &mut test, 0); ⏎ let first = exp_kinds(t, widths, b, env, out, at);
+-- src/walk.rt:116:9  let tested = exp_kinds(t, widths, a, env, &mut test, 0); ⏎ let first = exp_kinds(t, widths, b, env, out, at);
 ifs-exp-kinds-requires-2 : (t : ℕ) → ifs-lts.Need-exp-kinds-requires-2 (
   exp-kinds-below t,
   exp-kinds.Post,
@@ -3017,7 +2992,7 @@ ifs-exp-kinds-requires-2 : (t : ℕ) → ifs-lts.Need-exp-kinds-requires-2 (
 ) (ifs-at t) ifs.Post
 ifs-exp-kinds-requires-2 t c κs = let k : ExpChildren (c .before .before .before .before .before .before .before .args .t .now) (c .before .before .before .before .before .before .before .args .widths .now) (c .before .before .before .before .before .before .before .args .r) (If (c .before .before .before .before .before .before .before .args .a) (c .before .before .before .before .before .before .before .args .b) (c .before .before .before .before .before .before .before .args .c)) = exp-children (c .before .before .before .before .before .before .before .args .t .now) (c .before .before .before .before .before .before .before .args .widths .now) (c .before .before .before .before .before .before .before .args .r) (c .before .before .before .before .before .before .before .pre .1 .0) (If (c .before .before .before .before .before .before .before .args .a) (c .before .before .before .before .before .before .before .args .b) (c .before .before .before .before .before .before .before .args .c)) (c .before .before .before .before .before .before .before .pre .1 .3) in let f : ExpNeeds (c .before .before .before .before .before .before .before .args .t .now) (c .before .before .before .before .before .before .before .args .widths .now) (c .before .before .before .before .before .before .before .args .r) (If (c .before .before .before .before .before .before .before .args .a) (c .before .before .before .before .before .before .before .args .b) (c .before .before .before .before .before .before .before .args .c)) = exp-needs (c .before .before .before .before .before .before .before .args .t .now) (c .before .before .before .before .before .before .before .args .widths .now) (c .before .before .before .before .before .before .before .args .r) (c .before .before .before .before .before .before .before .pre .1 .0) (If (c .before .before .before .before .before .before .before .args .a) (c .before .before .before .before .before .before .before .args .b) (c .before .before .before .before .before .before .before .args .c)) (c .before .before .before .before .before .before .before .pre .1 .3) in (omega (arith, k .1 .1), (k .1 .0, c .before .before .before .before .before .before .before .pre .1 .1, omega (arith, f .1, c .before .before .before .before .before .before .before .pre .1 .2)))
 
--- src/walk.rt:117:47  let mut other = [0; 16]; ⏎ let second = exp_kinds(t, widths, c, env, &mut other, 0);
+-- src/walk.rt:118:47  let mut other = [0; 16]; ⏎ let second = exp_kinds(t, widths, c, env, &mut other, 0);
 ifs-slice-aggregate-exp-kinds-2 : (t : ℕ) → ifs-lts.Need-slice-aggregate-exp-kinds-2 (
   exp-kinds-below t,
   exp-kinds.Post,
@@ -3036,7 +3011,7 @@ ifs-slice-aggregate-exp-kinds-2 : (t : ℕ) → ifs-lts.Need-slice-aggregate-exp
 ) (ifs-at t) ifs.Post
 ifs-slice-aggregate-exp-kinds-2 t c = search needs
 
--- src/walk.rt:117:9  let mut other = [0; 16]; ⏎ let second = exp_kinds(t, widths, c, env, &mut other, 0);
+-- src/walk.rt:118:9  let mut other = [0; 16]; ⏎ let second = exp_kinds(t, widths, c, env, &mut other, 0);
 ifs-exp-kinds-requires-3 : (t : ℕ) → ifs-lts.Need-exp-kinds-requires-3 (
   exp-kinds-below t,
   exp-kinds.Post,
@@ -3055,7 +3030,7 @@ ifs-exp-kinds-requires-3 : (t : ℕ) → ifs-lts.Need-exp-kinds-requires-3 (
 ) (ifs-at t) ifs.Post
 ifs-exp-kinds-requires-3 t c κs = let k : ExpChildren (c .before .before .before .before .before .before .before .before .before .before .before .args .t .now) (c .before .before .before .before .before .before .before .before .before .before .before .args .widths .now) (c .before .before .before .before .before .before .before .before .before .before .before .args .r) (If (c .before .before .before .before .before .before .before .before .before .before .before .args .a) (c .before .before .before .before .before .before .before .before .before .before .before .args .b) (c .before .before .before .before .before .before .before .before .before .before .before .args .c)) = exp-children (c .before .before .before .before .before .before .before .before .before .before .before .args .t .now) (c .before .before .before .before .before .before .before .before .before .before .before .args .widths .now) (c .before .before .before .before .before .before .before .before .before .before .before .args .r) (c .before .before .before .before .before .before .before .before .before .before .before .pre .1 .0) (If (c .before .before .before .before .before .before .before .before .before .before .before .args .a) (c .before .before .before .before .before .before .before .before .before .before .before .args .b) (c .before .before .before .before .before .before .before .before .before .before .before .args .c)) (c .before .before .before .before .before .before .before .before .before .before .before .pre .1 .3) in (omega (arith, k .2 .1), (k .2 .0, c .before .before .before .before .before .before .before .before .before .before .before .pre .1 .1, omega (arith, narrow (c .before .before .before .before .before .before .before .before .before .before .before .args .t .now) (c .before .before .before .before .before .before .before .before .before .before .before .args .widths .now) (c .before .before .before .before .before .before .before .before .before .before .before .args .c) (k .2 .0))))
 
--- src/walk.rt:118:37  let second = exp_kinds(t, widths, c, env, &mut other, 0); ⏎ let alike = same_kinds(out, at, width_at(widths, b), &other, width_at(widths, c));
+-- src/walk.rt:119:37  let second = exp_kinds(t, widths, c, env, &mut other, 0); ⏎ let alike = same_kinds(out, at, width_at(widths, b), &other, width_at(widths, c));
 ifs-width-at-requires : (t : ℕ) → ifs-lts.Need-width-at-requires (
   exp-kinds-below t,
   exp-kinds.Post,
@@ -3074,7 +3049,7 @@ ifs-width-at-requires : (t : ℕ) → ifs-lts.Need-width-at-requires (
 ) (ifs-at t) ifs.Post
 ifs-width-at-requires t c κs = let k : ExpChildren (c .before .before .before .before .before .before .before .before .before .before .before .before .before .before .args .t .now) (c .before .before .before .before .before .before .before .before .before .before .before .before .before .before .args .widths .now) (c .before .before .before .before .before .before .before .before .before .before .before .before .before .before .args .r) (If (c .before .before .before .before .before .before .before .before .before .before .before .before .before .before .args .a) (c .before .before .before .before .before .before .before .before .before .before .before .before .before .before .args .b) (c .before .before .before .before .before .before .before .before .before .before .before .before .before .before .args .c)) = exp-children (c .before .before .before .before .before .before .before .before .before .before .before .before .before .before .args .t .now) (c .before .before .before .before .before .before .before .before .before .before .before .before .before .before .args .widths .now) (c .before .before .before .before .before .before .before .before .before .before .before .before .before .before .args .r) (c .before .before .before .before .before .before .before .before .before .before .before .before .before .before .pre .1 .0) (If (c .before .before .before .before .before .before .before .before .before .before .before .before .before .before .args .a) (c .before .before .before .before .before .before .before .before .before .before .before .before .before .before .args .b) (c .before .before .before .before .before .before .before .before .before .before .before .before .before .before .args .c)) (c .before .before .before .before .before .before .before .before .before .before .before .before .before .before .pre .1 .3) in (k .1 .0 .low, omega (arith, k .1 .0 .high, k .1 .0 .accepted .table))
 
--- src/walk.rt:118:58  let second = exp_kinds(t, widths, c, env, &mut other, 0); ⏎ let alike = same_kinds(out, at, width_at(widths, b), &other, width_at(widths, c));
+-- src/walk.rt:119:58  let second = exp_kinds(t, widths, c, env, &mut other, 0); ⏎ let alike = same_kinds(out, at, width_at(widths, b), &other, width_at(widths, c));
 ifs-slice-aggregate-same-kinds : (t : ℕ) → ifs-lts.Need-slice-aggregate-same-kinds (
   exp-kinds-below t,
   exp-kinds.Post,
@@ -3093,7 +3068,7 @@ ifs-slice-aggregate-same-kinds : (t : ℕ) → ifs-lts.Need-slice-aggregate-same
 ) (ifs-at t) ifs.Post
 ifs-slice-aggregate-same-kinds t c = search needs
 
--- src/walk.rt:118:66  let second = exp_kinds(t, widths, c, env, &mut other, 0); ⏎ let alike = same_kinds(out, at, width_at(widths, b), &other, width_at(widths, c));
+-- src/walk.rt:119:66  let second = exp_kinds(t, widths, c, env, &mut other, 0); ⏎ let alike = same_kinds(out, at, width_at(widths, b), &other, width_at(widths, c));
 ifs-width-at-requires-2 : (t : ℕ) → ifs-lts.Need-width-at-requires-2 (
   exp-kinds-below t,
   exp-kinds.Post,
@@ -3112,7 +3087,7 @@ ifs-width-at-requires-2 : (t : ℕ) → ifs-lts.Need-width-at-requires-2 (
 ) (ifs-at t) ifs.Post
 ifs-width-at-requires-2 t c κs = let k : ExpChildren (c .before .before .before .before .before .before .before .before .before .before .before .before .before .before .before .before .args .t .now) (c .before .before .before .before .before .before .before .before .before .before .before .before .before .before .before .before .args .widths .now) (c .before .before .before .before .before .before .before .before .before .before .before .before .before .before .before .before .args .r) (If (c .before .before .before .before .before .before .before .before .before .before .before .before .before .before .before .before .args .a) (c .before .before .before .before .before .before .before .before .before .before .before .before .before .before .before .before .args .b) (c .before .before .before .before .before .before .before .before .before .before .before .before .before .before .before .before .args .c)) = exp-children (c .before .before .before .before .before .before .before .before .before .before .before .before .before .before .before .before .args .t .now) (c .before .before .before .before .before .before .before .before .before .before .before .before .before .before .before .before .args .widths .now) (c .before .before .before .before .before .before .before .before .before .before .before .before .before .before .before .before .args .r) (c .before .before .before .before .before .before .before .before .before .before .before .before .before .before .before .before .pre .1 .0) (If (c .before .before .before .before .before .before .before .before .before .before .before .before .before .before .before .before .args .a) (c .before .before .before .before .before .before .before .before .before .before .before .before .before .before .before .before .args .b) (c .before .before .before .before .before .before .before .before .before .before .before .before .before .before .before .before .args .c)) (c .before .before .before .before .before .before .before .before .before .before .before .before .before .before .before .before .pre .1 .3) in (k .2 .0 .low, omega (arith, k .2 .0 .high, k .2 .0 .accepted .table))
 
--- src/walk.rt:118:9  let second = exp_kinds(t, widths, c, env, &mut other, 0); ⏎ let alike = same_kinds(out, at, width_at(widths, b), &other, width_at(widths, c));
+-- src/walk.rt:119:9  let second = exp_kinds(t, widths, c, env, &mut other, 0); ⏎ let alike = same_kinds(out, at, width_at(widths, b), &other, width_at(widths, c));
 ifs-same-kinds-requires : (t : ℕ) → ifs-lts.Need-same-kinds-requires (
   exp-kinds-below t,
   exp-kinds.Post,
@@ -3131,7 +3106,7 @@ ifs-same-kinds-requires : (t : ℕ) → ifs-lts.Need-same-kinds-requires (
 ) (ifs-at t) ifs.Post
 ifs-same-kinds-requires t c κs = let k : ExpChildren (c .before .before .before .before .before .before .before .before .before .before .before .before .before .before .before .before .before .args .t .now) (c .before .before .before .before .before .before .before .before .before .before .before .before .before .before .before .before .before .args .widths .now) (c .before .before .before .before .before .before .before .before .before .before .before .before .before .before .before .before .before .args .r) (If (c .before .before .before .before .before .before .before .before .before .before .before .before .before .before .before .before .before .args .a) (c .before .before .before .before .before .before .before .before .before .before .before .before .before .before .before .before .before .args .b) (c .before .before .before .before .before .before .before .before .before .before .before .before .before .before .before .before .before .args .c)) = exp-children (c .before .before .before .before .before .before .before .before .before .before .before .before .before .before .before .before .before .args .t .now) (c .before .before .before .before .before .before .before .before .before .before .before .before .before .before .before .before .before .args .widths .now) (c .before .before .before .before .before .before .before .before .before .before .before .before .before .before .before .before .before .args .r) (c .before .before .before .before .before .before .before .before .before .before .before .before .before .before .before .before .before .pre .1 .0) (If (c .before .before .before .before .before .before .before .before .before .before .before .before .before .before .before .before .before .args .a) (c .before .before .before .before .before .before .before .before .before .before .before .before .before .before .before .before .before .args .b) (c .before .before .before .before .before .before .before .before .before .before .before .before .before .before .before .before .before .args .c)) (c .before .before .before .before .before .before .before .before .before .before .before .before .before .before .before .before .before .pre .1 .3) in let f : ExpNeeds (c .before .before .before .before .before .before .before .before .before .before .before .before .before .before .before .before .before .args .t .now) (c .before .before .before .before .before .before .before .before .before .before .before .before .before .before .before .before .before .args .widths .now) (c .before .before .before .before .before .before .before .before .before .before .before .before .before .before .before .before .before .args .r) (If (c .before .before .before .before .before .before .before .before .before .before .before .before .before .before .before .before .before .args .a) (c .before .before .before .before .before .before .before .before .before .before .before .before .before .before .before .before .before .args .b) (c .before .before .before .before .before .before .before .before .before .before .before .before .before .before .before .before .before .args .c)) = exp-needs (c .before .before .before .before .before .before .before .before .before .before .before .before .before .before .before .before .before .args .t .now) (c .before .before .before .before .before .before .before .before .before .before .before .before .before .before .before .before .before .args .widths .now) (c .before .before .before .before .before .before .before .before .before .before .before .before .before .before .before .before .before .args .r) (c .before .before .before .before .before .before .before .before .before .before .before .before .before .before .before .before .before .pre .1 .0) (If (c .before .before .before .before .before .before .before .before .before .before .before .before .before .before .before .before .before .args .a) (c .before .before .before .before .before .before .before .before .before .before .before .before .before .before .before .before .before .args .b) (c .before .before .before .before .before .before .before .before .before .before .before .before .before .before .before .before .before .args .c)) (c .before .before .before .before .before .before .before .before .before .before .before .before .before .before .before .before .before .pre .1 .3) in (omega (arith, f .1, c .before .before .before .before .before .before .before .before .before .before .before .before .before .before .before .before .before .pre .1 .2, c .before .before .width-at .ensures .0, c .before .before .before .before .before .before .before .before .before .exp-kinds2 .ensures .0 .1), omega (arith, narrow (c .before .before .before .before .before .before .before .before .before .before .before .before .before .before .before .before .before .args .t .now) (c .before .before .before .before .before .before .before .before .before .before .before .before .before .before .before .before .before .args .widths .now) (c .before .before .before .before .before .before .before .before .before .before .before .before .before .before .before .before .before .args .c) (k .2 .0), c .width-at2 .ensures .0, c .before .before .before .before .before .exp-kinds3 .ensures .0 .1))
 
--- src/walk.rt:119:36  let alike = same_kinds(out, at, width_at(widths, b), &other, width_at(widths, c)); ⏎ let ok = both(all_kinds(TRUTH, &test, 1), alike);
+-- src/walk.rt:120:36  let alike = same_kinds(out, at, width_at(widths, b), &other, width_at(widths, c)); ⏎ let ok = both(all_kinds(TRUTH, &test, 1), alike);
 ifs-slice-aggregate-all-kinds : (t : ℕ) → ifs-lts.Need-slice-aggregate-all-kinds (
   exp-kinds-below t,
   exp-kinds.Post,
@@ -3150,7 +3125,7 @@ ifs-slice-aggregate-all-kinds : (t : ℕ) → ifs-lts.Need-slice-aggregate-all-k
 ) (ifs-at t) ifs.Post
 ifs-slice-aggregate-all-kinds t c = search needs
 
--- src/walk.rt:119:19  let alike = same_kinds(out, at, width_at(widths, b), &other, width_at(widths, c)); ⏎ let ok = both(all_kinds(TRUTH, &test, 1), alike);
+-- src/walk.rt:120:19  let alike = same_kinds(out, at, width_at(widths, b), &other, width_at(widths, c)); ⏎ let ok = both(all_kinds(TRUTH, &test, 1), alike);
 ifs-all-kinds-requires : (t : ℕ) → ifs-lts.Need-all-kinds-requires (
   exp-kinds-below t,
   exp-kinds.Post,
@@ -3169,7 +3144,7 @@ ifs-all-kinds-requires : (t : ℕ) → ifs-lts.Need-all-kinds-requires (
 ) (ifs-at t) ifs.Post
 ifs-all-kinds-requires t c κs = omega (arith, c .before .before .before .before .before .before .before .before .before .before .before .before .before .before .exp-kinds .ensures .0 .1)
 
--- src/walk.rt:119:9  let alike = same_kinds(out, at, width_at(widths, b), &other, width_at(widths, c)); ⏎ let ok = both(all_kinds(TRUTH, &test, 1), alike);
+-- src/walk.rt:120:9  let alike = same_kinds(out, at, width_at(widths, b), &other, width_at(widths, c)); ⏎ let ok = both(all_kinds(TRUTH, &test, 1), alike);
 ifs-both-requires : (t : ℕ) → ifs-lts.Need-both-requires (
   exp-kinds-below t,
   exp-kinds.Post,
@@ -3188,7 +3163,7 @@ ifs-both-requires : (t : ℕ) → ifs-lts.Need-both-requires (
 ) (ifs-at t) ifs.Post
 ifs-both-requires t c κs = search needs
 
--- src/walk.rt:120:11  let ok = both(all_kinds(TRUTH, &test, 1), alike); ⏎ lower(own(r, ok), lower(tested, lower(first, second)))
+-- src/walk.rt:121:11  let ok = both(all_kinds(TRUTH, &test, 1), alike); ⏎ lower(own(r, ok), lower(tested, lower(first, second)))
 ifs-own-requires : (t : ℕ) → ifs-lts.Need-own-requires (
   exp-kinds-below t,
   exp-kinds.Post,
@@ -3207,7 +3182,7 @@ ifs-own-requires : (t : ℕ) → ifs-lts.Need-own-requires (
 ) (ifs-at t) ifs.Post
 ifs-own-requires t c κs = search needs
 
--- src/walk.rt:120:37  let ok = both(all_kinds(TRUTH, &test, 1), alike); ⏎ lower(own(r, ok), lower(tested, lower(first, second)))
+-- src/walk.rt:121:37  let ok = both(all_kinds(TRUTH, &test, 1), alike); ⏎ lower(own(r, ok), lower(tested, lower(first, second)))
 ifs-lower-requires : (t : ℕ) → ifs-lts.Need-lower-requires (
   exp-kinds-below t,
   exp-kinds.Post,
@@ -3226,7 +3201,7 @@ ifs-lower-requires : (t : ℕ) → ifs-lts.Need-lower-requires (
 ) (ifs-at t) ifs.Post
 ifs-lower-requires t c κs = search needs
 
--- src/walk.rt:120:23  let ok = both(all_kinds(TRUTH, &test, 1), alike); ⏎ lower(own(r, ok), lower(tested, lower(first, second)))
+-- src/walk.rt:121:23  let ok = both(all_kinds(TRUTH, &test, 1), alike); ⏎ lower(own(r, ok), lower(tested, lower(first, second)))
 ifs-lower-requires-2 : (t : ℕ) → ifs-lts.Need-lower-requires-2 (
   exp-kinds-below t,
   exp-kinds.Post,
@@ -3245,7 +3220,7 @@ ifs-lower-requires-2 : (t : ℕ) → ifs-lts.Need-lower-requires-2 (
 ) (ifs-at t) ifs.Post
 ifs-lower-requires-2 t c κs = search needs
 
--- src/walk.rt:120:5  let ok = both(all_kinds(TRUTH, &test, 1), alike); ⏎ lower(own(r, ok), lower(tested, lower(first, second)))
+-- src/walk.rt:121:5  let ok = both(all_kinds(TRUTH, &test, 1), alike); ⏎ lower(own(r, ok), lower(tested, lower(first, second)))
 ifs-lower-requires-3 : (t : ℕ) → ifs-lts.Need-lower-requires-3 (
   exp-kinds-below t,
   exp-kinds.Post,
@@ -3264,7 +3239,7 @@ ifs-lower-requires-3 : (t : ℕ) → ifs-lts.Need-lower-requires-3 (
 ) (ifs-at t) ifs.Post
 ifs-lower-requires-3 t c κs = search needs
 
--- src/walk.rt:99:1  // Row r, an if with the test's row a and the arms' rows b and c. ⏎ fn ifs(
+-- src/walk.rt:100:1  // Row r, an if with the test's row a and the arms' rows b and c. ⏎ fn ifs(
 ifs-same-length : (t : ℕ) → ifs-lts.Need-same-length (
   exp-kinds-below t,
   exp-kinds.Post,
@@ -3283,7 +3258,7 @@ ifs-same-length : (t : ℕ) → ifs-lts.Need-same-length (
 ) (ifs-at t) ifs.Post
 ifs-same-length t c = c .before .before .before .before .before .before .before .before .before .before .before .before .before .before .before .before .before .exp-kinds2 .ensures .0 .1
 
--- src/walk.rt:99:1  // Row r, an if with the test's row a and the arms' rows b and c. ⏎ fn ifs(
+-- src/walk.rt:100:1  // Row r, an if with the test's row a and the arms' rows b and c. ⏎ fn ifs(
 ifs-returns : (t : ℕ) → ifs-lts.Need-returns (
   exp-kinds-below t,
   exp-kinds.Post,
@@ -3398,12 +3373,10 @@ pub +arms+body-kinds+codes+exp-kinds+fors+ifs-spec : {M : Type 1} → statement 
     (λ t. codes-lts.spec (
       exp-kinds-below t,
       exp-kinds.Post,
-      wanted-kind-reads.Asked,
-      wanted-kind-reads.Learnt,
       width-at-reads.Asked,
       width-at-reads.Learnt,
-      all-kinds-reads.Asked,
-      all-kinds-reads.Learnt,
+      wanted-kinds-reads.Asked,
+      wanted-kinds-reads.Learnt,
       given-kind-reads.Asked,
       given-kind-reads.Learnt,
       put-kind-reads.Asked,
@@ -3417,10 +3390,10 @@ pub +arms+body-kinds+codes+exp-kinds+fors+ifs-spec : {M : Type 1} → statement 
     codes.Post
     (codes-slice-aggregate-exp-kinds t)
     (codes-exp-kinds-requires t)
-    (codes-wanted-kind-requires t)
-    (codes-slice-aggregate-all-kinds t)
     (codes-width-at-requires t)
-    (codes-all-kinds-requires t)
+    (codes-slice-aggregate-wanted-kinds t)
+    (codes-wanted-kinds-requires t)
+    (codes-slice-aggregate-given-kind t)
     (codes-given-kind-requires t)
     (codes-put-kind-requires t)
     (codes-own-requires t)

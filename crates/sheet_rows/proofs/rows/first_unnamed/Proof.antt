@@ -30,35 +30,35 @@ Inv-loop times n i₀ i = (i ≤ n) × (lowestFrom (i + 1) (n - i) (λ k. eqb (g
 abbrev μ-loop : tie.MeasureT-loop
 μ-loop times n i₀ i = n - i
 
--- src/rows.rt:225:5  let mut i = 0; ⏎ while i < n {
+-- src/rows.rt:226:5  let mut i = 0; ⏎ while i < n {
 loop-holds : tie.Need-loop-holds Inv-loop μ-loop
 loop-holds c = (omega arith, starts (c .args .n) 0 (λ k. eqb (getD (c .args .times .now) (k - 1) 0) 1))
 
--- src/rows.rt:226:12  while i < n { ⏎ if times[i] != 1 {
+-- src/rows.rt:227:12  while i < n { ⏎ if times[i] != 1 {
 shared-slice-read-if1 : tie.Need-shared-slice-read-if1 Inv-loop μ-loop
 shared-slice-read-if1 c = search needs
 
--- src/rows.rt:227:33  if times[i] != 1 { ⏎ return Check::Fault(i + 1);
+-- src/rows.rt:228:33  if times[i] != 1 { ⏎ return Check::Fault(i + 1);
 add-t7 : tie.Need-add-t7 Inv-loop μ-loop
 add-t7 c = search needs
 
--- src/rows.rt:227:13  if times[i] != 1 { ⏎ return Check::Fault(i + 1);
+-- src/rows.rt:228:13  if times[i] != 1 { ⏎ return Check::Fault(i + 1);
 returns : tie.Need-returns Inv-loop μ-loop
 returns c = sym (stops (c .before .before .before .before .args .n) (c .before .before .before .loop .i) (λ k. eqb (getD (c .before .before .before .before .args .times .now) (k - 1) 0) 1) (c .before .before .loop-test .taken) (at (c .before .before .before .before .args .times .now) (c .before .before .before .loop .i) ∙ ne-eqb (getD (c .before .before .before .before .args .times .now) (c .before .before .before .loop .i) 0) 1 (c .if1 .taken))) ∙ c .before .before .before .loop .inv .1
 
--- src/rows.rt:229:9  } ⏎ i += 1;
+-- src/rows.rt:230:9  } ⏎ i += 1;
 add-i : tie.Need-add-i Inv-loop μ-loop
 add-i c = search needs
 
--- src/rows.rt:225:5  let mut i = 0; ⏎ while i < n {
+-- src/rows.rt:226:5  let mut i = 0; ⏎ while i < n {
 loop-less : tie.Need-loop-less Inv-loop μ-loop
 loop-less c = search needs
 
--- src/rows.rt:225:5  let mut i = 0; ⏎ while i < n {
+-- src/rows.rt:226:5  let mut i = 0; ⏎ while i < n {
 loop-again : tie.Need-loop-again Inv-loop μ-loop
 loop-again c = (omega arith, goes-on (c .before .before .before .before .args .n) (c .before .before .before .loop .i) (λ k. eqb (getD (c .before .before .before .before .args .times .now) (k - 1) 0) 1) (c .before .before .loop-test .taken) (at (c .before .before .before .before .args .times .now) (c .before .before .before .loop .i) ∙ eq-eqb (getD (c .before .before .before .before .args .times .now) (c .before .before .before .loop .i) 0) 1 (c .if1 .left)) ∙ c .before .before .before .loop .inv .1)
 
--- src/rows.rt:220:1  // The lowest of n rows that a table does not have as named once. ⏎ fn first_unnamed(times: &[u8], n: usize) -> Check
+-- src/rows.rt:221:1  // The lowest of n rows that a table does not have as named once. ⏎ fn first_unnamed(times: &[u8], n: usize) -> Check
 returns-2 : tie.Need-returns-2 Inv-loop μ-loop
 returns-2 c = sym (ends (c .before .before .args .n) (c .before .loop .i) (λ k. eqb (getD (c .before .before .args .times .now) (k - 1) 0) 1) (omega arith)) ∙ c .before .loop .inv .1
 

@@ -1,9 +1,6 @@
 -- The tests, as paths name them:
---   tie if1  1 => { ⏎ if a <= LAST_IDENTIFIER {
---   tie if2  2 => { ⏎ if a <= LARGEST_WHOLE {
---   tie if3  } ⏎ 3 => { if a <= 1 { none_of(b, c, d) } else { false } }
---   tie if4  5 => { ⏎ if a < 1 {
---   tie if5  } ⏎ if a <= LAST_OPERATOR {
+--   tie if1  5 => { ⏎ if a < 1 {
+--   tie if2  } ⏎ if a <= LAST_OPERATOR {
 use borrow.Author.Needs.{needs}
 use Rattle.sheet_rows.proofs.rows.in_range.Statement.{statement}
 use Rattle.sheet_rows.proofs.rows.in_range.Tie as tie
@@ -11,33 +8,34 @@ use Rattle.sheet_rows.proofs.rows.in_range.Reads as reads
 use Rattle.sheet_rows.proofs.rows.in_range.Lts as lts
 use Rattle.sheet_rows.proofs.rows.binds_well.Reads as binds-well-reads
 use Rattle.sheet_rows.proofs.rows.none_of.Reads as none-of-reads
+use Rattle.sheet_rows.proofs.rows.only_up_to.Reads as only-up-to-reads
 use borrow.Author.Tests.{ne-eqb, le-leb, lt-leb}
 use Rattle.formula.specs.Tests.{inRange}
 
--- src/rows.rt:59:17  if a <= LAST_IDENTIFIER { ⏎ none_of(b, c, d)
+-- src/rows.rt:69:14  match kind { ⏎ 1 => only_up_to(LAST_IDENTIFIER, a, b, c, d),
+only-up-to-requires : tie.Need-only-up-to-requires
+only-up-to-requires c κs = search needs
+
+-- src/rows.rt:70:14  1 => only_up_to(LAST_IDENTIFIER, a, b, c, d), ⏎ 2 => only_up_to(LARGEST_NUMBER, a, b, c, d),
+only-up-to-requires-2 : tie.Need-only-up-to-requires-2
+only-up-to-requires-2 c κs = search needs
+
+-- src/rows.rt:71:14  2 => only_up_to(LARGEST_NUMBER, a, b, c, d), ⏎ 3 => only_up_to(LARGEST_TRUTH, a, b, c, d),
+only-up-to-requires-3 : tie.Need-only-up-to-requires-3
+only-up-to-requires-3 c κs = search needs
+
+-- src/rows.rt:72:14  3 => only_up_to(LARGEST_TRUTH, a, b, c, d), ⏎ 4 => none_of(0, c, d),
 none-of-requires : tie.Need-none-of-requires
 none-of-requires c κs = search needs
-
--- src/rows.rt:66:17  if a <= LARGEST_WHOLE { ⏎ none_of(b, c, d)
-none-of-requires-2 : tie.Need-none-of-requires-2
-none-of-requires-2 c κs = search needs
-
--- src/rows.rt:71:28  } ⏎ 3 => { if a <= 1 { none_of(b, c, d) } else { false } }
-none-of-requires-3 : tie.Need-none-of-requires-3
-none-of-requires-3 c κs = search needs
-
--- src/rows.rt:72:14  3 => { if a <= 1 { none_of(b, c, d) } else { false } } ⏎ 4 => none_of(0, c, d),
-none-of-requires-4 : tie.Need-none-of-requires-4
-none-of-requires-4 c κs = search needs
 
 -- src/rows.rt:75:17  if a < 1 { ⏎ return false;
 returns : tie.Need-returns
 unfolding inRange
-returns c = rw (c .before .match .keys5, lt-leb 1 (c .before .before .args .a) (c .if4 .taken))
+returns c = rw (c .before .match .keys5, lt-leb 1 (c .before .before .args .a) (c .if1 .taken))
 
 -- src/rows.rt:78:17  if a <= LAST_OPERATOR { ⏎ none_of(0, c, d)
-none-of-requires-5 : tie.Need-none-of-requires-5
-none-of-requires-5 c κs = search needs
+none-of-requires-2 : tie.Need-none-of-requires-2
+none-of-requires-2 c κs = search needs
 
 -- src/rows.rt:83:14  } ⏎ 6 => binds_well(a, b),
 binds-well-requires : tie.Need-binds-well-requires
@@ -48,94 +46,89 @@ binds-well-requires-2 : tie.Need-binds-well-requires-2
 binds-well-requires-2 c κs = search needs
 
 -- src/rows.rt:86:14  8 => binds_well(a, b), ⏎ 9 => none_of(b, c, d),
-none-of-requires-6 : tie.Need-none-of-requires-6
-none-of-requires-6 c κs = search needs
+none-of-requires-3 : tie.Need-none-of-requires-3
+none-of-requires-3 c κs = search needs
 
--- src/rows.rt:53:1  // Test 4 of one row's fields. ⏎ fn in_range(kind: u32, a: u32, b: u32, c: u32, d: u32) -> bool
+-- src/rows.rt:87:15  9 => none_of(b, c, d), ⏎ 10 => only_up_to(LARGEST_NUMBER, a, b, c, d),
+only-up-to-requires-4 : tie.Need-only-up-to-requires-4
+only-up-to-requires-4 c κs = search needs
+
+-- src/rows.rt:65:1  // Test 4 of one row's fields. ⏎ fn in_range(kind: u32, a: u32, b: u32, c: u32, d: u32) -> bool
 returns-2 : tie.Need-returns-2
 unfolding inRange
-returns-2 c = rw (c .before .before .match .keys1, c .none-of .ensures, le-leb (c .before .before .before .args .a) 31 (c .before .if1 .taken))
+returns-2 c = rw (c .before .match .keys1, c .only-up-to .ensures)
 
--- src/rows.rt:53:1  // Test 4 of one row's fields. ⏎ fn in_range(kind: u32, a: u32, b: u32, c: u32, d: u32) -> bool
+-- src/rows.rt:65:1  // Test 4 of one row's fields. ⏎ fn in_range(kind: u32, a: u32, b: u32, c: u32, d: u32) -> bool
 returns-3 : tie.Need-returns-3
 unfolding inRange
-returns-3 c = rw (c .before .match .keys1, lt-leb (c .before .before .args .a) 31 (c .if1 .left))
+returns-3 c = rw (c .before .match .keys2, c .only-up-to2 .ensures)
 
--- src/rows.rt:53:1  // Test 4 of one row's fields. ⏎ fn in_range(kind: u32, a: u32, b: u32, c: u32, d: u32) -> bool
+-- src/rows.rt:65:1  // Test 4 of one row's fields. ⏎ fn in_range(kind: u32, a: u32, b: u32, c: u32, d: u32) -> bool
 returns-4 : tie.Need-returns-4
 unfolding inRange
-returns-4 c = rw (c .before .before .match .keys2, c .none-of2 .ensures, le-leb (c .before .before .before .args .a) 999999 (c .before .if2 .taken))
+returns-4 c = rw (c .before .match .keys3, c .only-up-to3 .ensures)
 
--- src/rows.rt:53:1  // Test 4 of one row's fields. ⏎ fn in_range(kind: u32, a: u32, b: u32, c: u32, d: u32) -> bool
+-- src/rows.rt:65:1  // Test 4 of one row's fields. ⏎ fn in_range(kind: u32, a: u32, b: u32, c: u32, d: u32) -> bool
 returns-5 : tie.Need-returns-5
 unfolding inRange
-returns-5 c = rw (c .before .match .keys2, lt-leb (c .before .before .args .a) 999999 (c .if2 .left))
+returns-5 c = rw (c .before .match .keys4, c .none-of .ensures)
 
--- src/rows.rt:53:1  // Test 4 of one row's fields. ⏎ fn in_range(kind: u32, a: u32, b: u32, c: u32, d: u32) -> bool
+-- src/rows.rt:65:1  // Test 4 of one row's fields. ⏎ fn in_range(kind: u32, a: u32, b: u32, c: u32, d: u32) -> bool
 returns-6 : tie.Need-returns-6
 unfolding inRange
-returns-6 c = rw (c .before .before .match .keys3, c .none-of3 .ensures, le-leb (c .before .before .before .args .a) 1 (c .before .if3 .taken))
+returns-6 c = rw (c .before .before .before .match .keys5, c .none-of2 .ensures, le-leb 1 (c .before .before .before .before .args .a) (c .before .before .if1 .left), le-leb (c .before .before .before .before .args .a) 11 (c .before .if2 .taken))
 
--- src/rows.rt:53:1  // Test 4 of one row's fields. ⏎ fn in_range(kind: u32, a: u32, b: u32, c: u32, d: u32) -> bool
+-- src/rows.rt:65:1  // Test 4 of one row's fields. ⏎ fn in_range(kind: u32, a: u32, b: u32, c: u32, d: u32) -> bool
 returns-7 : tie.Need-returns-7
 unfolding inRange
-returns-7 c = rw (c .before .match .keys3, lt-leb (c .before .before .args .a) 1 (c .if3 .left))
+returns-7 c = rw (c .before .before .match .keys5, le-leb 1 (c .before .before .before .args .a) (c .before .if1 .left), lt-leb (c .before .before .before .args .a) 11 (c .if2 .left))
 
--- src/rows.rt:53:1  // Test 4 of one row's fields. ⏎ fn in_range(kind: u32, a: u32, b: u32, c: u32, d: u32) -> bool
+-- src/rows.rt:65:1  // Test 4 of one row's fields. ⏎ fn in_range(kind: u32, a: u32, b: u32, c: u32, d: u32) -> bool
 returns-8 : tie.Need-returns-8
 unfolding inRange
-returns-8 c = rw (c .before .match .keys4, c .none-of4 .ensures)
+returns-8 c = rw (c .before .match .keys6, c .binds-well .ensures)
 
--- src/rows.rt:53:1  // Test 4 of one row's fields. ⏎ fn in_range(kind: u32, a: u32, b: u32, c: u32, d: u32) -> bool
+-- src/rows.rt:65:1  // Test 4 of one row's fields. ⏎ fn in_range(kind: u32, a: u32, b: u32, c: u32, d: u32) -> bool
 returns-9 : tie.Need-returns-9
 unfolding inRange
-returns-9 c = rw (c .before .before .before .match .keys5, c .none-of5 .ensures, le-leb 1 (c .before .before .before .before .args .a) (c .before .before .if4 .left), le-leb (c .before .before .before .before .args .a) 11 (c .before .if5 .taken))
+returns-9 c = rw (c .match .keys7)
 
--- src/rows.rt:53:1  // Test 4 of one row's fields. ⏎ fn in_range(kind: u32, a: u32, b: u32, c: u32, d: u32) -> bool
+-- src/rows.rt:65:1  // Test 4 of one row's fields. ⏎ fn in_range(kind: u32, a: u32, b: u32, c: u32, d: u32) -> bool
 returns-10 : tie.Need-returns-10
 unfolding inRange
-returns-10 c = rw (c .before .before .match .keys5, le-leb 1 (c .before .before .before .args .a) (c .before .if4 .left), lt-leb (c .before .before .before .args .a) 11 (c .if5 .left))
+returns-10 c = rw (c .before .match .keys8, c .binds-well2 .ensures)
 
--- src/rows.rt:53:1  // Test 4 of one row's fields. ⏎ fn in_range(kind: u32, a: u32, b: u32, c: u32, d: u32) -> bool
+-- src/rows.rt:65:1  // Test 4 of one row's fields. ⏎ fn in_range(kind: u32, a: u32, b: u32, c: u32, d: u32) -> bool
 returns-11 : tie.Need-returns-11
 unfolding inRange
-returns-11 c = rw (c .before .match .keys6, c .binds-well .ensures)
+returns-11 c = rw (c .before .match .keys9, c .none-of3 .ensures)
 
--- src/rows.rt:53:1  // Test 4 of one row's fields. ⏎ fn in_range(kind: u32, a: u32, b: u32, c: u32, d: u32) -> bool
+-- src/rows.rt:65:1  // Test 4 of one row's fields. ⏎ fn in_range(kind: u32, a: u32, b: u32, c: u32, d: u32) -> bool
 returns-12 : tie.Need-returns-12
 unfolding inRange
-returns-12 c = rw (c .match .keys7)
+returns-12 c = rw (c .before .match .keys10, c .only-up-to4 .ensures)
 
--- src/rows.rt:53:1  // Test 4 of one row's fields. ⏎ fn in_range(kind: u32, a: u32, b: u32, c: u32, d: u32) -> bool
+-- src/rows.rt:65:1  // Test 4 of one row's fields. ⏎ fn in_range(kind: u32, a: u32, b: u32, c: u32, d: u32) -> bool
 returns-13 : tie.Need-returns-13
 unfolding inRange
-returns-13 c = rw (c .before .match .keys8, c .binds-well2 .ensures)
-
--- src/rows.rt:53:1  // Test 4 of one row's fields. ⏎ fn in_range(kind: u32, a: u32, b: u32, c: u32, d: u32) -> bool
-returns-14 : tie.Need-returns-14
-unfolding inRange
-returns-14 c = rw (c .before .match .keys9, c .none-of6 .ensures)
-
--- src/rows.rt:53:1  // Test 4 of one row's fields. ⏎ fn in_range(kind: u32, a: u32, b: u32, c: u32, d: u32) -> bool
-returns-15 : tie.Need-returns-15
-unfolding inRange
-returns-15 c =
+returns-13 c =
     let r = c .match .rest in
-    simp (ne-eqb _ _ (r .0 .0 .0 .0 .0 .0 .0 .0 .1), ne-eqb _ _ (r .0 .0 .0 .0 .0 .0 .0 .1), ne-eqb _ _ (r .0 .0 .0 .0 .0 .0 .1), ne-eqb _ _ (r .0 .0 .0 .0 .0 .1), ne-eqb _ _ (r .0 .0 .0 .0 .1), ne-eqb _ _ (r .0 .0 .0 .1), ne-eqb _ _ (r .0 .0 .1), ne-eqb _ _ (r .0 .1), ne-eqb _ _ (r .1))
+    simp (ne-eqb _ _ (r .0 .0 .0 .0 .0 .0 .0 .0 .0 .1), ne-eqb _ _ (r .0 .0 .0 .0 .0 .0 .0 .0 .1), ne-eqb _ _ (r .0 .0 .0 .0 .0 .0 .0 .1), ne-eqb _ _ (r .0 .0 .0 .0 .0 .0 .1), ne-eqb _ _ (r .0 .0 .0 .0 .0 .1), ne-eqb _ _ (r .0 .0 .0 .0 .1), ne-eqb _ _ (r .0 .0 .0 .1), ne-eqb _ _ (r .0 .0 .1), ne-eqb _ _ (r .0 .1), ne-eqb _ _ (r .1))
 
 pub in-range-spec : {M : Type 1} → statement M
 in-range-spec =
     tie.close
     (tie.spec
+    only-up-to-requires
+    only-up-to-requires-2
+    only-up-to-requires-3
     none-of-requires
-    none-of-requires-2
-    none-of-requires-3
-    none-of-requires-4
     returns
-    none-of-requires-5
+    none-of-requires-2
     binds-well-requires
     binds-well-requires-2
-    none-of-requires-6
+    none-of-requires-3
+    only-up-to-requires-4
     returns-2
     returns-3
     returns-4
@@ -147,6 +140,4 @@ in-range-spec =
     returns-10
     returns-11
     returns-12
-    returns-13
-    returns-14
-    returns-15)
+    returns-13)

@@ -7,15 +7,15 @@ use Rattle.sheet_rows.proofs.rows.none_of.Reads as reads
 use Rattle.sheet_rows.proofs.rows.none_of.Lts as lts
 use borrow.Author.Tests.{ne-eqb, eq-eqb}
 
--- src/rows.rt:31:9  if b != 0 { ⏎ return false;
+-- src/rows.rt:33:9  if b != 0 { ⏎ return false;
 returns : tie.Need-returns
 returns c = simp (ne-eqb (c .before .args .b) 0 (c .if1 .taken))
 
--- src/rows.rt:34:9  if c != 0 { ⏎ return false;
+-- src/rows.rt:36:9  if c != 0 { ⏎ return false;
 returns-2 : tie.Need-returns-2
 returns-2 c = simp (eq-eqb (c .before .before .args .b) 0 (c .before .if1 .left), ne-eqb (c .before .before .args .c) 0 (c .if2 .taken))
 
--- src/rows.rt:27:1  // Whether three fields are 0: "Unlisted fields are 0." ⏎ fn none_of(b: u32, c: u32, d: u32) -> bool
+-- src/rows.rt:29:1  // Whether three fields are 0: "Unlisted fields are 0." ⏎ fn none_of(b: u32, c: u32, d: u32) -> bool
 returns-3 : tie.Need-returns-3
 returns-3 c = simp (eq-eqb (c .before .before .args .b) 0 (c .before .if1 .left), eq-eqb (c .before .before .args .c) 0 (c .if2 .left))
 

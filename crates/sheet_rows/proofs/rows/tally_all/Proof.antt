@@ -21,33 +21,33 @@ Inv-loop fields n times₀ i₀ times i = (i ≤ n) × (times ≡ tallied fields
 abbrev μ-loop : tie.MeasureT-loop
 μ-loop fields n times₀ i₀ times i = n - i
 
--- src/rows.rt:212:5  let mut i = 0; ⏎ while i < n {
+-- src/rows.rt:213:5  let mut i = 0; ⏎ while i < n {
 loop-holds : tie.Need-loop-holds Inv-loop μ-loop
 unfolding tallied
 loop-holds c = (omega arith, refl, c .before .before .pre .1)
 
--- src/rows.rt:213:17  while i < n { ⏎ let r = i + 1;
+-- src/rows.rt:214:17  while i < n { ⏎ let r = i + 1;
 add-r : tie.Need-add-r Inv-loop μ-loop
 add-r c = search needs
 
--- src/rows.rt:214:26  let r = i + 1; ⏎ tally_row(times, shape_at(fields, r), r);
+-- src/rows.rt:215:26  let r = i + 1; ⏎ tally_row(times, shape_at(fields, r), r);
 shape-at-requires : tie.Need-shape-at-requires Inv-loop μ-loop
 shape-at-requires c κs = search needs
 
--- src/rows.rt:214:9  let r = i + 1; ⏎ tally_row(times, shape_at(fields, r), r);
+-- src/rows.rt:215:9  let r = i + 1; ⏎ tally_row(times, shape_at(fields, r), r);
 tally-row-requires : tie.Need-tally-row-requires Inv-loop μ-loop
 unfolding namesWell
 tally-row-requires c κs = (omega arith, ap (λ s. allBetween (c .before .before .before .loop .i + 1) (namedIn s)) (c .shape-at .ensures) ∙ passed-each (c .before .before .before .before .before .before .args .n) (namesWell (c .before .before .before .before .before .before .args .fields .now)) (c .before .before .before .before .before .before .pre .2) (c .before .before .before .loop .i + 1) (omega arith) (omega arith))
 
--- src/rows.rt:215:9  tally_row(times, shape_at(fields, r), r); ⏎ i += 1;
+-- src/rows.rt:216:9  tally_row(times, shape_at(fields, r), r); ⏎ i += 1;
 add-i : tie.Need-add-i Inv-loop μ-loop
 add-i c = search needs
 
--- src/rows.rt:212:5  let mut i = 0; ⏎ while i < n {
+-- src/rows.rt:213:5  let mut i = 0; ⏎ while i < n {
 loop-less : tie.Need-loop-less Inv-loop μ-loop
 loop-less c = search needs
 
--- src/rows.rt:212:5  let mut i = 0; ⏎ while i < n {
+-- src/rows.rt:213:5  let mut i = 0; ⏎ while i < n {
 loop-again : tie.Need-loop-again Inv-loop μ-loop
 loop-again c = (
   omega arith,
@@ -55,11 +55,11 @@ loop-again c = (
   c .before .before .tally-row .kept .0 ∙ c .before .before .before .before .before .before .loop .inv .2,
 )
 
--- src/rows.rt:207:1  // How often each row is named: 0 never, 1 once, 2 more than once. ⏎ fn tally_all(fields: &[u32], n: usize, times: &mut [u8])
+-- src/rows.rt:208:1  // How often each row is named: 0 never, 1 once, 2 more than once. ⏎ fn tally_all(fields: &[u32], n: usize, times: &mut [u8])
 same-length : tie.Need-same-length Inv-loop μ-loop
 same-length c = search needs
 
--- src/rows.rt:207:1  // How often each row is named: 0 never, 1 once, 2 more than once. ⏎ fn tally_all(fields: &[u32], n: usize, times: &mut [u8])
+-- src/rows.rt:208:1  // How often each row is named: 0 never, 1 once, 2 more than once. ⏎ fn tally_all(fields: &[u32], n: usize, times: &mut [u8])
 returns : tie.Need-returns Inv-loop μ-loop
 returns c = let e : c .before .loop .i ≡ c .before .before .before .before .args .n = omega arith in c .before .loop .inv .1 ∙ ap (λ k. tallied (c .before .before .before .before .args .fields .now) k (c .before .before .before .before .args .times .now)) e
 

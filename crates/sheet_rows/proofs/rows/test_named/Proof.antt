@@ -17,44 +17,44 @@ use Rattle.sheet_fields.proofs.TableLaws.{take-replicate}
 use Rattle.sheet_rows.proofs.RowLaws.{tallied-once}
 use Rattle.sheet_fields.proofs.TableLaws.{part-length, lent-length, whole-length, part-back}
 
--- src/rows.rt:239:21  { ⏎ let mut named = bytes();
+-- src/rows.rt:240:21  { ⏎ let mut named = bytes();
 bytes-requires : tie.Need-bytes-requires
 bytes-requires c κs = search needs
 
--- src/rows.rt:240:26  let mut named = bytes(); ⏎ tally_all(fields, n, &mut named[..n]);
+-- src/rows.rt:241:26  let mut named = bytes(); ⏎ tally_all(fields, n, &mut named[..n]);
 array-borrow-prefix-named : tie.Need-array-borrow-prefix-named
 array-borrow-prefix-named c = search needs
 
--- src/rows.rt:240:26  let mut named = bytes(); ⏎ tally_all(fields, n, &mut named[..n]);
+-- src/rows.rt:241:26  let mut named = bytes(); ⏎ tally_all(fields, n, &mut named[..n]);
 slice-aggregate-tally-all : tie.Need-slice-aggregate-tally-all
 slice-aggregate-tally-all c = part-length (c .before .before .before .args .n) 200 (c .before .before .before .pre .2) (c .before .bytes .result) (ap length (c .before .bytes .ensures))
 
--- src/rows.rt:240:5  let mut named = bytes(); ⏎ tally_all(fields, n, &mut named[..n]);
+-- src/rows.rt:241:5  let mut named = bytes(); ⏎ tally_all(fields, n, &mut named[..n]);
 tally-all-requires : tie.Need-tally-all-requires
 tally-all-requires c κs = (c .before .before .before .pre .0, sym (part-length (c .before .before .before .args .n) 200 (c .before .before .before .pre .2) (c .before .bytes .result) (ap length (c .before .bytes .ensures))), c .before .before .before .pre .3)
 
--- src/rows.rt:241:19  tally_all(fields, n, &mut named[..n]); ⏎ first_unnamed(&named[..n], n - 1)
+-- src/rows.rt:242:19  tally_all(fields, n, &mut named[..n]); ⏎ first_unnamed(&named[..n], n - 1)
 array-share-prefix-named : tie.Need-array-share-prefix-named
 array-share-prefix-named c = let e = whole-length (c .before .before .before .before .before .args .n) 200 (c .before .before .before .before .before .pre .2) (c .before .before .before .bytes .result) (ap length (c .before .before .before .bytes .ensures)) (c .before .tally-all .last .1 .1 .0) (c .before .tally-all .kept .1 .1 .0) in omega (arith, e, c .before .before .before .before .before .pre .2)
 
--- src/rows.rt:241:19  tally_all(fields, n, &mut named[..n]); ⏎ first_unnamed(&named[..n], n - 1)
+-- src/rows.rt:242:19  tally_all(fields, n, &mut named[..n]); ⏎ first_unnamed(&named[..n], n - 1)
 slice-aggregate-first-unnamed : tie.Need-slice-aggregate-first-unnamed
 slice-aggregate-first-unnamed c =
     let l = c .before .before .tally-all .last .1 .1 .0 in
     sym (ap length (part-back (c .before .before .before .before .before .before .args .n) 200 (c .before .before .before .before .before .before .pre .2) (c .before .before .before .before .bytes .result) (ap length (c .before .before .before .before .bytes .ensures)) l (c .before .before .tally-all .kept .1 .1 .0)) ∙ lent-length (c .before .before .before .before .before .before .args .n) 200 (c .before .before .before .before .before .before .pre .2) (c .before .before .before .before .bytes .result) (ap length (c .before .before .before .before .bytes .ensures)) l (c .before .before .tally-all .kept .1 .1 .0))
 
--- src/rows.rt:241:32  tally_all(fields, n, &mut named[..n]); ⏎ first_unnamed(&named[..n], n - 1)
+-- src/rows.rt:242:32  tally_all(fields, n, &mut named[..n]); ⏎ first_unnamed(&named[..n], n - 1)
 sub-first-unnamed : tie.Need-sub-first-unnamed
 sub-first-unnamed c = search needs
 
--- src/rows.rt:241:5  tally_all(fields, n, &mut named[..n]); ⏎ first_unnamed(&named[..n], n - 1)
+-- src/rows.rt:242:5  tally_all(fields, n, &mut named[..n]); ⏎ first_unnamed(&named[..n], n - 1)
 first-unnamed-requires : tie.Need-first-unnamed-requires
 first-unnamed-requires c κs =
     let l = c .before .before .tally-all .last .1 .1 .0 in
     let e = ap length (part-back (c .before .before .before .before .before .before .args .n) 200 (c .before .before .before .before .before .before .pre .2) (c .before .before .before .before .bytes .result) (ap length (c .before .before .before .before .bytes .ensures)) l (c .before .before .tally-all .kept .1 .1 .0)) ∙ lent-length (c .before .before .before .before .before .before .args .n) 200 (c .before .before .before .before .before .before .pre .2) (c .before .before .before .before .bytes .result) (ap length (c .before .before .before .before .bytes .ensures)) l (c .before .before .tally-all .kept .1 .1 .0) in
     omega (arith, e)
 
--- src/rows.rt:235:1  // Test 6. ⏎ pub fn test_named(fields: &[u32], n: usize) -> Check
+-- src/rows.rt:236:1  // Test 6. ⏎ pub fn test_named(fields: &[u32], n: usize) -> Check
 returns : tie.Need-returns
 returns c =
     let l = c .before .before .before .tally-all .last .1 .1 .0 in

@@ -24,23 +24,23 @@ Inv-loop fields n i₀ i = (i ≤ n) × (lowestFrom (i + 1) (n - i) (namesWell f
 abbrev μ-loop : tie.MeasureT-loop
 μ-loop fields n i₀ i = n - i
 
--- src/rows.rt:150:5  let mut i = 0; ⏎ while i < n {
+-- src/rows.rt:151:5  let mut i = 0; ⏎ while i < n {
 loop-holds : tie.Need-loop-holds Inv-loop μ-loop
 loop-holds c = (omega arith, starts (c .before .args .n) 0 (namesWell (c .before .args .fields .now)))
 
--- src/rows.rt:151:17  while i < n { ⏎ let r = i + 1;
+-- src/rows.rt:152:17  while i < n { ⏎ let r = i + 1;
 add-r : tie.Need-add-r Inv-loop μ-loop
 add-r c = search needs
 
--- src/rows.rt:152:24  let r = i + 1; ⏎ if !names_well(shape_at(fields, r), r) {
+-- src/rows.rt:153:24  let r = i + 1; ⏎ if !names_well(shape_at(fields, r), r) {
 shape-at-requires : tie.Need-shape-at-requires Inv-loop μ-loop
 shape-at-requires c κs = search needs
 
--- src/rows.rt:152:13  let r = i + 1; ⏎ if !names_well(shape_at(fields, r), r) {
+-- src/rows.rt:153:13  let r = i + 1; ⏎ if !names_well(shape_at(fields, r), r) {
 names-well-requires : tie.Need-names-well-requires Inv-loop μ-loop
 names-well-requires c κs = search needs
 
--- src/rows.rt:153:13  if !names_well(shape_at(fields, r), r) { ⏎ return Check::Fault(r);
+-- src/rows.rt:154:13  if !names_well(shape_at(fields, r), r) { ⏎ return Check::Fault(r);
 returns : tie.Need-returns Inv-loop μ-loop
 unfolding namesWell
 returns c =
@@ -48,15 +48,15 @@ returns c =
     let e : c .before .names-well .result ≡ w (c .before .before .before .before .loop .i + 1) = c .before .names-well .ensures ∙ ap (λ s. allBetween (c .before .before .before .before .loop .i + 1) (namedIn s)) (c .before .before .shape-at .ensures) in
     sym (stops (c .before .before .before .before .before .before .args .n) (c .before .before .before .before .loop .i) w (c .before .before .before .loop-test .taken) (sym e ∙ not-true (c .before .names-well .result) (c .if1 .taken))) ∙ c .before .before .before .before .loop .inv .1
 
--- src/rows.rt:155:9  } ⏎ i += 1;
+-- src/rows.rt:156:9  } ⏎ i += 1;
 add-i : tie.Need-add-i Inv-loop μ-loop
 add-i c = search needs
 
--- src/rows.rt:150:5  let mut i = 0; ⏎ while i < n {
+-- src/rows.rt:151:5  let mut i = 0; ⏎ while i < n {
 loop-less : tie.Need-loop-less Inv-loop μ-loop
 loop-less c = search needs
 
--- src/rows.rt:150:5  let mut i = 0; ⏎ while i < n {
+-- src/rows.rt:151:5  let mut i = 0; ⏎ while i < n {
 loop-again : tie.Need-loop-again Inv-loop μ-loop
 unfolding namesWell
 loop-again c =
@@ -64,7 +64,7 @@ loop-again c =
     let e : c .before .names-well .result ≡ w (c .before .before .before .before .loop .i + 1) = c .before .names-well .ensures ∙ ap (λ s. allBetween (c .before .before .before .before .loop .i + 1) (namedIn s)) (c .before .before .shape-at .ensures) in
     (omega arith, goes-on (c .before .before .before .before .before .before .args .n) (c .before .before .before .before .loop .i) w (c .before .before .before .loop-test .taken) (sym e ∙ not-false (c .before .names-well .result) (c .if1 .left)) ∙ c .before .before .before .before .loop .inv .1)
 
--- src/rows.rt:145:1  // Test 5. ⏎ pub fn test_naming(fields: &[u32], n: usize) -> Check
+-- src/rows.rt:146:1  // Test 5. ⏎ pub fn test_naming(fields: &[u32], n: usize) -> Check
 returns-2 : tie.Need-returns-2 Inv-loop μ-loop
 returns-2 c = sym (ends (c .before .before .before .args .n) (c .before .loop .i) (namesWell (c .before .before .before .args .fields .now)) (omega arith)) ∙ c .before .loop .inv .1
 

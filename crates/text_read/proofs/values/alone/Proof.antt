@@ -12,11 +12,11 @@ use lib.ListN.{length, getD}
 use lib.Seq.{slice}
 use borrow.Author.Tests.{eq-eqb, ne-eqb}
 
--- src/values.rt:110:1  } ⏎ fn alone(i: usize, end: usize, word: u64) -> u64
+-- src/values.rt:162:1  } ⏎ fn alone(i: usize, end: usize, word: u64) -> u64
 returns : tie.Need-returns
 returns c = rw (eq-eqb (c .before .args .i) (c .before .args .end) (c .if1 .taken)) refl
 
--- src/values.rt:110:1  } ⏎ fn alone(i: usize, end: usize, word: u64) -> u64
+-- src/values.rt:162:1  } ⏎ fn alone(i: usize, end: usize, word: u64) -> u64
 returns-2 : tie.Need-returns-2
 returns-2 c = rw (ne-eqb (c .before .args .i) (c .before .args .end) (c .if1 .left)) refl
 

@@ -26,47 +26,47 @@ Inv-loop s from end first v₀ i₀ v i = (from ≤ i) × (i ≤ end) × (v < 10
 abbrev μ-loop : tie.MeasureT-loop
 μ-loop s from end first v₀ i₀ v i = end - i
 
--- src/values.rt:46:5  let mut i = from; ⏎ while i < end {
+-- src/values.rt:49:5  let mut i = from; ⏎ while i < end {
 loop-holds : tie.Need-loop-holds Inv-loop μ-loop
 loop-holds c = let e : c .before .args .from - c .before .args .from ≡ 0 = omega arith in (omega arith, omega arith, rw e (omega arith), refl)
 
--- src/values.rt:47:17  while i < end { ⏎ let b = s[i];
+-- src/values.rt:50:17  while i < end { ⏎ let b = s[i];
 shared-slice-read-b : tie.Need-shared-slice-read-b Inv-loop μ-loop
 shared-slice-read-b c = omega arith
 
--- src/values.rt:49:13  if b < b'0' { ⏎ return Digits::Broken;
+-- src/values.rt:52:13  if b < b'0' { ⏎ return Digits::Broken;
 returns : tie.Need-returns Inv-loop μ-loop
 returns c = digits-low (c .before .before .before .before .before .args .s .now) (c .before .before .before .loop .i) (c .before .before .before .before .before .args .end) (omega arith) (omega arith) (c .before .before .before .loop .v) (c .if1 .taken) ∙ c .before .before .before .loop .inv .3
 
--- src/values.rt:52:13  if b'9' < b { ⏎ return Digits::Broken;
+-- src/values.rt:55:13  if b'9' < b { ⏎ return Digits::Broken;
 returns-2 : tie.Need-returns-2 Inv-loop μ-loop
 returns-2 c = digits-high (c .before .before .before .before .before .before .args .s .now) (c .before .before .before .before .loop .i) (c .before .before .before .before .before .before .args .end) (omega arith) (omega arith) (c .before .before .before .before .loop .v) (c .if2 .taken) ∙ c .before .before .before .before .loop .inv .3
 
--- src/values.rt:54:13  } ⏎ v = v * 10 + digit(b);
+-- src/values.rt:57:13  } ⏎ v = v * 10 + digit(b);
 mul-v : tie.Need-mul-v Inv-loop μ-loop
 mul-v c = omega (arith, small (c .before .before .before .before .loop .v) (c .before .before .before .before .loop .i - c .before .before .before .before .before .before .args .from) (c .before .before .before .before .loop .inv .2) (omega arith))
 
--- src/values.rt:54:22  } ⏎ v = v * 10 + digit(b);
+-- src/values.rt:57:22  } ⏎ v = v * 10 + digit(b);
 digit-requires : tie.Need-digit-requires Inv-loop μ-loop
 digit-requires c κs = omega arith
 
--- src/values.rt:54:13  } ⏎ v = v * 10 + digit(b);
+-- src/values.rt:57:13  } ⏎ v = v * 10 + digit(b);
 add-v : tie.Need-add-v Inv-loop μ-loop
 add-v c = omega (arith, small (c .before .before .before .before .before .loop .v) (c .before .before .before .before .before .loop .i - c .before .before .before .before .before .before .before .args .from) (c .before .before .before .before .before .loop .inv .2) (omega arith), c .digit .ensures, c .before .if2 .left)
 
--- src/values.rt:55:9  v = v * 10 + digit(b); ⏎ i += 1;
+-- src/values.rt:58:9  v = v * 10 + digit(b); ⏎ i += 1;
 add-i : tie.Need-add-i Inv-loop μ-loop
 add-i c = omega arith
 
--- src/values.rt:46:5  let mut i = from; ⏎ while i < end {
+-- src/values.rt:49:5  let mut i = from; ⏎ while i < end {
 loop-less : tie.Need-loop-less Inv-loop μ-loop
 loop-less c = omega arith
 
--- src/values.rt:46:5  let mut i = from; ⏎ while i < end {
+-- src/values.rt:49:5  let mut i = from; ⏎ while i < end {
 loop-again : tie.Need-loop-again Inv-loop μ-loop
 loop-again c = let e : c .before .before .before .before .before .loop .i + 1 - c .before .before .before .before .before .before .before .args .from ≡ c .before .before .before .before .before .loop .i - c .before .before .before .before .before .before .before .args .from + 1 = omega arith in (omega arith, omega arith, rw e (grows (c .before .before .before .before .before .loop .v) (c .digit .result) (c .before .before .before .before .before .loop .i - c .before .before .before .before .before .before .before .args .from) (c .before .before .before .before .before .loop .inv .2) (omega (arith, c .digit .ensures, c .before .if2 .left))), rw (c .digit .ensures) (sym (digits-more (c .before .before .before .before .before .before .before .args .s .now) (c .before .before .before .before .before .loop .i) (c .before .before .before .before .before .before .before .args .end) (omega arith) (omega arith) (c .before .before .before .before .before .loop .v) (c .before .before .if1 .left) (c .before .if2 .left)) ∙ c .before .before .before .before .before .loop .inv .3))
 
--- src/values.rt:40:1  // The number `first`, then the digits of s from `from` to `end`. ⏎ fn digits(s: &[u8], from: usize, end: usize, first: u64) -> Digits
+-- src/values.rt:43:1  // The number `first`, then the digits of s from `from` to `end`. ⏎ fn digits(s: &[u8], from: usize, end: usize, first: u64) -> Digits
 returns-3 : tie.Need-returns-3 Inv-loop μ-loop
 returns-3 c = let e : c .before .loop .i ≡ c .before .before .before .args .end = omega arith in digits-end (c .before .before .before .args .s .now) (c .before .before .before .args .end) (c .before .loop .v) ∙ (rw e at (c .before .loop .inv .3))
 

@@ -9,22 +9,22 @@ use Rattle.value.proofs.bytes.from_err.Lts as lts
 use borrow.Author.Tests.{eq-eqb, ne-eqb}
 use Rattle.value.specs.Bytes.{errOf}
 
--- src/bytes.rt:107:9  if bits == 0 { ⏎ return Decoded::Valid(Value::Err(Reason::Other));
+-- src/bytes.rt:134:9  if bits == 0 { ⏎ return Decoded::Valid(Value::Err(Reason::Other));
 returns : tie.Need-returns
 unfolding errOf
 returns c = simp (eq-eqb _ _ (c .if1 .taken))
 
--- src/bytes.rt:110:9  if bits == 1 { ⏎ return Decoded::Valid(Value::Err(Reason::ZeroDivisor));
+-- src/bytes.rt:137:9  if bits == 1 { ⏎ return Decoded::Valid(Value::Err(Reason::ZeroDivisor));
 returns-2 : tie.Need-returns-2
 unfolding errOf
 returns-2 c = simp (ne-eqb _ _ (c .before .if1 .left), eq-eqb _ _ (c .if2 .taken))
 
--- src/bytes.rt:113:9  if bits == 2 { ⏎ return Decoded::Valid(Value::Err(Reason::OutOfRange));
+-- src/bytes.rt:140:9  if bits == 2 { ⏎ return Decoded::Valid(Value::Err(Reason::OutOfRange));
 returns-3 : tie.Need-returns-3
 unfolding errOf
 returns-3 c = simp (ne-eqb _ _ (c .before .before .if1 .left), ne-eqb _ _ (c .before .if2 .left), eq-eqb _ _ (c .if3 .taken))
 
--- src/bytes.rt:103:1  } ⏎ fn from_err(bits: u64) -> Decoded
+-- src/bytes.rt:130:1  } ⏎ fn from_err(bits: u64) -> Decoded
 returns-4 : tie.Need-returns-4
 unfolding errOf
 returns-4 c = simp (ne-eqb _ _ (c .before .before .if1 .left), ne-eqb _ _ (c .before .if2 .left), ne-eqb _ _ (c .if3 .left))

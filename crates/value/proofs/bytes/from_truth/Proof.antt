@@ -8,17 +8,17 @@ use Rattle.value.proofs.bytes.from_truth.Lts as lts
 use borrow.Author.Tests.{eq-eqb, ne-eqb}
 use Rattle.value.specs.Bytes.{truthOf}
 
--- src/bytes.rt:95:9  if bits == 0 { ⏎ return Decoded::Valid(Value::Truth(false));
+-- src/bytes.rt:122:9  if bits == 0 { ⏎ return Decoded::Valid(Value::Truth(false));
 returns : tie.Need-returns
 unfolding truthOf
 returns c = simp (eq-eqb _ _ (c .if1 .taken))
 
--- src/bytes.rt:98:9  if bits == 1 { ⏎ return Decoded::Valid(Value::Truth(true));
+-- src/bytes.rt:125:9  if bits == 1 { ⏎ return Decoded::Valid(Value::Truth(true));
 returns-2 : tie.Need-returns-2
 unfolding truthOf
 returns-2 c = simp (ne-eqb _ _ (c .before .if1 .left), eq-eqb _ _ (c .if2 .taken))
 
--- src/bytes.rt:91:1  } ⏎ fn from_truth(bits: u64) -> Decoded
+-- src/bytes.rt:118:1  } ⏎ fn from_truth(bits: u64) -> Decoded
 returns-3 : tie.Need-returns-3
 unfolding truthOf
 returns-3 c = simp (ne-eqb _ _ (c .before .if1 .left), ne-eqb _ _ (c .if2 .left))

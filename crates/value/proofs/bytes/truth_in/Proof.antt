@@ -6,11 +6,11 @@ use Rattle.value.proofs.bytes.truth_in.Reads as reads
 use Rattle.value.proofs.bytes.truth_in.Lts as lts
 use Rattle.value.proofs.Words.{truth-of-kind, truth-not-whole}
 
--- src/bytes.rt:180:9  if letter == TRUTH_LETTER { ⏎ return bits < 2;
+-- src/bytes.rt:248:9  if letter == TRUTH_LETTER { ⏎ return bits < 2;
 returns : tie.Need-returns
 returns c = truth-of-kind (c .before .args .letter) (c .before .args .bits) (c .if1 .taken)
 
--- src/bytes.rt:176:1  } ⏎ fn truth_in(letter: u8, bits: u64) -> bool
+-- src/bytes.rt:244:1  } ⏎ fn truth_in(letter: u8, bits: u64) -> bool
 returns-2 : tie.Need-returns-2
 returns-2 c = truth-not-whole (c .before .args .letter) (c .before .args .bits) (c .if1 .left)
 
