@@ -1,4 +1,4 @@
--- `run_rounds` meets its contract: a walk of its MIR, by hand.
+-- `bench_fire` meets its contract: a walk of its MIR, by hand.
 use mathlib.Core.Path.{_≡_, refl, sym, ap, subst}
 use lib.ListN.{getD, length}
 use Prim.Native.Nat.{ℕ, _+_, _<_, _^_, min}
@@ -40,25 +40,25 @@ use denote.Triple.Table.{entered, cited}
 use denote.Triple.Clauses.{ensured, lasts}
 use denote.Triple.Walked.{says, Stays, stay-ref, stay-none, gave-slice, walkOf, AllGo, goes-none, goes-ref, goes-gave-slice, Walks, ends-at, walked, walk-meets}
 use denote.Exit.{yes}
-use Rattle.machine_rounds.specs.Rounds.{outcome, ranRounds}
-use Rattle.machine_tally.specs.Tallied.{afterRounds}
+use Rattle.machine_calls.specs.Calls.{outcome, fired}
+use Rattle.machine_tally.specs.Tallied.{afterFire}
 use Rattle.machine_tally.specs.declared.Tally.{Tally}
-use Rattle.machine_rounds.specs.declared.RoundsAnswer.{RoundsAnswer}
-use Rattle.machine_tally.specs.declared.NotedRounds.{NotedRounds}
+use Rattle.machine_calls.specs.declared.Answer.{Answer}
+use Rattle.machine_tally.specs.declared.Noted.{Noted}
 use Rattle.machine_tally.proofs.Tally as T
 use Rattle.machine_tally.proofs.Tally.Laws as T′
-use Rattle.machine_rounds.proofs.RoundsAnswer as R
-use Rattle.machine_rounds.proofs.RoundsAnswer.Laws as R′
-use Rattle.machine_tally.proofs.NotedRounds as N
-use Rattle.machine_tally.proofs.NotedRounds.Laws as N′
-use Rattle.machine_tally.proofs.run_rounds_tallied as core
-use Rattle.machine_tally.proofs.run_rounds_tallied.Symbol as core-def
-use Rattle.machine_tally.proofs.run_rounds_tallied.Symbol.{name as #run-rounds-tallied}
-use Rattle.machine_tally.proofs.run_rounds_tallied.Met as core-thm
-use Rattle.machine_tally_entries.proofs.run_rounds.Key.{name as #run-rounds}
-use Rattle.machine_tally_entries.proofs.run_rounds as f
-use Rattle.machine_tally_entries.proofs.run_rounds.Statement as stated
-use Rattle.machine_tally_entries.proofs.run_rounds.Code as code
+use Rattle.machine_calls.proofs.Answer as R
+use Rattle.machine_calls.proofs.Answer.Laws as R′
+use Rattle.machine_tally.proofs.Noted as N
+use Rattle.machine_tally.proofs.Noted.Laws as N′
+use Rattle.machine_tally.proofs.fire_tallied as core
+use Rattle.machine_tally.proofs.fire_tallied.Symbol as core-def
+use Rattle.machine_tally.proofs.fire_tallied.Symbol.{name as #fire-tallied}
+use Rattle.machine_tally.proofs.fire_tallied.Met as core-thm
+use Rattle.firmware.proofs.bench_fire.Key.{name as #bench-fire}
+use Rattle.firmware.proofs.bench_fire as f
+use Rattle.firmware.proofs.bench_fire.Statement as stated
+use Rattle.firmware.proofs.bench_fire.Code as code
 
 abbrev Arg : Type 0
 Arg = RefT (List ℕ) × (ℕ × (RefT Tally × Unit {0}))
@@ -86,17 +86,17 @@ module _ {M : Type 1} (𝓤 : URA M) (H : Heap 𝓤) (A : Atoms 𝓤) (W : Given
   abbrev Post : Val → SProp 𝓤
   Post = walkOf 𝓤 H A f.ended stayed (f.clauses 𝓤 H A at-mem run) .post (((κ, (κ′, tt)), (q, (q′, tt)), tt, x, at), tt)
 
-  abbrev Said : NotedRounds → List ℕ → Type 0
-  Said r zs = (outcome (r .answer) zs ≡ ranRounds ys n) × (r .tally ≡ afterRounds h (r .answer))
+  abbrev Said : Noted → List ℕ → Type 0
+  Said r zs = (outcome (r .answer) zs ≡ fired ys n) × (r .tally ≡ afterFire h (r .answer))
 
   -- what the callee's result says of its parts
-  told : (r : NotedRounds) (v : Val) → Is N.the-row r (v ∷ []) → Is T.the-row (r .tally) (LL.vals T.the-type T′.the-laws (r .tally))
+  told : (r : Noted) (v : Val) → Is N.the-row r (v ∷ []) → Is T.the-row (r .tally) (LL.vals T.the-type T′.the-laws (r .tally))
   told r v is = LL.owed N.the-type N′.the-laws r (v ∷ []) is .1 .0
 
-  answered : (r : NotedRounds) (v : Val) → Is N.the-row r (v ∷ []) → Is R.the-row (r .answer) (LL.vals R.the-type R′.the-laws (r .answer))
+  answered : (r : Noted) (v : Val) → Is N.the-row r (v ∷ []) → Is R.the-row (r .answer) (LL.vals R.the-type R′.the-laws (r .answer))
   answered r v is = LL.owed N.the-type N′.the-laws r (v ∷ []) is .0
 
-  exits : (r : NotedRounds) (zs : List ℕ) → Is R.the-row (r .answer) (LL.vals R.the-type R′.the-laws (r .answer)) → Said r zs → length zs ≡ length ys
+  exits : (r : Noted) (zs : List ℕ) → Is R.the-row (r .answer) (LL.vals R.the-type R′.the-laws (r .answer)) → Said r zs → length zs ≡ length ys
       → ent 𝓤 (⋆ 𝓤 H A (‵ (fobs γ′ (T.the-row .coded .code (r .tally))) ∷ ‵ (fbor κ′ (Body (mem T.the-row) b′ o′ γ′)) ∷ ‵ (flft κ′ q′) ∷ (‵ (flft κ q) ⊛ ‵ ftrue) ∷ ‵ (finally u8 γ zs) ∷ [])) (Post (LL.val R.the-type R′.the-laws (r .answer)))
   exits r zs is e l =
       qed W (‵ (fobs γ′ (T.the-row .coded .code (r .tally))) ∷ ‵ (fbor κ′ (Body (mem T.the-row) b′ o′ γ′)) ∷ ‵ (flft κ′ q′) ∷ (‵ (flft κ q) ⊛ ‵ ftrue) ∷ ‵ (finally u8 γ zs) ∷ []) ∵
@@ -113,7 +113,7 @@ module _ {M : Type 1} (𝓤 : URA M) (H : Heap 𝓤) (A : Atoms 𝓤) (W : Given
       qed W ((‵ (flft κ q) ⊛ ‵ ftrue) ∷ ‵ (MutSlice (named 0) κ u8 .own xs (s ∷ [])) ∷ []) ∵ nothing ! $ owned ! T.the-row (Is T.the-row) ((LL.makes T.the-type T′.the-plain) 𝓤 H A) h _ was $ fjoin ! $
       owned ! u32 (Is u32) (uint-makes 𝓤 H A W w32) n _ (refl, n-fits) $ fjoin ! $ move ! (2 ∷ 0 ∷ []) $ fjoin ! $ move ! (1 ∷ 0 ∷ []) $ join ! $ frame ! $ done !
 
-  module _ (C : Calls 𝓤 H) (Λ : Loops 𝓤 H) (fm : FmC 𝓤 H (W .laws) C) (known : Triple 𝓤 (C #run-rounds-tallied) (Core 𝓤 H A at-mem run)) where
+  module _ (C : Calls 𝓤 H) (Λ : Loops 𝓤 H) (fm : FmC 𝓤 H (W .laws) C) (known : Triple 𝓤 (C #fire-tallied) (Core 𝓤 H A at-mem run)) where
     walk : Room u8 (length ys) → ent 𝓤 (onEntry 𝓤 H A f.signature (κ, (κ′, tt)) (q, (q′, tt)) x at) (WpFn 𝓤 H C Λ code.function (s ∷ vint w32 n ∷ vptr b′ o′ ∷ []) Post)
     walk room =
         qed W ((‵ (flft κ q) ⊛ ‵ (flft κ′ q′) ⊛ ‵ ftrue) ∷ ‵ (owns (MutSlice (named 0) κ u8 ∷ u32 ∷ MutRef (named 1) κ′ T.the-row ∷ []) x at) ∷ []) ∵ split ! $ move ! (1 ∷ []) $ split ! $ move ! (3 ∷ []) $ fsplit ! $ move ! (1 ∷ []) $ fsplit ! $
@@ -131,7 +131,7 @@ module _ {M : Type 1} (𝓤 : URA M) (H : Heap 𝓤) (A : Atoms 𝓤) (W : Given
         assigns ! (agg ! (and-then ! (load ! (from ! (stop !)) (look ! 7 refl)) (and-then ! (load ! (from ! (fld ! refl (stop !))) (look-in ! 17 (sub ! 1 refl (whole !)))) (no-more !)))) (from ! (stop !)) (init ! 5 refl (tt, (tt, (record { fits = room .0 }, tt)))) $
         move ! (21 ∷ 22 ∷ []) $ use2 W (raw (Core 𝓤 H A at-mem run .pre to)) (goes-core was) $
         calls-at ! fm (Core 𝓤 H A at-mem run) known to (and-then ! (load ! (from ! (stop !)) (look ! 6 refl)) (and-then ! (load ! (from ! (stop !)) (look ! 16 refl)) (and-then ! (load ! (from ! (stop !)) (look ! 12 refl)) (no-more !)))) (λ v.
-        use1 W (later (some (λ (r : NotedRounds). ((‵ (flft κ q) ⊛ ‵ ftrue) ⊛ ‵ (N.the-row .own r (v ∷ []))) ⊛ raw (ensured 𝓤 H A core.ended (core.clauses 𝓤 H A at-mem run) (κ, tt) (xs, (n, (h, tt))) tt r)))) (id⊢ 𝓤 _) $ await ! tt $ pick ! (λ r.
+        use1 W (later (some (λ (r : Noted). ((‵ (flft κ q) ⊛ ‵ ftrue) ⊛ ‵ (N.the-row .own r (v ∷ []))) ⊛ raw (ensured 𝓤 H A core.ended (core.clauses 𝓤 H A at-mem run) (κ, tt) (xs, (n, (h, tt))) tt r)))) (id⊢ 𝓤 _) $ await ! tt $ pick ! (λ r.
         split ! $ move ! (1 ∷ []) $ use1 W (some (λ (zs : List ℕ × (Unit {0} × (Unit {0} × Unit {0}))). ‵ (lasts core.ended (κ, tt) (xs, (n, (h, tt))) zs) ⊛ raw (fact 𝓤 (Said r (zs .0))))) (id⊢ 𝓤 _) $ pick ! (λ zs.
         split ! $ move ! (1 ∷ []) $ heard ! (Said r (zs .0)) (λ e.
         fsplit ! $ fsplit ! $ move ! (1 ∷ []) $ feqL ! (λ l. move ! (2 ∷ []) $ split ! $ move ! (1 ∷ []) $
@@ -148,22 +148,22 @@ module _ {M : Type 1} (𝓤 : URA M) (H : Heap 𝓤) (A : Atoms 𝓤) (W : Given
         keep ! (0 ∷ 1 ∷ 2 ∷ 4 ∷ 5 ∷ []) $ by ! (exits r (zs .0) (answered r v is) e l)))))))))))))))))
 
 module _ {M : Type 1} (𝓤 : URA M) (H : Heap 𝓤) (A : Atoms 𝓤) (W : Given 𝓤 H A) (at-mem : Memory → SProp 𝓤) (run : Routine → Fun 𝓤) where
-  run-rounds-walks : (C : Calls 𝓤 H) (Λ : Loops 𝓤 H) → FmC 𝓤 H (W .laws) C → Triple 𝓤 (C #run-rounds-tallied) (Core 𝓤 H A at-mem run) → Walks 𝓤 H A f.ended stayed (WpFn 𝓤 H C Λ code.function) (f.clauses 𝓤 H A at-mem run)
-  run-rounds-walks C Λ fm known = walked 𝓤 H A f.ended stayed (f.clauses 𝓤 H A at-mem run) (WpFn 𝓤 H C Λ code.function) (λ κs. (slice-vals, (uint-vals w32, (ptr-vals, tt)))) (λ κs. (mut-slice-tells (named 0) (κs .0) u8, (uint-tells w32, (mut-tells (named 1) (κs .1 .0) T.the-row, tt))))
+  bench-fire-walks : (C : Calls 𝓤 H) (Λ : Loops 𝓤 H) → FmC 𝓤 H (W .laws) C → Triple 𝓤 (C #fire-tallied) (Core 𝓤 H A at-mem run) → Walks 𝓤 H A f.ended stayed (WpFn 𝓤 H C Λ code.function) (f.clauses 𝓤 H A at-mem run)
+  bench-fire-walks C Λ fm known = walked 𝓤 H A f.ended stayed (f.clauses 𝓤 H A at-mem run) (WpFn 𝓤 H C Λ code.function) (λ κs. (slice-vals, (uint-vals w32, (ptr-vals, tt)))) (λ κs. (mut-slice-tells (named 0) (κs .0) u8, (uint-tells w32, (mut-tells (named 1) (κs .1 .0) T.the-row, tt))))
       (λ κs qs bounds a g are. via 𝓤 _ (fst∗ 𝓤 _ (emp 𝓤)) (walk 𝓤 H A W at-mem run (κs .0) (κs .1 .0) (qs .0) (qs .1 .0) (a .0 .ptr .0) (a .0 .ptr .1) (a .1 .1 .0 .ptr .0) (a .1 .1 .0 .ptr .1) (a .0 .name) (a .1 .1 .0 .name) (a .0 .now) (a .1 .0) (a .1 .1 .0 .now) (are .1 .0 .1) C Λ fm known (are .0 .0 .1)))
 
   goes : AllGo 𝓤 H A W 2 (f.signature .params) (f.ended .kept) stayed
   goes = (goes-gave-slice 𝓤 H A W 2 0 tt (plain (λ _. u8)), (goes-none 𝓤 H A W 2 (λ _. u32) yes (λ κs x f. refl), (goes-ref 𝓤 H A W 2 1 tt (plain (λ _. T.the-row)), tt)))
 
-run-rounds-meets : {M : Type 1} (𝓤 : URA M) (H : Heap 𝓤) (A : Atoms 𝓤) (W : Given 𝓤 H A) (at-mem : Memory → SProp 𝓤) (run : Routine → Fun 𝓤) (𝓣 : Tables 𝓤 H) → Triple 𝓤 (𝓣 .C #run-rounds-tallied) (Core 𝓤 H A at-mem run)
+bench-fire-meets : {M : Type 1} (𝓤 : URA M) (H : Heap 𝓤) (A : Atoms 𝓤) (W : Given 𝓤 H A) (at-mem : Memory → SProp 𝓤) (run : Routine → Fun 𝓤) (𝓣 : Tables 𝓤 H) → Triple 𝓤 (𝓣 .C #fire-tallied) (Core 𝓤 H A at-mem run)
     → Meets 𝓤 H A f.signature (WpFn 𝓤 H (𝓣 .C) (𝓣 .Λ) code.function) (f.spec 𝓤 H A at-mem run)
-run-rounds-meets 𝓤 H A W at-mem run 𝓣 known = walk-meets 𝓤 H A f.ended stayed W (goes 𝓤 H A W at-mem run) (f.clauses 𝓤 H A at-mem run) (WpFn 𝓤 H (𝓣 .C) (𝓣 .Λ) code.function) (WpFn-mono 𝓤 H (W .laws) 𝓣 code.function)
-    (run-rounds-walks 𝓤 H A W at-mem run (𝓣 .C) (𝓣 .Λ) (fmOf 𝓤 H (W .laws) 𝓣) known)
+bench-fire-meets 𝓤 H A W at-mem run 𝓣 known = walk-meets 𝓤 H A f.ended stayed W (goes 𝓤 H A W at-mem run) (f.clauses 𝓤 H A at-mem run) (WpFn 𝓤 H (𝓣 .C) (𝓣 .Λ) code.function) (WpFn-mono 𝓤 H (W .laws) 𝓣 code.function)
+    (bench-fire-walks 𝓤 H A W at-mem run (𝓣 .C) (𝓣 .Λ) (fmOf 𝓤 H (W .laws) 𝓣) known)
 
-pub run-rounds-spec : {M : Type 1} → stated.statement M
+pub bench-fire-spec : {M : Type 1} → stated.statement M
 unfolding code.routine tablesOf
-run-rounds-spec 𝓤 H 𝓜 𝓖 𝓡 =
+bench-fire-spec 𝓤 H 𝓜 𝓖 𝓡 =
     entered 𝓤 H (tripleOf 𝓤 H (𝓖 .A) f.signature (f.spec 𝓤 H (𝓖 .A) (𝓜 .mem) (𝓡 .run)))
-    (tables 𝓤 H 𝓜 𝓡 code.env .C) (tables 𝓤 H 𝓜 𝓡 code.env .Λ) #run-rounds code.function (code.unfolded 𝓤 H 𝓜 𝓡)
-    (run-rounds-meets 𝓤 H (𝓖 .A) (givenOf 𝓤 H 𝓜 𝓖) (𝓜 .mem) (𝓡 .run) (tablesOf 𝓤 H 𝓜 (tables 𝓤 H 𝓜 𝓡 code.env))
-    (cited 𝓤 H (Core 𝓤 H (𝓖 .A) (𝓜 .mem) (𝓡 .run)) 𝓜 𝓡 code.env #run-rounds-tallied core-def.routine code.calls-machine-tally·run-rounds-tallied (core-thm.met 𝓤 H 𝓜 𝓖 𝓡)))
+    (tables 𝓤 H 𝓜 𝓡 code.env .C) (tables 𝓤 H 𝓜 𝓡 code.env .Λ) #bench-fire code.function (code.unfolded 𝓤 H 𝓜 𝓡)
+    (bench-fire-meets 𝓤 H (𝓖 .A) (givenOf 𝓤 H 𝓜 𝓖) (𝓜 .mem) (𝓡 .run) (tablesOf 𝓤 H 𝓜 (tables 𝓤 H 𝓜 𝓡 code.env))
+    (cited 𝓤 H (Core 𝓤 H (𝓖 .A) (𝓜 .mem) (𝓡 .run)) 𝓜 𝓡 code.env #fire-tallied core-def.routine code.calls-machine-tally·fire-tallied (core-thm.met 𝓤 H 𝓜 𝓖 𝓡)))
