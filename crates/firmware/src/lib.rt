@@ -51,9 +51,9 @@ pub extern "C" fn bench_start(
     ensures { λ a. ⌜ (begun a (now (mem .exit)) ≡ started (now (sheet .entry)) (now (kinds .entry)) capacity (now (mem .entry))) × (now (tally .exit) ≡ afterStart (now (tally .entry)) a) ⌝ }
 {
     let t = *tally;
-    let r = machine_tally::start_tallied(sheet, kinds, capacity, mem, t);
-    *tally = r.tally;
-    r.answer
+    let start = machine_tally::start_tallied(sheet, kinds, capacity, mem, t);
+    *tally = start.tally;
+    start.answer
 }
 
 #[no_mangle]
@@ -61,9 +61,9 @@ pub extern "C" fn bench_push(mem: &mut [u8], set: &[u8], tally: &mut Tally) -> A
     ensures { λ a. ⌜ (outcome a (now (mem .exit)) ≡ pushed (now (mem .entry)) (now (set .entry))) × (now (tally .exit) ≡ afterPush (now (tally .entry)) a) ⌝ }
 {
     let t = *tally;
-    let r = machine_tally::push_tallied(mem, set, t);
-    *tally = r.tally;
-    r.answer
+    let push = machine_tally::push_tallied(mem, set, t);
+    *tally = push.tally;
+    push.answer
 }
 
 #[no_mangle]
@@ -76,9 +76,9 @@ pub extern "C" fn bench_push_tray(
     ensures { λ a. ⌜ (outcome a (now (mem .exit)) ≡ trayed (now (mem .entry)) (now (sets .entry)) number) × (now (tally .exit) ≡ afterTray (now (tally .entry)) a) ⌝ }
 {
     let t = *tally;
-    let r = machine_tally::push_tray_tallied(mem, sets, number, t);
-    *tally = r.tally;
-    r.answer
+    let tray = machine_tally::push_tray_tallied(mem, sets, number, t);
+    *tally = tray.tally;
+    tray.answer
 }
 
 #[no_mangle]
@@ -86,9 +86,9 @@ pub extern "C" fn bench_fire(mem: &mut [u8], operator: u32, tally: &mut Tally) -
     ensures { λ a. ⌜ (outcome a (now (mem .exit)) ≡ fired (now (mem .entry)) operator) × (now (tally .exit) ≡ afterFire (now (tally .entry)) a) ⌝ }
 {
     let t = *tally;
-    let r = machine_tally::fire_tallied(mem, operator, t);
-    *tally = r.tally;
-    r.answer
+    let firing = machine_tally::fire_tallied(mem, operator, t);
+    *tally = firing.tally;
+    firing.answer
 }
 
 #[no_mangle]
@@ -96,9 +96,9 @@ pub extern "C" fn bench_run(mem: &mut [u8], firings: u32, tally: &mut Tally) -> 
     ensures { λ a. ⌜ (outcome a (now (mem .exit)) ≡ ran (now (mem .entry)) firings) × (now (tally .exit) ≡ afterRun (now (tally .entry)) a) ⌝ }
 {
     let t = *tally;
-    let r = machine_tally::run_tallied(mem, firings, t);
-    *tally = r.tally;
-    r.answer
+    let run = machine_tally::run_tallied(mem, firings, t);
+    *tally = run.tally;
+    run.answer
 }
 
 #[no_mangle]
@@ -106,9 +106,9 @@ pub extern "C" fn bench_run_rounds(mem: &mut [u8], rounds: u32, tally: &mut Tall
     ensures { λ a. ⌜ (roundsOutcome a (now (mem .exit)) ≡ ranRounds (now (mem .entry)) rounds) × (now (tally .exit) ≡ afterRounds (now (tally .entry)) a) ⌝ }
 {
     let t = *tally;
-    let r = machine_tally::run_rounds_tallied(mem, rounds, t);
-    *tally = r.tally;
-    r.answer
+    let run = machine_tally::run_rounds_tallied(mem, rounds, t);
+    *tally = run.tally;
+    run.answer
 }
 
 #[no_mangle]
@@ -116,7 +116,7 @@ pub extern "C" fn bench_take(mem: &mut [u8], out: &mut [u8], tally: &mut Tally) 
     ensures { λ a. ⌜ (handed a (now (mem .exit)) (now (out .exit)) ≡ taken (now (mem .entry)) (now (out .entry))) × (now (tally .exit) ≡ afterTake (now (tally .entry)) a) ⌝ }
 {
     let t = *tally;
-    let r = machine_tally::take_tallied(mem, out, t);
-    *tally = r.tally;
-    r.answer
+    let take = machine_tally::take_tallied(mem, out, t);
+    *tally = take.tally;
+    take.answer
 }
