@@ -89,13 +89,16 @@ pub fn start_tallied(
     ensures { λ r. ⌜ (begun (r .answer) (now (mem .exit)) ≡ started (now (sheet .entry)) (now (kinds .entry)) capacity (now (mem .entry))) × (r .tally ≡ afterStart t (r .answer)) ⌝ }
 {
     let answer = machine_start::start(sheet, kinds, capacity, mem);
+    let zeros = Tally {
+        firings: 0,
+        takes: 0,
+        refused: 0,
+    };
     if answer.refusal == 0 {
-        let tally = Tally {
-            firings: 0,
-            takes: 0,
-            refused: 0,
+        return NotedStart {
+            answer,
+            tally: zeros,
         };
-        return NotedStart { answer, tally };
     }
     NotedStart { answer, tally: t }
 }

@@ -1,5 +1,5 @@
 -- The tests, as paths name them:
---   tie if1  let answer = machine_start::start(sheet, kinds, capacity, mem); ⏎ if answer.refusal == 0 {
+--   tie if1  }; ⏎ if answer.refusal == 0 {
 use borrow.Author.Needs.{needs}
 use Rattle.machine_tally.proofs.start_tallied.Statement.{statement}
 use Rattle.machine_tally.proofs.start_tallied.Tie as tie
@@ -14,11 +14,11 @@ use Rattle.machine_tally.specs.TallyLaws.{when-accepted, when-refused}
 start-requires : tie.Need-start-requires
 start-requires c κs = search needs
 
--- src/lib.rt:98:9  }; ⏎ return NotedStart { answer, tally };
+-- src/lib.rt:98:9  if answer.refusal == 0 { ⏎ return NotedStart {
 same-length : tie.Need-same-length
 same-length c = search needs
 
--- src/lib.rt:98:9  }; ⏎ return NotedStart { answer, tally };
+-- src/lib.rt:98:9  if answer.refusal == 0 { ⏎ return NotedStart {
 returns : tie.Need-returns
 unfolding afterStart
 returns c = (c .before .before .before .before .start .ensures, sym (when-accepted (c .before .before .before .before .start .result .refusal) (tallies 0 0 0) (c .before .before .before .before .before .before .before .before .before .args .t) (c .if1 .taken)))
