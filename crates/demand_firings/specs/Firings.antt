@@ -99,10 +99,15 @@ module _ (sheet line : List ℕ) (capacity : ℕ) (memory : List ℕ) (h : start
     rests : AtRest start calls → Links-firings.AtRest x capacity (T .calls)
     rests r =
         record {
-          still = still-links x kinds capacity (begun .some) (begun .most) agree (memoryAfterAll calls start) _ (T .stands) (r .still);
+          still = still-links x kinds capacity (begun .some) (begun .most) agree (memoryAfterAll calls start) _ (T .stands) (λ i l. r .still i (omega (arith, l)));
           all-taken =
-              handed-count x capacity (history x capacity (T .calls)) (startOf x) ∙ T .takes-are ∙ r .all-taken
-              ∙ read-count x kinds capacity (setsPushed calls start) (pushed x capacity (T .calls)) (T .reads);
+              omega (
+                arith,
+                r .all-taken,
+                T .takes-are,
+                handed-count x capacity (history x capacity (T .calls)) (startOf x),
+                read-count x kinds capacity (setsPushed calls start) (pushed x capacity (T .calls)) (T .reads),
+              );
         }
 
     fired-on-links : (i : ℕ) → timesFired i calls start ≡ times i (history x capacity (T .calls))
