@@ -21,21 +21,18 @@ use Rattle.theory_wiring.specs.Machine.{netOf}
 use Rattle.theory_verdicts.specs.Admitting.{accepted-admitted, accepted-operators}
 use Rattle.theory_verdicts.specs.Owed.{pushNumber, takeNumber, sourceLink, creditLink, pieceOf, meansOf, evaluation, source-is-apart, credit-is-apart}
 use Rattle.theory_verdicts.specs.Owed.{owed as maker-owed}
-use Rattle.theory_verdicts.specs.Running.{places, operatorAt, withTrigger, startOf, decAble, Call, fires, accept, stepsOf, history, standing, pushed, taken}
+use Rattle.theory_verdicts.specs.Running.{places, operatorAt, withTrigger, startOf, decAble, Call, fires, stepsOf, history, standing, pushed, taken}
 use Rattle.theory_verdicts.specs.RunningLaws.{calls-made, calls-whole, triggering, triggered-sets, steps-sets, steps-takes, handed-count}
 use Rattle.theory_rounds.specs.InTurn.{times}
 use Rattle.theory_rounds.specs.TurnLaws.{past-never, events-fired}
 use Rattle.theory_rounds.specs.RoundsReady.{roomy, accepted-here, after-here, sized-here, operators-few}
+use Rattle.theory_rounds.specs.RunsFire.{refused-cannot}
 use Rattle.theory_rounds.specs.WorkEnds.{idle-still}
 
 -- "when nothing can fire and every pushed set is taken"
 pub record AtRest (x : Exp) (capacity : ℕ) (calls : List Call) : Type 0 where
   pub still : (a : ℕ) → stepsOf x capacity (fires a) (standing x capacity calls) ≡ []
   pub all-taken : length (taken x capacity calls) ≡ length (pushed x capacity calls)
-
-refused-cannot : {A : Type 0} (s : Step) (d : Dec A) → accept d s ≡ [] → A → ⊥
-refused-cannot s (yes p) e a = let z : _≡_ {A = ℕ} 1 0 = ap length e in omega arith
-refused-cannot s (no n) e a = n a
 
 module _ (x : Exp) (h : AdmittedE x) (few : countE x .operators ≤ 1024) where
   -- the calls' steps, every set with its trigger
