@@ -2,7 +2,7 @@
 -- record is its count, or 4,294,967,295 where the count is more (`tally-shows`). Hence "While no number has stopped, .. the firings shown are their sum, and the other two count
 -- the accepted takes and refused pushes since" (`shows-counts`; told by the record itself: `shows-below`). Assumes an accepted start and nothing else.
 use Prim.Native.Nat.{ℕ, _+_, _≤_, _<_, min}
-use mathlib.Core.Path.{_≡_, refl, sym, ap, subst, _∙_}
+use mathlib.Core.Path.{_≡_, refl, sym, ap, _∙_}
 use mathlib.Core.Bool.{Bool, true, false, cond}
 use mathlib.Core.List.{List, [], _∷_, _++_}
 use native.Mathlib.Omega.{arith}
@@ -29,7 +29,7 @@ use Rattle.demand_view.specs.Stands.{Stands}
 use Rattle.demand_begin.specs.StartedStands.{accepted-stands}
 use Rattle.demand.specs.MemoryCalls.{Call, push, tray, fire, run, byRounds, take, Result, result, accepted, answerOf, memoryAfter, memoryAfterAll, resultOf, setsPushed, resultsTaken}
 use Rattle.demand.specs.Agreed.{calls-agree}
-use Rattle.demand_rounds.specs.InTurn.{firedBy, allFired, timesFired}
+use Rattle.demand_rounds.specs.InTurn.{firedBy, allFired}
 use Rattle.demand_rounds.specs.Told.{run-fires-told, rounds-fires-told}
 use Rattle.demand_rounds.specs.Traced.{Traced, calls-traced}
 use Rattle.demand_rounds.specs.Waiting.{times-count}
