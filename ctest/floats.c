@@ -41,7 +41,7 @@ static void gives(const char *what, const struct sheet *sheet, const uint8_t *se
     bench_evaluate_answer answer =
         bench_evaluate(rows, strlen(sheet->rows), kinds, strlen(sheet->kinds), set, bytes, 0, out, sizeof out);
     expect(what, answer.refusal, refusal);
-    expect(what, (uint32_t)memcmp(out, wanted == NULL ? held : wanted, BENCH_VALUE_BYTES), 0);
+    expect(what, (uint32_t)memcmp(out, wanted == NULL ? held : wanted, wanted == NULL ? sizeof held : BENCH_VALUE_BYTES), 0);
     begin(sheet, 1);
     uint8_t *before = lend(memory, length);
     expect(what, bench_push(memory, length, set, bytes, &tally).refusal, refusal);
@@ -49,6 +49,7 @@ static void gives(const char *what, const struct sheet *sheet, const uint8_t *se
         expect(what, memcmp(memory, before, length) == 0, 1);
     } else {
         expect(what, bench_run(memory, length, 100, &tally).refusal, BENCH_ACCEPTED);
+        memset(out, HELD, sizeof out);
         expect(what, bench_take(memory, length, out, sizeof out, &tally).count, 1);
         expect(what, (uint32_t)memcmp(out, wanted, BENCH_VALUE_BYTES), 0);
     }
