@@ -11,7 +11,7 @@ ghost use Rattle.machine_calls.specs.Calls.{outcome, handed, pushed, fired, ran
 ghost use Rattle.machine_rounds.specs.Rounds.{outcome as roundsOutcome, ranRounds};
 ghost use Rattle.machine_tray.specs.Tray.{trayed};
 ghost use Rattle.machine_start.specs.Start.{begun, started};
-ghost use Rattle.machine_tally.specs.Tallied.{tallies, capped as cappedSum, moreFirings, oneTake, oneRefused, afterStart, afterPush, afterTray, afterFire, afterRun, afterRounds, afterTake};
+ghost use Rattle.machine_tally.specs.Tallied.{capped as cappedSum, moreFirings, oneTake, oneRefused, afterStart, afterPush, afterTray, afterFire, afterRun, afterRounds, afterTake};
 
 // The record: no number passes MOST.
 #[repr(C)]
@@ -21,6 +21,7 @@ pub struct Tally {
     pub refused: u32,
 }
 
+// A call's answer with the record after it.
 pub struct Noted {
     pub answer: Answer,
     pub tally: Tally,
@@ -39,6 +40,7 @@ pub struct NotedStart {
 // Where a number stops.
 const MOST: u32 = 4294967295;
 
+// The sum, or MOST where it is more.
 fn capped(a: u32, n: u64) -> u32
     ensures { λ r. ⌜ r ≡ cappedSum a n ⌝ }
 {

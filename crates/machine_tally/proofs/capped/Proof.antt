@@ -8,28 +8,28 @@ use Rattle.machine_tally.proofs.capped.Reads as reads
 use Rattle.machine_tally.proofs.capped.Lts as lts
 use Rattle.machine_tally.specs.Tallied.{capped}
 
--- src/lib.rt:45:17  { ⏎ let left = (MOST - a) as u64;
+-- src/lib.rt:47:17  { ⏎ let left = (MOST - a) as u64;
 sub-left : tie.Need-sub-left
 sub-left c = search needs
 
--- src/lib.rt:45:16  { ⏎ let left = (MOST - a) as u64;
+-- src/lib.rt:47:16  { ⏎ let left = (MOST - a) as u64;
 cast-left : tie.Need-cast-left
 cast-left c = search needs
 
--- src/lib.rt:47:9  if left < n { ⏎ return MOST;
+-- src/lib.rt:49:9  if left < n { ⏎ return MOST;
 returns : tie.Need-returns
 unfolding capped
 returns c = omega arith
 
--- src/lib.rt:49:9  } ⏎ a + n as u32
+-- src/lib.rt:51:9  } ⏎ a + n as u32
 cast-result : tie.Need-cast-result
 cast-result c = search needs
 
--- src/lib.rt:49:5  } ⏎ a + n as u32
+-- src/lib.rt:51:5  } ⏎ a + n as u32
 add-result : tie.Need-add-result
 add-result c = search needs
 
--- src/lib.rt:42:1  const MOST: u32 = 4294967295; ⏎ fn capped(a: u32, n: u64) -> u32
+-- src/lib.rt:44:1  // The sum, or MOST where it is more. ⏎ fn capped(a: u32, n: u64) -> u32
 returns-2 : tie.Need-returns-2
 unfolding capped
 returns-2 c = omega arith

@@ -8,11 +8,11 @@ use mathlib.Core.Path.{ap}
 use Prim.Native.Nat.{ℕ}
 use Rattle.machine_tally.specs.Tallied.{tallies, moreFirings}
 
--- src/lib.rt:56:18  Tally { ⏎ firings: capped(t.firings, n),
+-- src/lib.rt:58:18  Tally { ⏎ firings: capped(t.firings, n),
 capped-requires : tie.Need-capped-requires
 capped-requires c κs = search needs
 
--- src/lib.rt:52:1  } ⏎ fn more_firings(t: Tally, n: u64) -> Tally
+-- src/lib.rt:54:1  } ⏎ fn more_firings(t: Tally, n: u64) -> Tally
 returns : tie.Need-returns
 unfolding moreFirings
 returns c = ap (λ (n : ℕ). tallies n (c .before .args .t .takes) (c .before .args .t .refused)) (c .capped .ensures)

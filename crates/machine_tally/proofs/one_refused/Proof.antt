@@ -8,11 +8,11 @@ use mathlib.Core.Path.{ap}
 use Prim.Native.Nat.{ℕ}
 use Rattle.machine_tally.specs.Tallied.{tallies, oneRefused}
 
--- src/lib.rt:78:18  takes: t.takes, ⏎ refused: capped(t.refused, 1),
+-- src/lib.rt:80:18  takes: t.takes, ⏎ refused: capped(t.refused, 1),
 capped-requires : tie.Need-capped-requires
 capped-requires c κs = search needs
 
--- src/lib.rt:72:1  } ⏎ fn one_refused(t: Tally) -> Tally
+-- src/lib.rt:74:1  } ⏎ fn one_refused(t: Tally) -> Tally
 returns : tie.Need-returns
 unfolding oneRefused
 returns c = ap (λ (n : ℕ). tallies (c .before .args .t .firings) (c .before .args .t .takes) n) (c .capped .ensures)

@@ -8,11 +8,11 @@ use mathlib.Core.Path.{ap}
 use Prim.Native.Nat.{ℕ}
 use Rattle.machine_tally.specs.Tallied.{tallies, oneTake}
 
--- src/lib.rt:67:16  firings: t.firings, ⏎ takes: capped(t.takes, 1),
+-- src/lib.rt:69:16  firings: t.firings, ⏎ takes: capped(t.takes, 1),
 capped-requires : tie.Need-capped-requires
 capped-requires c κs = search needs
 
--- src/lib.rt:62:1  } ⏎ fn one_take(t: Tally) -> Tally
+-- src/lib.rt:64:1  } ⏎ fn one_take(t: Tally) -> Tally
 returns : tie.Need-returns
 unfolding oneTake
 returns c = ap (λ (n : ℕ). tallies (c .before .args .t .firings) n (c .before .args .t .refused)) (c .capped .ensures)

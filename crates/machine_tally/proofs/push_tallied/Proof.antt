@@ -11,28 +11,28 @@ use mathlib.Core.Path.{sym, _∙_}
 use Rattle.machine_tally.specs.Tallied.{oneRefused, afterPush}
 use Rattle.machine_tally.specs.TallyLaws.{when-accepted, when-refused}
 
--- src/lib.rt:106:9  { ⏎ let answer = machine_calls::push(mem, set);
+-- src/lib.rt:111:9  { ⏎ let answer = machine_calls::push(mem, set);
 push-requires : tie.Need-push-requires
 push-requires c κs = search needs
 
--- src/lib.rt:108:9  if answer.refusal == 0 { ⏎ return Noted { answer, tally: t };
+-- src/lib.rt:113:9  if answer.refusal == 0 { ⏎ return Noted { answer, tally: t };
 same-length : tie.Need-same-length
 same-length c = search needs
 
--- src/lib.rt:108:9  if answer.refusal == 0 { ⏎ return Noted { answer, tally: t };
+-- src/lib.rt:113:9  if answer.refusal == 0 { ⏎ return Noted { answer, tally: t };
 returns : tie.Need-returns
 unfolding afterPush
 returns c = (c .before .before .before .before .push .ensures, sym (when-accepted (c .before .before .before .before .push .result .refusal) (c .before .before .before .before .before .before .before .before .args .t) (oneRefused (c .before .before .before .before .before .before .before .before .args .t)) (c .if1 .taken)))
 
--- src/lib.rt:110:9  } ⏎ let tally = one_refused(t);
+-- src/lib.rt:115:9  } ⏎ let tally = one_refused(t);
 one-refused-requires : tie.Need-one-refused-requires
 one-refused-requires c κs = search needs
 
--- src/lib.rt:103:1  } ⏎ pub fn push_tallied(mem: &mut [u8], set: &[u8], t: Tally) -> Noted
+-- src/lib.rt:108:1  } ⏎ pub fn push_tallied(mem: &mut [u8], set: &[u8], t: Tally) -> Noted
 same-length-2 : tie.Need-same-length-2
 same-length-2 c = search needs
 
--- src/lib.rt:103:1  } ⏎ pub fn push_tallied(mem: &mut [u8], set: &[u8], t: Tally) -> Noted
+-- src/lib.rt:108:1  } ⏎ pub fn push_tallied(mem: &mut [u8], set: &[u8], t: Tally) -> Noted
 returns-2 : tie.Need-returns-2
 unfolding afterPush
 returns-2 c = (c .before .before .before .before .before .push .ensures, c .one-refused .ensures ∙ sym (when-refused (c .before .before .before .before .before .push .result .refusal) (c .before .before .before .before .before .before .before .before .before .args .t) (oneRefused (c .before .before .before .before .before .before .before .before .before .args .t)) (c .before .if1 .left)))

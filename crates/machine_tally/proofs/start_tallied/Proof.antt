@@ -10,24 +10,24 @@ use mathlib.Core.Path.{sym}
 use Rattle.machine_tally.specs.Tallied.{tallies, afterStart}
 use Rattle.machine_tally.specs.TallyLaws.{when-accepted, when-refused}
 
--- src/lib.rt:91:9  { ⏎ let answer = machine_start::start(sheet, kinds, capacity, mem);
+-- src/lib.rt:93:9  { ⏎ let answer = machine_start::start(sheet, kinds, capacity, mem);
 start-requires : tie.Need-start-requires
 start-requires c κs = search needs
 
--- src/lib.rt:98:9  if answer.refusal == 0 { ⏎ return NotedStart {
+-- src/lib.rt:100:9  if answer.refusal == 0 { ⏎ return NotedStart {
 same-length : tie.Need-same-length
 same-length c = search needs
 
--- src/lib.rt:98:9  if answer.refusal == 0 { ⏎ return NotedStart {
+-- src/lib.rt:100:9  if answer.refusal == 0 { ⏎ return NotedStart {
 returns : tie.Need-returns
 unfolding afterStart
 returns c = (c .before .before .before .before .start .ensures, sym (when-accepted (c .before .before .before .before .start .result .refusal) (tallies 0 0 0) (c .before .before .before .before .before .before .before .before .before .args .t) (c .if1 .taken)))
 
--- src/lib.rt:82:1  } ⏎ pub fn start_tallied(
+-- src/lib.rt:84:1  } ⏎ pub fn start_tallied(
 same-length-2 : tie.Need-same-length-2
 same-length-2 c = search needs
 
--- src/lib.rt:82:1  } ⏎ pub fn start_tallied(
+-- src/lib.rt:84:1  } ⏎ pub fn start_tallied(
 returns-2 : tie.Need-returns-2
 unfolding afterStart
 returns-2 c = (c .before .before .before .before .start .ensures, sym (when-refused (c .before .before .before .before .start .result .refusal) (tallies 0 0 0) (c .before .before .before .before .before .before .before .before .before .args .t) (c .if1 .left)))
