@@ -1,6 +1,6 @@
 /*
  * The tally through the C interface: what each call adds to it, accepted and with each of its refusals; where its numbers stop; the words around the record; and
- * that what it shows at the end does not hang on the order of calls or on the capacity (document 02, Job 10).
+ * that the firings it shows at the end do not depend on the order of calls or on the capacity (document 02, Job 10).
  */
 #include <stddef.h>
 
@@ -284,6 +284,9 @@ static void changed(void) {
 /* The orders in which sets are worked: by runs, by rounds, and by single firings, operators rising or falling. */
 enum order { BY_RUNS, BY_ROUNDS, RISING, FALLING, ORDERS };
 
+/* More than any of these takes; a machine that does not end fails here. */
+enum { MOST_TURNS = 1000000 };
+
 /* How often each operator has fired, by single firings; all together, and the refused pushes. */
 struct done {
     uint32_t of[MOST_OPERATORS];
@@ -320,8 +323,9 @@ static void work(struct done *done, const struct sheet *sheet, const uint8_t *se
     size_t set = BENCH_VALUE_BYTES * (size_t)memory[INPUTS_AT];
     put_record((bench_tally){UINT32_MAX, 1, 2});
     start("start", sheet->rows, strlen(sheet->rows), sheet->kinds, capacity, BENCH_ACCEPTED);
-    uint32_t pushed = 0, taken = 0;
-    while (taken < number || bench_run(memory, length, 0, record).refusal == BENCH_UNFINISHED) {
+    uint32_t pushed = 0, taken = 0, turns = 0;
+    while ((taken < number || bench_run(memory, length, 0, record).refusal == BENCH_UNFINISHED) &&
+           turns++ < MOST_TURNS) {
         while (pushed < number && bench_push(memory, length, sets + set * pushed, set, record).refusal == BENCH_ACCEPTED) {
             pushed++;
         }
@@ -331,6 +335,7 @@ static void work(struct done *done, const struct sheet *sheet, const uint8_t *se
             taken++;
         }
     }
+    expect("ends", turns <= MOST_TURNS, 1);
     expect_record("all since the start", (bench_tally){done->firings, number, done->refused});
 }
 

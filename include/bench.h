@@ -130,8 +130,8 @@ typedef struct {
 
 /*
  * What a machine has done since its start, where each call since was lent this record and nothing else wrote it. Each number stops at
- * 4,294,967,295 (UINT32_MAX) and does not go round. An accepted bench_start sets all three to 0; a refused one leaves them. No other bytes of the
- * machine hang on the record, and no answer does.
+ * 4,294,967,295 (UINT32_MAX) and does not go round. An accepted bench_start sets all three to 0; a refused one leaves them. No byte of a machine
+ * and no answer depends on the record.
  */
 typedef struct {
     uint32_t firings; /* of accepted bench_fire, and of runs of both sorts, also beside BENCH_UNFINISHED */

@@ -1,6 +1,6 @@
 -- How often each operator fires, on the abstract machine of every accepted sheet (document 02, Job 10: "when nothing can fire and every pushed set is taken, each
 -- operator has fired a number of times that depends on the sheet and the sets alone, in every order and at every capacity"): two lists of calls that push the
--- same sets, at any two capacities, fire each operator equally often (`same-firings`). Rests on the law for any made graph (theory_pieces/specs/Calls `fired-alike`).
+-- same sets in the same order, at any two capacities, fire each operator equally often (`same-firings`). Rests on the law for any made graph (theory_pieces/specs/Calls `fired-alike`).
 -- Assumes an admissible sheet and one place a link; that evaluation ends is not assumed, it follows from both being at rest.
 use Prim.Native.Nat.{ℕ, _≤_, _<_}
 use mathlib.Core.Path.{_≡_, sym, _∙_, ap, subst}
