@@ -1,8 +1,8 @@
 // The firmware's calls with a record that tells firings, takes and refused pushes (document 02, Job 10:
 // "which the firmware lends and which each call updates in place"). The definitions are specs/Tallied;
 // each contract is the call's own equation on the answer and on every lent byte, and one on the record,
-// and asks nothing of the caller. A call's work stands in a function that takes the record by value and
-// gives it back; the one that is lent the record only reads and writes it.
+// and asks nothing of the caller. A call's work stands here, in a function that takes the record by value
+// and gives it back; the firmware's entry points, which are lent the record, only read and write it.
 use machine_calls::Answer;
 use machine_rounds::RoundsAnswer;
 use machine_start::StartAnswer;
