@@ -15,7 +15,8 @@
  * before the refused one and gives their count. The tally is left out of this: a refused push is counted there.
  *
  * Tally. Each call on a machine, bench_start too, is lent a record as well, a bench_tally, and updates it in place: what firmware shows at its
- * service hatch. The pointer must not be NULL, and the record must not overlap the stretches lent beside it. Any numbers may stand in it.
+ * service hatch. The pointer must not be NULL, the record must not overlap the stretches lent beside it, and nothing else may write it during the
+ * call. Any numbers may stand in it.
  *
  * Values. A value is BENCH_VALUE_BYTES bytes: a tag (BENCH_WHOLE, BENCH_TRUTH, BENCH_ERR or BENCH_REAL) and four bytes, lowest first: a whole
  * number as int32_t, a truth as 0 or 1, an err as its reason, one of BENCH_ERR_... below, a float as its bits, a finite IEEE 754 binary32. Nothing
