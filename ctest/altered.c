@@ -8,7 +8,7 @@
 enum { CAPACITY = 2, STRETCH = BENCH_VALUE_BYTES * CAPACITY + 1 };
 
 /* Bounds of the figures; a link's figure is two bytes long, a record sixteen, with its links from its third byte on. */
-enum { MOST_OPERATORS = 1024, MOST_LINKS = 3105, MOST_INPUTS = 32, MOST_RESULTS = 16 };
+enum { MOST_LINKS = 3105, MOST_INPUTS = 32, MOST_RESULTS = 16 };
 enum { NO_LINK = 65535, FIGURE_BYTES = 2, RECORD_BYTES = 16, PORTS_AT = 2, PORTS = 6, INPUT_PORTS = 3 };
 
 /* The kinds by which something differs: 1 to 9 have two inputs; 10, 11, constants and copies one. */
@@ -189,17 +189,17 @@ static void links_and_tokens(void) {
 
 static bench_start_answer start(const struct sheet *sheet, uint32_t capacity, uint8_t *mem, size_t bytes) {
     const uint8_t *rows = (const uint8_t *)sheet->rows, *kinds = (const uint8_t *)sheet->kinds;
-    return bench_start(rows, strlen(sheet->rows), kinds, strlen(sheet->kinds), capacity, mem, bytes);
+    return bench_start(rows, strlen(sheet->rows), kinds, strlen(sheet->kinds), capacity, mem, bytes, &tally);
 }
 
 static void lengths(void) {
     uint8_t out[BENCH_RESULT_BYTES] = {0};
-    expect("push, no memory", bench_push(NULL, 0, five, sizeof five).refusal, BENCH_MEMORY);
-    expect("a tray, no memory", bench_push_tray(NULL, 0, five, sizeof five, 1).refusal, BENCH_MEMORY);
-    expect("fire, no memory", bench_fire(NULL, 0, 0).refusal, BENCH_MEMORY);
-    expect("run, no memory", bench_run(NULL, 0, 1).refusal, BENCH_MEMORY);
-    expect("run by rounds, no memory", bench_run_rounds(NULL, 0, 1).refusal, BENCH_MEMORY);
-    expect("take, no memory", bench_take(NULL, 0, out, sizeof out).refusal, BENCH_MEMORY);
+    expect("push, no memory", bench_push(NULL, 0, five, sizeof five, &tally).refusal, BENCH_MEMORY);
+    expect("a tray, no memory", bench_push_tray(NULL, 0, five, sizeof five, 1, &tally).refusal, BENCH_MEMORY);
+    expect("fire, no memory", bench_fire(NULL, 0, 0, &tally).refusal, BENCH_MEMORY);
+    expect("run, no memory", bench_run(NULL, 0, 1, &tally).refusal, BENCH_MEMORY);
+    expect("run by rounds, no memory", bench_run_rounds(NULL, 0, 1, &tally).refusal, BENCH_MEMORY);
+    expect("take, no memory", bench_take(NULL, 0, out, sizeof out, &tally).refusal, BENCH_MEMORY);
     expect("start, no memory", start(&pair, 1, NULL, 0).refusal, BENCH_MEMORY);
     for (uint32_t capacity = 1; capacity <= MOST_CAPACITY; capacity++) {
         begin(&factorial, capacity);
@@ -225,8 +225,8 @@ static void lengths(void) {
     begin(&pair, CAPACITY);
     uint8_t short_out[BENCH_RESULT_BYTES - 1] = {0};
     memory[RESULTS_AT] = 0;
-    expect("take, 11 before 31", bench_take(memory, length, short_out, sizeof short_out).refusal, BENCH_MEMORY);
-    expect("take, 31", bench_take(memory, length, out, sizeof out).refusal, BENCH_ALTERED);
+    expect("take, 11 before 31", bench_take(memory, length, short_out, sizeof short_out, &tally).refusal, BENCH_MEMORY);
+    expect("take, 31", bench_take(memory, length, out, sizeof out, &tally).refusal, BENCH_ALTERED);
 }
 
 static void starts(void) {
@@ -267,32 +267,32 @@ static void orders(void) {
     uint8_t out[BENCH_RESULT_BYTES];
     begin(&factorial, CAPACITY);
     memory[UNTAKEN_AT] = MOST_UNTAKEN;
-    expect("12 before 32", bench_push(memory, length, bad, sizeof bad).refusal, BENCH_SET);
+    expect("12 before 32", bench_push(memory, length, bad, sizeof bad, &tally).refusal, BENCH_SET);
     for (size_t i = 0; i < sizeof no_reasons / sizeof no_reasons[0]; i++) {
-        expect("an err of no reason", bench_push(memory, length, no_reasons[i], BENCH_VALUE_BYTES).refusal, BENCH_SET);
+        expect("an err of no reason", bench_push(memory, length, no_reasons[i], BENCH_VALUE_BYTES, &tally).refusal, BENCH_SET);
     }
-    expect("a set too long", bench_push(memory, length, two_values, sizeof two_values).refusal, BENCH_SET);
-    expect("a set too short", bench_push(memory, length, five, sizeof five - 1).refusal, BENCH_SET);
-    expect("an empty set", bench_push(memory, length, five, 0).refusal, BENCH_SET);
-    expect("32", bench_push(memory, length, five, sizeof five).refusal, BENCH_UNTAKEN);
+    expect("a set too long", bench_push(memory, length, two_values, sizeof two_values, &tally).refusal, BENCH_SET);
+    expect("a set too short", bench_push(memory, length, five, sizeof five - 1, &tally).refusal, BENCH_SET);
+    expect("an empty set", bench_push(memory, length, five, 0, &tally).refusal, BENCH_SET);
+    expect("32", bench_push(memory, length, five, sizeof five, &tally).refusal, BENCH_UNTAKEN);
     size_t input = STRETCHES_AT + STRETCH * (size_t)figure(INPUT_LINKS_AT);
     memory[input] = CAPACITY;
     memcpy(memory + input + 1, two_values, sizeof two_values);
-    expect("32 before 33", bench_push(memory, length, five, sizeof five).refusal, BENCH_UNTAKEN);
+    expect("32 before 33", bench_push(memory, length, five, sizeof five, &tally).refusal, BENCH_UNTAKEN);
     memory[UNTAKEN_AT] = MOST_UNTAKEN - 1;
-    expect("33", bench_push(memory, length, five, sizeof five).refusal, BENCH_FULL);
+    expect("33", bench_push(memory, length, five, sizeof five, &tally).refusal, BENCH_FULL);
     memory[UNTAKEN_AT] = 0;
-    expect("35", bench_take(memory, length, out, sizeof out).refusal, BENCH_NO_RESULT);
+    expect("35", bench_take(memory, length, out, sizeof out, &tally).refusal, BENCH_NO_RESULT);
 
     begin(&factorial, CAPACITY);
-    expect("no operator can fire", bench_run(memory, length, 0).refusal, BENCH_ACCEPTED);
-    expect("push", bench_push(memory, length, five, sizeof five).refusal, BENCH_ACCEPTED);
-    bench_answer none = bench_run(memory, length, 0);
+    expect("no operator can fire", bench_run(memory, length, 0, &tally).refusal, BENCH_ACCEPTED);
+    expect("push", bench_push(memory, length, five, sizeof five, &tally).refusal, BENCH_ACCEPTED);
+    bench_answer none = bench_run(memory, length, 0, &tally);
     expect("a run lent 0", none.refusal, BENCH_UNFINISHED);
     expect("its count", none.count, 0);
     uint32_t last = figure(OPERATORS_AT) - 1;
-    expect("one past the last operator", bench_fire(memory, length, last + 1).refusal, BENCH_NOT_ABLE);
-    expect("the largest number", bench_fire(memory, length, UINT32_MAX).refusal, BENCH_NOT_ABLE);
+    expect("one past the last operator", bench_fire(memory, length, last + 1, &tally).refusal, BENCH_NOT_ABLE);
+    expect("the largest number", bench_fire(memory, length, UINT32_MAX, &tally).refusal, BENCH_NOT_ABLE);
     uint32_t able = 0;
     for (uint32_t i = 0; i <= last; i++) {
         uint8_t *copy = malloc(length);
@@ -300,39 +300,39 @@ static void orders(void) {
             exit(2);
         }
         memcpy(copy, memory, length);
-        uint32_t refusal = bench_fire(copy, length, i).refusal;
+        uint32_t refusal = bench_fire(copy, length, i, &tally).refusal;
         able += refusal == BENCH_ACCEPTED;
         expect("fired or not able", refusal == BENCH_ACCEPTED || refusal == BENCH_NOT_ABLE, 1);
         expect("not able leaves memory", refusal == BENCH_ACCEPTED || memcmp(copy, memory, length) == 0, 1);
         free(copy);
     }
     expect("some operator can fire", able > 0, 1);
-    bench_answer all = bench_run(memory, length, 1000000);
+    bench_answer all = bench_run(memory, length, 1000000, &tally);
     expect("a run to its end", all.refusal, BENCH_ACCEPTED);
-    expect("nothing can fire", bench_run(memory, length, 1).count, 0);
-    bench_answer taken = bench_take(memory, length, out, sizeof out);
+    expect("nothing can fire", bench_run(memory, length, 1, &tally).count, 0);
+    bench_answer taken = bench_take(memory, length, out, sizeof out, &tally);
     expect("take", taken.refusal, BENCH_ACCEPTED);
     expect("width", taken.count, 1);
     static const uint8_t verdict[] = {BENCH_WHOLE, 120, 0, 0, 0};
     expect("120", (uint32_t)memcmp(out, verdict, sizeof verdict), 0);
     expect("err past the width", out[BENCH_VALUE_BYTES] == BENCH_ERR && out[BENCH_RESULT_BYTES - BENCH_VALUE_BYTES] == BENCH_ERR, 1);
-    expect("taken once", bench_take(memory, length, out, sizeof out).refusal, BENCH_NO_RESULT);
+    expect("taken once", bench_take(memory, length, out, sizeof out, &tally).refusal, BENCH_NO_RESULT);
 }
 
 static void sixteen(void) {
     begin(&pair, MOST_CAPACITY);
     for (int i = 0; i < MOST_UNTAKEN; i++) {
-        expect("sixteen pushes pass", bench_push(memory, length, two_values, sizeof two_values).refusal, BENCH_ACCEPTED);
+        expect("sixteen pushes pass", bench_push(memory, length, two_values, sizeof two_values, &tally).refusal, BENCH_ACCEPTED);
     }
-    expect("the seventeenth", bench_push(memory, length, two_values, sizeof two_values).refusal, BENCH_UNTAKEN);
+    expect("the seventeenth", bench_push(memory, length, two_values, sizeof two_values, &tally).refusal, BENCH_UNTAKEN);
     begin(&pair, 1);
-    expect("one push", bench_push(memory, length, two_values, sizeof two_values).refusal, BENCH_ACCEPTED);
-    expect("a full link", bench_push(memory, length, two_values, sizeof two_values).refusal, BENCH_FULL);
+    expect("one push", bench_push(memory, length, two_values, sizeof two_values, &tally).refusal, BENCH_ACCEPTED);
+    expect("a full link", bench_push(memory, length, two_values, sizeof two_values, &tally).refusal, BENCH_FULL);
     bad_figure("results named twice", RESULT_LINKS_AT + FIGURE_BYTES, figure(RESULT_LINKS_AT));
     bad_figure("inputs named twice", INPUT_LINKS_AT + FIGURE_BYTES, figure(INPUT_LINKS_AT));
     uint8_t out[BENCH_RESULT_BYTES + 10];
     memset(out, 0x5a, sizeof out);
-    bench_answer taken = bench_take(memory, length, out, sizeof out);
+    bench_answer taken = bench_take(memory, length, out, sizeof out, &tally);
     expect("both values", taken.count, 2);
     expect("their bytes", (uint32_t)memcmp(out, two_values, sizeof two_values), 0);
     expect("err behind them", out[sizeof two_values] == BENCH_ERR && out[BENCH_RESULT_BYTES - 1] == 0, 1);
@@ -398,7 +398,7 @@ static void join(uint32_t operator, enum sort control, enum sort second, enum so
     put_token(port[1], second);
     put_token(port[2], third);
     const struct row *row = row_of(control, second, third);
-    expect("IC fires where a row holds", bench_fire(memory, length, operator).refusal, row != NULL ? BENCH_ACCEPTED : BENCH_NOT_ABLE);
+    expect("IC fires where a row holds", bench_fire(memory, length, operator, &tally).refusal, row != NULL ? BENCH_ACCEPTED : BENCH_NOT_ABLE);
     waits("IC's control", port[0], row != NULL ? NOTHING : control);
     waits("IC's second input", port[1], row != NULL && control == TRUE_TOKEN ? NOTHING : second);
     waits("IC's third input", port[2], row != NULL && control == FALSE_TOKEN ? NOTHING : third);
@@ -418,7 +418,7 @@ static void join_when_full(uint32_t operator) {
         memory[stretch] = CAPACITY;
         memcpy(memory + stretch + 1, two_values, sizeof two_values);
         uint32_t wanted = full == INPUT_PORTS + 2 ? BENCH_ACCEPTED : BENCH_NOT_ABLE;
-        expect("IC with a full output", bench_fire(memory, length, operator).refusal, wanted);
+        expect("IC with a full output", bench_fire(memory, length, operator, &tally).refusal, wanted);
         expect("a full link stays full", memory[stretch], CAPACITY);
         put_token(stretch, NOTHING);
     }
@@ -450,18 +450,18 @@ static void errs_with_reasons(void) {
         const char *what = reasons[i].what;
         uint8_t out[BENCH_RESULT_BYTES];
         begin(reasons[i].sheet, 1);
-        expect(what, bench_push(memory, length, reasons[i].set[0], sizeof reasons[i].set).refusal, BENCH_ACCEPTED);
-        expect(what, bench_run(memory, length, 100).refusal, BENCH_ACCEPTED);
-        expect(what, bench_take(memory, length, out, sizeof out).count, 2);
+        expect(what, bench_push(memory, length, reasons[i].set[0], sizeof reasons[i].set, &tally).refusal, BENCH_ACCEPTED);
+        expect(what, bench_run(memory, length, 100, &tally).refusal, BENCH_ACCEPTED);
+        expect(what, bench_take(memory, length, out, sizeof out, &tally).count, 2);
         expect(what, (uint32_t)memcmp(out, reasons[i].result, sizeof reasons[i].result), 0);
     }
     static const uint8_t sets[][BENCH_VALUE_BYTES] = {WHOLE(13), Z_VALUE, V_VALUE}, results[][BENCH_VALUE_BYTES] = {V_VALUE, E_VALUE, E_VALUE};
     begin(&factorial, CAPACITY);
     for (size_t i = 0; i < sizeof sets / sizeof sets[0]; i++) {
         uint8_t out[BENCH_RESULT_BYTES];
-        expect("factorial of 13, Z, V", bench_push(memory, length, sets[i], BENCH_VALUE_BYTES).refusal, BENCH_ACCEPTED);
-        expect("factorial of 13, Z, V", bench_run(memory, length, 10000).refusal, BENCH_ACCEPTED);
-        expect("factorial of 13, Z, V", bench_take(memory, length, out, sizeof out).count, 1);
+        expect("factorial of 13, Z, V", bench_push(memory, length, sets[i], BENCH_VALUE_BYTES, &tally).refusal, BENCH_ACCEPTED);
+        expect("factorial of 13, Z, V", bench_run(memory, length, 10000, &tally).refusal, BENCH_ACCEPTED);
+        expect("factorial of 13, Z, V", bench_take(memory, length, out, sizeof out, &tally).count, 1);
         expect("factorial of 13, Z, V", (uint32_t)memcmp(out, results[i], BENCH_VALUE_BYTES), 0);
     }
 }

@@ -42,6 +42,17 @@ struct sheet {
     const char *rows, *kinds;
 };
 
+/* "if x0 < x1 then x0 else x1": the lesser of two. */
+static const struct sheet lesser_of_two = {
+    "     1     0     0     0     0\n"
+    "     1     1     0     0     0\n"
+    "     4     1     2     0     0\n"
+    "     5     6     3     0     0\n"
+    "     1     0     0     0     0\n"
+    "     1     1     0     0     0\n"
+    "     7     4     5     6     0\n",
+    "WW\n"};
+
 /* "for i, y = n, 1 do if 1 < i then iter i - 1, y * i else y": constants, copies, T, F, M or E, IC, FM and FS gates. */
 static const struct sheet factorial = {
     "     1     2     0     0     0\n"

@@ -1,7 +1,7 @@
 /*
  * How firmware drives a machine: a beacon's set is pushed as soon as it is plugged in, the graph runs a little between two
  * beacons, and a verdict is shown as soon as it can be taken. Here the beacons' readings stand in a table, and what the
- * bench would show is printed. The formula is the lesser of two readings.
+ * bench would show is printed, that of the service hatch at the end. The formula is the lesser of two readings.
  */
 #include <inttypes.h>
 #include <stdio.h>
@@ -13,10 +13,13 @@
 #define CAPACITY 2
 #define READINGS 2
 /* A few firings between two looks at what is connected. */
-#define FIRINGS 5
+#define FIRINGS 3
 
 /* A static stretch, as firmware without a heap has it. */
 static uint8_t memory[BENCH_MACHINE_BYTES(CAPACITY)];
+
+/* One record, lent to every call from the start on. */
+static bench_tally tally;
 
 static const char sheet[] =
     "     1     0     0     0     0\n"
@@ -66,7 +69,7 @@ static void fail(const char *what, uint32_t refusal) {
 static unsigned show_ready(unsigned shown) {
     uint8_t result[BENCH_RESULT_BYTES];
     for (;;) {
-        bench_answer answer = bench_take(memory, sizeof memory, result, sizeof result);
+        bench_answer answer = bench_take(memory, sizeof memory, result, sizeof result, &tally);
         if (answer.refusal == BENCH_NO_RESULT) {
             return shown;
         }
@@ -82,11 +85,15 @@ static unsigned show_ready(unsigned shown) {
     }
 }
 
+static void show_hatch(void) {
+    printf("firings %" PRIu32 ", takes %" PRIu32 ", refused pushes %" PRIu32 "\n", tally.firings, tally.takes, tally.refused);
+}
+
 int main(void) {
     static const int32_t beacons[][READINGS] = {{3, 5}, {7, 7}, {-2, 2}, {2147483647, -2147483647 - 1}, {40, 39}};
     const unsigned count = sizeof beacons / sizeof beacons[0];
     bench_start_answer started = bench_start((const uint8_t *)sheet, sizeof sheet - 1, (const uint8_t *)kinds, sizeof kinds - 1, CAPACITY, memory,
-                                             sizeof memory);
+                                             sizeof memory, &tally);
     if (started.refusal != BENCH_ACCEPTED) {
         fail("start", started.refusal);
     }
@@ -96,24 +103,25 @@ int main(void) {
     }
     unsigned pushed = 0, shown = 0;
     while (shown < count) {
-        /* A beacon that is plugged in while the links are full waits for its turn. */
+        /* A beacon that is plugged in while the links are full waits for its turn; each try that is refused is counted. */
         if (pushed < count) {
             uint8_t set[BENCH_VALUE_BYTES * READINGS];
             for (int i = 0; i < READINGS; i++) {
                 put_whole(set + BENCH_VALUE_BYTES * i, beacons[pushed][i]);
             }
-            bench_answer answer = bench_push(memory, sizeof memory, set, sizeof set);
+            bench_answer answer = bench_push(memory, sizeof memory, set, sizeof set, &tally);
             if (answer.refusal == BENCH_ACCEPTED) {
                 pushed++;
             } else if (answer.refusal != BENCH_FULL && answer.refusal != BENCH_UNTAKEN) {
                 fail("push", answer.refusal);
             }
         }
-        bench_answer ran = bench_run(memory, sizeof memory, FIRINGS);
+        bench_answer ran = bench_run(memory, sizeof memory, FIRINGS, &tally);
         if (ran.refusal != BENCH_ACCEPTED && ran.refusal != BENCH_UNFINISHED) {
             fail("run", ran.refusal);
         }
         shown = show_ready(shown);
     }
+    show_hatch();
     return 0;
 }

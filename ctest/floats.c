@@ -41,15 +41,16 @@ static void gives(const char *what, const struct sheet *sheet, const uint8_t *se
     bench_evaluate_answer answer =
         bench_evaluate(rows, strlen(sheet->rows), kinds, strlen(sheet->kinds), set, bytes, 0, out, sizeof out);
     expect(what, answer.refusal, refusal);
-    expect(what, (uint32_t)memcmp(out, wanted == NULL ? held : wanted, BENCH_VALUE_BYTES), 0);
+    expect(what, (uint32_t)memcmp(out, wanted == NULL ? held : wanted, wanted == NULL ? sizeof held : BENCH_VALUE_BYTES), 0);
     begin(sheet, 1);
     uint8_t *before = lend(memory, length);
-    expect(what, bench_push(memory, length, set, bytes).refusal, refusal);
+    expect(what, bench_push(memory, length, set, bytes, &tally).refusal, refusal);
     if (wanted == NULL) {
         expect(what, memcmp(memory, before, length) == 0, 1);
     } else {
-        expect(what, bench_run(memory, length, 100).refusal, BENCH_ACCEPTED);
-        expect(what, bench_take(memory, length, out, sizeof out).count, 1);
+        expect(what, bench_run(memory, length, 100, &tally).refusal, BENCH_ACCEPTED);
+        memset(out, HELD, sizeof out);
+        expect(what, bench_take(memory, length, out, sizeof out, &tally).count, 1);
         expect(what, (uint32_t)memcmp(out, wanted, BENCH_VALUE_BYTES), 0);
     }
     free(before);
@@ -249,7 +250,7 @@ static void altered(void) {
     uint8_t one[BENCH_VALUE_BYTES];
     put_value(one, BENCH_REAL, ONE);
     begin(&half_more, 1);
-    expect("a float", bench_push(memory, length, one, sizeof one).refusal, BENCH_ACCEPTED);
+    expect("a float", bench_push(memory, length, one, sizeof one, &tally).refusal, BENCH_ACCEPTED);
     expect("the letter", memory[INPUT_KINDS_AT], BENCH_KIND_REAL);
     size_t link = memory[INPUT_LINKS_AT] + 256u * memory[INPUT_LINKS_AT + 1], token = STRETCHES_AT + STRETCH * link + 1;
     expect("the token", (uint32_t)memcmp(memory + token, one, sizeof one), 0);

@@ -39,10 +39,10 @@ static void first_of_all(const char *what, struct lent rows, struct lent line, u
         bench_evaluate(rows.bytes, rows.length, line.bytes, line.length, (const uint8_t *)"x", 1, 0, out, sizeof out);
     expect(what, short_out.refusal, BENCH_MEMORY);
     expect(what, short_out.row, 0);
-    bench_start_answer short_memory = bench_start(rows.bytes, rows.length, line.bytes, line.length, 1, mem, size - 1);
+    bench_start_answer short_memory = bench_start(rows.bytes, rows.length, line.bytes, line.length, 1, mem, size - 1, &tally);
     expect(what, short_memory.refusal, BENCH_MEMORY);
     expect(what, short_memory.row, 0);
-    bench_start_answer no_capacity = bench_start(rows.bytes, rows.length, line.bytes, line.length, 0, mem, size);
+    bench_start_answer no_capacity = bench_start(rows.bytes, rows.length, line.bytes, line.length, 0, mem, size, &tally);
     expect(what, no_capacity.refusal, BENCH_CAPACITY);
     expect(what, no_capacity.row, 0);
     expect_held(what, out, sizeof out);
@@ -69,7 +69,7 @@ static void told(const char *what, const char *sheet, const char *kinds, uint32_
     expect(what, evaluated.row, row);
     expect_held(what, out, sizeof out);
     first_of_all(what, rows, line, mem, size);
-    bench_start_answer started = bench_start(rows.bytes, rows.length, line.bytes, line.length, 1, mem, size);
+    bench_start_answer started = bench_start(rows.bytes, rows.length, line.bytes, line.length, 1, mem, size, &tally);
     expect(what, started.refusal, refusal);
     expect(what, started.row, row);
     if (refusal != BENCH_ACCEPTED) {
@@ -207,22 +207,22 @@ static void sets_of_kinds(void) {
         }
         begin(&pair, 2);
         uint8_t *before = lend(memory, length), two[2 * sizeof sets[i].set];
-        expect(what, bench_push(memory, length, set, sizeof sets[i].set).refusal, sets[i].refusal);
+        expect(what, bench_push(memory, length, set, sizeof sets[i].set, &tally).refusal, sets[i].refusal);
         expect(what, (memcmp(memory, before, length) == 0) == (sets[i].refusal != BENCH_ACCEPTED), 1);
         free(before);
         begin(&pair, 2);
         memcpy(two, sets[0].set, sizeof sets[0].set);
         memcpy(two + sizeof sets[0].set, set, sizeof sets[i].set);
-        bench_answer tray = bench_push_tray(memory, length, two, sizeof two, 2);
+        bench_answer tray = bench_push_tray(memory, length, two, sizeof two, 2, &tally);
         expect(what, tray.refusal, sets[i].refusal);
         expect(what, tray.count, sets[i].refusal == BENCH_ACCEPTED ? 2 : 1);
     }
     /* 12 before 32 and 33 */
     begin(&pair, 1);
-    expect("a set", bench_push(memory, length, sets[0].set[0], sizeof sets[0].set).refusal, BENCH_ACCEPTED);
-    expect("12 before 33", bench_push(memory, length, sets[4].set[0], sizeof sets[4].set).refusal, BENCH_SET);
+    expect("a set", bench_push(memory, length, sets[0].set[0], sizeof sets[0].set, &tally).refusal, BENCH_ACCEPTED);
+    expect("12 before 33", bench_push(memory, length, sets[4].set[0], sizeof sets[4].set, &tally).refusal, BENCH_SET);
     memory[UNTAKEN_AT] = MOST_UNTAKEN;
-    expect("12 before 32", bench_push(memory, length, sets[4].set[0], sizeof sets[4].set).refusal, BENCH_SET);
+    expect("12 before 32", bench_push(memory, length, sets[4].set[0], sizeof sets[4].set, &tally).refusal, BENCH_SET);
 }
 
 /* The letters that a start stores: each must be one, and those behind the inputs may be anything. */
@@ -243,8 +243,8 @@ static void stored_letters(void) {
     stands("letters behind the inputs");
     /* Another letter there: sets are held to it. */
     memory[INPUT_KINDS_AT + 1] = BENCH_KIND_WHOLE;
-    expect("a number and a truth", bench_push(memory, length, sets[0].set[0], sizeof sets[0].set).refusal, BENCH_SET);
-    expect("two numbers", bench_push(memory, length, sets[4].set[0], sizeof sets[4].set).refusal, BENCH_ACCEPTED);
+    expect("a number and a truth", bench_push(memory, length, sets[0].set[0], sizeof sets[0].set, &tally).refusal, BENCH_SET);
+    expect("two numbers", bench_push(memory, length, sets[4].set[0], sizeof sets[4].set, &tally).refusal, BENCH_ACCEPTED);
     begin(&factorial, 2);
     bad_byte("no letter of one input", INPUT_KINDS_AT, 0);
     good_byte("a byte behind the letter of one input", INPUT_KINDS_AT + 1, 0);

@@ -26,17 +26,11 @@ static const uint8_t ending[][BENCH_VALUE_BYTES] = {WHOLE(5), FALSE_VALUE}, unen
 /* Bytes lent behind a machine's memory; more rounds than those of a machine here that comes to rest; firings of which all but the first are the loop's. */
 enum { BEHIND = 100, MANY_ROUNDS = 1000, SOME_FIRINGS = 100, MANY_FIRINGS = 100000 };
 
-enum { MOST_OPERATORS = 1024 };
-
-static uint32_t operators_of(const uint8_t *mem) {
-    return mem[OPERATORS_AT] + 256u * mem[OPERATORS_AT + 1];
-}
-
 /* One round: each operator in turn, and how many fired. */
 static uint32_t one_by_one(uint8_t *mem) {
     uint32_t fired = 0;
     for (uint32_t i = 0; i < operators_of(mem); i++) {
-        fired += bench_fire(mem, length, i).refusal == BENCH_ACCEPTED;
+        fired += bench_fire(mem, length, i, &tally).refusal == BENCH_ACCEPTED;
     }
     return fired;
 }
@@ -52,7 +46,7 @@ static bench_rounds_answer by_firings(uint8_t *mem, uint32_t lent) {
         answer.rounds++;
         answer.firings += fired;
     }
-    answer.refusal = bench_run(mem, length, 0).refusal;
+    answer.refusal = bench_run(mem, length, 0, &tally).refusal;
     return answer;
 }
 
@@ -65,7 +59,7 @@ static void same(const char *what, bench_rounds_answer got, bench_rounds_answer 
 /* A run by rounds beside the same by firings; nothing else of the memory is touched. */
 static bench_rounds_answer rounds(const char *what, uint32_t lent) {
     uint8_t *copy = lend(memory, length);
-    bench_rounds_answer answer = bench_run_rounds(memory, length, lent);
+    bench_rounds_answer answer = bench_run_rounds(memory, length, lent, &tally);
     same(what, answer, by_firings(copy, lent));
     expect(what, memcmp(memory, copy, length) == 0, 1);
     expect(what, answer.rounds <= lent && answer.rounds <= answer.firings, 1);
@@ -77,25 +71,25 @@ static bench_rounds_answer rounds(const char *what, uint32_t lent) {
 /* This answer, and no byte changes. */
 static void leaves_all(const char *what, uint32_t lent, uint32_t refusal) {
     uint8_t *before = lend(memory, length);
-    same(what, bench_run_rounds(memory, length, lent), (bench_rounds_answer){refusal, 0, 0});
+    same(what, bench_run_rounds(memory, length, lent, &tally), (bench_rounds_answer){refusal, 0, 0});
     expect(what, length == 0 || memcmp(memory, before, length) == 0, 1);
     free(before);
 }
 
 static void push(const uint8_t *set, size_t bytes) {
-    expect("push", bench_push(memory, length, set, bytes).refusal, BENCH_ACCEPTED);
+    expect("push", bench_push(memory, length, set, bytes, &tally).refusal, BENCH_ACCEPTED);
 }
 
 /* The oldest untaken set's verdict is this value. */
 static void taken(const char *what, const uint8_t *value) {
     uint8_t out[BENCH_RESULT_BYTES];
-    expect(what, bench_take(memory, length, out, sizeof out).refusal, BENCH_ACCEPTED);
+    expect(what, bench_take(memory, length, out, sizeof out, &tally).refusal, BENCH_ACCEPTED);
     expect(what, memcmp(out, value, BENCH_VALUE_BYTES) == 0, 1);
 }
 
 static void pending(const char *what) {
     uint8_t out[BENCH_RESULT_BYTES];
-    expect(what, bench_take(memory, length, out, sizeof out).refusal, BENCH_NO_RESULT);
+    expect(what, bench_take(memory, length, out, sizeof out, &tally).refusal, BENCH_NO_RESULT);
 }
 
 /* 11 before 31; a quiet machine makes no round, whatever is lent. */
@@ -110,7 +104,7 @@ static void refusals(void) {
         leaves_all("11 before 31", numbers[i], BENCH_MEMORY);
         length = 0;
         leaves_all("no memory", numbers[i], BENCH_MEMORY);
-        expect("NULL", bench_run_rounds(NULL, 0, numbers[i]).refusal, BENCH_MEMORY);
+        expect("NULL", bench_run_rounds(NULL, 0, numbers[i], &tally).refusal, BENCH_MEMORY);
         begin(&pair, 2);
         push(ending[0], sizeof ending);
         leaves_all("no operator", numbers[i], BENCH_ACCEPTED);
@@ -190,7 +184,7 @@ struct times {
 /* Fires the least-numbered able operator and counts it, as a run does; 0 where none is able. */
 static int fire_least(struct times *times) {
     for (uint32_t i = 0; i < operators_of(memory); i++) {
-        if (bench_fire(memory, length, i).refusal == BENCH_ACCEPTED) {
+        if (bench_fire(memory, length, i, &tally).refusal == BENCH_ACCEPTED) {
             times->of[i]++;
             return 1;
         }
@@ -208,7 +202,7 @@ static void begin_both(void) {
 /* However many firings a run is lent, it makes those of the loop, and the older verdict waits. A round makes it ready. */
 static void nobody_waits(void) {
     begin_both();
-    bench_answer run = bench_run(memory, length, MANY_FIRINGS);
+    bench_answer run = bench_run(memory, length, MANY_FIRINGS, &tally);
     expect("a run", run.refusal, BENCH_UNFINISHED);
     expect("a run", run.count, MANY_FIRINGS);
     pending("behind the loop");

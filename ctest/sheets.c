@@ -3,19 +3,9 @@
  * lent for the result set. Sheets, sets and result sets are allocated at their exact length, so that a tool which watches memory sees an access past
  * their ends.
  */
-#include "check.h"
+#include "refused.h"
 
-enum { ROW_BYTES = 31, MOST_ROWS = 200, HELD = 0x5a };
-
-static const struct sheet lesser_of_two = {
-    "     1     0     0     0     0\n"
-    "     1     1     0     0     0\n"
-    "     4     1     2     0     0\n"
-    "     5     6     3     0     0\n"
-    "     1     0     0     0     0\n"
-    "     1     1     0     0     0\n"
-    "     7     4     5     6     0\n",
-    "WW\n"};
+enum { HELD = 0x5a };
 
 /* "x + x" */
 static const struct sheet doubled = {
@@ -27,23 +17,6 @@ static const struct sheet doubled = {
 
 /* The number 7: no input. */
 static const struct sheet seven = {"     2     7     0     0     0\n", "\n"};
-
-/* Each with a kinds line that is at fault too: it is looked at behind these. */
-static const struct {
-    const char *what, *rows;
-    uint32_t refusal, row;
-} refused[] = {
-    {"an empty sheet", "", BENCH_LINES, 0},
-    {"a row without its line feed", "     1     0     0     0     0", BENCH_LINES, 0},
-    {"a row too long", "     1     0     0     0      0\n", BENCH_LINES, 0},
-    {"a leading zero", "     1    00     0     0     0\n", BENCH_FIELD, 1},
-    {"code 12", "     1     0     0     0     0\n     5    12     1     0     0\n", BENCH_RANGE, 2},
-    {"a row that names itself", "     5    11     1     0     0\n", BENCH_NAMING, 1},
-    {"a row that nothing names", "     1     0     0     0     0\n     1     1     0     0     0\n", BENCH_NAMED, 1},
-    {"iter as the formula", "     1     0     0     0     0\n     9     1     0     0     0\n", BENCH_ITER, 2},
-    {"add with one operand", "     1     0     0     0     0\n     5     1     1     0     0\n", BENCH_WIDTH, 2},
-    {"let x = 1 in 2", "     2     1     0     0     0\n     2     2     0     0     0\n     6     0     1     1     2\n", BENCH_BOUND, 3},
-};
 
 /* A value as the calls take and give it. */
 typedef struct {
@@ -208,39 +181,13 @@ static void errs_with_reasons(void) {
     }
 }
 
-/* A row at its place in a sheet. */
-static void put_row(char *sheet, unsigned row, unsigned kind, unsigned a, unsigned b, unsigned c) {
-    char text[ROW_BYTES + 1];
-    snprintf(text, sizeof text, "%6u%6u%6u%6u     0\n", kind % 100000, a % 100000, b % 100000, c % 100000);
-    memcpy(sheet + (size_t)ROW_BYTES * (row - 1), text, ROW_BYTES);
-}
-
-enum { IDENTIFIER = 1, PAIR = 4, OPERATOR = 5, IF = 7, ADD = 1, NEGATE = 11 };
-
 static void long_sheets(void) {
     char sheet[(MOST_ROWS + 1) * ROW_BYTES];
-    put_row(sheet, 1, IDENTIFIER, 0, 0, 0);
-    for (unsigned row = 2; row <= MOST_ROWS + 1; row++) {
-        put_row(sheet, row, OPERATOR, NEGATE, row - 1, 0);
-    }
-    expect("200 rows", read_bytes(of_bytes(sheet, MOST_ROWS * ROW_BYTES), of_text("W\n")).operators, MOST_ROWS - 1);
-    expect_unread("201 rows", of_bytes(sheet, sizeof sheet), of_text("W\n"), BENCH_ROWS, 0);
-    /* x0 + x1 + .. + x18 within ifs within ifs on x19: each if has a gate for each name that is free in its arms. */
-    enum { SUMMED = 19, TEST = 19 };
-    unsigned row = 1;
-    put_row(sheet, row, IDENTIFIER, 0, 0, 0);
-    for (unsigned name = 1; name < SUMMED; name++, row += 3) {
-        put_row(sheet, row + 1, IDENTIFIER, name, 0, 0);
-        put_row(sheet, row + 2, PAIR, row, row + 1, 0);
-        put_row(sheet, row + 3, OPERATOR, ADD, row + 2, 0);
-    }
-    for (; row + 3 <= MOST_ROWS; row += 3) {
-        put_row(sheet, row + 1, IDENTIFIER, TEST, 0, 0);
-        put_row(sheet, row + 2, IDENTIFIER, 0, 0, 0);
-        put_row(sheet, row + 3, IF, row + 1, row, row + 2);
-    }
-    stretch rows = of_bytes(sheet, (size_t)row * ROW_BYTES);
-    expect_unread("too many operators", rows, of_text("WWWWWWWWWWWWWWWWWWWT\n"), BENCH_OPERATORS, 0);
+    size_t bytes = too_many_rows(sheet);
+    expect("200 rows", read_bytes(of_bytes(sheet, bytes - ROW_BYTES), of_text("W\n")).operators, MOST_ROWS - 1);
+    expect_unread("201 rows", of_bytes(sheet, bytes), of_text("W\n"), BENCH_ROWS, 0);
+    stretch rows = of_bytes(sheet, too_many_operators(sheet));
+    expect_unread("too many operators", rows, of_text(too_many_operators_kinds), BENCH_OPERATORS, 0);
     /* x17 is added in row 52, x18 in row 55; the first test is in row 58. */
     expect_unread("18 before 10", rows, of_text("WWWWWWWWWWWWWWWWWTTT\n"), BENCH_KINDS, 52);
     expect_unread("18 at the first test", rows, of_text("WWWWWWWWWWWWWWWWWWWW\n"), BENCH_KINDS, 58);
@@ -284,8 +231,9 @@ static void nothing_lent(void) {
 
 int main(void) {
     worked_examples();
-    for (size_t i = 0; i < sizeof refused / sizeof refused[0]; i++) {
-        expect_unread(refused[i].what, of_text(refused[i].rows), of_text("no line"), refused[i].refusal, refused[i].row);
+    for (size_t i = 0; i < sizeof refused_sheets / sizeof refused_sheets[0]; i++) {
+        stretch rows = of_text(refused_sheets[i].rows);
+        expect_unread(refused_sheets[i].what, rows, of_text("no line"), refused_sheets[i].refusal, refused_sheets[i].row);
     }
     errs_with_reasons();
     long_sheets();

@@ -22,7 +22,7 @@ static void fill_sets(void) {
 
 /* The same sets by single pushes, until one is refused; of none 11 and 31 alone, which a firing of no operator tells. */
 static bench_answer one_by_one(uint8_t *mem, const uint8_t *from, size_t bytes, uint32_t number) {
-    bench_answer answer = bench_fire(mem, length, UINT32_MAX);
+    bench_answer answer = bench_fire(mem, length, UINT32_MAX, &tally);
     if (answer.refusal != BENCH_NOT_ABLE) {
         return answer;
     }
@@ -31,7 +31,7 @@ static bench_answer one_by_one(uint8_t *mem, const uint8_t *from, size_t bytes, 
     answer.refusal = BENCH_ACCEPTED;
     while (count < number) {
         size_t lent = bytes < set ? bytes : set;
-        answer = bench_push(mem, length, from, lent);
+        answer = bench_push(mem, length, from, lent, &tally);
         if (answer.refusal != BENCH_ACCEPTED) {
             break;
         }
@@ -46,7 +46,7 @@ static bench_answer one_by_one(uint8_t *mem, const uint8_t *from, size_t bytes, 
 /* A tray of the first so many bytes of `from`, lent at their exact length. */
 static void tray(const char *what, const uint8_t *from, size_t bytes, uint32_t number, uint32_t refusal, uint32_t count) {
     uint8_t *copy = lend(memory, length), *lent = lend(from, bytes);
-    bench_answer answer = bench_push_tray(memory, length, lent, bytes, number);
+    bench_answer answer = bench_push_tray(memory, length, lent, bytes, number, &tally);
     expect(what, answer.refusal, refusal);
     expect(what, answer.count, count);
     bench_answer single = one_by_one(copy, lent, bytes, number);
@@ -70,10 +70,10 @@ static void tray_leaves_all(const char *what, const uint8_t *from, size_t bytes,
 static void taken(const char *what, size_t first, size_t count) {
     uint8_t out[BENCH_RESULT_BYTES];
     for (size_t i = first; i < first + count; i++) {
-        expect(what, bench_take(memory, length, out, sizeof out).refusal, BENCH_ACCEPTED);
+        expect(what, bench_take(memory, length, out, sizeof out, &tally).refusal, BENCH_ACCEPTED);
         expect(what, memcmp(out, sets + SET_BYTES * i, SET_BYTES) == 0, 1);
     }
-    expect(what, bench_take(memory, length, out, sizeof out).refusal, BENCH_NO_RESULT);
+    expect(what, bench_take(memory, length, out, sizeof out, &tally).refusal, BENCH_NO_RESULT);
 }
 
 /* More sets than go in: 33 at a small capacity, 32 after sixteen; and in two trays. */
@@ -182,7 +182,7 @@ static void no_inputs(void) {
     begin(&seven, MOST_CAPACITY);
     tray("no inputs, three", NULL, 0, 3, BENCH_ACCEPTED, 3);
     tray("no inputs, bytes left aside", no_reasons[0], BENCH_VALUE_BYTES, 2, BENCH_ACCEPTED, 2);
-    expect("five triggers", bench_run(memory, length, 100).count, 5);
+    expect("five triggers", bench_run(memory, length, 100, &tally).count, 5);
 }
 
 /* A tray of readings through a loop: each result is its own set's, also of sets before a refused one. */
@@ -192,12 +192,12 @@ static void verdicts(void) {
     uint8_t out[BENCH_RESULT_BYTES];
     begin(&factorial, MOST_CAPACITY);
     tray("factorials", lent[0], sizeof lent, 6, BENCH_SET, 4);
-    expect("factorials", bench_run(memory, length, 100000).refusal, BENCH_ACCEPTED);
+    expect("factorials", bench_run(memory, length, 100000, &tally).refusal, BENCH_ACCEPTED);
     for (size_t i = 0; i < sizeof results / sizeof results[0]; i++) {
-        expect("factorials", bench_take(memory, length, out, sizeof out).refusal, BENCH_ACCEPTED);
+        expect("factorials", bench_take(memory, length, out, sizeof out, &tally).refusal, BENCH_ACCEPTED);
         expect("factorials", memcmp(out, results[i], BENCH_VALUE_BYTES) == 0, 1);
     }
-    expect("factorials", bench_take(memory, length, out, sizeof out).refusal, BENCH_NO_RESULT);
+    expect("factorials", bench_take(memory, length, out, sizeof out, &tally).refusal, BENCH_NO_RESULT);
 }
 
 int main(void) {

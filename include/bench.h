@@ -2,17 +2,21 @@
  * The formula machine of the beacon bench.
  *
  * A formula sheet is read (bench_read), evaluated directly (bench_evaluate), or started as a machine on memory that the caller lends
- * (bench_start) and then driven by pushes, firings, runs and takes. No call keeps anything but what stands in that memory: there is no
- * heap and no global. Every call always returns, for any bytes and any numbers.
+ * (bench_start) and then driven by pushes, firings, runs and takes. No call keeps anything but what stands in that memory and in the tally: there
+ * is no heap and no global. Every call always returns, for any bytes and any numbers.
  *
  * Lent memory. A pointer goes with its length in bytes; a length of 0 goes with any pointer, NULL included. The stretches lent to one
- * call must not overlap, and nothing else may write them during the call. That is all that is asked of a caller: whatever the bytes are,
- * a call touches none outside of them.
+ * call must not overlap, and nothing else may write them during the call. That and what is said of the tally is all that is asked of a caller:
+ * whatever the bytes are, a call touches none outside of them.
  *
  * Refusals. `refusal` is 0 where a call is accepted, else one of the numbers below, the first that applies in the order each call gives.
  * A refused call leaves every lent byte as it was, and its other numbers are 0, save `row` where it names a row, a run refused with
  * BENCH_UNFINISHED, which keeps its firings and gives their count (one by rounds its rounds too), and a tray, which keeps the sets that went in
- * before the refused one and gives their count.
+ * before the refused one and gives their count. The tally is left out of this: a refused push is counted there.
+ *
+ * Tally. Each call on a machine, bench_start too, is lent a record as well, a bench_tally, and updates it in place: what firmware shows at its
+ * service hatch. The pointer must not be NULL, the record must not overlap the stretches lent beside it, and nothing else may write it during the
+ * call. Any numbers may stand in it.
  *
  * Values. A value is BENCH_VALUE_BYTES bytes: a tag (BENCH_WHOLE, BENCH_TRUTH, BENCH_ERR or BENCH_REAL) and four bytes, lowest first: a whole
  * number as int32_t, a truth as 0 or 1, an err as its reason, one of BENCH_ERR_... below, a float as its bits, a finite IEEE 754 binary32. Nothing
@@ -125,6 +129,17 @@ typedef struct {
     uint64_t firings; /* in all of them: up to 1,024 a round, which 32 bits need not hold */
 } bench_rounds_answer;
 
+/*
+ * What a machine has done since its start, where each call since was lent this record and nothing else wrote it. Each number stops at
+ * 4,294,967,295 (UINT32_MAX) and does not go round. An accepted bench_start sets all three to 0; a refused one leaves them. No byte of a machine
+ * and no answer depends on the record.
+ */
+typedef struct {
+    uint32_t firings; /* of accepted bench_fire, and of runs of both sorts, also beside BENCH_UNFINISHED */
+    uint32_t takes;   /* accepted ones */
+    uint32_t refused; /* calls of bench_push and bench_push_tray with any refusal: a tray counts once, whichever set was refused */
+} bench_tally;
+
 /* Reads a formula sheet with its kinds line. Refusals, in this order: 1 to 9, 17, 18, 10. */
 bench_read_answer bench_read(const uint8_t *sheet, size_t sheet_bytes, const uint8_t *kinds, size_t kinds_bytes);
 
@@ -140,7 +155,7 @@ bench_evaluate_answer bench_evaluate(const uint8_t *sheet, size_t sheet_bytes, c
  * (shorter than BENCH_MACHINE_BYTES of the capacity asked, or of 1 where that is outside 1..16), 14, 1 to 9, 17, 18, 10.
  */
 bench_start_answer bench_start(const uint8_t *sheet, size_t sheet_bytes, const uint8_t *kinds, size_t kinds_bytes, uint32_t capacity,
-                               uint8_t *memory, size_t memory_bytes);
+                               uint8_t *memory, size_t memory_bytes, bench_tally *tally);
 
 /*
  * The calls on a machine. Each needs BENCH_MACHINE_BYTES of the stored capacity (of 1 where the stored one is outside 1..16), looks first
@@ -151,36 +166,37 @@ bench_start_answer bench_start(const uint8_t *sheet, size_t sheet_bytes, const u
  * Gives one value to each input link, and a trigger where the graph has constants: those of constant rows, and those by which a loop says
  * whether it goes on. Refusals, in this order: 11, 31, 12, 32, 33.
  */
-bench_answer bench_push(uint8_t *memory, size_t memory_bytes, const uint8_t *set, size_t set_bytes);
+bench_answer bench_push(uint8_t *memory, size_t memory_bytes, const uint8_t *set, size_t set_bytes, bench_tally *tally);
 
 /*
  * Pushes `number` sets that lie behind each other, each of BENCH_VALUE_BYTES for each input: memory and refusal are those of calls of bench_push,
  * one a set, up to the first that is refused. The count says how many went in, also beside a refusal. A set not wholly lent is 12. Bytes past the
  * last set are left aside, where bench_push gives 12. Refusals, in this order: for each set 11, 31, 12, 32, 33; for a tray of none 11, 31.
  */
-bench_answer bench_push_tray(uint8_t *memory, size_t memory_bytes, const uint8_t *sets, size_t sets_bytes, uint32_t number);
+bench_answer bench_push_tray(uint8_t *memory, size_t memory_bytes, const uint8_t *sets, size_t sets_bytes, uint32_t number,
+                             bench_tally *tally);
 
 /* Fires one operator, counted from 0. Refusals, in this order: 11, 31, 34. */
-bench_answer bench_fire(uint8_t *memory, size_t memory_bytes, uint32_t operator_number);
+bench_answer bench_fire(uint8_t *memory, size_t memory_bytes, uint32_t operator_number, bench_tally *tally);
 
 /*
  * Fires the least-numbered able operator again and again, up to `firings` times, and counts. Refusals, in this order: 11, 31; 36 where
  * something can still fire after the lent firings, which are kept.
  */
-bench_answer bench_run(uint8_t *memory, size_t memory_bytes, uint32_t firings);
+bench_answer bench_run(uint8_t *memory, size_t memory_bytes, uint32_t firings, bench_tally *tally);
 
 /*
  * Runs by rounds, up to `rounds` of them: in a round each operator in turn, from 0 on, that is able at its turn fires once. So a set that loops
  * without end holds up none before it. A round in which nothing fires ends the call and is not counted. Refusals, in this order: 11, 31; 36
  * where something can still fire after the lent rounds, which are kept.
  */
-bench_rounds_answer bench_run_rounds(uint8_t *memory, size_t memory_bytes, uint32_t rounds);
+bench_rounds_answer bench_run_rounds(uint8_t *memory, size_t memory_bytes, uint32_t rounds, bench_tally *tally);
 
 /*
  * Takes the result set of the oldest set untaken: sixteen values into `out`, E past the width, which is the answer's count; bytes of
  * `out` past 80 are left alone. Refusals, in this order: 11 (also where `out` is shorter than 80 bytes), 31, 35.
  */
-bench_answer bench_take(uint8_t *memory, size_t memory_bytes, uint8_t *out, size_t out_bytes);
+bench_answer bench_take(uint8_t *memory, size_t memory_bytes, uint8_t *out, size_t out_bytes, bench_tally *tally);
 
 #ifdef __cplusplus
 }

@@ -1,17 +1,18 @@
 // The calls on a machine's memory as a table, those here and the product's where it is linked, and the program's loop over them (document 01,
-// "Program and readings").
+// "Program and readings"). Each is lent the record of document 02, Job 10, as its last.
 
 use crate::bytes::{OUT_BYTES, VALUE_BYTES};
 use crate::memory::{self, Answer, RoundsAnswer, StartAnswer};
+use crate::tally::Tally;
 
 #[derive(Clone, Copy)]
 pub struct Calls {
-    pub start: fn(&[u8], &[u8], u32, &mut [u8]) -> StartAnswer,
-    pub push: fn(&mut [u8], &[u8]) -> Answer,
-    pub push_tray: fn(&mut [u8], &[u8], u32) -> Answer,
-    pub run: fn(&mut [u8], u32) -> Answer,
-    pub run_rounds: fn(&mut [u8], u32) -> RoundsAnswer,
-    pub take: fn(&mut [u8], &mut [u8]) -> Answer,
+    pub start: fn(&[u8], &[u8], u32, &mut [u8], &mut Tally) -> StartAnswer,
+    pub push: fn(&mut [u8], &[u8], &mut Tally) -> Answer,
+    pub push_tray: fn(&mut [u8], &[u8], u32, &mut Tally) -> Answer,
+    pub run: fn(&mut [u8], u32, &mut Tally) -> Answer,
+    pub run_rounds: fn(&mut [u8], u32, &mut Tally) -> RoundsAnswer,
+    pub take: fn(&mut [u8], &mut [u8], &mut Tally) -> Answer,
 }
 
 pub const PLAIN: Calls = Calls {
@@ -37,18 +38,18 @@ pub fn product() -> Option<Calls> {
 
 impl Calls {
     /// "it pushes until refused or out of sets, runs with the firings left, takes until refused, and repeats until every set is taken", on a started
-    /// machine. Hands each result's values on; gives the firings made, and the run's 36.
+    /// machine, with one record for all calls. Hands each result's values on; gives the firings made, and the run's 36.
     pub fn session(&self, mem: &mut [u8], sets: &[Vec<u8>], firings: u32, each: &mut dyn FnMut(&[u8])) -> Answer {
         let (mut pushed, mut taken, mut count) = (0, 0, 0);
-        let mut out = [0; OUT_BYTES];
+        let (mut out, mut tally) = ([0; OUT_BYTES], Tally::default());
         while taken < sets.len() {
-            while pushed < sets.len() && (self.push)(mem, &sets[pushed]).refusal == 0 {
+            while pushed < sets.len() && (self.push)(mem, &sets[pushed], &mut tally).refusal == 0 {
                 pushed += 1;
             }
-            let ran = (self.run)(mem, firings - count);
+            let ran = (self.run)(mem, firings - count, &mut tally);
             count += ran.count;
             loop {
-                let result = (self.take)(mem, &mut out);
+                let result = (self.take)(mem, &mut out, &mut tally);
                 if result.refusal != 0 {
                     break;
                 }

@@ -19,5 +19,6 @@ pub mod product;
 pub mod random;
 pub mod sheet;
 pub mod table;
+pub mod tally;
 pub mod timing;
 pub mod value;

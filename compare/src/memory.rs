@@ -1,10 +1,11 @@
 // The calls on a machine's memory, over the bytes that docs/MEMORY.md lays out: start, push, a tray, fire, run, a run by rounds and take, with the checks
-// of refusals 11 and 31. Plain code for the same memory as the product's, to compare every byte and to measure against. The graph and its numbering
+// of refusals 11 and 31, each lent the record in which it counts. Plain code for the same memory as the product's, to compare every byte and to measure against. The graph and its numbering
 // are those here.
 
 use crate::bytes::{decode, encode, OUT_BYTES, VALUE_BYTES};
 use crate::graph::{self, Graph, Kind};
 use crate::sheet::{self, Refusal};
+use crate::tally::Tally;
 use crate::value::{operands, operate, Sort, Value};
 
 /// Where the letters of the inputs' kinds stand.
@@ -69,9 +70,12 @@ fn write_number(mem: &mut [u8], at: usize, number: usize) {
     mem[at..at + 2].copy_from_slice(&(number as u16).to_le_bytes());
 }
 
-pub fn start(sheet: &[u8], kinds: &[u8], capacity: u32, mem: &mut [u8]) -> StartAnswer {
+pub fn start(sheet: &[u8], kinds: &[u8], capacity: u32, mem: &mut [u8], tally: &mut Tally) -> StartAnswer {
     match started(sheet, kinds, capacity as usize, mem) {
-        Ok(answer) => answer,
+        Ok(answer) => {
+            tally.set_to_zeros();
+            answer
+        }
         Err(Refusal { number, row }) => StartAnswer { refusal: number, row, ..StartAnswer::default() },
     }
 }
@@ -470,7 +474,15 @@ impl Awake {
     }
 }
 
-pub fn push(mem: &mut [u8], set: &[u8]) -> Answer {
+pub fn push(mem: &mut [u8], set: &[u8], tally: &mut Tally) -> Answer {
+    let answer = pushed(mem, set);
+    if answer.refusal != 0 {
+        tally.count_refused_push();
+    }
+    answer
+}
+
+fn pushed(mem: &mut [u8], set: &[u8]) -> Answer {
     let mut machine = match Machine::of(mem) {
         Ok(machine) => machine,
         Err(answer) => return answer,
@@ -500,11 +512,14 @@ pub fn push(mem: &mut [u8], set: &[u8]) -> Answer {
 }
 
 /// "a given number of sets lying behind each other, each as long as the inputs ask"
-pub fn push_tray(mem: &mut [u8], sets: &[u8], number: u32) -> Answer {
-    // "a tray of none tests 11 and 31 only"
+pub fn push_tray(mem: &mut [u8], sets: &[u8], number: u32, tally: &mut Tally) -> Answer {
+    // "a tray of none tests 11 and 31 only": a refused push too
     let length = match Machine::of(mem) {
         Ok(machine) => VALUE_BYTES * usize::from(machine.mem[5]),
-        Err(answer) => return answer,
+        Err(answer) => {
+            tally.count_refused_push();
+            return answer;
+        }
     };
     // "bytes past the last are left aside"
     let mut rest = sets;
@@ -512,7 +527,7 @@ pub fn push_tray(mem: &mut [u8], sets: &[u8], number: u32) -> Answer {
         // "A set not wholly lent gets 12": what there is of it is too short a set
         let (set, behind) = rest.split_at(length.min(rest.len()));
         // "It stops at the first that is refused, says how many went in and gives that refusal's number."
-        match push(mem, set).refusal {
+        match push(mem, set, tally).refusal {
             0 => rest = behind,
             refusal => return Answer { refusal, count },
         }
@@ -520,7 +535,7 @@ pub fn push_tray(mem: &mut [u8], sets: &[u8], number: u32) -> Answer {
     Answer { refusal: 0, count: number }
 }
 
-pub fn fire(mem: &mut [u8], operator: u32) -> Answer {
+pub fn fire(mem: &mut [u8], operator: u32, tally: &mut Tally) -> Answer {
     let mut machine = match Machine::of(mem) {
         Ok(machine) => machine,
         Err(answer) => return answer,
@@ -532,37 +547,42 @@ pub fn fire(mem: &mut [u8], operator: u32) -> Answer {
     match machine.able(i) {
         Some(firing) => {
             machine.perform(i, &firing);
+            tally.count_firings(1);
             Answer::default()
         }
         None => refuse(34),
     }
 }
 
-pub fn run(mem: &mut [u8], firings: u32) -> Answer {
-    run_telling(mem, firings, |_| {})
+pub fn run(mem: &mut [u8], firings: u32, tally: &mut Tally) -> Answer {
+    run_telling(mem, firings, tally, |_| {})
 }
 
 /// A run that tells each operator it fires.
-pub fn run_telling(mem: &mut [u8], firings: u32, each: impl FnMut(usize)) -> Answer {
-    match Machine::of(mem) {
+pub fn run_telling(mem: &mut [u8], firings: u32, tally: &mut Tally, each: impl FnMut(usize)) -> Answer {
+    let answer = match Machine::of(mem) {
         Ok(mut machine) => machine.run(firings, each),
         Err(answer) => answer,
-    }
+    };
+    tally.count_firings(answer.count.into());
+    answer
 }
 
-pub fn run_rounds(mem: &mut [u8], rounds: u32) -> RoundsAnswer {
-    run_rounds_telling(mem, rounds, |_| {})
+pub fn run_rounds(mem: &mut [u8], rounds: u32, tally: &mut Tally) -> RoundsAnswer {
+    run_rounds_telling(mem, rounds, tally, |_| {})
 }
 
 /// A run by rounds that tells each operator it fires.
-pub fn run_rounds_telling(mem: &mut [u8], rounds: u32, each: impl FnMut(usize)) -> RoundsAnswer {
-    match Machine::of(mem) {
+pub fn run_rounds_telling(mem: &mut [u8], rounds: u32, tally: &mut Tally, each: impl FnMut(usize)) -> RoundsAnswer {
+    let answer = match Machine::of(mem) {
         Ok(mut machine) => machine.run_rounds(rounds, each),
         Err(answer) => RoundsAnswer { refusal: answer.refusal, ..RoundsAnswer::default() },
-    }
+    };
+    tally.count_firings(answer.firings);
+    answer
 }
 
-pub fn take(mem: &mut [u8], out: &mut [u8]) -> Answer {
+pub fn take(mem: &mut [u8], out: &mut [u8], tally: &mut Tally) -> Answer {
     if out.len() < OUT_BYTES {
         return refuse(11);
     }
@@ -580,5 +600,6 @@ pub fn take(mem: &mut [u8], out: &mut [u8]) -> Answer {
     }
     links.iter().for_each(|&link| machine.remove(link));
     machine.mem[7] -= 1;
+    tally.count_take();
     Answer { refusal: 0, count: links.len() as u32 }
 }

@@ -3,6 +3,7 @@
 
 use crate::bytes::{EvaluateAnswer, ReadAnswer};
 use crate::memory::{Answer, RoundsAnswer, StartAnswer};
+use crate::tally::Tally;
 
 extern "C" {
     fn bench_read(sheet: *const u8, sheet_len: usize, kinds: *const u8, kinds_len: usize) -> ReadAnswer;
@@ -25,16 +26,24 @@ extern "C" {
         capacity: u32,
         mem: *mut u8,
         mem_len: usize,
+        tally: *mut Tally,
     ) -> StartAnswer;
-    fn bench_push(mem: *mut u8, mem_len: usize, set: *const u8, set_len: usize) -> Answer;
-    fn bench_push_tray(mem: *mut u8, mem_len: usize, sets: *const u8, sets_len: usize, number: u32) -> Answer;
-    fn bench_fire(mem: *mut u8, mem_len: usize, operator: u32) -> Answer;
-    fn bench_run(mem: *mut u8, mem_len: usize, firings: u32) -> Answer;
-    fn bench_run_rounds(mem: *mut u8, mem_len: usize, rounds: u32) -> RoundsAnswer;
-    fn bench_take(mem: *mut u8, mem_len: usize, out: *mut u8, out_len: usize) -> Answer;
+    fn bench_push(mem: *mut u8, mem_len: usize, set: *const u8, set_len: usize, tally: *mut Tally) -> Answer;
+    fn bench_push_tray(
+        mem: *mut u8,
+        mem_len: usize,
+        sets: *const u8,
+        sets_len: usize,
+        number: u32,
+        tally: *mut Tally,
+    ) -> Answer;
+    fn bench_fire(mem: *mut u8, mem_len: usize, operator: u32, tally: *mut Tally) -> Answer;
+    fn bench_run(mem: *mut u8, mem_len: usize, firings: u32, tally: *mut Tally) -> Answer;
+    fn bench_run_rounds(mem: *mut u8, mem_len: usize, rounds: u32, tally: *mut Tally) -> RoundsAnswer;
+    fn bench_take(mem: *mut u8, mem_len: usize, out: *mut u8, out_len: usize, tally: *mut Tally) -> Answer;
 }
 
-// In each function the pointers and lengths are slices', and what is written is lent to that call alone.
+// In each function the pointers and lengths are slices', a record's pointer is a reference's, and what is written is lent to that call alone.
 
 pub fn read(sheet: &[u8], kinds: &[u8]) -> ReadAnswer {
     unsafe { bench_read(sheet.as_ptr(), sheet.len(), kinds.as_ptr(), kinds.len()) }
@@ -56,31 +65,31 @@ pub fn evaluate(sheet: &[u8], kinds: &[u8], set: &[u8], rounds: u32, out: &mut [
     }
 }
 
-pub fn start(sheet: &[u8], kinds: &[u8], capacity: u32, mem: &mut [u8]) -> StartAnswer {
+pub fn start(sheet: &[u8], kinds: &[u8], capacity: u32, mem: &mut [u8], tally: &mut Tally) -> StartAnswer {
     let (sheet_at, kinds_at) = (sheet.as_ptr(), kinds.as_ptr());
-    unsafe { bench_start(sheet_at, sheet.len(), kinds_at, kinds.len(), capacity, mem.as_mut_ptr(), mem.len()) }
+    unsafe { bench_start(sheet_at, sheet.len(), kinds_at, kinds.len(), capacity, mem.as_mut_ptr(), mem.len(), tally) }
 }
 
-pub fn push(mem: &mut [u8], set: &[u8]) -> Answer {
-    unsafe { bench_push(mem.as_mut_ptr(), mem.len(), set.as_ptr(), set.len()) }
+pub fn push(mem: &mut [u8], set: &[u8], tally: &mut Tally) -> Answer {
+    unsafe { bench_push(mem.as_mut_ptr(), mem.len(), set.as_ptr(), set.len(), tally) }
 }
 
-pub fn push_tray(mem: &mut [u8], sets: &[u8], number: u32) -> Answer {
-    unsafe { bench_push_tray(mem.as_mut_ptr(), mem.len(), sets.as_ptr(), sets.len(), number) }
+pub fn push_tray(mem: &mut [u8], sets: &[u8], number: u32, tally: &mut Tally) -> Answer {
+    unsafe { bench_push_tray(mem.as_mut_ptr(), mem.len(), sets.as_ptr(), sets.len(), number, tally) }
 }
 
-pub fn fire(mem: &mut [u8], operator: u32) -> Answer {
-    unsafe { bench_fire(mem.as_mut_ptr(), mem.len(), operator) }
+pub fn fire(mem: &mut [u8], operator: u32, tally: &mut Tally) -> Answer {
+    unsafe { bench_fire(mem.as_mut_ptr(), mem.len(), operator, tally) }
 }
 
-pub fn run(mem: &mut [u8], firings: u32) -> Answer {
-    unsafe { bench_run(mem.as_mut_ptr(), mem.len(), firings) }
+pub fn run(mem: &mut [u8], firings: u32, tally: &mut Tally) -> Answer {
+    unsafe { bench_run(mem.as_mut_ptr(), mem.len(), firings, tally) }
 }
 
-pub fn run_rounds(mem: &mut [u8], rounds: u32) -> RoundsAnswer {
-    unsafe { bench_run_rounds(mem.as_mut_ptr(), mem.len(), rounds) }
+pub fn run_rounds(mem: &mut [u8], rounds: u32, tally: &mut Tally) -> RoundsAnswer {
+    unsafe { bench_run_rounds(mem.as_mut_ptr(), mem.len(), rounds, tally) }
 }
 
-pub fn take(mem: &mut [u8], out: &mut [u8]) -> Answer {
-    unsafe { bench_take(mem.as_mut_ptr(), mem.len(), out.as_mut_ptr(), out.len()) }
+pub fn take(mem: &mut [u8], out: &mut [u8], tally: &mut Tally) -> Answer {
+    unsafe { bench_take(mem.as_mut_ptr(), mem.len(), out.as_mut_ptr(), out.len(), tally) }
 }

@@ -1,14 +1,15 @@
 // Demand 3 on random sheets and sets: at every capacity, in any order of pushes, firings, runs of both sorts and takes, the machine
-// gives what direct evaluation gives. And what the papers say of a machine at rest, and of how long a set waits.
+// gives what direct evaluation gives. And what the papers say of a machine at rest, of how often each operator fires, and of how long a set waits.
 
 use compare::bench::{bench, write_set};
 use compare::bytes::{encode_result, encode_set, OUT_BYTES};
 use compare::eval::evaluate;
 use compare::graph::{build, Graph, Kind};
-use compare::machine::{Machine, Ran, RanByRounds};
+use compare::machine::{Machine, RanByRounds};
 use compare::memory::{self, RoundsAnswer};
 use compare::random::{accepted_sheet, fitting_set, heavy_sheet, Made, Rng};
 use compare::sheet::Sheet;
+use compare::tally::Tally;
 use compare::value::{ResultSet, Value};
 
 /// More rounds than most evaluations here need; one that needs more counts as one that does not end.
@@ -127,40 +128,45 @@ fn heavy_sheets_too() {
     assert!(held > 100, "too few results were compared: {held}");
 }
 
-/// At rest with all taken, the firings depend on the sheet and the sets alone.
+/// Document 02, Job 10: "when nothing can fire and every pushed set is taken, each operator has fired a number of times that depends on the sheet and the
+/// sets alone, in every order and at every capacity."
 #[test]
-fn the_firings_in_all_depend_on_the_sheet_and_the_sets_alone() {
+fn each_operator_fires_as_often_in_every_order_and_at_every_capacity() {
     let mut rng = Rng::new(10);
-    let mut compared = 0;
-    for _ in 0..400 {
-        let case = case(false, &mut rng);
+    let (mut compared, mut fired) = (0, 0);
+    for round in 0..800 {
+        let case = case(round % 50 == 0, &mut rng);
         if case.expected.iter().any(Option::is_none) {
             continue;
         }
-        let counts: Vec<u32> = [1, 2, 16].map(|capacity| work_all(&case, capacity)).to_vec();
-        assert!(counts.iter().all(|&count| count == counts[0]));
+        let (one, other) = (round % 16 + 1, rng.between(1, 16));
+        let times = work_all(&case, one, &mut rng);
+        for capacity in [one, other, 1] {
+            assert_eq!(work_all(&case, capacity, &mut rng), times, "{}", String::from_utf8_lossy(&case.made.bytes));
+        }
         compared += 1;
+        fired += times.iter().filter(|&&count| count > case.sets.len() as u64).count();
     }
-    assert!(compared > 200, "too few were compared: {compared}");
+    assert!(compared > 400 && fired > 1_000, "too few were compared: {compared}, and operators in loops: {fired}");
 }
 
-fn work_all(case: &Case, capacity: usize) -> u32 {
+/// Works all sets by calls at random, until each is taken and nothing can fire: how often each operator has fired.
+fn work_all(case: &Case, capacity: usize, rng: &mut Rng) -> Vec<u64> {
     let mut machine = Machine::start(&case.graph, capacity).expect("a capacity in its range");
-    let (mut pushed, mut taken, mut firings) = (0, 0, 0);
-    while taken < case.sets.len() {
-        while pushed < case.sets.len() && machine.push(&case.sets[pushed]).is_ok() {
-            pushed += 1;
+    let operators = case.graph.operators.len();
+    let (mut pushed, mut taken) = (0, 0);
+    // Some orders are mostly of one sort of call.
+    let (likely, percent) = (rng.below(5), rng.pick(&[0, 50, 90]));
+    while taken < case.sets.len() || (0..operators).any(|number| machine.can_fire(number)) {
+        match if rng.chance(percent) { likely } else { rng.below(5) } {
+            0 if pushed < case.sets.len() => pushed += usize::from(machine.push(&case.sets[pushed]).is_ok()),
+            1 => drop(machine.run(rng.below(40) as u32)),
+            2 => drop(machine.run_by_rounds(rng.below(4) as u32)),
+            3 => taken += usize::from(take(case, &mut machine, taken)),
+            _ => drop(machine.fire(rng.below(operators + 1))),
         }
-        let Ran { refusal, count } = machine.run(10_000_000);
-        assert_eq!(refusal, 0);
-        firings += count;
-        let before = taken;
-        while take(case, &mut machine, taken) {
-            taken += 1;
-        }
-        assert!(taken > before, "nothing can fire and no result is ready");
     }
-    firings
+    machine.times().to_vec()
 }
 
 /// The program's output is its first line and a line for each set as evaluation gives it.
@@ -292,24 +298,26 @@ fn rounds_on_bytes_are_those_on_queues() {
 
 fn rounds_on_both(case: &Case, capacity: usize, rng: &mut Rng) -> u64 {
     let mut machine = Machine::start(&case.graph, capacity).expect("a capacity in its range");
-    let mut mem = vec![0; memory::need(capacity)];
-    assert_eq!(memory::start(&case.made.bytes, &case.made.kinds, capacity as u32, &mut mem).refusal, 0);
+    let (mut mem, mut tally) = (vec![0; memory::need(capacity)], Tally::default());
+    assert_eq!(memory::start(&case.made.bytes, &case.made.kinds, capacity as u32, &mut mem, &mut tally).refusal, 0);
     let (mut out, mut all) = ([0; OUT_BYTES], 0);
     for set in &case.sets {
         let pushed = machine.push(set).map_or_else(|refusal| refusal.number, |()| 0);
-        assert_eq!(memory::push(&mut mem, &encode_set(set)).refusal, pushed);
+        assert_eq!(memory::push(&mut mem, &encode_set(set), &mut tally).refusal, pushed);
         let lent = rng.pick(&[0, 1, 2, 5, 40]);
         let RanByRounds { refusal, rounds, firings } = machine.run_by_rounds(lent);
-        assert_eq!(memory::run_rounds(&mut mem, lent), RoundsAnswer { refusal, rounds, firings });
+        assert_eq!(memory::run_rounds(&mut mem, lent, &mut tally), RoundsAnswer { refusal, rounds, firings });
         assert!(if refusal == 36 { rounds == lent } else { rounds <= lent });
         all += firings;
         match machine.take() {
             Ok(result) => {
-                assert_eq!(memory::take(&mut mem, &mut out).count, result.width as u32);
+                assert_eq!(memory::take(&mut mem, &mut out, &mut tally).count, result.width as u32);
                 assert_eq!(out, encode_result(&result)[..]);
             }
-            Err(refusal) => assert_eq!(memory::take(&mut mem, &mut out).refusal, refusal.number),
+            Err(refusal) => assert_eq!(memory::take(&mut mem, &mut out, &mut tally).refusal, refusal.number),
         }
     }
+    // "the firings shown are their sum"
+    assert_eq!(u64::from(tally.firings), machine.times().iter().sum::<u64>());
     all
 }

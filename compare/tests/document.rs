@@ -7,6 +7,7 @@ use compare::graph::build;
 use compare::machine::{Machine, RanByRounds};
 use compare::memory::{self, Answer};
 use compare::sheet::{read, write, Figures, Refusal, Sheet};
+use compare::tally::Tally;
 use compare::value::Float;
 use compare::value::Value::{self, Real, Truth, Whole};
 
@@ -213,17 +214,17 @@ fn a_tray_stops_at_the_first_refused_and_says_how_many_went_in() {
     let wholes: Vec<Value> = (0..20).map(Whole).collect();
     let sets = encode_set(&wholes);
     let tray = |capacity: u32, sets: &[u8], number: u32| {
-        let mut mem = vec![0; memory::need(capacity as usize)];
-        assert_eq!(memory::start(&write(&negations(2)), b"W\n", capacity, &mut mem).refusal, 0);
-        let Answer { refusal, count } = memory::push_tray(&mut mem, sets, number);
-        memory::run(&mut mem, 1000);
+        let (mut mem, mut tally) = (vec![0; memory::need(capacity as usize)], Tally::default());
+        assert_eq!(memory::start(&write(&negations(2)), b"W\n", capacity, &mut mem, &mut tally).refusal, 0);
+        let Answer { refusal, count } = memory::push_tray(&mut mem, sets, number, &mut tally);
+        memory::run(&mut mem, 1000, &mut tally);
         let mut out = [0; OUT_BYTES];
         for negative in wholes.iter().take(count as usize).map(|value| negated(*value)) {
-            assert_eq!(memory::take(&mut mem, &mut out).refusal, 0);
+            assert_eq!(memory::take(&mut mem, &mut out, &mut tally).refusal, 0);
             assert_eq!(out[..VALUE_BYTES], encode_set(&[negative]));
-            memory::run(&mut mem, 1000);
+            memory::run(&mut mem, 1000, &mut tally);
         }
-        assert_eq!(memory::take(&mut mem, &mut out).refusal, 35);
+        assert_eq!(memory::take(&mut mem, &mut out, &mut tally).refusal, 35);
         (refusal, count)
     };
     assert_eq!(tray(16, &sets, 16), (0, 16));
@@ -235,7 +236,7 @@ fn a_tray_stops_at_the_first_refused_and_says_how_many_went_in() {
     assert_eq!(tray(16, &sets[..19], 3), (0, 3));
     assert_eq!(tray(16, &[&sets[..10], &[5; 5], &sets[15..]].concat(), u32::MAX), (12, 2));
     let mut none = vec![];
-    assert_eq!(memory::push_tray(&mut none, &sets, 0).refusal, 11);
+    assert_eq!(memory::push_tray(&mut none, &sets, 0, &mut Tally::default()).refusal, 11);
 }
 
 fn negated(value: Value) -> Value {
@@ -294,6 +295,56 @@ fn an_older_verdict_is_ready_beside_a_looping_set() {
     // after the run something is left to make, and rounds make it
     machine.run_by_rounds(alone);
     assert_eq!(machine.take().expect("a whole result").used(), [Truth(false)]);
+}
+
+/// Document 02, Job 10: "The hatch shows firings, takes and refused pushes."
+#[test]
+fn the_record_shows_firings_takes_and_refused_pushes() {
+    let (mut mem, mut out) = (vec![0; memory::need(1)], [0; OUT_BYTES]);
+    let (sheet, five) = (write(&negations(3)), encode_set(&[Whole(5)]));
+    let shown = |firings, takes, refused| Tally { firings, takes, refused };
+    let mut tally = shown(7, 8, 9);
+    // "It is set to zeros by an accepted start."
+    assert_eq!(memory::start(&sheet, b"W\n", 0, &mut mem, &mut tally).refusal, 14);
+    assert_eq!(tally, shown(7, 8, 9));
+    assert_eq!(memory::start(&sheet, b"W\n", 1, &mut mem, &mut tally).refusal, 0);
+    assert_eq!(tally, shown(0, 0, 0));
+    // "A refused push is counted there", an accepted one is not; a tray stops at its one refused set
+    assert_eq!(memory::push(&mut mem, &five, &mut tally).refusal, 0);
+    assert_eq!(tally, shown(0, 0, 0));
+    assert_eq!(memory::push(&mut mem, &five, &mut tally).refusal, 33);
+    assert_eq!(memory::push(&mut mem, &[], &mut tally).refusal, 12);
+    assert_eq!(memory::push_tray(&mut mem, &five.repeat(3), 3, &mut tally).refusal, 33);
+    assert_eq!(memory::push_tray(&mut mem, &[], 0, &mut tally).refusal, 0);
+    assert_eq!(tally, shown(0, 0, 3));
+    // a run's firings count beside 36 too, and one without any adds none
+    assert_eq!(memory::take(&mut mem, &mut out, &mut tally).refusal, 35);
+    assert_eq!(memory::run(&mut mem, 1, &mut tally).refusal, 36);
+    assert_eq!(tally, shown(1, 0, 3));
+    assert_eq!(memory::fire(&mut mem, 2, &mut tally).refusal, 34);
+    assert_eq!(memory::run_rounds(&mut mem, 9, &mut tally).refusal, 0);
+    assert_eq!(memory::run(&mut mem, 9, &mut tally).refusal, 0);
+    assert_eq!(memory::take(&mut mem, &mut out, &mut tally).refusal, 0);
+    assert_eq!(tally, shown(2, 1, 3));
+    memory::push(&mut mem, &five, &mut tally);
+    let fired = [0, 1, 0, 1].map(|operator| memory::fire(&mut mem, operator, &mut tally).refusal);
+    assert_eq!(fired.iter().filter(|&&refusal| refusal == 0).count(), 2);
+    assert_eq!(tally, shown(4, 1, 3));
+    // "Each number stops at 4,294,967,295."
+    let last = u32::MAX;
+    tally = shown(last - 1, last, last);
+    assert_eq!(memory::take(&mut mem, &mut out, &mut tally).refusal, 0);
+    memory::push(&mut mem, &five, &mut tally);
+    assert_eq!(memory::run(&mut mem, 9, &mut tally).count, 2);
+    assert_eq!(tally, shown(last, last, last));
+    // a tray of none is a push that can be refused
+    mem[7] = 17;
+    tally = shown(1, 2, last - 1);
+    assert_eq!(memory::push_tray(&mut mem, &[], 0, &mut tally).refusal, 31);
+    assert_eq!(memory::push_tray(&mut [], &[], 0, &mut tally).refusal, 11);
+    assert_eq!(memory::run(&mut mem, 9, &mut tally).refusal, 31);
+    assert_eq!(memory::take(&mut mem, &mut out, &mut tally).refusal, 31);
+    assert_eq!(tally, shown(1, 2, last));
 }
 
 /// A body if whose arms are both iters, on a test that is no truth: "each is a copy of that third output".
@@ -671,15 +722,15 @@ fn floats_travel_through_loops() {
 #[test]
 fn bytes_of_floats_that_are_not_finite() {
     let rows = [[1, 0, 0, 0, 0], [10, 500, 0, 0, 0], [4, 1, 2, 0, 0], [5, 1, 3, 0, 0]];
-    let mut mem = vec![0; memory::need(1)];
-    assert_eq!(memory::start(&write(&rows), b"R\n", 1, &mut mem).refusal, 0);
+    let (mut mem, mut tally) = (vec![0; memory::need(1)], Tally::default());
+    assert_eq!(memory::start(&write(&rows), b"R\n", 1, &mut mem, &mut tally).refusal, 0);
     let started = mem.clone();
     let bytes = |pattern: u32| [&[4][..], &pattern.to_le_bytes()].concat();
     for pattern in [GREATEST + 1, GREATEST + 2, MINUS_ZERO - 1, GREATEST + 1 + MINUS_ZERO, u32::MAX] {
-        assert_eq!(memory::push(&mut mem, &bytes(pattern)).refusal, 12);
+        assert_eq!(memory::push(&mut mem, &bytes(pattern), &mut tally).refusal, 12);
         assert_eq!(mem, started);
     }
-    assert_eq!(memory::push(&mut mem, &bytes(ONE)).refusal, 0);
+    assert_eq!(memory::push(&mut mem, &bytes(ONE), &mut tally).refusal, 0);
     // The token on the input link, with every other pattern in its place.
     let link = usize::from(u16::from_le_bytes([mem[10], mem[11]]));
     let token = 21_760 + 6 * link;
@@ -687,7 +738,7 @@ fn bytes_of_floats_that_are_not_finite() {
     let stored = |pattern: u32| {
         let mut copy = mem.clone();
         copy[token + 2..token + 6].copy_from_slice(&pattern.to_le_bytes());
-        memory::run(&mut copy, 100).refusal
+        memory::run(&mut copy, 100, &mut Tally::default()).refusal
     };
     for pattern in [GREATEST + 1, MINUS_ZERO - 1, GREATEST + 1 + MINUS_ZERO, u32::MAX] {
         assert_eq!(stored(pattern), 31);
@@ -703,7 +754,7 @@ fn bytes_of_floats_that_are_not_finite() {
         let mut copy = mem.clone();
         copy[register] = tag;
         copy[register + 1..register + 5].copy_from_slice(&bits.to_le_bytes());
-        memory::run(&mut copy, 100).refusal
+        memory::run(&mut copy, 100, &mut Tally::default()).refusal
     };
     for (tag, bits) in [(1, 0), (1, 999_999), (2, 0), (2, 1), (4, 0), (4, LEAST), (4, 1_148_846_064)] {
         assert_eq!(held(tag, bits), 0, "{tag} {bits}");
@@ -715,5 +766,5 @@ fn bytes_of_floats_that_are_not_finite() {
     // A letter may be R; r is none.
     assert_eq!(mem[106], b'R');
     mem[106] = b'r';
-    assert_eq!(memory::run(&mut mem, 100).refusal, 31);
+    assert_eq!(memory::run(&mut mem, 100, &mut tally).refusal, 31);
 }

@@ -29,6 +29,11 @@ def shape_of(term):
     return re.compile("".join([*parts, re.escape(plain(term[at:]))]))
 
 
+def is_walk(proof):
+    """Says whether a proof file has nothing of what rt prints: a walk by hand, which answers no needs."""
+    return not any(is_machinery(decl) for decl in proof.decls)
+
+
 def differences(answers, proof, text):
     """What of a proof file (`proof`, its text `text`) is not as the answers have it, a line each.
 

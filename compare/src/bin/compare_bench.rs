@@ -9,6 +9,7 @@ use compare::bytes::{decode_set, encode_set};
 use compare::calls::{self, PLAIN};
 use compare::random::folders::{field_folders, random_folder, Folder};
 use compare::sheet::Refusal;
+use compare::tally::Tally;
 use compare::value::Value;
 use compare::{eval, memory, sheet};
 use std::collections::BTreeMap;
@@ -132,7 +133,7 @@ fn before_36(formula: &[u8], kinds: &[u8], sets: &[u8]) -> Result<Vec<u8>, Strin
     let sets = read_sets(sets, &sheet.sorts).map_err(|_| "a refused set")?;
     let mut mem = vec![0; memory::need(CAPACITY)];
     let product = calls::product().expect("the product is linked");
-    (product.start)(formula, kinds, CAPACITY as u32, &mut mem);
+    (product.start)(formula, kinds, CAPACITY as u32, &mut mem, &mut Tally::default());
     let encoded: Vec<Vec<u8>> = sets.iter().map(|set| encode_set(set)).collect();
     let mut results: Vec<Vec<Value>> = Vec::new();
     let ran = PLAIN

@@ -1,5 +1,6 @@
 // Runs random lists of calls through the product's machine and through the plain one here, on the same bytes, and stops at the first difference, which it
-// prints. After every call the answers and every byte must agree; bytes past the lent ones must be as they were. A tray must answer and leave what the
+// prints. After every call the answers, every byte and the records of firings, takes and refused pushes must agree; bytes past the lent ones and words around a
+// record must be as they were. A record must show what its calls did since it was set (document 02, Job 10). A tray must answer and leave what the
 // product's pushes one by one do. Where nothing but calls wrote the memory, each result taken must also be what direct evaluation gives for the set
 // pushed (demand 3), and the oldest untaken set waits no more rounds than the firings that it is owed (document 02, Job 7).
 // Usage: compare_machine CASES SEED [FIRST]. `compare_machine 1 SEED NUMBER` makes a case again.
@@ -12,6 +13,7 @@ use compare::random::{
     accepted_sheet, heavy_sheet, random_err, random_float_bytes, random_pattern, random_set, random_value, Made, Rng,
 };
 use compare::sheet::{self, Sheet};
+use compare::tally::Tally;
 use compare::value::Sort;
 use compare::{eval, product};
 use std::collections::{BTreeMap, VecDeque};
@@ -30,8 +32,14 @@ const MANY_ROUNDS: u32 = 300;
 /// How many calls in a hundred are followed by a look at how long the oldest untaken set waits.
 const WAITS: usize = 10;
 
+/// Before how many calls in a hundred the record is set to other numbers.
+const OTHER_RECORDS: usize = 8;
+
 /// Bytes behind the lent ones.
 const MARGIN: usize = 32;
+
+/// The words around a record.
+const GUARD: [u32; 4] = [0x5a5a_5a5a; 4];
 
 /// How many bytes a memory has before its links.
 const FIGURES: usize = 8;
@@ -82,12 +90,64 @@ struct Run<'a> {
     in_turn: InTurn,
     taken: usize,
     altered: bool,
+    tally: Tally,
+    done: Done,
     counts: &'a mut Counts,
+}
+
+/// What a record must show: the numbers that it was set to, and all that was done since, firing by firing.
+struct Done {
+    firings: u64,
+    takes: u64,
+    refused: u64,
+}
+
+impl Done {
+    fn since(tally: Tally) -> Done {
+        Done { firings: tally.firings.into(), takes: tally.takes.into(), refused: tally.refused.into() }
+    }
+
+    /// "Each number stops at 4,294,967,295."
+    fn shown(&self) -> Tally {
+        let [firings, takes, refused] =
+            [self.firings, self.takes, self.refused].map(|number| number.min(u32::MAX.into()) as u32);
+        Tally { firings, takes, refused }
+    }
+
+    fn passes_an_end(&self) -> bool {
+        [self.firings, self.takes, self.refused].iter().any(|&number| number > u32::MAX.into())
+    }
+}
+
+/// A record between words that no call may touch.
+#[repr(C)]
+#[derive(Clone, Copy, PartialEq, Debug)]
+struct Record {
+    before: [u32; 4],
+    tally: Tally,
+    behind: [u32; 4],
+}
+
+impl Record {
+    fn of(tally: Tally) -> Record {
+        Record { before: GUARD, tally, behind: GUARD }
+    }
+}
+
+/// A record with any numbers, many of them about the end.
+fn random_record(rng: &mut Rng) -> Tally {
+    let mut number = || match rng.below(4) {
+        0 => rng.below(3) as u32,
+        1 => rng.number() as u32,
+        _ => u32::MAX - rng.pick(&[0, 1, 2, 5, 40, 1000]),
+    };
+    Tally { firings: number(), takes: number(), refused: number() }
 }
 
 /// The second machine: its memory, how often each operator has fired, and the sets worked; none where one of them does not end.
 struct InTurn {
     mem: Vec<u8>,
+    tally: Tally,
     times: Vec<u64>,
     worked: Option<usize>,
 }
@@ -96,9 +156,10 @@ impl InTurn {
     /// Works the next set whole.
     fn work(&mut self, set: &[u8]) {
         let Some(worked) = self.worked else { return };
-        let pushed = memory::push(&mut self.mem, set);
-        let ran = memory::run_telling(&mut self.mem, FIRINGS, |operator| self.times[operator] += 1);
-        let taken = memory::take(&mut self.mem, &mut [0; OUT_BYTES]);
+        let tally = &mut self.tally;
+        let pushed = memory::push(&mut self.mem, set, tally);
+        let ran = memory::run_telling(&mut self.mem, FIRINGS, tally, |operator| self.times[operator] += 1);
+        let taken = memory::take(&mut self.mem, &mut [0; OUT_BYTES], tally);
         let whole = (pushed.refusal, ran.refusal, taken.refusal) == (0, 0, 0);
         self.worked = whole.then_some(worked + 1);
     }
@@ -124,18 +185,23 @@ impl From<RoundsAnswer> for Told {
     }
 }
 
-/// What a call is lent on one side: so many bytes of a memory, and room for a result.
+/// What a call is lent on one side: so many bytes of a memory, room for a result, and a record.
 #[derive(PartialEq)]
 struct Side {
     mem: Vec<u8>,
     lent: usize,
     out: Vec<u8>,
     room: usize,
+    record: Record,
 }
 
 impl Side {
-    fn memory(&mut self) -> &mut [u8] {
-        &mut self.mem[..self.lent]
+    fn memory(&mut self) -> (&mut [u8], &mut Tally) {
+        (&mut self.mem[..self.lent], &mut self.record.tally)
+    }
+
+    fn memory_and_room(&mut self) -> (&mut [u8], &mut [u8], &mut Tally) {
+        (&mut self.mem[..self.lent], &mut self.out[..self.room], &mut self.record.tally)
     }
 }
 
@@ -154,11 +220,16 @@ fn compare_case(number: u64, made: &Made, counts: &mut Counts, rng: &mut Rng) ->
     let fill = rng.number() as u8;
     let held: Vec<u8> = (0..length + MARGIN).map(|at| (at as u8).wrapping_mul(31).wrapping_add(fill)).collect();
     let (mut plain, mut mem) = (held.clone(), held.clone());
-    let ours = memory::start(&made.bytes, &made.kinds, capacity, &mut plain[..length]);
-    let theirs = product::start(&made.bytes, &made.kinds, capacity, &mut mem[..length]);
+    let mut record = Record::of(random_record(rng));
+    let mut shown = record;
+    let ours = memory::start(&made.bytes, &made.kinds, capacity, &mut plain[..length], &mut record.tally);
+    let theirs = product::start(&made.bytes, &made.kinds, capacity, &mut mem[..length], &mut shown.tally);
     *counts.entry(format!("start with {:2}", ours.refusal)).or_default() += 1;
     if ours != theirs || mem[length..] != held[length..] || (theirs.refusal != 0 && mem != held) {
         return Err(format!("start at capacity {capacity} gives here {ours:?}, the product answers {theirs:?}"));
+    }
+    if shown != record {
+        return Err(format!("start with {}: the record is here {record:?}, the product's {shown:?}", ours.refusal));
     }
     if ours.refusal != 0 {
         return Ok(());
@@ -170,14 +241,19 @@ fn compare_case(number: u64, made: &Made, counts: &mut Counts, rng: &mut Rng) ->
     // The product's own graph, and now and then the one made here: the calls must do with both.
     let mem = if number % 4 == 3 { plain } else { mem };
     let times = vec![0; sheet.figures.operators as usize];
-    let in_turn = InTurn { mem: mem[..length].to_vec(), times: times.clone(), worked: Some(0) };
-    let (pushed, altered) = (VecDeque::new(), false);
-    let mut run = Run { sheet: &sheet, mem, pushed, times, in_turn, taken: 0, altered, counts };
+    let tally = shown.tally;
+    let in_turn = InTurn { mem: mem[..length].to_vec(), tally, times: times.clone(), worked: Some(0) };
+    let (pushed, altered, done) = (VecDeque::new(), false, Done::since(tally));
+    let mut run = Run { sheet: &sheet, mem, pushed, times, in_turn, taken: 0, altered, tally, done, counts };
     let alters = rng.chance(40);
     for _ in 0..rng.between(10, 80) {
         if alters && rng.chance(15) {
             alter(&mut run.mem, length, rng);
             run.altered = true;
+        }
+        if rng.chance(OTHER_RECORDS) {
+            run.tally = random_record(rng);
+            run.done = Done::since(run.tally);
         }
         run.call(length, rng)?;
         if rng.chance(WAITS) && !run.altered {
@@ -196,7 +272,8 @@ impl Run<'_> {
     fn call(&mut self, length: usize, rng: &mut Rng) -> Result<(), String> {
         let lent = if rng.chance(97) { length } else { rng.pick(&[0, 1, 8, length - 1 - length / 3, length - 3]) };
         let room = if rng.chance(97) { OUT_BYTES + rng.below(3) } else { rng.pick(&[0, 79]) };
-        let side = || Side { mem: self.mem.clone(), lent, out: vec![0x55; 90], room };
+        let record = Record::of(self.tally);
+        let side = || Side { mem: self.mem.clone(), lent, out: vec![0x55; 90], room, record };
         let (mut plain, mut product) = (side(), side());
         let Called { name, ours, theirs, sets } = match rng.below(12) {
             0..=4 => self.push_both(&mut plain, &mut product, rng)?,
@@ -204,7 +281,8 @@ impl Run<'_> {
         };
         *self.counts.entry(format!("{name} with {:2}", ours.refusal)).or_default() += 1;
         if ours != theirs || product != plain {
-            return Err(format!("{name}: {}", difference(ours, theirs, &plain.mem, &product.mem)));
+            let records = format!("records {:?} and {:?}", plain.record, product.record);
+            return Err(format!("{name}: {}; {records}", difference(ours, theirs, &plain.mem, &product.mem)));
         }
         let keeps = (ours.refusal == 36 || name == "tray") && ours.count > 0;
         if ours.refusal != 0 && !keeps && (product.mem != self.mem || product.out != [0x55; 90]) {
@@ -214,48 +292,73 @@ impl Run<'_> {
             return Err(format!("{name} gives 31 for memory that only calls wrote"));
         }
         self.mem = product.mem;
+        self.tally = product.record.tally;
+        self.count_call(name, ours)?;
         self.follow(name, ours, sets, &product.out)
+    }
+
+    /// Document 02, Job 10: where nothing else touched the record, "the firings shown are their sum, and the other two count the accepted takes and refused
+    /// pushes since". Firings were counted as they were made.
+    fn count_call(&mut self, name: &str, answer: Told) -> Result<(), String> {
+        match (name, answer.refusal) {
+            ("take", 0) => self.done.takes += 1,
+            ("push" | "tray", 1..) => self.done.refused += 1,
+            _ => {}
+        }
+        if self.done.passes_an_end() {
+            *self.counts.entry("records past an end".into()).or_default() += 1;
+        }
+        match self.done.shown() == self.tally {
+            true => Ok(()),
+            false => Err(format!("{name}, {answer:?}: the record is {:?}, not {:?}", self.tally, self.done.shown())),
+        }
     }
 
     /// A push or a tray.
     fn push_both(&mut self, plain: &mut Side, product: &mut Side, rng: &mut Rng) -> Result<Called, String> {
         if rng.chance(60) {
             let set = self.random_set(rng);
-            let (ours, theirs) = (memory::push(plain.memory(), &set), product::push(product.memory(), &set));
+            let (mem, tally) = plain.memory();
+            let ours = memory::push(mem, &set, tally);
+            let (mem, tally) = product.memory();
+            let theirs = product::push(mem, &set, tally);
             return Ok(Called { name: "push", ours: ours.into(), theirs: theirs.into(), sets: vec![set] });
         }
         let (bytes, number) = self.random_tray(rng);
-        let ours = memory::push_tray(plain.memory(), &bytes, number);
-        let theirs = product::push_tray(product.memory(), &bytes, number);
+        let (mem, tally) = plain.memory();
+        let ours = memory::push_tray(mem, &bytes, number, tally);
+        let (mem, tally) = product.memory();
+        let theirs = product::push_tray(mem, &bytes, number, tally);
         let sets = self.one_by_one(&bytes, number, theirs, product)?;
         Ok(Called { name: "tray", ours: ours.into(), theirs: theirs.into(), sets })
     }
 
     /// A fire, a run of either sort or a take.
     fn drive_both(&mut self, plain: &mut Side, product: &mut Side, rng: &mut Rng) -> Called {
+        let (mem, out, tally) = plain.memory_and_room();
+        let (their_mem, their_out, their_tally) = product.memory_and_room();
         let (name, ours, theirs): (_, Told, Told) = match rng.below(9) {
             0 | 1 => {
                 let number = self.random_operator(rng);
-                let ours = memory::fire(plain.memory(), number);
+                let ours = memory::fire(mem, number, tally);
                 if ours.refusal == 0 {
                     self.count_firing(number as usize);
                 }
-                ("fire", ours.into(), product::fire(product.memory(), number).into())
+                ("fire", ours.into(), product::fire(their_mem, number, their_tally).into())
             }
             2 | 3 => {
                 let firings = rng.pick(&[0, 1, 2, 7, 50, 1000, 20_000]);
-                let ours = memory::run_telling(plain.memory(), firings, |operator| self.count_firing(operator));
-                ("run", ours.into(), product::run(product.memory(), firings).into())
+                let ours = memory::run_telling(mem, firings, tally, |operator| self.count_firing(operator));
+                ("run", ours.into(), product::run(their_mem, firings, their_tally).into())
             }
             4 | 5 => {
-                let rounds = random_rounds(&plain.mem[..plain.lent], rng);
-                let ours = memory::run_rounds_telling(plain.memory(), rounds, |operator| self.count_firing(operator));
-                ("rounds", ours.into(), product::run_rounds(product.memory(), rounds).into())
+                let rounds = random_rounds(mem, rng);
+                let ours = memory::run_rounds_telling(mem, rounds, tally, |operator| self.count_firing(operator));
+                ("rounds", ours.into(), product::run_rounds(their_mem, rounds, their_tally).into())
             }
             _ => {
-                let ours = memory::take(&mut plain.mem[..plain.lent], &mut plain.out[..plain.room]);
-                let theirs = product::take(&mut product.mem[..product.lent], &mut product.out[..product.room]);
-                ("take", ours.into(), theirs.into())
+                let theirs = product::take(their_mem, their_out, their_tally);
+                ("take", memory::take(mem, out, tally).into(), theirs.into())
             }
         };
         Called { name, ours, theirs, sets: vec![] }
@@ -279,8 +382,9 @@ impl Run<'_> {
         }
     }
 
-    /// Altered memory may have other operators; how often they fire nobody asks.
+    /// Altered memory may have other operators; how often each of them fires nobody asks.
     fn count_firing(&mut self, operator: usize) {
+        self.done.firings += 1;
         if let Some(times) = self.times.get_mut(operator) {
             *times += 1;
         }
@@ -295,11 +399,11 @@ impl Run<'_> {
         if self.in_turn.worked.is_none() || self.pushed.is_empty() || owed > MOST_WAIT {
             return Ok(());
         }
-        let mut mem = self.mem[..length].to_vec();
-        let ran = product::run_rounds(&mut mem, owed as u32);
+        let (mut mem, mut tally) = (self.mem[..length].to_vec(), Tally::default());
+        let ran = product::run_rounds(&mut mem, owed as u32, &mut tally);
         let count = if ran.refusal == 36 { "waits with more to do" } else { "waits" };
         *self.counts.entry(count.into()).or_default() += 1;
-        match product::take(&mut mem, &mut [0; OUT_BYTES]).refusal {
+        match product::take(&mut mem, &mut [0; OUT_BYTES], &mut tally).refusal {
             0 => Ok(()),
             refusal => Err(format!(
                 "after the {owed} rounds that the oldest untaken set is owed, {ran:?}, take gives {refusal}"
@@ -333,14 +437,15 @@ impl Run<'_> {
 
     /// The product's tray answered and left what its pushes of the same sets one by one do, up to the first refused. Gives the sets that went in.
     fn one_by_one(&mut self, sets: &[u8], number: u32, tray: Answer, left: &Side) -> Result<Vec<Vec<u8>>, String> {
-        let (mut mem, lent) = (self.mem.clone(), left.lent);
+        let (mut mem, lent, mut tally) = (self.mem.clone(), left.lent, Tally::default());
         // A firing of no operator gives 11, 31 or 34, and leaves all.
-        let mut refusal = Some(product::fire(&mut mem[..lent], u32::MAX).refusal).filter(|&refusal| refusal != 34);
+        let fired = product::fire(&mut mem[..lent], u32::MAX, &mut tally);
+        let mut refusal = Some(fired.refusal).filter(|&refusal| refusal != 34);
         let mut went_in = vec![];
         let mut rest = sets;
         while refusal.is_none() && went_in.len() < number as usize {
             let (set, behind) = rest.split_at(rest.len().min(VALUE_BYTES * usize::from(mem[INPUTS_AT])));
-            match product::push(&mut mem[..lent], set).refusal {
+            match product::push(&mut mem[..lent], set, &mut tally).refusal {
                 0 => went_in.push(set.to_vec()),
                 given => refusal = Some(given),
             }
@@ -409,7 +514,7 @@ fn difference(ours: Told, theirs: Told, plain: &[u8], mem: &[u8]) -> String {
 /// The greatest number only where far fewer rounds end it.
 fn random_rounds(mem: &[u8], rng: &mut Rng) -> u32 {
     let rounds = rng.pick(&[0, 1, 2, 3, 7, 50, MANY_ROUNDS, u32::MAX]);
-    let ends = || memory::run_rounds(&mut mem.to_vec(), MANY_ROUNDS).refusal != 36;
+    let ends = || memory::run_rounds(&mut mem.to_vec(), MANY_ROUNDS, &mut Tally::default()).refusal != 36;
     if rounds < u32::MAX || ends() {
         rounds
     } else {

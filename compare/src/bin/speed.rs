@@ -8,6 +8,7 @@ use compare::examples::{factorial, lesser, many_operators, negations, range};
 use compare::memory;
 use compare::random::{fitting_set, Made, Rng};
 use compare::table::{grouped, head, row, speed};
+use compare::tally::Tally;
 use compare::timing::{in_turns, side_by_side, Call, BATCHES};
 use compare::value::Value;
 use std::hint::black_box;
@@ -58,8 +59,8 @@ fn report(name: &str, steps: u32, ours: &mut dyn FnMut() -> u32, product: &mut O
 /// another set; the whole way of one set.
 fn machine(name: &str, made: &Made, set: &[u8]) {
     let start = calls::product().unwrap_or(PLAIN).start;
-    let mut fresh = vec![0; memory::need(2)];
-    if start(&made.bytes, &made.kinds, 2, &mut fresh).refusal != 0 {
+    let (mut fresh, mut tally) = (vec![0; memory::need(2)], Tally::default());
+    if start(&made.bytes, &made.kinds, 2, &mut fresh, &mut tally).refusal != 0 {
         return;
     }
     report(
@@ -70,8 +71,8 @@ fn machine(name: &str, made: &Made, set: &[u8]) {
     );
 
     let mut loaded = fresh.clone();
-    while memory::push(&mut loaded, set).refusal == 0 {}
-    let firings = memory::run(&mut loaded.clone(), FIRINGS).count;
+    while memory::push(&mut loaded, set, &mut tally).refusal == 0 {}
+    let firings = memory::run(&mut loaded.clone(), FIRINGS, &mut tally).count;
     let mut product = calls::product().map(|calls| running(calls, &loaded));
     report(
         &format!("run, a firing: {name} ({} firings)", grouped(firings.into())),
@@ -80,14 +81,14 @@ fn machine(name: &str, made: &Made, set: &[u8]) {
         &mut product,
     );
 
-    let ran = memory::run_rounds(&mut loaded.clone(), ROUNDS);
+    let ran = memory::run_rounds(&mut loaded.clone(), ROUNDS, &mut tally);
     let mut product = calls::product().map(|calls| running_by_rounds(calls, &loaded));
     let made = format!("{} rounds, {} firings", grouped(ran.rounds.into()), grouped(ran.firings as f64));
     report(&format!("run, a round: {name} ({made})"), ran.rounds, &mut running_by_rounds(PLAIN, &loaded), &mut product);
 
     let mut done = fresh.clone();
-    memory::push(&mut done, set);
-    memory::run(&mut done, FIRINGS);
+    memory::push(&mut done, set, &mut tally);
+    memory::run(&mut done, FIRINGS, &mut tally);
     let mut product = calls::product().map(|calls| taking(calls, &done, set));
     report(&format!("take and push: {name}"), 1, &mut taking(PLAIN, &done, set), &mut product);
 
@@ -104,16 +105,19 @@ const ROUNDS: u32 = 1_000_000;
 fn tray(name: &str, made: &Made, set: &[u8]) {
     let calls = calls::product().unwrap_or(PLAIN);
     let mut fresh = vec![0; memory::need(16)];
-    if (calls.start)(&made.bytes, &made.kinds, 16, &mut fresh).refusal != 0 {
+    if (calls.start)(&made.bytes, &made.kinds, 16, &mut fresh, &mut Tally::default()).refusal != 0 {
         return;
     }
     let sets = set.repeat(SETS as usize);
     let (mut plain, mut pushes, mut tray) = (fresh.clone(), fresh.clone(), fresh);
+    let [mut plain_tally, mut pushes_tally, mut tray_tally] = [Tally::default(); 3];
     let times = in_turns(
         &mut [
-            &mut || emptied(&mut plain, |mem| memory::push_tray(mem, &sets, SETS).count),
-            &mut || emptied(&mut pushes, |mem| (0..SETS).map(|_| (calls.push)(mem, set).refusal).sum()),
-            &mut || emptied(&mut tray, |mem| (calls.push_tray)(mem, &sets, SETS).count),
+            &mut || emptied(&mut plain, |mem| memory::push_tray(mem, &sets, SETS, &mut plain_tally).count),
+            &mut || {
+                emptied(&mut pushes, |mem| (0..SETS).map(|_| (calls.push)(mem, set, &mut pushes_tally).refusal).sum())
+            },
+            &mut || emptied(&mut tray, |mem| (calls.push_tray)(mem, &sets, SETS, &mut tray_tally).count),
         ],
         BATCHES,
         Duration::ZERO,
@@ -137,42 +141,43 @@ fn emptied(mem: &mut [u8], call: impl FnOnce(&mut [u8]) -> u32) -> u32 {
 }
 
 fn starting(calls: Calls, made: &Made) -> Call<'_> {
-    let mut mem = vec![0; memory::need(2)];
-    Box::new(move || (calls.start)(black_box(&made.bytes), &made.kinds, 2, &mut mem).refusal)
+    let (mut mem, mut tally) = (vec![0; memory::need(2)], Tally::default());
+    Box::new(move || (calls.start)(black_box(&made.bytes), &made.kinds, 2, &mut mem, &mut tally).refusal)
 }
 
 fn running(calls: Calls, loaded: &[u8]) -> Call<'_> {
-    let mut mem = loaded.to_vec();
+    let (mut mem, mut tally) = (loaded.to_vec(), Tally::default());
     Box::new(move || {
         restore(&mut mem, loaded);
-        (calls.run)(&mut mem, FIRINGS).count
+        (calls.run)(&mut mem, FIRINGS, &mut tally).count
     })
 }
 
 fn running_by_rounds(calls: Calls, loaded: &[u8]) -> Call<'_> {
-    let mut mem = loaded.to_vec();
+    let (mut mem, mut tally) = (loaded.to_vec(), Tally::default());
     Box::new(move || {
         restore(&mut mem, loaded);
-        (calls.run_rounds)(&mut mem, ROUNDS).rounds
+        (calls.run_rounds)(&mut mem, ROUNDS, &mut tally).rounds
     })
 }
 
 fn taking<'a>(calls: Calls, done: &'a [u8], set: &'a [u8]) -> Call<'a> {
-    let mut mem = done.to_vec();
+    let (mut mem, mut tally) = (done.to_vec(), Tally::default());
     let mut out = [0; OUT_BYTES];
     Box::new(move || {
         restore(&mut mem, done);
-        (calls.take)(&mut mem, &mut out).count + (calls.push)(&mut mem, set).refusal
+        (calls.take)(&mut mem, &mut out, &mut tally).count + (calls.push)(&mut mem, set, &mut tally).refusal
     })
 }
 
 /// A machine from which the one set is taken is ready for the next.
 fn whole_way<'a>(calls: Calls, fresh: &[u8], set: &'a [u8]) -> Call<'a> {
-    let mut mem = fresh.to_vec();
+    let (mut mem, mut tally) = (fresh.to_vec(), Tally::default());
     let mut out = [0; OUT_BYTES];
     Box::new(move || {
-        let pushed = (calls.push)(&mut mem, set).refusal;
-        pushed + (calls.run)(&mut mem, FIRINGS).refusal + (calls.take)(&mut mem, &mut out).refusal
+        let pushed = (calls.push)(&mut mem, set, &mut tally).refusal;
+        let ran = (calls.run)(&mut mem, FIRINGS, &mut tally).refusal;
+        pushed + ran + (calls.take)(&mut mem, &mut out, &mut tally).refusal
     })
 }
 

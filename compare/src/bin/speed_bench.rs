@@ -8,6 +8,7 @@ use compare::calls::{self, Calls, PLAIN};
 use compare::graph::{self, Graph};
 use compare::machine::Machine;
 use compare::table::{grouped, head, row, speed};
+use compare::tally::Tally;
 use compare::timing::{in_turns, Call};
 use compare::value::Value;
 use compare::{memory, product, sheet};
@@ -82,7 +83,7 @@ fn look(result: &[u8]) {
 /// The loop over a machine that was started before.
 fn session<'a>(calls: Calls, example: &Example, capacity: u32, sets: &'a [Vec<u8>]) -> Call<'a> {
     let mut mem = vec![0; memory::need(capacity as usize)];
-    (calls.start)(&example.formula, &example.kinds, capacity, &mut mem);
+    (calls.start)(&example.formula, &example.kinds, capacity, &mut mem, &mut Tally::default());
     Box::new(move || calls.session(&mut mem, sets, u32::MAX, &mut look).count)
 }
 
@@ -90,7 +91,7 @@ fn session<'a>(calls: Calls, example: &Example, capacity: u32, sets: &'a [Vec<u8
 fn started_session<'a>(calls: Calls, example: &'a Example, sets: &'a [Vec<u8>]) -> Call<'a> {
     let mut mem = vec![0; memory::need(2)];
     Box::new(move || {
-        (calls.start)(&example.formula, &example.kinds, 2, &mut mem);
+        (calls.start)(&example.formula, &example.kinds, 2, &mut mem, &mut Tally::default());
         calls.session(&mut mem, sets, u32::MAX, &mut look).count
     })
 }

@@ -4,6 +4,7 @@
 use compare::bytes::{self, OUT_BYTES};
 use compare::random::{Made, Rng};
 use compare::sheet::write;
+use compare::tally::Tally;
 use compare::value::Value;
 use compare::{examples, memory, product};
 use std::hint::black_box;
@@ -46,27 +47,27 @@ fn measure(made: &Made, value: Value) -> [usize; CALLS.len()] {
     let inputs = bytes::read(sheet, kinds).inputs as usize;
     let set = bytes::encode_set(&vec![value; inputs]);
     let mut out = [0; OUT_BYTES];
-    let mut mem = vec![0; memory::need(1)];
+    let (mut mem, mut tally) = (vec![0; memory::need(1)], Tally::default());
     let read = below(|| product::read(sheet, kinds).refusal);
     let evaluate = below(|| product::evaluate(sheet, kinds, &set, ROUNDS, &mut out).refusal);
-    let start = below(|| product::start(sheet, kinds, 1, &mut mem).refusal);
+    let start = below(|| product::start(sheet, kinds, 1, &mut mem, &mut tally).refusal);
     let mut copy = mem.clone();
-    let tray = below(|| product::push_tray(&mut copy, &set, 1).refusal);
-    let push = below(|| product::push(&mut mem, &set).refusal);
-    let fire = deepest_fire(&mem, product::start(sheet, kinds, 1, &mut mem.clone()).operators);
+    let tray = below(|| product::push_tray(&mut copy, &set, 1, &mut tally).refusal);
+    let push = below(|| product::push(&mut mem, &set, &mut tally).refusal);
+    let fire = deepest_fire(&mem, bytes::read(sheet, kinds).operators);
     let mut copy = mem.clone();
-    let rounds = below(|| product::run_rounds(&mut copy, FIRINGS).refusal);
-    let run = below(|| product::run(&mut mem, FIRINGS).refusal);
-    let take = below(|| product::take(&mut mem, &mut out).refusal);
+    let rounds = below(|| product::run_rounds(&mut copy, FIRINGS, &mut tally).refusal);
+    let run = below(|| product::run(&mut mem, FIRINGS, &mut tally).refusal);
+    let take = below(|| product::take(&mut mem, &mut out, &mut tally).refusal);
     [read, evaluate, start, push, tray, fire, run, rounds, take]
 }
 
 /// The most that firing any one operator takes, able or not.
 fn deepest_fire(mem: &[u8], operators: u32) -> usize {
     let fire = |operator| {
-        let mut copy = mem.to_vec();
+        let (mut copy, mut tally) = (mem.to_vec(), Tally::default());
         below(|| {
-            product::fire(&mut copy, operator);
+            product::fire(&mut copy, operator, &mut tally);
             0
         })
     };

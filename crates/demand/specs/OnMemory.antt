@@ -67,6 +67,35 @@ result-at f [] d k l = absurd (omega arith)
 result-at f (t ∷ tss) d zero l = refl
 result-at f (t ∷ tss) d (suc k) l = result-at f tss d k (omega arith)
 
+-- ---- when each operator would get 34
+
+-- Then none can fire on the links with which the machine stands.
+module _ (x : Exp) (kinds : List ℕ) (capacity : ℕ) (low : 1 ≤ capacity) (high : capacity ≤ 16) (A : CallsAgree x kinds capacity)
+    (memory : List ℕ) (q : Links) (H : Stands (madeOf x) kinds capacity memory q)
+    (still : (i : ℕ) → i < operatorsOf memory → answerOf (fire (length memory) i) memory .refusal ≡ numberOf NotAble) where
+  able-fires : (i : ℕ) → i < length (madeOf x .operators) → ableAt memory (sizeOf capacity) i ≡ true → answerOf (fire (length memory) i) memory ≡ answers 0 0
+  unfolding answerOf
+  able-fires i l a =
+      let s = stands-size (madeOf x) (A .sound) kinds capacity low high memory q H in
+      ap (λ (m : List ℕ). fired m i .answer) (take-length memory)
+      ∙ ap (λ o. o .answer)
+      (fired-accepted memory (A .good memory q H) i (lt-ltb i (operatorsOf memory) (omega (arith, H .operators-are)))
+      (ap (λ (z : ℕ). ableAt memory z i) s ∙ a))
+
+  cannot-fire : (i : ℕ) → Able (places capacity) (operatorAt x i) q → ⊥
+  cannot-fire i a = go (decLt i (length (madeOf x .operators)))
+    where
+      go : Dec (i < length (madeOf x .operators)) → ⊥
+      go (yes l) =
+          let z : numberOf NotAble ≡ 0
+          = sym (still i (omega (arith, H .operators-are))) ∙ ap (λ (r : Answer). r .refusal) (able-fires i l (A .able-bytes memory q H i l a)) in
+          absurd (omega arith)
+      go (no n) = subst (λ d. Able (places capacity) d q) (net-past (madeOf x .operators) i (omega arith)) a
+
+  pub still-links : (i : ℕ) → stepsOf x capacity (fires i) q ≡ []
+  unfolding stepsOf
+  still-links i = cannot-refused (firing i) (decAble (places capacity) (operatorAt x i) q) (cannot-fire i)
+
 module _ (sheet line : List ℕ) (ok : Admissible sheet) (told : Kinded sheet line) (capacity : ℕ) (low : 1 ≤ capacity) (high : capacity ≤ 16)
     (A : CallsAgree (formulaOf sheet) (lettersOf (formulaOf sheet) line) capacity)
     (start : List ℕ) (H : Stands (madeOf (formulaOf sheet)) (lettersOf (formulaOf sheet) line) capacity start (startOf (formulaOf sheet))) (calls : List Call) where
@@ -127,28 +156,8 @@ module _ (sheet line : List ℕ) (ok : Admissible sheet) (told : Kinded sheet li
   -- ---- when nothing can fire
 
   module _ (still : (i : ℕ) → i < operatorsOf memory → answerOf (fire (length memory) i) memory .refusal ≡ numberOf NotAble) where
-    able-fires : (i : ℕ) → i < length (madeOf x .operators) → ableAt memory (sizeOf capacity) i ≡ true → answerOf (fire (length memory) i) memory ≡ answers 0 0
-    unfolding answerOf
-    able-fires i l a =
-        let s = stands-size (madeOf x) (A .sound) kinds capacity low high memory links (F .stands) in
-        ap (λ (m : List ℕ). fired m i .answer) (take-length memory)
-        ∙ ap (λ o. o .answer)
-        (fired-accepted memory (A .good memory links (F .stands)) i (lt-ltb i (operatorsOf memory) (omega (arith, F .stands .operators-are)))
-        (ap (λ (z : ℕ). ableAt memory z i) s ∙ a))
-
-    cannot-fire : (i : ℕ) → Able (places capacity) (operatorAt x i) links → ⊥
-    cannot-fire i a = go (decLt i (length (madeOf x .operators)))
-      where
-        go : Dec (i < length (madeOf x .operators)) → ⊥
-        go (yes l) =
-            let z : numberOf NotAble ≡ 0
-            = sym (still i (omega (arith, F .stands .operators-are))) ∙ ap (λ (r : Answer). r .refusal) (able-fires i l (A .able-bytes memory links (F .stands) i l a)) in
-            absurd (omega arith)
-        go (no n) = subst (λ d. Able (places capacity) d links) (net-past (madeOf x .operators) i (omega arith)) a
-
     pub no-step : (i : ℕ) → stepsOf x capacity (fires i) links ≡ []
-    unfolding stepsOf
-    no-step i = cannot-refused (firing i) (decAble (places capacity) (operatorAt x i) links) (cannot-fire i)
+    no-step = still-links x kinds capacity low high A memory links (F .stands) still
 
     -- Direct evaluation of the oldest untaken set ends, and so does that of every set before it.
     pub ends-when-still : (j : ℕ) → j ≤ length (resultsTaken calls start) → j < length (setsPushed calls start) → Ends sheet line (getD (setsPushed calls start) j [])

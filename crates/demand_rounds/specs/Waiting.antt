@@ -54,7 +54,7 @@ use Rattle.demand_rounds.specs.WorkInTurn.{take-granted, work-to-links, 
 
 -- ---- firings counted on links and in lists of operators
 
-times-count : (i : ℕ) (w : List Step) → times i w ≡ count i (operators-of w)
+pub times-count : (i : ℕ) (w : List Step) → times i w ≡ count i (operators-of w)
 times-count i [] = refl
 times-count i (pushing v ∷ w) = times-count i w
 times-count i (firing a ∷ w) = ap (λ (z : ℕ). ite (ℕ-discrete i a) (suc z) z) (times-count i w)

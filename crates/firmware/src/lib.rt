@@ -1,10 +1,14 @@
 // Every call of the firmware and of formula editors in one archive, over byte slices and numbers (document 01, "calls push, run and take with
 // numbers and byte memory"). No call asks anything of its caller; each contract is an equation on the answer and on every lent byte.
+// A call on a machine is also lent the record of firings, takes and refused pushes (document 02, Job 10: "one small record, which the
+// firmware lends and which each call updates in place"): it reads the record, makes the call of machine_tally that takes it by value and
+// writes it back. Its contract has a second equation, on the record.
 // include/bench.h says the same in C.
 use eval_sheet::EvaluateAnswer;
 use machine_calls::Answer;
 use machine_rounds::RoundsAnswer;
 use machine_start::StartAnswer;
+use machine_tally::Tally;
 use sheet_read::read::ReadAnswer;
 ghost use mathlib.Core.Path.{_≡_};
 ghost use Rattle.formula.specs.Tests.{readingOf};
@@ -14,6 +18,7 @@ ghost use Rattle.machine_start.specs.Start.{begun, started};
 ghost use Rattle.machine_calls.specs.Calls.{outcome, handed, pushed, fired, ran, taken};
 ghost use Rattle.machine_rounds.specs.Rounds.{outcome as roundsOutcome, ranRounds};
 ghost use Rattle.machine_tray.specs.Tray.{trayed};
+ghost use Rattle.machine_tally.specs.Tallied.{afterStart, afterPush, afterTray, afterFire, afterRun, afterRounds, afterTake};
 
 #[no_mangle]
 pub extern "C" fn bench_read(sheet: &[u8], kinds: &[u8]) -> ReadAnswer
@@ -41,50 +46,77 @@ pub extern "C" fn bench_start(
     kinds: &[u8],
     capacity: u32,
     mem: &mut [u8],
+    tally: &mut Tally,
 ) -> StartAnswer
-    ensures { λ a. ⌜ begun a (now (mem .exit)) ≡ started (now (sheet .entry)) (now (kinds .entry)) capacity (now (mem .entry)) ⌝ }
+    ensures { λ a. ⌜ (begun a (now (mem .exit)) ≡ started (now (sheet .entry)) (now (kinds .entry)) capacity (now (mem .entry))) × (now (tally .exit) ≡ afterStart (now (tally .entry)) a) ⌝ }
 {
-    machine_start::start(sheet, kinds, capacity, mem)
+    let t = *tally;
+    let start = machine_tally::start_tallied(sheet, kinds, capacity, mem, t);
+    *tally = start.tally;
+    start.answer
 }
 
 #[no_mangle]
-pub extern "C" fn bench_push(mem: &mut [u8], set: &[u8]) -> Answer
-    ensures { λ a. ⌜ outcome a (now (mem .exit)) ≡ pushed (now (mem .entry)) (now (set .entry)) ⌝ }
+pub extern "C" fn bench_push(mem: &mut [u8], set: &[u8], tally: &mut Tally) -> Answer
+    ensures { λ a. ⌜ (outcome a (now (mem .exit)) ≡ pushed (now (mem .entry)) (now (set .entry))) × (now (tally .exit) ≡ afterPush (now (tally .entry)) a) ⌝ }
 {
-    machine_calls::push(mem, set)
+    let t = *tally;
+    let push = machine_tally::push_tallied(mem, set, t);
+    *tally = push.tally;
+    push.answer
 }
 
 #[no_mangle]
-pub extern "C" fn bench_push_tray(mem: &mut [u8], sets: &[u8], number: u32) -> Answer
-    ensures { λ a. ⌜ outcome a (now (mem .exit)) ≡ trayed (now (mem .entry)) (now (sets .entry)) number ⌝ }
+pub extern "C" fn bench_push_tray(
+    mem: &mut [u8],
+    sets: &[u8],
+    number: u32,
+    tally: &mut Tally,
+) -> Answer
+    ensures { λ a. ⌜ (outcome a (now (mem .exit)) ≡ trayed (now (mem .entry)) (now (sets .entry)) number) × (now (tally .exit) ≡ afterTray (now (tally .entry)) a) ⌝ }
 {
-    machine_tray::push_tray(mem, sets, number)
+    let t = *tally;
+    let tray = machine_tally::push_tray_tallied(mem, sets, number, t);
+    *tally = tray.tally;
+    tray.answer
 }
 
 #[no_mangle]
-pub extern "C" fn bench_fire(mem: &mut [u8], operator: u32) -> Answer
-    ensures { λ a. ⌜ outcome a (now (mem .exit)) ≡ fired (now (mem .entry)) operator ⌝ }
+pub extern "C" fn bench_fire(mem: &mut [u8], operator: u32, tally: &mut Tally) -> Answer
+    ensures { λ a. ⌜ (outcome a (now (mem .exit)) ≡ fired (now (mem .entry)) operator) × (now (tally .exit) ≡ afterFire (now (tally .entry)) a) ⌝ }
 {
-    machine_calls::fire(mem, operator)
+    let t = *tally;
+    let firing = machine_tally::fire_tallied(mem, operator, t);
+    *tally = firing.tally;
+    firing.answer
 }
 
 #[no_mangle]
-pub extern "C" fn bench_run(mem: &mut [u8], firings: u32) -> Answer
-    ensures { λ a. ⌜ outcome a (now (mem .exit)) ≡ ran (now (mem .entry)) firings ⌝ }
+pub extern "C" fn bench_run(mem: &mut [u8], firings: u32, tally: &mut Tally) -> Answer
+    ensures { λ a. ⌜ (outcome a (now (mem .exit)) ≡ ran (now (mem .entry)) firings) × (now (tally .exit) ≡ afterRun (now (tally .entry)) a) ⌝ }
 {
-    machine_calls::run(mem, firings)
+    let t = *tally;
+    let run = machine_tally::run_tallied(mem, firings, t);
+    *tally = run.tally;
+    run.answer
 }
 
 #[no_mangle]
-pub extern "C" fn bench_run_rounds(mem: &mut [u8], rounds: u32) -> RoundsAnswer
-    ensures { λ a. ⌜ roundsOutcome a (now (mem .exit)) ≡ ranRounds (now (mem .entry)) rounds ⌝ }
+pub extern "C" fn bench_run_rounds(mem: &mut [u8], rounds: u32, tally: &mut Tally) -> RoundsAnswer
+    ensures { λ a. ⌜ (roundsOutcome a (now (mem .exit)) ≡ ranRounds (now (mem .entry)) rounds) × (now (tally .exit) ≡ afterRounds (now (tally .entry)) a) ⌝ }
 {
-    machine_rounds::run_rounds(mem, rounds)
+    let t = *tally;
+    let run = machine_tally::run_rounds_tallied(mem, rounds, t);
+    *tally = run.tally;
+    run.answer
 }
 
 #[no_mangle]
-pub extern "C" fn bench_take(mem: &mut [u8], out: &mut [u8]) -> Answer
-    ensures { λ a. ⌜ handed a (now (mem .exit)) (now (out .exit)) ≡ taken (now (mem .entry)) (now (out .entry)) ⌝ }
+pub extern "C" fn bench_take(mem: &mut [u8], out: &mut [u8], tally: &mut Tally) -> Answer
+    ensures { λ a. ⌜ (handed a (now (mem .exit)) (now (out .exit)) ≡ taken (now (mem .entry)) (now (out .entry))) × (now (tally .exit) ≡ afterTake (now (tally .entry)) a) ⌝ }
 {
-    machine_calls::take(mem, out)
+    let t = *tally;
+    let take = machine_tally::take_tallied(mem, out, t);
+    *tally = take.tally;
+    take.answer
 }

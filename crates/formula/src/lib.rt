@@ -12,7 +12,7 @@ pub enum Field {
     Malformed,
 }
 
-// A row by its kind, 1 to 9 in the order of document 01's table, with the fields that its kind lists.
+// A row by its kind, with the fields that it lists: 1 to 9 in the order of document 01's table; 2, 3 and 10 are one case.
 pub enum Shape {
     // a: the identifier's number
     Identifier(u32),

@@ -1,8 +1,8 @@
 -- "no err comes from a wrong kind or a test that is neither truth nor err" (document 02, Job 6), for the machine: where every waiting token meets
 -- its link's claim, a firing of an operator whose links have claims that fit its gate leaves it so (`firing-keeps`), and every token that waits
 -- on an operand or a control is of the kind wanted there or an err (`no-wrong-kind`), an operator's operands both of one kind that follows from
--- the claims alone (`operandKind`). So it stays through firings in any order, whether a set
--- ever ends or not. A register is a link here too; the mark of one that has never fired counts as err.
+-- the claims alone (`operandKind`). So it stays through firings in any order, whether a set ever ends or not. A register is a link here too; the mark
+-- of one that has never fired counts as err.
 use Prim.Native.Nat.{ℕ, _<_}
 use mathlib.Core.Path.{_≡_, refl, sym, ap, subst}
 use mathlib.Core.Logic.{_⊎_, inl, inr, ite}

@@ -2,8 +2,7 @@
 -- Job 6), for the machine of a formula and every list of calls (theory_verdicts/specs/Running), refused calls included: after it every token that
 -- waits on an operand is of the kind wanted there or an err, and every one on a control is a truth or err. The two operands of an operator have one
 -- kind, the same at every capacity and after every list of calls. So no firing ever computes on a wrong kind, also for sets that never end. And each
--- result taken is of the kinds of the formula's values or errs. Assumes claims as MadeClaims.antt has
--- them.
+-- result taken is of the kinds of the formula's values or errs. Assumes claims as MadeClaims.antt has them.
 use Prim.Native.Nat.{ℕ, zero, suc, _<_, _≤_, _+_, _-_}
 use mathlib.Core.Path.{_≡_, refl, sym, _∙_, ap, subst}
 use mathlib.Core.Logic.{_⊎_, inl, inr, ⊎-elim}
@@ -64,8 +63,8 @@ abbrev pub Results-of-kinds : List (List Token) → List ValueKind → Type 0
 Results-of-kinds [] ks = Unit {0}
 Results-of-kinds (r ∷ rs) ks = Tokens-of-kinds r ks × Results-of-kinds rs ks
 
--- Operator o has one kind of operands, which it takes, such that at any capacity, after any list of calls with good sets, no token of another kind
--- waits on them, nor one that is no truth on a control.
+-- There is one kind that operator o takes, such that at any capacity, after any list of calls with good sets, every token that waits on an operand of o
+-- is of that kind or an err; at a gate, every one on a control a truth or an err.
 abbrev pub Of-one-kind : Exp → (List (List Value) → Type 0) → Operator → Type 0
 Of-one-kind x Good o =
     (k : ValueKind) × Takes (o .kind) k

@@ -49,8 +49,8 @@ module _ (s line : List ℕ) (h : Admissible s) where
         within : (l : ℕ) → l ≤ 3105 → l ≤ nowhere
         within l p = omega arith
 
-    -- For each operator of the sheet's graph there is one kind, by sheet and line alone, which it takes, such that at any capacity, after any list of
-    -- calls whose pushed sets have values of their kinds or errs, no token of another kind waits before it; before no gate one of a wrong kind.
+    -- For each operator of the sheet's graph there is one kind, told by sheet and line alone, such that at any capacity, after any list of calls whose
+    -- pushed sets have values of their kinds or errs, no token of a wrong kind waits before it.
     pub sheet-never-a-wrong-kind : Each (Of-one-kind x (All-suit line)) (madeOf x .operators)
     sheet-never-a-wrong-kind = each-suited (madeOf x .operators) (never-a-wrong-kind x kinds (sheet-claimed .0) (sheet-claimed .1))
       where

@@ -40,14 +40,14 @@ can-accepted s (no n) a = absurd (n a)
 -- ---- the machine of an admitted formula; the first four laws are those of theory_verdicts/specs/Verdicts
 
 module _ (x : Exp) (h : AdmittedE x) (few : countE x .operators ≤ 1024) (capacity : ℕ) (room : 1 ≤ capacity) where
-  roomy : (l : ℕ) → 1 ≤ places capacity l
+  pub roomy : (l : ℕ) → 1 ≤ places capacity l
   roomy = capacities-one creditLink capacity room
 
   ports : length (pieceOf x h .ins) ≡ madeOf x .inputs + bit (madeOf x .triggered)
   unfolding madeOf
   ports = input-count x h
 
-  accepted-here : (w : List Step) → Made-in-turn x capacity w (startOf x)
+  pub accepted-here : (w : List Step) → Made-in-turn x capacity w (startOf x)
       → Accepted (netOf (madeOf x .operators)) creditLink (pieceOf x h .ins) (pieceOf x h .outs) (places capacity) (map (triggering x capacity) w) (put (maker-owed x h few .fresh) (λ l. []))
   unfolding maker-owed
   accepted-here w a =
@@ -55,7 +55,7 @@ module _ (x : Exp) (h : AdmittedE x) (few : countE x .operators ≤ 1024) (capac
       (subst (λ (os : List ℕ). Accepted (netOf (madeOf x .operators)) creditLink (pushLinks (madeOf x)) os (places capacity) (map (triggering x capacity) w) (startOf x)) (sym (results-are x h))
       (steps-accepted x capacity w (startOf x) a))
 
-  after-here : (w : List Step)
+  pub after-here : (w : List Step)
       → after (netOf (madeOf x .operators)) creditLink (pieceOf x h .ins) (pieceOf x h .outs) (places capacity) (map (triggering x capacity) w) (put (maker-owed x h few .fresh) (λ l. []))
       ≡ afterSteps x w (startOf x)
   unfolding maker-owed
@@ -64,14 +64,14 @@ module _ (x : Exp) (h : AdmittedE x) (few : countE x .operators ≤ 1024) (capac
       ∙ ap (λ (os : List ℕ). after (netOf (madeOf x .operators)) creditLink (pushLinks (madeOf x)) os (places capacity) (map (triggering x capacity) w) (startOf x)) (results-are x h)
       ∙ steps-after x capacity w (startOf x)
 
-  sized-here : (w : List Step) → Whole-sets x capacity w → Sized (pieceOf x h .ins) (sets-of (map (triggering x capacity) w))
+  pub sized-here : (w : List Step) → Whole-sets x capacity w → Sized (pieceOf x h .ins) (sets-of (map (triggering x capacity) w))
   sized-here w a =
       subst (Sized (pieceOf x h .ins)) (sym (steps-sets x capacity w))
       (sets-sized x capacity (pieceOf x h .ins) ports (sets-of w) (sets-whole x capacity w a))
 
   -- ---- what is left in events is what is owed
 
-  operators-few : length (madeOf x .operators) ≤ 1024
+  pub operators-few : length (madeOf x .operators) ≤ 1024
   operators-few = subst (λ (m : ℕ). m ≤ 1024) (sym (made-operators x h)) few
 
   abbrev events : List Step → List ℕ

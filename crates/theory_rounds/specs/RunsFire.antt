@@ -33,6 +33,10 @@ operators-of (firing a ∷ w) = a ∷ operators-of w
 operators-of (pushing v ∷ w) = operators-of w
 operators-of (taking ∷ w) = operators-of w
 
+pub refused-cannot : {A : Type 0} (s : Step) (d : Dec A) → accept d s ≡ [] → A → ⊥
+refused-cannot s (yes p) e a = let z : _≡_ {A = ℕ} 1 0 = ap length e in omega arith
+refused-cannot s (no n) e a = n a
+
 module _ (x : Exp) (capacity : ℕ) where
   abbrev pub Fires : List ℕ → Links → Type 0
   Fires = Possible (enabled (graph x capacity) (places capacity)) (next (graph x capacity) (places capacity)) (output (graph x capacity) (places capacity))
@@ -65,10 +69,6 @@ module _ (x : Exp) (capacity : ℕ) where
   firings-times i (taking ∷ w) f = absurd f
 
   -- ---- as long as lent, or up to where nothing can fire
-
-  refused-cannot : {A : Type 0} (s : Step) (d : Dec A) → accept d s ≡ [] → A → ⊥
-  refused-cannot s (yes p) e a = let z : _≡_ {A = ℕ} 1 0 = ap length e in omega arith
-  refused-cannot s (no n) e a = n a
 
   run-whole : (n : ℕ) (q : Links) → (n ≤ length (runSteps x capacity n q)) ⊎ Quiet (afterSteps x (runSteps x capacity n q) q)
   unfolding stepsOf

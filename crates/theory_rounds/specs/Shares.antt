@@ -36,7 +36,7 @@ head-below (suc n) a w h = go (ℕ-discrete n a) (λ l. head-below n a w l)
         omega (arith, c, ih (omega arith))
 
 -- A list of numbers below n is as long as the sum of how often each is in it.
-length-counts : (n : ℕ) (w : List ℕ) → ((e : ℕ) → n ≤ e → count e w ≡ 0) → length w ≡ sumBelow n (λ i. count i w)
+pub length-counts : (n : ℕ) (w : List ℕ) → ((e : ℕ) → n ≤ e → count e w ≡ 0) → length w ≡ sumBelow n (λ i. count i w)
 length-counts n [] far = sym (sum-none n)
 length-counts n (a ∷ w) far = go (decLt a n) (length-counts n w (λ e l. less e (ℕ-discrete e a) (far e l)))
   where

@@ -109,7 +109,7 @@ module _ (x : Exp) (h : AdmittedE x) (few : countE x .operators ≤ 1024) (capac
   roomy = capacities-one creditLink capacity space
 
   -- Nothing can fire on an idle load.
-  idle-still : (σ : Load) → pieceOf x h .Idle σ → (i : ℕ) → Able (places capacity) (netOf (madeOf x .operators) i) (put σ (λ l. [])) → ⊥
+  pub idle-still : (σ : Load) → pieceOf x h .Idle σ → (i : ℕ) → Able (places capacity) (netOf (madeOf x .operators) i) (put σ (λ l. [])) → ⊥
   unfolding madeOf
   idle-still σ I i o = none-able (graphE x) (size (freeE x)) (portOf x) (fit-E x h) (made-envs x h) (room x h few) (put σ (λ l. [])) (I .calm) (places capacity) i o
 

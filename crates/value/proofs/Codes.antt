@@ -22,7 +22,7 @@ use Rattle.value.specs.declared.Value.{Value}
 use Rattle.value.specs.declared.Value.the-variants.{Whole, Truth, Err, Real}
 use Rattle.value.specs.Bytes.{InRange}
 use Rattle.value.specs.Senses.{err}
-use Rattle.value.specs.Operators.{pick, apply, isZeroReal, realOf, handOn, handOnOne, wholes, numbers, besideErr, logical, truth, number, addOf, subtractOf, multiplyOf, divideOf, remainderOf, lessOf, equalOf, andOf, orOf, notOf, negateOf, addReal, subtractReal, multiplyReal, divideReal, lessReal, equalReal, negateReal}
+use Rattle.value.specs.Operators.{pick, apply, NoWhole, isZeroReal, realOf, handOn, handOnOne, wholes, numbers, besideErr, logical, truth, number, addOf, subtractOf, multiplyOf, divideOf, remainderOf, lessOf, equalOf, andOf, orOf, notOf, negateOf, addReal, subtractReal, multiplyReal, divideReal, lessReal, equalReal, negateReal}
 
 by-test : (P : Value → Type 0) (t : Bool) (x y : Value) → (t ≡ true → P x) → (t ≡ false → P y) → P (pick t x y)
 by-test P true x y h k = h refl
@@ -193,3 +193,17 @@ not-no-truth (Truth x) b h = absurd (⊎-elim (λ (e : _≡_ {A = ℕ} 1 0). ome
 not-no-truth (Whole x) b h = refl
 not-no-truth (Real x) b h = refl
 not-no-truth (Err r) b h = refl
+
+-- what is neither a whole number nor a float
+pub negate-no-number : (a : Value) → NoWhole a → NotReal a → number negateOf negateReal a ≡ handOnOne a
+unfolding number
+negate-no-number (Truth x) n h = refl
+negate-no-number (Err r) n h = refl
+negate-no-number (Whole x) n h = absurd n
+negate-no-number (Real x) n h = absurd (⊎-elim (λ (e : _≡_ {A = ℕ} 3 0). omega arith) (⊎-elim (λ (e : _≡_ {A = ℕ} 3 1). omega arith) (λ (e : _≡_ {A = ℕ} 3 2). omega arith)) h)
+
+pub not-whole : (a : Value) → NotWhole a → NoWhole a
+not-whole (Whole x) h = absurd (⊎-elim (λ (e : _≡_ {A = ℕ} 0 1). omega arith) (⊎-elim (λ (e : _≡_ {A = ℕ} 0 2). omega arith) (λ (e : _≡_ {A = ℕ} 0 3). omega arith)) h)
+not-whole (Truth x) h = tt
+not-whole (Real x) h = tt
+not-whole (Err r) h = tt

@@ -1,25 +1,23 @@
 -- Which words are the byte form of a value in the range of a sheet's constants, by their tags. Assumes nothing.
-use Prim.Native.Nat.{ℕ, zero, suc, _+_, _*_, _/_, _%_, _≤_, _<_}
+use Prim.Native.Nat.{ℕ, zero, suc, _/_, _%_, _≤_}
 use mathlib.Core.Path.{_≡_, refl, sym, ap, _∙_}
-use mathlib.Core.Bool.{Bool, true, false, _&&_}
-use mathlib.Core.Option.{Option, some, none}
+use mathlib.Core.Bool.{Bool, true, false}
+use mathlib.Core.Option.{some, none}
 use native.Mathlib.Omega.{arith}
-use borrow.Author.Tests.{ne-eqb, eq-eqb, lt-ltb, le-ltb, lt-leb, le-leb, leb-true, leb-false, ltb-true, ltb-false}
+use borrow.Author.Tests.{ne-eqb, le-ltb, lt-leb, ltb-true, ltb-false}
 use lib.Dec.{eqb, ltb, leb}
-use lib.IntN.{ℤ, pos, negsuc}
-use lib.Ieee.{Float, binary32, ofBits, toBits}
+use lib.Ieee.{binary32, ofBits}
 use lib.Ieee.Scale.{finite}
 use mir.Syntax.{w32}
 use mir.Val.{toZ}
 use Rattle.value.specs.declared.Reason.the-variants.{ZeroDivisor, OutOfRange, Other}
-use Rattle.value.specs.declared.Value.{Value}
-use Rattle.value.specs.declared.Value.the-variants.{Whole, Truth, Err, Real}
+use Rattle.value.specs.declared.Value.the-variants.{Whole, Err}
 use Rattle.value.specs.Operators.{pick}
 use Rattle.value.specs.Bytes.{valueOf, wholeOf, truthOf, errOf, floatOf}
 use Rattle.value.specs.Constants.{isWholeConstant, inConstantRange}
 use Rattle.value.proofs.Sign.{high, low-z}
 use Rattle.value.proofs.Floats.{finite-bits}
-use Rattle.value.proofs.Words.{tag-one, tag-two, tag-four, no-tag, pattern-finite, pattern-infinite, pattern-large, pattern-back}
+use Rattle.value.proofs.Words.{tag-one, tag-two, tag-four, pattern-finite, pattern-infinite, pattern-large, pattern-back}
 
 whole-bits : (bits : ℕ) → leb bits 999999 ≡ inConstantRange (wholeOf bits)
 unfolding wholeOf

@@ -16,7 +16,7 @@ use lib.Ieee.Positive.{positive, positive-finite, between}
 use lib.Ieee.Bits.{toBits-lt, nanBits-above, is-true, ofBits-fits}
 use lib.Ieee.Back.{round-whole}
 use lib.Ieee.Exact.{HasValue}
-use borrow.Author.Tests.{lt-ltb, le-ltb, ltb-true, ltb-false, ne-eqb, eq-eqb}
+use borrow.Author.Tests.{le-ltb, ltb-true, ltb-false, ne-eqb, eq-eqb}
 use Rattle.value.specs.declared.Reason.the-variants.{OutOfRange}
 use Rattle.value.specs.declared.Value.the-variants.{Err, Real}
 use Rattle.value.specs.Operators.{pick, isReal, realOf}

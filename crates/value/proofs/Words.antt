@@ -11,7 +11,7 @@ use native.Mathlib.Nat.{add-zero, div-div-eq-div-mul, div-add-mod', mod-eq-of-lt
 use borrow.Author.Tests.{ne-eqb, lt-ltb, le-ltb, eqb-true, ltb-true, ltb-false}
 use lib.Dec.{eqb, ltb}
 use lib.IntN.{ℤ}
-use lib.Ieee.{Float, binary32, fits, ofBits, toBits, isNan}
+use lib.Ieee.{Float, binary32, fits, ofBits, toBits}
 use lib.Ieee.Scale.{finite}
 use lib.Ieee.Bits.{ofBits-toBits, toBits-ofBits}
 use lib.ListN.{length, set, getD, take, drop}

@@ -14,7 +14,7 @@ use Rattle.value.specs.declared.Value.{Value}
 use Rattle.value.specs.declared.Value.the-variants.{Whole, Truth, Err, Real}
 use Rattle.value.specs.declared.ValueKind.the-variants.{Whole as whole-kind, Truth as truth-kind, Real as real-kind}
 use Rattle.value.specs.Operators.{apply, realOf}
-use Rattle.value.specs.Bytes.{bytesOf, valueOf, wordOf, wordAt}
+use Rattle.value.specs.Bytes.{bytesOf, valueOf, wordAt}
 use Rattle.value.specs.Constants.{thousandths}
 use Rattle.value.specs.Kinds.{given}
 

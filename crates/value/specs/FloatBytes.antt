@@ -11,7 +11,7 @@ use lib.Dec.{T}
 use Rattle.value.specs.declared.Reason.the-variants.{ZeroDivisor, OutOfRange, Other}
 use Rattle.value.specs.declared.Value.{Value}
 use Rattle.value.specs.declared.Value.the-variants.{Truth, Err, Real}
-use Rattle.value.specs.Operators.{pick, isReal, isZeroReal, realOf, addReal, subtractReal, multiplyReal, divideReal, lessReal, equalReal, negateReal, apply}
+use Rattle.value.specs.Operators.{pick, isZeroReal, realOf, addReal, subtractReal, multiplyReal, divideReal, lessReal, equalReal, negateReal, apply}
 use Rattle.value.specs.Bytes.{tagOf, bitsOf, settled, wordOf}
 
 -- The word of an IEEE answer: its pattern behind tag 4; that of V, 515, where it "is no finite number".

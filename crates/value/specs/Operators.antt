@@ -194,6 +194,13 @@ truth f (Whole a) = handOnOne (Whole a)
 truth f (Real a) = handOnOne (Real a)
 truth f (Err r) = handOnOne (Err r)
 
+-- Every case but a whole number.
+abbrev pub NoWhole : Value → Type 0
+NoWhole (Whole a) = ⊥
+NoWhole (Truth a) = Unit {0}
+NoWhole (Real a) = Unit {0}
+NoWhole (Err r) = Unit {0}
+
 unfoldable pub number : (ℤ → Value) → (Float → Value) → Value → Value
 number f g (Whole a) = f a
 number f g (Real a) = g a

@@ -5,7 +5,7 @@ pub mod bytes; // bytes.rt: a value as a tag byte and four bytes
 ghost use mathlib.Core.Path.{_≡_};
 ghost use Prim.Native.Nat.{ℕ, _+_, _*_, _≤_, _<_};
 ghost use lib.IntN.{pos, negsuc, _+ℤ_, _-ℤ_, _*ℤ_};
-ghost use Rattle.value.specs.Operators.{fitOf, addOf, subtractOf, multiplyOf, divideOf, remainderOf, lessOf, equalOf, andOf, orOf, isReal, realOf, divideReal, besideErr, reasonOr, handOn, handOnOne, negateOf, negateReal, number, apply};
+ghost use Rattle.value.specs.Operators.{fitOf, addOf, subtractOf, multiplyOf, divideOf, remainderOf, lessOf, equalOf, andOf, orOf, isReal, realOf, divideReal, besideErr, reasonOr, handOn, handOnOne, negateOf, negateReal, NoWhole, number, apply};
 ghost use Rattle.value.specs.Senses.{err};
 ghost use Rattle.value.specs.Constants.{thousandths};
 
@@ -311,16 +311,15 @@ fn apply_logical(code: u8, a: Value, b: Value) -> Value
     }
 }
 
-// Code 11; of a float "negate turning the sign".
-fn apply_negate(a: Value) -> Value
+// Code 11 of what is no whole number; of a float "negate turning the sign".
+fn negate_other(a: Value) -> Value
+    requires { ⌜ NoWhole a ⌝ }
     ensures { λ r. ⌜ r ≡ number negateOf negateReal a ⌝ }
 {
-    match a {
-        Value::Whole(x) => negate(x),
-        Value::Real(x) => fit_real(-x),
-        Value::Truth(_) => hand_on_one(a),
-        Value::Err(_) => hand_on_one(a),
-    }
+    let Value::Real(x) = a else {
+        return hand_on_one(a);
+    };
+    fit_real(-x)
 }
 
 // The operator of a code on its operands; codes 10 and 11 do not look at the second.
@@ -336,7 +335,12 @@ pub fn apply_code(code: u8, a: Value, b: Value) -> Value
             };
             Value::Truth(!x)
         }
-        11 => apply_negate(a),
+        11 => {
+            let Value::Whole(x) = a else {
+                return negate_other(a);
+            };
+            negate(x)
+        }
         _ => err(),
     }
 }

@@ -7,7 +7,6 @@ use Rattle.value.proofs.apply_reals.Reads as apply-reals-reads
 use Rattle.value.proofs.apply_wholes.Reads as apply-wholes-reads
 use Rattle.value.proofs.hand_on.Reads as hand-on-reads
 use borrow.Author.Needs.{needs, sfits-of}
-use native.Mathlib.Omega.{arith}
 use mathlib.Core.Path.{sym, _∙_}
 use mir.Syntax.{w32}
 use mir.Facts.{toZ-ofZ}

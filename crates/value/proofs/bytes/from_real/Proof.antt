@@ -9,7 +9,7 @@ use Rattle.value.proofs.bytes.is_pattern.Reads as is-pattern-reads
 use mathlib.Core.Path.{sym, ap, _∙_}
 use Rattle.value.specs.Bytes.{decoded}
 use Rattle.value.proofs.Floats.{no-nan}
-use Rattle.value.proofs.Words.{pattern-some, pattern-none, pattern-finite}
+use Rattle.value.proofs.Words.{pattern-some, pattern-none}
 
 -- src/bytes.rt:158:8  { ⏎ if is_pattern(bits) {
 is-pattern-requires : tie.Need-is-pattern-requires

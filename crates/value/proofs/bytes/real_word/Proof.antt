@@ -8,7 +8,6 @@ use Rattle.value.proofs.bytes.real_word.Lts as lts
 use Rattle.value.proofs.is_finite.Reads as is-finite-reads
 use native.Mathlib.Omega.{arith}
 use mathlib.Core.Path.{refl, sym, _∙_}
-use mir.Val.{Fits}
 use Rattle.value.specs.Bytes.{wordOf}
 use Rattle.value.specs.Operators.{realOf}
 use Rattle.value.proofs.Floats.{real-no-nan, bits-below}

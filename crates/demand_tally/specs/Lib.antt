@@ -1,0 +1,3 @@
+pub mod TallyCounts
+pub mod TallyShows
+pub mod LesserTally

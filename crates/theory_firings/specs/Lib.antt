@@ -1,0 +1,2 @@
+pub mod SameFirings
+pub mod LesserFirings
