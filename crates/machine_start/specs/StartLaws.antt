@@ -10,10 +10,10 @@ use lib.Seq.{sets, drop-cons}
 use borrow.Author.Tests.{lt-ltb, le-ltb, le-leb, lt-leb, ltb-false, leb-true}
 use Rattle.value.specs.Operators.{pick}
 use Rattle.formula.specs.declared.Refusal.{Refusal}
-use Rattle.formula.specs.declared.Refusal.the-variants.{Layout, Rows, Malformed, Range, Naming, Named, StrayIter, Width, Unused, KindsLine, KindsBroken, Operators, Memory, Set, SetFile, Capacity, Altered, Untaken, Full, NotAble, NoResult, Unfinished}
+use Rattle.formula.specs.declared.Refusal.the-variants.{Memory, Capacity}
 use Rattle.formula.specs.declared.Verdict.{Verdict}
 use Rattle.formula.specs.declared.Verdict.the-variants.{Passed, Refused}
-use Rattle.formula.specs.Refusals.{numberOf}
+use Rattle.formula.specs.Refusals.{numberOf, number-positive}
 use Rattle.formula.specs.Tree.{Exp, formulaOf}
 use Rattle.formula.specs.Tests.{verdictOf}
 use Rattle.formula.specs.Faults.{lettersOf}
@@ -109,31 +109,6 @@ capacity-in c h k = rw (le-leb 1 c h, le-leb c 16 k) refl
 
 -- ---- an accepted start
 
--- every refusal has a number
-refused-some : (r : Refusal) → 1 ≤ numberOf r
-refused-some Layout = omega arith
-refused-some Rows = omega arith
-refused-some Malformed = omega arith
-refused-some Range = omega arith
-refused-some Naming = omega arith
-refused-some Named = omega arith
-refused-some StrayIter = omega arith
-refused-some Width = omega arith
-refused-some Unused = omega arith
-refused-some Operators = omega arith
-refused-some KindsLine = omega arith
-refused-some KindsBroken = omega arith
-refused-some Memory = omega arith
-refused-some Set = omega arith
-refused-some SetFile = omega arith
-refused-some Capacity = omega arith
-refused-some Altered = omega arith
-refused-some Untaken = omega arith
-refused-some Full = omega arith
-refused-some NotAble = omega arith
-refused-some NoResult = omega arith
-refused-some Unfinished = omega arith
-
 pub record AcceptedStart (s line : List ℕ) (c : ℕ) (m : List ℕ) : Type 0 where
   pub long : need (sizeOf c) ≤ length m
   pub some : 1 ≤ c
@@ -154,7 +129,7 @@ accepted-start s line c m e = go (ltb (length m) (need (sizeOf (capacityIn c))))
     go true p b q d r v w h = absurd (omega arith)
     go false p false q d r v w h = absurd (omega arith)
     go false p true q false r v w h = absurd (omega arith)
-    go false p true q true r (Refused x row) w h = absurd (omega (arith, refused-some x))
+    go false p true q true r (Refused x row) w h = absurd (omega (arith, number-positive x))
     go false p true q true r Passed w h =
         let low : 1 ≤ c = leb-true 1 c q in
         let high : c ≤ 16 = leb-true c 16 r in
