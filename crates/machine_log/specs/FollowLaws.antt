@@ -8,8 +8,8 @@ use native.Mathlib.Omega.{arith}
 use native.Mathlib.Decide.{decLt}
 use borrow.Author.Tests.{eq-eqb, ne-eqb, leb-true}
 use lib.Dec.{eqb, leb, ltb}
-use lib.ListN.{length, take, drop, length-append, length-drop, take-append-drop}
-use lib.Seq.{take-at, drop-at, drop-drop}
+use lib.ListN.{length, take, drop, length-append, length-drop, take-append-drop, drop-of-length-le}
+use lib.Seq.{take-all, take-at, drop-at, drop-drop}
 use Rattle.value.specs.Operators.{pick}
 use Rattle.formula.specs.declared.Check.the-variants.{Passed}
 use Rattle.formula.specs.TreeLaws.{and-true}
@@ -74,6 +74,16 @@ results-fit c bytes lent h few long = go (ltb 2048 (bytes / 26)) h
     go true k = omega arith
     go false k = omega arith
 
+-- The room from a place on, as the code lends it.
+abbrev pub roomFrom : ℕ → List ℕ → List ℕ
+roomFrom at out = take (length out - at) (drop at out)
+
+room-from : (at : ℕ) (out : List ℕ) → roomFrom at out ≡ drop at out
+room-from at out = take-all (length out - at) (drop at out) (omega (arith, length-drop at out))
+
+none-behind : (at : ℕ) (out : List ℕ) → drop (length out - at) (drop at out) ≡ []
+none-behind at out = drop-of-length-le (drop at out) {i = length out - at} (omega (arith, length-drop at out))
+
 -- A take's line is whole.
 take-whole : (log : List ℕ) (j : ℕ) → lineAt log j ≡ Take → lineBytes * j + lineBytes ≤ length log
 take-whole log j e = go (decLt (length log - lineBytes * j) lineBytes)
@@ -131,62 +141,76 @@ module _ (set : ℕ → List ℕ) (log m₀ out₀ : List ℕ) (j : ℕ) (m out 
     pub results-in : resultBytes * count ≤ length out₀
     results-in = results-fit count (length log) (length out₀) F (omega (arith, u .few)) (omega (arith, u .few))
 
-    pub line-lent : (size : ℕ) (sets : List ℕ) → Lies size sets (lineAt log j) → length out ≡ length out₀ → Lent size sets m (drop (resultBytes * count) out) (lineAt log j)
-    line-lent size sets y same = go (lineAt log j) refl y
+    pub line-lent : (l : Line) → l ≡ lineAt log j → (size : ℕ) (sets : List ℕ) → Lies size sets (lineAt log j) → length out ≡ length out₀
+        → Lent size sets m (roomFrom (resultBytes * count) out) l
+    line-lent l p size sets y same = go l p (subst (Lies size sets) (sym p) y)
       where
-        go : (l : Line) → lineAt log j ≡ l → Lies size sets l → Lent size sets m (drop (resultBytes * count) out) l
+        go : (l : Line) → l ≡ lineAt log j → Lies size sets l → Lent size sets m (roomFrom (resultBytes * count) out) l
         go (Push n) e y = y
         go (Fire i) e y = tt
         go Take e y = λ a.
-            let b = results-fit (count + 1) (length log) (length out₀) F (omega (arith, u .few)) (omega (arith, u .few, take-whole log j e)) in
+            let b = results-fit (count + 1) (length log) (length out₀) F (omega (arith, u .few)) (omega (arith, u .few, take-whole log j (sym e))) in
+            let r = ap length (room-from (resultBytes * count) out) in
             omega (arith, length-drop (resultBytes * count) out)
         go Malformed e y = tt
 
-    module _ (r : ℕ) (m′ out′ : List ℕ) (s : Stepped set (lineAt log j) m (drop (resultBytes * count) out) r m′ out′) where
+    module _ (l : Line) (p : l ≡ lineAt log j) (r : ℕ) (m′ out′ : List ℕ) (s : Stepped set l m (roomFrom (resultBytes * count) out) r m′ out′) where
       abbrev line : Line
       line = lineAt log j
 
       abbrev more : List (List ℕ)
       more = given line (called set line m)
 
-      -- the room as it is after the line's call
+      -- the room with what the line's call left in its part
       abbrev after : List ℕ
-      after = take (resultBytes * count) out ++ out′
+      after = take (resultBytes * count) out ++ (out′ ++ drop (length out - resultBytes * count) (drop (resultBytes * count) out))
+
+      stepped : Stepped set line m (drop (resultBytes * count) out) r m′ out′
+      stepped =
+          subst (λ (x : Line). Stepped set x m (drop (resultBytes * count) out) r m′ out′) p
+          (subst (λ (x : List ℕ). Stepped set l m x r m′ out′) (room-from (resultBytes * count) out) s)
+
+      after-is : after ≡ take (resultBytes * count) out ++ out′
+      after-is = ap (λ (x : List ℕ). take (resultBytes * count) out ++ x) (ap (λ (x : List ℕ). out′ ++ x) (none-behind (resultBytes * count) out) ∙ append-nil out′)
 
       pub underway-refused : r ≢ 0 → Follows whole out₀ (record { line = j + 1; count = count }) m′ after
       underway-refused q =
-          let k = s .kept q in
-          let o : after ≡ out = ap (λ (x : List ℕ). take (resultBytes * count) out ++ x) (k .1) ∙ take-append-drop (resultBytes * count) out in
+          let k = stepped .kept q in
+          let o : after ≡ out = after-is ∙ ap (λ (x : List ℕ). take (resultBytes * count) out ++ x) (k .1) ∙ take-append-drop (resultBytes * count) out in
           let z : suc j ≡ j + 1 = omega arith in
           let e : followedTo (j + 1) m (u .results) ≡ whole =
           ap (λ (x : ℕ). followedTo x m (u .results)) (sym z)
-          ∙ sym (followed-refused set line (linesIn (lineCount log - (j + 1)) (drop (lineBytes * (j + 1)) log)) (suc j) m (u .results) (s .refused q))
+          ∙ sym (followed-refused set line (linesIn (lineCount log - (j + 1)) (drop (lineBytes * (j + 1)) log)) (suc j) m (u .results) (stepped .refused q))
           ∙ ap (λ (ls : List Line). followed set ls (suc j) m (u .results)) (sym (line-next log j h)) ∙ u .goes in
           rw (k .0, o) (tells (j + 1) e)
 
-      pub underway-next : r ≡ 0 → Underway set log m₀ out₀ (j + 1) m′ after (count + handsOut line)
-      underway-next q =
-          let c = given-count set m line in
+      pub underway-next : (n : ℕ) → n ≡ handsOut l → r ≡ 0 → Underway set log m₀ out₀ (j + 1) m′ after (count + n)
+      underway-next n d q =
+          let c : length more ≡ n = given-count set m line ∙ ap handsOut (sym p) ∙ sym d in
+          let y : handsOut line ≡ n = sym (given-count set m line) ∙ c in
           let z : suc j ≡ j + 1 = omega arith in
-          let w : resultBytes * count + resultBytes * handsOut line ≡ resultBytes * (count + handsOut line) = omega arith in
+          let w : resultBytes * count + resultBytes * n ≡ resultBytes * (count + n) = omega arith in
           record {
             results = u .results ++ more;
             goes =
-                ap₂ (λ (i : ℕ) (x : List ℕ). followed set (linesIn (lineCount log - (j + 1)) (drop (lineBytes * (j + 1)) log)) (suc i) x (u .results ++ more)) (sym z) (s .machine q)
-                ∙ sym (followed-next set line (linesIn (lineCount log - (j + 1)) (drop (lineBytes * (j + 1)) log)) (suc j) m (u .results) (s .accepted q))
+                ap₂ (λ (i : ℕ) (x : List ℕ). followed set (linesIn (lineCount log - (j + 1)) (drop (lineBytes * (j + 1)) log)) (suc i) x (u .results ++ more)) (sym z) (stepped .machine q)
+                ∙ sym (followed-next set line (linesIn (lineCount log - (j + 1)) (drop (lineBytes * (j + 1)) log)) (suc j) m (u .results) (stepped .accepted q))
                 ∙ ap (λ (ls : List Line). followed set ls (suc j) m (u .results)) (sym (line-next log j h)) ∙ u .goes;
             counted = length-append (u .results) more ∙ ap₂ (λ (a b : ℕ). a + b) (u .counted) c;
-            long = ap length (flatten-both (u .results) more) ∙ length-append (flatten (u .results)) (flatten more) ∙ ap₂ (λ (a b : ℕ). a + b) (u .long) (given-long set m line) ∙ w;
-            few = omega (arith, u .few, line-counts set m line (s .accepted q), ap untakenOf (s .machine q));
+            long =
+                ap length (flatten-both (u .results) more) ∙ length-append (flatten (u .results)) (flatten more)
+                ∙ ap₂ (λ (a b : ℕ). a + b) (u .long) (given-long set m line ∙ ap (λ (x : ℕ). resultBytes * x) y) ∙ w;
+            few = omega (arith, u .few, line-counts set m line (stepped .accepted q), ap untakenOf (stepped .machine q), y);
             written =
-                ap₂ (λ (a b : List ℕ). a ++ b)
+                after-is
+                ∙ ap₂ (λ (a b : List ℕ). a ++ b)
                 (ap (take (resultBytes * count)) (u .written) ∙ take-at (flatten (u .results)) (drop (resultBytes * count) out₀) (resultBytes * count) (u .long))
-                (s .results q
-                ∙ ap₂ (λ (n : ℕ) (x : List ℕ). flatten more ++ drop (resultBytes * n) x) c
+                (stepped .results q
+                ∙ ap₂ (λ (x : ℕ) (y : List ℕ). flatten more ++ drop (resultBytes * x) y) c
                 (ap (drop (resultBytes * count)) (u .written) ∙ drop-at (flatten (u .results)) (drop (resultBytes * count) out₀) (resultBytes * count) (u .long))
-                ∙ ap (λ (x : List ℕ). flatten more ++ x) (drop-drop (resultBytes * handsOut line) (resultBytes * count) out₀))
-                ∙ sym (append-assoc (flatten (u .results)) (flatten more) (drop (resultBytes * count + resultBytes * handsOut line) out₀))
-                ∙ ap₂ (λ (x : List ℕ) (n : ℕ). x ++ drop n out₀) (sym (flatten-both (u .results) more)) w;
+                ∙ ap (λ (x : List ℕ). flatten more ++ x) (drop-drop (resultBytes * n) (resultBytes * count) out₀))
+                ∙ sym (append-assoc (flatten (u .results)) (flatten more) (drop (resultBytes * count + resultBytes * n) out₀))
+                ∙ ap₂ (λ (x : List ℕ) (k : ℕ). x ++ drop k out₀) (sym (flatten-both (u .results) more)) w;
           }
 
 -- ---- only the sets that lines name matter

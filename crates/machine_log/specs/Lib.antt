@@ -5,3 +5,4 @@ pub mod Checked
 pub mod SetLaws
 pub mod Steps
 pub mod FollowLaws
+pub mod CheckedLaws

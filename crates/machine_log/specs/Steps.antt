@@ -41,6 +41,12 @@ handsOut (Fire operator) = 0
 handsOut Take = 1
 handsOut Malformed = 0
 
+pub hands-few : (l : Line) → handsOut l ≤ 1
+hands-few (Push n) = omega arith
+hands-few (Fire operator) = omega arith
+hands-few Take = omega arith
+hands-few Malformed = omega arith
+
 -- A line's call that gave refusal r: where it is 0, machine and results are those of the line's definition; else every byte is as it was, and the line is refused
 -- by its definition too, if not by the same number.
 pub record Stepped (set : ℕ → List ℕ) (l : Line) (m out : List ℕ) (r : ℕ) (m′ out′ : List ℕ) : Type 0 where
@@ -51,6 +57,12 @@ pub record Stepped (set : ℕ → List ℕ) (l : Line) (m out : List ℕ) (r : �
   pub kept : r ≢ 0 → (m′ ≡ m) × (out′ ≡ out)
 
 -- ---- push
+
+pub size-within : (size n : ℕ) → 1 ≤ n → size ≤ size * n
+size-within size n h =
+    let k : suc (n - 1) ≡ n = omega arith in
+    let w : size * n ≡ size * (n - 1) + size = ap (λ (x : ℕ). size * x) (sym k) ∙ mul-suc size (n - 1) in
+    omega arith
 
 module _ (size : ℕ) (sets m out : List ℕ) (n : ℕ) where
   -- The set as the code cuts it.
