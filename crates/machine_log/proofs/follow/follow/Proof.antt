@@ -9,13 +9,13 @@ use Rattle.machine_log.proofs.follow.follow.Lts as lts
 use Rattle.machine_log.proofs.follow.results_of.Reads as results-of-reads
 use Rattle.machine_log.proofs.follow.step.Reads as step-reads
 use Rattle.machine_log.proofs.lines.line_at.Reads as line-at-reads
-use Prim.Native.Nat.{_-_, _≤_, _+_}
-use mathlib.Core.Path.{_≡_, refl, subst, sym, ap, _∙_}
-use lib.ListN.{length, drop}
-use Rattle.machine_calls.specs.Calls.{resultBytes}
-use Rattle.machine_log.specs.Lines.{lineAt, lineCount}
+use Prim.Native.Nat.{_-_, _*_, _≤_}
+use mathlib.Core.Path.{_≡_, refl, _∙_}
+use borrow.Rule.Slice.PartMut.{same-len-mid}
+use lib.ListN.{length}
+use Rattle.machine_log.specs.Lines.{lineCount}
 use Rattle.machine_log.specs.SetLaws.{setAt}
-use Rattle.machine_log.specs.Steps.{Lent, handsOut, hands-few, Stepped}
+use Rattle.machine_log.specs.Steps.{hands-few}
 use Rattle.machine_log.specs.FollowLaws.{Underway, underway-first, underway-last, results-in, line-lent, underway-refused, underway-next}
 
 abbrev Inv-loop : tie.InvT-loop
@@ -63,9 +63,8 @@ part-step-end c = search needs
 -- src/follow.rt:63:12  let at = RESULT_BYTES * count as usize; ⏎ if step(line, sets, size, mem, &mut out[at..]) != 0 {
 step-requires : tie.Need-step-requires Inv-loop μ-loop
 step-requires c κs =
-    rw (c .before .before .line-at .ensures)
-    (line-lent (setAt (c .before .before .before .before .before .before .before .before .before .args .size) (c .before .before .before .before .before .before .before .before .before .args .sets .now)) (c .before .before .before .before .before .before .before .before .before .args .log .now) (c .before .before .before .before .before .before .before .before .before .args .mem .now) (c .before .before .before .before .before .before .before .before .before .args .out .now) (c .before .before .before .before .loop .j) (c .before .before .before .before .loop .mem) (c .before .before .before .before .loop .out) (c .before .before .before .before .loop .count) (c .before .before .before .before .loop .inv .3) (c .before .before .before .before .before .before .before .before .before .pre .room) (c .before .before .before .before .before .before .before .before .before .pre .few) (omega arith)
-    (c .before .before .before .before .before .before .before .before .before .args .size) (c .before .before .before .before .before .before .before .before .before .args .sets .now) (c .before .before .before .before .before .before .before .before .before .pre .lie (c .before .before .before .before .loop .j) (omega arith)) (c .before .before .before .before .loop .inv .1))
+    line-lent (setAt (c .before .before .before .before .before .before .before .before .before .args .size) (c .before .before .before .before .before .before .before .before .before .args .sets .now)) (c .before .before .before .before .before .before .before .before .before .args .log .now) (c .before .before .before .before .before .before .before .before .before .args .mem .now) (c .before .before .before .before .before .before .before .before .before .args .out .now) (c .before .before .before .before .loop .j) (c .before .before .before .before .loop .mem) (c .before .before .before .before .loop .out) (c .before .before .before .before .loop .count) (c .before .before .before .before .loop .inv .3) (c .before .before .before .before .before .before .before .before .before .pre .room) (c .before .before .before .before .before .before .before .before .before .pre .few) (omega arith)
+    (c .before .before .line-at .result) (c .before .before .line-at .ensures) (c .before .before .before .before .before .before .before .before .before .args .size) (c .before .before .before .before .before .before .before .before .before .args .sets .now) (c .before .before .before .before .before .before .before .before .before .pre .lie (c .before .before .before .before .loop .j) (omega arith)) (c .before .before .before .before .loop .inv .1)
 
 -- src/follow.rt:65:24  return Progress { ⏎ line: (j + 1) as u32,
 add-t19 : tie.Need-add-t19 Inv-loop μ-loop
@@ -85,7 +84,9 @@ same-length-2 c = search needs
 
 -- src/follow.rt:64:13  if step(line, sets, size, mem, &mut out[at..]) != 0 { ⏎ return Progress {
 returns : tie.Need-returns Inv-loop μ-loop
-returns c = ?
+returns c =
+    underway-refused (setAt (c .before .before .before .before .before .before .before .before .before .before .before .before .before .before .before .args .size) (c .before .before .before .before .before .before .before .before .before .before .before .before .before .before .before .args .sets .now)) (c .before .before .before .before .before .before .before .before .before .before .before .before .before .before .before .args .log .now) (c .before .before .before .before .before .before .before .before .before .before .before .before .before .before .before .args .mem .now) (c .before .before .before .before .before .before .before .before .before .before .before .before .before .before .before .args .out .now) (c .before .before .before .before .before .before .before .before .before .before .loop .j) (c .before .before .before .before .before .before .before .before .before .before .loop .mem) (c .before .before .before .before .before .before .before .before .before .before .loop .out) (c .before .before .before .before .before .before .before .before .before .before .loop .count) (c .before .before .before .before .before .before .before .before .before .before .loop .inv .3) (c .before .before .before .before .before .before .before .before .before .before .before .before .before .before .before .pre .room) (c .before .before .before .before .before .before .before .before .before .before .before .before .before .before .before .pre .few) (omega arith)
+    (c .before .before .before .before .before .before .before .before .line-at .result) (c .before .before .before .before .before .before .before .before .line-at .ensures) (c .before .before .before .before .before .step .result) (c .before .before .before .before .before .step .last .1 .1 .1 .0) (c .before .before .before .before .before .step .last .1 .1 .1 .1 .0) (c .before .before .before .before .before .step .ensures) (c .if1 .taken)
 
 -- src/follow.rt:69:18  } ⏎ count += results_of(line);
 results-of-requires : tie.Need-results-of-requires Inv-loop μ-loop
@@ -107,7 +108,14 @@ loop-less c = search needs
 
 -- src/follow.rt:60:5  let mut count = 0; ⏎ while LINE_BYTES * j < log.len() {
 loop-again : tie.Need-loop-again Inv-loop μ-loop
-loop-again c = ?
+loop-again c =
+    (
+    c .before .before .before .before .before .before .step .kept .1 .1 .1 .0 ∙ c .before .before .before .before .before .before .before .before .before .before .before .loop .inv .0,
+    same-len-mid (80 * c .before .before .before .before .before .before .before .before .before .before .before .loop .count) (length (c .before .before .before .before .before .before .before .before .before .before .before .loop .out) - 80 * c .before .before .before .before .before .before .before .before .before .before .before .loop .count) (c .before .before .before .before .before .before .before .before .before .before .before .loop .out) (c .before .before .before .before .before .before .step .last .1 .1 .1 .1 .0) (c .before .before .before .before .before .before .step .kept .1 .1 .1 .1 .0) ∙ c .before .before .before .before .before .before .before .before .before .before .before .loop .inv .1,
+    omega arith,
+    underway-next (setAt (c .before .before .before .before .before .before .before .before .before .before .before .before .before .before .before .before .args .size) (c .before .before .before .before .before .before .before .before .before .before .before .before .before .before .before .before .args .sets .now)) (c .before .before .before .before .before .before .before .before .before .before .before .before .before .before .before .before .args .log .now) (c .before .before .before .before .before .before .before .before .before .before .before .before .before .before .before .before .args .mem .now) (c .before .before .before .before .before .before .before .before .before .before .before .before .before .before .before .before .args .out .now) (c .before .before .before .before .before .before .before .before .before .before .before .loop .j) (c .before .before .before .before .before .before .before .before .before .before .before .loop .mem) (c .before .before .before .before .before .before .before .before .before .before .before .loop .out) (c .before .before .before .before .before .before .before .before .before .before .before .loop .count) (c .before .before .before .before .before .before .before .before .before .before .before .loop .inv .3) (c .before .before .before .before .before .before .before .before .before .before .before .before .before .before .before .before .pre .room) (c .before .before .before .before .before .before .before .before .before .before .before .before .before .before .before .before .pre .few) (omega arith)
+    (c .before .before .before .before .before .before .before .before .before .line-at .result) (c .before .before .before .before .before .before .before .before .before .line-at .ensures) (c .before .before .before .before .before .before .step .result) (c .before .before .before .before .before .before .step .last .1 .1 .1 .0) (c .before .before .before .before .before .before .step .last .1 .1 .1 .1 .0) (c .before .before .before .before .before .before .step .ensures) (c .results-of .result) (c .results-of .ensures) (c .before .if1 .left),
+    )
 
 -- src/follow.rt:54:1  // Follows a log whose sets are of `size` bytes, up to the first line that is refused. ⏎ pub fn follow(log: &[u8], sets: &[u8], size: usize, mem: &mut [u8], out: &mut [u8]) -> Progress
 same-length-3 : tie.Need-same-length-3 Inv-loop μ-loop
