@@ -14,7 +14,6 @@ pub mod FollowTake
 pub mod FollowAll
 pub mod OnMemory
 pub mod Agreed
-pub mod Started
 pub mod Demand3
 pub mod Oldest
 pub mod ByHistory

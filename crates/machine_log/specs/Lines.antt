@@ -1,7 +1,7 @@
 -- A log of the partner's bench, line by line. Document 02, Job 3: "Its log has two six-character fields a line and a line feed: 1 and a set number, 2 and an
 -- operator number, or 3 and 0, for push, fire, take"; 15 "when a line is malformed, names a set not in the list or is line 4,097". The fields are those of a
 -- sheet (formula/specs/Sheet `fieldOf`). Lines count from 1. Definitions only; assumes nothing.
-use Prim.Native.Nat.{ℕ, zero, suc, _+_, _-_, _/_}
+use Prim.Native.Nat.{ℕ, zero, suc, _+_, _*_, _-_, _/_}
 use mathlib.Core.Bool.{Bool, true, false, cond, _&&_}
 use mathlib.Core.List.{List, [], _∷_}
 use lib.Dec.{eqb, leb}
@@ -49,6 +49,10 @@ lineOf text =
     cond (eqb (length text) lineBytes && eqb (getD text lineFeedAt 0) lineFeed)
     (byFields (fieldOf (fieldText text 0)) (fieldOf (fieldText text 1)))
     Malformed
+
+-- Line j as it lies in the log, counted from 0.
+abbrev pub lineAt : List ℕ → ℕ → Line
+lineAt log j = lineOf (take lineBytes (drop (lineBytes * j) log))
 
 -- The first n lines.
 unfoldable pub linesIn : ℕ → List ℕ → List Line

@@ -4,6 +4,7 @@
 pub mod follow;
 pub mod lines;
 pub mod sets;
+use crate::follow::Progress;
 use crate::follow::RESULT_BYTES;
 use crate::follow::follow;
 use crate::lines::LINE_BYTES;
@@ -18,9 +19,14 @@ use machine_start::capacity_asked;
 use machine_start::start;
 use sheet_read::read::read;
 ghost use mathlib.Core.Path.{_≡_};
+ghost use Prim.Native.Nat.{_<_};
 ghost use lib.ListN.{length};
 ghost use Rattle.formula.specs.Refusals.{numberOf};
-ghost use Rattle.machine_log.specs.Checked.{checks, answers, roomFor, checked};
+ghost use Rattle.formula.specs.Tree.{formulaOf};
+ghost use Rattle.formula.specs.Widths.{width};
+ghost use Rattle.formula.specs.Faults.{lettersOf};
+ghost use Rattle.machine_log.specs.Checked.{checks, answers, roomFor, opening, checked};
+ghost use Rattle.machine_log.specs.CheckedLaws.{logVerdict, openedBy, toldBy};
 
 // The checker's answer: document 01's number of a refusal, 0 where accepted; its row, which is the log's line for 15 and 16; the results
 // handed out, and the width of each.
@@ -65,7 +71,10 @@ fn room_for(bytes: usize) -> usize
 }
 
 // 12 and 15, for a formula of this width whose inputs are of these kinds.
-fn test_log(kinds: &[u8], sets: &[u8], number: u32, log: &[u8], width: usize) -> Opening {
+fn test_log(kinds: &[u8], sets: &[u8], number: u32, log: &[u8], width: usize) -> Opening
+    requires { ⌜ length (now kinds) < 256 ⌝ }
+    ensures { λ r. ⌜ r ≡ openedBy (logVerdict (now (kinds .entry)) (now (sets .entry)) number (now (log .entry))) (length (now (kinds .entry))) width ⌝ }
+{
     if !are_sets(sets, number, kinds) {
         return Opening::Refused(Refusal::Set, 0);
     }
@@ -76,20 +85,23 @@ fn test_log(kinds: &[u8], sets: &[u8], number: u32, log: &[u8], width: usize) ->
 }
 
 // 11, 14, the sheet's tests, 12 and 15.
-fn open(
+fn open_log(
     sheet: &[u8],
     line: &[u8],
     capacity: u32,
     sets: &[u8],
     number: u32,
     log: &[u8],
-    mem_bytes: usize,
-    out_bytes: usize,
-) -> Opening {
-    if mem_bytes < machine_layout::machine_need(capacity_asked(capacity)) {
+    lent: usize,
+    room: usize,
+) -> Opening
+    ensures { λ r. ⌜ r ≡ openedBy (opening (now (sheet .entry)) (now (line .entry)) capacity (now (sets .entry)) number (now (log .entry)) lent room)
+        (length (lettersOf (formulaOf (now (sheet .entry))) (now (line .entry)))) (width (formulaOf (now (sheet .entry)))) ⌝ }
+{
+    if lent < machine_layout::machine_need(capacity_asked(capacity)) {
         return Opening::Refused(Refusal::Memory, 0);
     }
-    if out_bytes < room_for(log.len()) {
+    if room < room_for(log.len()) {
         return Opening::Refused(Refusal::Memory, 0);
     }
     if capacity < 1 {
@@ -107,6 +119,26 @@ fn open(
     }
 }
 
+// The answer once a log is followed: 16 with the line that was refused, or accepted.
+fn told(progress: Progress, width: u32) -> LogAnswer
+    ensures { λ a. ⌜ a ≡ toldBy progress width ⌝ }
+{
+    if progress.line == 0 {
+        return LogAnswer {
+            refusal: 0,
+            row: 0,
+            count: progress.count,
+            width,
+        };
+    }
+    LogAnswer {
+        refusal: formula::refusal_number(Refusal::LogRefused),
+        row: progress.line,
+        count: progress.count,
+        width,
+    }
+}
+
 // Follows a log from an empty machine of a given capacity, in lent memory, and hands out the results.
 pub fn check_log(
     sheet: &[u8],
@@ -120,25 +152,12 @@ pub fn check_log(
 ) -> LogAnswer
     ensures { λ a. ⌜ checks a (now (mem .exit)) (now (out .exit)) ≡ checked (now (sheet .entry)) (now (line .entry)) capacity (now (sets .entry)) number (now (log .entry)) (now (mem .entry)) (now (out .entry)) ⌝ }
 {
-    match open(sheet, line, capacity, sets, number, log, mem.len(), out.len()) {
+    match open_log(sheet, line, capacity, sets, number, log, mem.len(), out.len()) {
         Opening::Refused(r, row) => refused(r, row as u32),
         Opening::Passed(inputs, width) => {
             start(sheet, line, capacity, mem);
             let progress = follow(log, sets, VALUE_BYTES * inputs, mem, out);
-            if progress.line == 0 {
-                return LogAnswer {
-                    refusal: 0,
-                    row: 0,
-                    count: progress.count,
-                    width: width as u32,
-                };
-            }
-            LogAnswer {
-                refusal: formula::refusal_number(Refusal::LogRefused),
-                row: progress.line,
-                count: progress.count,
-                width: width as u32,
-            }
+            told(progress, width as u32)
         }
     }
 }

@@ -4,10 +4,9 @@ use formula::Check;
 use formula::Field;
 use sheet_fields::field::field_in;
 ghost use mathlib.Core.Path.{_≡_};
-ghost use mathlib.Core.Bool.{Bool};
-ghost use Prim.Native.Nat.{_+_, _*_, _≤_};
-ghost use lib.ListN.{length, take, drop};
-ghost use Rattle.machine_log.specs.Lines.{lineBytes, lineBy, byFields, lineOf, listed, logCheck};
+ghost use Prim.Native.Nat.{_*_, _≤_};
+ghost use lib.ListN.{length};
+ghost use Rattle.machine_log.specs.Lines.{lineBytes, lineBy, byFields, lineAt, listed, logCheck};
 
 // A line by the call that it names.
 pub enum Line {
@@ -71,8 +70,8 @@ fn by_fields(first: Field, second: Field) -> Line
 
 // Line j, counted from 0.
 pub fn line_at(log: &[u8], j: usize) -> Line
-    requires { ⌜ 13 * j ≤ length (now log) ⌝ }
-    ensures { λ r. ⌜ r ≡ lineOf (take lineBytes (drop (lineBytes * j) (now (log .entry)))) ⌝ }
+    requires { ⌜ lineBytes * j ≤ length (now log) ⌝ }
+    ensures { λ r. ⌜ r ≡ lineAt (now (log .entry)) j ⌝ }
 {
     let at = LINE_BYTES * j;
     if log.len() - at < LINE_BYTES {

@@ -20,7 +20,7 @@ use Rattle.formula.specs.Faults.{lettersOf}
 use Rattle.formula.specs.Acceptance.{Admissible, Kinded, passed-admissible, passed-kinded}
 use Rattle.machine_layout.specs.Layout.{inputKindsAt, stored16, sizeOf, linkAt, need, capacityIn}
 use Rattle.graph.specs.Translation.{madeOf}
-use Rattle.machine_start.specs.Start.{begun, refusal, accepted, figureBytes, figured, named, lettered, emptied, startedMemory, byVerdict, started}
+use Rattle.machine_start.specs.Start.{Begun, begun, refusal, accepted, figureBytes, figured, named, lettered, emptied, startedMemory, byVerdict, started}
 
 -- ---- the header's figures as they are written
 
@@ -108,6 +108,12 @@ unfolding capacityIn
 capacity-in c h k = rw (le-leb 1 c h, le-leb c 16 k) refl
 
 -- ---- an accepted start
+
+-- Where the sheet is accepted, the capacity is one of 1 to 16 and the memory as long as a machine needs, start accepts.
+pub start-accepts : (s line : List ℕ) (c : ℕ) (m : List ℕ) → verdictOf s line ≡ Passed → 1 ≤ c → c ≤ 16 → need (sizeOf c) ≤ length m → started s line c m .answer .refusal ≡ 0
+start-accepts s line c m passed low high long =
+    ap (λ (b : Begun). b .answer .refusal)
+    (started-read s line c m (omega (arith, capacity-in c low high)) low high ∙ verdict-passed (verdictOf s line) (formulaOf s) (lettersOf (formulaOf s) line) c m passed)
 
 pub record AcceptedStart (s line : List ℕ) (c : ℕ) (m : List ℕ) : Type 0 where
   pub long : need (sizeOf c) ≤ length m
