@@ -42,11 +42,11 @@ allSets kinds [] = true
 allSets kinds (s ∷ ss) = setOk kinds s && allSets kinds ss
 
 -- The room for results, by the log's length: each takes a push's line and a take's, and there are up to 4,096 lines.
-abbrev pub mostResults : ℕ
-mostResults = mostLines / 2
+abbrev pub mostTaken : ℕ
+mostTaken = mostLines / 2
 
 unfoldable pub roomFor : ℕ → ℕ
-roomFor bytes = resultBytes * pick (ltb mostResults (bytes / (2 * lineBytes))) mostResults (bytes / (2 * lineBytes))
+roomFor bytes = resultBytes * pick (ltb mostTaken (bytes / (2 * lineBytes))) mostTaken (bytes / (2 * lineBytes))
 
 -- ---- the answer
 
@@ -92,9 +92,13 @@ followedLog sheet line capacity sets number log m =
     let list : List (List ℕ) = setList (lettersOf (formulaOf sheet) line) sets number in
     followed (setIn list) (linesOf log) 1 (started sheet line capacity m .mem) []
 
--- 16 with its line, or accepted; the width is the formula's, of every result
+-- The width of some results, which all have the formula's; 0 where there is none.
+abbrev pub widthOf : ℕ → ℕ → ℕ
+widthOf count w = pick (eqb count 0) 0 w
+
+-- 16 with its line, or accepted; "leaving machine, results and count as the earlier lines made them"
 unfoldable pub told : Followed → ℕ → LogAnswer
-told f w = answers (pick (eqb (f .line) 0) 0 (numberOf LogRefused)) (f .line) (length (f .results)) w
+told f w = answers (pick (eqb (f .line) 0) 0 (numberOf LogRefused)) (f .line) (length (f .results)) (widthOf (length (f .results)) w)
 
 unfoldable pub byOpening : Verdict → Followed → ℕ → List ℕ → List ℕ → Checked
 unfolding told

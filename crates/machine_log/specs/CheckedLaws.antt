@@ -39,7 +39,7 @@ use Rattle.machine_log.specs.declared.follow.Progress.{Progress}
 use Rattle.machine_log.specs.Lines.{mostLines, lineAt, lineCount, linesOf, listed, logCheck}
 use Rattle.machine_log.specs.LineLaws.{passed-few, passed-listed, fault-low}
 use Rattle.machine_log.specs.Follow.{Followed, followed}
-use Rattle.machine_log.specs.Checked.{setList, setIn, allSets, roomFor, checks, answers, writtenOut, behind, opening, followedLog, told, byOpening, checked}
+use Rattle.machine_log.specs.Checked.{setList, setIn, allSets, roomFor, checks, answers, writtenOut, widthOf, behind, opening, followedLog, told, byOpening, checked}
 use Rattle.machine_log.specs.SetLaws.{setAt, set-in, set-lent}
 use Rattle.machine_log.specs.FollowLaws.{Lies, Followable, progressOf, Follows, push-listed, followed-same}
 
@@ -214,7 +214,7 @@ module _ (sheet line : List ℕ) (capacity : ℕ) (sets : List ℕ) (number : �
 
 -- The answer by how far the log was followed.
 abbrev pub toldBy : Progress → ℕ → LogAnswer
-toldBy p w = answers (pick (eqb (p .line) 0) 0 (numberOf LogRefused)) (p .line) (p .count) w
+toldBy p w = answers (pick (eqb (p .line) 0) 0 (numberOf LogRefused)) (p .line) (p .count) (widthOf (p .count) w)
 
 listed-lies : (kinds sets : List ℕ) (number : ℕ) → allSets kinds (setList kinds sets number) ≡ true → (l : Line) → listed number l ≡ true → Lies (5 * length kinds) sets l
 listed-lies kinds sets number g (Push n) e = let b = push-listed number n e in (b .0, set-lent kinds sets number n g (b .0) (b .1))

@@ -21,7 +21,7 @@ use Rattle.machine_log.specs.declared.follow.Progress.{Progress}
 use Rattle.machine_log.specs.Lines.{lineBytes, mostLines, lineOf, lineAt, linesIn, lineCount, linesOf, listed, logCheck}
 use Rattle.machine_log.specs.LineLaws.{line-short, line-next, lines-over, lines-all, passed-listed}
 use Rattle.machine_log.specs.Follow.{called, given, Followed, followedTo, followed}
-use Rattle.machine_log.specs.Checked.{mostResults, roomFor, writtenOut}
+use Rattle.machine_log.specs.Checked.{mostTaken, roomFor, writtenOut}
 use Rattle.machine_log.specs.Steps.{Lent, handsOut, Stepped, line-counts, given-long, given-count}
 
 -- ---- the contract
@@ -66,7 +66,7 @@ followed-over set j m r = refl
 
 -- ---- the room
 
-results-fit : (c bytes lent : ℕ) → roomFor bytes ≤ lent → c ≤ mostResults → 26 * c ≤ bytes → resultBytes * c ≤ lent
+results-fit : (c bytes lent : ℕ) → roomFor bytes ≤ lent → c ≤ mostTaken → 26 * c ≤ bytes → resultBytes * c ≤ lent
 unfolding roomFor
 results-fit c bytes lent h few long = go (ltb 2048 (bytes / 26)) h
   where

@@ -25,7 +25,7 @@ ghost use Rattle.formula.specs.Refusals.{numberOf};
 ghost use Rattle.formula.specs.Tree.{formulaOf};
 ghost use Rattle.formula.specs.Widths.{width};
 ghost use Rattle.formula.specs.Faults.{lettersOf};
-ghost use Rattle.machine_log.specs.Checked.{checks, answers, roomFor, opening, checked};
+ghost use Rattle.machine_log.specs.Checked.{checks, answers, roomFor, widthOf, opening, checked};
 ghost use Rattle.machine_log.specs.CheckedLaws.{logVerdict, openedBy, toldBy};
 
 // The checker's answer: document 01's number of a refusal, 0 where accepted; its row, which is the log's line for 15 and 16; the results
@@ -119,23 +119,34 @@ fn open_log(
     }
 }
 
+// The width of so many results.
+fn width_of(count: u32, width: u32) -> u32
+    ensures { λ r. ⌜ r ≡ widthOf count width ⌝ }
+{
+    if count == 0 {
+        return 0;
+    }
+    width
+}
+
 // The answer once a log is followed: 16 with the line that was refused, or accepted.
 fn told(progress: Progress, width: u32) -> LogAnswer
     ensures { λ a. ⌜ a ≡ toldBy progress width ⌝ }
 {
+    let count = progress.count;
     if progress.line == 0 {
         return LogAnswer {
             refusal: 0,
             row: 0,
-            count: progress.count,
-            width,
+            count,
+            width: width_of(count, width),
         };
     }
     LogAnswer {
         refusal: formula::refusal_number(Refusal::LogRefused),
         row: progress.line,
-        count: progress.count,
-        width,
+        count,
+        width: width_of(count, width),
     }
 }
 
