@@ -6,7 +6,7 @@ use mathlib.Core.List.{List, []}
 use native.Mathlib.Omega.{arith}
 use native.Mathlib.Decide.{decLt}
 use borrow.Author.Tests.{le-leb, lt-leb}
-use lib.Dec.{eqb}
+use lib.Dec.{eqb, leb}
 use lib.ListN.{length, take, length-take}
 use Rattle.value.specs.Operators.{pick}
 use Rattle.formula.specs.declared.Check.{Check}
@@ -42,6 +42,79 @@ use Rattle.machine_log.specs.Follow.{Followed, followed}
 use Rattle.machine_log.specs.Checked.{setList, setIn, allSets, roomFor, checks, answers, writtenOut, widthOf, behind, opening, followedLog, told, byOpening, checked}
 use Rattle.machine_log.specs.SetLaws.{setAt, set-in, set-lent}
 use Rattle.machine_log.specs.FollowLaws.{Lies, Followable, progressOf, Follows, push-listed, followed-same}
+
+-- A refusal whose row is 0, one of a sheet's or one of a log's.
+abbrev Low : Verdict → Type 0
+Low v = (r : Refusal) (row : ℕ) → v ≡ Refused r row → row ≤ mostLines + 1
+
+low-zero : (k : Refusal) → Low (Refused k 0)
+low-zero k r row e = let i : 0 ≡ row = cc e in omega arith
+
+low-passed : {A B : Type 0} → A → B → Low Passed
+low-passed a b r row e = absurd (let z : _≡_ {A = ℕ} 0 1 = cc e in omega arith)
+
+-- ---- 11 and 14
+
+abbrev pub lentVerdict : ℕ → ℕ → ℕ → ℕ → Verdict
+lentVerdict capacity bytes lent room =
+    afterCheck Memory (whole (leb (need (sizeOf (capacityIn capacity))) lent))
+    (afterCheck Memory (whole (leb (roomFor bytes) room)) (afterCheck Capacity (whole (leb 1 capacity && leb capacity 16)) Passed))
+
+-- What passing them says.
+pub record Lends (capacity bytes lent room : ℕ) : Type 0 where
+  pub long : need (sizeOf (capacityIn capacity)) ≤ lent
+  pub results : roomFor bytes ≤ room
+  pub some : 1 ≤ capacity
+  pub most : capacity ≤ 16
+
+module _ (capacity bytes lent room : ℕ) where
+  abbrev lends : Verdict
+  lends = lentVerdict capacity bytes lent room
+
+  abbrev needed : ℕ
+  needed = need (sizeOf (capacityIn capacity))
+
+  pub lent-memory : lent < needed → lends ≡ Refused Memory 0
+  unfolding afterCheck
+  lent-memory h = rw (lt-leb needed lent h) refl
+
+  module _ (a : needed ≤ lent) where
+    pub lent-room : room < roomFor bytes → lends ≡ Refused Memory 0
+    unfolding afterCheck
+    lent-room h = rw (le-leb needed lent a, lt-leb (roomFor bytes) room h) refl
+
+    module _ (b : roomFor bytes ≤ room) where
+      pub lent-below : capacity < 1 → lends ≡ Refused Capacity 0
+      unfolding afterCheck
+      lent-below h = rw (le-leb needed lent a, le-leb (roomFor bytes) room b, lt-leb 1 capacity h) refl
+
+      pub lent-above : 16 < capacity → lends ≡ Refused Capacity 0
+      unfolding afterCheck
+      lent-above h = rw (le-leb needed lent a, le-leb (roomFor bytes) room b, le-leb 1 capacity (omega arith), lt-leb capacity 16 h) refl
+
+      pub lent-passes : 1 ≤ capacity → capacity ≤ 16 → lends ≡ Passed
+      unfolding afterCheck
+      lent-passes c d = rw (le-leb needed lent a, le-leb (roomFor bytes) room b, le-leb 1 capacity c, le-leb capacity 16 d) refl
+
+  lent-by : (P : Verdict → Type 0) → P (Refused Memory 0) → P (Refused Capacity 0) → (Lends capacity bytes lent room → P Passed) → P lends
+  lent-by P p q s = go (decLt lent needed) (decLt room (roomFor bytes)) (decLt capacity 1) (decLt 16 capacity)
+    where
+      go : Dec (lent < needed) → Dec (room < roomFor bytes) → Dec (capacity < 1) → Dec (16 < capacity) → P lends
+      go (yes a) b c d = subst P (sym (lent-memory a)) p
+      go (no a) (yes b) c d = subst P (sym (lent-room (omega arith) b)) p
+      go (no a) (no b) (yes c) d = subst P (sym (lent-below (omega arith) (omega arith) c)) q
+      go (no a) (no b) (no c) (yes d) = subst P (sym (lent-above (omega arith) (omega arith) d)) q
+      go (no a) (no b) (no c) (no d) =
+          subst P (sym (lent-passes (omega arith) (omega arith) (omega arith) (omega arith)))
+          (s (record { long = omega arith; results = omega arith; some = omega arith; most = omega arith }))
+
+  lent-row : Low lends
+  lent-row = lent-by Low (low-zero Memory) (low-zero Capacity) (λ s r row e. absurd (let z : _≡_ {A = ℕ} 0 1 = cc e in omega arith))
+
+  lent-passed : lends ≡ Passed → Lends capacity bytes lent room
+  lent-passed =
+      lent-by (λ v. v ≡ Passed → Lends capacity bytes lent room) (λ e. absurd (let z : _≡_ {A = ℕ} 0 1 = cc e in omega arith))
+      (λ e. absurd (let z : _≡_ {A = ℕ} 0 1 = cc e in omega arith)) (λ s e. s)
 
 -- ---- 12 and 15
 
@@ -123,78 +196,60 @@ pub opened-passed : (v : Verdict) (i w inputs wide : ℕ) → Opens inputs wide 
 opened-passed Passed i w inputs wide e = (refl, cc e, cc e)
 opened-passed (Refused q x) i w inputs wide e = absurd (let z : _≡_ {A = ℕ} 0 1 = cc e in omega arith)
 
--- A refusal whose row is 0, one of a sheet's or one of a log's.
-abbrev Low : Verdict → Type 0
-Low v = (r : Refusal) (row : ℕ) → v ≡ Refused r row → row ≤ mostLines + 1
-
-low-zero : (k : Refusal) → Low (Refused k 0)
-low-zero k r row e = let i : 0 ≡ row = cc e in omega arith
-
-low-passed : {A B : Type 0} → A → B → Low Passed
-low-passed a b r row e = absurd (let z : _≡_ {A = ℕ} 0 1 = cc e in omega arith)
-
 module _ (sheet line : List ℕ) (capacity : ℕ) (sets : List ℕ) (number : ℕ) (log : List ℕ) (lent room : ℕ) where
   abbrev opens : Verdict
   opens = opening sheet line capacity sets number log lent room
 
-  abbrev needed : ℕ
-  needed = need (sizeOf (capacityIn capacity))
-
   abbrev kinds : List ℕ
   kinds = lettersOf (formulaOf sheet) line
 
-  pub opening-memory : lent < needed → opens ≡ Refused Memory 0
-  unfolding opening afterCheck
-  opening-memory h = rw (lt-leb needed lent h) refl
-
-  module _ (a : needed ≤ lent) where
-    pub opening-room : room < roomFor (length log) → opens ≡ Refused Memory 0
-    unfolding opening afterCheck
-    opening-room h = rw (le-leb needed lent a, lt-leb (roomFor (length log)) room h) refl
-
-    module _ (b : roomFor (length log) ≤ room) where
-      pub opening-below : capacity < 1 → opens ≡ Refused Capacity 0
-      unfolding opening afterCheck
-      opening-below h = rw (le-leb needed lent a, le-leb (roomFor (length log)) room b, lt-leb 1 capacity h) refl
-
-      pub opening-above : 16 < capacity → opens ≡ Refused Capacity 0
-      unfolding opening afterCheck
-      opening-above h = rw (le-leb needed lent a, le-leb (roomFor (length log)) room b, le-leb 1 capacity (omega arith), lt-leb capacity 16 h) refl
-
-      module _ (c : 1 ≤ capacity) (d : capacity ≤ 16) where
-        pub opening-sheet : (r : Refusal) (row : ℕ) → verdictOf sheet line ≡ Refused r row → opens ≡ Refused r row
-        unfolding opening afterCheck behind
-        opening-sheet r row e = rw (le-leb needed lent a, le-leb (roomFor (length log)) room b, le-leb 1 capacity c, le-leb capacity 16 d, e) refl
-
-        pub opening-log : verdictOf sheet line ≡ Passed → opens ≡ logVerdict kinds sets number log
-        unfolding opening afterCheck behind
-        opening-log e = rw (le-leb needed lent a, le-leb (roomFor (length log)) room b, le-leb 1 capacity c, le-leb capacity 16 d, e) refl
-
-  opening-by : (P : Verdict → Type 0) → P (Refused Memory 0) → P (Refused Capacity 0) → ((r : Refusal) (row : ℕ) → verdictOf sheet line ≡ Refused r row → P (Refused r row))
-      → (needed ≤ lent → roomFor (length log) ≤ room → 1 ≤ capacity → capacity ≤ 16 → verdictOf sheet line ≡ Passed → P (logVerdict kinds sets number log)) → P opens
-  opening-by P p q s t = go (decLt lent needed) (decLt room (roomFor (length log))) (decLt capacity 1) (decLt 16 capacity) (verdictOf sheet line) refl
+  opening-is : opens ≡ behind (lentVerdict capacity (length log) lent room) (behind (verdictOf sheet line) (logVerdict kinds sets number log))
+  unfolding opening behind afterCheck
+  opening-is = go (leb (need (sizeOf (capacityIn capacity))) lent) (leb (roomFor (length log)) room) (leb 1 capacity && leb capacity 16)
     where
-      go : Dec (lent < needed) → Dec (room < roomFor (length log)) → Dec (capacity < 1) → Dec (16 < capacity) → (v : Verdict) → verdictOf sheet line ≡ v → P opens
-      go (yes a) b c d v e = subst P (sym (opening-memory a)) p
-      go (no a) (yes b) c d v e = subst P (sym (opening-room (omega arith) b)) p
-      go (no a) (no b) (yes c) d v e = subst P (sym (opening-below (omega arith) (omega arith) c)) q
-      go (no a) (no b) (no c) (yes d) v e = subst P (sym (opening-above (omega arith) (omega arith) d)) q
-      go (no a) (no b) (no c) (no d) (Refused r row) e = subst P (sym (opening-sheet (omega arith) (omega arith) (omega arith) (omega arith) r row e)) (s r row e)
-      go (no a) (no b) (no c) (no d) Passed e =
-          subst P (sym (opening-log (omega arith) (omega arith) (omega arith) (omega arith) e)) (t (omega arith) (omega arith) (omega arith) (omega arith) e)
+      later : Verdict
+      later = behind (verdictOf sheet line) (logVerdict kinds sets number log)
+
+      go : (a b c : Bool) → afterCheck Memory (whole a) (afterCheck Memory (whole b) (afterCheck Capacity (whole c) later))
+          ≡ behind (afterCheck Memory (whole a) (afterCheck Memory (whole b) (afterCheck Capacity (whole c) Passed))) later
+      go true true true = refl
+      go true true false = refl
+      go true false c = refl
+      go false b c = refl
+
+  pub opening-lent : (r : Refusal) (row : ℕ) → lentVerdict capacity (length log) lent room ≡ Refused r row → opens ≡ Refused r row
+  unfolding behind
+  opening-lent r row e = opening-is ∙ rw e refl
+
+  module _ (e : lentVerdict capacity (length log) lent room ≡ Passed) where
+    pub opening-sheet : (r : Refusal) (row : ℕ) → verdictOf sheet line ≡ Refused r row → opens ≡ Refused r row
+    unfolding behind
+    opening-sheet r row f = opening-is ∙ rw (e, f) refl
+
+    pub opening-log : verdictOf sheet line ≡ Passed → opens ≡ logVerdict kinds sets number log
+    unfolding behind
+    opening-log f = opening-is ∙ rw (e, f) refl
+
+  opening-by : (P : Verdict → Type 0) → ((r : Refusal) (row : ℕ) → lentVerdict capacity (length log) lent room ≡ Refused r row → P (Refused r row))
+      → ((r : Refusal) (row : ℕ) → verdictOf sheet line ≡ Refused r row → P (Refused r row))
+      → (lentVerdict capacity (length log) lent room ≡ Passed → verdictOf sheet line ≡ Passed → P (logVerdict kinds sets number log)) → P opens
+  opening-by P p q s = go (lentVerdict capacity (length log) lent room) refl (verdictOf sheet line) refl
+    where
+      go : (u : Verdict) → lentVerdict capacity (length log) lent room ≡ u → (v : Verdict) → verdictOf sheet line ≡ v → P opens
+      go (Refused r row) e v f = subst P (sym (opening-lent r row e)) (p r row e)
+      go Passed e (Refused r row) f = subst P (sym (opening-sheet e r row f)) (q r row f)
+      go Passed e Passed f = subst P (sym (opening-log e f)) (s e f)
 
   -- A refusal's row fits 32 bits.
   pub opening-row : Low opens
   opening-row =
-      opening-by Low (low-zero Memory) (low-zero Capacity) (λ k x v r row e. let i : x ≡ row = cc e in omega (arith, low-row sheet line k x v))
-      (λ a b c d e. log-by kinds sets number log Low (low-zero Set) (λ j f r row z. let i : j ≡ row = cc z in omega (arith, fault-low number log j f)) low-passed)
+      opening-by Low (λ k x v r row e. let i : x ≡ row = cc e in omega (arith, lent-row capacity (length log) lent room k x v))
+      (λ k x v r row e. let i : x ≡ row = cc e in omega (arith, low-row sheet line k x v))
+      (λ e f. log-by kinds sets number log Low (low-zero Set) (λ j g r row z. let i : j ≡ row = cc z in omega (arith, fault-low number log j g)) low-passed)
 
   -- What passing says.
   pub record Opened : Type 0 where
-    pub long : needed ≤ lent
-    pub results : roomFor (length log) ≤ room
-    pub some : 1 ≤ capacity
-    pub most : capacity ≤ 16
+    pub lends : Lends capacity (length log) lent room
     pub passed : verdictOf sheet line ≡ Passed
     pub all-good : allSets kinds (setList kinds sets number) ≡ true
     pub well : logCheck number log ≡ passes
@@ -207,8 +262,9 @@ module _ (sheet line : List ℕ) (capacity : ℕ) (sets : List ℕ) (number : �
 
   pub opening-passed : opens ≡ Passed → Opened
   opening-passed =
-      opening-by Tells (never Memory 0) (never Capacity 0) (λ r row v. never r row)
-      (λ a b c d e. log-by kinds sets number log Tells (never Set 0) (λ j f. never LogLine j) (λ f g z. record { long = a; results = b; some = c; most = d; passed = e; all-good = f; well = g }))
+      opening-by Tells (λ r row v. never r row) (λ r row v. never r row)
+      (λ e f. log-by kinds sets number log Tells (never Set 0) (λ j g. never LogLine j)
+      (λ g h z. record { lends = lent-passed capacity (length log) lent room e; passed = f; all-good = g; well = h }))
 
 -- ---- the log followed
 
@@ -232,10 +288,10 @@ module _ (sheet line : List ℕ) (capacity : ℕ) (sets : List ℕ) (number : �
   module _ (O : Opened sheet line capacity sets number log (length m) (length out)) where
     pub can-follow : Followable (5 * length inputKinds) sets log begins out
     can-follow =
-        let a = start-accepts sheet line capacity m (O .passed) (O .some) (O .most) (omega (arith, O .long, capacity-in capacity (O .some) (O .most))) in
+        let a = start-accepts sheet line capacity m (O .passed) (O .lends .some) (O .lends .most) (omega (arith, O .lends .long, capacity-in capacity (O .lends .some) (O .lends .most))) in
         record {
           few = passed-few number log (O .well);
-          room = O .results;
+          room = O .lends .results;
           empty = started-untaken sheet line capacity m (accepted-start sheet line capacity m a);
           lie = λ j h. listed-lies inputKinds sets number (O .all-good) (lineAt log j) (passed-listed number log (O .well) j h);
         }

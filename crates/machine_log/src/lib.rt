@@ -15,6 +15,7 @@ use crate::sets::are_sets;
 use formula::Check;
 use formula::Reading;
 use formula::Refusal;
+use formula::Verdict;
 use machine_start::capacity_asked;
 use machine_start::start;
 use sheet_read::read::read;
@@ -26,7 +27,7 @@ ghost use Rattle.formula.specs.Tree.{formulaOf};
 ghost use Rattle.formula.specs.Widths.{width};
 ghost use Rattle.formula.specs.Faults.{lettersOf};
 ghost use Rattle.machine_log.specs.Checked.{checks, answers, roomFor, widthOf, opening, checked};
-ghost use Rattle.machine_log.specs.CheckedLaws.{logVerdict, openedBy, toldBy};
+ghost use Rattle.machine_log.specs.CheckedLaws.{lentVerdict, logVerdict, openedBy, toldBy};
 
 // The checker's answer: document 01's number of a refusal, 0 where accepted; its row, which is the log's line for 15 and 16; the results
 // handed out, and the width of each.
@@ -70,6 +71,25 @@ fn room_for(bytes: usize) -> usize
     RESULT_BYTES * results
 }
 
+// 11 and 14, for a log of so many bytes, by the bytes lent for the machine and for the results.
+fn test_lent(capacity: u32, bytes: usize, lent: usize, room: usize) -> Verdict
+    ensures { λ v. ⌜ v ≡ lentVerdict capacity bytes lent room ⌝ }
+{
+    if lent < machine_layout::machine_need(capacity_asked(capacity)) {
+        return Verdict::Refused(Refusal::Memory, 0);
+    }
+    if room < room_for(bytes) {
+        return Verdict::Refused(Refusal::Memory, 0);
+    }
+    if capacity < 1 {
+        return Verdict::Refused(Refusal::Capacity, 0);
+    }
+    if MOST_CAPACITY < capacity {
+        return Verdict::Refused(Refusal::Capacity, 0);
+    }
+    Verdict::Passed
+}
+
 // 12 and 15, for a formula of this width whose inputs are of these kinds.
 fn test_log(kinds: &[u8], sets: &[u8], number: u32, log: &[u8], width: usize) -> Opening
     requires { ⌜ length (now kinds) < 256 ⌝ }
@@ -98,17 +118,11 @@ fn open_log(
     ensures { λ r. ⌜ r ≡ openedBy (opening (now (sheet .entry)) (now (line .entry)) capacity (now (sets .entry)) number (now (log .entry)) lent room)
         (length (lettersOf (formulaOf (now (sheet .entry))) (now (line .entry)))) (width (formulaOf (now (sheet .entry)))) ⌝ }
 {
-    if lent < machine_layout::machine_need(capacity_asked(capacity)) {
-        return Opening::Refused(Refusal::Memory, 0);
-    }
-    if room < room_for(log.len()) {
-        return Opening::Refused(Refusal::Memory, 0);
-    }
-    if capacity < 1 {
-        return Opening::Refused(Refusal::Capacity, 0);
-    }
-    if MOST_CAPACITY < capacity {
-        return Opening::Refused(Refusal::Capacity, 0);
+    match test_lent(capacity, log.len(), lent, room) {
+        Verdict::Refused(r, row) => {
+            return Opening::Refused(r, row);
+        }
+        Verdict::Passed => {}
     }
     match read(sheet, line) {
         Reading::Rejected(r, row) => Opening::Refused(r, row),
