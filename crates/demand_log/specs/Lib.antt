@@ -1,0 +1,3 @@
+pub mod LogCalls
+pub mod Made
+pub mod LinesMade
