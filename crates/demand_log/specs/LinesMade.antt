@@ -2,7 +2,7 @@
 -- the end exactly where all are accepted, with the same memory, sets and results. Assumes a memory in which the machine of a formula stands (demand/specs/Agree).
 use Prim.Native.Nat.{ℕ, suc, _≤_, _<_}
 use mathlib.Core.Path.{_≡_, refl, sym, ap, ap₂, subst, _∙_}
-use mathlib.Core.Bool.{true, false≢true}
+use mathlib.Core.Bool.{true}
 use mathlib.Core.List.{List, [], _∷_, _++_, append-nil, append-assoc, map-append}
 use native.Mathlib.Omega.{arith}
 use native.Mathlib.Decide.{ℕ-discrete}
@@ -14,16 +14,16 @@ use Rattle.machine_layout.specs.Layout.{resultsOf}
 use Rattle.theory_verdicts.specs.Running.{afterSteps, stepsFrom}
 use Rattle.demand_view.specs.Stands.{Stands}
 use Rattle.machine_log.specs.declared.lines.Line.{Line}
-use Rattle.machine_log.specs.declared.lines.Line.the-variants.{Push, Fire, Take, Malformed}
+use Rattle.machine_log.specs.declared.lines.Line.the-variants.{Malformed}
 use Rattle.machine_log.specs.Lines.{listed}
-use Rattle.machine_log.specs.Follow.{room, called, given, Followed, followed}
+use Rattle.machine_log.specs.Follow.{called, given, Followed, followed}
 use Rattle.refusals.specs.LogLaws.{follow-none, follow-accepted, follow-refused}
-use Rattle.demand.specs.MemoryCalls.{Call, push, fire, take, Result, memoryAfter, memoryAfterAll, answersOf, setOf, resultOf, setsPushed, resultsTaken}
+use Rattle.demand.specs.MemoryCalls.{Call, Result, memoryAfter, memoryAfterAll, answersOf, setOf, resultOf, setsPushed, resultsTaken}
 use Rattle.demand.specs.Agree.{CallsAgree}
 use Rattle.demand.specs.Followed.{Follows}
 use Rattle.demand.specs.FollowAll.{call-follows}
 use Rattle.demand_log.specs.LogCalls.{callsOf, setOfLine, setsOfLines, AllAccepted, AllWide, bytesOf}
-use Rattle.demand_log.specs.Made.{Made, push-made, fire-made, take-made}
+use Rattle.demand_log.specs.Made.{Made, Names, line-names}
 
 wide-both : (w : ℕ) (a b : List Result) → AllWide w a → AllWide w b → AllWide w (a ++ b)
 wide-both w [] b h k = k
@@ -33,22 +33,17 @@ wide-both w (r ∷ a) b h k = (h .0, wide-both w a b (h .1) k)
 abbrev pub Listed : ℕ → List Line → Type 0
 Listed number lines = (i : ℕ) → i < length lines → listed number (getD lines i Malformed) ≡ true
 
-no-malformed : (number : ℕ) → listed number Malformed ≡ true → ⊥
-unfolding listed
-no-malformed number e = false≢true e
-
--- Where following came to the end of the lines.
-pub record ToTheEnd (set : ℕ → List ℕ) (w : ℕ) (lines : List Line) (calls : List Call) (m : List ℕ) (results : List (List ℕ)) (f : Followed) : Type 0 where
-  pub memory : f .mem ≡ memoryAfterAll calls m
-  pub kept : length (f .mem) ≡ length m
-  pub handed : f .results ≡ results ++ bytesOf (resultsTaken calls m)
+-- Where following came to the end of the lines: from a machine and some results to others.
+pub record ToTheEnd (set : ℕ → List ℕ) (w : ℕ) (lines : List Line) (calls : List Call) (m : List ℕ) (results : List (List ℕ)) (m′ : List ℕ) (results′ : List (List ℕ)) : Type 0 where
+  pub memory : m′ ≡ memoryAfterAll calls m
+  pub handed : results′ ≡ results ++ bytesOf (resultsTaken calls m)
   pub pushes : setsPushed calls m ≡ setsOfLines set lines
   pub wide : AllWide w (resultsTaken calls m)
 
 pub record Same (set : ℕ → List ℕ) (w : ℕ) (lines : List Line) (calls : List Call) (m : List ℕ) (results : List (List ℕ)) (f : Followed) : Type 0 where
   pub accepted : f .line ≡ 0 → AllAccepted (answersOf calls m)
   pub follows : AllAccepted (answersOf calls m) → f .line ≡ 0
-  pub ends : f .line ≡ 0 → ToTheEnd set w lines calls m results f
+  pub ends : f .line ≡ 0 → ToTheEnd set w lines calls m results (f .mem) (f .results)
 
 module _ (set : ℕ → List ℕ) (w : ℕ) where
   same-none : (m : List ℕ) (j : ℕ) (results : List (List ℕ)) → Same set w [] [] m results (followed set [] j m results)
@@ -58,7 +53,7 @@ module _ (set : ℕ → List ℕ) (w : ℕ) where
       (record {
         accepted = λ e. tt;
         follows = λ a. refl;
-        ends = λ e. record { memory = refl; kept = refl; handed = sym (append-nil results); pushes = refl; wide = tt };
+        ends = λ e. record { memory = refl; handed = sym (append-nil results); pushes = refl; wide = tt };
       })
 
   -- One line more in front.
@@ -73,7 +68,7 @@ module _ (set : ℕ → List ℕ) (w : ℕ) where
     f′ = followed set lines (suc j) m′ results′
 
     module _ (I : Same set w lines calls m′ results′ f′) (z : called set l m .answer .refusal ≡ 0) where
-      to-the-end : f′ .line ≡ 0 → ToTheEnd set w (l ∷ lines) (c ∷ calls) m results f′
+      to-the-end : f′ .line ≡ 0 → ToTheEnd set w (l ∷ lines) (c ∷ calls) m results (f′ .mem) (f′ .results)
       unfolding memoryAfterAll setsPushed resultsTaken
       to-the-end e =
           let E = I .ends e in
@@ -81,7 +76,6 @@ module _ (set : ℕ → List ℕ) (w : ℕ) where
           let s : resultsTaken calls m′ ≡ n = ap (resultsTaken calls) (sym (M .memory)) in
           record {
             memory = E .memory ∙ ap (memoryAfterAll calls) (sym (M .memory));
-            kept = E .kept ∙ M .kept;
             handed =
                 E .handed
                 ∙ append-assoc results (given l (called set l m)) (bytesOf (resultsTaken calls m′))
@@ -130,18 +124,9 @@ module _ (x : Exp) (kinds : List ℕ) (capacity : ℕ) (low : 1 ≤ capacity) (h
   pub lines-made : (lines : List Line) → Listed number lines → (m : List ℕ) → length m ≡ lent → (q : Links) → Stands (madeOf x) kinds capacity m q
       → (j : ℕ) → 1 ≤ j → (results : List (List ℕ)) → Same set w lines (callsOf set lent lines) m results (followed set lines j m results)
   lines-made [] h m e q H j p results = same-none set w m j results
-  lines-made (Push n ∷ lines) h m e q H j p results =
-      let M = push-made set lent m e n in
-      same-line set w (Push n) (push lent (set n)) lines (callsOf set lent lines) m j results M (H .results-are) p
-      (lines-made lines (λ i k. h (suc i) (omega arith)) _ (M .kept ∙ e) (next m q H (Push n) (push lent (set n)) M) (next-stands m q H (Push n) (push lent (set n)) M)
-      (suc j) (omega arith) _)
-  lines-made (Fire i ∷ lines) h m e q H j p results =
-      let M = fire-made set lent m e i in
-      same-line set w (Fire i) (fire lent i) lines (callsOf set lent lines) m j results M (H .results-are) p
-      (lines-made lines (λ i k. h (suc i) (omega arith)) _ (M .kept ∙ e) (next m q H (Fire i) (fire lent i) M) (next-stands m q H (Fire i) (fire lent i) M)
-      (suc j) (omega arith) _)
-  lines-made (Take ∷ lines) h m e q H j p results =
-      let M = take-made set lent m e in
-      same-line set w Take (take lent room) lines (callsOf set lent lines) m j results M (H .results-are) p
-      (lines-made lines (λ i k. h (suc i) (omega arith)) _ (M .kept ∙ e) (next m q H Take (take lent room) M) (next-stands m q H Take (take lent room) M) (suc j) (omega arith) _)
-  lines-made (Malformed ∷ lines) h m e q H j p results = absurd (no-malformed number (h 0 (omega arith)))
+  lines-made (l ∷ lines) h m e q H j p results =
+      let N = line-names set lent m e number l (h 0 (omega arith)) in
+      let M = N .made in
+      subst (λ (cs : List Call). Same set w (l ∷ lines) (cs ++ callsOf set lent lines) m results (followed set (l ∷ lines) j m results)) (sym (N .named))
+      (same-line set w l (N .call) lines (callsOf set lent lines) m j results M (H .results-are) p
+      (lines-made lines (λ i k. h (suc i) (omega arith)) _ (M .kept ∙ e) (next m q H l (N .call) M) (next-stands m q H l (N .call) M) (suc j) (omega arith) _))

@@ -15,7 +15,8 @@ use Rattle.machine_log.specs.declared.lines.Line.{Line}
 use Rattle.machine_log.specs.declared.lines.Line.the-variants.{Push, Fire, Take, Malformed}
 use Rattle.machine_log.specs.Lines.{lineCount, linesOf, lineWell}
 use Rattle.machine_log.specs.Follow.{room}
-use Rattle.machine_log.specs.Checked.{setList, setIn, allSets, roomFor, Checked, checked}
+use Rattle.machine_log.specs.Checked.{setList, allSets, roomFor, Checked, checked}
+use Rattle.refusals.specs.LogRows.{setNamed}
 use Rattle.demand.specs.MemoryCalls.{Call, push, fire, take, Result, memoryAfterAll, answersOf, setsPushed, resultsTaken}
 
 -- ---- the calls that lines name
@@ -80,7 +81,7 @@ module _ (sheet line : List ℕ) (capacity : ℕ) (sets : List ℕ) (number : �
 
   -- "Sets count from 1 in a list lent like a tray."
   abbrev pub set : ℕ → List ℕ
-  set = setIn (setList (lettersOf (formulaOf sheet) line) sets number)
+  set = setNamed sheet line sets number
 
   -- Each call is lent the whole memory.
   abbrev pub calls : List Line → List Call

@@ -2,7 +2,7 @@
 -- (machine_log/specs/Follow `called`), whatever the memory holds. Assumes nothing.
 use Prim.Native.Nat.{ℕ, _+_, _*_, _≤_, _<_}
 use mathlib.Core.Path.{_≡_, refl, sym, ap, ap₂, subst, _∙_}
-use mathlib.Core.Bool.{Bool, true, false, cond, _&&_}
+use mathlib.Core.Bool.{Bool, true, false, cond, false≢true}
 use mathlib.Core.List.{List, [], _∷_, _++_, append-nil, flatten}
 use native.Mathlib.Omega.{arith}
 use native.Mathlib.Decide.{ℕ-discrete}
@@ -20,6 +20,7 @@ use Rattle.machine_calls.specs.CallLaws.{standing-good, emptied-keeps, pushed-l
 use Rattle.machine_rounds.specs.Keeps.{fired-keeps}
 use Rattle.machine_log.specs.declared.lines.Line.{Line}
 use Rattle.machine_log.specs.declared.lines.Line.the-variants.{Push, Fire, Take, Malformed}
+use Rattle.machine_log.specs.Lines.{listed}
 use Rattle.machine_log.specs.Follow.{room, called, given}
 use Rattle.machine_log.specs.Steps.{given-long}
 use Rattle.demand.specs.MemoryCalls.{Call, push, fire, take, Result, result, accepted, answerOf, memoryAfter, setOf, resultOf}
@@ -86,7 +87,7 @@ module _ (set : ℕ → List ℕ) (lent : ℕ) (m : List ℕ) (e : length m ≡ 
   left : (m′ : List ℕ) → m′ ++ drop lent m ≡ m′
   left m′ = ap (λ (r : List ℕ). m′ ++ r) behind ∙ append-nil m′
 
-  pub push-made : (n : ℕ) → Made set (Push n) (push lent (set n)) m
+  push-made : (n : ℕ) → Made set (Push n) (push lent (set n)) m
   unfolding answerOf memoryAfter setOf resultOf called given accepted
   push-made n =
       record {
@@ -98,7 +99,7 @@ module _ (set : ℕ → List ℕ) (lent : ℕ) (m : List ℕ) (e : length m ≡ 
         wide = tt;
       }
 
-  pub fire-made : (i : ℕ) → Made set (Fire i) (fire lent i) m
+  fire-made : (i : ℕ) → Made set (Fire i) (fire lent i) m
   unfolding answerOf memoryAfter setOf resultOf called given accepted
   fire-made i =
       record {
@@ -124,7 +125,7 @@ module _ (set : ℕ → List ℕ) (lent : ℕ) (m : List ℕ) (e : length m ≡ 
   take-wide true p = ((took m room (omega arith) .1 (eqb-true _ 0 p), ap length whole-out ∙ eighty), tt)
   take-wide false p = tt
 
-  pub take-made : Made set Take (take lent room) m
+  take-made : Made set Take (take lent room) m
   unfolding answerOf memoryAfter setOf resultOf called given accepted
   take-made =
       record {
@@ -140,3 +141,16 @@ module _ (set : ℕ → List ℕ) (lent : ℕ) (m : List ℕ) (e : length m ≡ 
             subst (λ (b : List ℕ). AllWide (resultsOf m) (handsOver (eqb (taken b room .answer .refusal) 0) (taken b room))) (sym whole)
             (take-wide (eqb (taken m room .answer .refusal) 0) refl);
       }
+
+  -- Every line that is one names one call.
+  pub record Names (l : Line) : Type 0 where
+    pub call : Call
+    pub named : callOf set lent l ≡ call ∷ []
+    pub made : Made set l call m
+
+  pub line-names : (number : ℕ) (l : Line) → listed number l ≡ true → Names l
+  unfolding listed
+  line-names number (Push n) h = record { call = push lent (set n); named = refl; made = push-made n }
+  line-names number (Fire i) h = record { call = fire lent i; named = refl; made = fire-made i }
+  line-names number Take h = record { call = take lent room; named = refl; made = take-made }
+  line-names number Malformed h = absurd (false≢true h)

