@@ -4,3 +4,4 @@ pub mod LinesMade
 pub mod AnswersTo
 pub mod Checks
 pub mod Logs
+pub mod OneLog

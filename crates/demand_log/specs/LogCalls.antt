@@ -18,6 +18,7 @@ use Rattle.machine_log.specs.Follow.{room}
 use Rattle.machine_log.specs.Checked.{setList, allSets, roomFor, Checked, checked}
 use Rattle.refusals.specs.LogRows.{setNamed}
 use Rattle.demand.specs.MemoryCalls.{Call, push, fire, take, Result, memoryAfterAll, answersOf, setsPushed, resultsTaken}
+use Rattle.demand.specs.Claim.{OwnVerdicts}
 
 -- ---- the calls that lines name
 
@@ -72,54 +73,60 @@ pub record Opened (sheet line : List ℕ) (capacity : ℕ) (sets : List ℕ) (nu
 abbrev pub NoneAtFault : ℕ → List ℕ → Type 0
 NoneAtFault number log = (j : ℕ) → 1 ≤ j → j ≤ lineCount log → lineWell number log j ≡ true
 
--- ---- a log and the machine on which it is followed
+-- ---- a check
 
-module _ (sheet line : List ℕ) (capacity : ℕ) (sets : List ℕ) (number : ℕ) (m : List ℕ) where
+-- The sets that the push lines among these name: "Sets count from 1 in a list lent like a tray."
+abbrev pub setsNamed : List ℕ → List ℕ → List ℕ → ℕ → List Line → List (List ℕ)
+setsNamed sheet line sets number lines = setsOfLines (setNamed sheet line sets number) lines
+
+module _ (sheet line : List ℕ) (capacity : ℕ) (sets : List ℕ) (number : ℕ) (log m out : List ℕ) where
+  abbrev pub check : Checked
+  check = checked sheet line capacity sets number log m out
+
   -- "an empty machine of a given capacity"
   abbrev pub start : List ℕ
   start = started sheet line capacity m .mem
 
-  -- "Sets count from 1 in a list lent like a tray."
-  abbrev pub set : ℕ → List ℕ
-  set = setNamed sheet line sets number
-
-  -- Each call is lent the whole memory.
+  -- The calls that these lines name, each lent the whole memory, and the results that they take from the empty machine.
   abbrev pub calls : List Line → List Call
-  calls lines = callsOf set (length m) lines
+  calls lines = callsOf (setNamed sheet line sets number) (length m) lines
 
-  abbrev pub setsNamed : List Line → List (List ℕ)
-  setsNamed lines = setsOfLines set lines
-
-  -- The results that these lines' calls take from the empty machine.
   abbrev pub results : List Line → List Result
   results lines = resultsTaken (calls lines) start
 
   -- "every line would have been accepted", nothing being refused before
-  pub record AcceptedLog (log out : List ℕ) : Type 0 where
+  pub record AcceptedLog : Type 0 where
     pub opened : Opened sheet line capacity sets number log m out
     pub lines : NoneAtFault number log
     pub accepted : AllAccepted (answersOf (calls (linesOf log)) start)
 
   -- The answer to the call of line j.
-  abbrev pub answerTo : List ℕ → ℕ → Answer
-  answerTo log j = getD (answersOf (calls (linesOf log)) start) (j - 1) (answers 0 0)
+  abbrev pub answerTo : ℕ → Answer
+  answerTo j = getD (answersOf (calls (linesOf log)) start) (j - 1) (answers 0 0)
 
   -- "when the machine would refuse the line, .. the lowest such line": line j, nothing being refused before
-  pub record RefusedLine (log out : List ℕ) (j : ℕ) : Type 0 where
+  pub record RefusedLine (j : ℕ) : Type 0 where
     pub opened : Opened sheet line capacity sets number log m out
     pub lines : NoneAtFault number log
     pub first : 1 ≤ j
-    pub before : (i : ℕ) → 1 ≤ i → i < j → answerTo log i .refusal ≡ 0
-    pub refused : answerTo log j .refusal ≢ 0
+    pub before : (i : ℕ) → 1 ≤ i → i < j → answerTo i .refusal ≡ 0
+    pub refused : answerTo j .refusal ≢ 0
 
-  -- What a check tells and leaves, by the lines that it followed to their end.
-  pub record LeftBy (out : List ℕ) (lines : List Line) (c : Checked) : Type 0 where
+  -- What the check tells and leaves, by the lines that it followed to their end.
+  pub record LeftBy (lines : List Line) : Type 0 where
     -- the machine
-    pub machine : c .mem ≡ memoryAfterAll (calls lines) start
+    pub machine : check .mem ≡ memoryAfterAll (calls lines) start
     -- "hands out the results", one behind the other; "bytes past what a call writes out keep what they held"
-    pub written : c .out ≡ flatten (bytesOf (results lines)) ++ drop (80 * length (results lines)) out
+    pub written : check .out ≡ flatten (bytesOf (results lines)) ++ drop (80 * length (results lines)) out
     -- "and their count"
-    pub counted : c .answer .count ≡ length (results lines)
-    pub wide : AllWide (c .answer .width) (results lines)
+    pub counted : check .answer .count ≡ length (results lines)
+    pub wide : AllWide (check .answer .width) (results lines)
     -- the sets pushed are those that the lines name
-    pub pushed : setsPushed (calls lines) start ≡ setsNamed lines
+    pub pushed : setsPushed (calls lines) start ≡ setsNamed sheet line sets number lines
+
+  -- Calls on the machine that the check has left after these lines: demand 3 holds of the lines' calls and those together.
+  pub record GoesOn (lines : List Line) (more : List Call) : Type 0 where
+    pub own : OwnVerdicts sheet line capacity start (calls lines ++ more)
+    pub machine : memoryAfterAll (calls lines ++ more) start ≡ memoryAfterAll more (check .mem)
+    pub pushed : setsPushed (calls lines ++ more) start ≡ setsNamed sheet line sets number lines ++ setsPushed more (check .mem)
+    pub taken : resultsTaken (calls lines ++ more) start ≡ results lines ++ resultsTaken more (check .mem)

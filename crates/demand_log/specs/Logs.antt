@@ -7,8 +7,9 @@ use mathlib.Core.Path.{_≡_, refl, sym, ap, ap₂, subst, _∙_}
 use mathlib.Core.Logic.{_⊎_, inl, inr, _≢_, _↔_}
 use mathlib.Core.List.{List, [], _∷_, _++_, flatten, append-assoc}
 use native.Mathlib.Omega.{arith}
+use native.Mathlib.Decide.{ℕ-discrete}
 use lib.ListN.{length, getD, drop, take as firstOf, length-map, length-append, take-append-drop, List·getD-append}
-use lib.Seq.{take-all, take-at, drop-at, drop-drop, length-take-le}
+use lib.Seq.{take-at, drop-at, drop-drop, take-length}
 use Rattle.formula.specs.declared.Refusal.the-variants.{LogRefused}
 use Rattle.formula.specs.Refusals.{numberOf}
 use Rattle.formula.specs.Tree.{formulaOf}
@@ -25,10 +26,38 @@ use Rattle.demand.specs.MemoryCalls.{Call, Result, result, memoryAfterAll, answ
 use Rattle.demand.specs.Appended.{memory-append, sets-append, results-append}
 use Rattle.demand.specs.Claim.{Enough, Ends, yielded, OwnVerdicts}
 use Rattle.demand.specs.Demand3.{demand-3}
-use Rattle.demand_log.specs.LogCalls.{callsOf, setOfLine, setsOfLines, AllAccepted, AllWide, bytesOf, Opened, NoneAtFault, calls, setsNamed, results, AcceptedLog, answerTo, RefusedLine, LeftBy}
+use Rattle.demand_log.specs.LogCalls.{callsOf, setOfLine, setsOfLines, AllAccepted, AllWide, bytesOf, Opened, NoneAtFault, setsNamed, check, AcceptedLog, answerTo, RefusedLine, LeftBy, GoesOn}
 use Rattle.demand_log.specs.LinesMade.{Listed, ToTheEnd, Same}
 use Rattle.demand_log.specs.AnswersTo.{FirstRefused, stops-at, stopped-at}
 use Rattle.demand_log.specs.Checks.{lines-listed, first-listed, Followed-log, Not-followed, followed-when, either-way, row-is, accepts, refuses, accepted-ends, refused-stops, start-length, same-from-start}
+
+-- ---- the k-th of some results
+
+handed-at : (w : ℕ) (rs : List Result) → AllWide w rs → (rest : List ℕ) (k : ℕ) → k < length rs
+    → result w (firstOf 80 (drop (80 * k) (flatten (bytesOf rs) ++ rest))) ≡ getD rs k (result 0 [])
+unfolding flatten
+handed-at w [] h rest k l = absurd (omega arith)
+handed-at w (r ∷ rs) h rest zero l =
+    ap (λ (b : List ℕ). result w (firstOf 80 b)) (append-assoc (r .bytes) (flatten (bytesOf rs)) rest)
+    ∙ ap₂ result (sym (h .0 .0)) (take-at (r .bytes) (flatten (bytesOf rs) ++ rest) 80 (h .0 .1))
+handed-at w (r ∷ rs) h rest (suc k) l =
+    let z : 80 * suc k ≡ 80 + 80 * k = omega arith in
+    let behind : List ℕ = flatten (bytesOf rs) ++ rest in
+    ap₂ (λ (n : ℕ) (b : List ℕ). result w (firstOf 80 (drop n b))) z (append-assoc (r .bytes) (flatten (bytesOf rs)) rest)
+    ∙ ap (λ (b : List ℕ). result w (firstOf 80 b)) (sym (drop-drop (80 * k) 80 (r .bytes ++ behind)) ∙ ap (drop (80 * k)) (drop-at (r .bytes) behind 80 (h .0 .1)))
+    ∙ handed-at w rs (h .1) rest k (omega arith)
+
+-- The sets that the first lines name are the first that all name.
+sets-of-both : (set : ℕ → List ℕ) (a b : List Line) → setsOfLines set (a ++ b) ≡ setsOfLines set a ++ setsOfLines set b
+sets-of-both set [] b = refl
+sets-of-both set (l ∷ a) b =
+    ap (λ (z : List (List ℕ)). setOfLine set l ++ z) (sets-of-both set a b) ∙ sym (append-assoc (setOfLine set l) (setsOfLines set a) (setsOfLines set b))
+
+set-of-first : (set : ℕ → List ℕ) (n : ℕ) (lines : List Line) (j : ℕ) → j < length (setsOfLines set (firstOf n lines))
+    → getD (setsOfLines set (firstOf n lines)) j [] ≡ getD (setsOfLines set lines) j []
+set-of-first set n lines j l =
+    sym (List·getD-append (setsOfLines set (firstOf n lines)) (setsOfLines set (drop n lines)) [] j l)
+    ∙ ap (λ (z : List (List ℕ)). getD z j []) (sym (sets-of-both set (firstOf n lines) (drop n lines)) ∙ ap (setsOfLines set) (take-append-drop n lines))
 
 module _ (sheet line : List ℕ) (capacity : ℕ) (sets : List ℕ) (number : ℕ) (log m out : List ℕ) where
   abbrev c : Checked
@@ -50,7 +79,7 @@ module _ (sheet line : List ℕ) (capacity : ℕ) (sets : List ℕ) (number : �
   Followed-this = Followed-log sheet line capacity sets number log m out
 
   abbrev Left : List Line → Type 0
-  Left done = LeftBy sheet line capacity sets number m out done c
+  Left done = LeftBy sheet line capacity sets number log m out done
 
   not-refused : c .answer .refusal ≡ 0 → Followed-this
   not-refused e = go (either-way sheet line capacity sets number log m out)
@@ -105,7 +134,7 @@ module _ (sheet line : List ℕ) (capacity : ℕ) (sets : List ℕ) (number : �
   -- ---- accepted
 
   -- "It accepts exactly the logs of which every line would have been accepted."
-  pub log-accepted-iff : (checked sheet line capacity sets number log m out .answer .refusal ≡ 0) ↔ AcceptedLog sheet line capacity sets number m log out
+  pub log-accepted-iff : (check sheet line capacity sets number log m out .answer .refusal ≡ 0) ↔ AcceptedLog sheet line capacity sets number log m out
   log-accepted-iff = (
     λ e.
         let F = not-refused e in
@@ -116,19 +145,17 @@ module _ (sheet line : List ℕ) (capacity : ℕ) (sets : List ℕ) (number : �
   )
 
   -- "hands out the results and their count"
-  pub log-results : checked sheet line capacity sets number log m out .answer .refusal ≡ 0
-      → LeftBy sheet line capacity sets number m out (linesOf log) (checked sheet line capacity sets number log m out)
+  pub log-results : check sheet line capacity sets number log m out .answer .refusal ≡ 0 → LeftBy sheet line capacity sets number log m out (linesOf log)
   log-results e = let F = not-refused e in left-all F (accepted-ends sheet line capacity sets number log m out F e)
 
   -- ---- refused with 16
 
   -- "16 when the machine would refuse the line, .. the lowest such line"
   pub log-refused-at : (j : ℕ)
-      → ((checked sheet line capacity sets number log m out .answer .refusal ≡ numberOf LogRefused) × (checked sheet line capacity sets number log m out .answer .row ≡ j))
-      ↔ RefusedLine sheet line capacity sets number m log out j
+      → ((check sheet line capacity sets number log m out .answer .refusal ≡ numberOf LogRefused) × (check sheet line capacity sets number log m out .answer .row ≡ j)) ↔ RefusedLine sheet line capacity sets number log m out j
   log-refused-at j = (to, from)
     where
-      to : (c .answer .refusal ≡ numberOf LogRefused) × (c .answer .row ≡ j) → RefusedLine sheet line capacity sets number m log out j
+      to : (c .answer .refusal ≡ numberOf LogRefused) × (c .answer .row ≡ j) → RefusedLine sheet line capacity sets number log m out j
       to (e, r) =
           let F = not-before e in
           let n = refused-stops sheet line capacity sets number log m out F e in
@@ -143,7 +170,7 @@ module _ (sheet line : List ℕ) (capacity : ℕ) (sets : List ℕ) (number : �
             refused = R .refused;
           }
 
-      from : RefusedLine sheet line capacity sets number m log out j → (c .answer .refusal ≡ numberOf LogRefused) × (c .answer .row ≡ j)
+      from : RefusedLine sheet line capacity sets number log m out j → (c .answer .refusal ≡ numberOf LogRefused) × (c .answer .row ≡ j)
       from R =
           let F = followed-when sheet line capacity sets number log m out (R .opened) (R .lines) in
           let s : f .line ≡ suc (j - 1) =
@@ -152,7 +179,68 @@ module _ (sheet line : List ℕ) (capacity : ℕ) (sets : List ℕ) (number : �
           (refuses sheet line capacity sets number log m out F (λ z. omega (arith, s, z)), row-is sheet line capacity sets number log m out F ∙ omega (arith, s, R .first))
 
   -- "16 leaving machine, results and count as the earlier lines made them"
-  pub log-refused-left : checked sheet line capacity sets number log m out .answer .refusal ≡ numberOf LogRefused
-      → LeftBy sheet line capacity sets number m out (firstOf (checked sheet line capacity sets number log m out .answer .row - 1) (linesOf log))
-      (checked sheet line capacity sets number log m out)
+  pub log-refused-left : check sheet line capacity sets number log m out .answer .refusal ≡ numberOf LogRefused
+      → LeftBy sheet line capacity sets number log m out (firstOf (check sheet line capacity sets number log m out .answer .row - 1) (linesOf log))
   log-refused-left e = let F = not-before e in left-before F (refused-stops sheet line capacity sets number log m out F e)
+
+  -- ---- each result is its own set's verdict
+
+  -- After some of the first lines.
+  module _ (starts : started sheet line capacity m .answer .refusal ≡ 0) (n : ℕ) (L : Left (firstOf n lines)) where
+    abbrev made : List Call
+    made = callsOf set (length m) (firstOf n lines)
+
+    D : OwnVerdicts sheet line capacity start made
+    D = demand-3 sheet line capacity m starts made
+
+    pushed-at : (j : ℕ) → j < length (resultsTaken made start) → getD (setsPushed made start) j [] ≡ getD (setsOfLines set lines) j []
+    pushed-at j l =
+        ap (λ (z : List (List ℕ)). getD z j []) (L .pushed)
+        ∙ set-of-first set n lines j (omega (arith, l, D .none-invented, ap (λ (z : List (List ℕ)). length z) (L .pushed)))
+
+    own-left : (k : ℕ) → k < c .answer .count → ((j : ℕ) → j ≤ k → Ends sheet line (getD (setsOfLines set lines) j []))
+        → (rounds : ℕ) → Enough sheet line (getD (setsOfLines set lines) k []) rounds
+        → result (c .answer .width) (firstOf 80 (drop (80 * k) (c .out))) ≡ yielded (evaluationOf sheet line (getD (setsOfLines set lines) k []) rounds)
+    own-left k l ends rounds enough =
+        let i : k < length (resultsTaken made start) = omega (arith, L .counted) in
+        ap (λ (b : List ℕ). result (c .answer .width) (firstOf 80 (drop (80 * k) b))) (L .written)
+        ∙ handed-at (c .answer .width) (resultsTaken made start) (L .wide) _ k i
+        ∙ D .own k i (λ j p. subst (Ends sheet line) (sym (pushed-at j (omega arith))) (ends j p)) rounds
+        (subst (λ (s : List ℕ). Enough sheet line s rounds) (sym (pushed-at k i)) enough)
+        ∙ ap (λ (s : List ℕ). yielded (evaluationOf sheet line s rounds)) (pushed-at k i)
+
+  -- Of every check, accepted or not: if direct evaluation of each of the first k + 1 sets that push lines name ends, the k-th result handed out, counted from 0, is
+  -- exactly what it yields for the k-th.
+  pub log-own : (k : ℕ) → k < check sheet line capacity sets number log m out .answer .count
+      → ((j : ℕ) → j ≤ k → Ends sheet line (getD (setsNamed sheet line sets number (linesOf log)) j []))
+      → (rounds : ℕ) → Enough sheet line (getD (setsNamed sheet line sets number (linesOf log)) k []) rounds
+      → result (check sheet line capacity sets number log m out .answer .width) (firstOf 80 (drop (80 * k) (check sheet line capacity sets number log m out .out)))
+      ≡ yielded (evaluationOf sheet line (getD (setsNamed sheet line sets number (linesOf log)) k []) rounds)
+  log-own k l = go (either-way sheet line capacity sets number log m out)
+    where
+      Own : Type 0
+      Own = ((j : ℕ) → j ≤ k → Ends sheet line (getD (setsOfLines set lines) j []))
+          → (rounds : ℕ) → Enough sheet line (getD (setsOfLines set lines) k []) rounds
+          → result (c .answer .width) (firstOf 80 (drop (80 * k) (c .out))) ≡ yielded (evaluationOf sheet line (getD (setsOfLines set lines) k []) rounds)
+
+      way : (F : Followed-this) → Dec (f .line ≡ 0) → Own
+      way F (yes z) = own-left (F .opened .starts) (length lines) (rw (take-length lines) (left-all F z)) k l
+      way F (no n) = own-left (F .opened .starts) (c .answer .row - 1) (left-before F n) k l
+
+      go : Followed-this ⊎ Not-followed sheet line capacity sets number log m out → Own
+      go (inl F) = way F (ℕ-discrete (f .line) 0)
+      go (inr N) = absurd (omega (arith, N .none))
+
+  -- ---- calls that come after
+
+  -- After an accepted check (`log-results`) and after 16 (`log-refused-left`) alike: the machine that a check leaves is one that demand 3 speaks of.
+  pub log-goes-on : started sheet line capacity m .answer .refusal ≡ 0
+      → (done : List Line) → LeftBy sheet line capacity sets number log m out done → (more : List Call) → GoesOn sheet line capacity sets number log m out done more
+  log-goes-on starts done L more =
+      let made : List Call = callsOf set (length m) done in
+      record {
+        own = demand-3 sheet line capacity m starts (made ++ more);
+        machine = memory-append made more start ∙ ap (memoryAfterAll more) (sym (L .machine));
+        pushed = sets-append made more start ∙ ap₂ (λ (a : List (List ℕ)) (b : List ℕ). a ++ setsPushed more b) (L .pushed) (sym (L .machine));
+        taken = results-append made more start ∙ ap (λ (b : List ℕ). resultsTaken made start ++ resultsTaken more b) (sym (L .machine));
+      }
