@@ -1,7 +1,7 @@
 -- The answer to a line's call where the lines before it are all accepted, and the line at which following stops, told by the answers alone. Assumes lines that are
 -- well formed.
-use Prim.Native.Nat.{ℕ, zero, suc, _+_, _-_, _≤_, _<_}
-use mathlib.Core.Path.{_≡_, refl, sym, ap, subst, _∙_}
+use Prim.Native.Nat.{ℕ, zero, suc, _+_, _≤_, _<_}
+use mathlib.Core.Path.{_≡_, refl, sym, ap, _∙_}
 use mathlib.Core.Logic.{_≢_}
 use mathlib.Core.List.{List, [], _∷_, _++_}
 use native.Mathlib.Omega.{arith}
@@ -12,8 +12,9 @@ use Rattle.machine_calls.specs.declared.Answer.{Answer}
 use Rattle.machine_calls.specs.Calls.{answers}
 use Rattle.machine_log.specs.declared.lines.Line.{Line}
 use Rattle.machine_log.specs.declared.lines.Line.the-variants.{Malformed}
-use Rattle.machine_log.specs.Follow.{called, given, Followed, followedTo, followed}
-use Rattle.refusals.specs.LogLaws.{follow-none, follow-accepted, follow-refused, follow-then, each-accepted, Stops, follow-stops}
+use Rattle.machine_log.specs.Follow.{called, given, Followed, followed}
+use Rattle.machine_log.specs.FollowLaws.{followed-next, followed-refused, followed-over}
+use Rattle.refusals.specs.LogLaws.{follow-then, each-accepted, follow-stops}
 use Rattle.demand.specs.MemoryCalls.{Call, memoryAfter, answersOf}
 use Rattle.demand_log.specs.LogCalls.{callsOf}
 use Rattle.demand_log.specs.Made.{Made, Names, line-names}
@@ -32,7 +33,7 @@ module _ (set : ℕ → List ℕ) (lent number : ℕ) where
   module _ (l : Line) (c : Call) (lines : List Line) (calls : List Call) (m : List ℕ) (j : ℕ) (results : List (List ℕ)) (M : Made set l c m) where
     told-first : refusalAt (c ∷ calls) m 0 ≡ called set l (followed set [] j m results .mem) .answer .refusal
     unfolding answersOf
-    told-first = M .answered ∙ rw (follow-none set j m results) refl
+    told-first = M .answered ∙ rw (followed-over set j m results) refl
 
     told-next : (i : ℕ) → 1 ≤ j
         → (followed set (take i lines) (suc j) (called set l m .mem) (results ++ given l (called set l m)) .line ≡ 0
@@ -46,9 +47,9 @@ module _ (set : ℕ → List ℕ) (lent number : ℕ) where
         go : Dec (called set l m .answer .refusal ≡ 0)
             → refusalAt (c ∷ calls) m (suc i) ≡ called set (getD lines i Malformed) (followed set (l ∷ take i lines) j m results .mem) .answer .refusal
         go (yes z) =
-            let f = follow-accepted set l (take i lines) j m results z in
+            let f = followed-next set l (take i lines) j m results z in
             ap (λ (b : List ℕ). refusalAt calls b i) (M .memory) ∙ ih (sym (ap (λ (w : Followed). w .line) f) ∙ h) ∙ rw f refl
-        go (no n) = absurd (omega (arith, ap (λ (w : Followed). w .line) (follow-refused set l (take i lines) j m results n)))
+        go (no n) = absurd (omega (arith, ap (λ (w : Followed). w .line) (followed-refused set l (take i lines) j m results n)))
 
   answer-told : (lines : List Line) → Listed number lines → (m : List ℕ) → length m ≡ lent → (j : ℕ) → 1 ≤ j → (results : List (List ℕ))
       → (i : ℕ) → i < length lines → Told lines m j results i
@@ -81,7 +82,7 @@ module _ (set : ℕ → List ℕ) (lent number : ℕ) where
 
   followed-first : (lines : List Line) (k j : ℕ) (m : List ℕ) (results : List (List ℕ)) → 1 ≤ j → followed set lines j m results .line ≡ 0
       → followed set (take k lines) j m results .line ≡ 0
-  followed-first lines zero j m results p h = ap (λ (w : Followed). w .line) (follow-none set j m results)
+  followed-first lines zero j m results p h = ap (λ (w : Followed). w .line) (followed-over set j m results)
   followed-first [] (suc k) j m results p h = h
   followed-first (l ∷ lines) (suc k) j m results p h =
       go (ℕ-discrete (called set l m .answer .refusal) 0) (followed-first lines k (suc j) (called set l m .mem) (results ++ given l (called set l m)) (omega arith))
@@ -91,9 +92,9 @@ module _ (set : ℕ → List ℕ) (lent number : ℕ) where
           → followed set (take k lines) (suc j) (called set l m .mem) (results ++ given l (called set l m)) .line ≡ 0)
           → followed set (l ∷ take k lines) j m results .line ≡ 0
       go (yes z) ih =
-          ap (λ (w : Followed). w .line) (follow-accepted set l (take k lines) j m results z)
-          ∙ ih (sym (ap (λ (w : Followed). w .line) (follow-accepted set l lines j m results z)) ∙ h)
-      go (no n) ih = absurd (omega (arith, ap (λ (w : Followed). w .line) (follow-refused set l lines j m results n)))
+          ap (λ (w : Followed). w .line) (followed-next set l (take k lines) j m results z)
+          ∙ ih (sym (ap (λ (w : Followed). w .line) (followed-next set l lines j m results z)) ∙ h)
+      go (no n) ih = absurd (omega (arith, ap (λ (w : Followed). w .line) (followed-refused set l lines j m results n)))
 
   module _ (lines : List Line) (h : Listed number lines) (m : List ℕ) (e : length m ≡ lent) where
     -- The refusal in the answer to line n's call, counted from 0.
@@ -105,7 +106,7 @@ module _ (set : ℕ → List ℕ) (lent number : ℕ) where
 
     -- The lines before one are all accepted where their calls are.
     followed-to : (n : ℕ) → n ≤ length lines → ((i : ℕ) → i < n → answered i ≡ 0) → followed set (take n lines) 1 m [] .line ≡ 0
-    followed-to zero k a = ap (λ (w : Followed). w .line) (follow-none set 1 m [])
+    followed-to zero k a = ap (λ (w : Followed). w .line) (followed-over set 1 m [])
     followed-to (suc n) k a =
         let b = followed-to n (omega arith) (λ i l. a i (omega arith)) in
         let f = followed set (take n lines) 1 m [] in
@@ -113,8 +114,8 @@ module _ (set : ℕ → List ℕ) (lent number : ℕ) where
         ap (λ (ls : List Line). followed set ls 1 m [] .line) (take-suc lines n Malformed (omega arith))
         ∙ ap (λ (w : Followed). w .line)
         (follow-then set (take n lines) (getD lines n Malformed ∷ []) 1 m [] (omega arith) b
-        ∙ follow-accepted set (getD lines n Malformed) [] (1 + length (take n lines)) (f .mem) (f .results) z
-        ∙ follow-none set _ _ _)
+        ∙ followed-next set (getD lines n Malformed) [] (1 + length (take n lines)) (f .mem) (f .results) z
+        ∙ followed-over set _ _ _)
 
     inside : (n : ℕ) → answered n ≢ 0 → n < length lines
     inside n r = go (decLt n (length lines))
@@ -136,7 +137,7 @@ module _ (set : ℕ → List ℕ) (lent number : ℕ) where
         ap (λ (ls : List Line). followed set ls 1 m [] .line) (split-at lines n Malformed l)
         ∙ ap (λ (w : Followed). w .line)
         (follow-then set (take n lines) (getD lines n Malformed ∷ drop (suc n) lines) 1 m [] (omega arith) b
-        ∙ follow-refused set (getD lines n Malformed) (drop (suc n) lines) (1 + length (take n lines)) (f .mem) (f .results) (λ q. r (told n l b ∙ q)))
+        ∙ followed-refused set (getD lines n Malformed) (drop (suc n) lines) (1 + length (take n lines)) (f .mem) (f .results) (λ q. r (told n l b ∙ q)))
         ∙ z
 
     pub record FirstRefused (n : ℕ) : Type 0 where

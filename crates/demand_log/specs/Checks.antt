@@ -1,13 +1,12 @@
 -- A check by its tests: those before following pass exactly where `Opened` and `NoneAtFault` (LogCalls) hold; then it is accepted exactly where following comes to the
 -- end of the log, and refused with 16 where it stops. What it starts from is a machine in which demand 3's laws hold. Assumes nothing.
-use Prim.Native.Nat.{ℕ, suc, _+_, _-_, _≤_, _<_}
+use Prim.Native.Nat.{ℕ, suc, _-_, _≤_}
 use mathlib.Core.Path.{_≡_, refl, sym, ap, subst, _∙_}
-use mathlib.Core.Bool.{Bool, true, false, _&&_}
-use mathlib.Core.Logic.{_⊎_, inl, inr, _≢_, _↔_}
+use mathlib.Core.Logic.{_⊎_, inl, inr, _≢_}
 use mathlib.Core.List.{List, []}
 use native.Mathlib.Omega.{arith}
 use native.Mathlib.Decide.{ℕ-discrete}
-use borrow.Author.Tests.{leb-true, le-leb, eqb-true, eqb-false, eq-eqb, ne-eqb}
+use borrow.Author.Tests.{eq-eqb, ne-eqb}
 use lib.Dec.{eqb, leb}
 use lib.ListN.{length, getD, take as firstOf}
 use lib.Seq.{getD-take, length-take-le}
@@ -16,13 +15,12 @@ use Rattle.formula.specs.declared.Refusal.the-variants.{LogRefused}
 use Rattle.formula.specs.declared.Verdict.{Verdict}
 use Rattle.formula.specs.declared.Verdict.the-variants.{Passed, Refused}
 use Rattle.formula.specs.Refusals.{numberOf, number-positive}
-use Rattle.formula.specs.Tree.{Exp, formulaOf}
+use Rattle.formula.specs.Tree.{formulaOf}
 use Rattle.formula.specs.Widths.{width}
 use Rattle.formula.specs.Faults.{lettersOf}
 use Rattle.formula.specs.TestLaws.{passed-each, each-passed}
 use Rattle.graph.specs.Translation.{madeOf}
-use Rattle.machine_layout.specs.Layout.{sizeOf, need, capacityIn}
-use Rattle.machine_valid.specs.Below.{and-left, and-right, and-both}
+use Rattle.machine_valid.specs.Below.{and-right}
 use Rattle.machine_start.specs.Start.{Begun, startedMemory, started}
 use Rattle.machine_start.specs.StartLaws.{capacity-in, start-accepts, AcceptedStart, accepted-start}
 use Rattle.machine_start.specs.Letters.{letters-count, letters-each}
@@ -31,12 +29,13 @@ use Rattle.machine_log.specs.declared.lines.Line.the-variants.{Malformed}
 use Rattle.machine_log.specs.Lines.{mostLines, lineCount, linesOf, listed, lineWell}
 use Rattle.machine_log.specs.Follow.{Followed, followed}
 use Rattle.machine_log.specs.Checked.{Checked, opening, followedLog, told, byOpening, checked}
+use Rattle.machine_log.specs.CheckedLaws.{Opened as Opens, opening-passed}
 use Rattle.theory_wiring.specs.MadeGraph.{result-count}
 use Rattle.theory_verdicts.specs.Running.{startOf}
 use Rattle.theory_verdicts.specs.Admitting.{accepted-admitted}
 use Rattle.demand_begin.specs.MadeSound.{made-sound}
 use Rattle.demand_begin.specs.StartedStands.{length-started, accepted-stands}
-use Rattle.refusals.specs.LogLaws.{Opens, opening-opens, opens-opening, checked-by, length-lines}
+use Rattle.refusals.specs.LogLaws.{opens-opening, checked-by, length-lines}
 use Rattle.refusals.specs.LogExact.{not-yet-refused}
 use Rattle.refusals.specs.LogRows.{setNamed}
 use Rattle.demand.specs.Agreed.{calls-agree}
@@ -65,27 +64,26 @@ module _ (sheet line : List ℕ) (capacity : ℕ) (sets : List ℕ) (number : �
   lets-through = Opens sheet line capacity sets number log (length m) (length out)
 
   opens-opened : lets-through → Opened sheet line capacity sets number log m out × NoneAtFault number log
-  opens-opened O =
-      let low : 1 ≤ capacity = leb-true 1 capacity (and-left (leb 1 capacity) (leb capacity 16) (O .inside)) in
-      let high : capacity ≤ 16 = leb-true capacity 16 (and-right (leb 1 capacity) (leb capacity 16) (O .inside)) in (
-        record {
-          starts = start-accepts sheet line capacity m (O .read) low high (omega (arith, O .long, capacity-in capacity low high));
-          roomy = O .roomy;
-          listed = O .listed;
-        },
-        passed-each (lineCount log) (lineWell number log) (O .lines),
-      )
+  opens-opened O = (
+    record {
+      starts = start-accepts sheet line capacity m (O .passed) (O .some) (O .most) (omega (arith, O .long, capacity-in capacity (O .some) (O .most)));
+      roomy = O .results;
+      listed = O .all-good;
+    },
+    passed-each (lineCount log) (lineWell number log) (O .well),
+  )
 
   opened-opens : Opened sheet line capacity sets number log m out → NoneAtFault number log → lets-through
   opened-opens P h =
       let a = accepted-start sheet line capacity m (P .starts) in
       record {
         long = omega (arith, a .long, capacity-in capacity (a .some) (a .most));
-        roomy = P .roomy;
-        inside = and-both (le-leb 1 capacity (a .some)) (le-leb capacity 16 (a .most));
-        read = a .passed;
-        listed = P .listed;
-        lines = each-passed (lineCount log) (lineWell number log) h;
+        results = P .roomy;
+        some = a .some;
+        most = a .most;
+        passed = a .passed;
+        all-good = P .listed;
+        well = each-passed (lineCount log) (lineWell number log) h;
       }
 
   -- ---- the check
@@ -108,7 +106,7 @@ module _ (sheet line : List ℕ) (capacity : ℕ) (sets : List ℕ) (number : �
   followed-passed : opening sheet line capacity sets number log (length m) (length out) ≡ Passed → Followed-log
   unfolding followedLog
   followed-passed e =
-      let O = opens-opened (opening-opens sheet line capacity sets number log (length m) (length out) e) in
+      let O = opens-opened (opening-passed sheet line capacity sets number log (length m) (length out) e) in
       record { opened = O .0; lines = O .1; whole = checked-by sheet line capacity sets number log m out Passed e }
 
   pub followed-when : Opened sheet line capacity sets number log m out → NoneAtFault number log → Followed-log

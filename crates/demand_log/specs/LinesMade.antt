@@ -17,13 +17,12 @@ use Rattle.machine_log.specs.declared.lines.Line.{Line}
 use Rattle.machine_log.specs.declared.lines.Line.the-variants.{Malformed}
 use Rattle.machine_log.specs.Lines.{listed}
 use Rattle.machine_log.specs.Follow.{called, given, Followed, followed}
-use Rattle.refusals.specs.LogLaws.{follow-none, follow-accepted, follow-refused}
-use Rattle.demand.specs.MemoryCalls.{Call, Result, memoryAfter, memoryAfterAll, answersOf, setOf, resultOf, setsPushed, resultsTaken}
+use Rattle.machine_log.specs.FollowLaws.{followed-next, followed-refused, followed-over}
+use Rattle.demand.specs.MemoryCalls.{Call, Result, memoryAfter, memoryAfterAll, answersOf, resultOf, setsPushed, resultsTaken}
 use Rattle.demand.specs.Agree.{CallsAgree}
-use Rattle.demand.specs.Followed.{Follows}
 use Rattle.demand.specs.FollowAll.{call-follows}
-use Rattle.demand_log.specs.LogCalls.{callsOf, setOfLine, setsOfLines, AllAccepted, AllWide, bytesOf}
-use Rattle.demand_log.specs.Made.{Made, Names, line-names}
+use Rattle.demand_log.specs.LogCalls.{callsOf, setsOfLines, AllAccepted, AllWide, bytesOf}
+use Rattle.demand_log.specs.Made.{Made, line-names}
 
 wide-both : (w : ℕ) (a b : List Result) → AllWide w a → AllWide w b → AllWide w (a ++ b)
 wide-both w [] b h k = k
@@ -49,7 +48,7 @@ module _ (set : ℕ → List ℕ) (w : ℕ) where
   same-none : (m : List ℕ) (j : ℕ) (results : List (List ℕ)) → Same set w [] [] m results (followed set [] j m results)
   unfolding answersOf memoryAfterAll setsPushed resultsTaken
   same-none m j results =
-      rw (follow-none set j m results)
+      rw (followed-over set j m results)
       (record {
         accepted = λ e. tt;
         follows = λ a. refl;
@@ -101,9 +100,9 @@ module _ (set : ℕ → List ℕ) (w : ℕ) where
     same-line p I = go (ℕ-discrete (called set l m .answer .refusal) 0)
       where
         go : Dec (called set l m .answer .refusal ≡ 0) → Same set w (l ∷ lines) (c ∷ calls) m results (followed set (l ∷ lines) j m results)
-        go (yes z) = rw (follow-accepted set l lines j m results z) (same-accepted I z)
+        go (yes z) = rw (followed-next set l lines j m results z) (same-accepted I z)
         go (no n) =
-            rw (follow-refused set l lines j m results n)
+            rw (followed-refused set l lines j m results n)
             (record {
               accepted = λ e. absurd (omega arith);
               follows = λ a. absurd (n (sym (M .answered) ∙ a .0));

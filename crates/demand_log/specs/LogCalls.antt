@@ -5,7 +5,7 @@ use mathlib.Core.Path.{_≡_}
 use mathlib.Core.Bool.{true}
 use mathlib.Core.Logic.{_≢_}
 use mathlib.Core.List.{List, [], _∷_, _++_, map, flatten}
-use lib.ListN.{length, getD, drop, take as firstOf}
+use lib.ListN.{length, getD, drop}
 use Rattle.formula.specs.Tree.{formulaOf}
 use Rattle.formula.specs.Faults.{lettersOf}
 use Rattle.machine_calls.specs.declared.Answer.{Answer}

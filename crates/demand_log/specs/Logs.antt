@@ -8,7 +8,7 @@ use mathlib.Core.Logic.{_⊎_, inl, inr, _≢_, _↔_}
 use mathlib.Core.List.{List, [], _∷_, _++_, flatten, append-assoc}
 use native.Mathlib.Omega.{arith}
 use native.Mathlib.Decide.{ℕ-discrete}
-use lib.ListN.{length, getD, drop, take as firstOf, length-map, length-append, take-append-drop, List·getD-append}
+use lib.ListN.{length, getD, drop, take as firstOf, length-map, take-append-drop, List·getD-append}
 use lib.Seq.{take-at, drop-at, drop-drop, take-length}
 use Rattle.formula.specs.declared.Refusal.the-variants.{LogRefused}
 use Rattle.formula.specs.Refusals.{numberOf}
@@ -17,18 +17,18 @@ use Rattle.formula.specs.Widths.{width}
 use Rattle.meaning.specs.Evaluate.{evaluationOf}
 use Rattle.machine_start.specs.Start.{started}
 use Rattle.machine_log.specs.declared.lines.Line.{Line}
-use Rattle.machine_log.specs.Lines.{lineCount, linesOf}
+use Rattle.machine_log.specs.Lines.{linesOf}
 use Rattle.machine_log.specs.Follow.{Followed, followed}
 use Rattle.machine_log.specs.Checked.{Checked, told, byOpening, checked}
-use Rattle.refusals.specs.LogLaws.{Stops, follow-stops, length-lines}
+use Rattle.refusals.specs.LogLaws.{follow-stops}
 use Rattle.refusals.specs.LogRows.{setNamed}
-use Rattle.demand.specs.MemoryCalls.{Call, Result, result, memoryAfterAll, answersOf, setsPushed, resultsTaken}
+use Rattle.demand.specs.MemoryCalls.{Call, Result, result, memoryAfterAll, setsPushed, resultsTaken}
 use Rattle.demand.specs.Appended.{memory-append, sets-append, results-append}
 use Rattle.demand.specs.Claim.{Enough, Ends, yielded, OwnVerdicts}
 use Rattle.demand.specs.Demand3.{demand-3}
-use Rattle.demand_log.specs.LogCalls.{callsOf, setOfLine, setsOfLines, AllAccepted, AllWide, bytesOf, Opened, NoneAtFault, setsNamed, check, AcceptedLog, answerTo, RefusedLine, LeftBy, GoesOn}
+use Rattle.demand_log.specs.LogCalls.{callsOf, setOfLine, setsOfLines, AllWide, bytesOf, setsNamed, check, AcceptedLog, RefusedLine, LeftBy, GoesOn}
 use Rattle.demand_log.specs.LinesMade.{Listed, ToTheEnd, Same}
-use Rattle.demand_log.specs.AnswersTo.{FirstRefused, stops-at, stopped-at}
+use Rattle.demand_log.specs.AnswersTo.{stops-at, stopped-at}
 use Rattle.demand_log.specs.Checks.{lines-listed, first-listed, Followed-log, Not-followed, followed-when, either-way, row-is, accepts, refuses, accepted-ends, refused-stops, start-length, same-from-start}
 
 -- ---- the k-th of some results

@@ -1,7 +1,7 @@
 -- One line of a log on a machine: its call in demand 3's list (demand/specs/MemoryCalls `done`), lent the whole memory, is the call that following the line makes
 -- (machine_log/specs/Follow `called`), whatever the memory holds. Assumes nothing.
-use Prim.Native.Nat.{ℕ, _+_, _*_, _≤_, _<_}
-use mathlib.Core.Path.{_≡_, refl, sym, ap, ap₂, subst, _∙_}
+use Prim.Native.Nat.{ℕ, _≤_}
+use mathlib.Core.Path.{_≡_, refl, sym, ap, subst, _∙_}
 use mathlib.Core.Bool.{Bool, true, false, cond, false≢true}
 use mathlib.Core.List.{List, [], _∷_, _++_, append-nil, flatten}
 use native.Mathlib.Omega.{arith}
@@ -10,12 +10,11 @@ use borrow.Author.Tests.{eqb-true, eq-eqb, ltb-true}
 use lib.Dec.{eqb, ltb}
 use lib.ListN.{length, drop, drop-of-length-le, length-set, take as firstOf}
 use lib.Seq.{take-all}
-use Rattle.value.specs.Operators.{pick}
 use Rattle.machine_layout.specs.Layout.{operatorsOf, resultsOf, untakenAt, untakenOf}
-use Rattle.machine_firing.specs.Fire.{ableAt, firedAt}
+use Rattle.machine_firing.specs.Fire.{ableAt}
 use Rattle.machine_valid.specs.Below.{allBelow}
 use Rattle.machine_valid.specs.Figures.{valid-figures}
-use Rattle.machine_calls.specs.Calls.{Outcome, Handed, outcome, handed, answers, refusal, sizeIn, standing, pushed, fired, resultReady, emptied, takenMemory, taken}
+use Rattle.machine_calls.specs.Calls.{Outcome, Handed, refusal, sizeIn, standing, pushed, fired, resultReady, emptied, takenMemory, taken}
 use Rattle.machine_calls.specs.CallLaws.{standing-good, emptied-keeps, pushed-length, fired-refused, fired-absent, fired-idle, fired-accepted, taken-refused, taken-none, taken-empty, taken-accepted}
 use Rattle.machine_rounds.specs.Keeps.{fired-keeps}
 use Rattle.machine_log.specs.declared.lines.Line.{Line}

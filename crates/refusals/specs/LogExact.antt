@@ -2,7 +2,7 @@
 use Prim.Native.Nat.{ℕ}
 use mathlib.Core.Path.{_≡_, refl, sym, ap, subst, _∙_}
 use mathlib.Core.Logic.{_≢_}
-use mathlib.Core.Bool.{Bool, true, false, not, cond, _&&_}
+use mathlib.Core.Bool.{Bool, true, false, not, _&&_}
 use mathlib.Core.List.{List, [], _∷_, _++_}
 use native.Mathlib.Omega.{arith}
 use borrow.Author.Tests.{leb-true, leb-false, lt-ltb, le-ltb}
@@ -11,8 +11,6 @@ use lib.ListN.{length}
 use Rattle.value.specs.Operators.{pick}
 use Rattle.formula.specs.declared.Refusal.{Refusal}
 use Rattle.formula.specs.declared.Refusal.the-variants.{Memory, Capacity, Set, LogLine, LogRefused}
-use Rattle.formula.specs.declared.Check.{Check}
-use Rattle.formula.specs.declared.Check.the-variants.{Passed, Fault}
 use Rattle.formula.specs.declared.Verdict.{Verdict}
 use Rattle.formula.specs.declared.Verdict.the-variants.{Passed as passed, Refused}
 use Rattle.formula.specs.Refusals.{numberOf, number-positive}
@@ -25,7 +23,7 @@ use Rattle.machine_log.specs.Lines.{logCheck}
 use Rattle.machine_log.specs.Follow.{Followed}
 use Rattle.machine_log.specs.Checked.{setList, allSets, roomFor, behind, opening, followedLog, told, byOpening, checked}
 use Rattle.refusals.specs.FirstRefusal.{Row, first-refusal, Among, numbers, first-among, not-among}
-use Rattle.refusals.specs.Conditions.{failed, short-asked, no-room-for, capacity-outside, sheetTable, no-list, line-at-fault, line-refused, logTable}
+use Rattle.refusals.specs.Conditions.{short-asked, no-room-for, capacity-outside, sheetTable, no-list, line-at-fault, logTable}
 use Rattle.refusals.specs.Exact.{numberIn, check-order, failed-whole, sheet-exact, behind-none, behind-some}
 
 whole-order : (r : Refusal) (b c : Bool) → not b ≡ c → (v : Verdict) (cs : List Row) → numberIn v ≡ first-refusal cs

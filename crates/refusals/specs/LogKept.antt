@@ -1,7 +1,7 @@
 -- What a refused check of a log hands back: every lent byte as it was, or, where the machine would refuse a line, "16 leaving machine, results and count as the
 -- earlier lines made them" (document 02, Job 3). Assumes nothing.
-use Prim.Native.Nat.{ℕ, suc, _+_, _-_, _*_, _/_, _≤_}
-use mathlib.Core.Path.{_≡_, refl, sym, ap, _∙_}
+use Prim.Native.Nat.{ℕ, _-_, _*_, _/_, _≤_}
+use mathlib.Core.Path.{_≡_, refl, ap, _∙_}
 use mathlib.Core.Bool.{Bool, true, false}
 use mathlib.Core.Logic.{_⊎_, inl, inr, _≢_}
 use mathlib.Core.List.{List, []}
@@ -20,9 +20,10 @@ use Rattle.formula.specs.Widths.{width}
 use Rattle.formula.specs.TestLaws.{passed-each}
 use Rattle.machine_start.specs.Start.{started}
 use Rattle.machine_log.specs.Lines.{lineBytes, lineCount, linesOf, lineWell}
-use Rattle.machine_log.specs.Follow.{Followed, followedTo, followed}
+use Rattle.machine_log.specs.Follow.{Followed, followed}
 use Rattle.machine_log.specs.Checked.{roomFor, Checked, checks, answers, opening, followedLog, told, byOpening, checked}
-use Rattle.refusals.specs.LogLaws.{Opens, opening-opens, opens-opening, checked-by, Stops, follow-stops, length-lines, cut-lines, cut-check}
+use Rattle.machine_log.specs.CheckedLaws.{Opened as Opens, opening-passed}
+use Rattle.refusals.specs.LogLaws.{opens-opening, checked-by, follow-stops, length-lines, cut-lines, cut-check}
 use Rattle.refusals.specs.LogRows.{setNamed}
 
 -- The lines before a line.
@@ -74,11 +75,12 @@ module _ (sheet line : List ℕ) (capacity : ℕ) (sets : List ℕ) (number : �
           let r = room-less (length (take (lineBytes * k) log)) (length log) (omega (arith, n)) in
           record {
             long = O .long;
-            roomy = omega (arith, r, O .roomy);
-            inside = O .inside;
-            read = O .read;
-            listed = O .listed;
-            lines = cut-check log k h l number (λ j a b. passed-each (lineCount log) (lineWell number log) (O .lines) j a (omega arith));
+            results = omega (arith, r, O .results);
+            some = O .some;
+            most = O .most;
+            passed = O .passed;
+            all-good = O .all-good;
+            well = cut-check log k h l number (λ j a b. passed-each (lineCount log) (lineWell number log) (O .well) j a (omega arith));
           }
 
       cut-checked : checked sheet line capacity sets number (take (lineBytes * k) log) m out
@@ -113,7 +115,7 @@ module _ (sheet line : List ℕ) (capacity : ℕ) (sets : List ℕ) (number : �
           → LogLeaves m out (checked sheet line capacity sets number log m out) ⊎ AsEarlierLines sheet line capacity sets number log m out
       go true b = absurd (n (rw (i, b) refl))
       go false b =
-          let O = opening-opens sheet line capacity sets number log (length m) (length out) e in
+          let O = opening-passed sheet line capacity sets number log (length m) (length out) e in
           inr (rw (i, b) refl, rw i (as-earlier O (eqb-false (f .line) 0 b)))
 
   pub log-keeps : checked sheet line capacity sets number log m out .answer .refusal ≢ 0

@@ -1,78 +1,39 @@
 -- Laws of the log checker's definitions (machine_log/specs): when its tests before following pass, a log followed line by line, and the lines of a log cut behind
 -- one of them. Assumes nothing.
-use Prim.Native.Nat.{ℕ, zero, suc, _+_, _-_, _*_, _/_, _≤_, _<_}
+use Prim.Native.Nat.{ℕ, zero, suc, _+_, _-_, _*_, _≤_, _<_}
 use mathlib.Core.Path.{_≡_, refl, sym, ap, _∙_}
-use mathlib.Core.Bool.{Bool, true, false, _&&_}
+use mathlib.Core.Bool.{true, _&&_}
 use mathlib.Core.Logic.{_≢_}
 use mathlib.Core.List.{List, [], _∷_, _++_}
 use native.Mathlib.Omega.{arith}
 use native.Mathlib.Decide.{ℕ-discrete}
-use borrow.Author.Tests.{ltb-true, ltb-false, le-leb, eqb-true, eqb-false, leb-true, eq-eqb, ne-eqb}
-use lib.Dec.{eqb, leb, ltb}
+use borrow.Author.Tests.{le-leb}
+use lib.Dec.{leb}
 use lib.ListN.{length, getD, take, drop, length-drop, take-append-drop}
-use lib.Seq.{length-take-le, take-append-le, drop-append-le, getD-take, take-take}
-use Rattle.value.specs.Operators.{pick}
-use Rattle.formula.specs.declared.Refusal.{Refusal}
-use Rattle.formula.specs.declared.Check.{Check}
-use Rattle.formula.specs.declared.Check.the-variants.{Passed, Fault}
+use lib.Seq.{length-take-le, take-append-le, drop-append-le, getD-take}
+use Rattle.formula.specs.declared.Check.the-variants.{Passed}
 use Rattle.formula.specs.declared.Verdict.{Verdict}
-use Rattle.formula.specs.declared.Verdict.the-variants.{Passed as passed, Refused}
+use Rattle.formula.specs.declared.Verdict.the-variants.{Passed as passed}
 use Rattle.formula.specs.Tree.{formulaOf}
 use Rattle.formula.specs.Widths.{width}
-use Rattle.formula.specs.Faults.{lettersOf}
-use Rattle.formula.specs.Tests.{whole, afterCheck, verdictOf}
-use Rattle.formula.specs.TestLaws.{whole-true, passed-each, each-passed}
-use Rattle.machine_layout.specs.Layout.{sizeOf, need, capacityIn}
-use Rattle.machine_calls.specs.Calls.{Handed}
+use Rattle.formula.specs.Tests.{afterCheck}
+use Rattle.formula.specs.TestLaws.{each-passed}
 use Rattle.machine_log.specs.declared.lines.Line.{Line}
 use Rattle.machine_log.specs.declared.lines.Line.the-variants.{Malformed}
 use Rattle.machine_log.specs.Lines.{lineBytes, mostLines, lineOf, linesIn, lineCount, linesOf, listed, lineWell, logCheck}
 use Rattle.machine_log.specs.Follow.{called, given, Followed, followedTo, followed}
-use Rattle.machine_log.specs.Checked.{setList, allSets, roomFor, behind, opening, followedLog, byOpening, checked}
+use Rattle.machine_log.specs.FollowLaws.{followed-next, followed-refused, followed-over}
+use Rattle.machine_log.specs.Checked.{behind, opening, followedLog, byOpening, checked}
+use Rattle.machine_log.specs.CheckedLaws.{Opened as Opens}
 
 -- ---- the tests before a log is followed
 
-after-passed : (r : Refusal) (c : Check) (v : Verdict) → afterCheck r c v ≡ passed → (c ≡ Passed) × (v ≡ passed)
-unfolding afterCheck
-after-passed r Passed v e = (refl, e)
-after-passed r (Fault row) v e = absurd (let z : _≡_ {A = ℕ} 0 1 = cc e in omega arith)
-
-behind-passed : (v w : Verdict) → behind v w ≡ passed → (v ≡ passed) × (w ≡ passed)
-unfolding behind
-behind-passed passed w e = (refl, e)
-behind-passed (Refused r row) w e = absurd (let z : _≡_ {A = ℕ} 0 1 = cc e in omega arith)
-
--- 11 for the machine and for the results, 14, the sheet's, 12, 15: none is given.
-pub record Opens (sheet line : List ℕ) (capacity : ℕ) (sets : List ℕ) (number : ℕ) (log : List ℕ) (memBytes outBytes : ℕ) : Type 0 where
-  pub long : need (sizeOf (capacityIn capacity)) ≤ memBytes
-  pub roomy : roomFor (length log) ≤ outBytes
-  pub inside : leb 1 capacity && leb capacity 16 ≡ true
-  pub read : verdictOf sheet line ≡ passed
-  pub listed : allSets (lettersOf (formulaOf sheet) line) (setList (lettersOf (formulaOf sheet) line) sets number) ≡ true
-  pub lines : logCheck number log ≡ Passed
-
-module _ (sheet line : List ℕ) (capacity : ℕ) (sets : List ℕ) (number : ℕ) (log : List ℕ) (memBytes outBytes : ℕ) where
-  pub opening-opens : opening sheet line capacity sets number log memBytes outBytes ≡ passed → Opens sheet line capacity sets number log memBytes outBytes
-  unfolding opening
-  opening-opens e =
-      let a = after-passed _ _ _ e in
-      let b = after-passed _ _ _ (a .1) in
-      let c = after-passed _ _ _ (b .1) in
-      let d = behind-passed _ _ (c .1) in
-      let f = after-passed _ _ _ (d .1) in
-      let g = after-passed _ _ _ (f .1) in
-      record {
-        long = leb-true _ _ (whole-true _ (a .0));
-        roomy = leb-true _ _ (whole-true _ (b .0));
-        inside = whole-true _ (c .0);
-        read = d .0;
-        listed = whole-true _ (f .0);
-        lines = g .0;
-      }
-
-  pub opens-opening : Opens sheet line capacity sets number log memBytes outBytes → opening sheet line capacity sets number log memBytes outBytes ≡ passed
-  unfolding opening behind afterCheck
-  opens-opening O = rw (le-leb _ _ (O .long), le-leb _ _ (O .roomy), O .inside, O .read, O .listed, O .lines) refl
+-- They pass where what passing says holds; the other way is machine_log/specs/CheckedLaws `opening-passed`.
+pub opens-opening : (sheet line : List ℕ) (capacity : ℕ) (sets : List ℕ) (number : ℕ) (log : List ℕ) (memBytes outBytes : ℕ)
+    → Opens sheet line capacity sets number log memBytes outBytes → opening sheet line capacity sets number log memBytes outBytes ≡ passed
+unfolding opening behind afterCheck
+opens-opening sheet line capacity sets number log memBytes outBytes O =
+    rw (le-leb _ _ (O .long), le-leb _ _ (O .results), le-leb _ _ (O .some), le-leb _ _ (O .most), O .passed, O .all-good, O .well) refl
 
 -- A check by what its tests before following say.
 pub checked-by : (sheet line : List ℕ) (capacity : ℕ) (sets : List ℕ) (number : ℕ) (log m out : List ℕ) (v : Verdict)
@@ -84,20 +45,6 @@ checked-by sheet line capacity sets number log m out v e = rw e refl
 -- ---- a log followed line by line
 
 module _ (set : ℕ → List ℕ) where
-  pub follow-none : (j : ℕ) (m : List ℕ) (results : List (List ℕ)) → followed set [] j m results ≡ followedTo 0 m results
-  unfolding followed
-  follow-none j m results = refl
-
-  module _ (l : Line) (lines : List Line) (j : ℕ) (m : List ℕ) (results : List (List ℕ)) where
-    pub follow-accepted : called set l m .answer .refusal ≡ 0
-        → followed set (l ∷ lines) j m results ≡ followed set lines (suc j) (called set l m .mem) (results ++ given l (called set l m))
-    unfolding followed
-    follow-accepted e = rw (eq-eqb _ _ e) refl
-
-    pub follow-refused : called set l m .answer .refusal ≢ 0 → followed set (l ∷ lines) j m results ≡ followedTo j m results
-    unfolding followed
-    follow-refused n = rw (ne-eqb _ _ n) refl
-
   -- The machine and the results behind an accepted line.
   abbrev mem-behind : Line → List ℕ → List ℕ
   mem-behind l m = called set l m .mem
@@ -108,7 +55,7 @@ module _ (set : ℕ → List ℕ) where
   -- Lines that are all accepted, then others.
   pub follow-then : (a b : List Line) (j : ℕ) (m : List ℕ) (results : List (List ℕ)) → 1 ≤ j → followed set a j m results .line ≡ 0
       → followed set (a ++ b) j m results ≡ followed set b (j + length a) (followed set a j m results .mem) (followed set a j m results .results)
-  follow-then [] b j m results p h = let z : j + 0 ≡ j = omega arith in rw (z, follow-none j m results) refl
+  follow-then [] b j m results p h = let z : j + 0 ≡ j = omega arith in rw (z, followed-over set j m results) refl
   follow-then (l ∷ a) b j m results p h =
       go (ℕ-discrete (called set l m .answer .refusal) 0) (follow-then a b (suc j) (mem-behind l m) (results-behind l m results) (omega arith))
     where
@@ -119,10 +66,10 @@ module _ (set : ℕ → List ℕ) where
           → (f .line ≡ 0 → followed set (a ++ b) (suc j) (mem-behind l m) (results-behind l m results) ≡ followed set b (suc j + length a) (f .mem) (f .results))
           → followed set (l ∷ (a ++ b)) j m results ≡ followed set b (j + suc (length a)) (followed set (l ∷ a) j m results .mem) (followed set (l ∷ a) j m results .results)
       go (yes e) ih =
-          let i = follow-accepted l a j m results e in
+          let i = followed-next set l a j m results e in
           let z : suc j + length a ≡ j + suc (length a) = omega arith in
-          follow-accepted l (a ++ b) j m results e ∙ ih (sym (ap (λ (w : Followed). w .line) i) ∙ h) ∙ rw (z, i) refl
-      go (no n) ih = absurd (omega (arith, ap (λ (w : Followed). w .line) (follow-refused l a j m results n)))
+          followed-next set l (a ++ b) j m results e ∙ ih (sym (ap (λ (w : Followed). w .line) i) ∙ h) ∙ rw (z, i) refl
+      go (no n) ih = absurd (omega (arith, ap (λ (w : Followed). w .line) (followed-refused set l a j m results n)))
 
   -- Where no line is refused, each is accepted by the machine as the lines before it made it.
   pub each-accepted : (lines : List Line) (j : ℕ) (m : List ℕ) (results : List (List ℕ)) → 1 ≤ j → followed set lines j m results .line ≡ 0
@@ -138,10 +85,10 @@ module _ (set : ℕ → List ℕ) where
 
       go : Dec (called set l m .answer .refusal ≡ 0) → (i : ℕ) → i < suc (length lines) → Rest
           → called set (getD (l ∷ lines) i Malformed) (followed set (take i (l ∷ lines)) j m results .mem) .answer .refusal ≡ 0
-      go (yes e) zero k ih = rw (follow-none j m results) e
+      go (yes e) zero k ih = rw (followed-over set j m results) e
       go (yes e) (suc i) k ih =
-          rw (follow-accepted l (take i lines) j m results e) (ih (sym (ap (λ (w : Followed). w .line) (follow-accepted l lines j m results e)) ∙ h) i (omega arith))
-      go (no n) i k ih = absurd (omega (arith, ap (λ (w : Followed). w .line) (follow-refused l lines j m results n)))
+          rw (followed-next set l (take i lines) j m results e) (ih (sym (ap (λ (w : Followed). w .line) (followed-next set l lines j m results e)) ∙ h) i (omega arith))
+      go (no n) i k ih = absurd (omega (arith, ap (λ (w : Followed). w .line) (followed-refused set l lines j m results n)))
 
   -- Where a line is refused: the lines before it are accepted and leave the machine and the results, and the machine refuses the line as they left it.
   pub record Stops (lines : List Line) (j : ℕ) (m : List ℕ) (results : List (List ℕ)) (f : Followed) : Type 0 where
@@ -153,7 +100,7 @@ module _ (set : ℕ → List ℕ) where
 
   pub follow-stops : (lines : List Line) (j : ℕ) (m : List ℕ) (results : List (List ℕ)) → followed set lines j m results .line ≢ 0
       → Stops lines j m results (followed set lines j m results)
-  follow-stops [] j m results h = absurd (h (ap (λ (w : Followed). w .line) (follow-none j m results)))
+  follow-stops [] j m results h = absurd (h (ap (λ (w : Followed). w .line) (followed-over set j m results)))
   follow-stops (l ∷ lines) j m results h =
       go (ℕ-discrete (called set l m .answer .refusal) 0) (follow-stops lines (suc j) (mem-behind l m) (results-behind l m results))
     where
@@ -163,20 +110,20 @@ module _ (set : ℕ → List ℕ) where
       go : Dec (called set l m .answer .refusal ≡ 0) → (f .line ≢ 0 → Stops lines (suc j) (mem-behind l m) (results-behind l m results) f)
           → Stops (l ∷ lines) j m results (followed set (l ∷ lines) j m results)
       go (yes e) ih =
-          let i = follow-accepted l lines j m results e in
+          let i = followed-next set l lines j m results e in
           let S = ih (λ z. h (ap (λ (w : Followed). w .line) i ∙ z)) in
           rw i
           (record {
             at = suc (S .at);
             within = omega (arith, S .within);
             line = omega (arith, S .line);
-            before = follow-accepted l (take (S .at) lines) j m results e ∙ S .before;
+            before = followed-next set l (take (S .at) lines) j m results e ∙ S .before;
             refused = S .refused;
           })
       go (no n) ih =
           let z : j ≡ j + 0 = omega arith in
-          rw (follow-refused l lines j m results n)
-          (record { at = 0; within = omega arith; line = z; before = follow-none j m results; refused = n })
+          rw (followed-refused set l lines j m results n)
+          (record { at = 0; within = omega arith; line = z; before = followed-over set j m results; refused = n })
 
 -- ---- the lines of a log
 

@@ -1,6 +1,6 @@
 -- The row of a log's refusal (document 02, Job 3): 15 and 16 "each with the lowest such line"; of the others, the sheet's (Rows). Assumes nothing.
-use Prim.Native.Nat.{ℕ, suc, _+_, _-_, _≤_, _<_}
-use mathlib.Core.Path.{_≡_, refl, sym, ap, _∙_}
+use Prim.Native.Nat.{ℕ, _-_, _≤_}
+use mathlib.Core.Path.{_≡_, refl, ap}
 use mathlib.Core.Bool.{Bool, true, false, _&&_}
 use mathlib.Core.Logic.{_⊎_, inl, inr, _≢_}
 use mathlib.Core.List.{List, []}
@@ -29,7 +29,7 @@ use Rattle.machine_log.specs.Lines.{lineCount, linesOf, lineWell, logCheck}
 use Rattle.machine_log.specs.Follow.{called, Followed, followed}
 use Rattle.machine_log.specs.Checked.{setList, setIn, allSets, roomFor, behind, opening, followedLog, told, byOpening, checked}
 use Rattle.refusals.specs.Rows.{LowestAt, RowOf, RowTold, VerdictRow, lowest-at, verdict-row}
-use Rattle.refusals.specs.LogLaws.{Stops, each-accepted, follow-stops, length-lines}
+use Rattle.refusals.specs.LogLaws.{each-accepted, follow-stops, length-lines}
 
 -- ---- 16
 
