@@ -152,7 +152,8 @@ module _ (sheet line : List ℕ) (capacity : ℕ) (sets : List ℕ) (number : �
 
   -- "16 when the machine would refuse the line, .. the lowest such line"
   pub log-refused-at : (j : ℕ)
-      → ((check sheet line capacity sets number log m out .answer .refusal ≡ numberOf LogRefused) × (check sheet line capacity sets number log m out .answer .row ≡ j)) ↔ RefusedLine sheet line capacity sets number log m out j
+      → ((check sheet line capacity sets number log m out .answer .refusal ≡ numberOf LogRefused) × (check sheet line capacity sets number log m out .answer .row ≡ j))
+      ↔ RefusedLine sheet line capacity sets number log m out j
   log-refused-at j = (to, from)
     where
       to : (c .answer .refusal ≡ numberOf LogRefused) × (c .answer .row ≡ j) → RefusedLine sheet line capacity sets number log m out j

@@ -1,6 +1,6 @@
--- What the theorems assume can be met, and both outcomes occur, by computation: the sheet of one identifier, which has no operators, at capacity 1 in the 40,390 bytes
--- that its machine needs, with a list of one set, the whole number 7. A push and a take are accepted and hand out 7; a firing behind them is refused, with 16 at line 3,
--- and leaves the result; a push of set 2 is refused with 15.
+-- What `AcceptedLog` asks can be met, and a log's three outcomes occur, by computation: the sheet of one identifier, which has no operators, at capacity 1 in the 40,390
+-- bytes that its machine needs, with a list of one set, the whole number 7. A push and a take are accepted and hand out 7; a firing behind them is refused, with 16 at
+-- line 3, and leaves that result; a push of set 2 is refused with 15.
 use Prim.Native.Nat.{ℕ}
 use mathlib.Core.Path.{_≡_, refl, ap}
 use mathlib.Core.List.{List, [], _∷_, map, flatten}
