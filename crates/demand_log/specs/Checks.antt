@@ -64,23 +64,21 @@ module _ (sheet line : List ℕ) (capacity : ℕ) (sets : List ℕ) (number : �
   lets-through = Opens sheet line capacity sets number log (length m) (length out)
 
   opens-opened : lets-through → Opened sheet line capacity sets number log m out × NoneAtFault number log
-  opens-opened O = (
-    record {
-      starts = start-accepts sheet line capacity m (O .passed) (O .some) (O .most) (omega (arith, O .long, capacity-in capacity (O .some) (O .most)));
-      roomy = O .results;
-      listed = O .all-good;
-    },
-    passed-each (lineCount log) (lineWell number log) (O .well),
-  )
+  opens-opened O =
+      let L = O .lends in (
+        record {
+          starts = start-accepts sheet line capacity m (O .passed) (L .some) (L .most) (omega (arith, L .long, capacity-in capacity (L .some) (L .most)));
+          roomy = L .results;
+          listed = O .all-good;
+        },
+        passed-each (lineCount log) (lineWell number log) (O .well),
+      )
 
   opened-opens : Opened sheet line capacity sets number log m out → NoneAtFault number log → lets-through
   opened-opens P h =
       let a = accepted-start sheet line capacity m (P .starts) in
       record {
-        long = omega (arith, a .long, capacity-in capacity (a .some) (a .most));
-        results = P .roomy;
-        some = a .some;
-        most = a .most;
+        lends = record { long = omega (arith, a .long, capacity-in capacity (a .some) (a .most)); results = P .roomy; some = a .some; most = a .most };
         passed = a .passed;
         all-good = P .listed;
         well = each-passed (lineCount log) (lineWell number log) h;

@@ -73,11 +73,9 @@ module _ (sheet line : List ℕ) (capacity : ℕ) (sets : List ℕ) (number : �
       cut-opens =
           let n : length (take (lineBytes * k) log) ≡ lineBytes * k = length-take-le (lineBytes * k) log l in
           let r = room-less (length (take (lineBytes * k) log)) (length log) (omega (arith, n)) in
+          let L = O .lends in
           record {
-            long = O .long;
-            results = omega (arith, r, O .results);
-            some = O .some;
-            most = O .most;
+            lends = record { long = L .long; results = omega (arith, r, L .results); some = L .some; most = L .most };
             passed = O .passed;
             all-good = O .all-good;
             well = cut-check log k h l number (λ j a b. passed-each (lineCount log) (lineWell number log) (O .well) j a (omega arith));

@@ -33,7 +33,8 @@ pub opens-opening : (sheet line : List ℕ) (capacity : ℕ) (sets : List ℕ) (
     → Opens sheet line capacity sets number log memBytes outBytes → opening sheet line capacity sets number log memBytes outBytes ≡ passed
 unfolding opening behind afterCheck
 opens-opening sheet line capacity sets number log memBytes outBytes O =
-    rw (le-leb _ _ (O .long), le-leb _ _ (O .results), le-leb _ _ (O .some), le-leb _ _ (O .most), O .passed, O .all-good, O .well) refl
+    let L = O .lends in
+    rw (le-leb _ _ (L .long), le-leb _ _ (L .results), le-leb _ _ (L .some), le-leb _ _ (L .most), O .passed, O .all-good, O .well) refl
 
 -- A check by what its tests before following say.
 pub checked-by : (sheet line : List ℕ) (capacity : ℕ) (sets : List ℕ) (number : ℕ) (log m out : List ℕ) (v : Verdict)
