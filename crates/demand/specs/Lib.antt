@@ -1,4 +1,5 @@
 pub mod MemoryCalls
+pub mod Appended
 pub mod Claim
 pub mod Evaluations
 pub mod Agree

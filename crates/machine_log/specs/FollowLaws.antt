@@ -52,15 +52,15 @@ pub record Follows (f : Followed) (out : List ℕ) (p : Progress) (m′ out′ :
 -- ---- one line
 
 module _ (set : ℕ → List ℕ) (l : Line) (ls : List Line) (j : ℕ) (m : List ℕ) (r : List (List ℕ)) where
-  followed-next : called set l m .answer .refusal ≡ 0 → followed set (l ∷ ls) j m r ≡ followed set ls (suc j) (called set l m .mem) (r ++ given l (called set l m))
+  pub followed-next : called set l m .answer .refusal ≡ 0 → followed set (l ∷ ls) j m r ≡ followed set ls (suc j) (called set l m .mem) (r ++ given l (called set l m))
   unfolding followed
   followed-next e = rw (eq-eqb (called set l m .answer .refusal) 0 e) refl
 
-  followed-refused : called set l m .answer .refusal ≢ 0 → followed set (l ∷ ls) j m r ≡ followedTo j m r
+  pub followed-refused : called set l m .answer .refusal ≢ 0 → followed set (l ∷ ls) j m r ≡ followedTo j m r
   unfolding followed
   followed-refused n = rw (ne-eqb (called set l m .answer .refusal) 0 n) refl
 
-followed-over : (set : ℕ → List ℕ) (j : ℕ) (m : List ℕ) (r : List (List ℕ)) → followed set [] j m r ≡ followedTo 0 m r
+pub followed-over : (set : ℕ → List ℕ) (j : ℕ) (m : List ℕ) (r : List (List ℕ)) → followed set [] j m r ≡ followedTo 0 m r
 unfolding followed
 followed-over set j m r = refl
 
