@@ -1,9 +1,9 @@
-// The checker of logs from a bench with another scheduler (document 02, Job 3). The lines are followed on the bytes of docs/MEMORY.md. A log's operator
-// numbers are those of whoever starts the machine, so the start is handed in: the product's, or the one here.
+// The checker of logs from a bench with another scheduler (document 02, Job 3). The lines are followed on the bytes of docs/MEMORY.md. "the operator numbers
+// are ours": those of whoever starts the machine, the product or the graph here.
 
 use crate::bytes::{decode_set, OUT_BYTES, VALUE_BYTES};
 use crate::machine::MOST_CAPACITY;
-use crate::memory::{need, Machine, StartAnswer};
+use crate::memory::{self, need, Machine, StartAnswer};
 use crate::sheet::{self, read_number, refuse, Refusal, Sheet};
 use crate::tally::Tally;
 use crate::value::{set_suits, Sort};
@@ -43,9 +43,13 @@ pub fn room_for(log_bytes: usize) -> usize {
     OUT_BYTES * (log_bytes / (2 * LINE_BYTES)).min(MOST_LINES / 2)
 }
 
+pub fn check(handed: &Handed<'_>, mem: &mut [u8], out: &mut [u8]) -> LogAnswer {
+    check_started_by(memory::start, handed, mem, out)
+}
+
 /// Refusals in the order 11, 14, 1 to 9, 17, 18, 10, 12, 15, 16. Memory and room are written on acceptance and on 16, where they are "as the earlier lines
 /// made them".
-pub fn check(start: Start, handed: &Handed<'_>, mem: &mut [u8], out: &mut [u8]) -> LogAnswer {
+pub fn check_started_by(start: Start, handed: &Handed<'_>, mem: &mut [u8], out: &mut [u8]) -> LogAnswer {
     let (sheet, lines) = match tested(handed, mem.len(), out.len()) {
         Ok(tested) => tested,
         Err(Refusal { number, row }) => return LogAnswer { refusal: number, row, ..LogAnswer::default() },
