@@ -13,8 +13,8 @@ _Static_assert(sizeof(bench_log_answer) == 16 && offsetof(bench_log_answer, row)
 
 enum { LINE = BENCH_LOG_LINE_BYTES, MOST_LINES = BENCH_LOG_MOST_LINES, HELD = 0xa5, BEHIND = 7, PUSH = 1, FIRE = 2, TAKE = 3 };
 
-/* The log at hand, with room for a line too many and some bytes. */
-static char text[(MOST_LINES + 2) * LINE + 1];
+/* The log at hand, with room for lines too many. */
+static char text[(MOST_LINES + 100) * LINE];
 static size_t log_bytes;
 
 static void clear_log(void) {
@@ -417,13 +417,14 @@ static void many_lines(void) {
     }
     followed("4,096 lines", &lent, 0);
     expect("4,096 lines", results_bytes == 163840, 1);
-    put_text("\n");
-    refused("a byte behind 4,096 lines", &lent, BENCH_LOG_LINE, MOST_LINES + 1);
-    log_bytes--;
-    put_line(PUSH, 1);
-    refused("4,097 lines", &lent, BENCH_LOG_LINE, MOST_LINES + 1);
-    put_text("x");
-    refused("4,097 lines and a byte", &lent, BENCH_LOG_LINE, MOST_LINES + 1);
+    memcpy(text + log_bytes, text, sizeof text - log_bytes);
+    for (size_t behind = 1; behind <= 3 * LINE; behind++) {
+        log_bytes = LINE * MOST_LINES + behind;
+        refused("bytes behind 4,096 lines", &lent, BENCH_LOG_LINE, MOST_LINES + 1);
+        expect("bytes behind 4,096 lines", results_bytes == 163840, 1);
+    }
+    log_bytes = sizeof text;
+    refused("many more lines", &lent, BENCH_LOG_LINE, MOST_LINES + 1);
     memcpy(text, text + LINE, LINE);
     refused("line 4,097 before 16", &lent, BENCH_LOG_LINE, MOST_LINES + 1);
     log_bytes = LINE * MOST_LINES;

@@ -20,7 +20,7 @@ use std::{env, process};
 const BROKEN: usize = 8;
 
 /// How many times in a hundred a second fault is planted beside the first.
-const TWO_FAULTS: usize = 30;
+const TWO_FAULTS: usize = 50;
 
 /// The rounds within which an evaluation is looked for.
 const ROUNDS: u32 = 2_000;

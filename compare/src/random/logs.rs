@@ -199,7 +199,7 @@ pub const FAULTS: [Fault; 23] = [
     ("short room", |lent, rng| lent.more_room = -rng.pick(&[1, 1, 80, isize::MAX])),
     ("another capacity", |lent, rng| {
         let capacity = rng.between(1, 16) as u32;
-        lent.capacity = rng.pick(&[0, 17, 255, 256, 257, u32::MAX, capacity, capacity, 1, 1]);
+        lent.capacity = rng.pick(&[0, 0, 0, 17, 17, 255, 256, 257, u32::MAX, capacity, capacity, capacity, 1, 1]);
     }),
     ("the sheet", |lent, rng| match rng.below(4) {
         0 => lent.made.bytes = mutate(&lent.made.bytes, rng),
