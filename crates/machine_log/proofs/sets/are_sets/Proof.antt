@@ -12,8 +12,7 @@ use Rattle.value_sets.proofs.is_set.Reads as is-set-reads
 use Prim.Native.Nat.{_+_, _*_, _-_, _≤_}
 use mathlib.Core.Path.{_≡_, sym, _∙_}
 use borrow.Author.Tests.{not-true, not-false}
-use lib.ListN.{length, take, drop}
-use Rattle.value_sets.specs.Sets.{setOk}
+use lib.ListN.{length}
 use Rattle.machine_log.specs.SetLaws.{none-asked, Tested, tested-first, tested-last, tested-bad, tested-short, tested-next}
 
 abbrev Inv-loop : tie.InvT-loop
@@ -80,9 +79,11 @@ loop-less c = search needs
 -- src/sets.rt:22:5  let mut count = 0; ⏎ while count < number {
 loop-again : tie.Need-loop-again Inv-loop μ-loop
 loop-again c =
-    let z : c .before .before .before .before .before .loop .at + 5 * length (c .before .before .before .before .before .before .before .before .before .args .kinds .now) - c .before .before .before .before .before .loop .at ≡ 5 * length (c .before .before .before .before .before .before .before .before .before .args .kinds .now) = omega arith in
-    (omega arith, tested-next (c .before .before .before .before .before .before .before .before .before .args .kinds .now) (c .before .before .before .before .before .before .before .before .before .args .sets .now) (c .before .before .before .before .before .before .before .before .before .args .number) (c .before .before .before .before .before .loop .at) (c .before .before .before .before .before .loop .count) (c .before .before .before .before .before .loop .inv .1) (c .before .before .before .before .loop-test .taken)
-    (sym (rw z at (c .before .is-set .ensures)) ∙ not-false (c .before .is-set .result) (c .if3 .left)))
+    let z : c .before .before .before .before .before .loop .at + 5 * length (c .before .before .before .before .before .before .before .before .before .args .kinds .now) - c .before .before .before .before .before .loop .at ≡ 5 * length (c .before .before .before .before .before .before .before .before .before .args .kinds .now) = omega arith in (
+      omega arith,
+      tested-next (c .before .before .before .before .before .before .before .before .before .args .kinds .now) (c .before .before .before .before .before .before .before .before .before .args .sets .now) (c .before .before .before .before .before .before .before .before .before .args .number) (c .before .before .before .before .before .loop .at) (c .before .before .before .before .before .loop .count) (c .before .before .before .before .before .loop .inv .1) (c .before .before .before .before .loop-test .taken)
+          (sym (rw z at (c .before .is-set .ensures)) ∙ not-false (c .before .is-set .result) (c .if3 .left)),
+    )
 
 -- src/sets.rt:12:1  // loop goes over them. ⏎ pub fn are_sets(sets: &[u8], number: u32, kinds: &[u8]) -> bool
 returns-4 : tie.Need-returns-4 Inv-loop μ-loop
