@@ -15,7 +15,7 @@ use Rattle.value_sets.specs.Sets.{setValues}
 use Rattle.machine_layout.specs.Layout.{sizeOf, need}
 use Rattle.theory_verdicts.specs.Running.{startOf}
 use Rattle.machine_start.specs.Start.{started}
-use Rattle.demand.specs.Started.{start-accepts}
+use Rattle.machine_start.specs.StartLaws.{start-accepts}
 use Rattle.demand.specs.Pushes.{pushRefusals, pushAnswers, pushes-from-start}
 use Rattle.examples.specs.Sheets.{bytes, lesser}
 use Rattle.demand_ends.specs.ResultBytes.{spelled}

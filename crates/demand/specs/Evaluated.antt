@@ -25,7 +25,8 @@ use Rattle.meaning.specs.Evaluate.{cell, cellsOf, concluded, evaluatedWith, eva
 use Rattle.value_sets.specs.Sets.{setValues}
 use Rattle.eval_sheet.specs.Handed.{Handed, written, handedOut, handed-passed}
 use Rattle.eval_sheet.specs.Small.{narrow-width}
-use Rattle.demand_ends.specs.ResultBytes.{cellBytes, length-cell-bytes, storedOut, cells-stored}
+use Rattle.machine_calls.specs.Written.{storedOut}
+use Rattle.demand_ends.specs.ResultBytes.{cellBytes, length-cell-bytes, cells-stored}
 use Rattle.machine_start.specs.Start.{started}
 use Rattle.demand.specs.MemoryCalls.{Call, Result, result, setsPushed, resultsTaken}
 use Rattle.demand.specs.Claim.{Enough, Ends, yielded}

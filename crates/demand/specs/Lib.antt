@@ -1,4 +1,5 @@
 pub mod MemoryCalls
+pub mod Appended
 pub mod Claim
 pub mod Evaluations
 pub mod Agree
@@ -14,7 +15,6 @@ pub mod FollowTake
 pub mod FollowAll
 pub mod OnMemory
 pub mod Agreed
-pub mod Started
 pub mod Demand3
 pub mod Oldest
 pub mod ByHistory

@@ -5,7 +5,7 @@ use Prim.Native.Nat.{ℕ, _+_, _≤_, _<_}
 use mathlib.Core.Path.{_≡_, refl, sym, ap, subst, _∙_}
 use mathlib.Core.Logic.{_⊎_, inl, inr}
 use mathlib.Core.Bool.{cond}
-use mathlib.Core.List.{List, [], _∷_, _++_, append-assoc, append-nil}
+use mathlib.Core.List.{List, [], _∷_, _++_, append-nil}
 use native.Mathlib.Omega.{arith}
 use borrow.Author.Tests.{eq-eqb}
 use lib.ListN.{length, getD, take as firstOf, length-append}
@@ -19,7 +19,8 @@ use Rattle.machine_layout.specs.Layout.{operatorsOf, sizeOf, need}
 use Rattle.machine_calls.specs.Calls.{taken}
 use Rattle.machine_start.specs.Start.{started}
 use Rattle.demand_begin.specs.StartedStands.{accepted-stands}
-use Rattle.demand.specs.MemoryCalls.{Call, fire, take, Result, result, accepted, answerOf, memoryAfter, setOf, resultOf, memoryAfterAll, setsPushed, resultsTaken}
+use Rattle.demand.specs.MemoryCalls.{Call, fire, take, Result, result, accepted, answerOf, setOf, resultOf, memoryAfterAll, setsPushed, resultsTaken}
+use Rattle.demand.specs.Appended.{sets-append, results-append}
 use Rattle.demand.specs.Claim.{Enough, Ends, yielded}
 use Rattle.demand.specs.Agreed.{calls-agree}
 use Rattle.demand.specs.OnMemory.{ends-when-still}
@@ -29,18 +30,12 @@ use Rattle.demand.specs.Demand3.{demand-3}
 -- ---- a list with one call more
 
 pub results-with : (calls : List Call) (c : Call) (m : List ℕ) → resultsTaken (calls ++ (c ∷ [])) m ≡ resultsTaken calls m ++ resultOf c (memoryAfterAll calls m)
-unfolding resultsTaken memoryAfterAll
-results-with [] c m = append-nil (resultOf c m)
-results-with (d ∷ calls) c m =
-    ap (λ (z : List Result). resultOf d m ++ z) (results-with calls c (memoryAfter d m))
-    ∙ sym (append-assoc (resultOf d m) (resultsTaken calls (memoryAfter d m)) (resultOf c (memoryAfterAll calls (memoryAfter d m))))
+unfolding resultsTaken
+results-with calls c m = results-append calls (c ∷ []) m ∙ ap (λ (z : List Result). resultsTaken calls m ++ z) (append-nil (resultOf c (memoryAfterAll calls m)))
 
 pub sets-with : (calls : List Call) (c : Call) (m : List ℕ) → setsPushed (calls ++ (c ∷ [])) m ≡ setsPushed calls m ++ setOf c (memoryAfterAll calls m)
-unfolding setsPushed memoryAfterAll
-sets-with [] c m = append-nil (setOf c m)
-sets-with (d ∷ calls) c m =
-    ap (λ (z : List (List ℕ)). setOf d m ++ z) (sets-with calls c (memoryAfter d m))
-    ∙ sym (append-assoc (setOf d m) (setsPushed calls (memoryAfter d m)) (setOf c (memoryAfterAll calls (memoryAfter d m))))
+unfolding setsPushed
+sets-with calls c m = sets-append calls (c ∷ []) m ∙ ap (λ (z : List (List ℕ)). setsPushed calls m ++ z) (append-nil (setOf c (memoryAfterAll calls m)))
 
 -- What a take hands out where it is accepted.
 unfoldable pub handedOut : ℕ → List ℕ → List ℕ → Result

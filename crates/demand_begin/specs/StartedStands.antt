@@ -145,7 +145,7 @@ module _ (g : Made) (S : Sound g) where
     room = omega (arith, length-operated)
 
     length-header : length headered ≡ length m
-    length-header = length-headed g fits kinds count capacity operated room ∙ length-operated
+    length-header = length-headed g kinds capacity operated room ∙ length-operated
 
     pub length-started : length memory ≡ length m
     length-started = length-emptied (g .links) (sizeOf capacity) headered ∙ length-header
@@ -154,7 +154,7 @@ module _ (g : Made) (S : Sound g) where
     below-links i h = emptied-kept (g .links) (sizeOf capacity) headered i h
 
     behind-header : (i : ℕ) → 138 ≤ i → i < 21760 → getD memory i 0 ≡ getD operated i 0
-    behind-header i l h = below-links i h ∙ headed-kept g fits kinds count capacity operated room i l
+    behind-header i l h = below-links i h ∙ headed-kept g kinds capacity operated room fits count i l
 
     -- ---- operators
 
@@ -228,11 +228,11 @@ module _ (g : Made) (S : Sound g) where
 
     kinds-there : storedKinds memory ≡ kinds
     kinds-there =
-        let n : inputsOf headered ≡ g .inputs = headed-inputs g fits kinds count capacity operated room in
+        let n : inputsOf headered ≡ g .inputs = headed-inputs g kinds capacity operated room in
         ap (part memory inputKindsAt) (below-links 5 (omega arith))
         ∙ agree-part 21760 headered memory below-links inputKindsAt (inputsOf headered) (omega (arith, n, S .few-inputs)) (omega (arith, n, S .few-inputs, length-header))
         (omega (arith, n, S .few-inputs, length-started))
-        ∙ headed-kinds g fits kinds count capacity operated room
+        ∙ headed-kinds g kinds capacity operated room fits count
 
     stands : Stands g kinds capacity memory empty
     stands =
@@ -240,19 +240,19 @@ module _ (g : Made) (S : Sound g) where
         let none-untaken : length (empty creditLink) ≡ 0 = ap (λ (ts : List Token). length ts) credit in
         record {
           long = omega (arith, length-started);
-          capacity-is = below-links 0 (omega arith) ∙ headed-capacity g fits kinds count capacity operated room;
-          operators-are = agree-number 21760 headered memory below-links 1 (omega arith) ∙ headed-operators g fits kinds count capacity operated room;
-          links-are = agree-number 21760 headered memory below-links 3 (omega arith) ∙ headed-links g fits kinds count capacity operated room;
-          inputs-are = below-links 5 (omega arith) ∙ headed-inputs g fits kinds count capacity operated room;
+          capacity-is = below-links 0 (omega arith) ∙ headed-capacity g kinds capacity operated room;
+          operators-are = agree-number 21760 headered memory below-links 1 (omega arith) ∙ headed-operators g kinds capacity operated room;
+          links-are = agree-number 21760 headered memory below-links 3 (omega arith) ∙ headed-links g kinds capacity operated room;
+          inputs-are = below-links 5 (omega arith) ∙ headed-inputs g kinds capacity operated room;
           kinds-are = kinds-there;
           kinds-count = count;
           kinds-letters = letters;
-          results-are = below-links 6 (omega arith) ∙ headed-results g fits kinds count capacity operated room;
-          untaken-is = below-links 7 (omega arith) ∙ headed-untaken g fits kinds count capacity operated room ∙ sym none-untaken;
+          results-are = below-links 6 (omega arith) ∙ headed-results g kinds capacity operated room;
+          untaken-is = below-links 7 (omega arith) ∙ headed-untaken g kinds capacity operated room ∙ sym none-untaken;
           untaken-few = omega (arith, none-untaken);
-          trigger-is = agree-number 21760 headered memory below-links 8 (omega arith) ∙ headed-trigger g fits kinds count capacity operated room;
-          input-links = λ j h. agree-name 21760 headered memory below-links 10 j (omega (arith, S .few-inputs)) ∙ headed-input g fits kinds count capacity operated room j h;
-          result-links = λ j h. agree-name 21760 headered memory below-links 74 j (omega (arith, S .few-results)) ∙ headed-result g fits kinds count capacity operated room j h;
+          trigger-is = agree-number 21760 headered memory below-links 8 (omega arith) ∙ headed-trigger g kinds capacity operated room;
+          input-links = λ j h. agree-name 21760 headered memory below-links 10 j (omega (arith, S .few-inputs)) ∙ headed-input g kinds capacity operated room fits count j h;
+          result-links = λ j h. agree-name 21760 headered memory below-links 74 j (omega (arith, S .few-results)) ∙ headed-result g kinds capacity operated room fits count j h;
           recorded = recorded-there;
           registered = registered-there;
           waits = waits-there;

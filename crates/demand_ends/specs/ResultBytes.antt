@@ -8,16 +8,15 @@ use mathlib.Core.List.{List, [], _∷_, _++_, map, append-assoc, append-nil}
 use native.Mathlib.Omega.{arith}
 use borrow.Author.Tests.{ltb-true, ltb-false}
 use lib.Dec.{ltb}
-use lib.ListN.{length, getD, drop, replicate, length-append, length-replicate, length-drop, List·getD-eq-default}
-use lib.Seq.{take-at, drop-append-add, drop-drop}
+use lib.ListN.{length, getD, drop, replicate, length-append, length-replicate, List·getD-eq-default}
 use Rattle.value.specs.declared.Value.{Value}
 use Rattle.value.specs.Operators.{pick}
-use Rattle.value.specs.Bytes.{wordOf, wordBytes, bytesOf, stored}
-use Rattle.value.proofs.Words.{stored-parts}
+use Rattle.value.specs.Bytes.{wordOf, wordBytes, bytesOf}
 use Rattle.value.specs.Senses.{err}
 use Rattle.machine_layout.specs.Layout.{resultLink}
 use Rattle.machine_firing.specs.Links.{headAt}
 use Rattle.machine_calls.specs.Calls.{resultWord, written}
+use Rattle.machine_calls.specs.Written.{wordsOut, storedOut, stored-out, written-out}
 use Rattle.meaning.specs.declared.Cell.{Cell}
 use Rattle.meaning.specs.Evaluate.{cell, cellsOf}
 use Rattle.theory_verdicts.specs.ResultSets.{resultSet}
@@ -97,18 +96,6 @@ cells-result r =
 
 -- ---- words written one after the other
 
-abbrev wordsOut : ℕ → (ℕ → ℕ) → List ℕ
-wordsOut zero f = []
-wordsOut (suc j) f = wordsOut j f ++ wordBytes (f j)
-
-length-word-bytes : (w : ℕ) → length (wordBytes w) ≡ 5
-unfolding wordBytes
-length-word-bytes w = refl
-
-length-out : (j : ℕ) (f : ℕ → ℕ) → length (wordsOut j f) ≡ 5 * j
-length-out zero f = refl
-length-out (suc j) f = length-append (wordsOut j f) (wordBytes (f j)) ∙ ap₂ (λ (a b : ℕ). a + b) (length-out j f) (length-word-bytes (f j)) ∙ omega arith
-
 out-same : (j : ℕ) (f g : ℕ → ℕ) → ((i : ℕ) → i < j → f i ≡ g i) → wordsOut j f ≡ wordsOut j g
 out-same zero f g h = refl
 out-same (suc j) f g h = ap₂ (λ (a b : List ℕ). a ++ b) (out-same j f g (λ i l. h i (omega arith))) (ap wordBytes (h j (omega arith)))
@@ -126,28 +113,6 @@ spelled-out (v ∷ vs) =
     ap (λ (z : List ℕ). wordBytes (wordOf v) ++ z) (spelled-out vs)
     ∙ sym (out-first (length vs) (λ j. wordOf (getD (v ∷ vs) j err)))
 
--- A word stored behind some bytes.
-stored-behind : (a o : List ℕ) (n w : ℕ) → length a ≡ n → n + 5 ≤ length o → stored (a ++ drop n o) n w ≡ (a ++ wordBytes w) ++ drop (n + 5) o
-stored-behind a o n w e h =
-    let d : length (a ++ drop n o) ≡ n + (length o - n) = length-append a (drop n o) ∙ ap₂ (λ (x y : ℕ). x + y) e (length-drop n o) in
-    stored-parts (a ++ drop n o) n w (omega (arith, d))
-    ∙ ap₂ (λ (x y : List ℕ). x ++ (wordBytes w ++ y)) (take-at a (drop n o) n e)
-    (ap (λ (k : ℕ). drop (k + 5) (a ++ drop n o)) (sym e) ∙ drop-append-add a (drop n o) 5 ∙ drop-drop 5 n o)
-    ∙ sym (append-assoc a (wordBytes w) (drop (n + 5) o))
-
--- The first j words stored one after the other, as take and evaluation do it.
-abbrev pub storedOut : ℕ → (ℕ → ℕ) → List ℕ → List ℕ
-storedOut zero f o = o
-storedOut (suc j) f o = stored (storedOut j f o) (5 * j) (f j)
-
-stored-out : (f : ℕ → ℕ) (o : List ℕ) (j : ℕ) → 5 * j ≤ length o → storedOut j f o ≡ wordsOut j f ++ drop (5 * j) o
-stored-out f o zero h = refl
-stored-out f o (suc j) h =
-    let z : 5 * j + 5 ≡ 5 * suc j = omega arith in
-    ap (λ (x : List ℕ). stored x (5 * j) (f j)) (stored-out f o j (omega arith))
-    ∙ stored-behind (wordsOut j f) o (5 * j) (f j) (length-out j f) (omega arith)
-    ∙ ap (λ (n : ℕ). (wordsOut j f ++ wordBytes (f j)) ++ drop n o) z
-
 -- Evaluation's cells stored one after the other have their bytes.
 cells-out : (cs : List Cell) → cellBytes cs ≡ wordsOut (length cs) (λ j. wordOf (getD cs j (cell err) .v))
 unfolding bytesOf
@@ -160,11 +125,6 @@ pub cells-stored : (cs : List Cell) (o : List ℕ) → 5 * length cs ≤ length 
     → storedOut (length cs) (λ j. wordOf (getD cs j (cell err) .v)) o ≡ cellBytes cs ++ drop (5 * length cs) o
 cells-stored cs o h =
     stored-out (λ j. wordOf (getD cs j (cell err) .v)) o (length cs) h ∙ ap (λ (z : List ℕ). z ++ drop (5 * length cs) o) (sym (cells-out cs))
-
-written-stored : (m : List ℕ) (size k : ℕ) (o : List ℕ) (j : ℕ) → written j m size k o ≡ storedOut j (resultWord m size k) o
-unfolding written
-written-stored m size k o zero = refl
-written-stored m size k o (suc j) = ap (λ (x : List ℕ). stored x (5 * j) (resultWord m size k j)) (written-stored m size k o j)
 
 -- Take writes these bytes where the result ports' heads are the values.
 module _ (m : List ℕ) (size : ℕ) (r : List Value) (heads : (j : ℕ) → j < length r → headAt m size (resultLink m j) ≡ wordOf (getD r j err)) where
@@ -179,7 +139,7 @@ module _ (m : List ℕ) (size : ℕ) (r : List Value) (heads : (j : ℕ) → j <
   pub written-result : length r ≤ 16 → (o : List ℕ) → 80 ≤ length o → written 16 m size (length r) o ≡ resultBytes r ++ drop 80 o
   unfolding resultBytes
   written-result few o h =
-      written-stored m size (length r) o 16 ∙ stored-out (resultWord m size (length r)) o 16 h
+      written-out m size (length r) 16 o h
       ∙ ap (λ (z : List ℕ). z ++ drop 80 o)
       (out-same 16 (resultWord m size (length r)) (λ j. wordOf (getD (resultSet r .places) j err)) (λ j l. word-is j)
       ∙ ap (λ (n : ℕ). wordsOut n (λ j. wordOf (getD (resultSet r .places) j err))) (sym (length-places r few))

@@ -6,6 +6,7 @@
 // include/bench.h says the same in C.
 use eval_sheet::EvaluateAnswer;
 use machine_calls::Answer;
+use machine_log::LogAnswer;
 use machine_rounds::RoundsAnswer;
 use machine_start::StartAnswer;
 use machine_tally::Tally;
@@ -18,6 +19,7 @@ ghost use Rattle.machine_start.specs.Start.{begun, started};
 ghost use Rattle.machine_calls.specs.Calls.{outcome, handed, pushed, fired, ran, taken};
 ghost use Rattle.machine_rounds.specs.Rounds.{outcome as roundsOutcome, ranRounds};
 ghost use Rattle.machine_tray.specs.Tray.{trayed};
+ghost use Rattle.machine_log.specs.Checked.{checks, checked};
 ghost use Rattle.machine_tally.specs.Tallied.{afterStart, afterPush, afterTray, afterFire, afterRun, afterRounds, afterTake};
 
 #[no_mangle]
@@ -119,4 +121,20 @@ pub extern "C" fn bench_take(mem: &mut [u8], out: &mut [u8], tally: &mut Tally) 
     let take = machine_tally::take_tallied(mem, out, t);
     *tally = take.tally;
     take.answer
+}
+
+#[no_mangle]
+pub extern "C" fn bench_check_log(
+    sheet: &[u8],
+    kinds: &[u8],
+    capacity: u32,
+    sets: &[u8],
+    number: u32,
+    log: &[u8],
+    mem: &mut [u8],
+    out: &mut [u8],
+) -> LogAnswer
+    ensures { λ a. ⌜ checks a (now (mem .exit)) (now (out .exit)) ≡ checked (now (sheet .entry)) (now (kinds .entry)) capacity (now (sets .entry)) number (now (log .entry)) (now (mem .entry)) (now (out .entry)) ⌝ }
+{
+    machine_log::check_log(sheet, kinds, capacity, sets, number, log, mem, out)
 }

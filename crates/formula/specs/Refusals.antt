@@ -1,8 +1,8 @@
--- Document 01, "Said by what was handed in" and "Said by how the machine stands": the number of each refusal; 17 and 18 are document 02's, Job 6.
+-- Document 01, "Said by what was handed in" and "Said by how the machine stands": the number of each refusal; 15 and 16 are document 02's, Job 3, 17 and 18 Job 6.
 use Prim.Native.Nat.{ℕ, _≤_}
 use native.Mathlib.Omega.{arith}
 use Rattle.formula.specs.declared.Refusal.{Refusal}
-use Rattle.formula.specs.declared.Refusal.the-variants.{Layout, Rows, Malformed, Range, Naming, Named, StrayIter, Width, Unused, Operators, Memory, Set, SetFile, Capacity, KindsLine, KindsBroken, Altered, Untaken, Full, NotAble, NoResult, Unfinished}
+use Rattle.formula.specs.declared.Refusal.the-variants.{Layout, Rows, Malformed, Range, Naming, Named, StrayIter, Width, Unused, Operators, Memory, Set, SetFile, Capacity, LogLine, LogRefused, KindsLine, KindsBroken, Altered, Untaken, Full, NotAble, NoResult, Unfinished}
 
 abbrev pub numberOf : Refusal → ℕ
 numberOf Layout = 1
@@ -19,6 +19,8 @@ numberOf Memory = 11
 numberOf Set = 12
 numberOf SetFile = 13
 numberOf Capacity = 14
+numberOf LogLine = 15
+numberOf LogRefused = 16
 numberOf KindsLine = 17
 numberOf KindsBroken = 18
 numberOf Altered = 31
@@ -44,6 +46,8 @@ number-positive Memory = omega arith
 number-positive Set = omega arith
 number-positive SetFile = omega arith
 number-positive Capacity = omega arith
+number-positive LogLine = omega arith
+number-positive LogRefused = omega arith
 number-positive KindsLine = omega arith
 number-positive KindsBroken = omega arith
 number-positive Altered = omega arith

@@ -79,6 +79,10 @@ pub enum Refusal {
     SetFile,
     // 14: capacity outside 1..16
     Capacity,
+    // 15: a log's line malformed, naming a set not in the list, or line 4,097
+    LogLine,
+    // 16: a log's line that the machine would refuse
+    LogRefused,
     // 17: the kinds line has another length or letter
     KindsLine,
     // 18: a row breaks the kinds
@@ -155,6 +159,8 @@ pub fn refusal_number(r: Refusal) -> u32
         Refusal::Set => 12,
         Refusal::SetFile => 13,
         Refusal::Capacity => 14,
+        Refusal::LogLine => 15,
+        Refusal::LogRefused => 16,
         Refusal::KindsLine => 17,
         Refusal::KindsBroken => 18,
         Refusal::Altered => 31,

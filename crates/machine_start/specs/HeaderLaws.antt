@@ -1,5 +1,5 @@
--- What the header holds once start has written it (machine_layout/specs/Layout), and that it is all that was written there. Assumes of the graph that its figures are
--- within the header's ranges, of the kinds that there is a letter for each input, and a memory of at least 138 bytes.
+-- What the header holds once start has written it (machine_layout/specs/Layout), and that it is all that was written there. Assumes a memory of at least 138
+-- bytes; of names, letters and the bytes behind them also that the graph's figures are within the header's ranges and that there is a letter for each input.
 use Prim.Native.Nat.{ℕ, zero, suc, _+_, _*_, _/_, _%_, _≤_, _<_}
 use mathlib.Core.Path.{_≡_, sym, ap, ap₂, _∙_}
 use mathlib.Core.Logic.{inl, inr}
@@ -28,7 +28,7 @@ up-from n zero j h = absurd (omega arith)
 up-from n (suc k) zero h = omega arith
 up-from n (suc k) (suc j) h = up-from (suc n) k j (omega arith) ∙ omega arith
 
-module _ (g : Made) (fits : Fits g) (kinds : List ℕ) (count : length kinds ≡ g .inputs) (capacity : ℕ) (m : List ℕ) (long : 138 ≤ length m) where
+module _ (g : Made) (kinds : List ℕ) (capacity : ℕ) (m : List ℕ) (long : 138 ≤ length m) where
   abbrev trigger : ℕ
   trigger = cond (g .triggered) (g .inputs) noLink
 
@@ -58,15 +58,6 @@ module _ (g : Made) (fits : Fits g) (kinds : List ℕ) (count : length kinds ≡
   before-letters : (i : ℕ) → i < 106 → getD (headed g kinds capacity m) i 0 ≡ getD resulted i 0
   unfolding headed lettered
   before-letters i h = row-kept kinds resulted inputKindsAt i (inl h)
-
-  -- every byte behind the letters is as it was
-  pub headed-kept : (i : ℕ) → 138 ≤ i → getD (headed g kinds capacity m) i 0 ≡ getD m i 0
-  unfolding headed lettered figured figureBytes
-  headed-kept i h =
-      row-kept kinds resulted inputKindsAt i (inr (omega (arith, fits .inputs, count)))
-      ∙ named-kept (length (g .results)) inputted 74 (g .results) i (inr (omega (arith, fits .results)))
-      ∙ named-kept (g .inputs) figures 10 (upFrom 0 (g .inputs)) i (inr (omega (arith, fits .inputs)))
-      ∙ row-kept bytes m 0 i (inr (omega arith))
 
   -- ---- the figures
 
@@ -115,27 +106,37 @@ module _ (g : Made) (fits : Fits g) (kinds : List ℕ) (count : length kinds ≡
   name-byte : (at : ℕ) → at + 2 ≤ 106 → number16 (headed g kinds capacity m) at ≡ number16 resulted at
   name-byte at h = number-kept resulted (headed g kinds capacity m) at (before-letters at (omega arith)) (before-letters (at + 1) (omega arith))
 
-  pub headed-input : (j : ℕ) → j < g .inputs → inputLink (headed g kinds capacity m) j ≡ j
-  unfolding nameAt
-  headed-input j h =
-      let u : getD (upFrom 0 (g .inputs)) j 0 ≡ j = up-from 0 (g .inputs) j h ∙ omega arith in
-      name-byte (10 + 2 * j) (omega (arith, fits .inputs))
-      ∙ number-kept inputted resulted (10 + 2 * j)
-      (named-kept (length (g .results)) inputted 74 (g .results) (10 + 2 * j) (inl (omega (arith, fits .inputs))))
-      (named-kept (length (g .results)) inputted 74 (g .results) (10 + 2 * j + 1) (inl (omega (arith, fits .inputs))))
-      ∙ named-read (g .inputs) figures 10 (upFrom 0 (g .inputs)) (omega (arith, length-figures, fits .inputs)) j h (omega (arith, fits .inputs)) ∙ u
+  module _ (fits : Fits g) (count : length kinds ≡ g .inputs) where
+    -- every byte behind the letters is as it was
+    pub headed-kept : (i : ℕ) → 138 ≤ i → getD (headed g kinds capacity m) i 0 ≡ getD m i 0
+    unfolding headed lettered figured figureBytes
+    headed-kept i h =
+        row-kept kinds resulted inputKindsAt i (inr (omega (arith, fits .inputs, count)))
+        ∙ named-kept (length (g .results)) inputted 74 (g .results) i (inr (omega (arith, fits .results)))
+        ∙ named-kept (g .inputs) figures 10 (upFrom 0 (g .inputs)) i (inr (omega (arith, fits .inputs)))
+        ∙ row-kept bytes m 0 i (inr (omega arith))
 
-  pub headed-result : (j : ℕ) → j < length (g .results) → resultLink (headed g kinds capacity m) j ≡ getD (g .results) j 0
-  unfolding nameAt
-  headed-result j h =
-      name-byte (74 + 2 * j) (omega (arith, fits .results))
-      ∙ named-read (length (g .results)) inputted 74 (g .results)
-      (omega (arith, length-named (g .inputs) figures 10 (upFrom 0 (g .inputs)), length-figures, fits .results)) j h (fits .names j h)
+    pub headed-input : (j : ℕ) → j < g .inputs → inputLink (headed g kinds capacity m) j ≡ j
+    unfolding nameAt
+    headed-input j h =
+        let u : getD (upFrom 0 (g .inputs)) j 0 ≡ j = up-from 0 (g .inputs) j h ∙ omega arith in
+        name-byte (10 + 2 * j) (omega (arith, fits .inputs))
+        ∙ number-kept inputted resulted (10 + 2 * j)
+        (named-kept (length (g .results)) inputted 74 (g .results) (10 + 2 * j) (inl (omega (arith, fits .inputs))))
+        (named-kept (length (g .results)) inputted 74 (g .results) (10 + 2 * j + 1) (inl (omega (arith, fits .inputs))))
+        ∙ named-read (g .inputs) figures 10 (upFrom 0 (g .inputs)) (omega (arith, length-figures, fits .inputs)) j h (omega (arith, fits .inputs)) ∙ u
 
-  -- ---- the letters
+    pub headed-result : (j : ℕ) → j < length (g .results) → resultLink (headed g kinds capacity m) j ≡ getD (g .results) j 0
+    unfolding nameAt
+    headed-result j h =
+        name-byte (74 + 2 * j) (omega (arith, fits .results))
+        ∙ named-read (length (g .results)) inputted 74 (g .results)
+        (omega (arith, length-named (g .inputs) figures 10 (upFrom 0 (g .inputs)), length-figures, fits .results)) j h (fits .names j h)
 
-  pub headed-kinds : storedKinds (headed g kinds capacity m) ≡ kinds
-  unfolding headed lettered
-  headed-kinds =
-      ap (part (headed g kinds capacity m) inputKindsAt) (headed-inputs ∙ sym count)
-      ∙ row-part kinds resulted inputKindsAt (omega (arith, length-resulted, fits .inputs, count))
+    -- ---- the letters
+
+    pub headed-kinds : storedKinds (headed g kinds capacity m) ≡ kinds
+    unfolding headed lettered
+    headed-kinds =
+        ap (part (headed g kinds capacity m) inputKindsAt) (headed-inputs ∙ sym count)
+        ∙ row-part kinds resulted inputKindsAt (omega (arith, length-resulted, fits .inputs, count))

@@ -9,6 +9,7 @@ use lib.ListN.{length, getD, take, length-take}
 use lib.Seq.{getD-take, length-take-le}
 use Rattle.value.specs.Kinds.{isLetter}
 use Rattle.formula.specs.Tree.{expOf, formulaOf}
+use Rattle.formula.specs.Free.{inputsOf}
 use Rattle.formula.specs.Faults.{lineWell, lettersOf}
 use Rattle.formula.specs.Tests.{lineFits}
 use Rattle.formula.specs.Acceptance.{Kinded}
@@ -31,6 +32,11 @@ module _ (s line : List ℕ) (K : Kinded s line) where
   letters : lettersOf (formulaOf s) line ≡ take (madeOf (formulaOf s) .inputs) line
   unfolding lettersOf madeOf
   letters = refl
+
+  -- the line is as long as the inputs ask
+  pub letters-lent : length (inputsOf (formulaOf s)) ≤ length line
+  unfolding madeOf
+  letters-lent = line-long
 
   pub letters-count : length (lettersOf (formulaOf s) line) ≡ madeOf (formulaOf s) .inputs
   letters-count = ap length letters ∙ length-take-le (madeOf (formulaOf s) .inputs) line line-long

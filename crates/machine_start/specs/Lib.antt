@@ -5,3 +5,4 @@ pub mod HeaderLaws
 pub mod Completed
 pub mod SheetTables
 pub mod Letters
+pub mod Untaken

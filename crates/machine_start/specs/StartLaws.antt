@@ -10,17 +10,17 @@ use lib.Seq.{sets, drop-cons}
 use borrow.Author.Tests.{lt-ltb, le-ltb, le-leb, lt-leb, ltb-false, leb-true}
 use Rattle.value.specs.Operators.{pick}
 use Rattle.formula.specs.declared.Refusal.{Refusal}
-use Rattle.formula.specs.declared.Refusal.the-variants.{Layout, Rows, Malformed, Range, Naming, Named, StrayIter, Width, Unused, KindsLine, KindsBroken, Operators, Memory, Set, SetFile, Capacity, Altered, Untaken, Full, NotAble, NoResult, Unfinished}
+use Rattle.formula.specs.declared.Refusal.the-variants.{Memory, Capacity}
 use Rattle.formula.specs.declared.Verdict.{Verdict}
 use Rattle.formula.specs.declared.Verdict.the-variants.{Passed, Refused}
-use Rattle.formula.specs.Refusals.{numberOf}
+use Rattle.formula.specs.Refusals.{number-positive}
 use Rattle.formula.specs.Tree.{Exp, formulaOf}
 use Rattle.formula.specs.Tests.{verdictOf}
 use Rattle.formula.specs.Faults.{lettersOf}
 use Rattle.formula.specs.Acceptance.{Admissible, Kinded, passed-admissible, passed-kinded}
 use Rattle.machine_layout.specs.Layout.{inputKindsAt, stored16, sizeOf, linkAt, need, capacityIn}
 use Rattle.graph.specs.Translation.{madeOf}
-use Rattle.machine_start.specs.Start.{begun, refusal, accepted, figureBytes, figured, named, lettered, emptied, startedMemory, byVerdict, started}
+use Rattle.machine_start.specs.Start.{Begun, begun, refusal, accepted, figureBytes, figured, named, lettered, emptied, startedMemory, byVerdict, started}
 
 -- ---- the header's figures as they are written
 
@@ -109,30 +109,11 @@ capacity-in c h k = rw (le-leb 1 c h, le-leb c 16 k) refl
 
 -- ---- an accepted start
 
--- every refusal has a number
-refused-some : (r : Refusal) → 1 ≤ numberOf r
-refused-some Layout = omega arith
-refused-some Rows = omega arith
-refused-some Malformed = omega arith
-refused-some Range = omega arith
-refused-some Naming = omega arith
-refused-some Named = omega arith
-refused-some StrayIter = omega arith
-refused-some Width = omega arith
-refused-some Unused = omega arith
-refused-some Operators = omega arith
-refused-some KindsLine = omega arith
-refused-some KindsBroken = omega arith
-refused-some Memory = omega arith
-refused-some Set = omega arith
-refused-some SetFile = omega arith
-refused-some Capacity = omega arith
-refused-some Altered = omega arith
-refused-some Untaken = omega arith
-refused-some Full = omega arith
-refused-some NotAble = omega arith
-refused-some NoResult = omega arith
-refused-some Unfinished = omega arith
+-- Where the sheet is accepted, the capacity is one of 1 to 16 and the memory as long as a machine needs, start accepts.
+pub start-accepts : (s line : List ℕ) (c : ℕ) (m : List ℕ) → verdictOf s line ≡ Passed → 1 ≤ c → c ≤ 16 → need (sizeOf c) ≤ length m → started s line c m .answer .refusal ≡ 0
+start-accepts s line c m passed low high long =
+    ap (λ (b : Begun). b .answer .refusal)
+    (started-read s line c m (omega (arith, capacity-in c low high)) low high ∙ verdict-passed (verdictOf s line) (formulaOf s) (lettersOf (formulaOf s) line) c m passed)
 
 pub record AcceptedStart (s line : List ℕ) (c : ℕ) (m : List ℕ) : Type 0 where
   pub long : need (sizeOf c) ≤ length m
@@ -154,7 +135,7 @@ accepted-start s line c m e = go (ltb (length m) (need (sizeOf (capacityIn c))))
     go true p b q d r v w h = absurd (omega arith)
     go false p false q d r v w h = absurd (omega arith)
     go false p true q false r v w h = absurd (omega arith)
-    go false p true q true r (Refused x row) w h = absurd (omega (arith, refused-some x))
+    go false p true q true r (Refused x row) w h = absurd (omega (arith, number-positive x))
     go false p true q true r Passed w h =
         let low : 1 ≤ c = leb-true 1 c q in
         let high : c ≤ 16 = leb-true c 16 r in

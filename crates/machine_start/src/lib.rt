@@ -44,7 +44,7 @@ fn refused(r: Refusal, row: u32) -> StartAnswer
 }
 
 // The capacity by which the need is reckoned: 1 where the one asked is outside 1..16.
-fn capacity_asked(capacity: u32) -> usize
+pub fn capacity_asked(capacity: u32) -> usize
     ensures { λ r. ⌜ (r ≡ capacityIn capacity) × (1 ≤ r) × (r ≤ 16) ⌝ }
 {
     if capacity < 1 {

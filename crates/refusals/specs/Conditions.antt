@@ -1,14 +1,15 @@
 -- The refusals of each call as an ordered table, each condition by name: document 01, "Said by what was handed in" and "Said by how the machine stands",
 -- "11 comes before all", "Order: 11, 31, 12, then these", "14 .. (start: after 11, before 1)"; document 02, Job 6, "17 .., 18 .., in this order after 9 and
--- before 10"; document 02, Job 7, "36 is given when something can fire after them". Definitions only; assumes nothing.
+-- before 10"; document 02, Job 7, "36 is given when something can fire after them"; document 02, Job 3, "15 tested over the whole log first, both after 12".
+-- Definitions only; assumes nothing.
 use Prim.Native.Nat.{ℕ, zero, suc, _-_, _*_}
 use mathlib.Core.Bool.{Bool, true, false, not, _&&_}
 use mathlib.Core.List.{List, [], _∷_, _++_}
 use mathlib.Core.Option.{Option, some, none}
-use lib.Dec.{leb, ltb}
+use lib.Dec.{eqb, leb, ltb}
 use lib.ListN.{length, take, drop}
 use Rattle.value.specs.declared.Value.{Value}
-use Rattle.formula.specs.declared.Refusal.the-variants.{Layout, Rows, Malformed, Range, Naming, Named, StrayIter, Width, Unused, Operators, Memory, Set, Capacity, KindsLine, KindsBroken, Altered, Untaken, Full, NotAble, NoResult, Unfinished}
+use Rattle.formula.specs.declared.Refusal.the-variants.{Layout, Rows, Malformed, Range, Naming, Named, StrayIter, Width, Unused, Operators, Memory, Set, Capacity, LogLine, LogRefused, KindsLine, KindsBroken, Altered, Untaken, Full, NotAble, NoResult, Unfinished}
 use Rattle.formula.specs.declared.Check.{Check}
 use Rattle.formula.specs.declared.Check.the-variants.{Passed, Fault}
 use Rattle.formula.specs.Sheet.{rowCount, linesOf, fieldsOf}
@@ -26,6 +27,8 @@ use Rattle.machine_valid.specs.Valid.{valid}
 use Rattle.machine_runs.specs.Run.{runs, stillAt}
 use Rattle.machine_calls.specs.Calls.{sizeIn, roomsOk, pushed, resultReady}
 use Rattle.machine_rounds.specs.Rounds.{roundsFrom}
+use Rattle.machine_log.specs.Lines.{logCheck}
+use Rattle.machine_log.specs.Checked.{setList, allSets, roomFor, followedLog}
 use Rattle.refusals.specs.FirstRefusal.{Row}
 
 -- ---- how the machine stands
@@ -190,6 +193,38 @@ evaluateTable sheet line set rounds out =
     ∷ (rounds-lacking sheet line set rounds, Unfinished)
     ∷ []))
 
+-- ---- a log and what it is checked with
+
+-- 11 for the results that a log of these bytes may hand out
+abbrev pub no-room-for : List ℕ → List ℕ → Bool
+no-room-for log out = ltb (length out) (roomFor (length log))
+
+-- 12 for some set of the list, whether a line names it or not
+abbrev pub no-list : List ℕ → List ℕ → List ℕ → ℕ → Bool
+no-list sheet line sets number =
+    let kinds : List ℕ = lettersOf (formulaOf sheet) line in
+    not (allSets kinds (setList kinds sets number))
+
+-- 15 "when a line is malformed, names a set not in the list or is line 4,097"
+abbrev pub line-at-fault : ℕ → List ℕ → Bool
+line-at-fault number log = failed (logCheck number log)
+
+-- 16 "when the machine would refuse the line": some line of those that are followed from the empty machine
+abbrev pub line-refused : List ℕ → List ℕ → ℕ → List ℕ → ℕ → List ℕ → List ℕ → Bool
+line-refused sheet line capacity sets number log m = not (eqb (followedLog sheet line capacity sets number log m .line) 0)
+
+-- 11 and 14 as of a start, the sheet's, 12, "15 tested over the whole log first, both after 12", 16
+abbrev pub logTable : List ℕ → List ℕ → ℕ → List ℕ → ℕ → List ℕ → List ℕ → List ℕ → List Row
+logTable sheet line capacity sets number log m out =
+    (short-asked capacity m, Memory)
+    ∷ (no-room-for log out, Memory)
+    ∷ (capacity-outside capacity, Capacity)
+    ∷ (sheetTable sheet line
+    ++ ((no-list sheet line sets number, Set)
+    ∷ (line-at-fault number log, LogLine)
+    ∷ (line-refused sheet line capacity sets number log m, LogRefused)
+    ∷ []))
+
 -- ---- the numbers that each call can give, in their order
 
 abbrev pub sheetNumbers : List ℕ
@@ -218,3 +253,6 @@ startNumbers = 11 ∷ 14 ∷ sheetNumbers
 
 abbrev pub evaluateNumbers : List ℕ
 evaluateNumbers = 11 ∷ (sheetNumbers ++ (12 ∷ 36 ∷ []))
+
+abbrev pub logNumbers : List ℕ
+logNumbers = 11 ∷ 14 ∷ (sheetNumbers ++ (12 ∷ 15 ∷ 16 ∷ []))

@@ -12,6 +12,7 @@ use lib.Dec.{leb, ltb, eqb}
 use lib.ListN.{length}
 use Rattle.value.specs.declared.Value.{Value}
 use Rattle.value.specs.Operators.{pick}
+use Rattle.formula.specs.declared.Refusal.{Refusal}
 use Rattle.formula.specs.declared.Refusal.the-variants.{Memory, Set, Capacity, Altered, Untaken, Full, NotAble, NoResult, Unfinished}
 use Rattle.formula.specs.declared.Check.{Check}
 use Rattle.formula.specs.declared.Check.the-variants.{Passed, Fault}
@@ -150,17 +151,18 @@ abbrev tableBy : List Test → Sheet → List Row
 tableBy [] x = []
 tableBy (t ∷ ts) x = (failed (t .check x), t .refusal) ∷ tableBy ts x
 
-first-by : (ts : List Test) (x : Sheet) → numberIn (verdictBy ts x) ≡ first-refusal (tableBy ts x)
-unfolding verdictBy afterCheck first-refusal
-first-by [] x = refl
-first-by (t ∷ ts) x = go (t .check x) (first-by ts x)
-  where
-    go : (c : Check) → numberIn (verdictBy ts x) ≡ first-refusal (tableBy ts x)
-        → numberIn (afterCheck (t .refusal) c (verdictBy ts x)) ≡ cond (failed c) (numberOf (t .refusal)) (first-refusal (tableBy ts x))
-    go Passed ih = ih
-    go (Fault row) ih = refl
+-- A test, then others.
+pub check-order : (r : Refusal) (c : Check) (v : Verdict) (cs : List Row) → numberIn v ≡ first-refusal cs → numberIn (afterCheck r c v) ≡ first-refusal ((failed c, r) ∷ cs)
+unfolding afterCheck first-refusal
+check-order r Passed v cs h = h
+check-order r (Fault row) v cs h = refl
 
-failed-whole : (b : Bool) → failed (whole b) ≡ not b
+first-by : (ts : List Test) (x : Sheet) → numberIn (verdictBy ts x) ≡ first-refusal (tableBy ts x)
+unfolding verdictBy first-refusal
+first-by [] x = refl
+first-by (t ∷ ts) x = check-order (t .refusal) (t .check x) (verdictBy ts x) (tableBy ts x) (first-by ts x)
+
+pub failed-whole : (b : Bool) → failed (whole b) ≡ not b
 failed-whole true = refl
 failed-whole false = refl
 

@@ -2,10 +2,12 @@
 -- a refusal, and with the first in the order there". The numbers are formula/specs/Refusals. Assumes nothing.
 use Prim.Native.Nat.{ℕ, _≤_}
 use mathlib.Core.Path.{_≡_, refl, ap, _∙_}
-use mathlib.Core.Bool.{Bool, true, false, cond}
+use mathlib.Core.Bool.{Bool, true, false, not, cond, _&&_, false≢true}
 use mathlib.Core.Logic.{_⊎_, inl, inr, _≢_, _↔_}
 use mathlib.Core.List.{List, [], _∷_}
 use native.Mathlib.Omega.{arith}
+use borrow.Author.Tests.{eqb-false}
+use lib.Dec.{eqb}
 use Rattle.formula.specs.declared.Refusal.{Refusal}
 use Rattle.formula.specs.Refusals.{numberOf, number-positive}
 
@@ -89,6 +91,20 @@ first-among (c ∷ cs) n = go (c .0) refl n (first-among cs)
         → Among (cond b (numberOf (c .1)) (first-refusal cs)) (numberOf (c .1) ∷ numbers cs)
     go true p h ih = inl refl
     go false p h ih = inr (ih h)
+
+-- A number that is not in a list is none of its numbers.
+abbrev pub lacks : ℕ → List ℕ → Bool
+lacks n [] = true
+lacks n (k ∷ ks) = not (eqb n k) && lacks n ks
+
+pub not-among : (n : ℕ) (ks : List ℕ) → lacks n ks ≡ true → Among n ks → ⊥
+not-among n [] h a = a
+not-among n (k ∷ ks) h a = go (eqb n k) refl h a (not-among n ks)
+  where
+    go : (b : Bool) → eqb n k ≡ b → not b && lacks n ks ≡ true → (n ≡ k) ⊎ Among n ks → (lacks n ks ≡ true → Among n ks → ⊥) → ⊥
+    go true e h a ih = false≢true h
+    go false e h (inl p) ih = eqb-false n k e p
+    go false e h (inr p) ih = ih h p
 
 pub first-named : (cs : List Row) → first-refusal cs ≢ 0 → Named (first-refusal cs)
 unfolding first-refusal

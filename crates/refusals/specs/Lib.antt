@@ -2,8 +2,12 @@ pub mod FirstRefusal
 pub mod Conditions
 pub mod Exact
 pub mod TrayExact
+pub mod LogLaws
+pub mod LogExact
 pub mod RunCount
 pub mod Rows
+pub mod LogRows
 pub mod Kept
+pub mod LogKept
 pub mod Refused
 pub mod FiredLinks

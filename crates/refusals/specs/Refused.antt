@@ -1,8 +1,9 @@
 -- DEMAND 1, second sentence: "A refused call names one of the refusals in document 01 and hands every lent byte back unaltered, save a run that has used up its
 -- lent firings", as `refused-call` over all calls; and demand 2, "A call is refused exactly when document 01 gives it a refusal, and with the first in the
 -- order there", as `call-exact`. A run by rounds that has used up its lent rounds is such a run too: "the firings kept as at run's 36" (document 02, Job 7). Of a
--- tray of sets "the rule on unaltered memory speaks of the refused set alone" (document 02, Job 1). The calls are the definitions that the contracts of their
--- entry points cite; a sheet, a kinds line or a set is lent for reading only. Assumes nothing.
+-- tray of sets "the rule on unaltered memory speaks of the refused set alone" (document 02, Job 1). A log of which the machine would refuse a line gets "16 leaving
+-- machine, results and count as the earlier lines made them" (document 02, Job 3). The calls are the definitions that the contracts of their entry points cite;
+-- a sheet, a kinds line, a set or a log is lent for reading only. Assumes nothing.
 use Prim.Native.Nat.{ℕ}
 use mathlib.Core.Path.{_≡_, refl, sym, _∙_, subst}
 use mathlib.Core.Logic.{_⊎_, inl, inr, _≢_, _↔_}
@@ -16,12 +17,16 @@ use Rattle.machine_calls.specs.Calls.{pushed, fired, ran, taken}
 use Rattle.machine_rounds.specs.Rounds.{ranRounds}
 use Rattle.machine_tray.specs.Tray.{trayed}
 use Rattle.machine_start.specs.Start.{started}
+use Rattle.machine_log.specs.Checked.{checked}
 use Rattle.refusals.specs.FirstRefusal.{Row, first-refusal, Named, Among, numbers, NoneHolds, FirstHolds, accepted-exactly, refused-exactly, first-among, first-named}
-use Rattle.refusals.specs.Conditions.{pushTable, trayTable, fireTable, runTable, roundsTable, takeTable, sheetTable, startTable, evaluateTable, sheetNumbers, pushNumbers, trayNumbers, fireNumbers, runNumbers, roundsNumbers, takeNumbers, startNumbers, evaluateNumbers}
+use Rattle.refusals.specs.Conditions.{pushTable, trayTable, fireTable, runTable, roundsTable, takeTable, sheetTable, startTable, evaluateTable, logTable, sheetNumbers, pushNumbers, trayNumbers, fireNumbers, runNumbers, roundsNumbers, takeNumbers, startNumbers, evaluateNumbers, logNumbers}
 use Rattle.refusals.specs.Rows.{RowTold}
 use Rattle.refusals.specs.Exact.{push-exact, fire-exact, run-exact, rounds-exact, take-exact, read-exact, start-exact, evaluate-exact}
 use Rattle.refusals.specs.TrayExact.{tray-exact, tray-numbers}
+use Rattle.refusals.specs.LogExact.{log-exact}
+use Rattle.refusals.specs.LogRows.{LogRow, log-row}
 use Rattle.refusals.specs.Kept.{UsedUpFirings, UsedUpRounds, RoundsLeave, SetRefused, read-keeps, start-keeps, push-keeps, tray-keeps, fire-keeps, run-keeps, rounds-keeps, take-keeps, evaluate-keeps}
+use Rattle.refusals.specs.LogKept.{AsEarlierLines, LogLeaves, log-keeps}
 
 -- The firmware's entry points with what each is lent, in the order of their parameters.
 pub data Call : Type 0 where
@@ -34,6 +39,7 @@ pub data Call : Type 0 where
   rounds : List ℕ → ℕ → Call
   take : List ℕ → List ℕ → Call
   evaluate : List ℕ → List ℕ → List ℕ → ℕ → List ℕ → Call
+  checkLog : List ℕ → List ℕ → ℕ → List ℕ → ℕ → List ℕ → List ℕ → List ℕ → Call
 
 unfoldable pub refusalOf : Call → ℕ
 refusalOf (read sheet line) = answerOf (readingOf sheet line) .refusal
@@ -45,6 +51,7 @@ refusalOf (run m firings) = ran m firings .answer .refusal
 refusalOf (rounds m number) = ranRounds m number .answer .refusal
 refusalOf (take m out) = taken m out .answer .refusal
 refusalOf (evaluate sheet line set number out) = handedOut sheet line set number out .answer .refusal
+refusalOf (checkLog sheet line capacity sets number log m out) = checked sheet line capacity sets number log m out .answer .refusal
 
 -- The other numbers of its answer.
 unfoldable pub countsOf : Call → List ℕ
@@ -57,6 +64,7 @@ countsOf (run m firings) = ran m firings .answer .count ∷ []
 countsOf (rounds m number) = ranRounds m number .answer .rounds ∷ ranRounds m number .answer .firings ∷ []
 countsOf (take m out) = taken m out .answer .count ∷ []
 countsOf (evaluate sheet line set number out) = let a = handedOut sheet line set number out .answer in a .width ∷ a .rounds ∷ []
+countsOf (checkLog sheet line capacity sets number log m out) = let a = checked sheet line capacity sets number log m out .answer in a .count ∷ a .width ∷ []
 
 -- The bytes lent for writing, and the same at the call's end.
 unfoldable pub lent : Call → List (List ℕ)
@@ -69,6 +77,7 @@ lent (run m firings) = m ∷ []
 lent (rounds m number) = m ∷ []
 lent (take m out) = m ∷ out ∷ []
 lent (evaluate sheet line set number out) = out ∷ []
+lent (checkLog sheet line capacity sets number log m out) = m ∷ out ∷ []
 
 unfoldable pub handed-back : Call → List (List ℕ)
 handed-back (read sheet line) = []
@@ -80,6 +89,7 @@ handed-back (run m firings) = ran m firings .mem ∷ []
 handed-back (rounds m number) = ranRounds m number .mem ∷ []
 handed-back (take m out) = taken m out .mem ∷ taken m out .out ∷ []
 handed-back (evaluate sheet line set number out) = handedOut sheet line set number out .out ∷ []
+handed-back (checkLog sheet line capacity sets number log m out) = checked sheet line capacity sets number log m out .mem ∷ checked sheet line capacity sets number log m out .out ∷ []
 
 -- The table of its refusals, and their numbers.
 unfoldable pub tableOf : Call → List Row
@@ -92,6 +102,7 @@ tableOf (run m firings) = runTable m firings
 tableOf (rounds m number) = roundsTable m number
 tableOf (take m out) = takeTable m out
 tableOf (evaluate sheet line set number out) = evaluateTable sheet line set number out
+tableOf (checkLog sheet line capacity sets number log m out) = logTable sheet line capacity sets number log m out
 
 unfoldable pub numbersOf : Call → List ℕ
 numbersOf (read sheet line) = sheetNumbers
@@ -103,35 +114,27 @@ numbersOf (run m firings) = runNumbers
 numbersOf (rounds m number) = roundsNumbers
 numbersOf (take m out) = takeNumbers
 numbersOf (evaluate sheet line set number out) = evaluateNumbers
+numbersOf (checkLog sheet line capacity sets number log m out) = logNumbers
 
 abbrev pub AllZero : List ℕ → Type 0
 AllZero [] = Unit {0}
 AllZero (n ∷ ns) = (n ≡ 0) × AllZero ns
 
--- "a run that has used up its lent firings": it gives 36 and their number, and the memory is the one after them. A run by rounds that has used up its lent
--- rounds likewise: "the firings kept as at run's 36" (document 02, Job 7).
-abbrev pub UsedUp : Call → Type 0
-UsedUp (read sheet line) = ⊥
-UsedUp (start sheet line capacity m) = ⊥
-UsedUp (push m set) = ⊥
-UsedUp (tray m sets number) = ⊥
-UsedUp (fire m operator) = ⊥
-UsedUp (run m firings) = UsedUpFirings m firings
-UsedUp (rounds m number) = UsedUpRounds m number
-UsedUp (take m out) = ⊥
-UsedUp (evaluate sheet line set number out) = ⊥
-
--- "For this call the rule on unaltered memory speaks of the refused set alone": a tray of sets (document 02, Job 1).
-abbrev pub SetAlone : Call → Type 0
-SetAlone (read sheet line) = ⊥
-SetAlone (start sheet line capacity m) = ⊥
-SetAlone (push m set) = ⊥
-SetAlone (tray m sets number) = SetRefused m sets number
-SetAlone (fire m operator) = ⊥
-SetAlone (run m firings) = ⊥
-SetAlone (rounds m number) = ⊥
-SetAlone (take m out) = ⊥
-SetAlone (evaluate sheet line set number out) = ⊥
+-- What a refused call may leave otherwise than it was lent it.
+-- "save a run that has used up its lent firings": it gives 36 and their number, and the memory is the one after them. A run by rounds that has used up its lent
+-- rounds likewise: "the firings kept as at run's 36" (document 02, Job 7). A tray of sets: "For this call the rule on unaltered memory speaks of the refused set
+-- alone" (Job 1). A log: "16 leaving machine, results and count as the earlier lines made them" (Job 3).
+abbrev pub Excepted : Call → Type 0
+Excepted (read sheet line) = ⊥
+Excepted (start sheet line capacity m) = ⊥
+Excepted (push m set) = ⊥
+Excepted (tray m sets number) = SetRefused m sets number
+Excepted (fire m operator) = ⊥
+Excepted (run m firings) = UsedUpFirings m firings
+Excepted (rounds m number) = UsedUpRounds m number
+Excepted (take m out) = ⊥
+Excepted (evaluate sheet line set number out) = ⊥
+Excepted (checkLog sheet line capacity sets number log m out) = AsEarlierLines sheet line capacity sets number log m out
 
 -- The row of the answers that have one.
 abbrev pub RowSaid : Call → Type 0
@@ -144,6 +147,8 @@ RowSaid (run m firings) = Unit {0}
 RowSaid (rounds m number) = Unit {0}
 RowSaid (take m out) = Unit {0}
 RowSaid (evaluate sheet line set number out) = RowTold sheet line (handedOut sheet line set number out .answer .refusal) (handedOut sheet line set number out .answer .row)
+RowSaid (checkLog sheet line capacity sets number log m out) =
+    LogRow sheet line capacity sets number log m (checked sheet line capacity sets number log m out .answer .refusal) (checked sheet line capacity sets number log m out .answer .row)
 
 -- Demand 2's last sentence for every call: its refusal is the first of its table.
 pub call-exact : (c : Call) → refusalOf c ≡ first-refusal (tableOf c)
@@ -157,6 +162,7 @@ call-exact (run m firings) = run-exact m firings
 call-exact (rounds m number) = rounds-exact m number
 call-exact (take m out) = take-exact m out
 call-exact (evaluate sheet line set number out) = evaluate-exact sheet line set number out
+call-exact (checkLog sheet line capacity sets number log m out) = log-exact sheet line capacity sets number log m out
 
 -- Accepted exactly where no condition of its table holds; refused with a number exactly where that number's condition is the first that holds.
 pub call-accepted : (c : Call) → (refusalOf c ≡ 0) ↔ NoneHolds (tableOf c)
@@ -171,10 +177,10 @@ pub record RefusedCall (c : Call) : Type 0 where
   -- "names one of the refusals in document 01", one of its own
   pub names : Named (refusalOf c)
   pub own : Among (refusalOf c) (numbersOf c)
-  -- "3 to 9 give the lowest row at fault, others row 0", and 18 "lowest row given"
+  -- "3 to 9 give the lowest row at fault, others row 0", 18 "lowest row given", 15 and 16 "each with the lowest such line"
   pub row : RowSaid c
-  -- "hands every lent byte back unaltered, save a run that has used up its lent firings", or its lent rounds, and a tray by its refused set alone
-  pub back : ((handed-back c ≡ lent c) × AllZero (countsOf c)) ⊎ (UsedUp c ⊎ SetAlone c)
+  -- "hands every lent byte back unaltered, save a run that has used up its lent firings", or its lent rounds, a tray by its refused set alone, and a log's 16
+  pub back : ((handed-back c ≡ lent c) × AllZero (countsOf c)) ⊎ Excepted c
 
 table-numbers : (c : Call) (n : ℕ) → Among n (numbers (tableOf c)) → Among n (numbersOf c)
 unfolding tableOf numbersOf
@@ -188,6 +194,8 @@ table-numbers (rounds m number) n a = a
 table-numbers (take m out) n (inl e) = inl e
 table-numbers (take m out) n (inr a) = a
 table-numbers (evaluate sheet line set number out) n a = a
+table-numbers (checkLog sheet line capacity sets number log m out) n (inl e) = inl e
+table-numbers (checkLog sheet line capacity sets number log m out) n (inr a) = a
 
 one : {m m′ : List ℕ} → m′ ≡ m → _≡_ {A = List (List ℕ)} (m′ ∷ []) (m ∷ [])
 one e = λ i. e i ∷ []
@@ -206,8 +214,9 @@ row-said (run m firings) h = tt
 row-said (rounds m number) h = tt
 row-said (take m out) h = tt
 row-said (evaluate sheet line set number out) h = evaluate-keeps sheet line set number out h .0
+row-said (checkLog sheet line capacity sets number log m out) h = log-row sheet line capacity sets number log m out h
 
-bytes-back : (c : Call) → refusalOf c ≢ 0 → ((handed-back c ≡ lent c) × AllZero (countsOf c)) ⊎ (UsedUp c ⊎ SetAlone c)
+bytes-back : (c : Call) → refusalOf c ≢ 0 → ((handed-back c ≡ lent c) × AllZero (countsOf c)) ⊎ Excepted c
 unfolding refusalOf handed-back lent countsOf
 bytes-back (read sheet line) h = let k = read-keeps sheet line h in inl (refl, (k .1, (k .2, (k .3, (k .4, tt)))))
 bytes-back (start sheet line capacity m) h = let k = start-keeps sheet line capacity m h in inl (one (k .4), (k .1, (k .2, (k .3, tt))))
@@ -215,27 +224,34 @@ bytes-back (push m set) h = let k = push-keeps m set h in inl (one (k .1), (k .0
 bytes-back (tray m sets number) h = go (tray-keeps m sets number h)
   where
     go : ((trayed m sets number .answer .count ≡ 0) × (trayed m sets number .mem ≡ m)) ⊎ SetRefused m sets number
-        → ((handed-back (tray m sets number) ≡ lent (tray m sets number)) × AllZero (countsOf (tray m sets number)))
-        ⊎ (UsedUp (tray m sets number) ⊎ SetAlone (tray m sets number))
+        → ((handed-back (tray m sets number) ≡ lent (tray m sets number)) × AllZero (countsOf (tray m sets number))) ⊎ Excepted (tray m sets number)
     go (inl k) = inl (one (k .1), (k .0, tt))
-    go (inr k) = inr (inr k)
+    go (inr k) = inr k
 bytes-back (fire m operator) h = let k = fire-keeps m operator h in inl (one (k .1), (k .0, tt))
 bytes-back (run m firings) h = go (run-keeps m firings h)
   where
     go : ((ran m firings .answer .count ≡ 0) × (ran m firings .mem ≡ m))
         ⊎ UsedUpFirings m firings
-        → ((handed-back (run m firings) ≡ lent (run m firings)) × AllZero (countsOf (run m firings))) ⊎ (UsedUp (run m firings) ⊎ SetAlone (run m firings))
+        → ((handed-back (run m firings) ≡ lent (run m firings)) × AllZero (countsOf (run m firings))) ⊎ Excepted (run m firings)
     go (inl k) = inl (one (k .1), (k .0, tt))
-    go (inr k) = inr (inl k)
+    go (inr k) = inr k
 bytes-back (rounds m number) h = go (rounds-keeps m number h)
   where
     go : RoundsLeave m (ranRounds m number)
         ⊎ UsedUpRounds m number
-        → ((handed-back (rounds m number) ≡ lent (rounds m number)) × AllZero (countsOf (rounds m number))) ⊎ (UsedUp (rounds m number) ⊎ SetAlone (rounds m number))
+        → ((handed-back (rounds m number) ≡ lent (rounds m number)) × AllZero (countsOf (rounds m number))) ⊎ Excepted (rounds m number)
     go (inl k) = inl (one (k .2), (k .0, (k .1, tt)))
-    go (inr k) = inr (inl k)
+    go (inr k) = inr k
 bytes-back (take m out) h = let k = take-keeps m out h in inl (two (k .1) (k .2), (k .0, tt))
 bytes-back (evaluate sheet line set number out) h = let k = evaluate-keeps sheet line set number out h in inl (one (k .3), (k .1, (k .2, tt)))
+bytes-back (checkLog sheet line capacity sets number log m out) h = go (log-keeps sheet line capacity sets number log m out h)
+  where
+    go : LogLeaves m out (checked sheet line capacity sets number log m out)
+        ⊎ AsEarlierLines sheet line capacity sets number log m out
+        → ((handed-back (checkLog sheet line capacity sets number log m out) ≡ lent (checkLog sheet line capacity sets number log m out))
+        × AllZero (countsOf (checkLog sheet line capacity sets number log m out))) ⊎ Excepted (checkLog sheet line capacity sets number log m out)
+    go (inl k) = inl (two (k .2) (k .3), (k .0, (k .1, tt)))
+    go (inr k) = inr k
 
 pub refused-call : (c : Call) → refusalOf c ≢ 0 → RefusedCall c
 refused-call c h =

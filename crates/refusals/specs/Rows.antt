@@ -6,7 +6,7 @@ use mathlib.Core.Bool.{Bool, true, false}
 use mathlib.Core.List.{List, _++_}
 use lib.Dec.{leb}
 use Rattle.formula.specs.declared.Refusal.{Refusal}
-use Rattle.formula.specs.declared.Refusal.the-variants.{Layout, Rows, Malformed, Range, Naming, Named, StrayIter, Width, Unused, Operators, Memory, Set, SetFile, Capacity, KindsLine, KindsBroken, Altered, Untaken, Full, NotAble, NoResult, Unfinished}
+use Rattle.formula.specs.declared.Refusal.the-variants.{Layout, Rows, Malformed, Range, Naming, Named, StrayIter, Width, Unused, Operators, Memory, Set, SetFile, Capacity, LogLine, LogRefused, KindsLine, KindsBroken, Altered, Untaken, Full, NotAble, NoResult, Unfinished}
 use Rattle.formula.specs.declared.Check.the-variants.{Fault}
 use Rattle.formula.specs.declared.Verdict.{Verdict}
 use Rattle.formula.specs.declared.Verdict.the-variants.{Passed as passed, Refused as refused}
@@ -36,7 +36,7 @@ pub record LowestAt (n : ℕ) (well : ℕ → Bool) (row : ℕ) : Type 0 where
 abbrev pub LowestOfKinds : List ℕ → List ℕ → ℕ → Type 0
 LowestOfKinds s line row = LowestBroken kinded (fieldsOf s) (rowCount s) (inputKinds (freeE (expOf (fieldsOf s) (rowCount s))) line) row
 
--- The row that goes with a refusal of a sheet with a kinds line.
+-- The row that goes with a refusal of a sheet with a kinds line. 15 and 16 are a log's, not a sheet's.
 abbrev pub RowOf : List ℕ → List ℕ → Refusal → ℕ → Type 0
 RowOf s line Layout row = row ≡ 0
 RowOf s line Rows row = row ≡ 0
@@ -54,6 +54,8 @@ RowOf s line Memory row = row ≡ 0
 RowOf s line Set row = row ≡ 0
 RowOf s line SetFile row = row ≡ 0
 RowOf s line Capacity row = row ≡ 0
+RowOf s line LogLine row = ⊥
+RowOf s line LogRefused row = ⊥
 RowOf s line Altered row = row ≡ 0
 RowOf s line Untaken row = row ≡ 0
 RowOf s line Full row = row ≡ 0

@@ -20,7 +20,7 @@ use Rattle.formula.specs.Acceptance.{Admissible, passed-admissible}
 use Rattle.machine_layout.specs.Layout.{need, sizeOf}
 use Rattle.machine_start.specs.Start.{started}
 use Rattle.demand_begin.specs.MadeSound.{made-sound}
-use Rattle.demand.specs.Started.{start-accepts}
+use Rattle.machine_start.specs.StartLaws.{start-accepts}
 use Rattle.demand_begin.specs.StartedStands.{accepted-stands}
 use Rattle.theory_verdicts.specs.Running.{startOf}
 use Rattle.text.specs.Printed.{headLine, refusalLine}

@@ -14,6 +14,7 @@ use Rattle.machine_layout.specs.Layout.{resultsOf}
 use Rattle.machine_calls.specs.Calls.{Handed, sizeIn, resultWord, written, pushed, ran, taken}
 use Rattle.text.specs.Printed.{resultLine}
 use Rattle.demand.specs.MemoryCalls.{Call, push, run, take, Result, result, accepted, memoryAfter, setOf, resultOf, memoryAfterAll, setsPushed, resultsTaken}
+use Rattle.demand.specs.Appended.{memory-append}
 use Rattle.demand.specs.Oldest.{results-with, sets-with}
 use Rattle.session.specs.Passes.{takenFrom, lineBy}
 use Rattle.session.specs.PassLaws.{TakeSays, refuses, hands, take-says, line-handed}
@@ -31,8 +32,7 @@ at-start start = record { calls = []; memory = refl; sets-are = refl; results-ar
 
 memory-with : (calls : List Call) (c : Call) (m : List ℕ) → memoryAfterAll (calls ++ (c ∷ [])) m ≡ memoryAfter c (memoryAfterAll calls m)
 unfolding memoryAfterAll
-memory-with [] c m = refl
-memory-with (d ∷ calls) c m = memory-with calls c (memoryAfter d m)
+memory-with calls c m = memory-append calls (c ∷ []) m
 
 -- ---- what a take hands out
 
