@@ -1,3 +1,5 @@
 pub mod Text
 pub mod Tidy
 pub mod Reach
+pub mod KeptLaws
+pub mod Rowwise

@@ -1,15 +1,9 @@
 -- Which rows can be reached from the last (document 02, Job 8: "every row not reachable from the last"): the last itself, and every row that a field of a
 -- reachable row names. A relation of its own, by which the kept rows (Tidy `keptOf`) are judged. Definitions only; assumes nothing.
 use Prim.Native.Nat.{ℕ}
-use mathlib.Core.Path.{_≡_}
-use mathlib.Core.Logic.{_⊎_}
-use mathlib.Core.List.{List, [], _∷_}
+use mathlib.Core.List.{List}
 use Rattle.formula.specs.Sheet.{shapeAt, namedIn}
-
--- One of some rows.
-abbrev pub Among : ℕ → List ℕ → Type 0
-Among x [] = ⊥
-Among x (y ∷ ys) = (x ≡ y) ⊎ Among x ys
+use Rattle.formula.specs.FaultRows.{Among}
 
 -- Of n rows with the fields t.
 pub data Reachable (t : List ℕ) (n : ℕ) : ℕ → Type 0 where
