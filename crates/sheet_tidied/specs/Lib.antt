@@ -3,3 +3,4 @@ pub mod Tidy
 pub mod Reach
 pub mod KeptLaws
 pub mod Rowwise
+pub mod NumberLaws
