@@ -4,3 +4,4 @@ pub mod Reach
 pub mod KeptLaws
 pub mod Rowwise
 pub mod NumberLaws
+pub mod TextLaws
