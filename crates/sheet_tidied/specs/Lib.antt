@@ -5,3 +5,4 @@ pub mod KeptLaws
 pub mod Rowwise
 pub mod NumberLaws
 pub mod TextLaws
+pub mod ShapeLaws
