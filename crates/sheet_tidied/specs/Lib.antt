@@ -6,3 +6,4 @@ pub mod Rowwise
 pub mod NumberLaws
 pub mod TextLaws
 pub mod ShapeLaws
+pub mod Tidied
