@@ -7,3 +7,4 @@ pub mod NumberLaws
 pub mod TextLaws
 pub mod ShapeLaws
 pub mod Tidied
+pub mod FieldTexts
