@@ -8,3 +8,4 @@ pub mod TextLaws
 pub mod ShapeLaws
 pub mod Tidied
 pub mod FieldTexts
+pub mod Stays
