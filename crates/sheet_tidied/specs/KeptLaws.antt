@@ -50,7 +50,7 @@ kept-length t n = keep-length t n (set (replicate n false) (n - 1) true) ∙ len
 
 -- ---- what marking does to one row
 
-between-among : (r x : ℕ) (l : List ℕ) → AllBetween r l → Among x l → (1 ≤ x) × (x < r)
+pub between-among : (r x : ℕ) (l : List ℕ) → AllBetween r l → Among x l → (1 ≤ x) × (x < r)
 between-among r x [] h a = absurd a
 between-among r x (y ∷ l) h (inl e) = rw e (h .0)
 between-among r x (y ∷ l) h (inr a) = between-among r x l (h .1) a

@@ -8,4 +8,7 @@ pub mod TextLaws
 pub mod ShapeLaws
 pub mod Tidied
 pub mod FieldTexts
+pub mod Occurring
+pub mod Sixth
 pub mod Stays
+pub mod NamedTwice

@@ -11,10 +11,13 @@ use borrow.Author.Tests.{eqb-true}
 use native.Mathlib.Omega.{arith}
 use native.Mathlib.Decide.{ℕ-discrete}
 use native.Mathlib.Numerals.{add-one}
+use Rattle.formula.specs.declared.Check.the-variants.{Passed as well}
 use Rattle.formula.specs.declared.Verdict.the-variants.{Passed}
+use Rattle.formula.specs.declared.Reading.the-variants.{Accepted}
+use Rattle.formula.specs.declared.Figures.{Figures}
 use Rattle.formula.specs.Sheet.{rowCount, linesOf, fieldsOf, field, shapeAt, namedIn}
 use Rattle.formula.specs.SheetLaws.{line-at, lineFields, fields-length, fields-more}
-use Rattle.formula.specs.Tests.{lineAt, endedAt, fieldsWell}
+use Rattle.formula.specs.Tests.{lineAt, endedAt, fieldsWell, readingOf}
 use Rattle.formula.specs.FaultRows.{Among}
 use Rattle.sheet_tidied.specs.Text.{rowText, sheetText}
 use Rattle.sheet_tidied.specs.Tidy.{isKept, keptOf, newNumber, newRow, keptRows, rowsKept, tidied, tidyVerdict}
@@ -25,6 +28,8 @@ use Rattle.sheet_tidied.specs.TextLaws.{text-append, text-one}
 use Rattle.sheet_tidied.specs.ShapeLaws.{names-renumbered, renamed-alike}
 use Rattle.sheet_tidied.specs.FieldTexts.{line-printed}
 use Rattle.sheet_tidied.specs.Rowwise.{Rowwise, passes-rowwise, naming}
+use Rattle.sheet_tidied.specs.Occurring.{all-reachable}
+use Rattle.sheet_tidied.specs.Sixth.{sixthOf, sixth-sound, accepted-five, accepted-sixth}
 use Rattle.sheet_tidied.specs.Tidied.{keptIn, listed-at, new-count, new-shape, new-from, tidied-rowwise}
 
 -- ---- a row as it is written
@@ -124,3 +129,15 @@ module _ (s : List ℕ) (ok : Rowwise s) where
 -- "Tidying twice changes nothing more."
 pub tidied-twice : (s : List ℕ) → tidyVerdict s ≡ Passed → tidied (tidied s) ≡ tidied s
 tidied-twice s h = let ok = passes-rowwise s h in reachable-stays (tidied s) (tidied-rowwise s ok) (new-reachable s ok)
+
+-- ---- sheets without dead rows and doubled names
+
+-- A sheet that passes tests 1 to 6 comes back byte for byte.
+pub named-once-stays : (s : List ℕ) → tidyVerdict s ≡ Passed → sixthOf s ≡ well → tidied s ≡ s
+named-once-stays s h e =
+    let ok = passes-rowwise s h in
+    reachable-stays s ok (all-reachable (fieldsOf s) (rowCount s) (sixth-sound s ok e))
+
+-- So does every accepted one.
+pub accepted-stays : (s line : List ℕ) (g : Figures) → readingOf s line ≡ Accepted g → tidied s ≡ s
+accepted-stays s line g h = named-once-stays s (accepted-five s line g h) (accepted-sixth s line g h)
