@@ -12,3 +12,4 @@ pub mod Occurring
 pub mod Sixth
 pub mod Stays
 pub mod NamedTwice
+pub mod SameFormula
