@@ -1,8 +1,6 @@
 -- Sheets and what they are tidied to, as text (document 02, Job 8). They hold the definitions to the paper. Assumes nothing.
-use Prim.Native.Nat.{ℕ, zero, suc}
 use Prim.Native.String.{String}
 use mathlib.Core.Path.{_≡_, refl}
-use mathlib.Core.List.{List, [], _∷_, _++_}
 use Rattle.formula.specs.declared.Refusal.the-variants.{Named}
 use Rattle.formula.specs.declared.Reading.the-variants.{Rejected}
 use Rattle.formula.specs.Tests.{readingOf}

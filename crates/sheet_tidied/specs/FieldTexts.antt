@@ -1,6 +1,6 @@
 -- A number has one text (document 01: "decimal fields .. right-justified with spaces, no leading zeros"): a field that is well formed is its number as it is printed, and
 -- a well-formed row with its line feed is the text of its five numbers. Assumes nothing.
-use Prim.Native.Nat.{ℕ, zero, suc, _+_, _*_, _-_, _/_, _%_, _≤_, _<_}
+use Prim.Native.Nat.{ℕ, zero, suc, _+_, _*_, _-_, _/_, _%_, _≤_}
 use mathlib.Core.Path.{_≡_, refl, sym, ap, _∙_}
 use mathlib.Core.Logic.{_⊎_, inl, inr}
 use mathlib.Core.Bool.{Bool, true, false, cond, _&&_, false≢true}
@@ -16,7 +16,7 @@ use Rattle.formula.specs.Sheet.{isDigit, digitsOf, zeroOf, fieldOf, fieldText, 
 use Rattle.formula.specs.SheetLaws.{lineFields}
 use Rattle.formula.specs.Tests.{wellFormed}
 use Rattle.formula.specs.TreeLaws.{and-true}
-use Rattle.text.specs.Printed.{led, shown, numberField}
+use Rattle.text.specs.Printed.{shown, numberField}
 use Rattle.text.specs.PrintLaws.{led-spaces, shown-last, shown-more}
 use Rattle.sheet_tidied.specs.Text.{rowText}
 

@@ -1,7 +1,7 @@
 -- The rows that are kept are those reachable from the last (document 02, Job 8: "drops every row not reachable from the last"). Rests on test 5: a row names
 -- only rows from 1 to the one before it, so that a row's mark is settled when its turn comes.
 use Prim.Native.Nat.{ℕ, zero, suc, _-_, _≤_, _<_}
-use mathlib.Core.Path.{_≡_, refl, sym, ap, subst, _∙_}
+use mathlib.Core.Path.{_≡_, refl, sym, ap, _∙_}
 use mathlib.Core.Logic.{_↔_, _⊎_, inl, inr}
 use mathlib.Core.Bool.{Bool, true, false, cond, false≢true}
 use mathlib.Core.List.{List, [], _∷_}

@@ -1,6 +1,6 @@
 -- Document 02, Job 8: "the new sheet gets 6 exactly when two fields of kept rows name the same row". Two fields of one row count as two.
 use Prim.Native.Nat.{ℕ, zero, suc, _+_, _-_, _≤_, _<_}
-use mathlib.Core.Path.{_≡_, refl, sym, ap, subst, _∙_}
+use mathlib.Core.Path.{_≡_, refl, sym, ap, _∙_}
 use mathlib.Core.Logic.{_↔_}
 use mathlib.Core.Bool.{Bool, true, false, cond}
 use mathlib.Core.List.{List, [], _∷_, _++_, map, append-nil}
@@ -14,16 +14,15 @@ use Rattle.formula.specs.declared.Refusal.the-variants.{Named as Doubled}
 use Rattle.formula.specs.declared.Verdict.the-variants.{Passed}
 use Rattle.formula.specs.declared.Reading.the-variants.{Rejected}
 use Rattle.formula.specs.Sheet.{rowCount, fieldsOf, shapeAt, namedIn}
-use Rattle.formula.specs.Tests.{occurrences, allNamed, namedOnce, lowest, readingOf}
+use Rattle.formula.specs.Tests.{occurrences, allNamed, namedOnce, readingOf}
 use Rattle.formula.specs.TestLaws.{passed-each, lowest-fault}
 use Rattle.formula.specs.FaultRows.{Among}
-use Rattle.formula.specs.TreeLaws.{AllBetween, Named}
 use Rattle.formula.specs.PlaceLaws.{occurs-append}
-use Rattle.sheet_tidied.specs.Tidy.{isKept, keptOf, newNumber, tidied, tidyVerdict}
+use Rattle.sheet_tidied.specs.Tidy.{isKept, newNumber, tidied, tidyVerdict}
 use Rattle.sheet_tidied.specs.Reach.{Reachable, last, named-by}
 use Rattle.sheet_tidied.specs.KeptLaws.{last-kept, kept-names, kept-reachable, reachable-kept, reachable-row, between-among}
 use Rattle.sheet_tidied.specs.NumberLaws.{number-first, number-less, number-own}
-use Rattle.sheet_tidied.specs.ShapeLaws.{renumbered, names-renumbered}
+use Rattle.sheet_tidied.specs.ShapeLaws.{names-renumbered}
 use Rattle.sheet_tidied.specs.Occurring.{occurs-among, among-occurs, occurs-map}
 use Rattle.sheet_tidied.specs.Rowwise.{Rowwise, passes-rowwise, naming}
 use Rattle.sheet_tidied.specs.Sixth.{sixthOf, sixth-reading}

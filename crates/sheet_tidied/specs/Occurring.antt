@@ -1,9 +1,9 @@
 -- Rows named, counted and listed: a row occurs in a list if and only if it is one of it, and numbers that are a row's own are counted as the row. With test 6 every row
 -- is reachable from the last. Assumes nothing.
-use Prim.Native.Nat.{ℕ, zero, suc, _+_, _≤_, _<_}
-use mathlib.Core.Path.{_≡_, refl, sym, ap, _∙_}
+use Prim.Native.Nat.{ℕ, zero, suc, _+_, _≤_}
+use mathlib.Core.Path.{_≡_, refl, sym, ap}
 use mathlib.Core.Logic.{_⊎_, inl, inr}
-use mathlib.Core.Bool.{Bool, true, false, cond}
+use mathlib.Core.Bool.{cond}
 use mathlib.Core.List.{List, [], _∷_, map}
 use lib.Dec.{eqb}
 use borrow.Author.Tests.{eq-eqb, ne-eqb}
@@ -12,7 +12,7 @@ use native.Mathlib.Decide.{ℕ-discrete}
 use Rattle.formula.specs.Sheet.{shapeAt, namedIn}
 use Rattle.formula.specs.Tests.{occurrences}
 use Rattle.formula.specs.FaultRows.{Among}
-use Rattle.formula.specs.PlaceLaws.{Sound, Namer, namer}
+use Rattle.formula.specs.PlaceLaws.{Sound, namer}
 use Rattle.sheet_tidied.specs.Reach.{Reachable, last, named-by}
 
 counted : (x y : ℕ) → y ≡ x → cond {A = ℕ} (eqb y x) 1 0 ≡ 1

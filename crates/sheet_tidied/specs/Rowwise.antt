@@ -1,20 +1,19 @@
 -- What tests 1 to 5 say of a sheet, row by row (document 02, Job 8: "Tests 1 to 5 are made by the tidy call itself"), and the first theorem of a tidied sheet: a row
 -- is kept if and only if it is reachable from the last.
-use Prim.Native.Nat.{ℕ, zero, suc, _+_, _*_, _-_, _%_, _≤_, _<_}
-use mathlib.Core.Path.{_≡_, refl, sym, ap, _∙_}
+use Prim.Native.Nat.{ℕ, _*_, _%_, _≤_}
+use mathlib.Core.Path.{_≡_, refl, ap}
 use mathlib.Core.Logic.{_↔_}
-use mathlib.Core.Bool.{Bool, true, false, not, _&&_, false≢true}
+use mathlib.Core.Bool.{true, false, not, _&&_, false≢true}
 use mathlib.Core.List.{List}
-use lib.Dec.{eqb, leb}
-use lib.ListN.{length, getD}
+use lib.Dec.{eqb}
+use lib.ListN.{length}
 use borrow.Author.Tests.{leb-true, le-leb, eqb-true, eqb-false, eq-eqb, ne-eqb, not-true}
 use native.Mathlib.Omega.{arith}
 use Rattle.formula.specs.declared.Check.{Check}
 use Rattle.formula.specs.declared.Check.the-variants.{Passed as well, Fault}
 use Rattle.formula.specs.declared.Verdict.the-variants.{Passed}
 use Rattle.formula.specs.Sheet.{rowCount, linesOf, fieldsOf, shapeAt, namedIn}
-use Rattle.formula.specs.SheetLaws.{line-feed}
-use Rattle.formula.specs.Tests.{lineAt, endedAt, lowest, whole, is-passed, laidOut, fewRows, fieldsWell, rangesWell, namesWell, rowTests, sheetOf, verdictBy}
+use Rattle.formula.specs.Tests.{endedAt, lowest, whole, is-passed, laidOut, fewRows, fieldsWell, rangesWell, namesWell, rowTests, sheetOf}
 use Rattle.formula.specs.TestLaws.{passed-each, each-passed, whole-true}
 use Rattle.formula.specs.Verdicts.{Each, _also_, Passes, all-pass}
 use Rattle.formula.specs.TreeLaws.{Named, and-true, all-between}
@@ -90,10 +89,6 @@ module _ (s : List ℕ) where
   pub naming : Rowwise s → Named (fieldsOf s) (rowCount s)
   unfolding namesWell
   naming h = record { names = λ r a b. all-between r (namedIn (shapeAt (fieldsOf s) r)) (h .names r a b) }
-
-  -- Test 1's line feeds.
-  pub feed-at : Rowwise s → (i : ℕ) → i < rowCount s → getD s (31 * i + 30) 0 ≡ 10
-  feed-at h i l = sym (line-feed s i l) ∙ eqb-true (getD (lineAt (linesOf s) (i + 1)) 30 0) 10 (h .ended (i + 1) (omega arith) (omega arith))
 
 -- "drops every row not reachable from the last": a row is kept if and only if it is reachable from the last.
 pub kept-iff : (s : List ℕ) → tidyVerdict s ≡ Passed → (r : ℕ) → 1 ≤ r → r ≤ rowCount s

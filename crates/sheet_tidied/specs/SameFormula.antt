@@ -2,8 +2,8 @@
 use Prim.Native.Nat.{ℕ, zero, suc, _≤_, _<_}
 use mathlib.Core.Path.{_≡_, refl, sym, ap, _∙_}
 use mathlib.Core.Logic.{inl, inr}
-use mathlib.Core.Bool.{Bool, true}
-use mathlib.Core.List.{List, [], _∷_}
+use mathlib.Core.Bool.{true}
+use mathlib.Core.List.{List}
 use native.Mathlib.Omega.{arith}
 use Rattle.formula.specs.declared.Shape.{Shape}
 use Rattle.formula.specs.declared.Shape.the-variants.{Identifier, Constant, Pair, Operator, Let, If, For, Iter}
@@ -60,9 +60,9 @@ module _ (s : List ℕ) (ok : Rowwise s) where
   same-trees zero r d l h k = absurd (omega arith)
   same-trees (suc depth) r d l h k = (
     exp-at u (rowCount (tidied s)) new (f r) low high ∙ ap (expNode (expOf u) (bodyOf u)) shape
-    ∙ exp-same f (expOf t) (expOf u) (bodyOf t) (bodyOf u) (shapeAt t r) (below (same-trees depth)) ∙ sym (exp-at t (rowCount s) old r l h),
+        ∙ exp-same f (expOf t) (expOf u) (bodyOf t) (bodyOf u) (shapeAt t r) (below (same-trees depth)) ∙ sym (exp-at t (rowCount s) old r l h),
     body-at u (rowCount (tidied s)) new (f r) low high ∙ ap (bodyNode (expOf u) (bodyOf u)) shape
-    ∙ body-same f (expOf t) (expOf u) (bodyOf t) (bodyOf u) (shapeAt t r) (below (same-trees depth)) ∙ sym (body-at t (rowCount s) old r l h),
+        ∙ body-same f (expOf t) (expOf u) (bodyOf t) (bodyOf u) (shapeAt t r) (below (same-trees depth)) ∙ sym (body-at t (rowCount s) old r l h),
   )
     where
       old : Named t (rowCount s)

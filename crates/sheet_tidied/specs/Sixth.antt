@@ -1,8 +1,8 @@
 -- Test 6 of a sheet that passes tests 1 to 5: it is then the first refusal, whatever the kinds line.
-use Prim.Native.Nat.{ℕ, _-_, _≤_, _<_}
+use Prim.Native.Nat.{ℕ, _-_}
 use mathlib.Core.Path.{_≡_, refl, sym, ap, _∙_}
 use mathlib.Core.Logic.{_↔_}
-use mathlib.Core.List.{List, [], _∷_, _++_}
+use mathlib.Core.List.{List, _++_}
 use lib.ListN.{drop}
 use borrow.Author.Tests.{eqb-true}
 use native.Mathlib.Omega.{arith}
@@ -17,7 +17,7 @@ use Rattle.formula.specs.Refusals.{numberOf}
 use Rattle.formula.specs.Sheet.{rowCount, fieldsOf}
 use Rattle.formula.specs.Tests.{Test, lowest, namedOnce, occurrences, allNamed, afterCheck, verdictBy, verdictOf, tests, rowTests, formulaTests, kindTests, graphTests, sheetOf, readingOf}
 use Rattle.formula.specs.TestLaws.{passed-each, each-passed}
-use Rattle.formula.specs.Verdicts.{Each, FaultSays, _also_, then, then-behind, refusal-says}
+use Rattle.formula.specs.Verdicts.{_also_, then, then-behind, refusal-says}
 use Rattle.formula.specs.Acceptance.{passed-admissible, reading-refused, rejected-refused, accepted-passed}
 use Rattle.formula.specs.PlaceLaws.{Sound}
 use Rattle.sheet_tidied.specs.Tidy.{tidyVerdict}
@@ -87,5 +87,5 @@ sixth-sound s ok h =
     record {
       named = naming s ok;
       once = λ x l u. eqb-true (occurrences x (allNamed (fieldsOf s) (rowCount s))) 1
-      (passed-each (rowCount s - 1) (λ r. namedOnce (allNamed (fieldsOf s) (rowCount s)) r) h x l (omega arith));
+          (passed-each (rowCount s - 1) (λ r. namedOnce (allNamed (fieldsOf s) (rowCount s)) r) h x l (omega arith));
     }

@@ -2,14 +2,13 @@
 -- passes tests 1 to 6, as every accepted one, comes back as it is.
 use Prim.Native.Nat.{ℕ, zero, suc, _+_, _*_, _-_, _≤_, _<_}
 use mathlib.Core.Path.{_≡_, refl, sym, ap, subst, _∙_}
-use mathlib.Core.Logic.{_⊎_, inl, inr}
-use mathlib.Core.Bool.{Bool, true, false, cond}
+use mathlib.Core.Logic.{inl, inr}
+use mathlib.Core.Bool.{Bool, true, cond}
 use mathlib.Core.List.{List, [], _∷_, _++_, map}
 use lib.ListN.{length, getD, take, drop, length-drop}
 use lib.Seq.{take-add, take-all, length-take-le, getD-take, getD-append-add}
 use borrow.Author.Tests.{eqb-true}
 use native.Mathlib.Omega.{arith}
-use native.Mathlib.Decide.{ℕ-discrete}
 use native.Mathlib.Numerals.{add-one}
 use Rattle.formula.specs.declared.Check.the-variants.{Passed as well}
 use Rattle.formula.specs.declared.Verdict.the-variants.{Passed}
@@ -17,13 +16,12 @@ use Rattle.formula.specs.declared.Reading.the-variants.{Accepted}
 use Rattle.formula.specs.declared.Figures.{Figures}
 use Rattle.formula.specs.Sheet.{rowCount, linesOf, fieldsOf, field, shapeAt, namedIn}
 use Rattle.formula.specs.SheetLaws.{line-at, lineFields, fields-length, fields-more}
-use Rattle.formula.specs.Tests.{lineAt, endedAt, fieldsWell, readingOf}
+use Rattle.formula.specs.Tests.{lineAt, fieldsWell, readingOf}
 use Rattle.formula.specs.FaultRows.{Among}
 use Rattle.sheet_tidied.specs.Text.{rowText, sheetText}
-use Rattle.sheet_tidied.specs.Tidy.{isKept, keptOf, newNumber, newRow, keptRows, rowsKept, tidied, tidyVerdict}
+use Rattle.sheet_tidied.specs.Tidy.{isKept, newNumber, newRow, keptRows, rowsKept, tidied, tidyVerdict}
 use Rattle.sheet_tidied.specs.Reach.{Reachable, last, named-by}
 use Rattle.sheet_tidied.specs.KeptLaws.{kept-reachable, reachable-kept, reachable-row}
-use Rattle.sheet_tidied.specs.NumberLaws.{rows-more}
 use Rattle.sheet_tidied.specs.TextLaws.{text-append, text-one}
 use Rattle.sheet_tidied.specs.ShapeLaws.{names-renumbered, renamed-alike}
 use Rattle.sheet_tidied.specs.FieldTexts.{line-printed}

@@ -1,10 +1,10 @@
 -- The tidied sheet of a sheet that passes tests 1 to 5 (document 02, Job 8): its fields are those of the kept rows, one row after the other, it has as many rows, and it
 -- passes tests 1 to 5 itself.
-use Prim.Native.Nat.{ℕ, zero, suc, _+_, _*_, _-_, _≤_, _<_}
-use mathlib.Core.Path.{_≡_, refl, sym, ap, subst, _∙_}
+use Prim.Native.Nat.{ℕ, zero, suc, _*_, _-_, _≤_}
+use mathlib.Core.Path.{_≡_, refl, ap, subst, _∙_}
 use mathlib.Core.Logic.{inl, inr}
 use mathlib.Core.Bool.{Bool, true, false, cond}
-use mathlib.Core.List.{List, [], _∷_, _++_, map, flatten}
+use mathlib.Core.List.{List, [], _∷_, map, flatten}
 use lib.ListN.{length, getD}
 use borrow.Author.Tests.{le-leb, lt-ltb}
 use native.Mathlib.Omega.{arith}
@@ -13,13 +13,13 @@ use Rattle.formula.specs.declared.Verdict.the-variants.{Passed}
 use Rattle.formula.specs.Sheet.{rowCount, linesOf, fieldsOf, field, shapeAt, namedIn}
 use Rattle.formula.specs.Tests.{endedAt, fieldsWell, rangesWell, allBetween, namesWell}
 use Rattle.formula.specs.FaultRows.{Among}
-use Rattle.formula.specs.TreeLaws.{AllBetween, Named}
+use Rattle.formula.specs.TreeLaws.{AllBetween}
 use Rattle.sheet_tidied.specs.Text.{sheetText}
 use Rattle.sheet_tidied.specs.Tidy.{isKept, keptOf, newNumber, newRow, keptRows, rowsKept, tidied, tidyVerdict}
 use Rattle.sheet_tidied.specs.KeptLaws.{last-kept, kept-names}
 use Rattle.sheet_tidied.specs.NumberLaws.{number-most, number-rises, number-less, number-first, Numbered, numbered, rows-length, row-at}
 use Rattle.sheet_tidied.specs.TextLaws.{Row, Rows, rows-append, text-length, text-rows, text-fields, text-ended, text-formed, text-shape, text-range, rowShape, rowInRange}
-use Rattle.sheet_tidied.specs.ShapeLaws.{renumbered, names-renumbered, Within, range-renamed, shape-renamed, row-renamed, Listed, listed}
+use Rattle.sheet_tidied.specs.ShapeLaws.{renumbered, names-renumbered, range-renamed, shape-renamed, row-renamed, Listed, listed}
 use Rattle.sheet_tidied.specs.Rowwise.{Rowwise, passes-rowwise, rowwise-passes, naming}
 
 -- Which rows of a sheet are kept.

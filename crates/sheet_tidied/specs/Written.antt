@@ -1,24 +1,23 @@
 -- A tidied sheet in lent memory (document 02, Job 8: "writes the sheet from the start of a lent memory"): its rows written one behind another, that it fits what the call
 -- needs, and that tidying what was written, over itself, leaves every byte.
-use Prim.Native.Nat.{ℕ, zero, suc, _+_, _*_, _-_, _≤_, _<_}
-use mathlib.Core.Path.{_≡_, refl, sym, ap, _∙_}
+use Prim.Native.Nat.{ℕ, _+_, _≤_}
+use mathlib.Core.Path.{_≡_, refl, ap, _∙_}
 use mathlib.Core.Bool.{Bool, true, false, cond}
 use mathlib.Core.List.{List, [], _∷_, _++_, append-nil}
 use lib.Dec.{ltb}
 use lib.ListN.{length, getD, set, take, drop, length-append, length-drop}
 use lib.Seq.{sets, sets-eq, length-sets, take-at, drop-at}
-use borrow.Author.Tests.{ltb-true, ltb-false}
+use borrow.Author.Tests.{ltb-true}
 use native.Mathlib.Omega.{arith}
 use Rattle.value.specs.Operators.{pick}
 use Rattle.formula.specs.declared.Verdict.the-variants.{Passed}
-use Rattle.formula.specs.Sheet.{rowCount, fieldsOf}
 use Rattle.text.specs.Printed.{numberField}
 use Rattle.text.specs.PrintLaws.{number-length, written-both}
 use Rattle.sheet_tidied.specs.Text.{rowText, sheetText}
 use Rattle.sheet_tidied.specs.Tidy.{newRow, keptRows, tidied, tidyVerdict, mostSheetBytes, tidyNeed, tidyWritten}
 use Rattle.sheet_tidied.specs.NumberLaws.{rows-more}
 use Rattle.sheet_tidied.specs.TextLaws.{row-text-length, text-append, text-one}
-use Rattle.sheet_tidied.specs.Rowwise.{Rowwise, passes-rowwise}
+use Rattle.sheet_tidied.specs.Rowwise.{passes-rowwise}
 use Rattle.sheet_tidied.specs.Tidied.{tidied-fields}
 use Rattle.sheet_tidied.specs.Stays.{tidied-twice}
 
