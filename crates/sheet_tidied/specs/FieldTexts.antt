@@ -1,5 +1,5 @@
--- A number has one text (document 01: "decimal fields .. right-justified with spaces, no leading zeros"): a field that is well formed is its number as it is printed, and
--- a well-formed row with its line feed is the text of its five numbers. Assumes nothing.
+-- A number has one text (document 01: "decimal fields .. right-justified with spaces, no leading zeros"): a field that is well formed is its number
+-- as it is printed, and a well-formed row with its line feed is the text of its five numbers. Assumes nothing.
 use Prim.Native.Nat.{ℕ, zero, suc, _+_, _*_, _-_, _/_, _%_, _≤_}
 use mathlib.Core.Path.{_≡_, refl, sym, ap, _∙_}
 use mathlib.Core.Logic.{_⊎_, inl, inr}

@@ -1,5 +1,5 @@
--- The rows that are kept are those reachable from the last (document 02, Job 8: "drops every row not reachable from the last"). Rests on test 5: a row names
--- only rows from 1 to the one before it, so that a row's mark is settled when its turn comes.
+-- The rows that are kept are those reachable from the last (document 02, Job 8: "drops every row not reachable from the last"). Rests on test 5: a
+-- row names only rows from 1 to the one before it, so that a row's mark is settled when its turn comes.
 use Prim.Native.Nat.{ℕ, zero, suc, _-_, _≤_, _<_}
 use mathlib.Core.Path.{_≡_, refl, sym, ap, _∙_}
 use mathlib.Core.Logic.{_↔_, _⊎_, inl, inr}
@@ -46,7 +46,7 @@ keep-length t (suc r) k = keep-length t r (keepRow t (suc r) k) ∙ keep-row-len
 
 pub kept-length : (t : List ℕ) (n : ℕ) → length (keptOf t n) ≡ n
 unfolding keptOf
-kept-length t n = keep-length t n (set (replicate n false) (n - 1) true) ∙ length-set (replicate n false) (n - 1) true ∙ length-replicate n false
+kept-length t n = keep-length t n _ ∙ simp (length-set, length-replicate)
 
 -- ---- what marking does to one row
 
@@ -89,6 +89,9 @@ mark-only (y ∷ l) p x r b h k = go (mark-only l (set p (y - 1) true) x r (b .1
     go (inr a) d = inr (inr a)
     go (inl e) (yes s) = inr (inl s)
     go (inl e) (no s) = inl (sym (getD-set-other p (y - 1) (x - 1) true false (λ (z : x - 1 ≡ y - 1). s (omega arith))) ∙ e)
+
+last-inside : (n : ℕ) (b : Bool) → 1 ≤ n → n - 1 < length (replicate n b)
+last-inside n b h = rw (length-replicate n b) (omega arith)
 
 -- ---- what a row, and all rows from r down, do to one row
 
@@ -179,14 +182,12 @@ module _ (t : List ℕ) (n : ℕ) (ok : Named t n) where
 
     pub last-kept : isKept (keptOf t n) n ≡ true
     unfolding keptOf
-    last-kept = down-keeps t n (set (replicate n false) (n - 1) true) n (getD-set-same (replicate n false) (n - 1) true false (rw (length-replicate n false) (omega arith)))
+    last-kept = down-keeps t n _ n (simp (getD-set-same, last-inside))
 
     -- The rows that a kept row names are kept.
     pub kept-names : (r : ℕ) → 1 ≤ r → r ≤ n → isKept (keptOf t n) r ≡ true → (x : ℕ) → Among x (namedIn (shapeAt t r)) → isKept (keptOf t n) x ≡ true
     unfolding keptOf
-    kept-names r l u h x a =
-        down-closed n (set (replicate n false) (n - 1) true) (omega arith)
-        (rw (length-set (replicate n false) (n - 1) true, length-replicate n false) (omega arith)) r l u h x a
+    kept-names r l u h x a = down-closed n _ (omega arith) (simp (length-set, length-replicate) (omega arith)) r l u h x a
 
     pub kept-reachable : (r : ℕ) → 1 ≤ r → isKept (keptOf t n) r ≡ true → Reachable t n r
     unfolding keptOf

@@ -1,5 +1,5 @@
--- Laws of new numbers (document 02, Job 8: "renumbers the rest in their old order"): they rise with the old ones, kept rows have different ones, and every number
--- from 1 to the count of kept rows is some kept row's. Assumes nothing.
+-- Laws of new numbers (document 02, Job 8: "renumbers the rest in their old order"): they rise with the old ones, kept rows have different ones, and
+-- every number from 1 to the count of kept rows is some kept row's, which stands there. Assumes nothing.
 use Prim.Native.Nat.{ℕ, zero, suc, _+_, _-_, _≤_, _<_}
 use mathlib.Core.Path.{_≡_, refl, sym, ap, _∙_}
 use mathlib.Core.Bool.{Bool, true, false, cond}

@@ -1,5 +1,5 @@
--- Rows named, counted and listed: a row occurs in a list if and only if it is one of it, and numbers that are a row's own are counted as the row. With test 6 every row
--- is reachable from the last. Assumes nothing.
+-- Rows named, counted and listed: a row occurs in a list if and only if it is one of it, and a number that is one row's alone is counted as the row.
+-- With tests 5 and 6 every row is reachable from the last.
 use Prim.Native.Nat.{ℕ, zero, suc, _+_, _≤_}
 use mathlib.Core.Path.{_≡_, refl, sym, ap}
 use mathlib.Core.Logic.{_⊎_, inl, inr}

@@ -1,5 +1,5 @@
--- Which rows can be reached from the last (document 02, Job 8: "every row not reachable from the last"): the last itself, and every row that a field of a
--- reachable row names. A relation of its own, by which the kept rows (Tidy `keptOf`) are judged. Definitions only; assumes nothing.
+-- Which rows can be reached from the last (document 02, Job 8: "every row not reachable from the last"): the last itself, and every row that a field
+-- of a reachable row names. A relation of its own, by which the kept rows (Tidy `keptOf`) are judged. Definitions only; assumes nothing.
 use Prim.Native.Nat.{ℕ}
 use mathlib.Core.List.{List}
 use Rattle.formula.specs.Sheet.{shapeAt, namedIn}

@@ -1,5 +1,5 @@
--- What tests 1 to 5 say of a sheet, row by row (document 02, Job 8: "Tests 1 to 5 are made by the tidy call itself"), and the first theorem of a tidied sheet: a row
--- is kept if and only if it is reachable from the last.
+-- What tests 1 to 5 say of a sheet, row by row (document 02, Job 8: "Tests 1 to 5 are made by the tidy call itself"), and the first theorem of a
+-- tidied sheet: a row is kept if and only if it is reachable from the last.
 use Prim.Native.Nat.{ℕ, _*_, _%_, _≤_}
 use mathlib.Core.Path.{_≡_, refl, ap}
 use mathlib.Core.Logic.{_↔_}

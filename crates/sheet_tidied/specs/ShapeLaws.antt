@@ -1,5 +1,5 @@
--- A row with other numbers for the rows that it names: its five fields are read as that row, it passes test 4 where the row did, and with its own names the fields are
--- the row's own, as fields that its kind does not list are 0. Assumes nothing.
+-- A row with other numbers for the rows that it names: its five fields are read as that row, it passes test 4 where the row did, and with its own
+-- names the fields are the row's own, as fields that its kind does not list are 0. Assumes nothing.
 use Prim.Native.Nat.{ℕ, _+_, _≤_, _<_}
 use mathlib.Core.Path.{_≡_, refl}
 use mathlib.Core.Logic.{_⊎_, inl, inr}

@@ -1,5 +1,5 @@
--- A sheet of which every row is reachable from the last is tidied to itself, byte for byte. So tidying twice changes nothing more (document 02, Job 8), and a sheet that
--- passes tests 1 to 6, as every accepted one, comes back as it is.
+-- A sheet of which every row is reachable from the last is tidied to itself, byte for byte. So tidying twice changes nothing more (document 02, Job
+-- 8), and a sheet that passes tests 1 to 6, as every accepted one, comes back as it is.
 use Prim.Native.Nat.{ℕ, zero, suc, _+_, _*_, _-_, _≤_, _<_}
 use mathlib.Core.Path.{_≡_, refl, sym, ap, subst, _∙_}
 use mathlib.Core.Logic.{inl, inr}

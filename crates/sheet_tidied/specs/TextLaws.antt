@@ -1,5 +1,5 @@
--- A sheet written from rows of five numbers is read back as those rows (document 01, "The formula sheet"): its lines are the rows' texts, its fields the rows' numbers,
--- and it passes tests 1 to 3. Assumes nothing.
+-- A sheet written from rows of five numbers is read back as those rows (document 01, "The formula sheet"): its lines are the rows' texts, its fields
+-- the rows' numbers, and it passes tests 1 to 3. Assumes nothing.
 use Prim.Native.Nat.{ℕ, zero, suc, _+_, _*_, _-_, _≤_, _<_}
 use mathlib.Core.Path.{_≡_, refl, sym, ap, _∙_}
 use mathlib.Core.Bool.{Bool, true, _&&_}

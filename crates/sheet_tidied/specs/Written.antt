@@ -1,5 +1,5 @@
--- A tidied sheet in lent memory (document 02, Job 8: "writes the sheet from the start of a lent memory"): its rows written one behind another, that it fits what the call
--- needs, and that tidying what was written, over itself, leaves every byte.
+-- A tidied sheet in lent memory (document 02, Job 8: "writes the sheet from the start of a lent memory"): its rows written one behind another, that
+-- it fits what the call needs, and that tidying what was written, over itself, leaves every byte.
 use Prim.Native.Nat.{ℕ, _+_, _≤_}
 use mathlib.Core.Path.{_≡_, refl, ap, _∙_}
 use mathlib.Core.Bool.{Bool, true, false, cond}
