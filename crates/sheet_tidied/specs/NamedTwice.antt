@@ -10,7 +10,7 @@ use native.Mathlib.Decide.{ℕ-discrete, decLt}
 use native.Mathlib.Numerals.{add-one}
 use Rattle.formula.specs.declared.Check.{Check}
 use Rattle.formula.specs.declared.Check.the-variants.{Passed as well, Fault}
-use Rattle.formula.specs.declared.Refusal.the-variants.{Named as Doubled}
+use Rattle.formula.specs.declared.Refusal.the-variants.{Named}
 use Rattle.formula.specs.declared.Verdict.the-variants.{Passed}
 use Rattle.formula.specs.declared.Reading.the-variants.{Rejected}
 use Rattle.formula.specs.Sheet.{rowCount, fieldsOf, shapeAt, namedIn}
@@ -173,7 +173,7 @@ module _ (s : List ℕ) (ok : Rowwise s) where
           absurd (omega (arith, same, eqb-true (occurrences (f x) (allNamed (fieldsOf (tidied s)) (rowCount (tidied s)))) 1 one))
 
 -- "the new sheet gets 6 exactly when two fields of kept rows name the same row", whatever the kinds line
-pub tidied-named : (s line : List ℕ) → tidyVerdict s ≡ Passed → ((row : ℕ) × (readingOf (tidied s) line ≡ Rejected Doubled row)) ↔ NamedTwice s
+pub tidied-named : (s line : List ℕ) → tidyVerdict s ≡ Passed → ((row : ℕ) × (readingOf (tidied s) line ≡ Rejected Named row)) ↔ NamedTwice s
 tidied-named s line h =
     let ok = passes-rowwise s h in
     let reading = sixth-reading (tidied s) line (tidied-passes s h) in
