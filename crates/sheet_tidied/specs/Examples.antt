@@ -33,7 +33,7 @@ doubled-name-stays : tidied (bytes pairOfOne) ≡ bytes stillOfOne
 unfolding tidied bytes pairOfOne stillOfOne
 doubled-name-stays = refl
 
-doubled-name-refused : readingOf (bytes stillOfOne) (bytes "W") ≡ Rejected Named 1
+doubled-name-refused : readingOf (bytes stillOfOne) (bytes "W\n") ≡ Rejected Named 1
 unfolding readingOf bytes stillOfOne
 doubled-name-refused = refl
 
@@ -44,7 +44,7 @@ namedFromDeadRow = "     1     0     0     0     0\n     5    11     1     0    
 unfoldable namedOnceNow : String
 namedOnceNow = "     1     0     0     0     0\n     5    11     1     0     0\n"
 
-dead-name-refused : readingOf (bytes namedFromDeadRow) (bytes "W") ≡ Rejected Named 1
+dead-name-refused : readingOf (bytes namedFromDeadRow) (bytes "W\n") ≡ Rejected Named 1
 unfolding readingOf bytes namedFromDeadRow
 dead-name-refused = refl
 

@@ -7,6 +7,7 @@ pub mod NumberLaws
 pub mod TextLaws
 pub mod ShapeLaws
 pub mod Tidied
+pub mod Order
 pub mod FieldTexts
 pub mod Occurring
 pub mod Sixth

@@ -1,4 +1,5 @@
 -- Document 02, Job 8: "the new sheet gets 6 exactly when two fields of kept rows name the same row". Two fields of one row count as two.
+-- The kept rows are the reachable ones (Rowwise `kept-iff`).
 use Prim.Native.Nat.{ℕ, zero, suc, _+_, _-_, _≤_, _<_}
 use mathlib.Core.Path.{_≡_, refl, sym, ap, _∙_}
 use mathlib.Core.Logic.{_↔_}

@@ -1,5 +1,5 @@
--- The tidied sheet has the same formula (document 02, Job 8): every kept row, read in an expression place or in a body place, is the same tree under
--- its new number.
+-- The tidied sheet has the same formula, which document 02 does not ask for: a club that tidies keeps its verdicts. The way there: every kept row, read
+-- in an expression place or in a body place, is the same tree under its new number.
 use Prim.Native.Nat.{ℕ, zero, suc, _≤_, _<_}
 use mathlib.Core.Path.{_≡_, refl, sym, ap, _∙_}
 use mathlib.Core.Logic.{inl, inr}

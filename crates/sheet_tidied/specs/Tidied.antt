@@ -1,5 +1,5 @@
--- The tidied sheet of a sheet that passes tests 1 to 5 (document 02, Job 8): its fields are those of the kept rows, one row after the other, it has
--- as many rows, and it passes tests 1 to 5 itself.
+-- The tidied sheet of a sheet that passes tests 1 to 5 (document 02, Job 8): its fields are those of the kept rows, renumbered, one row after the
+-- other, it has as many rows, and it passes tests 1 to 5 itself.
 use Prim.Native.Nat.{ℕ, zero, suc, _*_, _-_, _≤_}
 use mathlib.Core.Path.{_≡_, refl, ap, subst, _∙_}
 use mathlib.Core.Logic.{inl, inr}
@@ -169,7 +169,7 @@ module _ (s : List ℕ) (ok : Rowwise s) where
       }
 
 module _ (s : List ℕ) (h : tidyVerdict s ≡ Passed) where
-  -- The new sheet's fields are those of the kept rows, one after the other; it has as many rows, and is not longer than the sheet.
+  -- The new sheet's fields are those of the kept rows, renumbered, one after the other; it has as many rows, and is not longer than the sheet.
   pub tidied-fields : Holding s
   tidied-fields = holding s (passes-rowwise s h)
 

@@ -26,7 +26,7 @@ unfolding mark namedIn shapeAt
 keepDown t zero k = k
 keepDown t (suc r) k = keepDown t r (cond (isKept k (suc r)) (mark (namedIn (shapeAt t (suc r))) k) k)
 
--- Which of n rows are kept: the last, and what it comes to name. They are the reachable ones (Reach).
+-- Which of n rows are kept: the last, and what it comes to name. Behind test 5 they are the reachable ones (Rowwise `kept-iff`).
 unfoldable pub keptOf : List ℕ → ℕ → List Bool
 unfolding keepDown
 keptOf t n = keepDown t n (set (replicate n false) (n - 1) true)
@@ -79,7 +79,7 @@ tidyVerdict s = verdictBy rowTests (sheetOf s)
 
 -- ---- what the call needs
 
--- The bytes of the longest sheet that passes test 2.
+-- The bytes of the longest sheet that passes tests 1 and 2.
 abbrev pub mostSheetBytes : ℕ
 mostSheetBytes = 200 * 31
 

@@ -1,5 +1,5 @@
 -- A tidied sheet in lent memory (document 02, Job 8: "writes the sheet from the start of a lent memory"): its rows written one behind another, that
--- it fits what the call needs, and that tidying what was written, over itself, leaves every byte.
+-- it fits what the call needs, and that a copy of it, tidied into the same memory, leaves every byte there.
 use Prim.Native.Nat.{ℕ, _+_, _≤_}
 use mathlib.Core.Path.{_≡_, refl, ap, _∙_}
 use mathlib.Core.Bool.{Bool, true, false, cond}
@@ -99,7 +99,7 @@ module _ (s out : List ℕ) (l : length (tidied s) ≤ length out) where
   unfolding tidyWritten
   written-new = take-at (tidied s) (drop (length (tidied s)) out) (length (tidied s)) refl
 
--- Tidied into the memory that it lies in, the new sheet leaves every byte.
+-- A copy of the new sheet, tidied into the memory that holds it, leaves every byte there.
 pub written-twice : (s out : List ℕ) → tidyVerdict s ≡ Passed → tidyWritten (tidied s) (tidyWritten s out) ≡ tidyWritten s out
 unfolding tidyWritten
 written-twice s out h =
