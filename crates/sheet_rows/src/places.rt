@@ -16,7 +16,7 @@ ghost use Rattle.formula.specs.declared.Check.the-variants.{Passed};
 ghost use Rattle.sheet_rows.specs.Bodies.{listed};
 
 // Row r is in a body place.
-fn mark_one(places: &mut [bool], r: usize)
+pub fn mark_one(places: &mut [bool], r: usize)
     requires { ⌜ (1 ≤ r) × (r ≤ length (now places)) ⌝ }
     ensures { λ _. ⌜ now (places .exit) ≡ mark (r ∷ []) (now (places .entry)) ⌝ }
 {
