@@ -4,17 +4,18 @@ use sheet_fields::shape::shape_at;
 use sheet_rows::places::mark_one;
 ghost use mathlib.Core.Path.{_≡_};
 ghost use mathlib.Core.Bool.{Bool, true, false};
-ghost use Prim.Native.Nat.{_+_, _*_, _≤_, _<_};
+ghost use Prim.Native.Nat.{_+_, _*_, _≤_};
 ghost use lib.ListN.{length, replicate};
-ghost use Rattle.formula.specs.Sheet.{namedIn};
+ghost use Rattle.formula.specs.Sheet.{shapeAt, namedIn};
 ghost use Rattle.formula.specs.Places.{mark};
-ghost use Rattle.formula.specs.Tests.{lowest, namesWell, allBetween};
-ghost use Rattle.formula.specs.declared.Check.the-variants.{Passed};
+ghost use Rattle.formula.specs.TreeLaws.{AllBetween, Named};
+ghost use Rattle.sheet_tables.specs.Nodes.{Holds};
 ghost use Rattle.sheet_tidied.specs.Tidy.{keptOf, newNumber};
+ghost use Rattle.sheet_tidy.specs.TidiedLaws.{keepRow};
 
-// The rows that row r, of shape s, names are kept.
-fn keep_named(kept: &mut [bool], s: Shape, r: usize)
-    requires { ⌜ (r ≤ length (now kept)) × (allBetween r (namedIn s) ≡ true) ⌝ }
+// The rows that a row of shape s names are kept.
+fn keep_named(kept: &mut [bool], s: Shape)
+    requires { ⌜ AllBetween (length (now kept) + 1) (namedIn s) ⌝ }
     ensures { λ _. ⌜ now (kept .exit) ≡ mark (namedIn s) (now (kept .entry)) ⌝ }
 {
     match s {
@@ -46,17 +47,25 @@ fn keep_named(kept: &mut [bool], s: Shape, r: usize)
     }
 }
 
+// The rows that row r names are kept, if it is.
+fn keep_row(fields: &[u32], r: usize, kept: &mut [bool])
+    requires { ⌜ (1 ≤ r) × (5 * r ≤ length (now fields)) × (r ≤ length (now kept)) × AllBetween r (namedIn (shapeAt (now fields) r)) ⌝ }
+    ensures { λ _. ⌜ now (kept .exit) ≡ keepRow (now (fields .entry)) r (now (kept .entry)) ⌝ }
+{
+    if kept[r - 1] {
+        keep_named(kept, shape_at(fields, r));
+    }
+}
+
 // Which of n rows are kept, in a table that has none.
 pub fn find_kept(fields: &[u32], n: usize, kept: &mut [bool])
-    requires { ⌜ (length (now fields) ≡ 5 * n) × (1 ≤ n) × (now kept ≡ replicate n false) × (lowest n (namesWell (now fields)) ≡ Passed) ⌝ }
+    requires { ⌜ (length (now fields) ≡ 5 * n) × (1 ≤ n) × (now kept ≡ replicate n false) × Named (now fields) n ⌝ }
     ensures { λ _. ⌜ now (kept .exit) ≡ keptOf (now (fields .entry)) n ⌝ }
 {
     mark_one(kept, n);
     let mut r = n;
     while 0 < r {
-        if kept[r - 1] {
-            keep_named(kept, shape_at(fields, r), r);
-        }
+        keep_row(fields, r, kept);
         r -= 1;
     }
 }
@@ -64,6 +73,8 @@ pub fn find_kept(fields: &[u32], n: usize, kept: &mut [bool])
 // The new number of each row, and of the last: how many are kept.
 pub fn number_rows(kept: &[bool], numbers: &mut [u32]) -> u32
     requires { ⌜ (length (now kept) ≤ 200) × (length (now numbers) ≡ length (now kept)) ⌝ }
+    ensures { λ c. ⌜ (c ≡ newNumber (now (kept .entry)) (length (now (kept .entry))))
+        × Holds 0 (now (numbers .exit)) (length (now (kept .entry))) (newNumber (now (kept .entry))) ⌝ }
 {
     let n = kept.len();
     let mut count = 0u32;

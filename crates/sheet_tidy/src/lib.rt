@@ -14,8 +14,14 @@ use sheet_fields::layout::MOST_ROWS;
 use sheet_fields::layout::ROW_BYTES;
 use sheet_read::read::row_tests;
 ghost use mathlib.Core.Path.{_≡_};
+ghost use Prim.Native.Nat.{_*_, _≤_};
+ghost use lib.ListN.{length};
+ghost use lib.Seq.{sets};
 ghost use Rattle.formula.specs.Refusals.{numberOf};
+ghost use Rattle.formula.specs.TreeLaws.{Named};
+ghost use Rattle.sheet_tidied.specs.Text.{sheetText};
 ghost use Rattle.sheet_tidied.specs.Tidy.{tidyNeed};
+ghost use Rattle.sheet_tidy.specs.Rows.{rowsOf};
 ghost use Rattle.sheet_tidy.specs.Tidying.{handed, answers, tidiedInto};
 
 // The answer: document 01's number of a refusal, 0 where accepted; its row; the rows of the new sheet.
@@ -39,7 +45,10 @@ fn refused(r: Refusal, row: u32) -> TidyAnswer
 }
 
 // The room that a tidied sheet may need, by the length of the sheet.
-fn need(bytes: usize) -> usize {
+fn need(sheet: &[u8]) -> usize
+    ensures { λ r. ⌜ r ≡ tidyNeed (now (sheet .entry)) ⌝ }
+{
+    let bytes = sheet.len();
     if MOST_SHEET_BYTES < bytes {
         return MOST_SHEET_BYTES;
     }
@@ -47,7 +56,10 @@ fn need(bytes: usize) -> usize {
 }
 
 // Writes the kept rows of a sheet of n rows with these fields, and counts them.
-fn write_kept(fields: &[u32], n: usize, out: &mut [u8]) -> u32 {
+fn write_kept(fields: &[u32], n: usize, out: &mut [u8]) -> u32
+    requires { ⌜ (length (now fields) ≡ 5 * n) × (1 ≤ n) × (n ≤ 200) × Named (now fields) n × (31 * n ≤ length (now out)) ⌝ }
+    ensures { λ c. ⌜ (c ≡ length (rowsOf (now (fields .entry)) n)) × (now (out .exit) ≡ sets (now (out .entry)) 0 (sheetText (rowsOf (now (fields .entry)) n))) ⌝ }
+{
     let mut kept = blank::marks();
     let mut numbers = blank::numbers();
     find_kept(fields, n, &mut kept[..n]);
@@ -60,7 +72,7 @@ fn write_kept(fields: &[u32], n: usize, out: &mut [u8]) -> u32 {
 pub fn tidy(sheet: &[u8], out: &mut [u8]) -> TidyAnswer
     ensures { λ a. ⌜ handed a (now (out .exit)) ≡ tidiedInto (now (sheet .entry)) (now (out .entry)) ⌝ }
 {
-    if out.len() < need(sheet.len()) {
+    if out.len() < need(sheet) {
         return refused(Refusal::Memory, 0);
     }
     let mut fields = blank::fields();
