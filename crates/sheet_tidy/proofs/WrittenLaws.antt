@@ -1,0 +1,140 @@
+-- Laws of the rows of a tidied sheet as they are written, one behind another. Assumes nothing.
+use Prim.Native.Nat.{ℕ, zero, suc, _+_, _*_, _≤_, _<_}
+use mathlib.Core.Path.{_≡_, refl, sym, ap, _∙_}
+use mathlib.Core.Bool.{Bool, true, false, cond}
+use mathlib.Core.List.{List, [], _∷_, _++_}
+use native.Mathlib.Omega.{arith}
+use lib.ListN.{length, getD, set, length-append}
+use lib.Seq.{sets, length-sets}
+use Rattle.formula.specs.declared.Shape.{Shape}
+use Rattle.formula.specs.declared.Shape.the-variants.{Identifier, Constant, Pair, Operator, Let, If, For, Iter}
+use Rattle.formula.specs.Sheet.{shapeAt}
+use Rattle.text.specs.Printed.{numberField}
+use Rattle.text.specs.PrintLaws.{number-length, written-both}
+use Rattle.sheet_tidied.specs.Text.{rowText, sheetText}
+use Rattle.sheet_tidied.specs.Tidy.{isKept, newNumber, renamed, newRow, keptRows}
+use Rattle.sheet_tidy.specs.TidiedLaws.{number-most, row-text-length, text-append, text-one}
+use Rattle.sheet_tidy.proofs.KeptLaws.{number-kept, number-left, rows-kept, rows-left}
+
+-- ---- one row
+
+five-fields : (f : ℕ → ℕ) (s : Shape) → length (renamed f s) ≡ 5
+unfolding renamed
+five-fields f (Identifier a) = refl
+five-fields f (Constant kind a) = refl
+five-fields f (Pair a b) = refl
+five-fields f (Operator a b) = refl
+five-fields f (Let a b c d) = refl
+five-fields f (If a b c) = refl
+five-fields f (For a b c d) = refl
+five-fields f (Iter a) = refl
+
+new-length : (t : List ℕ) (k : List Bool) (r : ℕ) → length (rowText (newRow t k r)) ≡ 31
+unfolding newRow
+new-length t k r = row-text-length (renamed (newNumber k) (shapeAt t r)) ∙ (let e = five-fields (newNumber k) (shapeAt t r) in omega arith)
+
+-- ---- rows one behind another
+
+module _ (t : List ℕ) (k : List Bool) where
+  -- As far as the rows are written, 31 bytes each.
+  pub written-length : (i : ℕ) → length (sheetText (keptRows t k i)) ≡ 31 * newNumber k i
+  unfolding keptRows newNumber sheetText
+  written-length zero = refl
+  written-length (suc i) =
+      ap length (text-append (keptRows t k i) _) ∙ length-append (sheetText (keptRows t k i)) _ ∙ go (isKept k (suc i)) (written-length i)
+    where
+      go : (b : Bool) → length (sheetText (keptRows t k i)) ≡ 31 * newNumber k i
+          → length (sheetText (keptRows t k i)) + length (sheetText (cond b (newRow t k (suc i) ∷ []) [])) ≡ 31 * (newNumber k i + cond b 1 0)
+      go true e = let a = length-append (rowText (newRow t k (suc i))) [] in let b = new-length t k (suc i) in omega arith
+      go false e = omega arith
+
+  -- Row i + 1 behind those before it, where it is kept.
+  text-kept : (i : ℕ) → getD k i false ≡ true → sheetText (keptRows t k (i + 1)) ≡ sheetText (keptRows t k i) ++ rowText (newRow t k (i + 1))
+  text-kept i h =
+      ap sheetText (rows-kept k i t h) ∙ text-append (keptRows t k i) (newRow t k (i + 1) ∷ [])
+      ∙ ap (λ (x : List ℕ). sheetText (keptRows t k i) ++ x) (text-one (newRow t k (i + 1)))
+
+  pub row-written : (i : ℕ) (out : List ℕ) → getD k i false ≡ true → 31 * (i + 1) ≤ length out
+      → sets (sets out 0 (sheetText (keptRows t k i))) (31 * newNumber k i) (rowText (newRow t k (i + 1))) ≡ sets out 0 (sheetText (keptRows t k (i + 1)))
+  row-written i out h room =
+      let e : length (sheetText (keptRows t k i)) ≡ 31 * newNumber k i = written-length i in
+      let l : length (rowText (newRow t k (i + 1))) ≡ 31 = new-length t k (i + 1) in
+      let b = number-most k i in
+      let z : 31 * newNumber k i ≡ 0 + length (sheetText (keptRows t k i)) = omega arith in
+      ap (λ (x : ℕ). sets (sets out 0 (sheetText (keptRows t k i))) x (rowText (newRow t k (i + 1)))) z
+      ∙ written-both out 0 (sheetText (keptRows t k i)) (rowText (newRow t k (i + 1))) (omega arith)
+      ∙ ap (sets out 0) (sym (text-kept i h))
+
+-- ---- the rows in turn
+
+-- Of n rows the kept ones of the first i are written from the start of o, which is now out; at is where the next one goes.
+pub record Writing (t : List ℕ) (k : List Bool) (n : ℕ) (o out : List ℕ) (at i : ℕ) : Type 0 where
+  pub upto : i ≤ n
+  pub place : at ≡ 31 * newNumber k i
+  pub bytes : out ≡ sets o 0 (sheetText (keptRows t k i))
+  pub size : length out ≡ length o
+
+module _ (t : List ℕ) (k : List Bool) (n : ℕ) (o : List ℕ) where
+  pub writing-start : Writing t k n o o 0 0
+  unfolding newNumber keptRows sheetText
+  writing-start = record { upto = omega arith; place = refl; bytes = refl; size = refl }
+
+  module _ (out : List ℕ) (at i : ℕ) (w : Writing t k n o out at i) where
+    -- The next row has room.
+    pub writing-room : i < n → 31 * n ≤ length o → at + 31 ≤ length out
+    writing-room h room = omega (arith, number-most k i, w .place, w .size)
+
+    pub writing-kept : i < n → 31 * n ≤ length o → getD k i false ≡ true → (row : List ℕ) → row ≡ newRow t k (i + 1)
+        → Writing t k n o (sets out at (rowText row)) (at + 31) (i + 1)
+    writing-kept h room kept row e =
+        let next = number-kept k i kept in
+        record {
+          upto = omega arith;
+          place = omega (arith, w .place);
+          bytes = rw (w .bytes, w .place, e) (row-written t k i o kept (omega arith));
+          size = length-sets out at (rowText row) ∙ w .size;
+        }
+
+    pub writing-left : i < n → getD k i false ≡ false → Writing t k n o out at (i + 1)
+    writing-left h left =
+        let next = number-left k i left in
+        record {
+          upto = omega arith;
+          place = omega (arith, w .place);
+          bytes = w .bytes ∙ ap (λ (x : List (List ℕ)). sets o 0 (sheetText x)) (sym (rows-left k i t left));
+          size = w .size;
+        }
+
+    pub writing-end : n ≤ i → out ≡ sets o 0 (sheetText (keptRows t k n))
+    writing-end h = let e : i ≡ n = omega (arith, w .upto) in w .bytes ∙ ap (λ (j : ℕ). sets o 0 (sheetText (keptRows t k j))) e
+
+-- ---- the parts of one row
+
+-- A field in front of what a row has behind it.
+field-before : (l : List ℕ) (at next x : ℕ) (xs : List ℕ) → next ≡ at + 6 → at + (6 * length xs + 7) ≤ length l
+    → sets (sets l at (numberField x)) next (rowText xs) ≡ sets l at (rowText (x ∷ xs))
+unfolding rowText
+field-before l at next x xs e h =
+    let a = number-length x in
+    let b = row-text-length xs in
+    let n : next ≡ at + length (numberField x) = omega arith in
+    ap (λ (j : ℕ). sets (sets l at (numberField x)) j (rowText xs)) n ∙ written-both l at (numberField x) (rowText xs) (omega arith)
+
+pub row-parts : (l : List ℕ) (at a b c d e : ℕ) → at + 31 ≤ length l
+    → set (sets (sets (sets (sets (sets l at (numberField a)) (at + 6) (numberField b)) (at + 12) (numberField c)) (at + 18) (numberField d)) (at + 24) (numberField e)) (at + 30) 10
+    ≡ sets l at (rowText (a ∷ b ∷ c ∷ d ∷ e ∷ []))
+unfolding rowText
+row-parts l at a b c d e h =
+    let l₁ = sets l at (numberField a) in
+    let l₂ = sets l₁ (at + 6) (numberField b) in
+    let l₃ = sets l₂ (at + 12) (numberField c) in
+    let l₄ = sets l₃ (at + 18) (numberField d) in
+    let n₁ = length-sets l at (numberField a) in
+    let n₂ = length-sets l₁ (at + 6) (numberField b) in
+    let n₃ = length-sets l₂ (at + 12) (numberField c) in
+    let n₄ = length-sets l₃ (at + 18) (numberField d) in
+    field-before l₄ (at + 24) (at + 30) e [] (omega arith) (omega arith)
+    ∙ field-before l₃ (at + 18) (at + 24) d (e ∷ []) (omega arith) (omega arith)
+    ∙ field-before l₂ (at + 12) (at + 18) c (d ∷ e ∷ []) (omega arith) (omega arith)
+    ∙ field-before l₁ (at + 6) (at + 12) b (c ∷ d ∷ e ∷ []) (omega arith) (omega arith)
+    ∙ field-before l at (at + 6) a (b ∷ c ∷ d ∷ e ∷ []) (omega arith) (omega arith)

@@ -1,0 +1,3 @@
+pub mod TidiedLaws
+pub mod Rows
+pub mod Tidying
