@@ -14,5 +14,4 @@ pub mod Sixth
 pub mod Stays
 pub mod NamedTwice
 pub mod SameFormula
-pub mod Examples
 pub mod Written

@@ -19,7 +19,7 @@ use Rattle.formula.specs.SheetLaws.{line-at, lineFields, fields-length, fields-
 use Rattle.formula.specs.Tests.{lineAt, fieldsWell, readingOf}
 use Rattle.formula.specs.FaultRows.{Among}
 use Rattle.sheet_tidied.specs.Text.{rowText, sheetText}
-use Rattle.sheet_tidied.specs.Tidy.{isKept, newNumber, newRow, keptRows, rowsKept, tidied, tidyVerdict}
+use Rattle.sheet_tidied.specs.Tidy.{isKept, newNumber, newRow, keptRows, newRows, tidied, tidyVerdict}
 use Rattle.sheet_tidied.specs.Reach.{Reachable, last, named-by}
 use Rattle.sheet_tidied.specs.KeptLaws.{kept-reachable, reachable-kept, reachable-row}
 use Rattle.sheet_tidied.specs.TextLaws.{text-append, text-one}
@@ -89,7 +89,7 @@ module _ (s : List ℕ) (ok : Rowwise s) (all : (r : ℕ) → 1 ≤ r → r ≤ 
       ∙ sym (ap (λ (n : ℕ). take n s) e ∙ take-add (31 * i) 31 s)
 
   stays : tidied s ≡ s
-  unfolding tidied rowsKept
+  unfolding tidied newRows
   stays = same-text (rowCount s) (omega arith) ∙ take-all (31 * rowCount s) s (omega (arith, ok .bytes))
 
 module _ (s : List ℕ) (ok : Rowwise s) where

@@ -15,7 +15,7 @@ use Rattle.formula.specs.Tests.{endedAt, fieldsWell, rangesWell, allBetween, na
 use Rattle.formula.specs.FaultRows.{Among}
 use Rattle.formula.specs.TreeLaws.{AllBetween}
 use Rattle.sheet_tidied.specs.Text.{sheetText}
-use Rattle.sheet_tidied.specs.Tidy.{isKept, keptOf, newNumber, newRow, keptRows, rowsKept, tidied, tidyVerdict}
+use Rattle.sheet_tidied.specs.Tidy.{isKept, keptOf, newNumber, newRow, keptRows, newRows, tidied, tidyVerdict}
 use Rattle.sheet_tidied.specs.KeptLaws.{last-kept, kept-names}
 use Rattle.sheet_tidied.specs.NumberLaws.{number-most, number-rises, number-less, number-first, Numbered, numbered, rows-length, row-at}
 use Rattle.sheet_tidied.specs.TextLaws.{Row, Rows, rows-append, text-length, text-rows, text-fields, text-ended, text-formed, text-shape, text-range, rowShape, rowInRange}
@@ -58,11 +58,11 @@ module _ (s : List ℕ) (ok : Rowwise s) where
 
 -- What it holds.
 pub record Holding (s : List ℕ) : Type 0 where
-  pub fields : fieldsOf (tidied s) ≡ flatten (rowsKept s)
-  pub rows : rowCount (tidied s) ≡ length (rowsKept s)
-  pub some : 1 ≤ length (rowsKept s)
-  pub most : length (rowsKept s) ≤ rowCount s
-  pub bytes : length (tidied s) ≡ 31 * length (rowsKept s)
+  pub fields : fieldsOf (tidied s) ≡ flatten (newRows s)
+  pub rows : rowCount (tidied s) ≡ length (newRows s)
+  pub some : 1 ≤ length (newRows s)
+  pub most : length (newRows s) ≤ rowCount s
+  pub bytes : length (tidied s) ≡ 31 * length (newRows s)
   pub shorter : length (tidied s) ≤ length s
 
 module _ (s : List ℕ) (ok : Rowwise s) where
@@ -72,12 +72,12 @@ module _ (s : List ℕ) (ok : Rowwise s) where
   abbrev f : ℕ → ℕ
   f x = newNumber (keptIn s) x
 
-  kept-fit : Rows (rowsKept s)
-  unfolding rowsKept
+  kept-fit : Rows (newRows s)
+  unfolding newRows
   kept-fit = new-rows-fit s ok k (rowCount s) (omega arith)
 
-  kept-count : length (rowsKept s) ≡ f (rowCount s)
-  unfolding rowsKept
+  kept-count : length (newRows s) ≡ f (rowCount s)
+  unfolding newRows
   kept-count = rows-length (fieldsOf s) k (rowCount s)
 
   last-is-kept : isKept k (rowCount s) ≡ true
@@ -86,11 +86,11 @@ module _ (s : List ℕ) (ok : Rowwise s) where
   pub holding : Holding s
   unfolding tidied
   holding =
-      let bytes : length (sheetText (rowsKept s)) ≡ 31 * length (rowsKept s) = text-length (rowsKept s) kept-fit in
-      let most : length (rowsKept s) ≤ rowCount s = omega (arith, kept-count, number-most k (rowCount s)) in
+      let bytes : length (sheetText (newRows s)) ≡ 31 * length (newRows s) = text-length (newRows s) kept-fit in
+      let most : length (newRows s) ≤ rowCount s = omega (arith, kept-count, number-most k (rowCount s)) in
       record {
-        fields = text-fields (rowsKept s) kept-fit;
-        rows = text-rows (rowsKept s) kept-fit;
+        fields = text-fields (newRows s) kept-fit;
+        rows = text-rows (newRows s) kept-fit;
         some = omega (arith, kept-count, number-first k (rowCount s) (ok .some) last-is-kept);
         most = most;
         bytes = bytes;
@@ -105,11 +105,11 @@ module _ (s : List ℕ) (ok : Rowwise s) where
     new-low : 1 ≤ f r
     new-low = number-first k r l h
 
-    new-high : f r ≤ length (rowsKept s)
+    new-high : f r ≤ length (newRows s)
     new-high = omega (arith, kept-count, number-rises k r (rowCount s) u)
 
-    standing : getD (rowsKept s) (f r - 1) [] ≡ newRow (fieldsOf s) k r
-    unfolding rowsKept
+    standing : getD (newRows s) (f r - 1) [] ≡ newRow (fieldsOf s) k r
+    unfolding newRows
     standing = row-at (fieldsOf s) k (rowCount s) r l u h
 
     -- A kept row is the new sheet's row at its new number, with new numbers for the rows that it names.
@@ -117,7 +117,7 @@ module _ (s : List ℕ) (ok : Rowwise s) where
     unfolding newRow
     new-shape =
         ap (λ (t : List ℕ). shapeAt t (f r)) (holding .fields)
-        ∙ text-shape (rowsKept s) kept-fit (f r) new-low new-high
+        ∙ text-shape (newRows s) kept-fit (f r) new-low new-high
         ∙ ap rowShape standing
         ∙ shape-renamed f (shapeAt (fieldsOf s) r) (listed-at s ok r l u .within)
 
@@ -125,7 +125,7 @@ module _ (s : List ℕ) (ok : Rowwise s) where
     unfolding newRow
     new-range =
         ap (λ (t : List ℕ). rangesWell t (f r)) (holding .fields)
-        ∙ text-range (rowsKept s) kept-fit (f r) new-low new-high
+        ∙ text-range (newRows s) kept-fit (f r) new-low new-high
         ∙ ap rowInRange standing
         ∙ range-renamed f (shapeAt (fieldsOf s) r) (listed-at s ok r l u .within)
 
@@ -148,13 +148,13 @@ module _ (s : List ℕ) (ok : Rowwise s) where
   pub new-from : (j : ℕ) → 1 ≤ j → j ≤ rowCount (tidied s) → Numbered k (rowCount s) j
   new-from j l u = numbered k (rowCount s) j l (omega (arith, new-count))
 
-  new-ended : (r : ℕ) → 1 ≤ r → r ≤ length (rowsKept s) → endedAt (linesOf (tidied s)) r ≡ true
+  new-ended : (r : ℕ) → 1 ≤ r → r ≤ length (newRows s) → endedAt (linesOf (tidied s)) r ≡ true
   unfolding tidied
-  new-ended = text-ended (rowsKept s) kept-fit
+  new-ended = text-ended (newRows s) kept-fit
 
-  new-formed : (r : ℕ) → 1 ≤ r → r ≤ length (rowsKept s) → fieldsWell (linesOf (tidied s)) r ≡ true
+  new-formed : (r : ℕ) → 1 ≤ r → r ≤ length (newRows s) → fieldsWell (linesOf (tidied s)) r ≡ true
   unfolding tidied
-  new-formed = text-formed (rowsKept s) kept-fit
+  new-formed = text-formed (newRows s) kept-fit
 
   pub tidied-rowwise : Rowwise (tidied s)
   tidied-rowwise =

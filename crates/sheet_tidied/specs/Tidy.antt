@@ -60,16 +60,16 @@ unfolding newRow
 keptRows t k zero = []
 keptRows t k (suc r) = keptRows t k r ++ cond (isKept k (suc r)) (newRow t k (suc r) ∷ []) []
 
-unfoldable pub rowsKept : List ℕ → List (List ℕ)
+unfoldable pub newRows : List ℕ → List (List ℕ)
 unfolding keptRows keptOf fieldsOf
-rowsKept s =
+newRows s =
     let t : List ℕ = fieldsOf s in
     keptRows t (keptOf t (rowCount s)) (rowCount s)
 
 -- The new sheet.
 unfoldable pub tidied : List ℕ → List ℕ
-unfolding rowsKept sheetText
-tidied s = sheetText (rowsKept s)
+unfolding newRows sheetText
+tidied s = sheetText (newRows s)
 
 -- ---- "Tests 1 to 5 are made by the tidy call itself"
 

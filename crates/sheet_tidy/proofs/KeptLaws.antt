@@ -2,14 +2,16 @@
 use Prim.Native.Nat.{ℕ, _+_, _-_, _≤_}
 use mathlib.Core.Path.{_≡_, refl, sym, ap, subst, _∙_}
 use mathlib.Core.Bool.{Bool, true, false}
-use mathlib.Core.List.{List, [], _∷_, _++_, append-nil}
+use mathlib.Core.List.{List, [], _∷_}
 use native.Mathlib.Omega.{arith}
 use lib.ListN.{length, getD}
 use Rattle.formula.specs.Sheet.{shapeAt}
 use Rattle.formula.specs.TreeLaws.{AllBetween, Named}
 use Rattle.sheet_tables.specs.Nodes.{Holds}
-use Rattle.sheet_tidied.specs.Tidy.{keptOf, newNumber, renamed, newRow, keptRows}
-use Rattle.sheet_tidy.specs.TidiedLaws.{kept-length, number-more, renamed-alike, rows-more, rows-length}
+use Rattle.sheet_tidied.specs.Tidy.{keptOf, newNumber, renamed, newRow}
+use Rattle.sheet_tidied.specs.KeptLaws.{kept-length}
+use Rattle.sheet_tidied.specs.NumberLaws.{number-more, rows-length}
+use Rattle.sheet_tidied.specs.ShapeLaws.{renamed-alike}
 use Rattle.sheet_tidy.specs.Rows.{rowsOf}
 
 pub between-wider : (r n : ℕ) (xs : List ℕ) → r ≤ n → AllBetween r xs → AllBetween n xs
@@ -23,12 +25,6 @@ module _ (k : List Bool) (i : ℕ) where
 
   pub number-left : getD k i false ≡ false → newNumber k (i + 1) ≡ newNumber k i
   number-left h = number-more k i ∙ rw h (omega arith)
-
-  pub rows-kept : (t : List ℕ) → getD k i false ≡ true → keptRows t k (i + 1) ≡ keptRows t k i ++ (newRow t k (i + 1) ∷ [])
-  rows-kept t h = rows-more t k i ∙ rw h refl
-
-  pub rows-left : (t : List ℕ) → getD k i false ≡ false → keptRows t k (i + 1) ≡ keptRows t k i
-  rows-left t h = rows-more t k i ∙ rw h (append-nil (keptRows t k i))
 
 -- A row by a table of the new numbers.
 pub new-by : (t : List ℕ) (k : List Bool) (n : ℕ) (numbers : List ℕ) → Named t n → Holds 0 numbers n (newNumber k) → (r : ℕ) → 1 ≤ r → r ≤ n

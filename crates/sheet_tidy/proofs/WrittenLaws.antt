@@ -4,17 +4,18 @@ use mathlib.Core.Path.{_≡_, refl, sym, ap, _∙_}
 use mathlib.Core.Bool.{Bool, true, false, cond}
 use mathlib.Core.List.{List, [], _∷_, _++_}
 use native.Mathlib.Omega.{arith}
-use lib.ListN.{length, getD, set, length-append}
+use lib.ListN.{length, getD, length-append}
 use lib.Seq.{sets, length-sets}
 use Rattle.formula.specs.declared.Shape.{Shape}
 use Rattle.formula.specs.declared.Shape.the-variants.{Identifier, Constant, Pair, Operator, Let, If, For, Iter}
 use Rattle.formula.specs.Sheet.{shapeAt}
-use Rattle.text.specs.Printed.{numberField}
-use Rattle.text.specs.PrintLaws.{number-length, written-both}
+use Rattle.text.specs.PrintLaws.{written-both}
 use Rattle.sheet_tidied.specs.Text.{rowText, sheetText}
 use Rattle.sheet_tidied.specs.Tidy.{isKept, newNumber, renamed, newRow, keptRows}
-use Rattle.sheet_tidy.specs.TidiedLaws.{number-most, row-text-length, text-append, text-one}
-use Rattle.sheet_tidy.proofs.KeptLaws.{number-kept, number-left, rows-kept, rows-left}
+use Rattle.sheet_tidied.specs.NumberLaws.{number-most}
+use Rattle.sheet_tidied.specs.TextLaws.{row-text-length, text-append}
+use Rattle.sheet_tidied.specs.Written.{text-kept, text-dropped}
+use Rattle.sheet_tidy.proofs.KeptLaws.{number-kept, number-left}
 
 -- ---- one row
 
@@ -37,33 +38,27 @@ new-length t k r = row-text-length (renamed (newNumber k) (shapeAt t r)) ∙ (le
 
 module _ (t : List ℕ) (k : List Bool) where
   -- As far as the rows are written, 31 bytes each.
-  pub written-length : (i : ℕ) → length (sheetText (keptRows t k i)) ≡ 31 * newNumber k i
+  pub kept-text-length : (i : ℕ) → length (sheetText (keptRows t k i)) ≡ 31 * newNumber k i
   unfolding keptRows newNumber sheetText
-  written-length zero = refl
-  written-length (suc i) =
-      ap length (text-append (keptRows t k i) _) ∙ length-append (sheetText (keptRows t k i)) _ ∙ go (isKept k (suc i)) (written-length i)
+  kept-text-length zero = refl
+  kept-text-length (suc i) =
+      ap length (text-append (keptRows t k i) _) ∙ length-append (sheetText (keptRows t k i)) _ ∙ go (isKept k (suc i)) (kept-text-length i)
     where
       go : (b : Bool) → length (sheetText (keptRows t k i)) ≡ 31 * newNumber k i
           → length (sheetText (keptRows t k i)) + length (sheetText (cond b (newRow t k (suc i) ∷ []) [])) ≡ 31 * (newNumber k i + cond b 1 0)
       go true e = let a = length-append (rowText (newRow t k (suc i))) [] in let b = new-length t k (suc i) in omega arith
       go false e = omega arith
 
-  -- Row i + 1 behind those before it, where it is kept.
-  text-kept : (i : ℕ) → getD k i false ≡ true → sheetText (keptRows t k (i + 1)) ≡ sheetText (keptRows t k i) ++ rowText (newRow t k (i + 1))
-  text-kept i h =
-      ap sheetText (rows-kept k i t h) ∙ text-append (keptRows t k i) (newRow t k (i + 1) ∷ [])
-      ∙ ap (λ (x : List ℕ). sheetText (keptRows t k i) ++ x) (text-one (newRow t k (i + 1)))
-
   pub row-written : (i : ℕ) (out : List ℕ) → getD k i false ≡ true → 31 * (i + 1) ≤ length out
       → sets (sets out 0 (sheetText (keptRows t k i))) (31 * newNumber k i) (rowText (newRow t k (i + 1))) ≡ sets out 0 (sheetText (keptRows t k (i + 1)))
   row-written i out h room =
-      let e : length (sheetText (keptRows t k i)) ≡ 31 * newNumber k i = written-length i in
+      let e : length (sheetText (keptRows t k i)) ≡ 31 * newNumber k i = kept-text-length i in
       let l : length (rowText (newRow t k (i + 1))) ≡ 31 = new-length t k (i + 1) in
       let b = number-most k i in
       let z : 31 * newNumber k i ≡ 0 + length (sheetText (keptRows t k i)) = omega arith in
       ap (λ (x : ℕ). sets (sets out 0 (sheetText (keptRows t k i))) x (rowText (newRow t k (i + 1)))) z
       ∙ written-both out 0 (sheetText (keptRows t k i)) (rowText (newRow t k (i + 1))) (omega arith)
-      ∙ ap (sets out 0) (sym (text-kept i h))
+      ∙ ap (sets out 0) (sym (text-kept t k i h))
 
 -- ---- the rows in turn
 
@@ -101,40 +96,9 @@ module _ (t : List ℕ) (k : List Bool) (n : ℕ) (o : List ℕ) where
         record {
           upto = omega arith;
           place = omega (arith, w .place);
-          bytes = w .bytes ∙ ap (λ (x : List (List ℕ)). sets o 0 (sheetText x)) (sym (rows-left k i t left));
+          bytes = w .bytes ∙ ap (sets o 0) (sym (text-dropped t k i left));
           size = w .size;
         }
 
     pub writing-end : n ≤ i → out ≡ sets o 0 (sheetText (keptRows t k n))
     writing-end h = let e : i ≡ n = omega (arith, w .upto) in w .bytes ∙ ap (λ (j : ℕ). sets o 0 (sheetText (keptRows t k j))) e
-
--- ---- the parts of one row
-
--- A field in front of what a row has behind it.
-field-before : (l : List ℕ) (at next x : ℕ) (xs : List ℕ) → next ≡ at + 6 → at + (6 * length xs + 7) ≤ length l
-    → sets (sets l at (numberField x)) next (rowText xs) ≡ sets l at (rowText (x ∷ xs))
-unfolding rowText
-field-before l at next x xs e h =
-    let a = number-length x in
-    let b = row-text-length xs in
-    let n : next ≡ at + length (numberField x) = omega arith in
-    ap (λ (j : ℕ). sets (sets l at (numberField x)) j (rowText xs)) n ∙ written-both l at (numberField x) (rowText xs) (omega arith)
-
-pub row-parts : (l : List ℕ) (at a b c d e : ℕ) → at + 31 ≤ length l
-    → set (sets (sets (sets (sets (sets l at (numberField a)) (at + 6) (numberField b)) (at + 12) (numberField c)) (at + 18) (numberField d)) (at + 24) (numberField e)) (at + 30) 10
-    ≡ sets l at (rowText (a ∷ b ∷ c ∷ d ∷ e ∷ []))
-unfolding rowText
-row-parts l at a b c d e h =
-    let l₁ = sets l at (numberField a) in
-    let l₂ = sets l₁ (at + 6) (numberField b) in
-    let l₃ = sets l₂ (at + 12) (numberField c) in
-    let l₄ = sets l₃ (at + 18) (numberField d) in
-    let n₁ = length-sets l at (numberField a) in
-    let n₂ = length-sets l₁ (at + 6) (numberField b) in
-    let n₃ = length-sets l₂ (at + 12) (numberField c) in
-    let n₄ = length-sets l₃ (at + 18) (numberField d) in
-    field-before l₄ (at + 24) (at + 30) e [] (omega arith) (omega arith)
-    ∙ field-before l₃ (at + 18) (at + 24) d (e ∷ []) (omega arith) (omega arith)
-    ∙ field-before l₂ (at + 12) (at + 18) c (d ∷ e ∷ []) (omega arith) (omega arith)
-    ∙ field-before l₁ (at + 6) (at + 12) b (c ∷ d ∷ e ∷ []) (omega arith) (omega arith)
-    ∙ field-before l at (at + 6) a (b ∷ c ∷ d ∷ e ∷ []) (omega arith) (omega arith)

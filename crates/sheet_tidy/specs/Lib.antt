@@ -1,3 +1,4 @@
-pub mod TidiedLaws
 pub mod Rows
 pub mod Tidying
+pub mod Twice
+pub mod Outcomes

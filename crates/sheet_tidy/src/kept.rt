@@ -11,7 +11,7 @@ ghost use Rattle.formula.specs.Places.{mark};
 ghost use Rattle.formula.specs.TreeLaws.{AllBetween, Named};
 ghost use Rattle.sheet_tables.specs.Nodes.{Holds};
 ghost use Rattle.sheet_tidied.specs.Tidy.{keptOf, newNumber};
-ghost use Rattle.sheet_tidy.specs.TidiedLaws.{keepRow};
+ghost use Rattle.sheet_tidied.specs.KeptLaws.{keepRow};
 
 // The rows that a row of shape s names are kept.
 fn keep_named(kept: &mut [bool], s: Shape)

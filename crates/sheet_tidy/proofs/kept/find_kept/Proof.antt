@@ -13,7 +13,7 @@ use Prim.Native.Nat.{_-_, _≤_}
 use lib.ListN.{length, length-replicate}
 use Rattle.formula.specs.Places.{mark}
 use Rattle.sheet_tidied.specs.Tidy.{keepDown, keptOf}
-use Rattle.sheet_tidy.specs.TidiedLaws.{keep-step}
+use Rattle.sheet_tidied.specs.KeptLaws.{keep-step}
 
 abbrev Inv-loop : tie.InvT-loop
 Inv-loop fields n kept₀ r₀ kept r = (r ≤ n) × (keepDown fields r kept ≡ keptOf fields n) × (length kept ≡ n)

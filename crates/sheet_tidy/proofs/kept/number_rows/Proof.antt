@@ -14,7 +14,7 @@ use Rattle.sheet_tables.specs.Nodes.{Holds}
 use Rattle.sheet_tables.proofs.NodeLaws.{holds-none, holds-more}
 use Rattle.sheet_tidied.specs.Tidy.{newNumber}
 use Rattle.sheet_tidy.proofs.KeptLaws.{number-kept, number-left}
-use Rattle.sheet_tidy.specs.TidiedLaws.{number-most}
+use Rattle.sheet_tidied.specs.NumberLaws.{number-most}
 
 abbrev Inv-loop : tie.InvT-loop
 Inv-loop kept numbers₀ n count₀ i₀ numbers count i = (i ≤ length kept) × (count ≡ newNumber kept i) × (Holds 0 numbers i (newNumber kept)) × (length numbers ≡ length kept)

@@ -10,7 +10,7 @@ use mathlib.Core.List.{List}
 use lib.ListN.{set, length-set}
 use lib.Seq.{sets}
 use Rattle.text.specs.Printed.{numberField}
-use Rattle.sheet_tidy.proofs.WrittenLaws.{row-parts}
+use Rattle.sheet_tidied.specs.Written.{row-parts}
 
 -- src/rows.rt:89:5  { ⏎ put_number(out, at, r.kind);
 put-number-requires : tie.Need-put-number-requires
