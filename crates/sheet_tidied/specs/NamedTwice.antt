@@ -19,7 +19,8 @@ use Rattle.formula.specs.Tests.{occurrences, allNamed, namedOnce, readingOf}
 use Rattle.formula.specs.TestLaws.{passed-each, lowest-fault}
 use Rattle.formula.specs.FaultRows.{Among}
 use Rattle.formula.specs.PlaceLaws.{occurs-append}
-use Rattle.sheet_tidied.specs.Tidy.{isKept, newNumber, tidied, tidyVerdict}
+use Rattle.sheet_tidied.specs.Tidy.{isKept, newNumber, tidied}
+use Rattle.sheet_read.specs.Reading.{rowVerdict}
 use Rattle.sheet_tidied.specs.Reach.{Reachable, last, named-by}
 use Rattle.sheet_tidied.specs.KeptLaws.{last-kept, kept-names, kept-reachable, reachable-kept, reachable-row, between-among}
 use Rattle.sheet_tidied.specs.NumberLaws.{number-first, number-less, number-own}
@@ -174,7 +175,7 @@ module _ (s : List ℕ) (ok : Rowwise s) where
           absurd (omega (arith, same, eqb-true (occurrences (f x) (allNamed (fieldsOf (tidied s)) (rowCount (tidied s)))) 1 one))
 
 -- "the new sheet gets 6 exactly when two fields of kept rows name the same row", whatever the kinds line
-pub tidied-named : (s line : List ℕ) → tidyVerdict s ≡ Passed → ((row : ℕ) × (readingOf (tidied s) line ≡ Rejected Named row)) ↔ NamedTwice s
+pub tidied-named : (s line : List ℕ) → rowVerdict s ≡ Passed → ((row : ℕ) × (readingOf (tidied s) line ≡ Rejected Named row)) ↔ NamedTwice s
 tidied-named s line h =
     let ok = passes-rowwise s h in
     let reading = sixth-reading (tidied s) line (tidied-passes s h) in

@@ -7,7 +7,8 @@ use mathlib.Core.List.{List}
 use native.Mathlib.Omega.{arith}
 use Rattle.formula.specs.declared.Verdict.the-variants.{Passed}
 use Rattle.formula.specs.Sheet.{rowCount, fieldsOf, shapeAt}
-use Rattle.sheet_tidied.specs.Tidy.{isKept, newNumber, tidied, tidyVerdict}
+use Rattle.sheet_tidied.specs.Tidy.{isKept, newNumber, tidied}
+use Rattle.sheet_read.specs.Reading.{rowVerdict}
 use Rattle.sheet_tidied.specs.Reach.{Reachable}
 use Rattle.sheet_tidied.specs.KeptLaws.{reachable-row, reachable-kept, kept-reachable}
 use Rattle.sheet_tidied.specs.NumberLaws.{number-first, number-less, number-rises}
@@ -33,7 +34,7 @@ module _ (s : List ℕ) where
     -- and there it is the same row, but for the numbers of the rows that it names.
     pub same : (r : ℕ) → Reached r → shapeAt (fieldsOf (tidied s)) (numberIn r) ≡ renumbered numberIn (shapeAt (fieldsOf s) r)
 
-  module _ (h : tidyVerdict s ≡ Passed) where
+  module _ (h : rowVerdict s ≡ Passed) where
     abbrev kept : (r : ℕ) → Reached r → isKept (keptIn s) r ≡ true
     kept r w = let ok = passes-rowwise s h in reachable-kept (fieldsOf s) (rowCount s) (naming s ok) (ok .some) r w
 

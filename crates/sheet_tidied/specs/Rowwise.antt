@@ -17,7 +17,8 @@ use Rattle.formula.specs.Tests.{endedAt, lowest, whole, is-passed, laidOut, few
 use Rattle.formula.specs.TestLaws.{passed-each, each-passed, whole-true}
 use Rattle.formula.specs.Verdicts.{Each, _also_, Passes, all-pass}
 use Rattle.formula.specs.TreeLaws.{Named, and-true, all-between}
-use Rattle.sheet_tidied.specs.Tidy.{isKept, keptOf, tidyVerdict}
+use Rattle.sheet_tidied.specs.Tidy.{isKept, keptOf}
+use Rattle.sheet_read.specs.Reading.{rowVerdict}
 use Rattle.sheet_tidied.specs.Reach.{Reachable}
 use Rattle.sheet_tidied.specs.KeptLaws.{kept-reach}
 
@@ -77,12 +78,12 @@ module _ (s : List ℕ) where
       also each-passed (rowCount s) (namesWell (fieldsOf s)) (h .names)
       also tt
 
-  pub passes-rowwise : tidyVerdict s ≡ Passed → Rowwise s
-  unfolding tidyVerdict
+  pub passes-rowwise : rowVerdict s ≡ Passed → Rowwise s
+  unfolding rowVerdict
   passes-rowwise h = each-rowwise (all-pass (sheetOf s) rowTests .0 h)
 
-  pub rowwise-passes : Rowwise s → tidyVerdict s ≡ Passed
-  unfolding tidyVerdict
+  pub rowwise-passes : Rowwise s → rowVerdict s ≡ Passed
+  unfolding rowVerdict
   rowwise-passes h = all-pass (sheetOf s) rowTests .1 (rowwise-each h)
 
   -- Test 5 by the rows that a row names.
@@ -91,6 +92,6 @@ module _ (s : List ℕ) where
   naming h = record { names = λ r a b. all-between r (namedIn (shapeAt (fieldsOf s) r)) (h .names r a b) }
 
 -- "drops every row not reachable from the last": a row is kept if and only if it is reachable from the last.
-pub kept-iff : (s : List ℕ) → tidyVerdict s ≡ Passed → (r : ℕ) → 1 ≤ r → r ≤ rowCount s
+pub kept-iff : (s : List ℕ) → rowVerdict s ≡ Passed → (r : ℕ) → 1 ≤ r → r ≤ rowCount s
     → (isKept (keptOf (fieldsOf s) (rowCount s)) r ≡ true) ↔ Reachable (fieldsOf s) (rowCount s) r
 kept-iff s h r l u = let ok = passes-rowwise s h in kept-reach (fieldsOf s) (rowCount s) (naming s ok) (ok .some) r l

@@ -13,7 +13,8 @@ use Rattle.formula.specs.Sheet.{rowCount, fieldsOf, shapeAt, namedIn}
 use Rattle.formula.specs.Tree.{Exp, Body, ret, expNode, bodyNode, expOf, bodyOf, formulaOf}
 use Rattle.formula.specs.TreeLaws.{Named, exp-at, body-at}
 use Rattle.formula.specs.FaultRows.{Among}
-use Rattle.sheet_tidied.specs.Tidy.{isKept, newNumber, tidied, tidyVerdict}
+use Rattle.sheet_tidied.specs.Tidy.{isKept, newNumber, tidied}
+use Rattle.sheet_read.specs.Reading.{rowVerdict}
 use Rattle.sheet_tidied.specs.KeptLaws.{last-kept, kept-names, between-among}
 use Rattle.sheet_tidied.specs.NumberLaws.{number-first, number-rises}
 use Rattle.sheet_tidied.specs.ShapeLaws.{renumbered}
@@ -88,7 +89,7 @@ module _ (s : List ℕ) (ok : Rowwise s) where
           ih x (omega (arith, i .1)) (i .0) (omega (arith, i .1)) (kept-names t (rowCount s) old (ok .some) r l h k x a)
 
 -- The new sheet's formula is the sheet's.
-pub tidied-formula : (s : List ℕ) → tidyVerdict s ≡ Passed → formulaOf (tidied s) ≡ formulaOf s
+pub tidied-formula : (s : List ℕ) → rowVerdict s ≡ Passed → formulaOf (tidied s) ≡ formulaOf s
 unfolding formulaOf
 tidied-formula s h =
     let ok = passes-rowwise s h in

@@ -20,7 +20,8 @@ use Rattle.formula.specs.TestLaws.{passed-each, each-passed}
 use Rattle.formula.specs.Verdicts.{_also_, then, then-behind, refusal-says}
 use Rattle.formula.specs.Acceptance.{passed-admissible, reading-refused, rejected-refused, accepted-passed}
 use Rattle.formula.specs.PlaceLaws.{Sound}
-use Rattle.sheet_tidied.specs.Tidy.{tidyVerdict}
+use Rattle.sheet_tidied.specs.Tidy.{}
+use Rattle.sheet_read.specs.Reading.{rowVerdict}
 use Rattle.sheet_tidied.specs.Rowwise.{Rowwise, naming}
 
 -- 6 "Every row but the last is named once, by one field."
@@ -40,8 +41,8 @@ module _ (s line : List ℕ) where
       ((λ x e p. omega arith) also (λ x e p. omega arith) also (λ x e p. omega arith) also (λ x e p. omega arith) also (λ x e p. omega arith) also (λ x e p. omega arith) also tt)
       Named row h refl
 
-  first-five : verdictOf s line ≡ Passed → tidyVerdict s ≡ Passed
-  unfolding verdictOf tests tidyVerdict
+  first-five : verdictOf s line ≡ Passed → rowVerdict s ≡ Passed
+  unfolding verdictOf tests rowVerdict
   first-five h = go (verdictBy rowTests (sheetOf s)) refl (sym (then-behind (sheetOf s) rowTests (formulaTests ++ (kindTests line ++ graphTests))) ∙ h)
     where
       go : (v : Verdict) → verdictBy rowTests (sheetOf s) ≡ v → then v (verdictBy (formulaTests ++ (kindTests line ++ graphTests)) (sheetOf s)) ≡ Passed → v ≡ Passed
@@ -49,7 +50,7 @@ module _ (s line : List ℕ) where
       go (Refused r row) e i = absurd (let z : _≡_ {A = ℕ} 0 1 = cc i in omega arith)
 
   -- Tests 1 to 5 of an accepted sheet,
-  pub accepted-five : (g : Figures) → readingOf s line ≡ Accepted g → tidyVerdict s ≡ Passed
+  pub accepted-five : (g : Figures) → readingOf s line ≡ Accepted g → rowVerdict s ≡ Passed
   accepted-five g h = first-five (accepted-passed s line g h)
 
   -- and its test 6
@@ -57,9 +58,9 @@ module _ (s line : List ℕ) where
   unfolding sixthOf
   accepted-sixth g h = each-passed (rowCount s - 1) (λ r. namedOnce (allNamed (fieldsOf s) (rowCount s)) r) (passed-admissible s line (accepted-passed s line g h) .named)
 
-  module _ (h : tidyVerdict s ≡ Passed) where
+  module _ (h : rowVerdict s ≡ Passed) where
     verdict-is : verdictOf s line ≡ afterCheck Named (sixthOf s) (verdictBy (behind line) (sheetOf s))
-    unfolding verdictOf tests tidyVerdict verdictBy formulaTests sixthOf sheetOf
+    unfolding verdictOf tests rowVerdict verdictBy formulaTests sixthOf sheetOf
     verdict-is =
         then-behind (sheetOf s) rowTests (formulaTests ++ (kindTests line ++ graphTests))
         ∙ ap (λ (v : Verdict). then v (verdictBy (formulaTests ++ (kindTests line ++ graphTests)) (sheetOf s))) h

@@ -19,7 +19,8 @@ use Rattle.formula.specs.SheetLaws.{line-at, lineFields, fields-length, fields-
 use Rattle.formula.specs.Tests.{lineAt, fieldsWell, readingOf}
 use Rattle.formula.specs.FaultRows.{Among}
 use Rattle.sheet_tidied.specs.Text.{rowText, sheetText}
-use Rattle.sheet_tidied.specs.Tidy.{isKept, newNumber, newRow, keptRows, newRows, tidied, tidyVerdict}
+use Rattle.sheet_tidied.specs.Tidy.{isKept, newNumber, newRow, keptRows, newRows, tidied}
+use Rattle.sheet_read.specs.Reading.{rowVerdict}
 use Rattle.sheet_tidied.specs.Reach.{Reachable, last, named-by}
 use Rattle.sheet_tidied.specs.KeptLaws.{kept-reachable, reachable-kept, reachable-row}
 use Rattle.sheet_tidied.specs.TextLaws.{text-append, text-one}
@@ -125,13 +126,13 @@ module _ (s : List ℕ) (ok : Rowwise s) where
       (moved (w .row) (kept-reachable (fieldsOf s) (rowCount s) (naming s ok) (ok .some) (w .row) (w .low) (w .kept)))
 
 -- "Tidying twice changes nothing more."
-pub tidied-twice : (s : List ℕ) → tidyVerdict s ≡ Passed → tidied (tidied s) ≡ tidied s
+pub tidied-twice : (s : List ℕ) → rowVerdict s ≡ Passed → tidied (tidied s) ≡ tidied s
 tidied-twice s h = let ok = passes-rowwise s h in reachable-stays (tidied s) (tidied-rowwise s ok) (new-reachable s ok)
 
 -- ---- sheets without dead rows and doubled names
 
 -- A sheet that passes tests 1 to 6 comes back byte for byte.
-pub named-once-stays : (s : List ℕ) → tidyVerdict s ≡ Passed → sixthOf s ≡ well → tidied s ≡ s
+pub named-once-stays : (s : List ℕ) → rowVerdict s ≡ Passed → sixthOf s ≡ well → tidied s ≡ s
 named-once-stays s h e =
     let ok = passes-rowwise s h in
     reachable-stays s ok (all-reachable (fieldsOf s) (rowCount s) (sixth-sound s ok e))

@@ -15,7 +15,8 @@ use Rattle.formula.specs.Tests.{endedAt, fieldsWell, rangesWell, allBetween, na
 use Rattle.formula.specs.FaultRows.{Among}
 use Rattle.formula.specs.TreeLaws.{AllBetween}
 use Rattle.sheet_tidied.specs.Text.{sheetText}
-use Rattle.sheet_tidied.specs.Tidy.{isKept, keptOf, newNumber, newRow, keptRows, newRows, tidied, tidyVerdict}
+use Rattle.sheet_tidied.specs.Tidy.{isKept, keptOf, newNumber, newRow, keptRows, newRows, tidied}
+use Rattle.sheet_read.specs.Reading.{rowVerdict}
 use Rattle.sheet_tidied.specs.KeptLaws.{last-kept, kept-names}
 use Rattle.sheet_tidied.specs.NumberLaws.{number-most, number-rises, number-less, number-first, Numbered, numbered, rows-length, row-at}
 use Rattle.sheet_tidied.specs.TextLaws.{Row, Rows, rows-append, text-length, text-rows, text-fields, text-ended, text-formed, text-shape, text-range, rowShape, rowInRange}
@@ -168,11 +169,11 @@ module _ (s : List ℕ) (ok : Rowwise s) where
         names = λ j l u. let w = new-from j l u in subst (λ (i : ℕ). namesWell (fieldsOf (tidied s)) i ≡ true) (w .number) (new-names (w .row) (w .low) (w .high) (w .kept));
       }
 
-module _ (s : List ℕ) (h : tidyVerdict s ≡ Passed) where
+module _ (s : List ℕ) (h : rowVerdict s ≡ Passed) where
   -- The new sheet's fields are those of the kept rows, renumbered, one after the other; it has as many rows, and is not longer than the sheet.
   pub tidied-fields : Holding s
   tidied-fields = holding s (passes-rowwise s h)
 
   -- The new sheet passes tests 1 to 5.
-  pub tidied-passes : tidyVerdict (tidied s) ≡ Passed
+  pub tidied-passes : rowVerdict (tidied s) ≡ Passed
   tidied-passes = rowwise-passes (tidied s) (tidied-rowwise s (passes-rowwise s h))

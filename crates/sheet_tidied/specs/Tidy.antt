@@ -1,5 +1,5 @@
 -- A sheet tidied (document 02, Job 8): "drops every row not reachable from the last, renumbers the rest in their old order and writes the sheet from the start of a
--- lent memory, giving its row count"; "Tests 1 to 5 are made by the tidy call itself." Definitions only; assumes nothing.
+-- lent memory, giving its row count". Definitions only; assumes nothing.
 use Prim.Native.Nat.{ℕ, zero, suc, _+_, _-_, _*_}
 use mathlib.Core.Bool.{Bool, true, false, cond}
 use mathlib.Core.List.{List, [], _∷_, _++_}
@@ -8,10 +8,8 @@ use lib.ListN.{length, getD, set, drop, replicate}
 use Rattle.value.specs.Operators.{pick}
 use Rattle.formula.specs.declared.Shape.{Shape}
 use Rattle.formula.specs.declared.Shape.the-variants.{Identifier, Constant, Pair, Operator, Let, If, For, Iter}
-use Rattle.formula.specs.declared.Verdict.{Verdict}
 use Rattle.formula.specs.Sheet.{rowCount, fieldsOf, shapeAt, namedIn}
 use Rattle.formula.specs.Places.{mark}
-use Rattle.formula.specs.Tests.{rowTests, sheetOf, verdictBy}
 use Rattle.sheet_tidied.specs.Text.{sheetText}
 
 -- ---- the rows that are kept
@@ -70,12 +68,6 @@ newRows s =
 unfoldable pub tidied : List ℕ → List ℕ
 unfolding newRows sheetText
 tidied s = sheetText (newRows s)
-
--- ---- "Tests 1 to 5 are made by the tidy call itself"
-
-unfoldable pub tidyVerdict : List ℕ → Verdict
-unfolding verdictBy rowTests sheetOf
-tidyVerdict s = verdictBy rowTests (sheetOf s)
 
 -- ---- what the call needs
 

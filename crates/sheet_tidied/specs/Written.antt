@@ -14,7 +14,8 @@ use Rattle.formula.specs.declared.Verdict.the-variants.{Passed}
 use Rattle.text.specs.Printed.{numberField}
 use Rattle.text.specs.PrintLaws.{number-length, written-both}
 use Rattle.sheet_tidied.specs.Text.{rowText, sheetText}
-use Rattle.sheet_tidied.specs.Tidy.{newRow, keptRows, tidied, tidyVerdict, mostSheetBytes, tidyNeed, tidyWritten}
+use Rattle.sheet_tidied.specs.Tidy.{newRow, keptRows, tidied, mostSheetBytes, tidyNeed, tidyWritten}
+use Rattle.sheet_read.specs.Reading.{rowVerdict}
 use Rattle.sheet_tidied.specs.NumberLaws.{rows-more}
 use Rattle.sheet_tidied.specs.TextLaws.{row-text-length, text-append, text-one}
 use Rattle.sheet_tidied.specs.Rowwise.{passes-rowwise}
@@ -75,7 +76,7 @@ module _ (t : List ℕ) (k : List Bool) (i : ℕ) where
 
 -- ---- the whole sheet in memory
 
-module _ (s : List ℕ) (h : tidyVerdict s ≡ Passed) where
+module _ (s : List ℕ) (h : rowVerdict s ≡ Passed) where
   -- It fits what the call needs.
   pub tidied-fits : length (tidied s) ≤ tidyNeed s
   unfolding tidyNeed
@@ -100,7 +101,7 @@ module _ (s out : List ℕ) (l : length (tidied s) ≤ length out) where
   written-new = take-at (tidied s) (drop (length (tidied s)) out) (length (tidied s)) refl
 
 -- A copy of the new sheet, tidied into the memory that holds it, leaves every byte there.
-pub written-twice : (s out : List ℕ) → tidyVerdict s ≡ Passed → tidyWritten (tidied s) (tidyWritten s out) ≡ tidyWritten s out
+pub written-twice : (s out : List ℕ) → rowVerdict s ≡ Passed → tidyWritten (tidied s) (tidyWritten s out) ≡ tidyWritten s out
 unfolding tidyWritten
 written-twice s out h =
     rw (tidied-twice s h) (ap (λ (x : List ℕ). tidied s ++ x) (drop-at (tidied s) (drop (length (tidied s)) out) (length (tidied s)) refl))

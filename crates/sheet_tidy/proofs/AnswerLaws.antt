@@ -18,21 +18,13 @@ use Rattle.formula.specs.Acceptance.{low-row}
 use Rattle.sheet_read.specs.Reading.{rowVerdict}
 use Rattle.sheet_read.proofs.ReadLaws.{rows-refuse}
 use Rattle.sheet_tidied.specs.Text.{sheetText}
-use Rattle.sheet_tidied.specs.Tidy.{newRows, tidied, tidyVerdict, tidyNeed, mostSheetBytes}
+use Rattle.sheet_tidied.specs.Tidy.{newRows, tidied, tidyNeed, mostSheetBytes}
 use Rattle.sheet_tidied.specs.Rowwise.{Rowwise}
 use Rattle.sheet_tidied.specs.Written.{tidied-fits, written-sets}
 use Rattle.sheet_tidy.specs.Rows.{rowsOf}
 use Rattle.sheet_tidy.specs.Tidying.{handed, answers, byVerdict, tidiedInto}
 
--- The tests that the code makes are those of the definition.
-verdict-as : (s : List ℕ) → rowVerdict s ≡ tidyVerdict s
-unfolding rowVerdict tidyVerdict
-verdict-as s = refl
-
 module _ (s : List ℕ) where
-  pub passes : rowVerdict s ≡ Passed → tidyVerdict s ≡ Passed
-  passes h = sym (verdict-as s) ∙ h
-
   -- The row of a refusal is small.
   pub refused-low : (r : Refusal) (row : ℕ) → rowVerdict s ≡ Refused r row → row ≤ 200
   refused-low r row h = low-row s [] r row (sym (rows-refuse s [] (rowVerdict s) r row refl h))
@@ -45,9 +37,9 @@ module _ (s : List ℕ) where
     module _ (h : tidyNeed s ≤ length out) where
       pub tests-refuse : (r : Refusal) (row : ℕ) → rowVerdict s ≡ Refused r row → handed (answers (numberOf r) row 0) out ≡ tidiedInto s out
       unfolding tidiedInto byVerdict
-      tests-refuse r row e = rw (le-ltb (length out) (tidyNeed s) h, sym (verdict-as s) ∙ e) refl
+      tests-refuse r row e = rw (le-ltb (length out) (tidyNeed s) h, e) refl
 
-      -- A sheet that passes has room for all of its rows.
+      -- A sheet that has room for all of its rows.
       pub room : Rowwise s → 31 * rowCount s ≤ length out
       unfolding tidyNeed
       room ok = go (ltb mostSheetBytes (length s)) (ok .few) h
@@ -60,5 +52,5 @@ module _ (s : List ℕ) where
           → out′ ≡ sets out 0 (sheetText (rowsOf (fieldsOf s) (rowCount s))) → handed (answers 0 0 c) out′ ≡ tidiedInto s out
       unfolding tidiedInto byVerdict newRows tidied
       tests-pass e c out′ f g =
-          let fits : length (tidied s) ≤ length out = omega (arith, tidied-fits s (passes e)) in
-          rw (le-ltb (length out) (tidyNeed s) h, passes e, f, g ∙ written-sets s out fits) refl
+          let fits : length (tidied s) ≤ length out = omega (arith, tidied-fits s e) in
+          rw (le-ltb (length out) (tidyNeed s) h, e, f, g ∙ written-sets s out fits) refl

@@ -9,7 +9,8 @@ use Rattle.formula.specs.declared.Refusal.the-variants.{Memory}
 use Rattle.formula.specs.declared.Verdict.{Verdict}
 use Rattle.formula.specs.declared.Verdict.the-variants.{Passed, Refused}
 use Rattle.formula.specs.Refusals.{numberOf}
-use Rattle.sheet_tidied.specs.Tidy.{newRows, tidyVerdict, tidyNeed, tidyWritten}
+use Rattle.sheet_tidied.specs.Tidy.{newRows, tidyNeed, tidyWritten}
+use Rattle.sheet_read.specs.Reading.{rowVerdict}
 use Rattle.sheet_tidy.specs.declared.TidyAnswer.{TidyAnswer}
 
 pub record Handed : Type 0 where
@@ -30,5 +31,5 @@ byVerdict (Refused r row) s out = handed (answers (numberOf r) row 0) out
 
 -- 11, then 1 to 5
 unfoldable pub tidiedInto : List ℕ → List ℕ → Handed
-unfolding byVerdict tidyVerdict tidyNeed
-tidiedInto s out = pick (ltb (length out) (tidyNeed s)) (handed (answers (numberOf Memory) 0 0) out) (byVerdict (tidyVerdict s) s out)
+unfolding byVerdict rowVerdict tidyNeed
+tidiedInto s out = pick (ltb (length out) (tidyNeed s)) (handed (answers (numberOf Memory) 0 0) out) (byVerdict (rowVerdict s) s out)

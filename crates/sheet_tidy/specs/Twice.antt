@@ -11,14 +11,15 @@ use borrow.Author.Tests.{le-ltb, ltb-true}
 use native.Mathlib.Omega.{arith}
 use Rattle.value.specs.Operators.{pick}
 use Rattle.formula.specs.declared.Verdict.the-variants.{Passed}
-use Rattle.sheet_tidied.specs.Tidy.{newRows, tidied, tidyVerdict, mostSheetBytes, tidyNeed, tidyWritten}
+use Rattle.sheet_tidied.specs.Tidy.{newRows, tidied, mostSheetBytes, tidyNeed, tidyWritten}
+use Rattle.sheet_read.specs.Reading.{rowVerdict}
 use Rattle.sheet_tidied.specs.Tidied.{tidied-fields, tidied-passes}
 use Rattle.sheet_tidied.specs.Stays.{tidied-twice}
 use Rattle.sheet_tidied.specs.Written.{tidied-fits, written-length, written-new, written-twice}
 use Rattle.sheet_tidy.specs.Tidying.{Handed, handed, answers, byVerdict, tidiedInto}
 
 -- An accepted call.
-pub tidy-accepted : (s out : List ℕ) → tidyVerdict s ≡ Passed → tidyNeed s ≤ length out → tidiedInto s out ≡ handed (answers 0 0 (length (newRows s))) (tidyWritten s out)
+pub tidy-accepted : (s out : List ℕ) → rowVerdict s ≡ Passed → tidyNeed s ≤ length out → tidiedInto s out ≡ handed (answers 0 0 (length (newRows s))) (tidyWritten s out)
 unfolding tidiedInto byVerdict
 tidy-accepted s out h l = rw (le-ltb (length out) (tidyNeed s) l, h) refl
 
@@ -30,7 +31,7 @@ need-most s = go (ltb mostSheetBytes (length s)) refl
     go true e = let m = ltb-true mostSheetBytes (length s) e in omega (arith, m)
     go false e = omega arith
 
-module _ (s out : List ℕ) (h : tidyVerdict s ≡ Passed) (l : tidyNeed s ≤ length out) where
+module _ (s out : List ℕ) (h : rowVerdict s ≡ Passed) (l : tidyNeed s ≤ length out) where
   fits : length (tidied s) ≤ length out
   fits = omega (arith, tidied-fits s h, l)
 

@@ -23,7 +23,7 @@ use Rattle.sheet_tidied.specs.Text.{sheetText}
 use Rattle.sheet_tidied.specs.Rowwise.{passes-rowwise, naming}
 use Rattle.sheet_tidied.specs.Tidy.{tidyNeed}
 use Rattle.sheet_tidy.specs.Rows.{rowsOf}
-use Rattle.sheet_tidy.proofs.AnswerLaws.{passes, refused-low, memory-short, tests-refuse, room, tests-pass}
+use Rattle.sheet_tidy.proofs.AnswerLaws.{refused-low, memory-short, tests-refuse, room, tests-pass}
 
 -- src/lib.rt:77:20  { ⏎ if out.len() < need(sheet) {
 need-requires : tie.Need-need-requires
@@ -71,7 +71,7 @@ mul-end c = search needs
 
 -- src/lib.rt:89:34  row: 0, ⏎ rows: write_kept(&fields[..end], n, out),
 array-share-prefix-fields : tie.Need-array-share-prefix-fields
-array-share-prefix-fields c = let t = passes-rowwise (c .before .before .before .before .before .before .before .before .before .before .args .sheet .now) (passes (c .before .before .before .before .before .before .before .before .before .before .args .sheet .now) (sym (c .before .before .before .row-tests .ensures .0) ∙ c .enum-told .given .1)) in let e = c .before .before .before .row-tests .kept .1 .0 ∙ ap length (c .before .before .before .before .before .fields .ensures) in omega (arith, t .few, e)
+array-share-prefix-fields c = let t = passes-rowwise (c .before .before .before .before .before .before .before .before .before .before .args .sheet .now) (sym (c .before .before .before .row-tests .ensures .0) ∙ c .enum-told .given .1) in let e = c .before .before .before .row-tests .kept .1 .0 ∙ ap length (c .before .before .before .before .before .fields .ensures) in omega (arith, t .few, e)
 
 -- src/lib.rt:89:34  row: 0, ⏎ rows: write_kept(&fields[..end], n, out),
 slice-aggregate-write-kept : tie.Need-slice-aggregate-write-kept
@@ -80,7 +80,7 @@ slice-aggregate-write-kept c = sym (ap length (c .before .before .before .before
 -- src/lib.rt:89:23  row: 0, ⏎ rows: write_kept(&fields[..end], n, out),
 write-kept-requires : tie.Need-write-kept-requires
 write-kept-requires c κs =
-    let t = passes-rowwise (c .before .before .before .before .before .before .before .before .before .before .before .before .args .sheet .now) (passes (c .before .before .before .before .before .before .before .before .before .before .before .before .args .sheet .now) (sym (c .before .before .before .before .before .row-tests .ensures .0) ∙ c .before .before .enum-told .given .1)) in
+    let t = passes-rowwise (c .before .before .before .before .before .before .before .before .before .before .before .before .args .sheet .now) (sym (c .before .before .before .before .before .row-tests .ensures .0) ∙ c .before .before .enum-told .given .1) in
     let h : tidyNeed (c .before .before .before .before .before .before .before .before .before .before .before .before .args .sheet .now) ≤ length (c .before .before .before .before .before .before .before .before .before .before .before .before .args .out .now) = omega (arith, c .before .before .before .before .before .before .before .before .before .need .ensures, c .before .before .before .before .before .before .before .before .if1 .left) in
     (ap length (c .before .before .before .before .before .row-tests .ensures .1 (c .before .before .enum-told .given .1)) ∙ fields-length (c .before .before .before .before .before .before .before .before .before .before .before .before .args .sheet .now), t .some, t .few, subst (λ (x : List ℕ). Named x (rowCount (c .before .before .before .before .before .before .before .before .before .before .before .before .args .sheet .now))) (sym (c .before .before .before .before .before .row-tests .ensures .1 (c .before .before .enum-told .given .1))) (naming (c .before .before .before .before .before .before .before .before .before .before .before .before .args .sheet .now) t), room (c .before .before .before .before .before .before .before .before .before .before .before .before .args .sheet .now) (c .before .before .before .before .before .before .before .before .before .before .before .before .args .out .now) h t)
 
