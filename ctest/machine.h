@@ -38,7 +38,7 @@ static inline uint32_t operators_of(const uint8_t *mem) {
     return mem[OPERATORS_AT] + 256u * mem[OPERATORS_AT + 1];
 }
 
-static void begin(const struct sheet *sheet, uint32_t capacity) {
+static inline void begin(const struct sheet *sheet, uint32_t capacity) {
     free(memory);
     length = BENCH_MACHINE_BYTES(capacity);
     memory = malloc(length);

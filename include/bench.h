@@ -2,21 +2,23 @@
  * The formula machine of the beacon bench.
  *
  * A formula sheet is read (bench_read), evaluated directly (bench_evaluate), or started as a machine on memory that the caller lends
- * (bench_start) and then driven by pushes, firings, runs and takes. No call keeps anything but what stands in that memory and in the tally: there
- * is no heap and no global. Every call always returns, for any bytes and any numbers.
+ * (bench_start) and then driven by pushes, firings, runs and takes. The log of a bench that drives such machines in its own order is checked by
+ * following it (bench_check_log). No call keeps anything but what stands in that memory and in the tally: there is no heap and no global. Every call
+ * always returns, for any bytes and any numbers.
  *
  * Lent memory. A pointer goes with its length in bytes; a length of 0 goes with any pointer, NULL included. The stretches lent to one
  * call must not overlap, and nothing else may write them during the call. That and what is said of the tally is all that is asked of a caller:
  * whatever the bytes are, a call touches none outside of them.
  *
  * Refusals. `refusal` is 0 where a call is accepted, else one of the numbers below, the first that applies in the order each call gives.
- * A refused call leaves every lent byte as it was, and its other numbers are 0, save `row` where it names a row, a run refused with
- * BENCH_UNFINISHED, which keeps its firings and gives their count (one by rounds its rounds too), and a tray, which keeps the sets that went in
- * before the refused one and gives their count. The tally is left out of this: a refused push is counted there.
+ * A refused call leaves every lent byte as it was, and its other numbers are 0, save `row` where it names a row or a line, a run refused with
+ * BENCH_UNFINISHED, which keeps its firings and gives their count (one by rounds its rounds too), a tray, which keeps the sets that went in
+ * before the refused one and gives their count, and a log's check refused with BENCH_LOG_REFUSED, which leaves machine, results and their count as the
+ * earlier lines made them. The tally is left out of this: a refused push is counted there. Bytes past what a call writes out keep what they held.
  *
  * Tally. Each call on a machine, bench_start too, is lent a record as well, a bench_tally, and updates it in place: what firmware shows at its
  * service hatch. The pointer must not be NULL, the record must not overlap the stretches lent beside it, and nothing else may write it during the
- * call. Any numbers may stand in it.
+ * call. Any numbers may stand in it. A log's check has none: the lines that it follows are another bench's.
  *
  * Values. A value is BENCH_VALUE_BYTES bytes: a tag (BENCH_WHOLE, BENCH_TRUTH, BENCH_ERR or BENCH_REAL) and four bytes, lowest first: a whole
  * number as int32_t, a truth as 0 or 1, an err as its reason, one of BENCH_ERR_... below, a float as its bits, a finite IEEE 754 binary32. Nothing
@@ -59,33 +61,35 @@ enum {
 /* The letters of a kinds line. */
 enum { BENCH_KIND_WHOLE = 'W', BENCH_KIND_TRUTH = 'T', BENCH_KIND_REAL = 'R' };
 
-/* Said of what was handed in. `row` counts from 1 for 3 to 9 and 18 and is 0 for the others. */
+/* Said of what was handed in. `row` counts from 1 for 3 to 9, 15, 16 and 18 and is 0 for the others. */
 enum {
     BENCH_ACCEPTED = 0,
-    BENCH_LINES = 1,       /* empty, not in 31-byte rows, or a row without its line feed */
-    BENCH_ROWS = 2,        /* over 200 rows */
-    BENCH_FIELD = 3,       /* a malformed field */
-    BENCH_RANGE = 4,       /* kind, code, identifier, constant or unlisted field outside its range */
-    BENCH_NAMING = 5,      /* a row that names one wrongly */
-    BENCH_NAMED = 6,       /* a row before the last not named once */
-    BENCH_ITER = 7,        /* iter in an expression place */
-    BENCH_WIDTH = 8,       /* a width rule broken */
-    BENCH_BOUND = 9,       /* a bound identifier not free in row d */
-    BENCH_OPERATORS = 10,  /* over 1,024 operators */
-    BENCH_MEMORY = 11,     /* lent memory shorter than the call's need */
-    BENCH_SET = 12,        /* a set with another number of values than inputs, a bad value, or a value of another kind than its input's */
-    BENCH_CAPACITY = 14,   /* a capacity outside 1..16 */
-    BENCH_KINDS_LINE = 17, /* a kinds line of another length, or with another letter */
-    BENCH_KINDS = 18,      /* a row that breaks the kinds: an operator or test of another kind, arms or loop rounds that do not agree */
+    BENCH_LINES = 1,        /* empty, not in 31-byte rows, or a row without its line feed */
+    BENCH_ROWS = 2,         /* over 200 rows */
+    BENCH_FIELD = 3,        /* a malformed field */
+    BENCH_RANGE = 4,        /* kind, code, identifier, constant or unlisted field outside its range */
+    BENCH_NAMING = 5,       /* a row that names one wrongly */
+    BENCH_NAMED = 6,        /* a row before the last not named once */
+    BENCH_ITER = 7,         /* iter in an expression place */
+    BENCH_WIDTH = 8,        /* a width rule broken */
+    BENCH_BOUND = 9,        /* a bound identifier not free in row d */
+    BENCH_OPERATORS = 10,   /* over 1,024 operators */
+    BENCH_MEMORY = 11,      /* lent memory shorter than the call's need */
+    BENCH_SET = 12,         /* a set with another number of values than inputs, a bad value, or a value of another kind than its input's */
+    BENCH_CAPACITY = 14,    /* a capacity outside 1..16 */
+    BENCH_LOG_LINE = 15,    /* a log's line that is malformed, names a set not in the list or is line 4,097 */
+    BENCH_LOG_REFUSED = 16, /* a log's line that the machine would refuse */
+    BENCH_KINDS_LINE = 17,  /* a kinds line of another length, or with another letter */
+    BENCH_KINDS = 18,       /* a row that breaks the kinds: an operator or test of another kind, arms or loop rounds that do not agree */
 
     /* Said of how the machine stands. */
-    BENCH_ALTERED = 31,    /* a stored figure, letter or token outside its range, or a link named twice by one operator, the inputs or the results;
-                              never given where only these calls wrote since an accepted bench_start */
-    BENCH_UNTAKEN = 32,    /* sixteen sets untaken */
-    BENCH_FULL = 33,       /* an input link, or the trigger's, full */
-    BENCH_NOT_ABLE = 34,   /* the operator is absent or not able to fire */
-    BENCH_NO_RESULT = 35,  /* a result port empty, or no set untaken */
-    BENCH_UNFINISHED = 36  /* run: something can still fire after the lent firings or rounds; evaluation: more rounds needed than lent */
+    BENCH_ALTERED = 31,     /* a stored figure, letter or token outside its range, or a link named twice by one operator, the inputs or the results;
+                               never given where only these calls wrote since an accepted bench_start, or since the start within bench_check_log */
+    BENCH_UNTAKEN = 32,     /* sixteen sets untaken */
+    BENCH_FULL = 33,        /* an input link, or the trigger's, full */
+    BENCH_NOT_ABLE = 34,    /* the operator is absent or not able to fire */
+    BENCH_NO_RESULT = 35,   /* a result port empty, or no set untaken */
+    BENCH_UNFINISHED = 36   /* run: something can still fire after the lent firings or rounds; evaluation: more rounds needed than lent */
 };
 
 /* What a result set needs: sixteen values. */
@@ -93,6 +97,13 @@ enum {
 
 /* What a machine needs at a capacity of 1 to 16: 40,390 bytes at 1, 55,915 at 2, 15,525 more for each further place. */
 #define BENCH_MACHINE_BYTES(capacity) ((size_t)21760 + 3105 * (5 * (size_t)(capacity) + 1))
+
+/* A log's lines: how many bytes one has, and how many there may be. */
+#define BENCH_LOG_LINE_BYTES 13
+#define BENCH_LOG_MOST_LINES 4096
+
+/* What the results of a log need: a result set for every two lines, for its push and its take; 163,840 bytes at the most. */
+#define BENCH_LOG_RESULTS_BYTES(log_bytes) (BENCH_RESULT_BYTES * ((size_t)(log_bytes) / 26 < 2048 ? (size_t)(log_bytes) / 26 : 2048))
 
 typedef struct {
     uint32_t refusal;
@@ -128,6 +139,13 @@ typedef struct {
     uint32_t rounds;  /* those in which something fired */
     uint64_t firings; /* in all of them: up to 1,024 a round, which 32 bits need not hold */
 } bench_rounds_answer;
+
+typedef struct {
+    uint32_t refusal;
+    uint32_t row;   /* the log's line for 15 and 16, else a row of the sheet */
+    uint32_t count; /* result sets handed out, also beside 16 */
+    uint32_t width; /* how many of the sixteen values of each are the formula's, also beside 16 */
+} bench_log_answer;
 
 /*
  * What a machine has done since its start, where each call since was lent this record and nothing else wrote it. Each number stops at
@@ -197,6 +215,25 @@ bench_rounds_answer bench_run_rounds(uint8_t *memory, size_t memory_bytes, uint3
  * `out` past 80 are left alone. Refusals, in this order: 11 (also where `out` is shorter than 80 bytes), 31, 35.
  */
 bench_answer bench_take(uint8_t *memory, size_t memory_bytes, uint8_t *out, size_t out_bytes, bench_tally *tally);
+
+/*
+ * Checks the log of another bench: starts an empty machine for a sheet with its kinds line, with links that hold `capacity` tokens, in `memory`
+ * (any contents), and makes the call that each line names. It accepts exactly the logs of which every line is accepted, in whatever order they stand.
+ *
+ * A line is two fields of six characters, as in a sheet, and a line feed: 1 and a set's number for bench_push, 2 and an operator's for bench_fire, or
+ * 3 and 0 for bench_take. Operators count from 0, as everywhere. Sets count from 1: `sets` has `number` of them behind each other, as in a tray, and
+ * bytes past the last are left aside. A log has up to BENCH_LOG_MOST_LINES lines; one of no bytes has none.
+ *
+ * Each take writes a result set of BENCH_RESULT_BYTES to `out`, one behind the other. The machine that the lines lead to stays in `memory`, for the
+ * calls above.
+ *
+ * Refusals, in this order: 11 (`memory` shorter than BENCH_MACHINE_BYTES of the capacity asked, or of 1 where that is outside 1..16; `out` shorter
+ * than BENCH_LOG_RESULTS_BYTES of the log's bytes), 14, 1 to 9, 17, 18, 10, 12 (one of the sets, whether a line names it or not; not wholly lent
+ * too), 15 over the whole log, 16. The row of 15 and of 16 is the lowest such line.
+ */
+bench_log_answer bench_check_log(const uint8_t *sheet, size_t sheet_bytes, const uint8_t *kinds, size_t kinds_bytes, uint32_t capacity,
+                                 const uint8_t *sets, size_t sets_bytes, uint32_t number, const uint8_t *log, size_t log_bytes,
+                                 uint8_t *memory, size_t memory_bytes, uint8_t *out, size_t out_bytes);
 
 #ifdef __cplusplus
 }

@@ -1,7 +1,8 @@
 // The calls on a machine's memory as a table, those here and the product's where it is linked, and the program's loop over them (document 01,
-// "Program and readings"). Each is lent the record of document 02, Job 10, as its last.
+// "Program and readings"). Each is lent the record of document 02, Job 10, as its last, but for the check of a log, whose machine is its own.
 
 use crate::bytes::{OUT_BYTES, VALUE_BYTES};
+use crate::log::{self, Handed, LogAnswer};
 use crate::memory::{self, Answer, RoundsAnswer, StartAnswer};
 use crate::tally::Tally;
 
@@ -10,25 +11,29 @@ pub struct Calls {
     pub start: fn(&[u8], &[u8], u32, &mut [u8], &mut Tally) -> StartAnswer,
     pub push: fn(&mut [u8], &[u8], &mut Tally) -> Answer,
     pub push_tray: fn(&mut [u8], &[u8], u32, &mut Tally) -> Answer,
+    pub fire: fn(&mut [u8], u32, &mut Tally) -> Answer,
     pub run: fn(&mut [u8], u32, &mut Tally) -> Answer,
     pub run_rounds: fn(&mut [u8], u32, &mut Tally) -> RoundsAnswer,
     pub take: fn(&mut [u8], &mut [u8], &mut Tally) -> Answer,
+    pub check_log: fn(&Handed<'_>, &mut [u8], &mut [u8]) -> LogAnswer,
 }
 
 pub const PLAIN: Calls = Calls {
     start: memory::start,
     push: memory::push,
     push_tray: memory::push_tray,
+    fire: memory::fire,
     run: memory::run,
     run_rounds: memory::run_rounds,
     take: memory::take,
+    check_log: log::check,
 };
 
 /// The product's, where it is linked.
 #[cfg(feature = "product")]
 pub fn product() -> Option<Calls> {
-    use crate::product::{push, push_tray, run, run_rounds, start, take};
-    Some(Calls { start, push, push_tray, run, run_rounds, take })
+    use crate::product::{check_log, fire, push, push_tray, run, run_rounds, start, take};
+    Some(Calls { start, push, push_tray, fire, run, run_rounds, take, check_log })
 }
 
 #[cfg(not(feature = "product"))]

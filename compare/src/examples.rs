@@ -24,6 +24,13 @@ pub fn factorial() -> Made {
     made(&[&start[..], &next[..], &end[..]].concat(), b"W\n")
 }
 
+/// "not not (for x = x do if x then iter x else x)": a false ends at once, a true never does.
+pub fn endless() -> Made {
+    let x = [1, 0, 0, 0, 0];
+    let looped = [x, x, x, [9, 3, 0, 0, 0], x, [7, 2, 4, 5, 0], [8, 0, 1, 1, 6]];
+    made(&[&looped[..], &[[5, 10, 7, 0, 0], [5, 10, 8, 0, 0]]].concat(), b"T\n")
+}
+
 /// Range from strength: with s and n as 0 and 1, "if n < s then 42.195 / (s * s) else 999.999".
 pub fn range() -> Made {
     let (s, n) = ([1, 0, 0, 0, 0], [1, 1, 0, 0, 0]);

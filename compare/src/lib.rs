@@ -12,6 +12,7 @@ pub mod eval;
 pub mod examples;
 pub mod graph;
 pub mod kinds;
+pub mod log;
 pub mod machine;
 pub mod memory;
 #[cfg(feature = "product")]

@@ -237,7 +237,7 @@ fn link_valid(stretch: &[u8]) -> bool {
 }
 
 /// A valid machine's memory with its stretch length.
-struct Machine<'a> {
+pub struct Machine<'a> {
     mem: &'a mut [u8],
     stretch: usize,
 }
@@ -256,15 +256,18 @@ fn passing(takes: [bool; 3], value: Value, register: Option<Value>) -> Option<Fi
 impl<'a> Machine<'a> {
     fn of(mem: &'a mut [u8]) -> Result<Machine<'a>, Answer> {
         match standing(mem) {
-            0 => {
-                let stretch = stretch(mem[0].into());
-                Ok(Machine { mem, stretch })
-            }
+            0 => Ok(Machine::standing(mem)),
             refusal => Err(refuse(refusal)),
         }
     }
 
-    fn operators(&self) -> usize {
+    /// For memory that needs no look at 11 and 31, since a start and nothing but calls wrote it.
+    pub fn standing(mem: &'a mut [u8]) -> Machine<'a> {
+        let stretch = stretch(mem[0].into());
+        Machine { mem, stretch }
+    }
+
+    pub fn operators(&self) -> usize {
         number(self.mem, 1)
     }
 
@@ -304,6 +307,10 @@ impl<'a> Machine<'a> {
         let firing = self.wanted(i)?;
         let room = (0..3).all(|port| firing.emits[port].is_none() || self.free(self.port(i, 3 + port)));
         room.then_some(firing)
+    }
+
+    pub fn can_fire(&self, i: usize) -> bool {
+        i < self.operators() && self.able(i).is_some()
     }
 
     fn free(&self, link: usize) -> bool {
@@ -359,6 +366,61 @@ impl<'a> Machine<'a> {
         }
         let register = firing.register.map_or([0; VALUE_BYTES], encode);
         self.mem[REGISTERS + 5 * i..][..5].copy_from_slice(&register);
+    }
+
+    /// 12, 32, 33.
+    pub fn push(&mut self, set: &[u8]) -> Answer {
+        let inputs = usize::from(self.mem[5]);
+        let suits = |(place, value): (usize, &[u8])| {
+            decode(value).zip(stored_sort(self.mem, place)).is_some_and(|(value, sort)| value.suits(sort))
+        };
+        if set.len() != VALUE_BYTES * inputs || !set.chunks_exact(VALUE_BYTES).enumerate().all(suits) {
+            return refuse(12);
+        }
+        if self.mem[7] == 16 {
+            return refuse(32);
+        }
+        let links: Vec<usize> = (0..=inputs).map(|place| number(self.mem, 8 + 2 * place)).collect();
+        if !links.iter().all(|&link| self.free(link)) {
+            return refuse(33);
+        }
+        for (value, &link) in set.chunks_exact(VALUE_BYTES).zip(&links[1..]) {
+            self.append(link, decode(value).unwrap_or(Value::E));
+        }
+        if links[0] != NO_LINK {
+            self.append(links[0], Value::Truth(true));
+        }
+        self.mem[7] += 1;
+        Answer::default()
+    }
+
+    /// 34.
+    pub fn fire(&mut self, i: usize) -> Answer {
+        if i >= self.operators() {
+            return refuse(34);
+        }
+        match self.able(i) {
+            Some(firing) => {
+                self.perform(i, &firing);
+                Answer::default()
+            }
+            None => refuse(34),
+        }
+    }
+
+    /// 35; `out` has the bytes of sixteen values.
+    pub fn take(&mut self, out: &mut [u8]) -> Answer {
+        let links: Vec<usize> = (0..self.mem[6].into()).map(|place| number(self.mem, 74 + 2 * place)).collect();
+        if self.mem[7] == 0 || links.iter().any(|&link| self.queue(link)[0] == 0) {
+            return refuse(35);
+        }
+        let tokens = links.iter().map(|&link| self.oldest(link)).chain(std::iter::repeat(None));
+        for (place, token) in out.chunks_exact_mut(VALUE_BYTES).zip(tokens) {
+            place.copy_from_slice(&encode(token.unwrap_or(Value::E)));
+        }
+        links.iter().for_each(|&link| self.remove(link));
+        self.mem[7] -= 1;
+        Answer { refusal: 0, count: links.len() as u32 }
     }
 
     /// Fires the least-numbered able operator again and again; a firing can only wake those that share a link with it.
@@ -475,40 +537,14 @@ impl Awake {
 }
 
 pub fn push(mem: &mut [u8], set: &[u8], tally: &mut Tally) -> Answer {
-    let answer = pushed(mem, set);
+    let answer = match Machine::of(mem) {
+        Ok(mut machine) => machine.push(set),
+        Err(answer) => answer,
+    };
     if answer.refusal != 0 {
         tally.count_refused_push();
     }
     answer
-}
-
-fn pushed(mem: &mut [u8], set: &[u8]) -> Answer {
-    let mut machine = match Machine::of(mem) {
-        Ok(machine) => machine,
-        Err(answer) => return answer,
-    };
-    let inputs = usize::from(machine.mem[5]);
-    let suits = |(place, value): (usize, &[u8])| {
-        decode(value).zip(stored_sort(machine.mem, place)).is_some_and(|(value, sort)| value.suits(sort))
-    };
-    if set.len() != VALUE_BYTES * inputs || !set.chunks_exact(VALUE_BYTES).enumerate().all(suits) {
-        return refuse(12);
-    }
-    if machine.mem[7] == 16 {
-        return refuse(32);
-    }
-    let links: Vec<usize> = (0..=inputs).map(|place| number(machine.mem, 8 + 2 * place)).collect();
-    if !links.iter().all(|&link| machine.free(link)) {
-        return refuse(33);
-    }
-    for (value, &link) in set.chunks_exact(VALUE_BYTES).zip(&links[1..]) {
-        machine.append(link, decode(value).unwrap_or(Value::E));
-    }
-    if links[0] != NO_LINK {
-        machine.append(links[0], Value::Truth(true));
-    }
-    machine.mem[7] += 1;
-    Answer::default()
 }
 
 /// "a given number of sets lying behind each other, each as long as the inputs ask"
@@ -536,22 +572,14 @@ pub fn push_tray(mem: &mut [u8], sets: &[u8], number: u32, tally: &mut Tally) ->
 }
 
 pub fn fire(mem: &mut [u8], operator: u32, tally: &mut Tally) -> Answer {
-    let mut machine = match Machine::of(mem) {
-        Ok(machine) => machine,
-        Err(answer) => return answer,
+    let answer = match Machine::of(mem) {
+        Ok(mut machine) => machine.fire(operator as usize),
+        Err(answer) => answer,
     };
-    let i = operator as usize;
-    if i >= machine.operators() {
-        return refuse(34);
+    if answer.refusal == 0 {
+        tally.count_firings(1);
     }
-    match machine.able(i) {
-        Some(firing) => {
-            machine.perform(i, &firing);
-            tally.count_firings(1);
-            Answer::default()
-        }
-        None => refuse(34),
-    }
+    answer
 }
 
 pub fn run(mem: &mut [u8], firings: u32, tally: &mut Tally) -> Answer {
@@ -586,20 +614,12 @@ pub fn take(mem: &mut [u8], out: &mut [u8], tally: &mut Tally) -> Answer {
     if out.len() < OUT_BYTES {
         return refuse(11);
     }
-    let mut machine = match Machine::of(mem) {
-        Ok(machine) => machine,
-        Err(answer) => return answer,
+    let answer = match Machine::of(mem) {
+        Ok(mut machine) => machine.take(&mut out[..OUT_BYTES]),
+        Err(answer) => answer,
     };
-    let links: Vec<usize> = (0..machine.mem[6].into()).map(|place| number(machine.mem, 74 + 2 * place)).collect();
-    if machine.mem[7] == 0 || links.iter().any(|&link| machine.queue(link)[0] == 0) {
-        return refuse(35);
+    if answer.refusal == 0 {
+        tally.count_take();
     }
-    let tokens = links.iter().map(|&link| machine.oldest(link)).chain(std::iter::repeat(None));
-    for (place, token) in out[..OUT_BYTES].chunks_exact_mut(VALUE_BYTES).zip(tokens) {
-        place.copy_from_slice(&encode(token.unwrap_or(Value::E)));
-    }
-    links.iter().for_each(|&link| machine.remove(link));
-    machine.mem[7] -= 1;
-    tally.count_take();
-    Answer { refusal: 0, count: links.len() as u32 }
+    answer
 }

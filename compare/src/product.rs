@@ -2,6 +2,7 @@
 // Assumes that the archive exports them with these C signatures (include/bench.h).
 
 use crate::bytes::{EvaluateAnswer, ReadAnswer};
+use crate::log::{Handed, LogAnswer};
 use crate::memory::{Answer, RoundsAnswer, StartAnswer};
 use crate::tally::Tally;
 
@@ -41,6 +42,22 @@ extern "C" {
     fn bench_run(mem: *mut u8, mem_len: usize, firings: u32, tally: *mut Tally) -> Answer;
     fn bench_run_rounds(mem: *mut u8, mem_len: usize, rounds: u32, tally: *mut Tally) -> RoundsAnswer;
     fn bench_take(mem: *mut u8, mem_len: usize, out: *mut u8, out_len: usize, tally: *mut Tally) -> Answer;
+    fn bench_check_log(
+        sheet: *const u8,
+        sheet_len: usize,
+        kinds: *const u8,
+        kinds_len: usize,
+        capacity: u32,
+        sets: *const u8,
+        sets_len: usize,
+        number: u32,
+        log: *const u8,
+        log_len: usize,
+        mem: *mut u8,
+        mem_len: usize,
+        out: *mut u8,
+        out_len: usize,
+    ) -> LogAnswer;
 }
 
 // In each function the pointers and lengths are slices', a record's pointer is a reference's, and what is written is lent to that call alone.
@@ -92,4 +109,26 @@ pub fn run_rounds(mem: &mut [u8], rounds: u32, tally: &mut Tally) -> RoundsAnswe
 
 pub fn take(mem: &mut [u8], out: &mut [u8], tally: &mut Tally) -> Answer {
     unsafe { bench_take(mem.as_mut_ptr(), mem.len(), out.as_mut_ptr(), out.len(), tally) }
+}
+
+pub fn check_log(handed: &Handed<'_>, mem: &mut [u8], out: &mut [u8]) -> LogAnswer {
+    let Handed { sheet, kinds, capacity, sets, number, log } = *handed;
+    unsafe {
+        bench_check_log(
+            sheet.as_ptr(),
+            sheet.len(),
+            kinds.as_ptr(),
+            kinds.len(),
+            capacity,
+            sets.as_ptr(),
+            sets.len(),
+            number,
+            log.as_ptr(),
+            log.len(),
+            mem.as_mut_ptr(),
+            mem.len(),
+            out.as_mut_ptr(),
+            out.len(),
+        )
+    }
 }

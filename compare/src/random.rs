@@ -6,6 +6,7 @@ pub mod floats;
 pub mod folders;
 pub mod formulas;
 pub mod lines;
+pub mod logs;
 pub mod sheets;
 pub mod tree;
 pub mod turns;

@@ -168,7 +168,7 @@ fn read_row(text: &[u8]) -> Option<Row> {
 }
 
 /// "right-justified with spaces, no leading zeros; zero is one digit 0".
-fn read_number(field: &[u8]) -> Option<u32> {
+pub fn read_number(field: &[u8]) -> Option<u32> {
     let blanks = field.iter().take_while(|&&byte| byte == b' ').count();
     let digits = &field[blanks..];
     if digits.is_empty() || (digits[0] == b'0' && digits.len() > 1) {

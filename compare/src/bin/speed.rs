@@ -1,12 +1,14 @@
 // Times the reader, the evaluator and the machine's calls here and, with the feature `product`, the product's beside them in the same run. Prints
-// the first two tables of docs/BENCHMARKS.md. The last column of the first is the product's speed over ours: 1.00 is as fast, 0.50 takes twice as long;
-// of the second, that of a tray over as many pushes.
+// the first three tables of docs/BENCHMARKS.md. The last column of the first is the product's speed over ours: 1.00 is as fast, 0.50 takes twice as long;
+// of the second, that of a tray over as many pushes; of the third, that of a log's check over the calls that its lines name.
 
 use compare::bytes::{self, OUT_BYTES, VALUE_BYTES};
 use compare::calls::{self, Calls, PLAIN};
 use compare::examples::{factorial, lesser, many_operators, negations, range};
-use compare::memory;
+use compare::log::{self, Handed};
+use compare::memory::{self, Machine};
 use compare::random::{fitting_set, Made, Rng};
+use compare::sheet::read_number;
 use compare::table::{grouped, head, row, speed};
 use compare::tally::Tally;
 use compare::timing::{in_turns, side_by_side, Call, BATCHES};
@@ -40,7 +42,21 @@ fn main() {
     for (name, made, set, _) in evaluations() {
         tray(&name, &made, &set);
     }
+    head(&[
+        "a log of 4,096 lines at capacity 2",
+        "plain check, ns",
+        "its calls, ns",
+        "check, ns",
+        "to the plain check",
+        "to the calls",
+    ]);
+    for (name, made, set, _) in evaluations().into_iter().filter(|(.., rounds)| *rounds < MANY_ROUNDS) {
+        check_log(&name, &made, &set);
+    }
 }
+
+/// A set of so many rounds would not be through when its log ends.
+const MANY_ROUNDS: u32 = 10_000;
 
 /// Prints one row, the times divided by a number of like steps.
 fn report(name: &str, steps: u32, ours: &mut dyn FnMut() -> u32, product: &mut Option<Call<'_>>) {
@@ -138,6 +154,66 @@ fn emptied(mem: &mut [u8], call: impl FnOnce(&mut [u8]) -> u32) -> u32 {
         }
     }
     call(mem)
+}
+
+/// A log of as many lines as are allowed, which pushes, fires and takes one set after another: by the check here and by the product's, beside the product's
+/// calls of the same lines from a start on. Each side numbers operators in its own way, and has a log of its own.
+fn check_log(name: &str, made: &Made, set: &[u8]) {
+    let calls = calls::product().unwrap_or(PLAIN);
+    let (Some(plain_log), Some(log)) = (set_by_set(PLAIN, made, set), set_by_set(calls, made, set)) else {
+        return;
+    };
+    let handed = Handed { sheet: &made.bytes, kinds: &made.kinds, capacity: 2, sets: set, number: 1, log: &log };
+    let mem = vec![0; memory::need(2)];
+    let (mut plain_mem, mut calls_mem, mut mem) = (mem.clone(), mem.clone(), mem);
+    let [mut plain_out, mut calls_out, mut out] = [(); 3].map(|_| vec![0; log::room_for(log.len())]);
+    let times = in_turns(
+        &mut [
+            &mut || log::check(&Handed { log: &plain_log, ..handed }, &mut plain_mem, &mut plain_out).count,
+            &mut || line_by_line(calls, &handed, &mut calls_mem, &mut calls_out),
+            &mut || (calls.check_log)(&handed, &mut mem, &mut out).count,
+        ],
+        LOG_BATCHES,
+        Duration::ZERO,
+    );
+    assert!(mem == calls_mem && out == calls_out, "a check and its calls differ");
+    let [plain, single, check] = [times[0], times[1], times[2]];
+    row(&[name.into(), grouped(plain), grouped(single), grouped(check), speed(plain, check), speed(single, check)]);
+}
+
+/// A log's check takes milliseconds, so that fewer batches are as many calls.
+const LOG_BATCHES: usize = 40;
+
+/// The log of a scheduler that runs each set by the least-numbered able operator; none where the sheet is not started.
+fn set_by_set(calls: Calls, made: &Made, set: &[u8]) -> Option<Vec<u8>> {
+    let mut mem = vec![0; memory::need(2)];
+    let started = (calls.start)(&made.bytes, &made.kinds, 2, &mut mem, &mut Tally::default());
+    let (mut machine, mut log) = (Machine::standing(&mut mem), vec![]);
+    while started.refusal == 0 && log.len() < log::MOST_LINES {
+        machine.push(set);
+        log.push([1, 1]);
+        while let Some(operator) = (0..started.operators).find(|&i| machine.fire(i as usize).refusal == 0) {
+            log.push([2, operator]);
+        }
+        machine.take(&mut [0; OUT_BYTES]);
+        log.push([3, 0]);
+    }
+    log.truncate(log::MOST_LINES);
+    (started.refusal == 0).then(|| log::write(&log))
+}
+
+/// The calls that a log's lines name, from a start on; the lines are read as plainly as they were written.
+fn line_by_line(calls: Calls, handed: &Handed<'_>, mem: &mut [u8], out: &mut [u8]) -> u32 {
+    let (mut count, mut tally) = (0, Tally::default());
+    (calls.start)(handed.sheet, handed.kinds, handed.capacity, mem, &mut tally);
+    for line in handed.log.chunks_exact(log::LINE_BYTES) {
+        match line[5] {
+            b'1' => drop((calls.push)(mem, handed.sets, &mut tally)),
+            b'2' => drop((calls.fire)(mem, read_number(&line[6..12]).unwrap_or(0), &mut tally)),
+            _ => count += usize::from((calls.take)(mem, &mut out[OUT_BYTES * count..], &mut tally).refusal == 0),
+        }
+    }
+    count as u32
 }
 
 fn starting(calls: Calls, made: &Made) -> Call<'_> {

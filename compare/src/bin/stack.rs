@@ -2,6 +2,7 @@
 // lowest byte that changed is looked for.
 
 use compare::bytes::{self, OUT_BYTES};
+use compare::log::{self, Handed};
 use compare::random::{Made, Rng};
 use compare::sheet::write;
 use compare::tally::Tally;
@@ -15,7 +16,7 @@ const PATTERN: u8 = 0xa5;
 const ROUNDS: u32 = 1000;
 const FIRINGS: u32 = 10_000;
 const MOST_ROWS: usize = 200;
-const CALLS: [&str; 9] = ["read", "evaluate", "start", "push", "tray", "fire", "run", "rounds", "take"];
+const CALLS: [&str; 10] = ["read", "evaluate", "start", "push", "tray", "fire", "run", "rounds", "take", "log"];
 
 type Row = [u32; 5];
 
@@ -59,7 +60,22 @@ fn measure(made: &Made, value: Value) -> [usize; CALLS.len()] {
     let rounds = below(|| product::run_rounds(&mut copy, FIRINGS, &mut tally).refusal);
     let run = below(|| product::run(&mut mem, FIRINGS, &mut tally).refusal);
     let take = below(|| product::take(&mut mem, &mut out, &mut tally).refusal);
-    [read, evaluate, start, push, tray, fire, run, rounds, take]
+    let lines = log_of(made, &set);
+    let handed = Handed { sheet, kinds, capacity: 1, sets: &set, number: 1, log: &lines };
+    let mut room = vec![0; log::room_for(lines.len())];
+    let log = below(|| product::check_log(&handed, &mut mem, &mut room).refusal);
+    [read, evaluate, start, push, tray, fire, run, rounds, take, log]
+}
+
+/// The log of one set's way through the product's machine.
+fn log_of(made: &Made, set: &[u8]) -> Vec<u8> {
+    let (mut mem, mut tally) = (vec![0; memory::need(1)], Tally::default());
+    product::start(&made.bytes, &made.kinds, 1, &mut mem, &mut tally);
+    product::push(&mut mem, set, &mut tally);
+    let mut lines = vec![[1, 1]];
+    memory::run_telling(&mut mem, FIRINGS, &mut tally, |operator| lines.push([2, operator as u32]));
+    lines.push([3, 0]);
+    log::write(&lines)
 }
 
 /// The most that firing any one operator takes, able or not.
