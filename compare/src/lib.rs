@@ -21,5 +21,6 @@ pub mod random;
 pub mod sheet;
 pub mod table;
 pub mod tally;
+pub mod tidy;
 pub mod timing;
 pub mod value;
