@@ -19,6 +19,7 @@ pub mod memory;
 pub mod product;
 pub mod random;
 pub mod sheet;
+pub mod surrounded;
 pub mod table;
 pub mod tally;
 pub mod tidy;

@@ -385,6 +385,11 @@ pub fn write_row(row: &Row) -> String {
     format!("{:6}{:6}{:6}{:6}{:6}\n", row.kind, row.a, row.b, row.c, row.d)
 }
 
+/// Rows of five fields.
+pub fn rows_of(lines: &[Line]) -> Vec<[u32; 5]> {
+    lines.iter().map(|line| [line.row.kind, line.row.a, line.row.b, line.row.c, line.row.d]).collect()
+}
+
 /// The text of a sheet from rows of five fields.
 pub fn write(rows: &[[u32; 5]]) -> Vec<u8> {
     let text = |&[kind, a, b, c, d]: &[u32; 5]| write_row(&Row { kind, a, b, c, d });
