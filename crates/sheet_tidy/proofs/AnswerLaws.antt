@@ -27,7 +27,7 @@ use Rattle.sheet_tidy.specs.Tidying.{handed, answers, byVerdict, tidiedI
 use Rattle.sheet_tidy.proofs.WrittenLaws.{written-length}
 
 -- What tests 1 to 5 say of a sheet that passes them.
-pub record Tested (s : List ℕ) : Type 0 where
+pub record RowsWell (s : List ℕ) : Type 0 where
   pub some : 1 ≤ rowCount s
   pub few : rowCount s ≤ 200
   pub names : Named (fieldsOf s) (rowCount s)
@@ -36,7 +36,7 @@ from-start : (l v : List ℕ) → length v ≤ length l → sets l 0 v ≡ v ++ 
 from-start l v h = let e : 0 + length v ≡ length v = omega arith in sets-eq v l 0 (omega arith) ∙ ap (λ (j : ℕ). v ++ drop j l) e
 
 module _ (s : List ℕ) where
-  pub tested : rowVerdict s ≡ Passed → Tested s
+  pub tested : rowVerdict s ≡ Passed → RowsWell s
   tested h =
       let w = rowwise s h in
       record { some = some-rows s (w .laid); few = rows-few s (w .laid) (w .few); names = named-by (fieldsOf s) (rowCount s) (w .named) }
@@ -56,7 +56,7 @@ module _ (s : List ℕ) where
       tests-refuse r row e = rw (le-ltb (length out) (tidyNeed s) h, e) refl
 
       -- A sheet that passes has room for all of its rows.
-      pub room : Tested s → 31 * rowCount s ≤ length out
+      pub room : RowsWell s → 31 * rowCount s ≤ length out
       unfolding tidyNeed
       room t = go (ltb mostSheetBytes (length s)) (t .few) h
         where

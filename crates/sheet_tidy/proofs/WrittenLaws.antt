@@ -1,5 +1,5 @@
 -- Laws of the rows of a tidied sheet as they are written, one behind another. Assumes nothing.
-use Prim.Native.Nat.{ℕ, zero, suc, _+_, _*_, _-_, _≤_, _<_}
+use Prim.Native.Nat.{ℕ, zero, suc, _+_, _*_, _≤_, _<_}
 use mathlib.Core.Path.{_≡_, refl, sym, ap, _∙_}
 use mathlib.Core.Bool.{Bool, true, false, cond}
 use mathlib.Core.List.{List, [], _∷_, _++_}
@@ -10,7 +10,7 @@ use Rattle.formula.specs.declared.Shape.{Shape}
 use Rattle.formula.specs.declared.Shape.the-variants.{Identifier, Constant, Pair, Operator, Let, If, For, Iter}
 use Rattle.formula.specs.Sheet.{shapeAt}
 use Rattle.text.specs.Printed.{numberField}
-use Rattle.text.specs.PrintLaws.{number-length, written-both, written-byte}
+use Rattle.text.specs.PrintLaws.{number-length, written-both}
 use Rattle.sheet_tidied.specs.Text.{rowText, sheetText}
 use Rattle.sheet_tidied.specs.Tidy.{isKept, newNumber, renamed, newRow, keptRows}
 use Rattle.sheet_tidy.specs.TidiedLaws.{number-most, row-text-length, text-append, text-one}
@@ -80,7 +80,7 @@ module _ (t : List ℕ) (k : List Bool) (n : ℕ) (o : List ℕ) where
   writing-start = record { upto = omega arith; place = refl; bytes = refl; size = refl }
 
   module _ (out : List ℕ) (at i : ℕ) (w : Writing t k n o out at i) where
-    -- The next row has room, and behind it the place of the one after fits too.
+    -- The next row has room.
     pub writing-room : i < n → 31 * n ≤ length o → at + 31 ≤ length out
     writing-room h room = omega (arith, number-most k i, w .place, w .size)
 

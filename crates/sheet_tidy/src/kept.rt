@@ -3,7 +3,7 @@ use formula::Shape;
 use sheet_fields::shape::shape_at;
 use sheet_rows::places::mark_one;
 ghost use mathlib.Core.Path.{_≡_};
-ghost use mathlib.Core.Bool.{Bool, true, false};
+ghost use mathlib.Core.Bool.{false};
 ghost use Prim.Native.Nat.{_+_, _*_, _≤_};
 ghost use lib.ListN.{length, replicate};
 ghost use Rattle.formula.specs.Sheet.{shapeAt, namedIn};

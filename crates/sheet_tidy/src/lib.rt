@@ -3,6 +3,7 @@
 // calls, is an equation on the answer and on every lent byte, and asks nothing of its caller.
 pub mod kept;
 pub mod rows;
+
 use crate::kept::find_kept;
 use crate::kept::number_rows;
 use crate::rows::write_rows;
@@ -12,6 +13,7 @@ use formula::refusal_number;
 use sheet_fields::blank;
 use sheet_fields::layout::MOST_ROWS;
 use sheet_fields::layout::ROW_BYTES;
+use sheet_fields::shape::FIELDS;
 use sheet_read::read::row_tests;
 ghost use mathlib.Core.Path.{_≡_};
 ghost use Prim.Native.Nat.{_*_, _≤_};
@@ -80,7 +82,7 @@ pub fn tidy(sheet: &[u8], out: &mut [u8]) -> TidyAnswer
         Verdict::Refused(r, row) => refused(r, row as u32),
         Verdict::Passed => {
             let n = sheet.len() / ROW_BYTES;
-            let end = 5 * n;
+            let end = FIELDS * n;
             TidyAnswer {
                 refusal: 0,
                 row: 0,

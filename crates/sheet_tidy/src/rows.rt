@@ -61,7 +61,13 @@ fn rename(s: Shape, numbers: &[u32]) -> RowFields
         Shape::Pair(a, b) => row(4, number_at(numbers, a), number_at(numbers, b), 0, 0),
         Shape::Operator(a, b) => row(5, a, number_at(numbers, b), 0, 0),
         Shape::Let(a, b, c, d) => row(6, a, b, number_at(numbers, c), number_at(numbers, d)),
-        Shape::If(a, b, c) => row(7, number_at(numbers, a), number_at(numbers, b), number_at(numbers, c), 0),
+        Shape::If(a, b, c) => row(
+            7,
+            number_at(numbers, a),
+            number_at(numbers, b),
+            number_at(numbers, c),
+            0,
+        ),
         Shape::For(a, b, c, d) => row(8, a, b, number_at(numbers, c), number_at(numbers, d)),
         Shape::Iter(a) => row(9, number_at(numbers, a), 0, 0, 0),
     }

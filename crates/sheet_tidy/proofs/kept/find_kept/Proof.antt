@@ -5,7 +5,7 @@ use Rattle.sheet_tidy.proofs.kept.find_kept.Reads as reads
 use Rattle.sheet_tidy.proofs.kept.find_kept.Lts as lts
 use Rattle.sheet_rows.proofs.places.mark_one.Reads as mark-one-reads
 use Rattle.sheet_tidy.proofs.kept.keep_row.Reads as keep-row-reads
-use mathlib.Core.Path.{sym, _∙_, ap, refl, subst, _≡_}
+use mathlib.Core.Path.{sym, _∙_, ap, _≡_}
 use mathlib.Core.Bool.{false}
 use mathlib.Core.List.{[], _∷_}
 use native.Mathlib.Omega.{arith}
@@ -46,10 +46,11 @@ loop-less c = search needs
 
 -- src/kept.rt:67:5  let mut r = n; ⏎ while 0 < r {
 loop-again : tie.Need-loop-again Inv-loop μ-loop
-loop-again c =
-    (omega arith,
-    ap (keepDown (c .before .before .before .before .before .before .before .before .before .before .before .before .args .fields .now) (c .before .before .before .before .before .loop .r - 1)) (c .before .before .keep-row .ensures) ∙ sym (keep-step (c .before .before .before .before .before .before .before .before .before .before .before .before .args .fields .now) (c .before .before .before .before .before .loop .r) (c .before .before .before .before .before .loop .kept) (omega arith)) ∙ c .before .before .before .before .before .loop .inv .1,
-    c .before .before .keep-row .kept .1 .1 .0 ∙ c .before .before .before .before .before .loop .inv .2)
+loop-again c = (
+  omega arith,
+  ap (keepDown (c .before .before .before .before .before .before .before .before .before .before .before .before .args .fields .now) (c .before .before .before .before .before .loop .r - 1)) (c .before .before .keep-row .ensures) ∙ sym (keep-step (c .before .before .before .before .before .before .before .before .before .before .before .before .args .fields .now) (c .before .before .before .before .before .loop .r) (c .before .before .before .before .before .loop .kept) (omega arith)) ∙ c .before .before .before .before .before .loop .inv .1,
+  c .before .before .keep-row .kept .1 .1 .0 ∙ c .before .before .before .before .before .loop .inv .2,
+)
 
 -- src/kept.rt:61:1  // Which of n rows are kept, in a table that has none. ⏎ pub fn find_kept(fields: &[u32], n: usize, kept: &mut [bool])
 same-length : tie.Need-same-length Inv-loop μ-loop

@@ -4,7 +4,7 @@ use Rattle.sheet_tidy.proofs.kept.keep_named.Tie as tie
 use Rattle.sheet_tidy.proofs.kept.keep_named.Reads as reads
 use Rattle.sheet_tidy.proofs.kept.keep_named.Lts as lts
 use Rattle.sheet_rows.proofs.places.mark_one.Reads as mark-one-reads
-use mathlib.Core.Path.{sym, _∙_, ap, refl, subst}
+use mathlib.Core.Path.{_∙_, ap, refl, subst}
 use mathlib.Core.List.{[], _∷_}
 use native.Mathlib.Omega.{arith}
 use Rattle.formula.specs.Sheet.{namedIn}

@@ -7,12 +7,10 @@ use Rattle.sheet_tidy.proofs.kept.keep_row.Reads as reads
 use Rattle.sheet_tidy.proofs.kept.keep_row.Lts as lts
 use Rattle.sheet_fields.proofs.shape.shape_at.Reads as shape-at-reads
 use Rattle.sheet_tidy.proofs.kept.keep_named.Reads as keep-named-reads
-use mathlib.Core.Path.{sym, _∙_, ap, refl, subst, _≡_}
-use mathlib.Core.Bool.{Bool, true, false, cond}
-use mathlib.Core.List.{List}
+use mathlib.Core.Path.{sym, _∙_, ap, refl, subst}
 use native.Mathlib.Omega.{arith}
-use Prim.Native.Nat.{ℕ, _+_, _-_, _≤_}
-use lib.ListN.{length, getD}
+use Prim.Native.Nat.{_+_, _≤_}
+use lib.ListN.{length}
 use Rattle.formula.specs.Sheet.{shapeAt, namedIn}
 use Rattle.formula.specs.Places.{mark}
 use Rattle.formula.specs.TreeLaws.{AllBetween}

@@ -12,55 +12,55 @@ use lib.Seq.{sets}
 use Rattle.text.specs.Printed.{numberField}
 use Rattle.sheet_tidy.proofs.WrittenLaws.{row-parts}
 
--- src/rows.rt:83:5  { ⏎ put_number(out, at, r.kind);
+-- src/rows.rt:89:5  { ⏎ put_number(out, at, r.kind);
 put-number-requires : tie.Need-put-number-requires
 put-number-requires c κs = search needs
 
--- src/rows.rt:84:21  put_number(out, at, r.kind); ⏎ put_number(out, at + A_AT, r.a);
+-- src/rows.rt:90:21  put_number(out, at, r.kind); ⏎ put_number(out, at + A_AT, r.a);
 add-put-number : tie.Need-add-put-number
 add-put-number c = search needs
 
--- src/rows.rt:84:5  put_number(out, at, r.kind); ⏎ put_number(out, at + A_AT, r.a);
+-- src/rows.rt:90:5  put_number(out, at, r.kind); ⏎ put_number(out, at + A_AT, r.a);
 put-number-requires-2 : tie.Need-put-number-requires-2
 put-number-requires-2 c κs = search needs
 
--- src/rows.rt:85:21  put_number(out, at + A_AT, r.a); ⏎ put_number(out, at + B_AT, r.b);
+-- src/rows.rt:91:21  put_number(out, at + A_AT, r.a); ⏎ put_number(out, at + B_AT, r.b);
 add-put-number-2 : tie.Need-add-put-number-2
 add-put-number-2 c = search needs
 
--- src/rows.rt:85:5  put_number(out, at + A_AT, r.a); ⏎ put_number(out, at + B_AT, r.b);
+-- src/rows.rt:91:5  put_number(out, at + A_AT, r.a); ⏎ put_number(out, at + B_AT, r.b);
 put-number-requires-3 : tie.Need-put-number-requires-3
 put-number-requires-3 c κs = search needs
 
--- src/rows.rt:86:21  put_number(out, at + B_AT, r.b); ⏎ put_number(out, at + C_AT, r.c);
+-- src/rows.rt:92:21  put_number(out, at + B_AT, r.b); ⏎ put_number(out, at + C_AT, r.c);
 add-put-number-3 : tie.Need-add-put-number-3
 add-put-number-3 c = search needs
 
--- src/rows.rt:86:5  put_number(out, at + B_AT, r.b); ⏎ put_number(out, at + C_AT, r.c);
+-- src/rows.rt:92:5  put_number(out, at + B_AT, r.b); ⏎ put_number(out, at + C_AT, r.c);
 put-number-requires-4 : tie.Need-put-number-requires-4
 put-number-requires-4 c κs = search needs
 
--- src/rows.rt:87:21  put_number(out, at + C_AT, r.c); ⏎ put_number(out, at + D_AT, r.d);
+-- src/rows.rt:93:21  put_number(out, at + C_AT, r.c); ⏎ put_number(out, at + D_AT, r.d);
 add-put-number-4 : tie.Need-add-put-number-4
 add-put-number-4 c = search needs
 
--- src/rows.rt:87:5  put_number(out, at + C_AT, r.c); ⏎ put_number(out, at + D_AT, r.d);
+-- src/rows.rt:93:5  put_number(out, at + C_AT, r.c); ⏎ put_number(out, at + D_AT, r.d);
 put-number-requires-5 : tie.Need-put-number-requires-5
 put-number-requires-5 c κs = search needs
 
--- src/rows.rt:88:9  put_number(out, at + D_AT, r.d); ⏎ out[at + LINE_FEED_AT] = LINE_FEED;
+-- src/rows.rt:94:9  put_number(out, at + D_AT, r.d); ⏎ out[at + LINE_FEED_AT] = LINE_FEED;
 add-out : tie.Need-add-out
 add-out c = search needs
 
--- src/rows.rt:88:5  put_number(out, at + D_AT, r.d); ⏎ out[at + LINE_FEED_AT] = LINE_FEED;
+-- src/rows.rt:94:5  put_number(out, at + D_AT, r.d); ⏎ out[at + LINE_FEED_AT] = LINE_FEED;
 slice-write-out : tie.Need-slice-write-out
 slice-write-out c = search needs
 
--- src/rows.rt:79:1  // Writes a row and its line feed. ⏎ pub fn put_row(out: &mut [u8], at: usize, r: RowFields)
+-- src/rows.rt:85:1  // Writes a row and its line feed. ⏎ pub fn put_row(out: &mut [u8], at: usize, r: RowFields)
 same-length : tie.Need-same-length
 same-length c = length-set (c .before .before .put-number5 .last .0) (c .before .before .before .before .before .before .before .before .before .before .before .before .before .before .before .before .before .before .before .before .before .args .at + 30) 10 ∙ c .before .before .put-number5 .kept .0 ∙ c .before .before .before .before .before .before .put-number4 .kept .0 ∙ c .before .before .before .before .before .before .before .before .before .before .put-number3 .kept .0 ∙ c .before .before .before .before .before .before .before .before .before .before .before .before .before .before .put-number2 .kept .0 ∙ c .before .before .before .before .before .before .before .before .before .before .before .before .before .before .before .before .before .before .put-number .kept .0
 
--- src/rows.rt:79:1  // Writes a row and its line feed. ⏎ pub fn put_row(out: &mut [u8], at: usize, r: RowFields)
+-- src/rows.rt:85:1  // Writes a row and its line feed. ⏎ pub fn put_row(out: &mut [u8], at: usize, r: RowFields)
 returns : tie.Need-returns
 returns c =
     ap (λ (x : List ℕ). set x (c .before .before .before .before .before .before .before .before .before .before .before .before .before .before .before .before .before .before .before .before .before .args .at + 30) 10)

@@ -5,7 +5,7 @@ use Rattle.sheet_tidy.proofs.rows.rename.Reads as reads
 use Rattle.sheet_tidy.proofs.rows.rename.Lts as lts
 use Rattle.sheet_tidy.proofs.rows.number_at.Reads as number-at-reads
 use Rattle.sheet_tidy.proofs.rows.row.Reads as row-reads
-use mathlib.Core.Path.{sym, _∙_, ap, refl, subst}
+use mathlib.Core.Path.{refl, subst}
 use native.Mathlib.Omega.{arith}
 use Prim.Native.Nat.{_+_}
 use lib.ListN.{length}
@@ -78,57 +78,57 @@ number-at-requires-5 c κs = let h = subst (λ z. AllBetween (length (c .before 
 row-requires-5 : tie.Need-row-requires-5
 row-requires-5 c κs = search needs
 
--- src/rows.rt:64:19  Shape::Let(a, b, c, d) => row(6, a, b, number_at(numbers, c), number_at(numbers, d)), ⏎ Shape::If(a, b, c) => row(7, number_at(numbers, a), number_at(numbers, b), number_at(numbers, c), 0),
+-- src/rows.rt:64:19  Shape::Let(a, b, c, d) => row(6, a, b, number_at(numbers, c), number_at(numbers, d)), ⏎ Shape::If(a, b, c) => row(
 enum-known-s-6 : tie.Need-enum-known-s-6
 enum-known-s-6 c = search needs
 
--- src/rows.rt:64:38  Shape::Let(a, b, c, d) => row(6, a, b, number_at(numbers, c), number_at(numbers, d)), ⏎ Shape::If(a, b, c) => row(7, number_at(numbers, a), number_at(numbers, b), number_at(numbers, c), 0),
+-- src/rows.rt:66:13  7, ⏎ number_at(numbers, a),
 number-at-requires-6 : tie.Need-number-at-requires-6
 unfolding namedIn
 number-at-requires-6 c κs = let h = subst (λ z. AllBetween (length (c .before .before .before .before .args .numbers .now) + 1) (namedIn z)) (c .before .s6 .given .1) (c .before .before .before .before .pre) in omega arith
 
--- src/rows.rt:64:61  Shape::Let(a, b, c, d) => row(6, a, b, number_at(numbers, c), number_at(numbers, d)), ⏎ Shape::If(a, b, c) => row(7, number_at(numbers, a), number_at(numbers, b), number_at(numbers, c), 0),
+-- src/rows.rt:67:13  number_at(numbers, a), ⏎ number_at(numbers, b),
 number-at-requires-7 : tie.Need-number-at-requires-7
 unfolding namedIn
 number-at-requires-7 c κs = let h = subst (λ z. AllBetween (length (c .before .before .before .before .before .args .numbers .now) + 1) (namedIn z)) (c .before .before .s6 .given .1) (c .before .before .before .before .before .pre) in omega arith
 
--- src/rows.rt:64:84  Shape::Let(a, b, c, d) => row(6, a, b, number_at(numbers, c), number_at(numbers, d)), ⏎ Shape::If(a, b, c) => row(7, number_at(numbers, a), number_at(numbers, b), number_at(numbers, c), 0),
+-- src/rows.rt:68:13  number_at(numbers, b), ⏎ number_at(numbers, c),
 number-at-requires-8 : tie.Need-number-at-requires-8
 unfolding namedIn
 number-at-requires-8 c κs = let h = subst (λ z. AllBetween (length (c .before .before .before .before .before .before .args .numbers .now) + 1) (namedIn z)) (c .before .before .before .s6 .given .1) (c .before .before .before .before .before .before .pre) in omega arith
 
--- src/rows.rt:64:31  Shape::Let(a, b, c, d) => row(6, a, b, number_at(numbers, c), number_at(numbers, d)), ⏎ Shape::If(a, b, c) => row(7, number_at(numbers, a), number_at(numbers, b), number_at(numbers, c), 0),
+-- src/rows.rt:64:31  Shape::Let(a, b, c, d) => row(6, a, b, number_at(numbers, c), number_at(numbers, d)), ⏎ Shape::If(a, b, c) => row(
 row-requires-6 : tie.Need-row-requires-6
 row-requires-6 c κs = search needs
 
--- src/rows.rt:65:20  Shape::If(a, b, c) => row(7, number_at(numbers, a), number_at(numbers, b), number_at(numbers, c), 0), ⏎ Shape::For(a, b, c, d) => row(8, a, b, number_at(numbers, c), number_at(numbers, d)),
+-- src/rows.rt:71:20  ), ⏎ Shape::For(a, b, c, d) => row(8, a, b, number_at(numbers, c), number_at(numbers, d)),
 enum-known-s-7 : tie.Need-enum-known-s-7
 enum-known-s-7 c = search needs
 
--- src/rows.rt:65:48  Shape::If(a, b, c) => row(7, number_at(numbers, a), number_at(numbers, b), number_at(numbers, c), 0), ⏎ Shape::For(a, b, c, d) => row(8, a, b, number_at(numbers, c), number_at(numbers, d)),
+-- src/rows.rt:71:48  ), ⏎ Shape::For(a, b, c, d) => row(8, a, b, number_at(numbers, c), number_at(numbers, d)),
 number-at-requires-9 : tie.Need-number-at-requires-9
 unfolding namedIn
 number-at-requires-9 c κs = let h = subst (λ z. AllBetween (length (c .before .before .before .before .args .numbers .now) + 1) (namedIn z)) (c .before .s7 .given .1) (c .before .before .before .before .pre) in omega arith
 
--- src/rows.rt:65:71  Shape::If(a, b, c) => row(7, number_at(numbers, a), number_at(numbers, b), number_at(numbers, c), 0), ⏎ Shape::For(a, b, c, d) => row(8, a, b, number_at(numbers, c), number_at(numbers, d)),
+-- src/rows.rt:71:71  ), ⏎ Shape::For(a, b, c, d) => row(8, a, b, number_at(numbers, c), number_at(numbers, d)),
 number-at-requires-10 : tie.Need-number-at-requires-10
 unfolding namedIn
 number-at-requires-10 c κs = let h = subst (λ z. AllBetween (length (c .before .before .before .before .before .args .numbers .now) + 1) (namedIn z)) (c .before .before .s7 .given .1) (c .before .before .before .before .before .pre) in omega arith
 
--- src/rows.rt:65:35  Shape::If(a, b, c) => row(7, number_at(numbers, a), number_at(numbers, b), number_at(numbers, c), 0), ⏎ Shape::For(a, b, c, d) => row(8, a, b, number_at(numbers, c), number_at(numbers, d)),
+-- src/rows.rt:71:35  ), ⏎ Shape::For(a, b, c, d) => row(8, a, b, number_at(numbers, c), number_at(numbers, d)),
 row-requires-7 : tie.Need-row-requires-7
 row-requires-7 c κs = search needs
 
--- src/rows.rt:66:21  Shape::For(a, b, c, d) => row(8, a, b, number_at(numbers, c), number_at(numbers, d)), ⏎ Shape::Iter(a) => row(9, number_at(numbers, a), 0, 0, 0),
+-- src/rows.rt:72:21  Shape::For(a, b, c, d) => row(8, a, b, number_at(numbers, c), number_at(numbers, d)), ⏎ Shape::Iter(a) => row(9, number_at(numbers, a), 0, 0, 0),
 enum-known-s-8 : tie.Need-enum-known-s-8
 enum-known-s-8 c = search needs
 
--- src/rows.rt:66:34  Shape::For(a, b, c, d) => row(8, a, b, number_at(numbers, c), number_at(numbers, d)), ⏎ Shape::Iter(a) => row(9, number_at(numbers, a), 0, 0, 0),
+-- src/rows.rt:72:34  Shape::For(a, b, c, d) => row(8, a, b, number_at(numbers, c), number_at(numbers, d)), ⏎ Shape::Iter(a) => row(9, number_at(numbers, a), 0, 0, 0),
 number-at-requires-11 : tie.Need-number-at-requires-11
 unfolding namedIn
 number-at-requires-11 c κs = let h = subst (λ z. AllBetween (length (c .before .before .before .before .args .numbers .now) + 1) (namedIn z)) (c .before .s8 .given .1) (c .before .before .before .before .pre) in omega arith
 
--- src/rows.rt:66:27  Shape::For(a, b, c, d) => row(8, a, b, number_at(numbers, c), number_at(numbers, d)), ⏎ Shape::Iter(a) => row(9, number_at(numbers, a), 0, 0, 0),
+-- src/rows.rt:72:27  Shape::For(a, b, c, d) => row(8, a, b, number_at(numbers, c), number_at(numbers, d)), ⏎ Shape::Iter(a) => row(9, number_at(numbers, a), 0, 0, 0),
 row-requires-8 : tie.Need-row-requires-8
 row-requires-8 c κs = search needs
 
