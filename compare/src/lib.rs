@@ -13,6 +13,7 @@ pub mod examples;
 pub mod graph;
 pub mod kinds;
 pub mod log;
+pub mod log_cases;
 pub mod machine;
 pub mod memory;
 #[cfg(feature = "product")]
