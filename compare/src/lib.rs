@@ -24,5 +24,6 @@ pub mod surrounded;
 pub mod table;
 pub mod tally;
 pub mod tidy;
+pub mod tidy_cases;
 pub mod timing;
 pub mod value;
