@@ -3,7 +3,7 @@
 
 use crate::bytes;
 use crate::cases::nest;
-use crate::examples::{endless, factorial, lesser, negations, range};
+use crate::examples::{endless, factorial, half_dead, lesser, negations, range};
 use crate::random::dead::littered_sheet;
 use crate::random::Rng;
 use crate::sheet::{read_lines, rows_of, write, MOST_ROWS, ROW_BYTES};
@@ -192,15 +192,7 @@ fn long_sheets(list: &mut List) {
     ended.push(Y);
     list.left("200 rows, all dead but the last", &ended, &[Y]);
     list.left("200 rows that name none", &vec![X; MOST_ROWS], &[X]);
-    // Every other row is dead and names the live row before it.
-    let halved = |row: u32| match row {
-        1 => X,
-        _ if row % 2 == 0 => [5, 11, row - 1, 0, 0],
-        _ => [5, 11, row - 2, 0, 0],
-    };
-    let mut half: Vec<Row> = (1..most).map(halved).collect();
-    half.push([5, 11, most - 1, 0, 0]);
-    list.left("200 rows, every other dead", &half, &rows(&negations(101).bytes));
+    list.left("200 rows, every other dead", &rows(&half_dead(most).bytes), &rows(&negations(most / 2).bytes));
     // Numbers of three digits become numbers of one and of two.
     let mut behind = vec![TRUE; 188];
     behind.extend((0..11).map(|row| if row == 0 { X } else { [5, 11, 188 + row, 0, 0] }));

@@ -1,5 +1,5 @@
 // Tidies random sheets by the product and by the tidy here, and stops at the first difference, which it prints. Answers and every byte of the lent memory must
-// agree; bytes around it and the sheet must be as they were. Then document 02's sentences on Job 8 are looked at one by one: tidying again changes nothing
+// agree; bytes around it and the sheet must be as they were. Then what document 02 and include/bench.h say of a new sheet: tidying again changes nothing
 // more; the new sheet passes tests 1 to 5, and gets 6 exactly when two fields of kept rows name the same row; a sheet that passes 1 to 6 comes back as it is;
 // and where the new sheet is accepted, it is evaluated as its formula written down in another order is.
 // Usage: compare_tidy CASES SEED [FIRST]. `compare_tidy 1 SEED NUMBER` makes a case again.
@@ -113,6 +113,7 @@ fn compare_left(made: &Made, tidied: &Tidied, counts: &mut Counts, rng: &mut Rng
     let left = tidied.sheet();
     let mut count = |kind: &str, found: bool| *counts.entry(kind.into()).or_default() += u64::from(found);
     let wrong = |what: &str| Err(format!("{what}; tidied to\n{}", text(left)));
+    count("of 200 rows", made.bytes.len() == room_for(usize::MAX));
     count("with rows dropped", left.len() < made.bytes.len());
     count("with a row or two left", left.len() <= 2 * ROW_BYTES);
 
