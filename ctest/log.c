@@ -125,7 +125,7 @@ static bench_answer call(const struct lent *lent, const char *line, uint8_t *out
 }
 
 /* Follows the log by its lines' own calls, from a start on memory of the same contents; gives the line that is refused, 0 where none is. */
-static uint32_t follow(const char *what, const struct lent *lent, uint8_t *out, uint32_t *count, uint32_t *width) {
+static uint32_t follow(const char *what, const struct lent *lent, uint8_t *out, uint32_t *count) {
     free(memory);
     length = left_bytes;
     memory = filled(length, lent->fill);
@@ -133,7 +133,6 @@ static uint32_t follow(const char *what, const struct lent *lent, uint8_t *out, 
                                              memory, length, &tally);
     expect(what, started.refusal, BENCH_ACCEPTED);
     *count = 0;
-    *width = started.results;
     for (size_t at = 0; at < log_bytes; at += LINE) {
         uint8_t result[BENCH_RESULT_BYTES];
         if (call(lent, text + at, result).refusal != BENCH_ACCEPTED) {
@@ -151,12 +150,12 @@ static uint32_t follow(const char *what, const struct lent *lent, uint8_t *out, 
 static void followed(const char *what, const struct lent *lent, uint32_t row) {
     bench_log_answer answer = check(what, lent);
     uint8_t *out = filled(results_bytes, lent->fill);
-    uint32_t count, width;
-    expect(what, follow(what, lent, out, &count, &width), row);
+    uint32_t count;
+    expect(what, follow(what, lent, out, &count), row);
     expect(what, answer.refusal, row == 0 ? BENCH_ACCEPTED : BENCH_LOG_REFUSED);
     expect(what, answer.row, row);
     expect(what, answer.count, count);
-    expect(what, answer.width, width);
+    expect(what, answer.width, count == 0 ? 0 : memory[RESULTS_AT]);
     expect(what, memcmp(left, memory, length) == 0, 1);
     expect(what, results_bytes == 0 || memcmp(results, out, results_bytes) == 0, 1);
     expect(what, holds(results, (size_t)BENCH_RESULT_BYTES * count, results_bytes, lent->fill), 1);
@@ -521,7 +520,7 @@ static void nothing_lent(void) {
     expect("no set", bench_check_log(rows, 31, kinds, 2, 1, NULL, 0, 1, NULL, 0, mem, bytes, NULL, 0).refusal, BENCH_SET);
     expect("all left", holds(mem, 0, bytes, HELD), 1);
     bench_log_answer answer = bench_check_log(rows, 31, kinds, 2, 1, NULL, 0, 0, NULL, 0, mem, bytes, NULL, 0);
-    expect("no log", answer.refusal == BENCH_ACCEPTED && answer.row == 0 && answer.count == 0 && answer.width == 1, 1);
+    expect("no log", answer.refusal == BENCH_ACCEPTED && answer.row == 0 && answer.count == 0 && answer.width == 0, 1);
     expect("a machine", bench_push(mem, bytes, readings[0], BENCH_VALUE_BYTES, &tally).refusal, BENCH_ACCEPTED);
     free(mem);
 }

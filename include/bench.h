@@ -156,7 +156,7 @@ typedef struct {
     uint32_t refusal;
     uint32_t row;   /* the log's line for 15 and 16, else a row of the sheet */
     uint32_t count; /* result sets handed out, also beside 16 */
-    uint32_t width; /* how many of the sixteen values of each are the formula's, also beside 16 */
+    uint32_t width; /* how many of the sixteen values of each are the formula's; 0 where none is handed out */
 } bench_log_answer;
 
 /*

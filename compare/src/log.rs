@@ -57,7 +57,9 @@ pub fn check_started_by(start: Start, handed: &Handed<'_>, mem: &mut [u8], out: 
     let started = start(handed.sheet, handed.kinds, handed.capacity, mem, &mut Tally::default());
     assert_eq!(started.refusal, 0, "the start of a tested sheet");
     let (count, row) = follow(&lines, &mut Machine::standing(mem), out);
-    LogAnswer { refusal: if row > 0 { 16 } else { 0 }, row, count, width: sheet.figures.results }
+    // That of the results handed out; none have none.
+    let width = if count > 0 { sheet.figures.results } else { 0 };
+    LogAnswer { refusal: if row > 0 { 16 } else { 0 }, row, count, width }
 }
 
 /// All that comes before 16.

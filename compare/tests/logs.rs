@@ -57,7 +57,7 @@ fn results_stand_one_behind_the_other() {
 #[test]
 fn a_log_of_no_bytes_is_accepted() {
     let (answer, mem, out) = checked(&lent(vec![]));
-    assert_eq!(answer, LogAnswer { refusal: 0, row: 0, count: 0, width: 1 });
+    assert_eq!(answer, LogAnswer::default());
     assert_eq!((mem[0], out.len()), (2, 0));
 }
 
@@ -177,7 +177,7 @@ fn on_queues(lent: &Lent) -> (LogAnswer, Vec<u8>) {
     let mut machine = Machine::start(&graph, lent.capacity as usize).expect("a capacity in its range");
     let set_bytes = VALUE_BYTES * sheet.sorts.len();
     let mut out = vec![];
-    let mut answer = LogAnswer { width: sheet.figures.results, ..LogAnswer::default() };
+    let mut answer = LogAnswer::default();
     for (row, line) in (1..).zip(lent.log.chunks(LINE_BYTES)) {
         let field = |text: &[u8]| std::str::from_utf8(text).ok()?.trim_start().parse::<usize>().ok();
         let number = field(&line[6..12]).expect("a number");
@@ -194,6 +194,7 @@ fn on_queues(lent: &Lent) -> (LogAnswer, Vec<u8>) {
         }
     }
     answer.count = (out.len() / OUT_BYTES) as u32;
+    answer.width = if answer.count > 0 { sheet.figures.results } else { 0 };
     (answer, out)
 }
 

@@ -181,7 +181,8 @@ fn compare_lines(lent: &Lent, held: &Side, checked: &Side, counts: &mut Counts) 
         }
     }
     *counts.entry("lines followed".into()).or_default() += followed as u64;
-    if left != *checked || (taken as u32, sheet.figures.results) != (count, width) {
+    let results_width = if taken > 0 { sheet.figures.results } else { 0 };
+    if left != *checked || (taken as u32, results_width) != (count, width) {
         return Err(told(lent, &format!("the lines' own calls: {}", difference(&left, checked))));
     }
     own_results(lent, &sheet, &pushed[..taken], &checked.out, counts)

@@ -79,33 +79,36 @@ fn load(k: u32, name: &[u8], buf: &mut [u8]) -> usize
     n
 }
 
-// A number of asked.txt; a malformed one is 0.
+// A number of asked.txt; 0 where it is malformed.
 fn number_at(asked: &[u8], at: usize) -> u32
-    requires { ⌜ at + 6 ≤ length (now asked) ⌝ }
+    requires { ⌜ at ≤ 6 ⌝ }
 {
+    if asked.len() < ASKED {
+        return 0;
+    }
     match field_in(asked, at) {
         Field::Number(n) => n,
         Field::Malformed => 0,
     }
 }
 
-// The letters of a kinds line of so many bytes, as far as there can be inputs.
-fn letters_of(bytes: usize) -> usize
-    ensures { λ r. ⌜ (r ≤ bytes) × (r ≤ 32) ⌝ }
+// How many letters a kinds line has, as far as there can be inputs.
+fn letters_of(kinds: &[u8]) -> usize
+    ensures { λ r. ⌜ Counts r (now (kinds .entry)) × (r ≤ 32) ⌝ }
 {
-    if bytes == 0 {
+    if kinds.len() == 0 {
         return 0;
     }
-    if MOST_INPUTS < bytes {
+    if MOST_INPUTS < kinds.len() {
         return MOST_INPUTS;
     }
-    bytes - 1
+    kinds.len() - 1
 }
 
 // The sets of a file's lines, one behind the other, up to the first line that is none; gives their bytes.
 fn read_sets(lines: &[u8], kinds: &[u8], sets: &mut [u8]) -> usize
     requires { ⌜ length (now kinds) ≤ 32 ⌝ }
-    ensures { λ r. ⌜ r ≤ length (now (sets .exit)) ⌝ }
+    ensures { λ r. ⌜ Counts r (now (sets .exit)) ⌝ }
 {
     let size = VALUE_BYTES * kinds.len();
     let mut at = 0;
@@ -121,6 +124,16 @@ fn read_sets(lines: &[u8], kinds: &[u8], sets: &mut [u8]) -> usize
         end += size;
     }
     end
+}
+
+// The list of sets of case k for a kinds line.
+fn load_sets(k: u32, kinds: &[u8], sets: &mut [u8]) -> usize
+    ensures { λ r. ⌜ Counts r (now (sets .exit)) ⌝ }
+{
+    let mut lines = io::large_buffer();
+    let n = load(k, b"sets.txt", &mut lines);
+    let letters = letters_of(kinds);
+    read_sets(&lines[..n], &kinds[..letters], sets)
 }
 
 // An answer as a line.
@@ -159,7 +172,16 @@ fn write_results(results: &[u8], count: u32, width: u32) {
 fn check(sheet: &[u8], kinds: &[u8], capacity: u32, sets: &[u8], number: u32, log: &[u8]) {
     let mut mem = io::large_buffer();
     let mut out = io::large_buffer();
-    let a = check_log(sheet, kinds, capacity, sets, number, log, &mut mem, &mut out);
+    let a = check_log(
+        sheet,
+        kinds,
+        capacity,
+        sets,
+        number,
+        log,
+        &mut mem,
+        &mut out,
+    );
     io::write_all(STDOUT_FILENO, &line(a));
     write_results(&out, a.count, a.width);
 }
@@ -167,26 +189,24 @@ fn check(sheet: &[u8], kinds: &[u8], capacity: u32, sets: &[u8], number: u32, lo
 // Makes case k; false where it is missing.
 fn show(k: u32) -> bool {
     let mut asked = [0u8; ASKED];
-    if load(k, b"asked.txt", &mut asked) < ASKED {
+    let n = load(k, b"asked.txt", &mut asked);
+    if n < ASKED {
         return false;
     }
     let mut sheet = io::large_buffer();
     let rows = load(k, b"formula.txt", &mut sheet);
     let mut line = [0u8; LINE_BUFFER];
     let told = load(k, b"kinds.txt", &mut line);
-    let mut lines = io::large_buffer();
-    let read = load(k, b"sets.txt", &mut lines);
+    let mut sets = io::buffer();
+    let size = load_sets(k, &line[..told], &mut sets);
     let mut log = io::large_buffer();
     let end = load(k, b"log.txt", &mut log);
-    let letters = letters_of(told);
-    let mut sets = io::buffer();
-    let size = read_sets(&lines[..read], &line[..letters], &mut sets);
     check(
         &sheet[..rows],
         &line[..told],
-        number_at(&asked, 0),
+        number_at(&asked[..n], 0),
         &sets[..size],
-        number_at(&asked, NUMBER_FIELD),
+        number_at(&asked[..n], NUMBER_FIELD),
         &log[..end],
     );
     true
