@@ -66,19 +66,48 @@ impl Part {
     }
 
     /// The next row, which gets this number.
-    fn next(&mut self, number: usize) -> [u32; 5] {
+    fn next(&mut self, number: u32) -> [u32; 5] {
         let mut row = self.rows[self.numbers.len()];
         naming_fields(row[0]).iter().for_each(|&field| row[field] = self.numbers[row[field] as usize - 1]);
-        self.numbers.push(number as u32);
+        self.numbers.push(number);
         row
     }
 }
 
 /// These rows with dead ones between them: whole parts, of which no row names a live one, and single rows, which name any.
 fn between(live: &[[u32; 5]], rng: &mut Rng) -> Rows {
-    let mut room = MOST_ROWS - live.len();
+    let (mut live, mut room) = (Part::new(live.to_vec()), MOST_ROWS - live.len());
     room = if rng.chance(20) { room } else { rng.below(room.min(40) + 1) };
-    let mut parts = vec![Part::new(live.to_vec())];
+    let mut parts = parts_within(room, rng);
+    let mut single = room - parts.iter().map(Part::left).sum::<usize>();
+    let (mut rows, mut last_dead) = (Rows::new(), None);
+    loop {
+        let number = rows.len() as u32 + 1;
+        let (ahead, whole) = (live.left() - 1, parts.iter().map(Part::left).sum::<usize>());
+        if ahead + whole + single == 0 {
+            // The live part's last row is the sheet's.
+            rows.push(live.next(number));
+            return rows;
+        }
+        let chosen = rng.below(ahead + whole + single);
+        if chosen < ahead {
+            rows.push(live.next(number));
+            continue;
+        }
+        rows.push(match parts.iter_mut().max_by_key(|part| part.left()) {
+            Some(part) if chosen < ahead + whole => part.next(number),
+            _ => {
+                single -= 1;
+                any_row(number, last_dead, rng)
+            }
+        });
+        last_dead = Some(number);
+    }
+}
+
+/// Up to two formulas that have no more rows than these together.
+fn parts_within(mut room: usize, rng: &mut Rng) -> Vec<Part> {
+    let mut parts = Vec::new();
     for _ in 0..rng.below(3) {
         let rows = rows_of(&if rng.chance(50) { accepted_sheet(rng) } else { loose_sheet(rng) });
         if rows.len() <= room {
@@ -86,39 +115,17 @@ fn between(live: &[[u32; 5]], rng: &mut Rng) -> Rows {
             parts.push(Part::new(rows));
         }
     }
-    let (mut rows, mut dead): (Rows, Vec<u32>) = (Vec::new(), Vec::new());
-    while room > 0 || parts.iter().any(|part| part.left() > 0) {
-        let number = rows.len() + 1;
-        let others = room + parts[1..].iter().map(Part::left).sum::<usize>();
-        // The live part's last row is the sheet's.
-        let ahead = if others > 0 { parts[0].left() - 1 } else { 1 };
-        let mut chosen = rng.below(ahead + others);
-        if chosen < ahead {
-            rows.push(parts[0].next(number));
-            continue;
-        }
-        chosen -= ahead;
-        dead.push(number as u32);
-        if chosen < room {
-            room -= 1;
-            rows.push(any_row(rows.len() as u32, &dead[..dead.len() - 1], rng));
-        } else {
-            let part = parts[1..].iter_mut().filter(|part| part.left() > 0).max_by_key(|part| part.left());
-            rows.push(part.expect("a dead row is left").next(number));
-        }
-    }
-    rows
+    parts
 }
 
-/// A row behind so many others: it names any, often the last of these.
-fn any_row(before: u32, favoured: &[u32], rng: &mut Rng) -> [u32; 5] {
-    let kind = if before == 0 { rng.pick(&[1, 2, 3, 10]) } else { rng.between(1, 10) as u32 };
-    let named: Vec<u32> = (0..NAMED[kind as usize])
-        .map(|_| match favoured.last() {
-            Some(&last) if rng.chance(40) => last,
-            _ => rng.between(1, before as usize) as u32,
-        })
-        .collect();
+/// A row that gets this number: it names any before it, often one that is given.
+fn any_row(number: u32, often: Option<u32>, rng: &mut Rng) -> [u32; 5] {
+    let kind = if number == 1 { rng.pick(&[1, 2, 3, 10]) } else { rng.between(1, 10) as u32 };
+    let mut name = || match often {
+        Some(row) if rng.chance(40) => row,
+        _ => rng.between(1, number as usize - 1) as u32,
+    };
+    let named: Vec<u32> = (0..NAMED[kind as usize]).map(|_| name()).collect();
     loose_row(kind, &named, rng)
 }
 
@@ -140,11 +147,7 @@ fn with_doubled_names(rng: &mut Rng) -> Made {
 fn any_rows(rng: &mut Rng) -> Made {
     let wanted = rng.pick(&[1, 2, 3, 5, 10, 30, 100, MOST_ROWS]);
     let wanted = rng.between(1, wanted);
-    let mut rows: Rows = Vec::new();
-    while rows.len() < wanted {
-        let numbers: Vec<u32> = (1..=rows.len() as u32).collect();
-        rows.push(any_row(rows.len() as u32, &numbers, rng));
-    }
+    let rows: Rows = (1..=wanted as u32).map(|number| any_row(number, Some(number - 1), rng)).collect();
     Made { bytes: sheet::write(&rows), kinds: b"\n".to_vec() }
 }
 
