@@ -23,7 +23,7 @@ abbrev μ-loop : tie.MeasureT-loop
 
 -- src/kept.rt:65:5  { ⏎ mark_one(kept, n);
 mark-one-requires : tie.Need-mark-one-requires Inv-loop μ-loop
-mark-one-requires c κs = let e : length (c .before .before .before .args .kept .now) ≡ c .before .before .before .args .n = ap length (c .before .before .before .pre .2) ∙ length-replicate (c .before .before .before .args .n) false in (c .before .before .before .pre .1, omega arith)
+mark-one-requires c κs = let e : length (c .before .before .before .args .kept .now) ≡ c .before .before .before .args .n = ap length (c .before .before .before .pre .2) ∙ length-replicate (c .before .before .before .args .n) false in (omega arith, omega arith)
 
 -- src/kept.rt:67:5  let mut r = n; ⏎ while 0 < r {
 loop-holds : tie.Need-loop-holds Inv-loop μ-loop
