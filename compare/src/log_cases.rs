@@ -7,6 +7,7 @@ use crate::examples::{endless, factorial, lesser, negations, range};
 use crate::log::{check_started_by, write, write_line, Handed, LogAnswer, Start, LINE_BYTES};
 use crate::memory::{need, Machine};
 use crate::random::faults::{plant, Planted, PLANTABLE};
+use crate::random::logs::Order;
 use crate::random::{accepted_sheet, fitting_set, Made, Rng};
 use crate::sheet;
 use crate::tally::Tally;
@@ -152,13 +153,6 @@ fn good_logs(list: &mut List) {
     list.accepted("floats", 2, &scheduled(list.start, floats, Order::Rising, 100));
 }
 
-/// How the operators are looked for.
-#[derive(Clone, Copy)]
-enum Order {
-    Rising,
-    Falling,
-}
-
 /// The case with the log of a scheduler that pushes each set in turn as soon as there is room, fires in this order, and takes what is ready last; up to so
 /// many lines.
 fn scheduled(start: Start, mut case: Case, order: Order, most: usize) -> Case {
@@ -168,11 +162,7 @@ fn scheduled(start: Start, mut case: Case, order: Order, most: usize) -> Case {
     let set_bytes = VALUE_BYTES * started.inputs as usize;
     let (mut machine, mut lines, mut pushed) = (Machine::standing(&mut mem), Lines::new(), 0);
     while lines.len() < most {
-        let able = |i: &usize| machine.can_fire(*i);
-        let operator = match order {
-            Order::Rising => (0..machine.operators()).find(able),
-            Order::Falling => (0..machine.operators()).rev().find(able),
-        };
+        let operator = order.first_able(&machine);
         let room = pushed < case.number && machine.push(&sets[set_bytes * pushed as usize..][..set_bytes]).refusal == 0;
         match operator {
             _ if room => {

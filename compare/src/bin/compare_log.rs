@@ -1,7 +1,8 @@
-// Checks random logs by the product and by the checker here, on the same bytes, and stops at the first difference, which it prints. Answers, every byte of the
-// memory and of the results must agree; bytes past the lent ones must be as they were. A log that a scheduler here wrote must be accepted; then faults are planted
-// in it and in what is lent beside it. Where lines are followed, the product's pushes, firings and takes one by one must be accepted up to the line that the
-// answer names, and leave the same machine and results; and each result must be what direct evaluation gives for its own set (document 02, Job 3; demand 3).
+// Checks random logs by the product and by the checker here, on the same bytes, and stops at the first difference, which it prints. Answers, every byte
+// of the memory and of the results must agree; bytes past the lent ones must be as they were. A log that a scheduler here wrote must be accepted; then
+// faults are planted in it and in what is lent beside it. Where lines are followed, the product's pushes, firings and takes one by one must be accepted up to
+// the line that the answer names, and leave the same machine and results; and each result must be what direct evaluation gives for its own set (document
+// 02, Job 3; demand 3).
 // Usage: compare_log CASES SEED [FIRST]. `compare_log 1 SEED NUMBER` makes a case again.
 
 use compare::arguments::Cases;

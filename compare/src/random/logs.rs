@@ -61,23 +61,37 @@ pub fn accepted_log(start: Start, made: Made, most: usize, rng: &mut Rng) -> Len
     Lent { made, capacity, sets, number, log, more, more_room }
 }
 
-/// How likely a scheduler pushes or takes before it fires, of a hundred times, and where it looks for an operator first.
+/// In which order operators are asked whether they are able.
+#[derive(Clone, Copy)]
+pub enum Order {
+    Rising,
+    Falling,
+    /// From this one on, and then those before it.
+    From(usize),
+}
+
+impl Order {
+    pub fn first_able(self, machine: &Machine<'_>) -> Option<usize> {
+        let operators = machine.operators();
+        let able = |i: &usize| machine.can_fire(*i);
+        match self {
+            Order::Rising => (0..operators).find(able),
+            Order::Falling => (0..operators).rev().find(able),
+            Order::From(first) => (first..operators).chain(0..first).find(able),
+        }
+    }
+}
+
+/// How likely a scheduler pushes or takes before it fires, of a hundred times, and its order, if it has one.
 struct Scheduler {
     push: usize,
     take: usize,
-    order: Order,
-}
-
-#[derive(Clone, Copy)]
-enum Order {
-    Rising,
-    Falling,
-    Any,
+    order: Option<Order>,
 }
 
 impl Scheduler {
     fn random(rng: &mut Rng) -> Scheduler {
-        let order = rng.pick(&[Order::Rising, Order::Falling, Order::Any, Order::Any]);
+        let order = rng.pick(&[Some(Order::Rising), Some(Order::Falling), None, None]);
         Scheduler { push: rng.pick(&[1, 5, 20, 70]), take: rng.pick(&[1, 5, 20, 70]), order }
     }
 
@@ -100,14 +114,10 @@ impl Scheduler {
     }
 
     fn fire_one(&self, machine: &mut Machine<'_>, rng: &mut Rng) -> Option<String> {
-        let operators = machine.operators();
-        let first = rng.below(operators.max(1));
-        let able = match self.order {
-            Order::Rising => (0..operators).find(|&i| machine.can_fire(i)),
-            Order::Falling => (0..operators).rev().find(|&i| machine.can_fire(i)),
-            Order::Any => (first..operators).chain(0..first).find(|&i| machine.can_fire(i)),
-        };
-        able.filter(|&i| machine.fire(i).refusal == 0).map(|i| write_line(2, i as u32))
+        let order = self.order.unwrap_or(Order::From(rng.below(machine.operators().max(1))));
+        let able = order.first_able(machine)?;
+        machine.fire(able);
+        Some(write_line(2, able as u32))
     }
 }
 

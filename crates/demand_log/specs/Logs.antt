@@ -7,6 +7,7 @@ use mathlib.Core.Path.{_≡_, refl, sym, ap, ap₂, subst, _∙_}
 use mathlib.Core.Logic.{_⊎_, inl, inr, _≢_, _↔_}
 use mathlib.Core.List.{List, [], _∷_, _++_, flatten, append-assoc}
 use native.Mathlib.Omega.{arith}
+use borrow.Author.Tests.{ne-eqb}
 use native.Mathlib.Decide.{ℕ-discrete}
 use lib.ListN.{length, getD, drop, take as firstOf, length-map, take-append-drop, List·getD-append}
 use lib.Seq.{take-at, drop-at, drop-drop, take-length}
@@ -19,7 +20,7 @@ use Rattle.machine_start.specs.Start.{started}
 use Rattle.machine_log.specs.declared.lines.Line.{Line}
 use Rattle.machine_log.specs.Lines.{linesOf}
 use Rattle.machine_log.specs.Follow.{Followed, followed}
-use Rattle.machine_log.specs.Checked.{Checked, told, byOpening, checked}
+use Rattle.machine_log.specs.Checked.{Checked, told, byOpening, checked, widthOf}
 use Rattle.refusals.specs.LogLaws.{follow-stops}
 use Rattle.refusals.specs.LogRows.{setNamed}
 use Rattle.demand.specs.MemoryCalls.{Call, Result, result, memoryAfterAll, setsPushed, resultsTaken}
@@ -32,6 +33,11 @@ use Rattle.demand_log.specs.AnswersTo.{stops-at, stopped-at}
 use Rattle.demand_log.specs.Checks.{lines-listed, first-listed, Followed-log, Not-followed, followed-when, either-way, row-is, accepts, refuses, accepted-ends, refused-stops, start-length, same-from-start}
 
 -- ---- the k-th of some results
+
+-- The width told is that of the results, where there are some.
+told-wide : (w : ℕ) (rs : List Result) → AllWide w rs → AllWide (widthOf (length rs) w) rs
+told-wide w [] h = tt
+told-wide w (r ∷ more) h = rw (ne-eqb (suc (length more)) 0 (λ e. absurd (omega (arith, e)))) h
 
 handed-at : (w : ℕ) (rs : List Result) → AllWide w rs → (rest : List ℕ) (k : ℕ) → k < length rs
     → result w (firstOf 80 (drop (80 * k) (flatten (bytesOf rs) ++ rest))) ≡ getD rs k (result 0 [])
@@ -116,7 +122,13 @@ module _ (sheet line : List ℕ) (capacity : ℕ) (sets : List ℕ) (number : �
               ∙ ap (λ (b : List (List ℕ)). flatten b ++ drop (80 * length b) out) (E .handed)
               ∙ ap (λ (k : ℕ). flatten (bytesOf rs) ++ drop (80 * k) out) n;
           counted = ap (λ (k : Checked). k .answer .count) (F .whole) ∙ ap length (E .handed) ∙ n;
-          wide = subst (λ (w : ℕ). AllWide w rs) (sym (ap (λ (k : Checked). k .answer .width) (F .whole))) (E .wide);
+          wide =
+              subst (λ (w : ℕ). AllWide w rs)
+              (sym
+              (ap (λ (k : Checked). k .answer .width) (F .whole)
+              ∙ ap (λ (b : List (List ℕ)). widthOf (length b) (width (formulaOf sheet))) (E .handed)
+              ∙ ap (λ (k : ℕ). widthOf k (width (formulaOf sheet))) n))
+              (told-wide (width (formulaOf sheet)) rs (E .wide));
           pushed = E .pushes;
         }
 

@@ -21,7 +21,7 @@ use Rattle.machine_calls.specs.Calls.{resultBytes}
 use Rattle.machine_tray.specs.Tray.{cut}
 use Rattle.machine_start.specs.Start.{started}
 use Rattle.machine_log.specs.declared.LogAnswer.{LogAnswer}
-use Rattle.machine_log.specs.Lines.{mostLines, lineBytes, linesOf, lineWell, logCheck}
+use Rattle.machine_log.specs.Lines.{mostLines, lineBytes, linesOf, logCheck}
 use Rattle.machine_log.specs.Follow.{Followed, followed}
 
 -- ---- what is lent

@@ -1,6 +1,6 @@
 -- The log checker test by test, as the code makes them, and what it comes to behind them: a machine that is started and a log that can be followed. Assumes nothing.
 use Prim.Native.Nat.{ℕ, _+_, _*_, _≤_, _<_}
-use mathlib.Core.Path.{_≡_, refl, sym, ap, ap₂, subst, _∙_}
+use mathlib.Core.Path.{_≡_, refl, sym, ap, subst, _∙_}
 use mathlib.Core.Bool.{Bool, true, false, _&&_}
 use mathlib.Core.List.{List, []}
 use native.Mathlib.Omega.{arith}
@@ -25,7 +25,7 @@ use Rattle.formula.specs.Faults.{lettersOf}
 use Rattle.formula.specs.Tests.{whole, afterCheck, verdictOf, figuresOf, readingOf}
 use Rattle.formula.specs.Acceptance.{Modest, low-row, reading-passed, accepted-passed, accepted-figures, passed-kinded}
 use Rattle.sheet_read.proofs.FigureLaws.{answer-modest}
-use Rattle.machine_layout.specs.Layout.{sizeOf, need, capacityIn, untakenOf}
+use Rattle.machine_layout.specs.Layout.{sizeOf, need, capacityIn}
 use Rattle.machine_start.specs.Start.{started}
 use Rattle.machine_start.specs.StartLaws.{capacity-in, start-accepts, accepted-start}
 use Rattle.machine_start.specs.Letters.{letters-lent}
@@ -36,12 +36,13 @@ use Rattle.machine_log.specs.declared.Opening.the-variants.{Passed as Op
 use Rattle.machine_log.specs.declared.lines.Line.{Line}
 use Rattle.machine_log.specs.declared.lines.Line.the-variants.{Push, Fire, Take, Malformed}
 use Rattle.machine_log.specs.declared.follow.Progress.{Progress}
-use Rattle.machine_log.specs.Lines.{mostLines, lineAt, lineCount, linesOf, listed, logCheck}
+use Rattle.machine_log.specs.Lines.{mostLines, lineAt, linesOf, listed, logCheck}
 use Rattle.machine_log.specs.LineLaws.{passed-few, passed-listed, fault-low}
 use Rattle.machine_log.specs.Follow.{Followed, followed}
-use Rattle.machine_log.specs.Checked.{setList, setIn, allSets, roomFor, checks, answers, writtenOut, widthOf, behind, opening, followedLog, told, byOpening, checked}
+use Rattle.machine_log.specs.Checked.{setList, setIn, allSets, roomFor, checks, answers, widthOf, behind, opening, followedLog, told, byOpening, checked}
 use Rattle.machine_log.specs.SetLaws.{setAt, set-in, set-lent}
-use Rattle.machine_log.specs.FollowLaws.{Lies, Followable, progressOf, Follows, push-listed, followed-same}
+use Rattle.machine_log.specs.Steps.{Lies}
+use Rattle.machine_log.specs.FollowLaws.{Followable, Follows, push-listed, followed-same}
 
 -- A refusal whose row is 0, one of a sheet's or one of a log's.
 abbrev Low : Verdict → Type 0

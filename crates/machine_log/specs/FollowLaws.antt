@@ -14,7 +14,7 @@ use Rattle.value.specs.Operators.{pick}
 use Rattle.formula.specs.declared.Check.the-variants.{Passed}
 use Rattle.formula.specs.TreeLaws.{and-true}
 use Rattle.machine_layout.specs.Layout.{untakenOf}
-use Rattle.machine_calls.specs.Calls.{Handed, pushed, resultBytes}
+use Rattle.machine_calls.specs.Calls.{resultBytes}
 use Rattle.machine_log.specs.declared.lines.Line.{Line}
 use Rattle.machine_log.specs.declared.lines.Line.the-variants.{Push, Fire, Take, Malformed}
 use Rattle.machine_log.specs.declared.follow.Progress.{Progress}
@@ -22,16 +22,9 @@ use Rattle.machine_log.specs.Lines.{lineBytes, mostLines, lineOf, lineAt
 use Rattle.machine_log.specs.LineLaws.{line-short, line-next, lines-over, lines-all, passed-listed}
 use Rattle.machine_log.specs.Follow.{called, given, Followed, followedTo, followed}
 use Rattle.machine_log.specs.Checked.{mostTaken, roomFor, writtenOut}
-use Rattle.machine_log.specs.Steps.{Lent, handsOut, Stepped, line-counts, given-long, given-count}
+use Rattle.machine_log.specs.Steps.{Lies, Lent, handsOut, Stepped, line-counts, given-long, given-count}
 
 -- ---- the contract
-
--- A push's set lies in the lent bytes.
-abbrev pub Lies : ℕ → List ℕ → Line → Type 0
-Lies size sets (Push n) = (1 ≤ n) × (size * n ≤ length sets)
-Lies size sets (Fire operator) = Unit {0}
-Lies size sets Take = Unit {0}
-Lies size sets Malformed = Unit {0}
 
 -- A log behind 15, an empty machine and room for the results.
 pub record Followable (size : ℕ) (sets log m out : List ℕ) : Type 0 where
@@ -222,12 +215,13 @@ AllListed number (l ∷ ls) = (listed number l ≡ true) × AllListed number ls
 listed-in : (number n : ℕ) (log : List ℕ) → ((i : ℕ) → i < n → listed number (lineAt log i) ≡ true) → AllListed number (linesIn n log)
 unfolding linesIn
 listed-in number zero log h = tt
-listed-in number (suc n) log h =
-    (h 0 (omega arith),
-    listed-in number n (drop lineBytes log)
-    (λ i k.
-    let w : lineBytes + lineBytes * i ≡ lineBytes * suc i = omega arith in
-    ap (λ (l : List ℕ). listed number (lineOf (take lineBytes l))) (drop-drop (lineBytes * i) lineBytes log ∙ ap (λ (x : ℕ). drop x log) w) ∙ h (suc i) (omega arith)))
+listed-in number (suc n) log h = (
+  h 0 (omega arith),
+  listed-in number n (drop lineBytes log)
+      (λ i k.
+      let w : lineBytes + lineBytes * i ≡ lineBytes * suc i = omega arith in
+      ap (λ (l : List ℕ). listed number (lineOf (take lineBytes l))) (drop-drop (lineBytes * i) lineBytes log ∙ ap (λ (x : ℕ). drop x log) w) ∙ h (suc i) (omega arith)),
+)
 
 -- A listed push's set is one of the list.
 pub push-listed : (number n : ℕ) → listed number (Push n) ≡ true → (1 ≤ n) × (n ≤ number)

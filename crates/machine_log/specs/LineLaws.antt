@@ -9,12 +9,10 @@ use borrow.Author.Tests.{le-leb, lt-leb, leb-true, eq-eqb, ne-eqb}
 use lib.Dec.{leb}
 use lib.ListN.{length, getD, take, drop, length-drop}
 use lib.Seq.{slice, take-all, take-take, take-add, drop-at, drop-drop, length-take-le, getD-take, getD-drop}
-use Rattle.formula.specs.declared.Field.{Field}
 use Rattle.formula.specs.declared.Check.the-variants.{Passed, Fault}
 use Rattle.formula.specs.Sheet.{fieldOf, fieldText}
 use Rattle.formula.specs.TestLaws.{passed-each, lowest-fault}
-use Rattle.machine_log.specs.declared.lines.Line.{Line}
-use Rattle.machine_log.specs.declared.lines.Line.the-variants.{Push, Fire, Take, Malformed}
+use Rattle.machine_log.specs.declared.lines.Line.the-variants.{Malformed}
 use Rattle.machine_log.specs.Lines.{lineBytes, mostLines, byFields, lineOf, lineAt, linesIn, lineCount, linesOf, listed, lineWell, logCheck}
 
 -- ---- one line

@@ -19,7 +19,7 @@ use Rattle.machine_valid.specs.Below.{allBelow}
 use Rattle.machine_valid.specs.Figures.{valid-figures}
 use Rattle.machine_runs.specs.Near.{static-fired}
 use Rattle.machine_calls.specs.Calls.{Outcome, Handed, outcome, handed, answers, refusal, sizeIn, standing, roomsOk, triggered, pushedMemory, pushed, fired, resultReady, resultWord, resultBytes, emptied, takenMemory, taken}
-use Rattle.machine_calls.specs.CallLaws.{standing-good, pushed-refused, fired-refused, taken-short, taken-refused, taken-none}
+use Rattle.machine_calls.specs.CallLaws.{standing-good, fired-refused, taken-short, taken-refused, taken-none}
 use Rattle.machine_calls.specs.Written.{wordsOut, length-out, written-out}
 use Rattle.machine_tray.specs.OneByOne.{either, push-leaves}
 use Rattle.machine_log.specs.declared.lines.Line.{Line}
@@ -27,9 +27,16 @@ use Rattle.machine_log.specs.declared.lines.Line.the-variants.{Push, Fir
 use Rattle.machine_log.specs.Follow.{room, called, given}
 use Rattle.machine_log.specs.SetLaws.{setAt}
 
--- What a line asks of what is lent: a push's set lies there; a take has room for a result where there is one untaken.
+-- A push's set lies in the lent bytes.
+abbrev pub Lies : ℕ → List ℕ → Line → Type 0
+Lies size sets (Push n) = (1 ≤ n) × (size * n ≤ length sets)
+Lies size sets (Fire operator) = Unit {0}
+Lies size sets Take = Unit {0}
+Lies size sets Malformed = Unit {0}
+
+-- What a line asks of what is lent: a push's set lies there, a take has room for a result where one is untaken.
 abbrev pub Lent : ℕ → List ℕ → List ℕ → List ℕ → Line → Type 0
-Lent size sets m out (Push n) = (1 ≤ n) × (size * n ≤ length sets)
+Lent size sets m out (Push n) = Lies size sets (Push n)
 Lent size sets m out (Fire operator) = Unit {0}
 Lent size sets m out Take = 1 ≤ untakenOf m → resultBytes ≤ length out
 Lent size sets m out Malformed = Unit {0}

@@ -4,6 +4,7 @@
 pub mod follow;
 pub mod lines;
 pub mod sets;
+
 use crate::follow::Progress;
 use crate::follow::RESULT_BYTES;
 use crate::follow::follow;
@@ -177,7 +178,16 @@ pub fn check_log(
 ) -> LogAnswer
     ensures { λ a. ⌜ checks a (now (mem .exit)) (now (out .exit)) ≡ checked (now (sheet .entry)) (now (line .entry)) capacity (now (sets .entry)) number (now (log .entry)) (now (mem .entry)) (now (out .entry)) ⌝ }
 {
-    match open_log(sheet, line, capacity, sets, number, log, mem.len(), out.len()) {
+    match open_log(
+        sheet,
+        line,
+        capacity,
+        sets,
+        number,
+        log,
+        mem.len(),
+        out.len(),
+    ) {
         Opening::Refused(r, row) => refused(r, row as u32),
         Opening::Passed(inputs, width) => {
             start(sheet, line, capacity, mem);

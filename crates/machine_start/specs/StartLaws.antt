@@ -13,7 +13,7 @@ use Rattle.formula.specs.declared.Refusal.{Refusal}
 use Rattle.formula.specs.declared.Refusal.the-variants.{Memory, Capacity}
 use Rattle.formula.specs.declared.Verdict.{Verdict}
 use Rattle.formula.specs.declared.Verdict.the-variants.{Passed, Refused}
-use Rattle.formula.specs.Refusals.{numberOf, number-positive}
+use Rattle.formula.specs.Refusals.{number-positive}
 use Rattle.formula.specs.Tree.{Exp, formulaOf}
 use Rattle.formula.specs.Tests.{verdictOf}
 use Rattle.formula.specs.Faults.{lettersOf}

@@ -6,11 +6,11 @@ use Rattle.machine_log.proofs.refused.Lts as lts
 use Rattle.formula.proofs.refusal_number.Reads as refusal-number-reads
 use mathlib.Core.Path.{refl}
 
--- src/lib.rt:56:18  LogAnswer { ⏎ refusal: formula::refusal_number(r),
+-- src/lib.rt:57:18  LogAnswer { ⏎ refusal: formula::refusal_number(r),
 refusal-number-requires : tie.Need-refusal-number-requires
 refusal-number-requires c κs = search needs
 
--- src/lib.rt:52:1  const MOST_CAPACITY: u32 = 16; ⏎ fn refused(r: Refusal, row: u32) -> LogAnswer
+-- src/lib.rt:53:1  const MOST_CAPACITY: u32 = 16; ⏎ fn refused(r: Refusal, row: u32) -> LogAnswer
 returns : tie.Need-returns
 returns c = rw (c .refusal-number .ensures) refl
 

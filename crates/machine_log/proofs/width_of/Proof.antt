@@ -7,11 +7,11 @@ use Rattle.machine_log.proofs.width_of.Lts as lts
 use mathlib.Core.Path.{refl}
 use borrow.Author.Tests.{ne-eqb}
 
--- src/lib.rt:141:9  if count == 0 { ⏎ return 0;
+-- src/lib.rt:142:9  if count == 0 { ⏎ return 0;
 returns : tie.Need-returns
 returns c = rw (c .if1 .taken) refl
 
--- src/lib.rt:137:1  // The width of so many results. ⏎ fn width_of(count: u32, width: u32) -> u32
+-- src/lib.rt:138:1  // The width of so many results. ⏎ fn width_of(count: u32, width: u32) -> u32
 returns-2 : tie.Need-returns-2
 returns-2 c = rw (ne-eqb (c .before .args .count) 0 (c .if1 .left)) refl
 

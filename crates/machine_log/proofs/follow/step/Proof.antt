@@ -8,8 +8,7 @@ use Rattle.formula.proofs.refusal_number.Reads as refusal-number-reads
 use Rattle.machine_calls.proofs.fire.Reads as fire-reads
 use Rattle.machine_calls.proofs.push.Reads as push-reads
 use Rattle.machine_calls.proofs.take.Reads as take-reads
-use Prim.Native.Nat.{_≤_}
-use mathlib.Core.Path.{ap, subst, _∙_, sym}
+use mathlib.Core.Path.{ap, subst, _∙_}
 use Rattle.machine_calls.specs.Calls.{outcome, handed, pushed}
 use Rattle.machine_log.specs.SetLaws.{setAt}
 use Rattle.machine_log.specs.Steps.{Lent, size-within, set-cut, stepped-push, stepped-fire, stepped-take, stepped-malformed}

@@ -12,8 +12,7 @@ use Rattle.value_sets.proofs.is_set.Reads as is-set-reads
 use Prim.Native.Nat.{_+_, _*_, _-_, _≤_}
 use mathlib.Core.Path.{_≡_, sym, _∙_}
 use borrow.Author.Tests.{not-true, not-false}
-use lib.ListN.{length, take, drop}
-use Rattle.value_sets.specs.Sets.{setOk}
+use lib.ListN.{length}
 use Rattle.machine_log.specs.SetLaws.{none-asked, Tested, tested-first, tested-last, tested-bad, tested-short, tested-next}
 
 abbrev Inv-loop : tie.InvT-loop
