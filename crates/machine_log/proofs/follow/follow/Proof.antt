@@ -108,14 +108,13 @@ loop-less c = search needs
 
 -- src/follow.rt:60:5  let mut count = 0; ⏎ while LINE_BYTES * j < log.len() {
 loop-again : tie.Need-loop-again Inv-loop μ-loop
-loop-again c =
-    (
-    c .before .before .before .before .before .before .step .kept .1 .1 .1 .0 ∙ c .before .before .before .before .before .before .before .before .before .before .before .loop .inv .0,
-    same-len-mid (80 * c .before .before .before .before .before .before .before .before .before .before .before .loop .count) (length (c .before .before .before .before .before .before .before .before .before .before .before .loop .out) - 80 * c .before .before .before .before .before .before .before .before .before .before .before .loop .count) (c .before .before .before .before .before .before .before .before .before .before .before .loop .out) (c .before .before .before .before .before .before .step .last .1 .1 .1 .1 .0) (c .before .before .before .before .before .before .step .kept .1 .1 .1 .1 .0) ∙ c .before .before .before .before .before .before .before .before .before .before .before .loop .inv .1,
-    omega arith,
-    underway-next (setAt (c .before .before .before .before .before .before .before .before .before .before .before .before .before .before .before .before .args .size) (c .before .before .before .before .before .before .before .before .before .before .before .before .before .before .before .before .args .sets .now)) (c .before .before .before .before .before .before .before .before .before .before .before .before .before .before .before .before .args .log .now) (c .before .before .before .before .before .before .before .before .before .before .before .before .before .before .before .before .args .mem .now) (c .before .before .before .before .before .before .before .before .before .before .before .before .before .before .before .before .args .out .now) (c .before .before .before .before .before .before .before .before .before .before .before .loop .j) (c .before .before .before .before .before .before .before .before .before .before .before .loop .mem) (c .before .before .before .before .before .before .before .before .before .before .before .loop .out) (c .before .before .before .before .before .before .before .before .before .before .before .loop .count) (c .before .before .before .before .before .before .before .before .before .before .before .loop .inv .3) (c .before .before .before .before .before .before .before .before .before .before .before .before .before .before .before .before .pre .room) (c .before .before .before .before .before .before .before .before .before .before .before .before .before .before .before .before .pre .few) (omega arith)
-    (c .before .before .before .before .before .before .before .before .before .line-at .result) (c .before .before .before .before .before .before .before .before .before .line-at .ensures) (c .before .before .before .before .before .before .step .result) (c .before .before .before .before .before .before .step .last .1 .1 .1 .0) (c .before .before .before .before .before .before .step .last .1 .1 .1 .1 .0) (c .before .before .before .before .before .before .step .ensures) (c .results-of .result) (c .results-of .ensures) (c .before .if1 .left),
-    )
+loop-again c = (
+  c .before .before .before .before .before .before .step .kept .1 .1 .1 .0 ∙ c .before .before .before .before .before .before .before .before .before .before .before .loop .inv .0,
+  same-len-mid (80 * c .before .before .before .before .before .before .before .before .before .before .before .loop .count) (length (c .before .before .before .before .before .before .before .before .before .before .before .loop .out) - 80 * c .before .before .before .before .before .before .before .before .before .before .before .loop .count) (c .before .before .before .before .before .before .before .before .before .before .before .loop .out) (c .before .before .before .before .before .before .step .last .1 .1 .1 .1 .0) (c .before .before .before .before .before .before .step .kept .1 .1 .1 .1 .0) ∙ c .before .before .before .before .before .before .before .before .before .before .before .loop .inv .1,
+  omega arith,
+  underway-next (setAt (c .before .before .before .before .before .before .before .before .before .before .before .before .before .before .before .before .args .size) (c .before .before .before .before .before .before .before .before .before .before .before .before .before .before .before .before .args .sets .now)) (c .before .before .before .before .before .before .before .before .before .before .before .before .before .before .before .before .args .log .now) (c .before .before .before .before .before .before .before .before .before .before .before .before .before .before .before .before .args .mem .now) (c .before .before .before .before .before .before .before .before .before .before .before .before .before .before .before .before .args .out .now) (c .before .before .before .before .before .before .before .before .before .before .before .loop .j) (c .before .before .before .before .before .before .before .before .before .before .before .loop .mem) (c .before .before .before .before .before .before .before .before .before .before .before .loop .out) (c .before .before .before .before .before .before .before .before .before .before .before .loop .count) (c .before .before .before .before .before .before .before .before .before .before .before .loop .inv .3) (c .before .before .before .before .before .before .before .before .before .before .before .before .before .before .before .before .pre .room) (c .before .before .before .before .before .before .before .before .before .before .before .before .before .before .before .before .pre .few) (omega arith)
+      (c .before .before .before .before .before .before .before .before .before .line-at .result) (c .before .before .before .before .before .before .before .before .before .line-at .ensures) (c .before .before .before .before .before .before .step .result) (c .before .before .before .before .before .before .step .last .1 .1 .1 .0) (c .before .before .before .before .before .before .step .last .1 .1 .1 .1 .0) (c .before .before .before .before .before .before .step .ensures) (c .results-of .result) (c .results-of .ensures) (c .before .if1 .left),
+)
 
 -- src/follow.rt:54:1  // Follows a log whose sets are of `size` bytes, up to the first line that is refused. ⏎ pub fn follow(log: &[u8], sets: &[u8], size: usize, mem: &mut [u8], out: &mut [u8]) -> Progress
 same-length-3 : tie.Need-same-length-3 Inv-loop μ-loop

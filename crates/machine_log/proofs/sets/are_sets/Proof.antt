@@ -79,9 +79,11 @@ loop-less c = search needs
 -- src/sets.rt:22:5  let mut count = 0; ⏎ while count < number {
 loop-again : tie.Need-loop-again Inv-loop μ-loop
 loop-again c =
-    let z : c .before .before .before .before .before .loop .at + 5 * length (c .before .before .before .before .before .before .before .before .before .args .kinds .now) - c .before .before .before .before .before .loop .at ≡ 5 * length (c .before .before .before .before .before .before .before .before .before .args .kinds .now) = omega arith in
-    (omega arith, tested-next (c .before .before .before .before .before .before .before .before .before .args .kinds .now) (c .before .before .before .before .before .before .before .before .before .args .sets .now) (c .before .before .before .before .before .before .before .before .before .args .number) (c .before .before .before .before .before .loop .at) (c .before .before .before .before .before .loop .count) (c .before .before .before .before .before .loop .inv .1) (c .before .before .before .before .loop-test .taken)
-    (sym (rw z at (c .before .is-set .ensures)) ∙ not-false (c .before .is-set .result) (c .if3 .left)))
+    let z : c .before .before .before .before .before .loop .at + 5 * length (c .before .before .before .before .before .before .before .before .before .args .kinds .now) - c .before .before .before .before .before .loop .at ≡ 5 * length (c .before .before .before .before .before .before .before .before .before .args .kinds .now) = omega arith in (
+      omega arith,
+      tested-next (c .before .before .before .before .before .before .before .before .before .args .kinds .now) (c .before .before .before .before .before .before .before .before .before .args .sets .now) (c .before .before .before .before .before .before .before .before .before .args .number) (c .before .before .before .before .before .loop .at) (c .before .before .before .before .before .loop .count) (c .before .before .before .before .before .loop .inv .1) (c .before .before .before .before .loop-test .taken)
+          (sym (rw z at (c .before .is-set .ensures)) ∙ not-false (c .before .is-set .result) (c .if3 .left)),
+    )
 
 -- src/sets.rt:12:1  // loop goes over them. ⏎ pub fn are_sets(sets: &[u8], number: u32, kinds: &[u8]) -> bool
 returns-4 : tie.Need-returns-4 Inv-loop μ-loop
