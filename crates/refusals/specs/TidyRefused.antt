@@ -24,11 +24,13 @@ use Rattle.machine_tray.specs.OneByOne.{either}
 
 -- ---- the first of its table
 
+rows-table : (s : List ℕ) → tableBy rowTests (sheetOf s) ≡ rowTable s
+unfolding rowTests sheetOf
+rows-table s = rw (failed-whole (laidOut s (linesOf s)), failed-whole (fewRows s)) refl
+
 rows-exact : (s : List ℕ) → numberIn (rowVerdict s) ≡ first-refusal (rowTable s)
-unfolding rowVerdict rowTests sheetOf
-rows-exact s =
-    first-by rowTests (sheetOf s)
-    ∙ ap first-refusal (rw (failed-whole (laidOut s (linesOf s)), failed-whole (fewRows s)) (refl {x = rowTable s}))
+unfolding rowVerdict
+rows-exact s = first-by rowTests (sheetOf s) ∙ ap first-refusal (rows-table s)
 
 tidy-order : (b : Bool) (v : Verdict) (s out : List ℕ) (cs : List Row) → numberIn v ≡ first-refusal cs
     → pick b (handed (answers 11 0 0) out) (byVerdict v s out) .answer .refusal ≡ first-refusal ((b, Memory) ∷ cs)
