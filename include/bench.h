@@ -2,9 +2,9 @@
  * The formula machine of the beacon bench.
  *
  * A formula sheet is read (bench_read), evaluated directly (bench_evaluate), or started as a machine on memory that the caller lends
- * (bench_start) and then driven by pushes, firings, runs and takes. The log of a bench that drives such machines in its own order is checked by
- * following it (bench_check_log). No call keeps anything but what stands in that memory and in the tally: there is no heap and no global. Every call
- * always returns, for any bytes and any numbers.
+ * (bench_start) and then driven by pushes, firings, runs and takes. A sheet with rows that its formula no longer uses is tidied first (bench_tidy).
+ * The log of a bench that drives such machines in its own order is checked by following it (bench_check_log). No call keeps anything but what stands
+ * in that memory and in the tally: there is no heap and no global. Every call always returns, for any bytes and any numbers.
  *
  * Lent memory. A pointer goes with its length in bytes; a length of 0 goes with any pointer, NULL included. The stretches lent to one
  * call must not overlap, and nothing else may write them during the call. That and what is said of the tally is all that is asked of a caller:
@@ -92,6 +92,12 @@ enum {
     BENCH_UNFINISHED = 36   /* run: something can still fire after the lent firings or rounds; evaluation: more rounds needed than lent */
 };
 
+/* A sheet's rows: how many bytes one has. */
+#define BENCH_ROW_BYTES 31
+
+/* What a tidied sheet needs: as many bytes as the sheet has, 6,200 at the most, for 200 rows. */
+#define BENCH_TIDY_BYTES(sheet_bytes) ((size_t)(sheet_bytes) < 200 * BENCH_ROW_BYTES ? (size_t)(sheet_bytes) : 200 * BENCH_ROW_BYTES)
+
 /* What a result set needs: sixteen values. */
 #define BENCH_RESULT_BYTES (16 * BENCH_VALUE_BYTES)
 
@@ -113,6 +119,12 @@ typedef struct {
     uint32_t inputs;
     uint32_t results;
 } bench_read_answer;
+
+typedef struct {
+    uint32_t refusal;
+    uint32_t row;
+    uint32_t rows; /* of the new sheet */
+} bench_tidy_answer;
 
 typedef struct {
     uint32_t refusal;
@@ -160,6 +172,15 @@ typedef struct {
 
 /* Reads a formula sheet with its kinds line. Refusals, in this order: 1 to 9, 17, 18, 10. */
 bench_read_answer bench_read(const uint8_t *sheet, size_t sheet_bytes, const uint8_t *kinds, size_t kinds_bytes);
+
+/*
+ * Tidies a sheet: writes it to the start of `out` without the rows that its last row does not reach. Kept are the last row and every row that a field
+ * of a kept row names, in their old order; fields that name rows get their new numbers. The new sheet is the first BENCH_ROW_BYTES * rows bytes of
+ * `out`; bytes past it are left alone. Tidying it again changes nothing more. There is no kinds line, and nothing from 6 on is tested or mended: the
+ * new sheet gets BENCH_NAMED exactly when two fields of its rows name the same row, and a sheet that passes 1 to 6 comes back as it is. Refusals, in
+ * this order: 11 (`out` shorter than BENCH_TIDY_BYTES of the sheet's bytes), 1 to 5.
+ */
+bench_tidy_answer bench_tidy(const uint8_t *sheet, size_t sheet_bytes, uint8_t *out, size_t out_bytes);
 
 /*
  * Evaluates a sheet with its kinds line on a set within the lent rounds; a round is one entry into a loop's body. Writes sixteen values to `out`, E past the

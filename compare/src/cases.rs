@@ -10,6 +10,7 @@ use crate::random::faults::{plant, PLANTABLE};
 use crate::random::turns::altered_sheet;
 use crate::random::{accepted_sheet, heavy_sheet, loose_sheet, renamed_sheet, Made, Rng};
 use crate::sheet::{input_names, write};
+pub use rules::nest;
 
 type Rows = Vec<[u32; 5]>;
 

@@ -46,6 +46,12 @@ pub fn negations(rows: u32) -> Made {
     made(&(1..=rows).map(row).collect::<Vec<_>>(), b"W\n")
 }
 
+/// A name, negated again and again, where before each row stands a dead one that names the row before it: as many dead rows as live ones.
+pub fn half_dead(rows: u32) -> Made {
+    let row = |row| if row <= 2 { [1, 0, 0, 0, 0] } else { [5, 11, row - 1 - (row + 1) % 2, 0, 0] };
+    made(&(1..=rows).map(row).collect::<Vec<_>>(), b"W\n")
+}
+
 /// A sheet with over 1,000 operators.
 pub fn many_operators(rng: &mut Rng) -> Made {
     loop {

@@ -5,9 +5,11 @@ use crate::bytes::{EvaluateAnswer, ReadAnswer};
 use crate::log::{Handed, LogAnswer};
 use crate::memory::{Answer, RoundsAnswer, StartAnswer};
 use crate::tally::Tally;
+use crate::tidy::TidyAnswer;
 
 extern "C" {
     fn bench_read(sheet: *const u8, sheet_len: usize, kinds: *const u8, kinds_len: usize) -> ReadAnswer;
+    fn bench_tidy(sheet: *const u8, sheet_len: usize, out: *mut u8, out_len: usize) -> TidyAnswer;
     fn bench_evaluate(
         sheet: *const u8,
         sheet_len: usize,
@@ -64,6 +66,10 @@ extern "C" {
 
 pub fn read(sheet: &[u8], kinds: &[u8]) -> ReadAnswer {
     unsafe { bench_read(sheet.as_ptr(), sheet.len(), kinds.as_ptr(), kinds.len()) }
+}
+
+pub fn tidy(sheet: &[u8], out: &mut [u8]) -> TidyAnswer {
+    unsafe { bench_tidy(sheet.as_ptr(), sheet.len(), out.as_mut_ptr(), out.len()) }
 }
 
 pub fn evaluate(sheet: &[u8], kinds: &[u8], set: &[u8], rounds: u32, out: &mut [u8]) -> EvaluateAnswer {

@@ -1,6 +1,7 @@
 // Random sheets, sets and bytes for the comparison, from a seed, so that every case can be made again.
 // The generator of numbers is Marsaglia's xorshift with a multiplied output.
 
+pub mod dead;
 pub mod faults;
 pub mod floats;
 pub mod folders;

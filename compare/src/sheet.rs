@@ -17,6 +17,7 @@ pub fn refuse<T>(number: u32, row: usize) -> Result<T, Refusal> {
 }
 
 pub const ROW_BYTES: usize = 31;
+pub const FIELD_BYTES: usize = 6;
 pub const MOST_ROWS: usize = 200;
 pub const MOST_OPERATORS: u32 = 1024;
 
@@ -116,11 +117,17 @@ pub fn input_names(bytes: &[u8]) -> Result<Vec<u32>, Refusal> {
     read_rows(bytes).map(|lines| inputs(&lines).collect())
 }
 
-fn read_rows(bytes: &[u8]) -> Result<Vec<Line>, Refusal> {
+/// Makes tests 1 to 5, after which each row is known by its fields alone.
+pub fn read_lines(bytes: &[u8]) -> Result<Vec<Line>, Refusal> {
     test_rows(bytes)?;
-    let mut lines = read_fields(bytes)?;
+    let lines = read_fields(bytes)?;
     test_ranges(&lines)?;
     test_named_rows(&lines)?;
+    Ok(lines)
+}
+
+fn read_rows(bytes: &[u8]) -> Result<Vec<Line>, Refusal> {
+    let mut lines = read_lines(bytes)?;
     test_named_once(&lines)?;
     set_places(&mut lines);
     test_iters(&lines)?;
@@ -205,7 +212,7 @@ fn fields_in_range(row: &Row) -> bool {
 }
 
 /// The fields of a row that name rows; the rest of the array is 0.
-fn named_rows(row: &Row) -> ([u32; 3], usize) {
+pub fn named_rows(row: &Row) -> ([u32; 3], usize) {
     match row.kind {
         4 => ([row.a, row.b, 0], 2),
         5 => ([row.b, 0, 0], 1),
@@ -376,6 +383,11 @@ fn test_bound_names(lines: &[Line]) -> Result<(), Refusal> {
 /// The text of a row, for making sheets.
 pub fn write_row(row: &Row) -> String {
     format!("{:6}{:6}{:6}{:6}{:6}\n", row.kind, row.a, row.b, row.c, row.d)
+}
+
+/// Rows of five fields.
+pub fn rows_of(lines: &[Line]) -> Vec<[u32; 5]> {
+    lines.iter().map(|line| [line.row.kind, line.row.a, line.row.b, line.row.c, line.row.d]).collect()
 }
 
 /// The text of a sheet from rows of five fields.

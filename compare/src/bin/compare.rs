@@ -8,6 +8,7 @@ use compare::product;
 use compare::random::turns::random_sheet;
 use compare::random::{random_err, random_float_bytes, random_set, random_value, Made, Rng};
 use compare::sheet;
+use compare::surrounded::Surrounded;
 use compare::value::{Sort, Value};
 use std::collections::BTreeMap;
 use std::{env, process};
@@ -39,34 +40,6 @@ fn main() {
     println!("no difference; compared: {}", list.join(", "));
 }
 
-/// Bytes with others on both sides, so that a call which reads or writes past its ends gives itself away.
-struct Surrounded {
-    memory: Vec<u8>,
-    length: usize,
-}
-
-const MARGIN: usize = 64;
-
-impl Surrounded {
-    fn new(middle: &[u8], rng: &mut Rng) -> Surrounded {
-        let mut margin = || (0..MARGIN).map(|_| rng.pick(b" 0123456789WTR\n\x01\x02\x03\x04")).collect::<Vec<u8>>();
-        Surrounded { memory: [&margin(), middle, &margin()].concat(), length: middle.len() }
-    }
-
-    fn middle(&self) -> &[u8] {
-        &self.memory[MARGIN..MARGIN + self.length]
-    }
-
-    fn middle_mut(&mut self) -> &mut [u8] {
-        &mut self.memory[MARGIN..MARGIN + self.length]
-    }
-
-    fn margins_equal(&self, other: &Surrounded) -> bool {
-        let margins = |one: &Surrounded| [&one.memory[..MARGIN], &one.memory[MARGIN + one.length..]].concat();
-        margins(self) == margins(other)
-    }
-}
-
 fn compare_read(made: &Made, counts: &mut Counts, rng: &mut Rng) -> Result<(), String> {
     let ours = bytes::read(&made.bytes, &made.kinds);
     let (sheet, kinds) = (Surrounded::new(&made.bytes, rng), Surrounded::new(&made.kinds, rng));
@@ -89,7 +62,7 @@ fn compare_evaluate(made: &Made, counts: &mut Counts, rng: &mut Rng) -> Result<(
     let ours = bytes::evaluate(sheet, kinds, &set, rounds, &mut our_out);
     let [lent_sheet, lent_kinds, lent_set] = [sheet, kinds, &set].map(|bytes| Surrounded::new(bytes, rng));
     let before = Surrounded::new(&held, rng);
-    let mut after = Surrounded { memory: before.memory.clone(), length: room };
+    let mut after = before.clone();
     let theirs =
         product::evaluate(lent_sheet.middle(), lent_kinds.middle(), lent_set.middle(), rounds, after.middle_mut());
     let kept = lent_sheet.middle() == sheet && lent_kinds.middle() == kinds && lent_set.middle() == set;

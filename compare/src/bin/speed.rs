@@ -1,16 +1,17 @@
-// Times the reader, the evaluator and the machine's calls here and, with the feature `product`, the product's beside them in the same run. Prints
+// Times the reader, the tidy call, the evaluator and the machine's calls here and, with the feature `product`, the product's beside them in the same run. Prints
 // the first three tables of docs/BENCHMARKS.md. The last column of the first is the product's speed over ours: 1.00 is as fast, 0.50 takes twice as long;
 // of the second, that of a tray over as many pushes; of the third, that of a log's check over the calls that its lines name.
 
 use compare::bytes::{self, OUT_BYTES, VALUE_BYTES};
 use compare::calls::{self, Calls, PLAIN};
-use compare::examples::{factorial, lesser, many_operators, negations, range};
+use compare::examples::{factorial, half_dead, lesser, many_operators, negations, range};
 use compare::log::{self, Handed};
 use compare::memory::{self, Machine};
 use compare::random::{fitting_set, Made, Rng};
 use compare::sheet::read_number;
 use compare::table::{grouped, head, row, speed};
 use compare::tally::Tally;
+use compare::tidy;
 use compare::timing::{in_turns, side_by_side, Call, BATCHES};
 use compare::value::Value;
 use std::hint::black_box;
@@ -22,6 +23,11 @@ fn main() {
         let text = format!("read: {name}, {} bytes", grouped(made.bytes.len() as f64));
         let mut ours = || bytes::read(black_box(&made.bytes), &made.kinds).refusal;
         report(&text, 1, &mut ours, &mut product_read(&made));
+    }
+    for (name, made) in [("200 rows, all kept", negations(200)), ("200 rows, half of them dead", half_dead(200))] {
+        let mut out = vec![0; tidy::room_for(made.bytes.len())];
+        let mut ours = || tidy::tidy(black_box(&made.bytes), &mut out).rows;
+        report(&format!("tidy: {name}"), 1, &mut ours, &mut product_tidy(&made));
     }
     for (name, made, set, rounds) in evaluations() {
         let mut out = [0; OUT_BYTES];
@@ -274,6 +280,17 @@ fn product_read(made: &Made) -> Option<Call<'_>> {
 
 #[cfg(not(feature = "product"))]
 fn product_read(_: &Made) -> Option<Call<'_>> {
+    None
+}
+
+#[cfg(feature = "product")]
+fn product_tidy(made: &Made) -> Option<Call<'_>> {
+    let mut out = vec![0; tidy::room_for(made.bytes.len())];
+    Some(Box::new(move || compare::product::tidy(black_box(&made.bytes), &mut out).rows))
+}
+
+#[cfg(not(feature = "product"))]
+fn product_tidy(_: &Made) -> Option<Call<'_>> {
     None
 }
 

@@ -7,7 +7,7 @@ use compare::random::{Made, Rng};
 use compare::sheet::write;
 use compare::tally::Tally;
 use compare::value::Value;
-use compare::{examples, memory, product};
+use compare::{examples, memory, product, tidy};
 use std::hint::black_box;
 use std::thread;
 
@@ -16,7 +16,7 @@ const PATTERN: u8 = 0xa5;
 const ROUNDS: u32 = 1000;
 const FIRINGS: u32 = 10_000;
 const MOST_ROWS: usize = 200;
-const CALLS: [&str; 10] = ["read", "evaluate", "start", "push", "tray", "fire", "run", "rounds", "take", "log"];
+const CALLS: [&str; 11] = ["read", "tidy", "evaluate", "start", "push", "tray", "fire", "run", "rounds", "take", "log"];
 
 type Row = [u32; 5];
 
@@ -50,6 +50,8 @@ fn measure(made: &Made, value: Value) -> [usize; CALLS.len()] {
     let mut out = [0; OUT_BYTES];
     let (mut mem, mut tally) = (vec![0; memory::need(1)], Tally::default());
     let read = below(|| product::read(sheet, kinds).refusal);
+    let mut tidied = vec![0; tidy::room_for(sheet.len())];
+    let tidy = below(|| product::tidy(sheet, &mut tidied).refusal);
     let evaluate = below(|| product::evaluate(sheet, kinds, &set, ROUNDS, &mut out).refusal);
     let start = below(|| product::start(sheet, kinds, 1, &mut mem, &mut tally).refusal);
     let mut copy = mem.clone();
@@ -64,7 +66,7 @@ fn measure(made: &Made, value: Value) -> [usize; CALLS.len()] {
     let handed = Handed { sheet, kinds, capacity: 1, sets: &set, number: 1, log: &lines };
     let mut room = vec![0; log::room_for(lines.len())];
     let log = below(|| product::check_log(&handed, &mut mem, &mut room).refusal);
-    [read, evaluate, start, push, tray, fire, run, rounds, take, log]
+    [read, tidy, evaluate, start, push, tray, fire, run, rounds, take, log]
 }
 
 /// The log of one set's way through the product's machine.

@@ -4,7 +4,7 @@
 use super::lines::{bad_line, with_other_letter};
 use super::sheets::{accepted_sheet, mixed_sheet, overfull_sheet, unkinded_sheet, Made};
 use super::Rng;
-use crate::sheet::{self, Place, Sheet, ROW_BYTES};
+use crate::sheet::{self, rows_of, Place, Sheet, ROW_BYTES};
 
 /// A sheet with its kinds line and, where it is known, the row that its refusal gives.
 pub struct Planted {
@@ -41,11 +41,7 @@ fn broken_rows(number: u32, rng: &mut Rng) -> Option<Planted> {
     let Made { bytes, kinds } = accepted_sheet(rng);
     let sheet = sheet::read(&bytes, &kinds).expect("an accepted sheet");
     let broken = match number {
-        1 => Some(known(bad_rows(bytes, rng), 0)),
-        2 => Some(known(many_rows(&bytes, rng), 0)),
-        3 => Some(bad_field(bytes, rng)),
-        4 => Some(out_of_range(&sheet, rng)),
-        5 => wrongly_named(&sheet, rng),
+        1..=5 => plant_in_rows(number, &rows_of(&sheet.lines), rng).map(|(bytes, row)| known(bytes, row)),
         6 => not_once(&sheet, rng),
         7 => misplaced_iter(&sheet, rng),
         8 => bad_width(&sheet, rng),
@@ -53,6 +49,18 @@ fn broken_rows(number: u32, rng: &mut Rng) -> Option<Planted> {
     };
     let kinds = if rng.chance(50) { kinds } else { bad_line(&kinds, rng) };
     broken.map(|Broken { bytes, row }| Planted { made: Made { bytes, kinds }, row })
+}
+
+/// The bytes of rows that pass tests 1 to 5 with a fault that gets one of these refusals, and the row that it gives; none where these rows cannot have it.
+pub fn plant_in_rows(number: u32, rows: &[[u32; 5]], rng: &mut Rng) -> Option<(Vec<u8>, u32)> {
+    let bytes = sheet::write(rows);
+    match number {
+        1 => Some((bad_rows(bytes, rng), 0)),
+        2 => Some((many_rows(&bytes, rng), 0)),
+        3 => Some(bad_field(bytes, rng)),
+        4 => Some(out_of_range(rows, rng)),
+        _ => wrongly_named(rows, rng),
+    }
 }
 
 /// 17: a line at fault, also beside rows that break the kinds and beside too many operators.
@@ -90,7 +98,7 @@ fn with_other_input(mut made: Made, rng: &mut Rng) -> Made {
 fn other_code(made: Made, rng: &mut Rng) -> Option<(Made, Option<u32>)> {
     let sheet = made.sheet();
     let number = some_row(&sheet, rng, |_, row| row[0] == 5 && matches!(row[1], 6..=9))?;
-    let row = rows_of(&sheet)[number as usize - 1];
+    let row = rows_of(&sheet.lines)[number as usize - 1];
     let code = if row[1] < 8 { rng.pick(&[8, 9]) } else { rng.pick(&[6, 7]) };
     let bytes = with_row(&sheet, number, [5, code, row[2], 0, 0]);
     Some((Made { bytes, kinds: made.kinds }, Some(number)))
@@ -100,7 +108,7 @@ fn other_code(made: Made, rng: &mut Rng) -> Option<(Made, Option<u32>)> {
 fn other_constant(made: Made, rng: &mut Rng) -> Option<Made> {
     let sheet = made.sheet();
     let number = some_row(&sheet, rng, |_, row| matches!(row[0], 2 | 10))?;
-    let row = rows_of(&sheet)[number as usize - 1];
+    let row = rows_of(&sheet.lines)[number as usize - 1];
     Some(Made { bytes: with_row(&sheet, number, [12 - row[0], row[1], 0, 0, 0]), kinds: made.kinds })
 }
 
@@ -108,7 +116,7 @@ fn other_constant(made: Made, rng: &mut Rng) -> Option<Made> {
 fn remainder(made: Made, rng: &mut Rng) -> Option<Made> {
     let sheet = made.sheet();
     let number = some_row(&sheet, rng, |_, row| row[0] == 5 && row[1] <= 4)?;
-    let row = rows_of(&sheet)[number as usize - 1];
+    let row = rows_of(&sheet.lines)[number as usize - 1];
     Some(Made { bytes: with_row(&sheet, number, [5, 5, row[2], 0, 0]), kinds: made.kinds })
 }
 
@@ -116,21 +124,25 @@ fn known(bytes: Vec<u8>, row: u32) -> Broken {
     Broken { bytes, row: Some(row) }
 }
 
-fn rows_of(sheet: &Sheet) -> Vec<[u32; 5]> {
-    sheet.lines.iter().map(|line| [line.row.kind, line.row.a, line.row.b, line.row.c, line.row.d]).collect()
-}
-
 /// The sheet with one row exchanged.
 fn with_row(sheet: &Sheet, number: u32, row: [u32; 5]) -> Vec<u8> {
-    let mut rows = rows_of(sheet);
+    exchanged(&rows_of(&sheet.lines), number, row)
+}
+
+fn exchanged(rows: &[[u32; 5]], number: u32, row: [u32; 5]) -> Vec<u8> {
+    let mut rows = rows.to_vec();
     rows[number as usize - 1] = row;
     sheet::write(&rows)
 }
 
 /// The number of a random row of which this holds.
 fn some_row(sheet: &Sheet, rng: &mut Rng, holds: impl Fn(u32, [u32; 5]) -> bool) -> Option<u32> {
-    let rows = rows_of(sheet);
-    let found: Vec<u32> = (1..=sheet.last()).filter(|&number| holds(number, rows[number as usize - 1])).collect();
+    some_of(&rows_of(&sheet.lines), rng, holds)
+}
+
+fn some_of(rows: &[[u32; 5]], rng: &mut Rng, holds: impl Fn(u32, [u32; 5]) -> bool) -> Option<u32> {
+    let found: Vec<u32> =
+        (1..).zip(rows).filter(|&(number, &row)| holds(number, row)).map(|(number, _)| number).collect();
     (!found.is_empty()).then(|| rng.pick(&found))
 }
 
@@ -155,7 +167,7 @@ fn many_rows(bytes: &[u8], rng: &mut Rng) -> Vec<u8> {
     bytes.iter().copied().cycle().take(rows * ROW_BYTES).collect()
 }
 
-fn bad_field(mut bytes: Vec<u8>, rng: &mut Rng) -> Broken {
+fn bad_field(mut bytes: Vec<u8>, rng: &mut Rng) -> (Vec<u8>, u32) {
     let row = rng.below(bytes.len() / ROW_BYTES);
     let start = row * ROW_BYTES + rng.below(5) * 6;
     let field = &mut bytes[start..start + 6];
@@ -174,12 +186,12 @@ fn bad_field(mut bytes: Vec<u8>, rng: &mut Rng) -> Broken {
         _ => b"    1A",
     };
     field.copy_from_slice(text);
-    known(bytes, row as u32 + 1)
+    (bytes, row as u32 + 1)
 }
 
-fn out_of_range(sheet: &Sheet, rng: &mut Rng) -> Broken {
-    let number = rng.between(1, sheet.last() as usize) as u32;
-    let row = rows_of(sheet)[number as usize - 1];
+fn out_of_range(rows: &[[u32; 5]], rng: &mut Rng) -> (Vec<u8>, u32) {
+    let number = rng.between(1, rows.len()) as u32;
+    let row = rows[number as usize - 1];
     let unlisted: &[usize] = match row[0] {
         1..=3 | 9 | 10 => &[2, 3, 4],
         4 | 5 => &[3, 4],
@@ -197,11 +209,11 @@ fn out_of_range(sheet: &Sheet, rng: &mut Rng) -> Broken {
         (_, 1) if !unlisted.is_empty() => changed[rng.pick(unlisted)] = rng.pick(&[1, 2, 999_999]),
         _ => changed[0] = rng.pick(&[0, 11, 12, 999_999]),
     }
-    known(with_row(sheet, number, changed), number)
+    (exchanged(rows, number, changed), number)
 }
 
 /// The places of the fields that name rows.
-fn naming_fields(kind: u32) -> &'static [usize] {
+pub fn naming_fields(kind: u32) -> &'static [usize] {
     match kind {
         4 => &[1, 2],
         5 => &[2],
@@ -212,16 +224,16 @@ fn naming_fields(kind: u32) -> &'static [usize] {
     }
 }
 
-fn wrongly_named(sheet: &Sheet, rng: &mut Rng) -> Option<Broken> {
-    let number = some_row(sheet, rng, |_, row| !naming_fields(row[0]).is_empty())?;
-    let mut row = rows_of(sheet)[number as usize - 1];
+fn wrongly_named(rows: &[[u32; 5]], rng: &mut Rng) -> Option<(Vec<u8>, u32)> {
+    let number = some_of(rows, rng, |_, row| !naming_fields(row[0]).is_empty())?;
+    let mut row = rows[number as usize - 1];
     row[rng.pick(naming_fields(row[0]))] = rng.pick(&[0, number, number + 1, 201, 999_999]);
-    Some(known(with_row(sheet, number, row), number))
+    Some((exchanged(rows, number, row), number))
 }
 
 fn not_once(sheet: &Sheet, rng: &mut Rng) -> Option<Broken> {
     let number = some_row(sheet, rng, |number, row| number > 2 && !naming_fields(row[0]).is_empty())?;
-    let mut row = rows_of(sheet)[number as usize - 1];
+    let mut row = rows_of(&sheet.lines)[number as usize - 1];
     let field = rng.pick(naming_fields(row[0]));
     let old = row[field];
     let new = rng.between(1, number as usize - 1) as u32;
@@ -231,19 +243,19 @@ fn not_once(sheet: &Sheet, rng: &mut Rng) -> Option<Broken> {
 
 fn misplaced_iter(sheet: &Sheet, rng: &mut Rng) -> Option<Broken> {
     if rng.chance(30) && sheet.last() < 200 {
-        let mut rows = rows_of(sheet);
+        let mut rows = rows_of(&sheet.lines);
         rows.push([9, sheet.last(), 0, 0, 0]);
         return Some(known(sheet::write(&rows), sheet.last() + 1));
     }
     let outside = |number, row: [u32; 5]| row[0] == 5 && sheet.line(number).place == Place::Expression;
     let number = some_row(sheet, rng, outside)?;
-    let row = rows_of(sheet)[number as usize - 1];
+    let row = rows_of(&sheet.lines)[number as usize - 1];
     Some(known(with_row(sheet, number, [9, row[2], 0, 0, 0]), number))
 }
 
 fn bad_width(sheet: &Sheet, rng: &mut Rng) -> Option<Broken> {
     let number = some_row(sheet, rng, |_, row| matches!(row[0], 5 | 6 | 8 | 9))?;
-    let row = rows_of(sheet)[number as usize - 1];
+    let row = rows_of(&sheet.lines)[number as usize - 1];
     let mut changed = row;
     match row[0] {
         5 => changed[1] = if row[1] < 10 { rng.pick(&[10, 11]) } else { rng.between(1, 9) as u32 },
@@ -263,7 +275,7 @@ fn wider_iter(sheet: &Sheet, iter: u32, rng: &mut Rng) -> Option<Broken> {
     }
     let later = |named: u32| if named >= iter { named + 2 } else { named };
     let mut rows = Vec::new();
-    for (number, mut row) in (1..).zip(rows_of(sheet)) {
+    for (number, mut row) in (1..).zip(rows_of(&sheet.lines)) {
         if number == iter {
             rows.push([2, rng.below(9) as u32, 0, 0, 0]);
             rows.push([4, row[1], iter, 0, 0]);
@@ -278,7 +290,7 @@ fn wider_iter(sheet: &Sheet, iter: u32, rng: &mut Rng) -> Option<Broken> {
 
 fn not_free(sheet: &Sheet, rng: &mut Rng) -> Option<Broken> {
     let number = some_row(sheet, rng, |_, row| matches!(row[0], 6 | 8))?;
-    let mut row = rows_of(sheet)[number as usize - 1];
+    let mut row = rows_of(&sheet.lines)[number as usize - 1];
     row[1] = rng.between(0, 32 - row[2] as usize) as u32;
     let bound = ((1u64 << row[2]) - 1) << row[1];
     let missing = bound & !sheet.line(row[4]).free != 0;

@@ -316,6 +316,9 @@ pub fn renamed_sheet(rng: &mut Rng) -> Made {
     Made { kinds: likely_line(&bytes, &made.kinds, rng), bytes }
 }
 
+/// How many rows a row of each kind names.
+pub const NAMED: [usize; 11] = [0, 0, 0, 0, 2, 1, 2, 3, 2, 1, 0];
+
 /// A random tree of rows with fields in their ranges, each row named once, and no heed of places, widths or names.
 pub fn loose_sheet(rng: &mut Rng) -> Made {
     let mut rows: Vec<[u32; 5]> = Vec::new();
@@ -328,7 +331,7 @@ pub fn loose_sheet(rng: &mut Rng) -> Made {
         } else {
             rng.pick(&[1, 1, 1, 1, 2, 3, 3, 10, 4, 4, 5, 5, 5, 6, 6, 7, 8, 8, 9])
         };
-        let needs = [0, 0, 0, 0, 2, 1, 2, 3, 2, 1, 0][kind as usize];
+        let needs = NAMED[kind as usize];
         if unnamed.len() < needs {
             if !joining {
                 rows.push([1, rng.below(3) as u32, 0, 0, 0]);
@@ -345,7 +348,8 @@ pub fn loose_sheet(rng: &mut Rng) -> Made {
     Made { kinds: likely_line(&bytes, b"", rng), bytes }
 }
 
-fn loose_row(kind: u32, named: &[u32], rng: &mut Rng) -> [u32; 5] {
+/// A row of a kind, with these rows in the fields that name some.
+pub fn loose_row(kind: u32, named: &[u32], rng: &mut Rng) -> [u32; 5] {
     let name = rng.below(3) as u32;
     match kind {
         1 => [1, name, 0, 0, 0],

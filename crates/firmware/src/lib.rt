@@ -11,9 +11,11 @@ use machine_rounds::RoundsAnswer;
 use machine_start::StartAnswer;
 use machine_tally::Tally;
 use sheet_read::read::ReadAnswer;
+use sheet_tidy::TidyAnswer;
 ghost use mathlib.Core.Path.{_≡_};
 ghost use Rattle.formula.specs.Tests.{readingOf};
 ghost use Rattle.sheet_read.specs.Reading.{answerOf};
+ghost use Rattle.sheet_tidy.specs.Tidying.{handed as tidyHanded, tidiedInto};
 ghost use Rattle.eval_sheet.specs.Handed.{handed as evaluationHanded, handedOut};
 ghost use Rattle.machine_start.specs.Start.{begun, started};
 ghost use Rattle.machine_calls.specs.Calls.{outcome, handed, pushed, fired, ran, taken};
@@ -27,6 +29,13 @@ pub extern "C" fn bench_read(sheet: &[u8], kinds: &[u8]) -> ReadAnswer
     ensures { λ r. ⌜ r ≡ answerOf (readingOf (now (sheet .entry)) (now (kinds .entry))) ⌝ }
 {
     sheet_read::read::bench_read(sheet, kinds)
+}
+
+#[no_mangle]
+pub extern "C" fn bench_tidy(sheet: &[u8], out: &mut [u8]) -> TidyAnswer
+    ensures { λ a. ⌜ tidyHanded a (now (out .exit)) ≡ tidiedInto (now (sheet .entry)) (now (out .entry)) ⌝ }
+{
+    sheet_tidy::tidy(sheet, out)
 }
 
 #[no_mangle]

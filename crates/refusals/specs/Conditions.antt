@@ -18,6 +18,7 @@ use Rattle.formula.specs.Tree.{Exp, formulaOf}
 use Rattle.formula.specs.Free.{freeE}
 use Rattle.formula.specs.Faults.{lettersOf}
 use Rattle.formula.specs.Tests.{lowest, laidOut, fewRows, fieldsWell, rangesWell, namesWell, namedOnce, allNamed, placedWell, widthsWell, boundWell, lineFits, kindsKept, operatorsOf as operatorsIn}
+use Rattle.sheet_tidied.specs.Tidy.{tidyNeed}
 use Rattle.meaning.specs.Meaning.{Outcome, yields, inputsHold, evalE}
 use Rattle.value_sets.specs.Sets.{setValues, setOk}
 use Rattle.machine_layout.specs.Layout.{sizeOf, need, capacityIn, operatorsOf, inputsOf, resultsOf, untakenOf, storedKinds}
@@ -132,22 +133,36 @@ abbrev pub failed : Check → Bool
 failed Passed = false
 failed (Fault row) = true
 
--- 1 to 9, 17, 18 and 10, each "tested over the whole sheet before the next"
-abbrev pub sheetTable : List ℕ → List ℕ → List Row
-sheetTable s line =
+-- 1 to 5, each "tested over the whole sheet before the next"
+abbrev pub rowTable : List ℕ → List Row
+rowTable s =
     (not (laidOut s (linesOf s)), Layout)
     ∷ (not (fewRows s), Rows)
     ∷ (failed (lowest (rowCount s) (fieldsWell (linesOf s))), Malformed)
     ∷ (failed (lowest (rowCount s) (rangesWell (fieldsOf s))), Range)
     ∷ (failed (lowest (rowCount s) (namesWell (fieldsOf s))), Naming)
-    ∷ (failed (lowest (rowCount s - 1) (λ r. namedOnce (allNamed (fieldsOf s) (rowCount s)) r)), Named)
+    ∷ []
+
+-- 1 to 9, 17, 18 and 10
+abbrev pub sheetTable : List ℕ → List ℕ → List Row
+sheetTable s line =
+    rowTable s
+    ++ ((failed (lowest (rowCount s - 1) (λ r. namedOnce (allNamed (fieldsOf s) (rowCount s)) r)), Named)
     ∷ (failed (lowest (rowCount s) (placedWell (fieldsOf s) (placesOf (fieldsOf s) (rowCount s)))), StrayIter)
     ∷ (failed (lowest (rowCount s) (widthsWell (fieldsOf s) (placesOf (fieldsOf s) (rowCount s)))), Width)
     ∷ (failed (lowest (rowCount s) (boundWell (fieldsOf s) (placesOf (fieldsOf s) (rowCount s)))), Unused)
     ∷ (not (lineFits (fieldsOf s) (rowCount s) line), KindsLine)
     ∷ (failed (kindsKept (fieldsOf s) (rowCount s) line), KindsBroken)
     ∷ (not (leb (operatorsIn (fieldsOf s) (rowCount s)) 1024), Operators)
-    ∷ []
+    ∷ [])
+
+-- 11 for a tidied sheet, by the length of the sheet
+abbrev pub no-room-to-tidy : List ℕ → List ℕ → Bool
+no-room-to-tidy s out = ltb (length out) (tidyNeed s)
+
+-- "Tests 1 to 5 are made by the tidy call itself", behind 11
+abbrev pub tidyTable : List ℕ → List ℕ → List Row
+tidyTable s out = (no-room-to-tidy s out, Memory) ∷ rowTable s
 
 -- 11 by the capacity asked
 abbrev pub short-asked : ℕ → List ℕ → Bool
@@ -229,6 +244,9 @@ logTable sheet line capacity sets number log m out =
 
 abbrev pub sheetNumbers : List ℕ
 sheetNumbers = 1 ∷ 2 ∷ 3 ∷ 4 ∷ 5 ∷ 6 ∷ 7 ∷ 8 ∷ 9 ∷ 17 ∷ 18 ∷ 10 ∷ []
+
+abbrev pub tidyNumbers : List ℕ
+tidyNumbers = 11 ∷ 1 ∷ 2 ∷ 3 ∷ 4 ∷ 5 ∷ []
 
 abbrev pub pushNumbers : List ℕ
 pushNumbers = 11 ∷ 31 ∷ 12 ∷ 32 ∷ 33 ∷ []

@@ -147,7 +147,7 @@ numberIn passed = 0
 numberIn (Refused r row) = numberOf r
 
 -- The table of a list of tests: the number of their verdict is its first refusal.
-abbrev tableBy : List Test → Sheet → List Row
+abbrev pub tableBy : List Test → Sheet → List Row
 tableBy [] x = []
 tableBy (t ∷ ts) x = (failed (t .check x), t .refusal) ∷ tableBy ts x
 
@@ -157,7 +157,7 @@ unfolding afterCheck first-refusal
 check-order r Passed v cs h = h
 check-order r (Fault row) v cs h = refl
 
-first-by : (ts : List Test) (x : Sheet) → numberIn (verdictBy ts x) ≡ first-refusal (tableBy ts x)
+pub first-by : (ts : List Test) (x : Sheet) → numberIn (verdictBy ts x) ≡ first-refusal (tableBy ts x)
 unfolding verdictBy first-refusal
 first-by [] x = refl
 first-by (t ∷ ts) x = check-order (t .refusal) (t .check x) (verdictBy ts x) (tableBy ts x) (first-by ts x)

@@ -9,5 +9,6 @@ pub mod Rows
 pub mod LogRows
 pub mod Kept
 pub mod LogKept
+pub mod TidyRefused
 pub mod Refused
 pub mod FiredLinks

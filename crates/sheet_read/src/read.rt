@@ -56,7 +56,7 @@ pub enum Tested {
 }
 
 // Tests 1 to 5, which fill the table of fields.
-fn row_tests(s: &[u8], fields: &mut [u32]) -> Verdict
+pub fn row_tests(s: &[u8], fields: &mut [u32]) -> Verdict
     requires { ⌜ (rowCount (now s) ≤ 200 → 5 * rowCount (now s) ≤ length (now fields)) ⌝ }
     ensures { λ v. ⌜ (v ≡ rowVerdict (now (s .entry))) × (v ≡ passed → take (5 * rowCount (now (s .entry))) (now (fields .exit)) ≡ fieldsOf (now (s .entry))) ⌝ }
 {

@@ -15,12 +15,12 @@ ghost use Rattle.formula.specs.Tests.{lowest, namesWell, allBetween, isIter, pl
 ghost use Rattle.formula.specs.declared.Check.the-variants.{Passed};
 ghost use Rattle.sheet_rows.specs.Bodies.{listed};
 
-// Row r is in a body place.
-fn mark_one(places: &mut [bool], r: usize)
-    requires { ⌜ (1 ≤ r) × (r ≤ length (now places)) ⌝ }
-    ensures { λ _. ⌜ now (places .exit) ≡ mark (r ∷ []) (now (places .entry)) ⌝ }
+// Row r has its mark, here that of a body place.
+pub fn mark_one(marks: &mut [bool], r: usize)
+    requires { ⌜ (1 ≤ r) × (r ≤ length (now marks)) ⌝ }
+    ensures { λ _. ⌜ now (marks .exit) ≡ mark (r ∷ []) (now (marks .entry)) ⌝ }
 {
-    places[r - 1] = true;
+    marks[r - 1] = true;
 }
 
 // The rows that a row names in body places.

@@ -1,0 +1,4 @@
+pub mod Rows
+pub mod Tidying
+pub mod Twice
+pub mod Outcomes
