@@ -1,0 +1,4 @@
+pub mod Sorts
+pub mod Moves
+pub mod Within
+pub mod Near
