@@ -1,5 +1,6 @@
 // The lowest row at fault (20), gone through as the tree of the formula has it, since the kinds of a row's identifiers come from the rows that name
-// it. A pair or a let has a value that is not of kind W only where a row below it has, and that row is lower: they are not at fault themselves.
+// it. A pair, a let or an operator of one of the sorts has a value that is not of kind W only where a row below it has, and that row is lower: the
+// values of identifiers and constants alone are looked at.
 use crate::constants::WHOLE_ROW;
 use crate::constants::code_sort;
 use eval_words::words::wide;

@@ -12,23 +12,23 @@ use Rattle.formula.specs.Kinds.{bindKinds, kindsE}
 use Rattle.sheet_kinds.specs.Bytes.{kindsIn}
 use Rattle.sheet_kinds.specs.KindWidths.{counted}
 
--- src/walk.rt:73:21  { ⏎ let mut inner = copied(env);
+-- src/walk.rt:74:21  { ⏎ let mut inner = copied(env);
 copied-requires : tie.Need-copied-requires
 copied-requires c κs = search needs
 
--- src/walk.rt:74:34  let mut inner = copied(env); ⏎ exp_kinds(t, widths, c, env, &mut inner, wide(a));
+-- src/walk.rt:75:34  let mut inner = copied(env); ⏎ exp_kinds(t, widths, c, env, &mut inner, wide(a));
 slice-aggregate-exp-kinds : tie.Need-slice-aggregate-exp-kinds
 slice-aggregate-exp-kinds c = search needs
 
--- src/walk.rt:74:46  let mut inner = copied(env); ⏎ exp_kinds(t, widths, c, env, &mut inner, wide(a));
+-- src/walk.rt:75:46  let mut inner = copied(env); ⏎ exp_kinds(t, widths, c, env, &mut inner, wide(a));
 wide-requires : tie.Need-wide-requires
 wide-requires c κs = search needs
 
--- src/walk.rt:74:5  let mut inner = copied(env); ⏎ exp_kinds(t, widths, c, env, &mut inner, wide(a));
+-- src/walk.rt:75:5  let mut inner = copied(env); ⏎ exp_kinds(t, widths, c, env, &mut inner, wide(a));
 exp-kinds-requires : tie.Need-exp-kinds-requires
 exp-kinds-requires c κs = search needs
 
--- src/walk.rt:69:1  // The kinds of the identifiers in row d of a let or a for: those from a on have the kinds of row c's values. ⏎ fn bound(t: &[u32], widths: &[u8], a: u32, c: usize, env: &[u8; 32]) -> [u8; 32]
+-- src/walk.rt:70:1  // The kinds of the identifiers in row d of a let or a for: those from a on have the kinds of row c's values. ⏎ fn bound(t: &[u32], widths: &[u8], a: u32, c: usize, env: &[u8; 32]) -> [u8; 32]
 returns : tie.Need-returns
 returns c =
     c .before .exp-kinds .ensures .0 .0

@@ -15,19 +15,19 @@ use Rattle.sheet_kinds.specs.Line.{Tells, tells-inputs}
 use Rattle.sheet_movement.specs.Sorts.{sortsKept}
 use Rattle.sheet_sorts.specs.Walk.{lowestAt}
 
--- src/walk.rt:84:16  let mut env = [0; 32]; ⏎ tell_kinds(&mut env, free, line);
+-- src/walk.rt:85:16  let mut env = [0; 32]; ⏎ tell_kinds(&mut env, free, line);
 slice-aggregate-tell-kinds : tie.Need-slice-aggregate-tell-kinds
 slice-aggregate-tell-kinds c = search needs
 
--- src/walk.rt:84:5  let mut env = [0; 32]; ⏎ tell_kinds(&mut env, free, line);
+-- src/walk.rt:85:5  let mut env = [0; 32]; ⏎ tell_kinds(&mut env, free, line);
 tell-kinds-requires : tie.Need-tell-kinds-requires
 tell-kinds-requires c κs = search needs
 
--- src/walk.rt:85:5  tell_kinds(&mut env, free, line); ⏎ other_sort(t, widths, n, &env)
+-- src/walk.rt:86:5  tell_kinds(&mut env, free, line); ⏎ other_sort(t, widths, n, &env)
 other-sort-requires : tie.Need-other-sort-requires
 other-sort-requires c κs = ((false, c .before .before .before .before .before .before .before .pre .0), c .before .before .tell-kinds .ensures .long)
 
--- src/walk.rt:79:1  // Row n as the formula, whose free names are the mask `free`: the lowest row at fault under the kinds that a line tells its inputs. ⏎ pub fn test_sorts(t: &[u32], widths: &[u8], n: usize, free: u64, line: &[u8]) -> Check
+-- src/walk.rt:80:1  // Row n as the formula, whose free names are the mask `free`: the lowest row at fault under the kinds that a line tells its inputs. ⏎ pub fn test_sorts(t: &[u32], widths: &[u8], n: usize, free: u64, line: &[u8]) -> Check
 returns : tie.Need-returns
 unfolding sortsKept kindCheck
 returns c =
