@@ -7,6 +7,7 @@ use native.Mathlib.Nat.{div-add-mod, mod-lt, mul-div-le, div-lt-iff-lt-mul, div-
 use lib.Dec.{T, ltb, ltb→lt, nltb→le}
 use lib.IntN.{ℤ, pos, negsuc, negℤ, subℕ, _+ℤ_, _*ℤ_}
 use lib.Signed.{quotZ}
+use Rattle.sheet_movement.specs.Moves.{over}
 
 -- The two sides of an integer: it is `up` less `down`, and one of them is 0.
 abbrev pub up : ℤ → ℕ
@@ -59,10 +60,6 @@ within-negate d x u p =
       above = omega (arith, neg-up x, neg-down x, neg-up u, neg-down u, p .below);
       below = omega (arith, neg-up x, neg-down x, neg-up u, neg-down u, p .above);
     }
-
--- "a divide by c gives the movement over c, rounded up"
-abbrev pub over : ℕ → ℕ → ℕ
-over d c = (d + (c - 1)) / c
 
 -- d is at most c times that
 over-enough : (d c : ℕ) → 0 < c → d ≤ c * over d c
