@@ -2,3 +2,4 @@ pub mod Sorts
 pub mod Drifts
 pub mod Moves
 pub mod Within
+pub mod Near
