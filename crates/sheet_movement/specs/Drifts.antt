@@ -1,11 +1,13 @@
 -- The formulas of document 02, Job 13 as trees: what a sheet that passes 20 has, row by row down from the formula. Rests on test 5.
 use Prim.Native.Nat.{ℕ, zero, suc, _≤_, _<_}
-use mathlib.Core.Path.{_≡_, refl, sym, subst, _∙_}
-use mathlib.Core.Bool.{Bool, true, false, false≢true}
+use mathlib.Core.Path.{_≡_, refl, sym, ap, subst, _∙_}
+use mathlib.Core.Bool.{Bool, true, false, false≢true, not, _||_}
 use mathlib.Core.List.{List, [], _∷_, _++_}
+use lib.Dec.{eqb}
 use borrow.Author.Tests.{eqb-true}
 use native.Mathlib.Omega.{arith}
 use Rattle.value.specs.declared.ValueKind.the-variants.{Whole as whole-kind}
+use Rattle.value.specs.Operators.{pick}
 use Rattle.value.specs.Kinds.{allOf}
 use Rattle.formula.specs.declared.Shape.{Shape}
 use Rattle.formula.specs.declared.Shape.the-variants.{Identifier, Constant, Pair, Operator, Let, If, For, Iter}
@@ -19,7 +21,7 @@ use Rattle.formula.specs.Kinds.{Kinds, kindsE}
 use Rattle.formula.specs.Faults.{faultsBelow, ownFault, inputKinds, kindCheck}
 use Rattle.formula.specs.FaultLaws.{faultsAt, faults-as}
 use Rattle.formula.specs.FaultRows.{none-lowest}
-use Rattle.sheet_movement.specs.Sorts.{codeSort, sortE, drifting, sortsKept}
+use Rattle.sheet_movement.specs.Sorts.{isWhole, amount, namesWhole, dividesByWhole, codeSort, sortE, drifting, sortsKept}
 
 -- "identifiers, whole constants, pairs, lets, add, subtract, negate, multiply .., and divide ..", at every node.
 abbrev pub Drifts : Exp → Type 0
@@ -30,6 +32,77 @@ Drifts (operator code x) = (codeSort code x ≡ true) × Drifts x
 Drifts (letE a b x y) = Drifts x × Drifts y
 Drifts (ifE t x y) = ⊥
 Drifts (forE a b x y) = ⊥
+
+-- ---- the operators
+
+-- "add, subtract, negate, multiply whose operand row is a pair that names a whole constant, and divide whose operand row is a pair with b naming one
+-- that is not 0", by code and operand row. Of two constants the first counts.
+pub data Operated : ℕ → Exp → Type 0 where
+  add : (x : Exp) → Operated 1 x
+  subtract : (x : Exp) → Operated 2 x
+  negate : (x : Exp) → Operated 11 x
+  multiply-first : (a : ℕ) (y : Exp) → Operated 3 (pair (constant 2 a) y)
+  multiply-second : (x : Exp) (a : ℕ) → isWhole x ≡ false → Operated 3 (pair x (constant 2 a))
+  divide : (x : Exp) (a : ℕ) → 0 < a → Operated 4 (pair x (constant 2 a))
+
+whole-is : (x : Exp) → isWhole x ≡ true → x ≡ constant 2 (amount x)
+unfolding isWhole amount
+whole-is (identifier a) h = absurd (false≢true h)
+whole-is (constant k a) h = ap (λ (j : ℕ). constant j a) (eqb-true k 2 h)
+whole-is (pair x y) h = absurd (false≢true h)
+whole-is (operator k x) h = absurd (false≢true h)
+whole-is (letE a b x y) h = absurd (false≢true h)
+whole-is (ifE t x y) h = absurd (false≢true h)
+whole-is (forE a b x y) h = absurd (false≢true h)
+
+multiplies : (x : Exp) → namesWhole x ≡ true → Operated 3 x
+unfolding namesWhole
+multiplies (identifier a) h = absurd (false≢true h)
+multiplies (constant k a) h = absurd (false≢true h)
+multiplies (pair x y) h = go (isWhole x) refl h
+  where
+    go : (b : Bool) → isWhole x ≡ b → b || isWhole y ≡ true → Operated 3 (pair x y)
+    go true e h = subst (λ (z : Exp). Operated 3 (pair z y)) (sym (whole-is x e)) (multiply-first (amount x) y)
+    go false e h = subst (λ (z : Exp). Operated 3 (pair x z)) (sym (whole-is y h)) (multiply-second x (amount y) e)
+multiplies (operator k x) h = absurd (false≢true h)
+multiplies (letE a b x y) h = absurd (false≢true h)
+multiplies (ifE t x y) h = absurd (false≢true h)
+multiplies (forE a b x y) h = absurd (false≢true h)
+
+not-0 : (a : ℕ) → not (eqb a 0) ≡ true → 0 < a
+not-0 zero h = absurd (false≢true h)
+not-0 (suc a) h = omega arith
+
+divides : (x : Exp) → dividesByWhole x ≡ true → Operated 4 x
+unfolding dividesByWhole
+divides (identifier a) h = absurd (false≢true h)
+divides (constant k a) h = absurd (false≢true h)
+divides (pair x y) h =
+    let p = and-true (isWhole y) (not (eqb (amount y) 0)) h in
+    subst (λ (z : Exp). Operated 4 (pair x z)) (sym (whole-is y (p .0))) (divide x (amount y) (not-0 (amount y) (p .1)))
+divides (operator k x) h = absurd (false≢true h)
+divides (letE a b x y) h = absurd (false≢true h)
+divides (ifE t x y) h = absurd (false≢true h)
+divides (forE a b x y) h = absurd (false≢true h)
+
+pub operated : (code : ℕ) (x : Exp) → codeSort code x ≡ true → Operated code x
+unfolding codeSort
+operated code x =
+    either 1 true _ (λ h. add x)
+    (either 2 true _ (λ h. subtract x)
+    (either 11 true _ (λ h. negate x)
+    (either 3 (namesWhole x) _ (multiplies x)
+    (either 4 (dividesByWhole x) _ (divides x)
+    (λ h. absurd (false≢true h))))))
+  where
+    either : (c : ℕ) (p q : Bool) → (p ≡ true → Operated c x) → (q ≡ true → Operated code x) → pick (eqb code c) p q ≡ true → Operated code x
+    either c p q f g h = go (eqb code c) refl h
+      where
+        go : (b : Bool) → eqb code c ≡ b → pick b p q ≡ true → Operated code x
+        go true e h = subst (λ (k : ℕ). Operated k x) (sym (eqb-true code c e)) (f h)
+        go false e h = g h
+
+-- ---- from the rows
 
 none-either : (l m : List ℕ) → l ++ m ≡ [] → (l ≡ []) × (m ≡ [])
 none-either [] m h = (refl, h)

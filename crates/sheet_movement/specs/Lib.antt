@@ -3,3 +3,4 @@ pub mod Drifts
 pub mod Moves
 pub mod Within
 pub mod Near
+pub mod Sound
