@@ -4,3 +4,4 @@ pub mod Moves
 pub mod Within
 pub mod Near
 pub mod Sound
+pub mod Numbers

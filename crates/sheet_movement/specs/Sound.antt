@@ -1,8 +1,8 @@
 -- Document 02, Job 13: "Then each result that is err in neither set moves no further than its number." Of a tree of the sorts of Drifts, evaluated
 -- in two environments that are near identifier by identifier. Whether the numbers fit (21) is of no consequence here. Rests on test 8: without the
 -- width 1 of the row beside a constant nothing says in which place of the operands the constant stands.
-use Prim.Native.Nat.{ℕ, zero, suc, _+_, _-_, _*_}
-use mathlib.Core.Path.{_≡_, refl, sym, ap, subst, _∙_}
+use Prim.Native.Nat.{ℕ, zero, suc, _-_}
+use mathlib.Core.Path.{_≡_, refl, ap, subst, _∙_}
 use mathlib.Core.Bool.{Bool, true, false, cond}
 use mathlib.Core.List.{List, [], _∷_, _++_}
 use lib.IntN.{pos}
@@ -11,17 +11,16 @@ use native.Mathlib.Omega.{arith}
 use Rattle.value.specs.declared.Reason.the-variants.{Other}
 use Rattle.value.specs.declared.Value.{Value}
 use Rattle.value.specs.declared.Value.the-variants.{Whole}
-use Rattle.value.specs.Operators.{apply, pick, operands}
+use Rattle.value.specs.Operators.{apply, operands}
 use Rattle.value.specs.Senses.{err}
 use Rattle.names.specs.Names.{range}
 use Rattle.formula.specs.Tree.{Exp, identifier, constant, pair, operator, letE, ifE, forE}
-use Rattle.formula.specs.Widths.{width, wideE}
+use Rattle.formula.specs.Widths.{width}
 use Rattle.meaning.specs.Meaning.{Env, bind, Outcome, yields, then, evalE}
 use Rattle.meaning.specs.Loopless.{Loopless}
 use Rattle.meaning.specs.WidthLaws.{SoundE, Sized, sized, operator-fits}
-use Rattle.sheet_movement.specs.Sorts.{isWhole, amount}
 use Rattle.sheet_movement.specs.Drifts.{Drifts, Operated, add, subtract, negate, multiply-first, multiply-second, divide, operated}
-use Rattle.sheet_movement.specs.Moves.{Moves, bindMoves, over, moved, movesE}
+use Rattle.sheet_movement.specs.Moves.{Moves, bindMoves, moved, movesE}
 use Rattle.sheet_movement.specs.Near.{Near, left, near-constant, near-add, near-subtract, near-negate, near-multiply-first, near-multiply-second, near-divide}
 
 -- No loop: evaluation ends and uses no round (meaning's specs/Loopless).
