@@ -21,6 +21,7 @@ use Rattle.meaning.specs.Loopless.{Loopless}
 use Rattle.meaning.specs.WidthLaws.{SoundE, Sized, sized, operator-fits}
 use Rattle.sheet_movement.specs.Drifts.{Drifts, Operated, add, subtract, negate, multiply-first, multiply-second, divide, operated}
 use Rattle.sheet_movement.specs.Moves.{Moves, bindMoves, moved, movesE}
+use Rattle.sheet_movement.specs.Outcomes.{Each, Any, any, then-each}
 use Rattle.sheet_movement.specs.Near.{Near, left, near-constant, near-add, near-subtract, near-negate, near-multiply-first, near-multiply-second, near-divide}
 
 -- No loop: evaluation ends and uses no round (meaning's specs/Loopless).
@@ -65,17 +66,6 @@ BothNear ds (yields vs l) (yields ws m) = AllNear ds vs ws
 BothNear ds (yields vs l) Outcome.unfinished = Unit {0}
 BothNear ds Outcome.unfinished o = Unit {0}
 
--- Where it ends, the values are such.
-abbrev Each : (List Value → Type 0) → Outcome → Type 0
-Each P (yields vs l) = P vs
-Each P Outcome.unfinished = Unit {0}
-
-then-each : (P Q : List Value → Type 0) (o : Outcome) (f : List Value → ℕ → Outcome) → Each P o → ((vs : List Value) (l : ℕ) → P vs → Each Q (f vs l))
-    → Each Q (then o f)
-unfolding then
-then-each P Q (yields vs l) f h k = k vs l h
-then-each P Q Outcome.unfinished f h k = tt
-
 then-near : (ds es : List ℕ) (P : List Value → Type 0) (o p : Outcome) (f g : List Value → ℕ → Outcome) → BothNear ds o p → Each P o → Each P p
     → ((vs ws : List Value) (l m : ℕ) → AllNear ds vs ws → P vs → P ws → BothNear es (f vs l) (g ws m)) → BothNear es (then o f) (then p g)
 unfolding then
@@ -86,13 +76,6 @@ then-near ds es P (yields vs l) Outcome.unfinished f g n h i k = nothing (f vs l
     nothing (yields us j) = tt
     nothing Outcome.unfinished = tt
 then-near ds es P Outcome.unfinished p f g n h i k = tt
-
-abbrev Any : List Value → Type 0
-Any vs = Unit {0}
-
-any : (o : Outcome) → Each Any o
-any (yields vs l) = tt
-any Outcome.unfinished = tt
 
 follow-near : (ds es : List ℕ) (o p : Outcome) (f g : List Value → ℕ → Outcome) → BothNear ds o p
     → ((vs ws : List Value) (l m : ℕ) → AllNear ds vs ws → BothNear es (f vs l) (g ws m)) → BothNear es (then o f) (then p g)
