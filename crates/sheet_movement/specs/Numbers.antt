@@ -1,17 +1,19 @@
 -- Numbers as bytes (Moves: four bytes each, lowest first): what is written is read back, and the numbers of a row that passes 21 are in range.
 -- Assumes nothing.
 use Prim.Native.Nat.{ℕ, zero, suc, _+_, _*_, _/_, _%_, _≤_, _<_}
-use mathlib.Core.Path.{_≡_, refl, ap, _∙_}
+use mathlib.Core.Path.{_≡_, refl, ap, ap₂, _∙_}
 use mathlib.Core.Bool.{true, _&&_}
 use mathlib.Core.List.{List, [], _∷_, _++_}
 use lib.Dec.{leb}
-use lib.ListN.{length, getD, drop}
+use lib.ListN.{length, getD, drop, length-append}
 use lib.Seq.{sets, sets-eq}
 use borrow.Author.Tests.{leb-true}
 use native.Mathlib.Omega.{arith}
 use native.Mathlib.Nat.{div-add-mod', div-div-eq-div-mul, suc-add}
 use Rattle.formula.specs.Tree.{Exp, identifier, constant, pair, operator, letE, ifE, forE}
 use Rattle.formula.specs.TreeLaws.{and-true}
+use Rattle.formula.specs.Widths.{width}
+use Rattle.sheet_movement.specs.Drifts.{Drifts}
 use Rattle.sheet_movement.specs.Moves.{Moves, bindMoves, movesE, allWithin, fitsE, numberAt, numberBytes}
 
 pub length-number-bytes : (ds : List ℕ) → length (numberBytes ds) ≡ 4 * length ds
@@ -46,6 +48,18 @@ pub number-read : (ds out : List ℕ) → allWithin ds ≡ true → 4 * length d
 number-read ds out w room i l =
     ap (λ (s : List ℕ). numberAt s (4 * i)) (sets-eq (numberBytes ds) out 0 (omega (arith, room, length-number-bytes ds)))
     ∙ number-in ds (drop (0 + length (numberBytes ds)) out) w i l
+
+-- A number a value.
+pub moves-width : (x : Exp) → Drifts x → (moves : Moves) → length (movesE x moves) ≡ width x
+unfolding movesE width
+moves-width (identifier a) h moves = refl
+moves-width (constant k a) h moves = refl
+moves-width (pair x y) h moves =
+    length-append (movesE x moves) (movesE y moves) ∙ ap₂ (λ (a b : ℕ). a + b) (moves-width x (h .0) moves) (moves-width y (h .1) moves)
+moves-width (operator code x) h moves = refl
+moves-width (letE a b x y) h moves = moves-width y (h .1) (bindMoves a b (movesE x moves) moves)
+moves-width (ifE t x y) h moves = absurd h
+moves-width (forE a b x y) h moves = absurd h
 
 -- 21: where no number of a row and those below it passes the greatest, the row's own do not.
 pub fits-within : (x : Exp) (moves : Moves) → fitsE x moves ≡ true → allWithin (movesE x moves) ≡ true
