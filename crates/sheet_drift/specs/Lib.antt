@@ -1,1 +1,2 @@
 pub mod Drifting
+pub mod Numbers
