@@ -1,2 +1,6 @@
 pub mod Drifting
+pub mod Stores
 pub mod Numbers
+pub mod Drifts
+pub mod Moved
+pub mod Walk

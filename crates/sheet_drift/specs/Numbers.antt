@@ -17,6 +17,7 @@ use Rattle.formula.specs.TreeLaws.{and-true}
 use Rattle.formula.specs.Free.{freeE, inputsOf}
 use Rattle.eval_words.specs.Inputs.{setIn, inputs-below}
 use Rattle.sheet_movement.specs.Moves.{Moves, allWithin, numberAt, numbersFrom, tolerancesWell, inputMoves, numberBytes}
+use Rattle.sheet_drift.specs.Stores.{sets-append}
 
 -- The numbers that an array holds, as those of identifiers.
 unfoldable pub movesIn : List ℕ → Moves
@@ -150,14 +151,6 @@ unfolding numberBytes
 bytes-append [] es = refl
 bytes-append (d ∷ ds) es =
     ap (λ (l : List ℕ). d % 256 ∷ d / 256 % 256 ∷ d / 65536 % 256 ∷ d / 16777216 % 256 ∷ l) (bytes-append ds es)
-
-sets-append : (l : List ℕ) (at : ℕ) (vs ws : List ℕ) → sets l at (vs ++ ws) ≡ sets (sets l at vs) (at + length vs) ws
-sets-append l at [] ws =
-    let z : at ≡ at + 0 = omega arith in
-    ap (λ (i : ℕ). sets l i ws) z
-sets-append l at (v ∷ vs) ws =
-    let e : suc at + length vs ≡ at + suc (length vs) = omega arith in
-    sets-append (set l at v) (suc at) vs ws ∙ ap (λ (i : ℕ). sets (sets (set l at v) (suc at) vs) i ws) e
 
 -- One number.
 pub number-put : (l : List ℕ) (at d : ℕ)

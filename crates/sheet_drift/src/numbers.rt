@@ -12,7 +12,7 @@ ghost use Rattle.sheet_drift.specs.Numbers.{InOrder};
 pub const NUMBER_BYTES: usize = 4;
 
 // The greatest number.
-pub const MOST: u32 = 2147483647;
+pub const MOST: u64 = 2147483647;
 
 // The number of identifiers.
 const IDENTIFIERS: usize = 32;
@@ -53,7 +53,7 @@ pub fn tolerances_well(s: &[u8], inputs: usize) -> bool
     }
     let mut i = 0;
     while i < inputs {
-        if MOST < number_at(s, i) {
+        if MOST < number_at(s, i) as u64 {
             return false;
         }
         i += 1;

@@ -1,6 +1,6 @@
 -- The tests, as paths name them:
 --   tie if1  { ⏎ if s.len() != NUMBER_BYTES * inputs {
---   tie if2  while i < inputs { ⏎ if MOST < number_at(s, i) {
+--   tie if2  while i < inputs { ⏎ if MOST < number_at(s, i) as u64 {
 use native.Mathlib.Omega.{arith}
 use borrow.Author.Needs.{needs}
 use Rattle.sheet_drift.proofs.numbers.tolerances_well.Statement.{statement}
@@ -35,11 +35,15 @@ returns c = sym (other-count (c .before .before .args .inputs) (c .before .befor
 loop-holds : tie.Need-loop-holds Inv-loop μ-loop
 loop-holds c = (omega arith, well-start (c .before .before .args .inputs) (c .before .before .args .s .now) (c .if1 .left))
 
--- src/numbers.rt:56:19  while i < inputs { ⏎ if MOST < number_at(s, i) {
+-- src/numbers.rt:56:19  while i < inputs { ⏎ if MOST < number_at(s, i) as u64 {
 number-at-requires : tie.Need-number-at-requires Inv-loop μ-loop
 number-at-requires c κs = search needs
 
--- src/numbers.rt:57:13  if MOST < number_at(s, i) { ⏎ return false;
+-- src/numbers.rt:56:19  while i < inputs { ⏎ if MOST < number_at(s, i) as u64 {
+cast-if2 : tie.Need-cast-if2 Inv-loop μ-loop
+cast-if2 c = search needs
+
+-- src/numbers.rt:57:13  if MOST < number_at(s, i) as u64 { ⏎ return false;
 returns-2 : tie.Need-returns-2 Inv-loop μ-loop
 returns-2 c =
     let e : leb (numberAt (c .before .before .before .before .before .before .args .s .now) (4 * c .before .before .before .loop .i)) 2147483647 ≡ false = lt-leb (numberAt (c .before .before .before .before .before .before .args .s .now) (4 * c .before .before .before .loop .i)) 2147483647 (omega (arith, c .if2 .taken, c .before .number-at .ensures)) in
@@ -73,6 +77,7 @@ tolerances-well-spec =
     returns
     loop-holds
     number-at-requires
+    cast-if2
     returns-2
     add-i
     loop-less
