@@ -2,7 +2,6 @@
 // numbers are written to lent arrays, so that those of a let's row c are written where they are used. A row that names an identifier may be numbered
 // below the row that it is bound to, so the rows are gone through as the tree of the formula has them.
 use crate::numbers::MOST;
-use eval_words::words::wide;
 use formula::Shape;
 use sheet_fields::shape::shape_at;
 use sheet_fields::shape::width_at;
@@ -113,7 +112,7 @@ pub fn row_moves(
         }
         Shape::Let(a, _, c, d) => {
             let mut inner = *env;
-            if !row_moves(t, widths, c, env, &mut inner, wide(a)) {
+            if !row_moves(t, widths, c, env, &mut inner, a as usize) {
                 return false;
             }
             row_moves(t, widths, d, &inner, out, at)
