@@ -1,1 +1,3 @@
 pub mod Others
+pub mod LowerRows
+pub mod Told

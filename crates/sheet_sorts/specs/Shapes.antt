@@ -10,7 +10,7 @@ use Rattle.value.specs.Operators.{pick}
 use Rattle.formula.specs.declared.Shape.{Shape}
 use Rattle.formula.specs.declared.Shape.the-variants.{Identifier, Constant, Pair, Operator, Let, If, For, Iter}
 use Rattle.formula.specs.Sheet.{shapeAt, namedIn}
-use Rattle.formula.specs.Tree.{Exp, expNode, expOf, bodyOf}
+use Rattle.formula.specs.Tree.{expNode, expOf, bodyOf}
 use Rattle.formula.specs.TreeLaws.{AllBetween, exp-as}
 use Rattle.meaning.specs.Rows.{ExpRow, ExpChildren, exp-children}
 use Rattle.sheet_movement.specs.Sorts.{isWhole, amount, namesWhole, dividesByWhole, codeSort}

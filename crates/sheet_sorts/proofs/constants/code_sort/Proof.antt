@@ -5,7 +5,7 @@ use Rattle.sheet_sorts.proofs.constants.code_sort.Reads as reads
 use Rattle.sheet_sorts.proofs.constants.code_sort.Lts as lts
 use Rattle.sheet_sorts.proofs.constants.divides_by_whole.Reads as divides-by-whole-reads
 use Rattle.sheet_sorts.proofs.constants.names_whole.Reads as names-whole-reads
-use mathlib.Core.Path.{refl, sym}
+use mathlib.Core.Path.{refl}
 use borrow.Author.Tests.{ne-eqb}
 
 -- src/constants.rt:82:21  NEGATE => true, ⏎ MULTIPLY => names_whole(t, r),

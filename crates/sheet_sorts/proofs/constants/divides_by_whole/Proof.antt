@@ -8,13 +8,13 @@ use Rattle.sheet_sorts.proofs.constants.divides_by_whole.Lts as lts
 use Rattle.sheet_fields.proofs.shape.shape_at.Reads as shape-at-reads
 use Rattle.sheet_sorts.proofs.constants.amount.Reads as amount-reads
 use Rattle.sheet_sorts.proofs.constants.is_whole.Reads as is-whole-reads
-use mathlib.Core.Path.{_≡_, sym, ap, _∙_}
+use mathlib.Core.Path.{sym, ap, _∙_}
 use mathlib.Core.Bool.{Bool, not, _&&_}
 use lib.Dec.{eqb}
 use borrow.Author.Tests.{not-true, not-false}
 use Prim.Native.Nat.{ℕ}
 use Rattle.formula.specs.Sheet.{shapeAt}
-use Rattle.sheet_sorts.specs.Shapes.{pair-known, wholeRow, amountRow, dividesByWholeRow}
+use Rattle.sheet_sorts.specs.Shapes.{pair-known, amountRow, dividesByWholeRow}
 use Rattle.sheet_sorts.proofs.Others.{no-pair}
 
 -- src/constants.rt:64:29  { ⏎ let Shape::Pair(_, b) = shape_at(t, r) else {

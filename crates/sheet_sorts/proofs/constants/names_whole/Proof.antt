@@ -7,9 +7,8 @@ use Rattle.sheet_sorts.proofs.constants.names_whole.Reads as reads
 use Rattle.sheet_sorts.proofs.constants.names_whole.Lts as lts
 use Rattle.sheet_fields.proofs.shape.shape_at.Reads as shape-at-reads
 use Rattle.sheet_sorts.proofs.constants.is_whole.Reads as is-whole-reads
-use mathlib.Core.Path.{_≡_, sym, ap, _∙_}
+use mathlib.Core.Path.{sym, ap, _∙_}
 use mathlib.Core.Bool.{Bool, _||_}
-use Rattle.formula.specs.declared.Shape.the-variants.{Pair}
 use Rattle.formula.specs.Sheet.{shapeAt}
 use Rattle.sheet_sorts.specs.Shapes.{pair-known, wholeRow, namesWholeRow}
 use Rattle.sheet_sorts.proofs.Others.{no-pair}
