@@ -4,3 +4,4 @@ pub mod Numbers
 pub mod Drifts
 pub mod Moved
 pub mod Walk
+pub mod Tested

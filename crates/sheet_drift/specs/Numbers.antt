@@ -119,25 +119,27 @@ order-more s m env k i d l e f h =
         getD-set-other env k j d 0 q ∙ h .given j (omega (arith, q))
 
 -- It is the environment of a formula's inputs, and no number passes the greatest.
-module _ (x : Exp) (s env : List ℕ) (w : tolerancesWell (length (inputsOf x)) s ≡ true) (h : InOrder s (mask (freeE x)) env 32) where
+module _ (x : Exp) (s env : List ℕ) (m n : ℕ) (masked : m ≡ mask (freeE x)) (count : n ≡ length (inputsOf x)) (w : tolerancesWell n s ≡ true)
+    (h : InOrder s m env 32) where
   pub order-inputs : movesIn env ≡ inputMoves (freeE x) s
   unfolding movesIn inputMoves
   order-inputs = fun-ext (λ j. go j (ltb j 32) refl)
     where
+      member : (i : ℕ) → i < 32 → setIn m i ≡ freeE x i
+      member i l = ap (λ (z : ℕ). setIn z i) masked ∙ mask-has (freeE x) i (omega arith)
+
       go : (j : ℕ) (b : Bool) → ltb j 32 ≡ b → getD env j 0 ≡ numberAt s (4 * below (freeE x) j)
       go j true p =
           let l : j < 32 = ltb-true j 32 p in
-          h .given j l
-          ∙ ap (λ (i : ℕ). numberAt s (4 * i))
-          (below-cong (setIn (mask (freeE x))) (freeE x) j (λ i m. mask-has (freeE x) i (omega arith)))
+          h .given j l ∙ ap (λ (i : ℕ). numberAt s (4 * i)) (below-cong (setIn m) (freeE x) j (λ i u. member i (omega arith)))
       go j false p =
           let l : 32 ≤ j = ltb-false j 32 p in
           List·getD-eq-default env 0 (omega (arith, h .long))
-          ∙ sym (well-past (length (inputsOf x)) s w (below (freeE x) j) (omega (arith, inputs-below x, below-mono (freeE x) 32 j l)))
+          ∙ sym (well-past n s w (below (freeE x) j) (omega (arith, count, inputs-below x, below-mono (freeE x) 32 j l)))
 
   pub order-within : (k : ℕ) → movesIn env k ≤ 2147483647
   unfolding inputMoves
-  order-within k = rw order-inputs (well-each (length (inputsOf x)) s w (below (freeE x) k))
+  order-within k = rw order-inputs (well-each n s w (below (freeE x) k))
 
 -- ---- numbers written
 
