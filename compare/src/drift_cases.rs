@@ -3,7 +3,7 @@
 
 use crate::cases::nest;
 use crate::drift::{drift, DriftAnswer, MOST, NUMBER_BYTES, ROOM};
-use crate::examples::{endless, factorial, lesser, negations, range};
+use crate::examples::{endless, factorial, lesser, mean, negations, range, scaled};
 use crate::random::faults::{plant, Planted, PLANTABLE};
 use crate::random::movements::{encoded, moving_sheet};
 use crate::random::{Made, Rng};
@@ -177,15 +177,10 @@ fn bound_names(list: &mut List) {
 }
 
 fn whole_formulas(list: &mut List) {
-    // let m = (x0 + x1) / 2 in m * 3 - x2, m
-    let m = [1, 3, 0, 0, 0];
-    let rest =
-        [m, whole(3), pair(1, 2), code(MULTIPLY, 3), [1, 2, 0, 0, 0], pair(4, 5), code(SUBTRACT, 6), m, pair(7, 8)];
-    let mean = [X, Y, pair(10, 11), code(ADD, 12), whole(2), pair(13, 14), code(DIVIDE, 15), bind(3, 1, 16, 9)];
-    list.told("a mean and what is left of three times it", &[&rest[..], &mean].concat(), &[5, 4, 7], &[22, 5]);
-    let rows: Vec<Row> = (1..=200).map(|row| if row == 1 { X } else { code(NEGATE, row - 1) }).collect();
-    assert_eq!(write(&rows), negations(200).bytes);
-    list.told("200 rows of negations", &rows, &[MOST], &[MOST]);
+    list.told("a mean and what is left of three times it", &rows_of(&mean()), &[5, 4, 7], &[22, 5]);
+    list.told("200 rows of negations", &rows_of(&negations(200)), &[MOST], &[MOST]);
+    // 1,000,000, 750,000, 562,500, .., each three quarters of the one before, rounded up
+    list.told("24 lets within each other", &rows_of(&scaled()), &[1_000_000], &[1_005]);
     let sum = |last: u32| [X, pair(last, last + 1), code(ADD, last + 2)];
     let sums = [vec![X], (0..66).flat_map(|place| sum(3 * place + 1)).collect()].concat();
     list.told("67 times x", &sums, &[1_000], &[67_000]);

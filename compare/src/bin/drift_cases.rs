@@ -1,6 +1,6 @@
-// Writes the list in src/drift_cases.rs as test data: FOLDER/NNN with formula.txt, kinds.txt, tolerances, their bytes, and room.txt, the bytes lent for the numbers in a
-// six-character field; and FOLDER/expected with what the call answers for each: refusal, row and results in six-character fields and, where it is accepted, the
-// numbers in a line of eleven-character fields. The product's crate drift_runs holds them.
+// Writes the list in src/drift_cases.rs as test data: FOLDER/NNN with formula.txt, kinds.txt, tolerances, their bytes, and room.txt, the bytes lent for the numbers
+// in a six-character field; and FOLDER/expected with what the call answers for each: refusal, row and results in six-character fields and, where it is accepted,
+// the numbers in a line of eleven-character fields. The product's crate drift_runs holds them.
 
 use compare::drift_cases;
 use std::path::Path;
