@@ -21,7 +21,7 @@ ghost use Rattle.meaning.specs.Rows.{ExpRow};
 ghost use Rattle.eval_words.specs.Needs.{W};
 ghost use Rattle.sheet_movement.specs.Moves.{moved, multiplied, divided};
 ghost use Rattle.sheet_drift.specs.Numbers.{movesIn};
-ghost use Rattle.sheet_drift.specs.Drifts.{Drifts};
+ghost use Rattle.sheet_movement.specs.Drifts.{Drifts};
 ghost use Rattle.sheet_drift.specs.Moved.{Operand};
 ghost use Rattle.sheet_drift.specs.Walk.{InRange, Told};
 
