@@ -108,7 +108,11 @@ pub fn row_moves(
             if !row_moves(t, widths, b, env, &mut operands, 0) {
                 return false;
             }
-            put_within(out, at, moved(t, code, b, operands[0] as u64, operands[1] as u64))
+            put_within(
+                out,
+                at,
+                moved(t, code, b, operands[0] as u64, operands[1] as u64),
+            )
         }
         Shape::Let(a, _, c, d) => {
             let mut inner = *env;
