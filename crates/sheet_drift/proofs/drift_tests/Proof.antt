@@ -13,7 +13,6 @@ use Rattle.sheet_drift.proofs.numbers.in_order.Reads as in-order-reads
 use Rattle.sheet_drift.proofs.numbers.tolerances_well.Reads as tolerances-well-reads
 use Rattle.sheet_sorts.proofs.walk.test_sorts.Reads as test-sorts-reads
 use mathlib.Core.Path.{sym, ap, _∙_}
-use mathlib.Core.Bool.{true, false}
 use borrow.Author.Tests.{not-true, not-false}
 use Rattle.formula.specs.Tree.{expOf}
 use Rattle.formula.specs.declared.Refusal.the-variants.{Sort, Movement}
