@@ -87,6 +87,10 @@ pub enum Refusal {
     KindsLine,
     // 18: a row breaks the kinds
     KindsBroken,
+    // 20: a row of another sort than drift is told for, or with a value not of kind W
+    Sort,
+    // 21: tolerances not as many as the inputs or out of range, or a row's movement past the range
+    Movement,
     // 31: a stored figure or token outside its range, or a link named twice
     Altered,
     // 32: sixteen sets untaken
@@ -163,6 +167,8 @@ pub fn refusal_number(r: Refusal) -> u32
         Refusal::LogRefused => 16,
         Refusal::KindsLine => 17,
         Refusal::KindsBroken => 18,
+        Refusal::Sort => 20,
+        Refusal::Movement => 21,
         Refusal::Altered => 31,
         Refusal::Untaken => 32,
         Refusal::Full => 33,

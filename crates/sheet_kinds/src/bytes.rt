@@ -53,7 +53,7 @@ pub fn both(a: bool, b: bool) -> bool
     false
 }
 
-fn same_kind(a: u8, b: u8) -> bool
+pub fn same_kind(a: u8, b: u8) -> bool
     ensures { λ r. ⌜ r ≡ sameKind (kindOfByte a) (kindOfByte b) ⌝ }
 {
     if a == TRUTH {

@@ -63,7 +63,7 @@ fn kind_at(line: &[u8], i: usize) -> u8
 }
 
 // The identifiers in the mask, rising, get the line's kinds in its order.
-fn tell_kinds(env: &mut [u8], m: u64, line: &[u8])
+pub fn tell_kinds(env: &mut [u8], m: u64, line: &[u8])
     requires { ⌜ length (now env) ≡ 32 ⌝ }
     ensures { λ _. ⌜ Tells (now (line .entry)) m (now (env .exit)) 32 ⌝ }
 {
