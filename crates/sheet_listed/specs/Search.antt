@@ -41,14 +41,14 @@ searched front start k = firstSmall (completions front (drop start smallRows) k)
 unfoldable pub contentAt : ℕ → List ℕ
 contentAt k =
     cond (ltb k 2) (1 ∷ k ∷ 0 ∷ 0 ∷ 0 ∷ [])
-    (cond (ltb k 4) (2 ∷ k - 2 ∷ 0 ∷ 0 ∷ 0 ∷ [])
-    (cond (ltb k 6) (3 ∷ k - 4 ∷ 0 ∷ 0 ∷ 0 ∷ [])
-    (cond (ltb k 22) (4 ∷ 1 + (k - 6) / 4 ∷ 1 + (k - 6) % 4 ∷ 0 ∷ 0 ∷ [])
-    (cond (ltb k 66) (5 ∷ 1 + (k - 22) / 4 ∷ 1 + (k - 22) % 4 ∷ 0 ∷ 0 ∷ [])
-    (cond (ltb k 82) (6 ∷ 0 ∷ 1 ∷ 1 + (k - 66) / 4 ∷ 1 + (k - 66) % 4 ∷ [])
-    (cond (ltb k 98) (6 ∷ 0 ∷ 2 ∷ 1 + (k - 82) / 4 ∷ 1 + (k - 82) % 4 ∷ [])
-    (cond (ltb k 114) (6 ∷ 1 ∷ 1 ∷ 1 + (k - 98) / 4 ∷ 1 + (k - 98) % 4 ∷ [])
-    (7 ∷ 1 + (k - 114) / 16 ∷ 1 + (k - 114) / 4 % 4 ∷ 1 + (k - 114) % 4 ∷ 0 ∷ []))))))))
+    (cond (ltb k 4) (2 ∷ (k - 2) ∷ 0 ∷ 0 ∷ 0 ∷ [])
+    (cond (ltb k 6) (3 ∷ (k - 4) ∷ 0 ∷ 0 ∷ 0 ∷ [])
+    (cond (ltb k 22) (4 ∷ (1 + (k - 6) / 4) ∷ (1 + (k - 6) % 4) ∷ 0 ∷ 0 ∷ [])
+    (cond (ltb k 66) (5 ∷ (1 + (k - 22) / 4) ∷ (1 + (k - 22) % 4) ∷ 0 ∷ 0 ∷ [])
+    (cond (ltb k 82) (6 ∷ 0 ∷ 1 ∷ (1 + (k - 66) / 4) ∷ (1 + (k - 66) % 4) ∷ [])
+    (cond (ltb k 98) (6 ∷ 0 ∷ 2 ∷ (1 + (k - 82) / 4) ∷ (1 + (k - 82) % 4) ∷ [])
+    (cond (ltb k 114) (6 ∷ 1 ∷ 1 ∷ (1 + (k - 98) / 4) ∷ (1 + (k - 98) % 4) ∷ [])
+    (7 ∷ (1 + (k - 114) / 16) ∷ (1 + (k - 114) / 4 % 4) ∷ (1 + (k - 114) % 4) ∷ 0 ∷ []))))))))
 
 -- ---- what each row of a small sheet has, so that a search can leave a row that has not
 

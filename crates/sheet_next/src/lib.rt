@@ -1,7 +1,63 @@
-// The next small sheet (document 02, Job 14).
+// The next small sheet (document 02, Job 14): given a sheet of the list, or none, the one behind it is written to lent memory. Refusals 11, 22, 23. The
+// definitions are specs/Next and sheet_listed's; the contract of `next_sheet`, which the entry point calls, is an equation on the answer and on every lent
+// byte, and asks nothing of its caller.
+pub mod contents; // contents.rt: the rows that a small sheet can have, by their number
+pub mod tests; // tests.rt: whether rows are a small sheet, and whether a row can stand in one
+pub mod search; // search.rt: the first small sheet that begins with given rows
+
+use crate::search::behind;
+use crate::tests::listed;
+use formula::Refusal;
+use formula::refusal_number;
+use sheet_fields::layout::ROW_BYTES;
+ghost use mathlib.Core.Path.{_≡_};
+ghost use Rattle.formula.specs.Refusals.{numberOf};
+ghost use Rattle.sheet_next.specs.Next.{handed, answers, nextInto};
+
+// The answer: document 01's number of a refusal, 0 where accepted; its row, 0; the rows of the next sheet.
 #[repr(C)]
 pub struct NextAnswer {
     pub refusal: u32,
     pub row: u32,
     pub rows: u32,
+}
+
+// The rows of the longest small sheet, and their fields.
+pub const SMALL_ROWS: usize = 5;
+
+pub const SMALL_FIELDS: usize = 25;
+
+const NEED: usize = SMALL_ROWS * ROW_BYTES;
+
+fn refused(r: Refusal) -> NextAnswer
+    ensures { λ a. ⌜ a ≡ answers (numberOf r) 0 0 ⌝ }
+{
+    NextAnswer {
+        refusal: refusal_number(r),
+        row: 0,
+        rows: 0,
+    }
+}
+
+// Writes the next small sheet into the start of `out`.
+pub fn next_sheet(sheet: &[u8], out: &mut [u8]) -> NextAnswer
+    ensures { λ a. ⌜ handed a (now (out .exit)) ≡ nextInto (now (sheet .entry)) (now (out .entry)) ⌝ }
+{
+    if out.len() < NEED {
+        return refused(Refusal::Memory);
+    }
+    let mut fields = [0; SMALL_FIELDS];
+    if !listed(sheet, &mut fields) {
+        return refused(Refusal::Unlisted);
+    }
+    let rows = behind(&mut fields, sheet.len() / ROW_BYTES);
+    if rows == 0 {
+        return refused(Refusal::LastListed);
+    }
+    write_rows(&fields, rows, out);
+    NextAnswer {
+        refusal: 0,
+        row: 0,
+        rows: rows as u32,
+    }
 }
