@@ -4,32 +4,14 @@
  */
 #include <stddef.h>
 
+#include "held.h"
 #include "refused.h"
 
 _Static_assert(sizeof(bench_tidy_answer) == 12 && offsetof(bench_tidy_answer, row) == 4 && offsetof(bench_tidy_answer, rows) == 8, "layout");
 _Static_assert(BENCH_TIDY_BYTES(0) == 0 && BENCH_TIDY_BYTES(6199) == 6199 && BENCH_TIDY_BYTES(6200) == 6200 && BENCH_TIDY_BYTES(6231) == 6200,
                "need");
 
-enum { HELD = 0xa5, LONGEST = MOST_ROWS * ROW_BYTES };
-
-/* So many bytes, each of them HELD. */
-static uint8_t *hold(size_t bytes) {
-    uint8_t *memory = malloc(bytes);
-    if (memory == NULL && bytes > 0) {
-        exit(2);
-    }
-    if (bytes > 0) {
-        memset(memory, HELD, bytes);
-    }
-    return memory;
-}
-
-static int all_held(const uint8_t *from, const uint8_t *end) {
-    while (from < end && *from == HELD) {
-        from++;
-    }
-    return from == end;
-}
+enum { LONGEST = MOST_ROWS * ROW_BYTES };
 
 /* The sheet is refused with so much memory lent, and nothing is written. */
 static void refused(const char *what, const char *sheet, size_t bytes, size_t room, uint32_t refusal, uint32_t row) {

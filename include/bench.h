@@ -3,8 +3,9 @@
  *
  * A formula sheet is read (bench_read), evaluated directly (bench_evaluate), or started as a machine on memory that the caller lends
  * (bench_start) and then driven by pushes, firings, runs and takes. A sheet with rows that its formula no longer uses is tidied first (bench_tidy).
- * The log of a bench that drives such machines in its own order is checked by following it (bench_check_log). No call keeps anything but what stands
- * in that memory and in the tally: there is no heap and no global. Every call always returns, for any bytes and any numbers.
+ * How far its results can move where its inputs move within tolerances is told by bench_drift. The log of a bench that drives such machines in its own order
+ * is checked by following it (bench_check_log). No call keeps anything but what stands in that memory and in the tally: there is no heap and no global. Every
+ * call always returns, for any bytes and any numbers.
  *
  * Lent memory. A pointer goes with its length in bytes; a length of 0 goes with any pointer, NULL included. The stretches lent to one
  * call must not overlap, and nothing else may write them during the call. That and what is said of the tally is all that is asked of a caller:
@@ -61,7 +62,7 @@ enum {
 /* The letters of a kinds line. */
 enum { BENCH_KIND_WHOLE = 'W', BENCH_KIND_TRUTH = 'T', BENCH_KIND_REAL = 'R' };
 
-/* Said of what was handed in. `row` counts from 1 for 3 to 9, 15, 16 and 18 and is 0 for the others. */
+/* Said of what was handed in. `row` counts from 1 for 3 to 9, 15, 16, 18 and 20 and is 0 for the others. */
 enum {
     BENCH_ACCEPTED = 0,
     BENCH_LINES = 1,        /* empty, not in 31-byte rows, or a row without its line feed */
@@ -81,6 +82,8 @@ enum {
     BENCH_LOG_REFUSED = 16, /* a log's line that the machine would refuse */
     BENCH_KINDS_LINE = 17,  /* a kinds line of another length, or with another letter */
     BENCH_KINDS = 18,       /* a row that breaks the kinds: an operator or test of another kind, arms or loop rounds that do not agree */
+    BENCH_SORT = 20,        /* a row of another sort than drift is told for, or with a value not of kind W */
+    BENCH_MOVEMENT = 21,    /* tolerances not as many as the inputs, one out of range, or a row's movement past 2,147,483,647 */
 
     /* Said of how the machine stands. */
     BENCH_ALTERED = 31,     /* a stored figure, letter or token outside its range, or a link named twice by one operator, the inputs or the results;
@@ -97,6 +100,10 @@ enum {
 
 /* What a tidied sheet needs: as many bytes as the sheet has, 6,200 at the most, for 200 rows. */
 #define BENCH_TIDY_BYTES(sheet_bytes) ((size_t)(sheet_bytes) < 200 * BENCH_ROW_BYTES ? (size_t)(sheet_bytes) : 200 * BENCH_ROW_BYTES)
+
+/* The bytes of a tolerance and of a number of drift, and what the numbers need: those of sixteen results. */
+#define BENCH_NUMBER_BYTES 4
+#define BENCH_DRIFT_BYTES (16 * BENCH_NUMBER_BYTES)
 
 /* What a result set needs: sixteen values. */
 #define BENCH_RESULT_BYTES (16 * BENCH_VALUE_BYTES)
@@ -125,6 +132,12 @@ typedef struct {
     uint32_t row;
     uint32_t rows; /* of the new sheet */
 } bench_tidy_answer;
+
+typedef struct {
+    uint32_t refusal;
+    uint32_t row;
+    uint32_t results; /* how many numbers stand in `out` */
+} bench_drift_answer;
 
 typedef struct {
     uint32_t refusal;
@@ -181,6 +194,21 @@ bench_read_answer bench_read(const uint8_t *sheet, size_t sheet_bytes, const uin
  * this order: 11 (`out` shorter than BENCH_TIDY_BYTES of the sheet's bytes), 1 to 5.
  */
 bench_tidy_answer bench_tidy(const uint8_t *sheet, size_t sheet_bytes, uint8_t *out, size_t out_bytes);
+
+/*
+ * Says how far each result of a formula can move. `tolerances` has one number an input, in the order of a set's values, and the answer's `results` numbers
+ * stand from the start of `out` on, one a result; each is BENCH_NUMBER_BYTES bytes, lowest first, 0 to 2,147,483,647. Take two sets of which each input
+ * is an err in one of them or differs by no more than its tolerance: then each result that is an err in neither set differs by no more than its number.
+ * Bytes of `out` past the numbers are left alone.
+ *
+ * It is told for sheets whose values are all of kind W, of identifiers, whole constants (row kind 2), pairs, lets, add, subtract, negate, multiply whose
+ * operand row is a pair that names a whole constant, and divide whose operand row is a pair with b naming one that is not 0. Movements add; a constant
+ * multiplies them; a divide by c gives the movement over c, rounded up. Refusals, in this order: 11 (`out` shorter than BENCH_DRIFT_BYTES), 1 to 9, 17, 18,
+ * 10, 20 (the lowest such row), 21 (row 0; tolerances of another length than BENCH_NUMBER_BYTES an input, and a number past the range in any row, also one
+ * that a later divide would make smaller).
+ */
+bench_drift_answer bench_drift(const uint8_t *sheet, size_t sheet_bytes, const uint8_t *kinds, size_t kinds_bytes, const uint8_t *tolerances,
+                               size_t tolerances_bytes, uint8_t *out, size_t out_bytes);
 
 /*
  * Evaluates a sheet with its kinds line on a set within the lent rounds; a round is one entry into a loop's body. Writes sixteen values to `out`, E past the

@@ -1,7 +1,7 @@
 // The kinds of values (document 02, Job 6; floats: Job 9): 17, the kinds line, and 18, a row that breaks the kinds.
 // Assumes rows that passed tests 1 to 9, so that the widths fit and each row is met once, from the one that names it.
 
-use crate::sheet::{bound_names, refuse, Line, Refusal, Row};
+use crate::sheet::{bound_names, refuse, Line, Refusal, Row, MOST_ROWS};
 use crate::value::{operands, Sort};
 
 /// The kinds of a row's values, the first lowest, or of the 32 identifiers, by their numbers: a bit where the value is a truth, one where it is a float.
@@ -58,10 +58,19 @@ pub fn write_line(sorts: &[Sort]) -> Vec<u8> {
 
 /// 18 "when a row breaks the kinds, lowest row given"; the inputs by their identifiers.
 pub fn test(lines: &[Line], inputs: impl Iterator<Item = (u32, Sort)>) -> Result<(), Refusal> {
+    checked(lines, inputs).lowest.map_or(Ok(()), |row| refuse(18, row as usize))
+}
+
+/// Of each row whether all its values are of kind W, those of a body being what it returns and what it iterates (document 02, Job 13).
+pub fn rows_of_wholes(lines: &[Line], inputs: impl Iterator<Item = (u32, Sort)>) -> [bool; MOST_ROWS] {
+    checked(lines, inputs).whole
+}
+
+fn checked(lines: &[Line], inputs: impl Iterator<Item = (u32, Sort)>) -> Checker<'_> {
     let names = inputs.fold(WHOLE, |names, (name, sort)| names.and(Kinds::all(sort, 1), name));
-    let mut checker = Checker { lines, lowest: None };
+    let mut checker = Checker { lines, lowest: None, whole: [true; MOST_ROWS] };
     checker.expression(lines.len() as u32, names);
-    checker.lowest.map_or(Ok(()), |row| refuse(18, row as usize))
+    checker
 }
 
 /// The kinds that a body iterates and returns, none where it does not.
@@ -74,6 +83,8 @@ struct Checker<'a> {
     lines: &'a [Line],
     /// The lowest row at fault up to now.
     lowest: Option<u32>,
+    /// Whether all values of each row are whole numbers, of those met up to now.
+    whole: [bool; MOST_ROWS],
 }
 
 impl Checker<'_> {
@@ -90,6 +101,16 @@ impl Checker<'_> {
 
     /// The kinds of an expression's values, where the identifiers have these.
     fn expression(&mut self, number: u32, names: Kinds) -> Kinds {
+        let values = self.values(number, names);
+        self.note(number, values);
+        values
+    }
+
+    fn note(&mut self, number: u32, values: Kinds) {
+        self.whole[number as usize - 1] &= values == WHOLE;
+    }
+
+    fn values(&mut self, number: u32, names: Kinds) -> Kinds {
         let row = self.line(number).row;
         let Row { kind, a, b, c, d } = row;
         match kind {
@@ -140,6 +161,12 @@ impl Checker<'_> {
     }
 
     fn body(&mut self, number: u32, names: Kinds) -> Ends {
+        let ends = self.ends(number, names);
+        [ends.iterated, ends.returned].into_iter().flatten().for_each(|values| self.note(number, values));
+        ends
+    }
+
+    fn ends(&mut self, number: u32, names: Kinds) -> Ends {
         let row = self.line(number).row;
         match row.kind {
             6 => {

@@ -8,6 +8,7 @@ pub mod bytes;
 pub mod calls;
 pub mod cases;
 pub mod count;
+pub mod drift;
 pub mod eval;
 pub mod examples;
 pub mod graph;

@@ -2,6 +2,7 @@
 // Assumes that the archive exports them with these C signatures (include/bench.h).
 
 use crate::bytes::{EvaluateAnswer, ReadAnswer};
+use crate::drift::DriftAnswer;
 use crate::log::{Handed, LogAnswer};
 use crate::memory::{Answer, RoundsAnswer, StartAnswer};
 use crate::tally::Tally;
@@ -10,6 +11,16 @@ use crate::tidy::TidyAnswer;
 extern "C" {
     fn bench_read(sheet: *const u8, sheet_len: usize, kinds: *const u8, kinds_len: usize) -> ReadAnswer;
     fn bench_tidy(sheet: *const u8, sheet_len: usize, out: *mut u8, out_len: usize) -> TidyAnswer;
+    fn bench_drift(
+        sheet: *const u8,
+        sheet_len: usize,
+        kinds: *const u8,
+        kinds_len: usize,
+        tolerances: *const u8,
+        tolerances_len: usize,
+        out: *mut u8,
+        out_len: usize,
+    ) -> DriftAnswer;
     fn bench_evaluate(
         sheet: *const u8,
         sheet_len: usize,
@@ -70,6 +81,21 @@ pub fn read(sheet: &[u8], kinds: &[u8]) -> ReadAnswer {
 
 pub fn tidy(sheet: &[u8], out: &mut [u8]) -> TidyAnswer {
     unsafe { bench_tidy(sheet.as_ptr(), sheet.len(), out.as_mut_ptr(), out.len()) }
+}
+
+pub fn drift(sheet: &[u8], kinds: &[u8], tolerances: &[u8], out: &mut [u8]) -> DriftAnswer {
+    unsafe {
+        bench_drift(
+            sheet.as_ptr(),
+            sheet.len(),
+            kinds.as_ptr(),
+            kinds.len(),
+            tolerances.as_ptr(),
+            tolerances.len(),
+            out.as_mut_ptr(),
+            out.len(),
+        )
+    }
 }
 
 pub fn evaluate(sheet: &[u8], kinds: &[u8], set: &[u8], rounds: u32, out: &mut [u8]) -> EvaluateAnswer {

@@ -128,7 +128,7 @@ fn random_tree(wrong: usize, rng: &mut Rng) -> (Tree, [Sort; 32]) {
 }
 
 /// The sheet of a tree with the kinds line of its inputs.
-fn laid_out(tree: &Tree, sorts: [Sort; 32], shuffled: bool, rng: &mut Rng) -> Made {
+pub(super) fn laid_out(tree: &Tree, sorts: [Sort; 32], shuffled: bool, rng: &mut Rng) -> Made {
     let bytes = sheet::write(&rows(tree, shuffled, rng));
     let names = sheet::input_names(&bytes).unwrap_or_default();
     let kinds = crate::kinds::write_line(&names.iter().map(|&name| sorts[name as usize]).collect::<Vec<_>>());

@@ -10,12 +10,14 @@ use machine_log::LogAnswer;
 use machine_rounds::RoundsAnswer;
 use machine_start::StartAnswer;
 use machine_tally::Tally;
+use sheet_drift::DriftAnswer;
 use sheet_read::read::ReadAnswer;
 use sheet_tidy::TidyAnswer;
 ghost use mathlib.Core.Path.{_≡_};
 ghost use Rattle.formula.specs.Tests.{readingOf};
 ghost use Rattle.sheet_read.specs.Reading.{answerOf};
 ghost use Rattle.sheet_tidy.specs.Tidying.{handed as tidyHanded, tidiedInto};
+ghost use Rattle.sheet_drift.specs.Drifting.{handed as driftHanded, driftedInto};
 ghost use Rattle.eval_sheet.specs.Handed.{handed as evaluationHanded, handedOut};
 ghost use Rattle.machine_start.specs.Start.{begun, started};
 ghost use Rattle.machine_calls.specs.Calls.{outcome, handed, pushed, fired, ran, taken};
@@ -36,6 +38,18 @@ pub extern "C" fn bench_tidy(sheet: &[u8], out: &mut [u8]) -> TidyAnswer
     ensures { λ a. ⌜ tidyHanded a (now (out .exit)) ≡ tidiedInto (now (sheet .entry)) (now (out .entry)) ⌝ }
 {
     sheet_tidy::tidy(sheet, out)
+}
+
+#[no_mangle]
+pub extern "C" fn bench_drift(
+    sheet: &[u8],
+    kinds: &[u8],
+    tolerances: &[u8],
+    out: &mut [u8],
+) -> DriftAnswer
+    ensures { λ a. ⌜ driftHanded a (now (out .exit)) ≡ driftedInto (now (sheet .entry)) (now (kinds .entry)) (now (tolerances .entry)) (now (out .entry)) ⌝ }
+{
+    sheet_drift::drift(sheet, kinds, tolerances, out)
 }
 
 #[no_mangle]

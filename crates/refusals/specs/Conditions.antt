@@ -1,6 +1,7 @@
 -- The refusals of each call as an ordered table, each condition by name: document 01, "Said by what was handed in" and "Said by how the machine stands",
 -- "11 comes before all", "Order: 11, 31, 12, then these", "14 .. (start: after 11, before 1)"; document 02, Job 6, "17 .., 18 .., in this order after 9 and
--- before 10"; document 02, Job 7, "36 is given when something can fire after them"; document 02, Job 3, "15 tested over the whole log first, both after 12".
+-- before 10"; document 02, Job 7, "36 is given when something can fire after them"; document 02, Job 3, "15 tested over the whole log first, both after 12";
+-- document 02, Job 13, "20 .., after 10, and 21 .., after 20".
 -- Definitions only; assumes nothing.
 use Prim.Native.Nat.{ℕ, zero, suc, _-_, _*_}
 use mathlib.Core.Bool.{Bool, true, false, not, _&&_}
@@ -9,7 +10,7 @@ use mathlib.Core.Option.{Option, some, none}
 use lib.Dec.{eqb, leb, ltb}
 use lib.ListN.{length, take, drop}
 use Rattle.value.specs.declared.Value.{Value}
-use Rattle.formula.specs.declared.Refusal.the-variants.{Layout, Rows, Malformed, Range, Naming, Named, StrayIter, Width, Unused, Operators, Memory, Set, Capacity, LogLine, LogRefused, KindsLine, KindsBroken, Altered, Untaken, Full, NotAble, NoResult, Unfinished}
+use Rattle.formula.specs.declared.Refusal.the-variants.{Layout, Rows, Malformed, Range, Naming, Named, StrayIter, Width, Unused, Operators, Memory, Set, Capacity, LogLine, LogRefused, KindsLine, KindsBroken, Sort, Movement, Altered, Untaken, Full, NotAble, NoResult, Unfinished}
 use Rattle.formula.specs.declared.Check.{Check}
 use Rattle.formula.specs.declared.Check.the-variants.{Passed, Fault}
 use Rattle.formula.specs.Sheet.{rowCount, linesOf, fieldsOf}
@@ -19,6 +20,8 @@ use Rattle.formula.specs.Free.{freeE}
 use Rattle.formula.specs.Faults.{lettersOf}
 use Rattle.formula.specs.Tests.{lowest, laidOut, fewRows, fieldsWell, rangesWell, namesWell, namedOnce, allNamed, placedWell, widthsWell, boundWell, lineFits, kindsKept, operatorsOf as operatorsIn}
 use Rattle.sheet_tidied.specs.Tidy.{tidyNeed}
+use Rattle.sheet_movement.specs.Sorts.{sortsKept}
+use Rattle.sheet_movement.specs.Moves.{movementsFit}
 use Rattle.meaning.specs.Meaning.{Outcome, yields, inputsHold, evalE}
 use Rattle.value_sets.specs.Sets.{setValues, setOk}
 use Rattle.machine_layout.specs.Layout.{sizeOf, need, capacityIn, operatorsOf, inputsOf, resultsOf, untakenOf, storedKinds}
@@ -164,6 +167,22 @@ no-room-to-tidy s out = ltb (length out) (tidyNeed s)
 abbrev pub tidyTable : List ℕ → List ℕ → List Row
 tidyTable s out = (no-room-to-tidy s out, Memory) ∷ rowTable s
 
+-- 11 for the numbers of sixteen results, the most that a formula has
+abbrev pub no-room-for-drift : List ℕ → Bool
+no-room-for-drift out = ltb (length out) 64
+
+-- 20 "when a row is of another sort or has a value not of kind W", 21 "when the tolerances are not as many as the inputs, one is out of range or any row's
+-- number passes 2,147,483,647"
+abbrev pub movementTable : List ℕ → List ℕ → List ℕ → List Row
+movementTable s line tolerances =
+    (failed (sortsKept (fieldsOf s) (rowCount s) line), Sort)
+    ∷ (not (movementsFit (fieldsOf s) (rowCount s) tolerances), Movement)
+    ∷ []
+
+-- 11, the sheet's, "20 .., after 10, and 21 .., after 20"
+abbrev pub driftTable : List ℕ → List ℕ → List ℕ → List ℕ → List Row
+driftTable s line tolerances out = (no-room-for-drift out, Memory) ∷ (sheetTable s line ++ movementTable s line tolerances)
+
 -- 11 by the capacity asked
 abbrev pub short-asked : ℕ → List ℕ → Bool
 short-asked capacity m = ltb (length m) (need (sizeOf (capacityIn capacity)))
@@ -247,6 +266,9 @@ sheetNumbers = 1 ∷ 2 ∷ 3 ∷ 4 ∷ 5 ∷ 6 ∷ 7 ∷ 8 ∷ 9 ∷ 17 ∷ 18 �
 
 abbrev pub tidyNumbers : List ℕ
 tidyNumbers = 11 ∷ 1 ∷ 2 ∷ 3 ∷ 4 ∷ 5 ∷ []
+
+abbrev pub driftNumbers : List ℕ
+driftNumbers = 11 ∷ (sheetNumbers ++ (20 ∷ 21 ∷ []))
 
 abbrev pub pushNumbers : List ℕ
 pushNumbers = 11 ∷ 31 ∷ 12 ∷ 32 ∷ 33 ∷ []

@@ -166,7 +166,7 @@ pub failed-whole : (b : Bool) → failed (whole b) ≡ not b
 failed-whole true = refl
 failed-whole false = refl
 
-table-is : (s line : List ℕ) → tableBy (tests line) (sheetOf s) ≡ sheetTable s line
+pub table-is : (s line : List ℕ) → tableBy (tests line) (sheetOf s) ≡ sheetTable s line
 unfolding tests rowTests formulaTests kindTests graphTests sheetOf
 table-is s line =
     rw (failed-whole (laidOut s (linesOf s)), failed-whole (fewRows s), failed-whole (lineFits (fieldsOf s) (rowCount s) line), failed-whole (leb (operatorsIn (fieldsOf s) (rowCount s)) 1024)) refl

@@ -1,6 +1,6 @@
 -- What a refused call says and hands back, call by call: demand 1, "hands every lent byte back unaltered, save a run that has used up its lent firings", or, run by
 -- rounds, its lent rounds (document 02, Job 7); a tray of sets is another exception, of which "the rule on unaltered memory speaks of the refused set alone"
--- (document 02, Job 1); document 01, "A refusal's counts and rows are 0 unless stated". A log's check stands in LogKept, the tidy call in TidyRefused. Here without the refusals' names, which
+-- (document 02, Job 1); document 01, "A refusal's counts and rows are 0 unless stated". A log's check stands in LogKept, the tidy call in TidyRefused, the drift call in DriftRefused. Here without the refusals' names, which
 -- Refused adds. Assumes nothing.
 use Prim.Native.Nat.{ℕ, zero, suc}
 use mathlib.Core.Path.{_≡_, refl, ap, subst}

@@ -10,5 +10,6 @@ pub mod LogRows
 pub mod Kept
 pub mod LogKept
 pub mod TidyRefused
+pub mod DriftRefused
 pub mod Refused
 pub mod FiredLinks

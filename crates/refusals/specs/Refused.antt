@@ -3,7 +3,7 @@
 -- order there", as `call-exact`. A run by rounds that has used up its lent rounds is such a run too: "the firings kept as at run's 36" (document 02, Job 7). Of a
 -- tray of sets "the rule on unaltered memory speaks of the refused set alone" (document 02, Job 1). A log of which the machine would refuse a line gets "16 leaving
 -- machine, results and count as the earlier lines made them" (document 02, Job 3). The calls are the definitions that the contracts of their entry points cite;
--- a sheet, a kinds line, a set or a log is lent for reading only. Assumes nothing.
+-- a sheet, a kinds line, a set, tolerances or a log are lent for reading only. Assumes nothing.
 use Prim.Native.Nat.{ℕ}
 use mathlib.Core.Path.{_≡_, refl, sym, _∙_, subst}
 use mathlib.Core.Logic.{_⊎_, inl, inr, _≢_, _↔_}
@@ -13,6 +13,7 @@ use Rattle.formula.specs.Refusals.{numberOf}
 use Rattle.formula.specs.Tests.{readingOf}
 use Rattle.sheet_read.specs.Reading.{answerOf}
 use Rattle.sheet_tidy.specs.Tidying.{tidiedInto}
+use Rattle.sheet_drift.specs.Drifting.{driftedInto}
 use Rattle.eval_sheet.specs.Handed.{handedOut}
 use Rattle.machine_calls.specs.Calls.{pushed, fired, ran, taken}
 use Rattle.machine_rounds.specs.Rounds.{ranRounds}
@@ -20,13 +21,14 @@ use Rattle.machine_tray.specs.Tray.{trayed}
 use Rattle.machine_start.specs.Start.{started}
 use Rattle.machine_log.specs.Checked.{checked}
 use Rattle.refusals.specs.FirstRefusal.{Row, first-refusal, Named, Among, numbers, NoneHolds, FirstHolds, accepted-exactly, refused-exactly, first-among, first-named}
-use Rattle.refusals.specs.Conditions.{tidyTable, pushTable, trayTable, fireTable, runTable, roundsTable, takeTable, sheetTable, startTable, evaluateTable, logTable, sheetNumbers, tidyNumbers, pushNumbers, trayNumbers, fireNumbers, runNumbers, roundsNumbers, takeNumbers, startNumbers, evaluateNumbers, logNumbers}
+use Rattle.refusals.specs.Conditions.{tidyTable, driftTable, pushTable, trayTable, fireTable, runTable, roundsTable, takeTable, sheetTable, startTable, evaluateTable, logTable, sheetNumbers, tidyNumbers, driftNumbers, pushNumbers, trayNumbers, fireNumbers, runNumbers, roundsNumbers, takeNumbers, startNumbers, evaluateNumbers, logNumbers}
 use Rattle.refusals.specs.Rows.{RowTold}
 use Rattle.refusals.specs.Exact.{push-exact, fire-exact, run-exact, rounds-exact, take-exact, read-exact, start-exact, evaluate-exact}
 use Rattle.refusals.specs.TrayExact.{tray-exact, tray-numbers}
 use Rattle.refusals.specs.LogExact.{log-exact}
 use Rattle.refusals.specs.LogRows.{LogRow, log-row}
 use Rattle.refusals.specs.TidyRefused.{tidy-exact, tidy-keeps}
+use Rattle.refusals.specs.DriftRefused.{drift-exact, drift-keeps}
 use Rattle.refusals.specs.Kept.{UsedUpFirings, UsedUpRounds, RoundsLeave, SetRefused, read-keeps, start-keeps, push-keeps, tray-keeps, fire-keeps, run-keeps, rounds-keeps, take-keeps, evaluate-keeps}
 use Rattle.refusals.specs.LogKept.{AsEarlierLines, LogLeaves, log-keeps}
 
@@ -34,6 +36,7 @@ use Rattle.refusals.specs.LogKept.{AsEarlierLines, LogLeaves, log-keeps}
 pub data Call : Type 0 where
   read : List ℕ → List ℕ → Call
   tidy : List ℕ → List ℕ → Call
+  drift : List ℕ → List ℕ → List ℕ → List ℕ → Call
   start : List ℕ → List ℕ → ℕ → List ℕ → Call
   push : List ℕ → List ℕ → Call
   tray : List ℕ → List ℕ → ℕ → Call
@@ -47,6 +50,7 @@ pub data Call : Type 0 where
 unfoldable pub refusalOf : Call → ℕ
 refusalOf (read sheet line) = answerOf (readingOf sheet line) .refusal
 refusalOf (tidy sheet out) = tidiedInto sheet out .answer .refusal
+refusalOf (drift sheet line tolerances out) = driftedInto sheet line tolerances out .answer .refusal
 refusalOf (start sheet line capacity m) = started sheet line capacity m .answer .refusal
 refusalOf (push m set) = pushed m set .answer .refusal
 refusalOf (tray m sets number) = trayed m sets number .answer .refusal
@@ -61,6 +65,7 @@ refusalOf (checkLog sheet line capacity sets number log m out) = checked sheet l
 unfoldable pub countsOf : Call → List ℕ
 countsOf (read sheet line) = let a = answerOf (readingOf sheet line) in a .rows ∷ a .operators ∷ a .inputs ∷ a .results ∷ []
 countsOf (tidy sheet out) = tidiedInto sheet out .answer .rows ∷ []
+countsOf (drift sheet line tolerances out) = driftedInto sheet line tolerances out .answer .results ∷ []
 countsOf (start sheet line capacity m) = let a = started sheet line capacity m .answer in a .operators ∷ a .inputs ∷ a .results ∷ []
 countsOf (push m set) = pushed m set .answer .count ∷ []
 countsOf (tray m sets number) = trayed m sets number .answer .count ∷ []
@@ -75,6 +80,7 @@ countsOf (checkLog sheet line capacity sets number log m out) = let a = checked 
 unfoldable pub lent : Call → List (List ℕ)
 lent (read sheet line) = []
 lent (tidy sheet out) = out ∷ []
+lent (drift sheet line tolerances out) = out ∷ []
 lent (start sheet line capacity m) = m ∷ []
 lent (push m set) = m ∷ []
 lent (tray m sets number) = m ∷ []
@@ -88,6 +94,7 @@ lent (checkLog sheet line capacity sets number log m out) = m ∷ out ∷ []
 unfoldable pub handed-back : Call → List (List ℕ)
 handed-back (read sheet line) = []
 handed-back (tidy sheet out) = tidiedInto sheet out .out ∷ []
+handed-back (drift sheet line tolerances out) = driftedInto sheet line tolerances out .out ∷ []
 handed-back (start sheet line capacity m) = started sheet line capacity m .mem ∷ []
 handed-back (push m set) = pushed m set .mem ∷ []
 handed-back (tray m sets number) = trayed m sets number .mem ∷ []
@@ -102,6 +109,7 @@ handed-back (checkLog sheet line capacity sets number log m out) = checked sheet
 unfoldable pub tableOf : Call → List Row
 tableOf (read sheet line) = sheetTable sheet line
 tableOf (tidy sheet out) = tidyTable sheet out
+tableOf (drift sheet line tolerances out) = driftTable sheet line tolerances out
 tableOf (start sheet line capacity m) = startTable sheet line capacity m
 tableOf (push m set) = pushTable m set
 tableOf (tray m sets number) = trayTable m sets number
@@ -115,6 +123,7 @@ tableOf (checkLog sheet line capacity sets number log m out) = logTable sheet li
 unfoldable pub numbersOf : Call → List ℕ
 numbersOf (read sheet line) = sheetNumbers
 numbersOf (tidy sheet out) = tidyNumbers
+numbersOf (drift sheet line tolerances out) = driftNumbers
 numbersOf (start sheet line capacity m) = startNumbers
 numbersOf (push m set) = pushNumbers
 numbersOf (tray m sets number) = trayNumbers
@@ -136,6 +145,7 @@ AllZero (n ∷ ns) = (n ≡ 0) × AllZero ns
 abbrev pub Excepted : Call → Type 0
 Excepted (read sheet line) = ⊥
 Excepted (tidy sheet out) = ⊥
+Excepted (drift sheet line tolerances out) = ⊥
 Excepted (start sheet line capacity m) = ⊥
 Excepted (push m set) = ⊥
 Excepted (tray m sets number) = SetRefused m sets number
@@ -150,6 +160,7 @@ Excepted (checkLog sheet line capacity sets number log m out) = AsEarlierLines s
 abbrev pub RowSaid : Call → Type 0
 RowSaid (read sheet line) = RowTold sheet line (answerOf (readingOf sheet line) .refusal) (answerOf (readingOf sheet line) .row)
 RowSaid (tidy sheet out) = RowTold sheet [] (tidiedInto sheet out .answer .refusal) (tidiedInto sheet out .answer .row)
+RowSaid (drift sheet line tolerances out) = RowTold sheet line (driftedInto sheet line tolerances out .answer .refusal) (driftedInto sheet line tolerances out .answer .row)
 RowSaid (start sheet line capacity m) = RowTold sheet line (started sheet line capacity m .answer .refusal) (started sheet line capacity m .answer .row)
 RowSaid (push m set) = Unit {0}
 RowSaid (tray m sets number) = Unit {0}
@@ -166,6 +177,7 @@ pub call-exact : (c : Call) → refusalOf c ≡ first-refusal (tableOf c)
 unfolding refusalOf tableOf
 call-exact (read sheet line) = read-exact sheet line
 call-exact (tidy sheet out) = tidy-exact sheet out
+call-exact (drift sheet line tolerances out) = drift-exact sheet line tolerances out
 call-exact (start sheet line capacity m) = start-exact sheet line capacity m
 call-exact (push m set) = push-exact m set
 call-exact (tray m sets number) = tray-exact m sets number
@@ -189,7 +201,7 @@ pub record RefusedCall (c : Call) : Type 0 where
   -- "names one of the refusals in document 01", one of its own
   pub names : Named (refusalOf c)
   pub own : Among (refusalOf c) (numbersOf c)
-  -- "3 to 9 give the lowest row at fault, others row 0", 18 "lowest row given", 15 and 16 "each with the lowest such line"
+  -- "3 to 9 give the lowest row at fault, others row 0", 18 and 20 "lowest row given", 15 and 16 "each with the lowest such line"
   pub row : RowSaid c
   -- "hands every lent byte back unaltered, save a run that has used up its lent firings", or its lent rounds, a tray by its refused set alone, and a log's 16
   pub back : ((handed-back c ≡ lent c) × AllZero (countsOf c)) ⊎ Excepted c
@@ -198,6 +210,7 @@ table-numbers : (c : Call) (n : ℕ) → Among n (numbers (tableOf c)) → Among
 unfolding tableOf numbersOf
 table-numbers (read sheet line) n a = a
 table-numbers (tidy sheet out) n a = a
+table-numbers (drift sheet line tolerances out) n a = a
 table-numbers (start sheet line capacity m) n a = a
 table-numbers (push m set) n a = a
 table-numbers (tray m sets number) n a = tray-numbers m sets number n a
@@ -220,6 +233,7 @@ row-said : (c : Call) → refusalOf c ≢ 0 → RowSaid c
 unfolding refusalOf
 row-said (read sheet line) h = read-keeps sheet line h .0
 row-said (tidy sheet out) h = tidy-keeps sheet out h .0
+row-said (drift sheet line tolerances out) h = drift-keeps sheet line tolerances out h .0
 row-said (start sheet line capacity m) h = start-keeps sheet line capacity m h .0
 row-said (push m set) h = tt
 row-said (tray m sets number) h = tt
@@ -234,6 +248,7 @@ bytes-back : (c : Call) → refusalOf c ≢ 0 → ((handed-back c ≡ lent c) ×
 unfolding refusalOf handed-back lent countsOf
 bytes-back (read sheet line) h = let k = read-keeps sheet line h in inl (refl, (k .1, (k .2, (k .3, (k .4, tt)))))
 bytes-back (tidy sheet out) h = let k = tidy-keeps sheet out h in inl (one (k .2), (k .1, tt))
+bytes-back (drift sheet line tolerances out) h = let k = drift-keeps sheet line tolerances out h in inl (one (k .2), (k .1, tt))
 bytes-back (start sheet line capacity m) h = let k = start-keeps sheet line capacity m h in inl (one (k .4), (k .1, (k .2, (k .3, tt))))
 bytes-back (push m set) h = let k = push-keeps m set h in inl (one (k .1), (k .0, tt))
 bytes-back (tray m sets number) h = go (tray-keeps m sets number h)

@@ -1,5 +1,5 @@
--- The row of a refusal. Document 01, "Said by what was handed in": "3 to 9 give the lowest row at fault, others row 0"; document 02, Job 6: of 18
--- "lowest row given". Assumes nothing.
+-- The row of a refusal. Document 01, "Said by what was handed in": "3 to 9 give the lowest row at fault, others row 0"; document 02, Job 6 and Job 13: of 18
+-- and of 20 "lowest row given". Assumes nothing.
 use Prim.Native.Nat.{ℕ, _-_, _≤_, _<_}
 use mathlib.Core.Path.{_≡_, refl}
 use mathlib.Core.Bool.{Bool, true, false}
@@ -16,13 +16,14 @@ use Rattle.formula.specs.Places.{placesOf}
 use Rattle.formula.specs.Tests.{lowest, laidOut, fewRows, fieldsWell, rangesWell, namesWell, namedOnce, allNamed, placedWell, widthsWell, boundWell, lineFits, kindsKept, operatorsOf, verdictOf, tests, rowTests, formulaTests, kindTests, graphTests, sheetOf}
 use Rattle.formula.specs.Tree.{expOf}
 use Rattle.formula.specs.Free.{freeE}
-use Rattle.formula.specs.Kinds.{kinded}
+use Rattle.formula.specs.Kinds.{Rule, kinded}
 use Rattle.formula.specs.Faults.{inputKinds}
 use Rattle.formula.specs.TreeLaws.{Named as Naming-well}
 use Rattle.formula.specs.RowsMet.{LowestBroken, lowest-broken}
 use Rattle.formula.specs.Acceptance.{each-naming}
 use Rattle.formula.specs.TestLaws.{lowest-fault, whole-zero}
 use Rattle.formula.specs.Verdicts.{Each, _also_, FaultSays, later-says}
+use Rattle.sheet_movement.specs.Sorts.{drifting}
 
 -- The lowest of n rows that is not well.
 pub record LowestAt (n : ℕ) (well : ℕ → Bool) (row : ℕ) : Type 0 where
@@ -31,10 +32,10 @@ pub record LowestAt (n : ℕ) (well : ℕ → Bool) (row : ℕ) : Type 0 where
   pub fault : well row ≡ false
   pub lower : (j : ℕ) → 1 ≤ j → j < row → well j ≡ true
 
--- The lowest row that breaks, where it stands, the kinds that a line tells. In a sheet that passed test 6 each row stands in one place with
+-- The lowest row that breaks a rule where it stands, under the kinds that a line tells. In a sheet that passed test 6 each row stands in one place with
 -- one kind for each identifier (formula/specs/RowsMet).
-abbrev pub LowestOfKinds : List ℕ → List ℕ → ℕ → Type 0
-LowestOfKinds s line row = LowestBroken kinded (fieldsOf s) (rowCount s) (inputKinds (freeE (expOf (fieldsOf s) (rowCount s))) line) row
+abbrev pub LowestOfKinds : Rule → List ℕ → List ℕ → ℕ → Type 0
+LowestOfKinds rule s line row = LowestBroken rule (fieldsOf s) (rowCount s) (inputKinds (freeE (expOf (fieldsOf s) (rowCount s))) line) row
 
 -- The row that goes with a refusal of a sheet with a kinds line. 15 and 16 are a log's, not a sheet's.
 abbrev pub RowOf : List ℕ → List ℕ → Refusal → ℕ → Type 0
@@ -48,7 +49,7 @@ RowOf s line StrayIter row = LowestAt (rowCount s) (placedWell (fieldsOf s) (pla
 RowOf s line Width row = LowestAt (rowCount s) (widthsWell (fieldsOf s) (placesOf (fieldsOf s) (rowCount s))) row
 RowOf s line Unused row = LowestAt (rowCount s) (boundWell (fieldsOf s) (placesOf (fieldsOf s) (rowCount s))) row
 RowOf s line KindsLine row = row ≡ 0
-RowOf s line KindsBroken row = LowestOfKinds s line row
+RowOf s line KindsBroken row = LowestOfKinds kinded s line row
 RowOf s line Operators row = row ≡ 0
 RowOf s line Memory row = row ≡ 0
 RowOf s line Set row = row ≡ 0
@@ -56,6 +57,8 @@ RowOf s line SetFile row = row ≡ 0
 RowOf s line Capacity row = row ≡ 0
 RowOf s line LogLine row = ⊥
 RowOf s line LogRefused row = ⊥
+RowOf s line Sort row = LowestOfKinds drifting s line row
+RowOf s line Movement row = row ≡ 0
 RowOf s line Altered row = row ≡ 0
 RowOf s line Untaken row = row ≡ 0
 RowOf s line Full row = row ≡ 0
@@ -71,20 +74,20 @@ abbrev pub VerdictRow : List ℕ → List ℕ → Verdict → Type 0
 VerdictRow s line passed = Unit {0}
 VerdictRow s line (refused r row) = RowOf s line r row
 
-by-refusal : (s line : List ℕ) (v : Verdict) → ((r : Refusal) (row : ℕ) → v ≡ refused r row → RowOf s line r row) → VerdictRow s line v
+pub by-refusal : (s line : List ℕ) (v : Verdict) → ((r : Refusal) (row : ℕ) → v ≡ refused r row → RowOf s line r row) → VerdictRow s line v
 by-refusal s line passed h = tt
 by-refusal s line (refused r row) h = h r row refl
 
 pub lowest-at : (n : ℕ) (well : ℕ → Bool) (row : ℕ) → lowest n well ≡ Fault row → LowestAt n well row
 lowest-at n well row h = let i = lowest-fault n well row h in record { first = i .0; last = i .1; fault = i .2; lower = i .3 }
 
-row-faults : (s line : List ℕ) → Each (FaultSays (RowOf s line) (sheetOf s)) rowTests
+pub row-faults : (s line : List ℕ) → Each (FaultSays (RowOf s line) (sheetOf s)) rowTests
 unfolding rowTests sheetOf
 row-faults s line =
     whole-zero (laidOut s (linesOf s)) also whole-zero (fewRows s) also lowest-at _ _ also lowest-at _ _ also lowest-at _ _ also tt
 
 -- Behind test 5, which says that the rows named are the sheet's.
-later-faults : (s line : List ℕ) → Naming-well (fieldsOf s) (rowCount s) → Each (FaultSays (RowOf s line) (sheetOf s)) (formulaTests ++ (kindTests line ++ graphTests))
+pub later-faults : (s line : List ℕ) → Naming-well (fieldsOf s) (rowCount s) → Each (FaultSays (RowOf s line) (sheetOf s)) (formulaTests ++ (kindTests line ++ graphTests))
 unfolding formulaTests kindTests graphTests sheetOf kindsKept
 later-faults s line ok =
     lowest-at _ _ also lowest-at _ _ also lowest-at _ _ also lowest-at _ _

@@ -39,17 +39,17 @@ abbrev pub ToldB : List ℕ → ℕ → Kinds → List ℕ → List ℕ → Body
 ToldB t r kinds again back b = Held (bodyOf t r) kinds again (b .again) back (b .back) × (b .fault ≡ lowestAt t true kinds r)
 
 -- What is below a row that is read alike in both places.
-plain-below : (t : List ℕ) (kinds : Kinds) (s : Shape) → Plain s
-    → faultsBelow (faultsAt kinded t) t true kinds s ≡ faultsBelow (faultsAt kinded t) t false kinds s
+pub plain-below : (F : Bool → Kinds → ℕ → List ℕ) (t : List ℕ) (kinds : Kinds) (s : Shape) → Plain s
+    → faultsBelow F t true kinds s ≡ faultsBelow F t false kinds s
 unfolding faultsBelow
-plain-below t kinds (Identifier a) p = refl
-plain-below t kinds (Constant k a) p = refl
-plain-below t kinds (Pair a b) p = refl
-plain-below t kinds (Operator a b) p = refl
-plain-below t kinds (Let a b c d) p = absurd p
-plain-below t kinds (If a b c) p = absurd p
-plain-below t kinds (For a b c d) p = refl
-plain-below t kinds (Iter a) p = absurd p
+plain-below F t kinds (Identifier a) p = refl
+plain-below F t kinds (Constant k a) p = refl
+plain-below F t kinds (Pair a b) p = refl
+plain-below F t kinds (Operator a b) p = refl
+plain-below F t kinds (Let a b c d) p = absurd p
+plain-below F t kinds (If a b c) p = absurd p
+plain-below F t kinds (For a b c d) p = refl
+plain-below F t kinds (Iter a) p = absurd p
 
 -- The shape behind a way.
 abbrev Shaped : Shape → Way → Type 0
@@ -122,7 +122,7 @@ module _ (t ws : List ℕ) (r : ℕ) (h : BodyRow t ws r) (kinds : Kinds) where
         p .1
             ∙ check-as false (shapeAt t r) refl
             ∙ sym (check-as true (shapeAt t r) refl
-            ∙ (λ j. lesser (own r (kindedB (alike j) kinds)) (lowestOf (plain-below t kinds (shapeAt t r) q j)))),
+            ∙ (λ j. lesser (own r (kindedB (alike j) kinds)) (lowestOf (plain-below (faultsAt kinded t) t kinds (shapeAt t r) q j)))),
       )
 
   pub tell-let-B : (a b c d : ℕ) → shapeAt t r ≡ Let a b c d → (z z′ again back : List ℕ) (n m : ℕ) (f g : Check) → kindsIn z ≡ kinds

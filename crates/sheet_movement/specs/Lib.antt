@@ -1,4 +1,10 @@
 pub mod Sorts
+pub mod Drifts
 pub mod Moves
+pub mod Numbers
+pub mod Passed
 pub mod Within
 pub mod Near
+pub mod Outcomes
+pub mod Sound
+pub mod Ranged

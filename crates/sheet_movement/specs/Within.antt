@@ -5,8 +5,9 @@ use mathlib.Core.Bool.{Bool, true, false, cond}
 use native.Mathlib.Omega.{arith}
 use native.Mathlib.Nat.{div-add-mod, mod-lt, mul-div-le, div-lt-iff-lt-mul, div-le-of-le-mul, le-of-mul-le-mul-left, mul-le-mul-left, mul-add}
 use lib.Dec.{T, ltb, ltb→lt, nltb→le}
-use lib.IntN.{ℤ, pos, negsuc, negℤ, subℕ, _+ℤ_, _*ℤ_}
+use lib.IntN.{ℤ, pos, negsuc, negℤ, natAbs, subℕ, _+ℤ_, _-ℤ_, _*ℤ_}
 use lib.Signed.{quotZ}
+use Rattle.sheet_movement.specs.Moves.{over}
 
 -- The two sides of an integer: it is `up` less `down`, and one of them is 0.
 abbrev pub up : ℤ → ℕ
@@ -43,6 +44,9 @@ within-add d e x y u v p q =
       below = omega (arith, add-balance x y, add-balance u v, p .below, q .below);
     }
 
+pub within-same : (x : ℤ) → Within 0 x x
+within-same x = record { above = omega arith; below = omega arith }
+
 neg-up : (x : ℤ) → up (negℤ x) ≡ down x
 neg-up (pos zero) = refl
 neg-up (pos (suc n)) = refl
@@ -60,11 +64,29 @@ within-negate d x u p =
       below = omega (arith, neg-up x, neg-down x, neg-up u, neg-down u, p .above);
     }
 
--- "a divide by c gives the movement over c, rounded up"
-abbrev pub over : ℕ → ℕ → ℕ
-over d c = (d + (c - 1)) / c
+-- `-ℤ` adds the negated.
+pub within-subtract : (d e : ℕ) (x y u v : ℤ) → Within d x u → Within e y v → Within (d + e) (x -ℤ y) (u -ℤ v)
+within-subtract d e x y u v p q = within-add d e x (negℤ y) u (negℤ v) p (within-negate e y v q)
 
--- d is at most c times that
+-- The same as one number: the difference without its sign.
+sides : (x y : ℤ) → up (x -ℤ y) + (up y + down x) ≡ down (x -ℤ y) + (up x + down y)
+sides x y = omega (arith, add-balance x (negℤ y), neg-up y, neg-down y)
+
+pub within-difference : (d : ℕ) (x y : ℤ) → Within d x y → natAbs (x -ℤ y) ≤ d
+within-difference d x y p = go (x -ℤ y) (sides x y)
+  where
+    go : (z : ℤ) → up z + (up y + down x) ≡ down z + (up x + down y) → natAbs z ≤ d
+    go (pos n) e = omega (arith, e, p .above)
+    go (negsuc n) e = omega (arith, e, p .below)
+
+pub difference-within : (d : ℕ) (x y : ℤ) → natAbs (x -ℤ y) ≤ d → Within d x y
+difference-within d x y h = go (x -ℤ y) (sides x y) h
+  where
+    go : (z : ℤ) → up z + (up y + down x) ≡ down z + (up x + down y) → natAbs z ≤ d → Within d x y
+    go (pos n) e k = record { above = omega (arith, e, k); below = omega (arith, e, k) }
+    go (negsuc n) e k = record { above = omega (arith, e, k); below = omega (arith, e, k) }
+
+-- d is at most c times its movement over c
 over-enough : (d c : ℕ) → 0 < c → d ≤ c * over d c
 over-enough d c h = omega (arith, div-add-mod (d + (c - 1)) c, mod-lt (d + (c - 1)) h)
 

@@ -8,7 +8,7 @@ ghost use Rattle.formula.specs.Sheet.{shapeAt};
 ghost use Rattle.sheet_sorts.specs.Shapes.{wholeRow, amountRow, namesWholeRow, dividesByWholeRow, codeRow, Known};
 
 // The row kind of a whole constant.
-const WHOLE_ROW: u32 = 2;
+pub const WHOLE_ROW: u32 = 2;
 
 pub const ADD: u32 = 1;
 

@@ -1,0 +1,5 @@
+pub mod Fields
+pub mod Evaluates
+pub mod EvaluatedNear
+pub mod TakenNear
+pub mod OneDrift

@@ -1,0 +1,3 @@
+pub mod Others
+pub mod LowerRows
+pub mod Told
