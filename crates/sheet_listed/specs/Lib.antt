@@ -1,2 +1,5 @@
 pub mod Small
 pub mod Search
+pub mod Contents
+pub mod LoopRows
+pub mod RowSizes
