@@ -3,3 +3,5 @@ pub mod Search
 pub mod Contents
 pub mod LoopRows
 pub mod RowSizes
+pub mod Passing
+pub mod NoLoops

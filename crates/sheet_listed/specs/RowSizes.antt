@@ -60,11 +60,11 @@ sum-weighed : (f : ℕ → ℕ) (l : List ℕ) (m : ℕ) → AllBetween (suc m) 
 sum-weighed f [] m h = sym (none-weighed f m)
 sum-weighed f (x ∷ l) m h = ap (λ (k : ℕ). f x + k) (sum-weighed f l m (h .1)) ∙ sym (one-more f x l m (h .0 .0) (omega (arith, h .0 .1)))
 
--- The row sizes: a row and the sizes of the rows that it names.
-module _ (t : List ℕ) (size : ℕ → ℕ) (n : ℕ) (at : (r : ℕ) → 1 ≤ r → r ≤ n → size r ≡ 1 + sumOver size (namedIn (shapeAt t r))) where
-  pub sizes-together : (k : ℕ) → k ≤ n → sumTo size k ≡ k + sumOver size (allNamed t k)
+-- Row sizes: at most a row and the sizes of the rows that it names.
+module _ (t : List ℕ) (size : ℕ → ℕ) (n : ℕ) (at : (r : ℕ) → 1 ≤ r → r ≤ n → size r ≤ 1 + sumOver size (namedIn (shapeAt t r))) where
+  pub sizes-together : (k : ℕ) → k ≤ n → sumTo size k ≤ k + sumOver size (allNamed t k)
   unfolding allNamed
-  sizes-together zero h = refl
+  sizes-together zero h = omega arith
   sizes-together (suc k) h = omega (arith, sizes-together k (omega arith), at (suc k) (omega arith) h, sum-append size (allNamed t k) (namedIn (shapeAt t (suc k))))
 
   -- Where each row below k is named at most once by the rows up to k.
