@@ -5,3 +5,4 @@ pub mod LoopRows
 pub mod RowSizes
 pub mod Passing
 pub mod NoLoops
+pub mod Standing
