@@ -1,2 +1,4 @@
 pub mod Small
 pub mod Search
+pub mod Lists
+pub mod RowLaws
