@@ -15,6 +15,9 @@ use Rattle.sheet_tidied.specs.TextLaws.{Row, five}
 use Rattle.sheet_listed.specs.Small.{modest, smallRow, smallRows, countedRows, countFrom, each, filtered}
 use Rattle.sheet_listed.specs.Lists.{among-filtered, filtered-among, among-map, map-among, among-each, each-among, among-counted, counted-among}
 
+and-both : (a b : Bool) → a ≡ true → b ≡ true → a && b ≡ true
+and-both a b h i = rw (h, i) refl
+
 -- ---- the bounds of the fields
 
 -- The bounds below which the fields are counted.
@@ -31,6 +34,13 @@ module _ (a b c d : ℕ) where
       let x = and-true (inRange kind a b c d) (allBetween 5 (namedIn s) && modest s) h in
       let y = and-true (allBetween 5 (namedIn s)) (modest s) (x .1) in
       (x .0, all-between 5 (namedIn s) (y .0), y .1)
+
+  pub tests-small : (kind : ℕ) → inRange kind a b c d ≡ true → allBetween 5 (namedIn (shapeOf kind a b c d)) ≡ true → modest (shapeOf kind a b c d) ≡ true
+      → smallRow (kind ∷ a ∷ b ∷ c ∷ d ∷ []) ≡ true
+  unfolding smallRow
+  tests-small kind h i j =
+      let s = shapeOf kind a b c d in
+      and-both (inRange kind a b c d) (allBetween 5 (namedIn s) && modest s) h (and-both (allBetween 5 (namedIn s)) (modest s) i j)
 
   is-zero : (x : ℕ) → eqb x 0 ≡ true → x < 5
   is-zero x h = let e = eqb-true x 0 h in omega arith
