@@ -107,3 +107,69 @@ small-up-to n s h u =
 pub small-sheets : smallSheets ≡ filtered isSmall (map sheetText (sheetsUpTo 5))
 unfolding smallSheets
 small-sheets = refl
+
+-- The list is exactly the small sheets.
+pub listed-iff : (s : List ℕ) → Among s smallSheets ↔ (isSmall s ≡ true)
+listed-iff s = (there, back)
+  where
+    there : Among s smallSheets → isSmall s ≡ true
+    there a = filtered-among isSmall s (map sheetText (sheetsUpTo 5)) (subst (Among s) small-sheets a) .1
+
+    back : isSmall s ≡ true → Among s smallSheets
+    back h = subst (Among s) (sym small-sheets) (small-up-to 5 s h (small-has s h .few))
+
+-- ---- "neither empty nor in the list"
+
+pub same-true : (xs ys : List ℕ) → same xs ys ≡ true → xs ≡ ys
+unfolding same
+same-true [] [] h = refl
+same-true [] (y ∷ ys) h = absurd (false≢true h)
+same-true (x ∷ xs) [] h = absurd (false≢true h)
+same-true (x ∷ xs) (y ∷ ys) h =
+    let i = and-true (eqb x y) (same xs ys) h in
+    cc (eqb-true x y (i .0), same-true xs ys (i .1))
+
+pub same-self : (xs : List ℕ) → same xs xs ≡ true
+unfolding same
+same-self [] = refl
+same-self (x ∷ xs) = rw (eq-eqb x x refl) (same-self xs)
+
+headed-listed : (l : List (List ℕ)) → headed l ≡ unlisted → ⊥
+headed-listed [] h = let z : _≡_ {A = ℕ} 0 1 = cc h in omega arith
+headed-listed (y ∷ l) h = let z : _≡_ {A = ℕ} 0 1 = cc h in omega arith
+
+among-following : (l : List (List ℕ)) (g : List ℕ) → following l g ≡ unlisted → Among g l → ⊥
+unfolding following
+among-following [] g h a = a
+among-following (x ∷ l) g h a = go (same x g) refl h (among-following l g) a
+  where
+    go : (b : Bool) → same x g ≡ b → cond b (headed l) (following l g) ≡ unlisted → (following l g ≡ unlisted → Among g l → ⊥) → (g ≡ x) ⊎ Among g l → ⊥
+    go true e i ih a = headed-listed l i
+    go false e i ih (inl p) = false≢true (sym e ∙ ap (same x) p ∙ same-self x)
+    go false e i ih (inr p) = ih i p
+
+following-among : (l : List (List ℕ)) (g : List ℕ) → (Among g l → ⊥) → following l g ≡ unlisted
+unfolding following
+following-among [] g h = refl
+following-among (x ∷ l) g h = go (same x g) refl (following-among l g (λ a. h (inr a)))
+  where
+    go : (b : Bool) → same x g ≡ b → following l g ≡ unlisted → cond b (headed l) (following l g) ≡ unlisted
+    go true e ih = absurd (h (inl (sym (same-true x g e))))
+    go false e ih = ih
+
+-- 22 comes for a sheet that is neither empty nor small, and for no other.
+pub next-unlisted : (s : List ℕ) → (s ≡ [] → ⊥) → isSmall s ≡ false → nextOf s ≡ unlisted
+unfolding nextOf
+next-unlisted s n h = following-among ([] ∷ smallSheets) s go
+  where
+    go : (s ≡ []) ⊎ Among s smallSheets → ⊥
+    go (inl e) = n e
+    go (inr a) = false≢true (sym h ∙ listed-iff s .0 a)
+
+pub unlisted-next : (s : List ℕ) → nextOf s ≡ unlisted → (s ≡ [] → ⊥) × (isSmall s ≡ false)
+unfolding nextOf
+unlisted-next s h = (λ e. among-following ([] ∷ smallSheets) s h (inl e), go (isSmall s) refl)
+  where
+    go : (b : Bool) → isSmall s ≡ b → b ≡ false
+    go true e = absurd (among-following ([] ∷ smallSheets) s h (inr (listed-iff s .1 e)))
+    go false e = refl
