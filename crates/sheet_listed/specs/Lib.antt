@@ -4,3 +4,4 @@ pub mod Lists
 pub mod RowLaws
 pub mod Texts
 pub mod Listed
+pub mod Orders
