@@ -1,5 +1,10 @@
 pub mod Small
 pub mod Search
+pub mod Lists
+pub mod RowLaws
+pub mod Texts
+pub mod Listed
+pub mod Orders
 pub mod Contents
 pub mod LoopRows
 pub mod RowSizes
