@@ -11,3 +11,4 @@ pub mod RowSizes
 pub mod Passing
 pub mod NoLoops
 pub mod Standing
+pub mod SearchLaws

@@ -3,9 +3,10 @@
 use Prim.Native.Nat.{ℕ, _-_, _≤_}
 use mathlib.Core.Path.{_≡_, refl}
 use mathlib.Core.Bool.{Bool, true, false, _&&_, false≢true}
-use mathlib.Core.List.{List, _++_}
+use mathlib.Core.List.{List, _++_, flatten}
 use native.Mathlib.Omega.{arith}
 use lib.Dec.{leb}
+use lib.ListN.{length}
 use borrow.Author.Tests.{eqb-true, leb-true}
 use Rattle.formula.specs.declared.Check.{Check}
 use Rattle.formula.specs.declared.Check.the-variants.{Passed as well, Fault}
@@ -18,6 +19,8 @@ use Rattle.formula.specs.TestLaws.{passed-each}
 use Rattle.formula.specs.TreeLaws.{Named, and-true, all-between}
 use Rattle.formula.specs.PlaceLaws.{Sound}
 use Rattle.formula.specs.Verdicts.{Each, Passes, all-pass}
+use Rattle.sheet_tidied.specs.Text.{sheetText}
+use Rattle.sheet_tidied.specs.TextLaws.{Rows, text-rows, text-fields}
 use Rattle.sheet_listed.specs.Small.{isPassed, modestRow, passesNine, isSmall}
 
 -- n rows with the fields t: tests 4 to 9, and each row's own part.
@@ -75,3 +78,7 @@ module _ (s : List ℕ) where
       each-passing (all-pass (sheetOf s) (rowTests ++ formulaTests) .0 (is-pass (verdictBy (rowTests ++ formulaTests) (sheetOf s)) (first .0)))
       (leb-true n 5 (first .1))
       (passed-each n (modestRow t) (is-well (lowest n (modestRow t)) (both .1)))
+
+-- The same of rows as they are written.
+pub written-passing : (rs : List (List ℕ)) → Rows rs → isSmall (sheetText rs) ≡ true → Passing (flatten rs) (length rs)
+written-passing rs w h = rw (text-rows rs w, text-fields rs w) at (small-passing (sheetText rs) h)

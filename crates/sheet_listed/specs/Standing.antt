@@ -13,7 +13,7 @@ use lib.Seq.{getD-append-add}
 use borrow.Author.Tests.{eq-eqb, le-leb}
 use Rattle.formula.specs.declared.Shape.{Shape}
 use Rattle.formula.specs.declared.Shape.the-variants.{Identifier, Constant, Pair, Operator, Let, If, For, Iter}
-use Rattle.formula.specs.Sheet.{rowCount, fieldsOf, field, shapeAt, namedIn}
+use Rattle.formula.specs.Sheet.{field, shapeAt, namedIn}
 use Rattle.formula.specs.Tree.{Exp, expNode, bodyNode, expOf, bodyOf}
 use Rattle.formula.specs.Places.{inBody, placesOf, nodeIn}
 use Rattle.formula.specs.Widths.{wideE}
@@ -23,14 +23,14 @@ use Rattle.formula.specs.TreeLaws.{AllBetween, Named, all-between, exp-at, body
 use Rattle.formula.specs.FaultRows.{Among}
 use Rattle.formula.specs.PlaceLaws.{occurs-append}
 use Rattle.sheet_tidied.specs.Text.{sheetText}
-use Rattle.sheet_tidied.specs.TextLaws.{Rows as Written, row-length, text-rows, text-fields}
+use Rattle.sheet_tidied.specs.TextLaws.{Rows as Written, row-length}
 use Rattle.sheet_tidied.specs.KeptLaws.{between-among}
 use Rattle.sheet_tidied.specs.Occurring.{among-occurs}
 use Rattle.sheet_tidied.specs.ShapeLaws.{renumbered}
 use Rattle.sheet_tidied.specs.SameFormula.{exp-same, body-same}
 use Rattle.sheet_listed.specs.Small.{isSmall}
 use Rattle.sheet_listed.specs.Search.{Rows, onceEach, standsAt}
-use Rattle.sheet_listed.specs.Passing.{Passing, small-passing}
+use Rattle.sheet_listed.specs.Passing.{Passing, written-passing}
 use Rattle.sheet_listed.specs.NoLoops.{at-most-once, expression-place, passing-kinds}
 
 -- ---- each row of a small sheet stands
@@ -60,9 +60,7 @@ module _ (t : List ℕ) (n : ℕ) (ok : Passing t n) where
       rw (le-leb (field t r 0) 7 (passing-kinds t n ok r l u), ok .names r l u, once-each (namedIn (shapeAt t r)) (allNamed t r) (λ x a. named-here r x l u a), wide, bound) refl
 
 pub small-stands : (rs : Rows) → Written rs → isSmall (sheetText rs) ≡ true → (r : ℕ) → 1 ≤ r → r ≤ length rs → standsAt (flatten rs) r ≡ true
-small-stands rs w h r l u =
-    let ok : Passing (flatten rs) (length rs) = rw (text-rows rs w, text-fields rs w) at (small-passing (sheetText rs) h) in
-    passing-stands (flatten rs) (length rs) ok r l u
+small-stands rs w h = passing-stands (flatten rs) (length rs) (written-passing rs w h)
 
 -- ---- tables that agree on their first n rows
 
