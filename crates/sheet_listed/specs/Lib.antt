@@ -12,3 +12,4 @@ pub mod Passing
 pub mod NoLoops
 pub mod Standing
 pub mod SearchLaws
+pub mod SmallTests

@@ -42,6 +42,13 @@ pub is-pass : (v : Verdict) → isPassed v ≡ true → v ≡ Passed
 is-pass Passed h = refl
 is-pass (Refused r row) h = absurd (false≢true h)
 
+pub not-small : (s : List ℕ) → (isSmall s ≡ true → ⊥) → isSmall s ≡ false
+not-small s h = go (isSmall s) refl
+  where
+    go : (b : Bool) → isSmall s ≡ b → b ≡ false
+    go true e = absurd (h e)
+    go false e = refl
+
 module _ (s : List ℕ) where
   abbrev t : List ℕ
   t = fieldsOf s

@@ -19,7 +19,7 @@ use Rattle.sheet_listed.specs.Lists.{map-among, each-among}
 use Rattle.sheet_listed.specs.RowLaws.{listed-row}
 use Rattle.sheet_listed.specs.Listed.{before, sheets-more, RowsListed, sheets-among, listed-rows}
 use Rattle.sheet_listed.specs.Contents.{rows-listed, loop-row, contents-listed}
-use Rattle.sheet_listed.specs.Passing.{Passing, written-passing}
+use Rattle.sheet_listed.specs.Passing.{not-small, written-passing}
 use Rattle.sheet_listed.specs.NoLoops.{passing-kinds}
 use Rattle.sheet_listed.specs.Standing.{written-fives, small-stands, stands-alike, agree-row}
 
@@ -114,13 +114,6 @@ unfolding sheetsOf firstSmall
 search-leaf front row = refl
 
 -- ---- rows with no small sheet
-
-not-small : (s : List ℕ) → (isSmall s ≡ true → ⊥) → isSmall s ≡ false
-not-small s h = go (isSmall s) refl
-  where
-    go : (b : Bool) → isSmall s ≡ b → b ≡ false
-    go true e = absurd (h e)
-    go false e = refl
 
 module _ (front : Rows) (h : Written front) (row : List ℕ) (w : Row row) (rest : Rows) (v : Written rest) where
   abbrev rs : Rows
