@@ -13,3 +13,5 @@ pub mod NoLoops
 pub mod Standing
 pub mod SearchLaws
 pub mod SmallTests
+pub mod Followed
+pub mod Behind

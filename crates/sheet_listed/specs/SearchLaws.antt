@@ -66,6 +66,12 @@ pub each-completion : (front later : Rows) (j : ℕ) (P : Rows → Type 0)
 unfolding completions
 each-completion front later j P h = each-among (λ row. behindRow front row j) P later (λ row a. each-behind front row j P (h row a))
 
+pub among-take : (k : ℕ) (l : Rows) (x : List ℕ) → Among x (take k l) → Among x l
+among-take zero l x a = absurd a
+among-take (suc k) [] x a = a
+among-take (suc k) (y ∷ l) x (inl e) = inl e
+among-take (suc k) (y ∷ l) x (inr a) = inr (among-take k l x a)
+
 pub among-drop : (k : ℕ) (l : Rows) (x : List ℕ) → Among x (drop k l) → Among x l
 among-drop zero l x a = a
 among-drop (suc k) [] x a = a
@@ -77,9 +83,16 @@ pub searched-as : (front : Rows) (k j : ℕ) → searched front k j ≡ firstSma
 unfolding searched
 searched-as front k j = refl
 
-completions-more : (front : Rows) (row : List ℕ) (later : Rows) (j : ℕ) → completions front (row ∷ later) j ≡ behindRow front row j ++ completions front later j
+pub completions-more : (front : Rows) (row : List ℕ) (later : Rows) (j : ℕ) → completions front (row ∷ later) j ≡ behindRow front row j ++ completions front later j
 unfolding completions each
 completions-more front row later j = refl
+
+pub completions-append : (front rows later : Rows) (j : ℕ) → completions front (rows ++ later) j ≡ completions front rows j ++ completions front later j
+unfolding completions each
+completions-append front [] later j = refl
+completions-append front (row ∷ rows) later j =
+    ap (λ (l : List Rows). behindRow front row j ++ l) (completions-append front rows later j)
+    ∙ sym (append-assoc (behindRow front row j) (completions front rows j) (completions front later j))
 
 -- Row number k with what can follow it, then the later ones.
 pub search-step : (front : Rows) (k j : ℕ) → k < 178 → searched front k j ≡ orElse (firstSmall (behindRow front (contentAt k) j)) (searched front (suc k) j)
@@ -97,15 +110,21 @@ unfolding each
 map-each g f [] = refl
 map-each g f (x ∷ l) = map-append g (f x) (each f l) ∙ ap (λ r. map g (f x) ++ r) (map-each g f l)
 
+-- The sheets that begin with `front`, by their next row.
+pub by-next-row : (front : Rows) (j : ℕ) → map (λ (rest : Rows). front ++ rest) (sheetsOf (suc j)) ≡ completions front smallRows j
+unfolding completions
+by-next-row front j =
+    ap (map (λ (rest : Rows). front ++ rest)) (sheets-more j)
+    ∙ map-each (λ (rest : Rows). front ++ rest) (before (sheetsOf j)) smallRows
+    ∙ ap (λ (f : List ℕ → List Rows). each f smallRows) (fun-ext (λ next. map-map (λ (rest : Rows). front ++ rest) (λ (rest : Rows). next ∷ rest) (sheetsOf j)))
+
+pub behind-front : (front : Rows) (row : List ℕ) (j : ℕ) → behindRow front row j ≡ map (λ (rest : Rows). front ++ (row ∷ []) ++ rest) (sheetsOf j)
+behind-front front row j = ap (λ (f : Rows → Rows). map f (sheetsOf j)) (fun-ext (λ rest. sym (append-assoc front (row ∷ []) rest)))
+
 -- Where more rows are to follow: those behind the row are searched from the first on.
 pub search-inner : (front : Rows) (row : List ℕ) (j : ℕ) → firstSmall (behindRow front row (suc j)) ≡ searched (front ++ (row ∷ [])) 0 j
-unfolding searched completions
 search-inner front row j =
-    ap firstSmall
-    (ap (map (λ (rest : Rows). front ++ (row ∷ rest))) (sheets-more j)
-    ∙ map-each (λ (rest : Rows). front ++ (row ∷ rest)) (before (sheetsOf j)) smallRows
-    ∙ ap (λ (f : List ℕ → List Rows). each f smallRows) (fun-ext (λ next. map-map (λ (rest : Rows). front ++ (row ∷ rest)) (λ (rest : Rows). next ∷ rest) (sheetsOf j)
-    ∙ ap (λ (g : Rows → Rows). map g (sheetsOf j)) (fun-ext (λ rest. sym (append-assoc front (row ∷ []) (next ∷ rest)))))))
+    ap firstSmall (behind-front front row (suc j) ∙ by-next-row (front ++ (row ∷ [])) j) ∙ sym (searched-as (front ++ (row ∷ [])) 0 j)
 
 -- Where none is to follow: the sheet is small or it is not.
 pub search-leaf : (front : Rows) (row : List ℕ)
