@@ -5,3 +5,5 @@ pub mod RowLaws
 pub mod Texts
 pub mod Listed
 pub mod Orders
+pub mod Ordered
+pub mod Rising
