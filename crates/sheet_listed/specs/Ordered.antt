@@ -63,6 +63,10 @@ module _ {A : Type 0} (R : A → A → Type 0) where
       go (no a) (yes b) = absurd (irreflexive (getD l j d) (subst (R (getD l j d)) e (ordered-at d l h j i b u)))
       go (no a) (no b) = omega arith
 
+pub ordered-weaken : {A : Type 0} (R S : A → A → Type 0) (l : List A) → ((x y : A) → Among x l → Among y l → R x y → S x y) → Ordered R l → Ordered S l
+ordered-weaken R S [] k h = tt
+ordered-weaken R S (x ∷ l) k h = (λ y a. k x y (inl refl) (inr a) (h .0 y a), ordered-weaken R S l (λ y z a b. k y z (inr a) (inr b)) (h .1))
+
 module _ {A B : Type 0} (R : A → A → Type 0) (S : B → B → Type 0) where
   pub ordered-map : (f : A → B) (l : List A) → ((x y : A) → Among x l → Among y l → R x y → S (f x) (f y)) → Ordered R l → Ordered S (map f l)
   ordered-map f [] k h = tt

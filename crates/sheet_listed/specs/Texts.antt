@@ -72,7 +72,7 @@ written-text : (l : List ℕ) → length l ≡ 31 → Written l → rowText (lin
 unfolding fieldsWell
 written-text l e h = line-printed l e (h .0) (h .1)
 
-text-more : (r : List ℕ) (rs : List (List ℕ)) → sheetText (r ∷ rs) ≡ rowText r ++ sheetText rs
+pub text-more : (r : List ℕ) (rs : List (List ℕ)) → sheetText (r ∷ rs) ≡ rowText r ++ sheetText rs
 unfolding sheetText
 text-more r rs = refl
 
