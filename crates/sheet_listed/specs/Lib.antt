@@ -7,3 +7,4 @@ pub mod Listed
 pub mod Orders
 pub mod Ordered
 pub mod Rising
+pub mod NextLaws

@@ -113,6 +113,20 @@ pub rising-precedes : (s u : List ℕ) → rowCount s ≡ rowCount u → rises s
 unfolding precedes
 rising-precedes s u e h = equal-first (rowCount s) (rowCount u) (rises s u) e h
 
+rises-nothing : (s : List ℕ) → rises s [] ≡ false
+unfolding rises
+rises-nothing [] = refl
+rises-nothing (x ∷ s) = refl
+
+-- Nothing precedes the empty sheet.
+pub precedes-nothing : (s : List ℕ) → precedes s [] ≡ true → ⊥
+unfolding precedes
+precedes-nothing s h = go (first-which (rowCount s) 0 (rises s []) h)
+  where
+    go : (rowCount s < 0) ⊎ ((rowCount s ≡ 0) × (rises s [] ≡ true)) → ⊥
+    go (inl i) = omega arith
+    go (inr i) = false≢true (sym (rises-nothing s) ∙ i .1)
+
 pub precedes-total : (s u : List ℕ) → length s ≡ 31 * rowCount s → length u ≡ 31 * rowCount u → (s ≡ u) ⊎ ((precedes s u ≡ true) ⊎ (precedes u s ≡ true))
 precedes-total s u e f = go (decLt (rowCount s) (rowCount u)) (decLt (rowCount u) (rowCount s))
   where

@@ -118,7 +118,7 @@ listed-ordered =
 pub listed-rising : (i j : ℕ) → i < j → j < length smallSheets → precedes (getD smallSheets i []) (getD smallSheets j []) ≡ true
 listed-rising i j u v = ordered-at Precedes [] smallSheets listed-ordered i j u v
 
-not-itself : (s : List ℕ) → Precedes s s → ⊥
+pub not-itself : (s : List ℕ) → Precedes s s → ⊥
 not-itself s h = false≢true (sym (precedes-self s) ∙ h)
 
 -- No sheet is listed twice.
