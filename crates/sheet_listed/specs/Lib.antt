@@ -8,3 +8,4 @@ pub mod Orders
 pub mod Ordered
 pub mod Rising
 pub mod NextLaws
+pub mod Walks

@@ -157,19 +157,24 @@ following-among (x ∷ l) g h = go (same x g) refl (following-among l g (λ a. h
     go true e ih = absurd (h (inl (sym (same-true x g e))))
     go false e ih = ih
 
+pub next-of : (g : List ℕ) → nextOf g ≡ following ([] ∷ smallSheets) g
+unfolding nextOf
+next-of g = refl
+
 -- 22 comes for a sheet that is neither empty nor small, and for no other.
 pub next-unlisted : (s : List ℕ) → (s ≡ [] → ⊥) → isSmall s ≡ false → nextOf s ≡ unlisted
-unfolding nextOf
-next-unlisted s n h = following-among ([] ∷ smallSheets) s go
+next-unlisted s n h = next-of s ∙ following-among ([] ∷ smallSheets) s go
   where
     go : (s ≡ []) ⊎ Among s smallSheets → ⊥
     go (inl e) = n e
     go (inr a) = false≢true (sym h ∙ listed-iff s .0 a)
 
 pub unlisted-next : (s : List ℕ) → nextOf s ≡ unlisted → (s ≡ [] → ⊥) × (isSmall s ≡ false)
-unfolding nextOf
-unlisted-next s h = (λ e. among-following ([] ∷ smallSheets) s h (inl e), go (isSmall s) refl)
+unlisted-next s h = (λ e. not-listed (inl e), go (isSmall s) refl)
   where
+    not-listed : (s ≡ []) ⊎ Among s smallSheets → ⊥
+    not-listed a = among-following ([] ∷ smallSheets) s (sym (next-of s) ∙ h) a
+
     go : (b : Bool) → isSmall s ≡ b → b ≡ false
-    go true e = absurd (among-following ([] ∷ smallSheets) s h (inr (listed-iff s .1 e)))
+    go true e = absurd (not-listed (inr (listed-iff s .1 e)))
     go false e = refl

@@ -12,14 +12,14 @@ use Rattle.formula.specs.FaultRows.{Among}
 use Rattle.sheet_tidied.specs.Text.{sheetText}
 use Rattle.sheet_listed.specs.Small.{isSmall, precedes, smallSheets, Behind, next, none-behind, unlisted, same, headed, following, nextOf}
 use Rattle.sheet_listed.specs.Texts.{small-has}
-use Rattle.sheet_listed.specs.Listed.{listed-iff, same-true, same-self, next-unlisted, unlisted-next}
+use Rattle.sheet_listed.specs.Listed.{listed-iff, same-true, next-of, next-unlisted, unlisted-next}
 use Rattle.sheet_listed.specs.Orders.{precedes-once, precedes-nothing, fewer-precedes}
 use Rattle.sheet_listed.specs.Ordered.{Ordered, at-among, among-at, ordered-at}
 use Rattle.sheet_listed.specs.Rising.{Precedes, not-itself, listed-ordered, listed-once}
 
 -- ---- answers apart
 
-next-none : (y : List ℕ) → next y ≡ none-behind → ⊥
+pub next-none : (y : List ℕ) → next y ≡ none-behind → ⊥
 next-none y h = let z : _≡_ {A = ℕ} 0 1 = cc h in omega arith
 
 next-not-listed : (y : List ℕ) → next y ≡ unlisted → ⊥
@@ -96,7 +96,7 @@ following-last (x ∷ l) h g i = go (same x g) refl i (following-last l (h .1) g
 pub empty-first : (u : List ℕ) → isSmall u ≡ true → precedes [] u ≡ true
 empty-first u h = fewer-precedes [] u (small-has u h .rowwise .some)
 
-all-ordered : Ordered Precedes ([] ∷ smallSheets)
+pub all-ordered : Ordered Precedes ([] ∷ smallSheets)
 all-ordered = (λ u a. empty-first u (listed-iff u .0 a), listed-ordered)
 
 -- One small sheet, so that the list is not empty.
@@ -119,8 +119,7 @@ not-empty g y h (inl e) = absurd (precedes-nothing g (subst (Precedes g) e h))
 not-empty g y h (inr a) = listed-iff y .0 a
 
 next-succeeds : (g y : List ℕ) → nextOf g ≡ next y → Succeeds g y
-unfolding nextOf
-next-succeeds g y h = let k = following-least ([] ∷ smallSheets) all-ordered g y h in record {
+next-succeeds g y h = let k = following-least ([] ∷ smallSheets) all-ordered g y (sym (next-of g) ∙ h) in record {
   given = begins (k .given);
   small = not-empty g y (k .behind) (k .listed);
   behind = k .behind;
@@ -137,9 +136,8 @@ pub record Last (g : List ℕ) : Type 0 where
   pub alone : (u : List ℕ) → isSmall u ≡ true → precedes g u ≡ true → ⊥
 
 none-last : (g : List ℕ) → nextOf g ≡ none-behind → Last g
-unfolding nextOf
 none-last g h =
-    let k = following-last ([] ∷ smallSheets) all-ordered g h in
+    let k = following-last ([] ∷ smallSheets) all-ordered g (sym (next-of g) ∙ h) in
     let alone : (u : List ℕ) → isSmall u ≡ true → precedes g u ≡ true → ⊥ = λ u i. k .1 u (inr (listed-iff u .1 i)) in
     record { small = begins alone (k .0); alone = alone }
   where
