@@ -1,24 +1,23 @@
 -- The sheet behind a small sheet (document 02, Job 14: "the next one") is what the search finds: of the same number of rows the first with a later last
 -- row, else with a later row before it, and so on; then the first with more rows. The lists of sheets are taken as they are defined and never computed.
 use Prim.Native.Nat.{ℕ, zero, suc, _+_, _-_, _≤_, _<_}
-use mathlib.Core.Path.{_≡_, refl, sym, ap, subst, _∙_, fun-ext}
-use mathlib.Core.Logic.{_⊎_, inl, inr, _≢_}
-use mathlib.Core.Bool.{Bool, true, false, cond, _&&_, false≢true}
-use mathlib.Core.List.{List, [], _∷_, _++_, map, flatten, append-assoc, append-nil}
+use mathlib.Core.Path.{_≡_, refl, sym, ap, subst, _∙_}
+use mathlib.Core.Bool.{Bool, true, false, cond, _&&_}
+use mathlib.Core.List.{List, [], _∷_, _++_, map, flatten}
 use mathlib.Core.Option.{Option, some, none}
 use native.Mathlib.Omega.{arith}
 use lib.Dec.{eqb}
 use lib.ListN.{length, getD, take, drop, length-append, length-drop}
 use lib.Seq.{take-suc, split-at, take-at, drop-at, getD-at, getD-drop, length-take-le}
-use Rattle.formula.specs.Sheet.{rowCount, fieldsOf}
+use Rattle.formula.specs.Sheet.{fieldsOf}
 use Rattle.formula.specs.FaultRows.{Among}
 use Rattle.sheet_tidied.specs.Text.{sheetText}
 use Rattle.sheet_tidied.specs.TextLaws.{Rows as Written, rows-append, text-length, text-rows, text-fields}
-use Rattle.sheet_listed.specs.Small.{isSmall, filtered, each, smallRows, sheetsOf, sheetsUpTo, smallSheets, Behind, same, headed, following, nextOf}
+use Rattle.sheet_listed.specs.Small.{isSmall, smallRows, sheetsOf, sheetsUpTo, smallSheets, same, headed, following, nextOf}
 use Rattle.sheet_listed.specs.Search.{Rows, firstSmall, orElse, completions, searched, sameRow, placeIn, placeOf, downFrom, upFrom}
-use Rattle.sheet_listed.specs.Lists.{among-left, among-right, among-either, among-map, map-among}
+use Rattle.sheet_listed.specs.Lists.{among-map, map-among}
 use Rattle.sheet_listed.specs.RowLaws.{listed-row}
-use Rattle.sheet_listed.specs.Listed.{before, sheets-more, RowsListed, among-sheets, sheets-among, listed-rows, among-up-to, up-to-among, small-sheets, same-true, same-self}
+use Rattle.sheet_listed.specs.Listed.{RowsListed, among-sheets, sheets-among, listed-rows, among-up-to, up-to-among, small-sheets, same-true}
 use Rattle.sheet_listed.specs.Texts.{small-has}
 use Rattle.sheet_listed.specs.Passing.{written-passing}
 use Rattle.sheet_listed.specs.Standing.{Fives, written-fives}

@@ -5,7 +5,12 @@ pub mod RowLaws
 pub mod Texts
 pub mod Listed
 pub mod Orders
+pub mod Ordered
+pub mod Rising
+pub mod NextLaws
+pub mod Walks
 pub mod Contents
+pub mod Numbers
 pub mod LoopRows
 pub mod RowSizes
 pub mod Passing

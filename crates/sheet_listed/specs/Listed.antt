@@ -1,9 +1,9 @@
 -- The list of small sheets is exactly the small sheets (document 02, Job 14), and 22 comes exactly for a sheet that is neither empty nor in it. The
 -- lists of sheets are taken as they are defined and never computed.
-use Prim.Native.Nat.{ℕ, zero, suc, _+_, _≤_, _<_}
+use Prim.Native.Nat.{ℕ, zero, suc, _≤_, _<_}
 use mathlib.Core.Path.{_≡_, refl, sym, ap, subst, _∙_}
 use mathlib.Core.Logic.{_⊎_, inl, inr, _↔_}
-use mathlib.Core.Bool.{Bool, true, false, cond, _&&_, false≢true}
+use mathlib.Core.Bool.{Bool, true, false, cond, false≢true}
 use mathlib.Core.List.{List, [], _∷_, _++_, map}
 use lib.Dec.{eqb}
 use lib.ListN.{length, getD}
@@ -14,20 +14,16 @@ use Rattle.formula.specs.Sheet.{rowCount}
 use Rattle.formula.specs.TreeLaws.{and-true}
 use Rattle.formula.specs.FaultRows.{Among}
 use Rattle.sheet_tidied.specs.Text.{sheetText}
-use Rattle.sheet_tidied.specs.TextLaws.{Rows, text-rows}
-use Rattle.sheet_listed.specs.Small.{isSmall, filtered, each, smallRows, sheetsOf, sheetsUpTo, smallSheets, Behind, next, none-behind, unlisted, same, headed, following, nextOf}
+use Rattle.sheet_tidied.specs.TextLaws.{Rows}
+use Rattle.sheet_listed.specs.Small.{isSmall, filtered, each, smallRows, sheetsOf, sheetsUpTo, smallSheets, unlisted, same, headed, following, nextOf}
 use Rattle.sheet_listed.specs.Lists.{among-left, among-right, among-either, among-filtered, filtered-among, among-map, map-among, among-each, each-among}
 use Rattle.sheet_listed.specs.RowLaws.{listed-row}
-use Rattle.sheet_listed.specs.Texts.{SmallSheet, small-has, small-text, rowsOf, rows-length, row-among}
+use Rattle.sheet_listed.specs.Texts.{small-has, small-text, rowsOf, rows-length, row-among}
 
 -- ---- the sheets of n small rows
 
 abbrev pub before : List (List (List ℕ)) → List ℕ → List (List (List ℕ))
 before l row = map (λ (rest : List (List ℕ)). row ∷ rest) l
-
-pub sheets-more : (n : ℕ) → sheetsOf (suc n) ≡ each (before (sheetsOf n)) smallRows
-unfolding sheetsOf
-sheets-more n = refl
 
 -- n rows, each of the list of small rows.
 pub record RowsListed (n : ℕ) (rs : List (List ℕ)) : Type 0 where
@@ -104,19 +100,20 @@ small-up-to n s h u =
     (among-up-to n (rowCount s) (rowsOf s) (k .rowwise .some) u (among-sheets (rowCount s) (rowsOf s) (small-rows s h)))))
     h
 
+small-listed : (s : List ℕ) → isSmall s ≡ true → Among s smallSheets
+unfolding smallSheets
+small-listed s h = small-up-to 5 s h (small-has s h .few)
+
 pub small-sheets : smallSheets ≡ filtered isSmall (map sheetText (sheetsUpTo 5))
 unfolding smallSheets
 small-sheets = refl
 
+listed-small : (s : List ℕ) → Among s smallSheets → isSmall s ≡ true
+listed-small s a = filtered-among isSmall s (map sheetText (sheetsUpTo 5)) (subst (Among s) small-sheets a) .1
+
 -- The list is exactly the small sheets.
 pub listed-iff : (s : List ℕ) → Among s smallSheets ↔ (isSmall s ≡ true)
-listed-iff s = (there, back)
-  where
-    there : Among s smallSheets → isSmall s ≡ true
-    there a = filtered-among isSmall s (map sheetText (sheetsUpTo 5)) (subst (Among s) small-sheets a) .1
-
-    back : isSmall s ≡ true → Among s smallSheets
-    back h = subst (Among s) (sym small-sheets) (small-up-to 5 s h (small-has s h .few))
+listed-iff s = (listed-small s, small-listed s)
 
 -- ---- "neither empty nor in the list"
 
@@ -157,19 +154,24 @@ following-among (x ∷ l) g h = go (same x g) refl (following-among l g (λ a. h
     go true e ih = absurd (h (inl (sym (same-true x g e))))
     go false e ih = ih
 
+pub next-of : (g : List ℕ) → nextOf g ≡ following ([] ∷ smallSheets) g
+unfolding nextOf
+next-of g = refl
+
 -- 22 comes for a sheet that is neither empty nor small, and for no other.
 pub next-unlisted : (s : List ℕ) → (s ≡ [] → ⊥) → isSmall s ≡ false → nextOf s ≡ unlisted
-unfolding nextOf
-next-unlisted s n h = following-among ([] ∷ smallSheets) s go
+next-unlisted s n h = next-of s ∙ following-among ([] ∷ smallSheets) s go
   where
     go : (s ≡ []) ⊎ Among s smallSheets → ⊥
     go (inl e) = n e
     go (inr a) = false≢true (sym h ∙ listed-iff s .0 a)
 
 pub unlisted-next : (s : List ℕ) → nextOf s ≡ unlisted → (s ≡ [] → ⊥) × (isSmall s ≡ false)
-unfolding nextOf
-unlisted-next s h = (λ e. among-following ([] ∷ smallSheets) s h (inl e), go (isSmall s) refl)
+unlisted-next s h = (λ e. not-listed (inl e), go (isSmall s) refl)
   where
+    not-listed : (s ≡ []) ⊎ Among s smallSheets → ⊥
+    not-listed a = among-following ([] ∷ smallSheets) s (sym (next-of s) ∙ h) a
+
     go : (b : Bool) → isSmall s ≡ b → b ≡ false
-    go true e = absurd (among-following ([] ∷ smallSheets) s h (inr (listed-iff s .1 e)))
+    go true e = absurd (not-listed (inr (listed-iff s .1 e)))
     go false e = refl

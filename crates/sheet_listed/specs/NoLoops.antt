@@ -8,7 +8,7 @@ use native.Mathlib.Omega.{arith}
 use native.Mathlib.Decide.{decLt}
 use lib.Dec.{eqb, leb}
 use lib.ListN.{replicate, getD-replicate, List·getD-eq-default, length-replicate}
-use borrow.Author.Tests.{eqb-true, eqb-false, eq-eqb, ne-eqb, leb-true, not-true}
+use borrow.Author.Tests.{eqb-true, eqb-false, ne-eqb, leb-true, not-true}
 use Rattle.formula.specs.declared.Shape.{Shape}
 use Rattle.formula.specs.declared.Shape.the-variants.{Identifier, Constant, Pair, Operator, Let, If, For, Iter}
 use Rattle.formula.specs.Sheet.{rowCount, fieldsOf, field, shapeOf, shapeAt, namedIn}
@@ -16,7 +16,7 @@ use Rattle.formula.specs.Tree.{Exp, forE, Body, ret, expNode, bodyNode, expOf, 
 use Rattle.formula.specs.Places.{bodiesIn, inBody, mark, markDown, placesOf, nodeIn}
 use Rattle.formula.specs.Widths.{width, returned, iterated, fittingE, fittingB, wideE, wideB}
 use Rattle.formula.specs.Tests.{occurrences, allNamed, bindsWell, inRange, rangesWell, isIter, placedWell, wideNode, widthsWell}
-use Rattle.formula.specs.TreeLaws.{AllBetween, Named, and-true, exp-at, body-at, exp-as, body-as}
+use Rattle.formula.specs.TreeLaws.{AllBetween, and-true, exp-at, body-at, exp-as, body-as}
 use Rattle.formula.specs.PlaceLaws.{Sound, occurs-append}
 use Rattle.sheet_listed.specs.Small.{modest, modestRow, isSmall}
 use Rattle.sheet_listed.specs.LoopRows.{rowsE, rowsB, some-rows, loop-body-rows}
@@ -53,7 +53,7 @@ between-append : (r : ℕ) (l m : List ℕ) → AllBetween r l → AllBetween r 
 between-append r [] m h i = i
 between-append r (x ∷ l) m h i = (h .0, between-append r l m (h .1) i)
 
-pub between-more : (q r : ℕ) (l : List ℕ) → q ≤ r → AllBetween q l → AllBetween r l
+between-more : (q r : ℕ) (l : List ℕ) → q ≤ r → AllBetween q l → AllBetween r l
 between-more q r [] h a = tt
 between-more q r (x ∷ l) h a = ((a .0 .0, omega (arith, a .0 .1)), between-more q r l h (a .1))
 
@@ -88,9 +88,13 @@ module _ (t : List ℕ) (n : ℕ) (ok : Sound t n) where
   size-at r l u =
       let e : (k : ℕ) → rowsE (expOf t k) ≤ size k = λ k. omega arith in
       let b : (k : ℕ) → rowsB (bodyOf t k) ≤ size k = λ k. omega arith in
-      omega (arith,
-      ap rowsE (exp-at t n (ok .named) r l u), exp-rows (expOf t) (bodyOf t) size e b (shapeAt t r),
-      ap rowsB (body-at t n (ok .named) r l u), body-rows (expOf t) (bodyOf t) size e b (shapeAt t r))
+      omega (
+        arith,
+        ap rowsE (exp-at t n (ok .named) r l u),
+        exp-rows (expOf t) (bodyOf t) size e b (shapeAt t r),
+        ap rowsB (body-at t n (ok .named) r l u),
+        body-rows (expOf t) (bodyOf t) size e b (shapeAt t r),
+      )
 
   tree-rows : (r : ℕ) → 1 ≤ r → r ≤ n → rowsE (expOf t r) ≤ r
   unfolding size

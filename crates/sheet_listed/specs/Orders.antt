@@ -1,6 +1,6 @@
 -- "Fewer rows come first, then rising bytes" (document 02, Job 14) is an order: no sheet precedes itself, what precedes passes on, and of two sheets with
 -- whole rows that differ one precedes the other. Assumes nothing.
-use Prim.Native.Nat.{ℕ, suc, _*_, _<_}
+use Prim.Native.Nat.{ℕ, _*_, _<_}
 use mathlib.Core.Path.{_≡_, refl, sym, ap, _∙_}
 use mathlib.Core.Logic.{_⊎_, inl, inr}
 use mathlib.Core.Bool.{Bool, true, false, _&&_, _||_, false≢true}
@@ -9,7 +9,7 @@ use lib.Dec.{eqb, ltb}
 use lib.ListN.{length}
 use borrow.Author.Tests.{eqb-true, eq-eqb, ltb-true, lt-ltb, le-ltb}
 use native.Mathlib.Omega.{arith}
-use native.Mathlib.Decide.{ℕ-discrete, decLt}
+use native.Mathlib.Decide.{decLt}
 use Rattle.formula.specs.Sheet.{rowCount}
 use Rattle.formula.specs.TreeLaws.{and-true}
 use Rattle.sheet_listed.specs.Small.{rises, precedes}
@@ -112,6 +112,20 @@ fewer-precedes s u h = less-first (rowCount s) (rowCount u) (rises s u) h
 pub rising-precedes : (s u : List ℕ) → rowCount s ≡ rowCount u → rises s u ≡ true → precedes s u ≡ true
 unfolding precedes
 rising-precedes s u e h = equal-first (rowCount s) (rowCount u) (rises s u) e h
+
+rises-nothing : (s : List ℕ) → rises s [] ≡ false
+unfolding rises
+rises-nothing [] = refl
+rises-nothing (x ∷ s) = refl
+
+-- Nothing precedes the empty sheet.
+pub precedes-nothing : (s : List ℕ) → precedes s [] ≡ true → ⊥
+unfolding precedes
+precedes-nothing s h = go (first-which (rowCount s) 0 (rises s []) h)
+  where
+    go : (rowCount s < 0) ⊎ ((rowCount s ≡ 0) × (rises s [] ≡ true)) → ⊥
+    go (inl i) = omega arith
+    go (inr i) = false≢true (sym (rises-nothing s) ∙ i .1)
 
 pub precedes-total : (s u : List ℕ) → length s ≡ 31 * rowCount s → length u ≡ 31 * rowCount u → (s ≡ u) ⊎ ((precedes s u ≡ true) ⊎ (precedes u s ≡ true))
 precedes-total s u e f = go (decLt (rowCount s) (rowCount u)) (decLt (rowCount u) (rowCount s))

@@ -34,11 +34,11 @@ pub record Passing (t : List ℕ) (n : ℕ) : Type 0 where
   pub bound : (r : ℕ) → 1 ≤ r → r ≤ n → boundWell t (placesOf t n) r ≡ true
   pub modest : (r : ℕ) → 1 ≤ r → r ≤ n → modestRow t r ≡ true
 
-pub is-well : (c : Check) → is-passed c ≡ true → c ≡ well
+is-well : (c : Check) → is-passed c ≡ true → c ≡ well
 is-well well h = refl
 is-well (Fault r) h = absurd (false≢true h)
 
-pub is-pass : (v : Verdict) → isPassed v ≡ true → v ≡ Passed
+is-pass : (v : Verdict) → isPassed v ≡ true → v ≡ Passed
 is-pass Passed h = refl
 is-pass (Refused r row) h = absurd (false≢true h)
 

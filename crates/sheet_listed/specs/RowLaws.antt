@@ -12,7 +12,7 @@ use Rattle.formula.specs.Tests.{inRange, allBetween}
 use Rattle.formula.specs.FaultRows.{Among}
 use Rattle.formula.specs.TreeLaws.{AllBetween, and-true, all-between}
 use Rattle.sheet_tidied.specs.TextLaws.{Row, five}
-use Rattle.sheet_listed.specs.Small.{modest, smallRow, smallRows, countedRows, countFrom, each, filtered}
+use Rattle.sheet_listed.specs.Small.{modest, smallRow, smallRows, countedRows, countFrom, each}
 use Rattle.sheet_listed.specs.Lists.{among-filtered, filtered-among, among-map, map-among, among-each, each-among, among-counted, counted-among}
 
 and-both : (a b : Bool) → a ≡ true → b ≡ true → a && b ≡ true
@@ -60,7 +60,7 @@ module _ (a b c d : ℕ) where
   binding-counted : AllBetween 5 (c ∷ d ∷ []) → leb (a + b) 2 ≡ true → Counted a b c d
   binding-counted n m = let l = leb-true (a + b) 2 m in (omega arith, omega arith, n .0 .1, n .1 .0 .1)
 
-  pub small-counted : (kind : ℕ) → 1 ≤ kind → kind ≤ 9 → smallRow (kind ∷ a ∷ b ∷ c ∷ d ∷ []) ≡ true → Counted a b c d
+  small-counted : (kind : ℕ) → 1 ≤ kind → kind ≤ 9 → smallRow (kind ∷ a ∷ b ∷ c ∷ d ∷ []) ≡ true → Counted a b c d
   unfolding inRange namedIn shapeOf modest
   small-counted zero l u h = absurd (omega arith)
   small-counted (suc zero) l u h = let t = small-tests 1 h in leaf-counted (leb a 31) (t .0) (t .2)
@@ -88,48 +88,60 @@ module _ (a b c d : ℕ) where
 
 -- ---- the list, field by field
 
-abbrev withD : ℕ → ℕ → ℕ → ℕ → List (List ℕ)
-withD kind a b c = map (λ d. kind ∷ a ∷ b ∷ c ∷ d ∷ []) (countFrom 0 5)
+abbrev withD : ℕ → ℕ → ℕ → ℕ → ℕ → List (List ℕ)
+withD n kind a b c = map (λ d. kind ∷ a ∷ b ∷ c ∷ d ∷ []) (countFrom 0 n)
 
-abbrev withC : ℕ → ℕ → ℕ → List (List ℕ)
-withC kind a b = each (withD kind a b) (countFrom 0 5)
+abbrev withC : ℕ → ℕ → ℕ → ℕ → ℕ → List (List ℕ)
+withC m n kind a b = each (withD n kind a b) (countFrom 0 m)
 
-abbrev withB : ℕ → ℕ → List (List ℕ)
-withB kind a = each (withC kind a) (countFrom 0 5)
+abbrev withB : ℕ → ℕ → ℕ → ℕ → ℕ → List (List ℕ)
+withB l m n kind a = each (withC m n kind a) (countFrom 0 l)
 
-abbrev withA : ℕ → List (List ℕ)
-withA kind = each (withB kind) (countFrom 0 12)
+abbrev withA : ℕ → ℕ → ℕ → ℕ → ℕ → List (List ℕ)
+withA k l m n kind = each (withB l m n kind) (countFrom 0 k)
 
-among-rows : (kind a b c d : ℕ) → 1 ≤ kind → kind ≤ 9 → Counted a b c d → Among (kind ∷ a ∷ b ∷ c ∷ d ∷ []) countedRows
+-- All rows of kinds 1 to j and of fields below four bounds.
+abbrev rowsBelow : ℕ → ℕ → ℕ → ℕ → ℕ → List (List ℕ)
+rowsBelow j k l m n = each (withA k l m n) (countFrom 1 j)
+
+module _ (j k l m n : ℕ) where
+  among-below : (kind a b c d : ℕ) → 1 ≤ kind → kind ≤ j → a < k → b < l → c < m → d < n → Among (kind ∷ a ∷ b ∷ c ∷ d ∷ []) (rowsBelow j k l m n)
+  among-below kind a b c d low high ha hb hc hd =
+      let row : List ℕ = kind ∷ a ∷ b ∷ c ∷ d ∷ [] in
+      among-each (withA k l m n) kind (countFrom 1 j) row (among-counted kind 1 j low (omega arith))
+      (among-each (withB l m n kind) a (countFrom 0 k) row (among-counted a 0 k (omega arith) (omega arith))
+      (among-each (withC m n kind a) b (countFrom 0 l) row (among-counted b 0 l (omega arith) (omega arith))
+      (among-each (withD n kind a b) c (countFrom 0 m) row (among-counted c 0 m (omega arith) (omega arith))
+      (among-map (λ d. kind ∷ a ∷ b ∷ c ∷ d ∷ []) d (countFrom 0 n) (among-counted d 0 n (omega arith) (omega arith))))))
+
+  below-among : (q : List ℕ) → Among q (rowsBelow j k l m n) → j ≤ 999999 → k ≤ 999999 → l ≤ 999999 → m ≤ 999999 → n ≤ 999999 → Row q
+  below-among q z hj hk hl hm hn = each-among (withA k l m n) Row (countFrom 1 j) (λ kind e.
+      each-among (withB l m n kind) Row (countFrom 0 k) (λ a f.
+      each-among (withC m n kind a) Row (countFrom 0 l) (λ b g.
+      each-among (withD n kind a b) Row (countFrom 0 m) (λ c h.
+      map-among (λ d. kind ∷ a ∷ b ∷ c ∷ d ∷ []) Row (countFrom 0 n) (λ d i.
+      five kind a b c d
+      (omega (arith, counted-among kind 1 j e .1))
+      (omega (arith, counted-among a 0 k f .1))
+      (omega (arith, counted-among b 0 l g .1))
+      (omega (arith, counted-among c 0 m h .1))
+      (omega (arith, counted-among d 0 n i .1)))))))
+      q z
+
+-- A small row of kind 1 to 9 is counted, and so one of the list.
+among-counted-rows : (kind a b c d : ℕ) → 1 ≤ kind → kind ≤ 9 → Counted a b c d → Among (kind ∷ a ∷ b ∷ c ∷ d ∷ []) countedRows
 unfolding countedRows
-among-rows kind a b c d l u h =
-    let row : List ℕ = kind ∷ a ∷ b ∷ c ∷ d ∷ [] in
-    among-each withA kind (countFrom 1 9) row (among-counted kind 1 9 l (omega arith))
-    (among-each (withB kind) a (countFrom 0 12) row (among-counted a 0 12 (omega arith) (omega (arith, h .0)))
-    (among-each (withC kind a) b (countFrom 0 5) row (among-counted b 0 5 (omega arith) (omega (arith, h .1)))
-    (among-each (withD kind a b) c (countFrom 0 5) row (among-counted c 0 5 (omega arith) (omega (arith, h .2)))
-    (among-map (λ d. kind ∷ a ∷ b ∷ c ∷ d ∷ []) d (countFrom 0 5) (among-counted d 0 5 (omega arith) (omega (arith, h .3)))))))
+among-counted-rows kind a b c d l u h = among-below 9 12 5 5 5 kind a b c d l u (h .0) (h .1) (h .2) (h .3)
 
-rows-among : (q : List ℕ) → Among q countedRows → Row q
-unfolding countedRows
-rows-among = each-among withA Row (countFrom 1 9) (λ kind i.
-    each-among (withB kind) Row (countFrom 0 12) (λ a j.
-    each-among (withC kind a) Row (countFrom 0 5) (λ b k.
-    each-among (withD kind a b) Row (countFrom 0 5) (λ c l.
-    map-among (λ d. kind ∷ a ∷ b ∷ c ∷ d ∷ []) Row (countFrom 0 5) (λ d m.
-    five kind a b c d
-    (omega (arith, counted-among kind 1 9 i .1))
-    (omega (arith, counted-among a 0 12 j .1))
-    (omega (arith, counted-among b 0 5 k .1))
-    (omega (arith, counted-among c 0 5 l .1))
-    (omega (arith, counted-among d 0 5 m .1)))))))
-
--- A small row of kind 1 to 9 is one of the list.
 pub row-listed : (kind a b c d : ℕ) → 1 ≤ kind → kind ≤ 9 → smallRow (kind ∷ a ∷ b ∷ c ∷ d ∷ []) ≡ true → Among (kind ∷ a ∷ b ∷ c ∷ d ∷ []) smallRows
 unfolding smallRows
 row-listed kind a b c d l u h =
     let row : List ℕ = kind ∷ a ∷ b ∷ c ∷ d ∷ [] in
-    among-filtered smallRow row countedRows (among-rows kind a b c d l u (small-counted a b c d kind l u h)) h
+    among-filtered smallRow row countedRows (among-counted-rows kind a b c d l u (small-counted a b c d kind l u h)) h
+
+rows-among : (q : List ℕ) → Among q countedRows → Row q
+unfolding countedRows
+rows-among q h = below-among 9 12 5 5 5 q h (omega arith) (omega arith) (omega arith) (omega arith) (omega arith)
 
 -- Each of the list is small, with five fields that a sheet can hold.
 pub listed-row : (q : List ℕ) → Among q smallRows → Row q × (smallRow q ≡ true)

@@ -4,8 +4,8 @@ use Prim.Native.Nat.{ℕ, zero, suc, _+_, _-_, _≤_, _<_}
 use mathlib.Core.Path.{_≡_, refl, sym, ap, subst, _∙_, fun-ext}
 use mathlib.Core.Logic.{_⊎_, inl, inr}
 use mathlib.Core.Bool.{Bool, true, false, cond, false≢true}
-use mathlib.Core.List.{List, [], _∷_, _++_, map, map-map, map-append, append-assoc, flatten}
-use mathlib.Core.Option.{Option, some, none}
+use mathlib.Core.List.{List, [], _∷_, _++_, map, map-map, map-append, append-assoc, append-nil, flatten}
+use mathlib.Core.Option.{some, none}
 use native.Mathlib.Omega.{arith}
 use lib.ListN.{length, getD, take, drop, length-append}
 use lib.Seq.{drop-cons, drop-drop, getD-append-seam, take-append-seam}
@@ -17,7 +17,7 @@ use Rattle.sheet_listed.specs.Small.{isSmall, each, smallRows, sheetsOf}
 use Rattle.sheet_listed.specs.Search.{Rows, firstSmall, orElse, completions, searched, contentAt, standsAt}
 use Rattle.sheet_listed.specs.Lists.{map-among, each-among}
 use Rattle.sheet_listed.specs.RowLaws.{listed-row}
-use Rattle.sheet_listed.specs.Listed.{before, sheets-more, RowsListed, sheets-among, listed-rows}
+use Rattle.sheet_listed.specs.Listed.{before, RowsListed, sheets-among, listed-rows}
 use Rattle.sheet_listed.specs.Contents.{rows-listed, loop-row, contents-listed}
 use Rattle.sheet_listed.specs.Passing.{not-small, written-passing}
 use Rattle.sheet_listed.specs.NoLoops.{passing-kinds}
@@ -87,6 +87,10 @@ pub completions-more : (front : Rows) (row : List ℕ) (later : Rows) (j : ℕ) 
 unfolding completions each
 completions-more front row later j = refl
 
+pub completions-one : (front : Rows) (row : List ℕ) (j : ℕ) → completions front (row ∷ []) j ≡ behindRow front row j
+unfolding completions each
+completions-one front row j = append-nil (behindRow front row j)
+
 pub completions-append : (front rows later : Rows) (j : ℕ) → completions front (rows ++ later) j ≡ completions front rows j ++ completions front later j
 unfolding completions each
 completions-append front [] later j = refl
@@ -109,6 +113,10 @@ map-each : {A B C : Type 0} (g : B → C) (f : A → List B) (l : List A) → ma
 unfolding each
 map-each g f [] = refl
 map-each g f (x ∷ l) = map-append g (f x) (each f l) ∙ ap (λ r. map g (f x) ++ r) (map-each g f l)
+
+sheets-more : (j : ℕ) → sheetsOf (suc j) ≡ each (before (sheetsOf j)) smallRows
+unfolding sheetsOf
+sheets-more j = refl
 
 -- The sheets that begin with `front`, by their next row.
 pub by-next-row : (front : Rows) (j : ℕ) → map (λ (rest : Rows). front ++ rest) (sheetsOf (suc j)) ≡ completions front smallRows j

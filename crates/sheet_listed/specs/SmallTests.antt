@@ -1,8 +1,8 @@
 -- Whether n small rows are a small sheet is a matter of their table alone: test 5, and tests 6 to 9 as the reader makes them.
-use Prim.Native.Nat.{ℕ, suc, _*_, _+_, _-_, _≤_, _<_}
-use mathlib.Core.Path.{_≡_, refl, sym, ap, _∙_}
+use Prim.Native.Nat.{ℕ, _-_, _≤_}
+use mathlib.Core.Path.{_≡_, refl, ap, _∙_}
 use mathlib.Core.Bool.{Bool, true, false, _&&_}
-use mathlib.Core.List.{List, [], _∷_, flatten}
+use mathlib.Core.List.{List, [], flatten}
 use native.Mathlib.Omega.{arith}
 use lib.Dec.{leb}
 use lib.ListN.{length, getD}
@@ -10,10 +10,10 @@ use borrow.Author.Tests.{le-leb}
 use Rattle.formula.specs.declared.Check.{Check}
 use Rattle.formula.specs.declared.Check.the-variants.{Passed as well, Fault}
 use Rattle.formula.specs.declared.Verdict.{Verdict}
-use Rattle.formula.specs.declared.Verdict.the-variants.{Passed, Refused}
-use Rattle.formula.specs.Sheet.{rowCount, linesOf, fieldsOf, field, shapeAt, namedIn}
+use Rattle.formula.specs.declared.Verdict.the-variants.{Passed}
+use Rattle.formula.specs.Sheet.{rowCount, fieldsOf, field, shapeAt, namedIn}
 use Rattle.formula.specs.Places.{placesOf}
-use Rattle.formula.specs.Tests.{is-passed, lowest, rangesWell, namesWell, sheetOf, rowTests, formulaTests, verdictBy, inRange, allBetween}
+use Rattle.formula.specs.Tests.{is-passed, lowest, rangesWell, namesWell, sheetOf, rowTests, formulaTests, verdictBy, allBetween}
 use Rattle.formula.specs.TestLaws.{passed-each, each-passed}
 use Rattle.formula.specs.TreeLaws.{and-true}
 use Rattle.formula.specs.Verdicts.{then, then-behind}

@@ -7,15 +7,15 @@ use mathlib.Core.Bool.{Bool, true, false, _&&_}
 use mathlib.Core.List.{List, [], _∷_, _++_, flatten, append-assoc}
 use native.Mathlib.Omega.{arith}
 use native.Mathlib.Decide.{ℕ-discrete, decLt}
-use lib.Dec.{eqb, leb}
+use lib.Dec.{leb}
 use lib.ListN.{length, getD, length-append, List·getD-append}
 use lib.Seq.{getD-append-add}
 use borrow.Author.Tests.{eq-eqb, le-leb}
 use Rattle.formula.specs.declared.Shape.{Shape}
 use Rattle.formula.specs.declared.Shape.the-variants.{Identifier, Constant, Pair, Operator, Let, If, For, Iter}
 use Rattle.formula.specs.Sheet.{field, shapeAt, namedIn}
-use Rattle.formula.specs.Tree.{Exp, expNode, bodyNode, expOf, bodyOf}
-use Rattle.formula.specs.Places.{inBody, placesOf, nodeIn}
+use Rattle.formula.specs.Tree.{expNode, bodyNode, expOf, bodyOf}
+use Rattle.formula.specs.Places.{nodeIn}
 use Rattle.formula.specs.Widths.{wideE}
 use Rattle.formula.specs.Free.{boundE}
 use Rattle.formula.specs.Tests.{occurrences, allNamed, allBetween, namesWell, wideNode, widthsWell, boundNode, boundWell}
@@ -46,10 +46,12 @@ module _ (t : List ℕ) (n : ℕ) (ok : Passing t n) where
   named-here zero x l u a = absurd (omega arith)
   named-here (suc k) x l u a =
       let b = between-among (suc k) x (namedIn (shapeAt t (suc k))) (ok .sound .named .names (suc k) l u) a in
-      omega (arith,
-      at-most-once t n (ok .sound) (suc k) x u (b .0) (omega (arith, b .1)),
-      among-occurs x (namedIn (shapeAt t (suc k))) a,
-      occurs-append x (allNamed t k) (namedIn (shapeAt t (suc k))))
+      omega (
+        arith,
+        at-most-once t n (ok .sound) (suc k) x u (b .0) (omega (arith, b .1)),
+        among-occurs x (namedIn (shapeAt t (suc k))) a,
+        occurs-append x (allNamed t k) (namedIn (shapeAt t (suc k))),
+      )
 
   pub passing-stands : (r : ℕ) → 1 ≤ r → r ≤ n → standsAt t r ≡ true
   unfolding standsAt widthsWell wideNode boundWell boundNode nodeIn
