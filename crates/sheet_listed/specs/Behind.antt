@@ -2,11 +2,10 @@
 -- row, else with a later row before it, and so on; then the first with more rows. The lists of sheets are taken as they are defined and never computed.
 use Prim.Native.Nat.{ℕ, zero, suc, _+_, _-_, _≤_, _<_}
 use mathlib.Core.Path.{_≡_, refl, sym, ap, subst, _∙_}
-use mathlib.Core.Bool.{Bool, true, false, cond, _&&_}
+use mathlib.Core.Bool.{Bool, true, false, cond}
 use mathlib.Core.List.{List, [], _∷_, _++_, map, flatten}
 use mathlib.Core.Option.{Option, some, none}
 use native.Mathlib.Omega.{arith}
-use lib.Dec.{eqb}
 use lib.ListN.{length, getD, take, drop, length-append, length-drop}
 use lib.Seq.{take-suc, split-at, take-at, drop-at, getD-at, getD-drop, length-take-le}
 use Rattle.formula.specs.Sheet.{fieldsOf}
@@ -19,6 +18,7 @@ use Rattle.sheet_listed.specs.Lists.{among-map, map-among}
 use Rattle.sheet_listed.specs.RowLaws.{listed-row}
 use Rattle.sheet_listed.specs.Listed.{RowsListed, among-sheets, sheets-among, listed-rows, among-up-to, up-to-among, small-sheets, same-true}
 use Rattle.sheet_listed.specs.Texts.{small-has}
+use Rattle.sheet_listed.specs.Contents.{same-row}
 use Rattle.sheet_listed.specs.Passing.{written-passing}
 use Rattle.sheet_listed.specs.Standing.{Fives, written-fives}
 use Rattle.sheet_listed.specs.SearchLaws.{first-append, behindRow, each-completion, among-take, searched-as, completions-more, completions-append, by-next-row, behind-front}
@@ -74,13 +74,6 @@ unfolding nextOf
 next-first = following-more [] smallSheets [] ∙ ap headed small-sheets ∙ headed-first (sheetsUpTo 5) ∙ ap told (first-up 5)
 
 -- ---- a row's place among the small rows
-
-same-row : (xs ys : List ℕ) → sameRow xs ys ≡ same xs ys
-unfolding same
-same-row [] [] = refl
-same-row [] (y ∷ ys) = refl
-same-row (x ∷ xs) [] = refl
-same-row (x ∷ xs) (y ∷ ys) = ap (λ (b : Bool). eqb x y && b) (same-row xs ys)
 
 -- A list of rows, taken apart at a row's first place in it.
 record Split (l : Rows) (row : List ℕ) (p : ℕ) : Type 0 where

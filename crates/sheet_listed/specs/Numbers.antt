@@ -6,20 +6,16 @@ use mathlib.Core.List.{List, [], _∷_}
 use native.Mathlib.Omega.{arith}
 use lib.ListN.{length, getD, drop}
 use lib.Seq.{drop-cons}
-use borrow.Author.Tests.{eq-eqb}
 use Rattle.sheet_listed.specs.Small.{smallRows}
 use Rattle.sheet_listed.specs.Search.{Rows, contentAt, sameRow, placeIn, placeOf}
-use Rattle.sheet_listed.specs.Contents.{rows-listed, contents-listed}
-
-pub same-row-self : (row : List ℕ) → sameRow row row ≡ true
-same-row-self [] = refl
-same-row-self (x ∷ row) = rw (eq-eqb x x refl) (same-row-self row)
+use Rattle.sheet_listed.specs.Listed.{same-self}
+use Rattle.sheet_listed.specs.Contents.{same-row, rows-listed, contents-listed}
 
 -- A row's first place is not behind any of its places.
 first-place : (l : Rows) (k : ℕ) → k < length l → placeIn l (getD l k []) ≤ k
 unfolding placeIn
 first-place [] k h = absurd (omega arith)
-first-place (x ∷ l) zero h = rw (same-row-self x) (omega arith)
+first-place (x ∷ l) zero h = rw (same-row x x, same-self x) (omega arith)
 first-place (x ∷ l) (suc k) h = go (sameRow x (getD l k [])) (first-place l k (omega arith))
   where
     go : (b : Bool) → placeIn l (getD l k []) ≤ k → cond b 0 (suc (placeIn l (getD l k []))) ≤ suc k

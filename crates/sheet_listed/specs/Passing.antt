@@ -7,21 +7,21 @@ use mathlib.Core.List.{List, _++_, flatten}
 use native.Mathlib.Omega.{arith}
 use lib.Dec.{leb}
 use lib.ListN.{length}
-use borrow.Author.Tests.{eqb-true, leb-true}
-use Rattle.formula.specs.declared.Check.{Check}
-use Rattle.formula.specs.declared.Check.the-variants.{Passed as well, Fault}
+use borrow.Author.Tests.{eqb-true}
 use Rattle.formula.specs.declared.Verdict.{Verdict}
 use Rattle.formula.specs.declared.Verdict.the-variants.{Passed, Refused}
-use Rattle.formula.specs.Sheet.{rowCount, fieldsOf, shapeAt, namedIn}
+use Rattle.formula.specs.Sheet.{rowCount, fieldsOf}
 use Rattle.formula.specs.Places.{placesOf}
 use Rattle.formula.specs.Tests.{is-passed, lowest, occurrences, allNamed, namedOnce, rangesWell, namesWell, placedWell, widthsWell, boundWell, sheetOf, rowTests, formulaTests, verdictBy}
 use Rattle.formula.specs.TestLaws.{passed-each}
-use Rattle.formula.specs.TreeLaws.{Named, and-true, all-between}
+use Rattle.formula.specs.TreeLaws.{and-true}
 use Rattle.formula.specs.PlaceLaws.{Sound}
 use Rattle.formula.specs.Verdicts.{Each, Passes, all-pass}
 use Rattle.sheet_tidied.specs.Text.{sheetText}
 use Rattle.sheet_tidied.specs.TextLaws.{Rows, text-rows, text-fields}
+use Rattle.sheet_tidied.specs.Rowwise.{naming}
 use Rattle.sheet_listed.specs.Small.{isPassed, modestRow, passesNine, isSmall}
+use Rattle.sheet_listed.specs.Texts.{SmallSheet, small-has}
 
 -- n rows with the fields t: tests 4 to 9, and each row's own part.
 pub record Passing (t : List ℕ) (n : ℕ) : Type 0 where
@@ -33,10 +33,6 @@ pub record Passing (t : List ℕ) (n : ℕ) : Type 0 where
   pub wide : (r : ℕ) → 1 ≤ r → r ≤ n → widthsWell t (placesOf t n) r ≡ true
   pub bound : (r : ℕ) → 1 ≤ r → r ≤ n → boundWell t (placesOf t n) r ≡ true
   pub modest : (r : ℕ) → 1 ≤ r → r ≤ n → modestRow t r ≡ true
-
-is-well : (c : Check) → is-passed c ≡ true → c ≡ well
-is-well well h = refl
-is-well (Fault r) h = absurd (false≢true h)
 
 is-pass : (v : Verdict) → isPassed v ≡ true → v ≡ Passed
 is-pass Passed h = refl
@@ -56,35 +52,29 @@ module _ (s : List ℕ) where
   abbrev n : ℕ
   n = rowCount s
 
-  naming : ((r : ℕ) → 1 ≤ r → r ≤ n → namesWell t r ≡ true) → Named t n
-  unfolding namesWell
-  naming h = record { names = λ r a b. all-between r (namedIn (shapeAt t r)) (h r a b) }
-
-  each-passing : Each (Passes (sheetOf s)) (rowTests ++ formulaTests) → n ≤ 5 → ((r : ℕ) → 1 ≤ r → r ≤ n → modestRow t r ≡ true) → Passing t n
+  each-passing : Each (Passes (sheetOf s)) (rowTests ++ formulaTests) → SmallSheet s → Passing t n
   unfolding rowTests formulaTests sheetOf
-  each-passing (first, (second, (third, (fourth, (fifth, (sixth, (seventh, (eighth, (ninth, end))))))))) h m =
+  each-passing (first, (second, (third, (fourth, (fifth, (sixth, (seventh, (eighth, (ninth, end))))))))) has =
       record {
-        few = h;
-        ranged = passed-each n (rangesWell t) fourth;
-        names = passed-each n (namesWell t) fifth;
+        few = has .few;
+        ranged = has .rowwise .ranged;
+        names = has .rowwise .names;
         sound = record {
-          named = naming (passed-each n (namesWell t) fifth);
+          named = naming s (has .rowwise);
           once = λ x l u. eqb-true (occurrences x (allNamed t n)) 1 (passed-each (n - 1) (λ r. namedOnce (allNamed t n) r) sixth x l (omega arith));
         };
         placed = passed-each n (placedWell t (placesOf t n)) seventh;
         wide = passed-each n (widthsWell t (placesOf t n)) eighth;
         bound = passed-each n (boundWell t (placesOf t n)) ninth;
-        modest = m;
+        modest = has .modestly;
       }
 
   pub small-passing : isSmall s ≡ true → Passing t n
   unfolding isSmall passesNine
   small-passing h =
       let both = and-true (passesNine s && leb n 5) (is-passed (lowest n (modestRow t))) h in
-      let first = and-true (passesNine s) (leb n 5) (both .0) in
-      each-passing (all-pass (sheetOf s) (rowTests ++ formulaTests) .0 (is-pass (verdictBy (rowTests ++ formulaTests) (sheetOf s)) (first .0)))
-      (leb-true n 5 (first .1))
-      (passed-each n (modestRow t) (is-well (lowest n (modestRow t)) (both .1)))
+      let nine = is-pass (verdictBy (rowTests ++ formulaTests) (sheetOf s)) (and-true (passesNine s) (leb n 5) (both .0) .0) in
+      each-passing (all-pass (sheetOf s) (rowTests ++ formulaTests) .0 nine) (small-has s h)
 
 -- The same of rows as they are written.
 pub written-passing : (rs : List (List ℕ)) → Rows rs → isSmall (sheetText rs) ≡ true → Passing (flatten rs) (length rs)
