@@ -1,2 +1,11 @@
 pub mod Small
 pub mod Search
+pub mod Lists
+pub mod RowLaws
+pub mod Texts
+pub mod Listed
+pub mod Orders
+pub mod Ordered
+pub mod Rising
+pub mod NextLaws
+pub mod Walks
