@@ -104,7 +104,7 @@ fn numbers(sheet: &Sheet, tolerances: &[u8]) -> Option<Vec<u32>> {
         let tolerance = u32::from_le_bytes([bytes[0], bytes[1], bytes[2], bytes[3]]);
         of_inputs[name as usize] = Some(tolerance).filter(|&tolerance| tolerance <= MOST)?;
     }
-    let of_rows = [None; MOST_ROWS];
+    let of_rows = vec![None; sheet.lines.len()];
     let mut movements = Movements { sheet, of_inputs, lets: lets_around(&sheet.lines), of_rows };
     // Every row is one of the formula's, and is met.
     let results = movements.of(sheet.last())?;
@@ -140,7 +140,7 @@ struct Movements<'a> {
     of_inputs: [u32; 32],
     lets: [u32; MOST_ROWS],
     /// Those of the rows that were met.
-    of_rows: [Option<Numbers>; MOST_ROWS],
+    of_rows: Vec<Option<Numbers>>,
 }
 
 impl Movements<'_> {

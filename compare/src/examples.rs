@@ -1,5 +1,5 @@
-// The sheets that are timed, each with its kinds line: document 01's worked examples, one of floats, a long sheet, and one near the greatest number of
-// operators.
+// The sheets that are timed, each with its kinds line: document 01's worked examples, one of floats, two that drift is told for, a long sheet, and one near the
+// greatest number of operators.
 
 use crate::bytes;
 use crate::random::{heavy_sheet_of_wholes, Made, Rng};
@@ -38,6 +38,31 @@ pub fn range() -> Made {
     let near = [[10, 42_195, 0, 0, 0], s, s, [4, 6, 7, 0, 0], [5, 3, 8, 0, 0], [4, 5, 9, 0, 0], [5, 4, 10, 0, 0]];
     let end = [[10, 999_999, 0, 0, 0], [7, 4, 11, 12, 0]];
     made(&[&test[..], &near[..], &end[..]].concat(), b"RR\n")
+}
+
+/// A mean, and what is left of three times it: with x, y, z and m as 0 to 3, "let m = (x + y) / 2 in m * 3 - z, m".
+pub fn mean() -> Made {
+    let (m, three, two) = ([1, 3, 0, 0, 0], [2, 3, 0, 0, 0], [2, 2, 0, 0, 0]);
+    let rest = [m, three, [4, 1, 2, 0, 0], [5, 3, 3, 0, 0], [1, 2, 0, 0, 0], [4, 4, 5, 0, 0], [5, 2, 6, 0, 0]];
+    let results = [m, [4, 7, 8, 0, 0]];
+    let sum = [[1, 0, 0, 0, 0], [1, 1, 0, 0, 0], [4, 10, 11, 0, 0], [5, 1, 12, 0, 0]];
+    let half = [two, [4, 13, 14, 0, 0], [5, 4, 15, 0, 0], [6, 3, 1, 16, 9]];
+    made(&[&rest[..], &results, &sum, &half].concat(), b"WWW\n")
+}
+
+/// "let x = x * 3 / 4 in let x = x * 3 / 4 in .. in -x", in 200 rows.
+pub fn scaled() -> Made {
+    const LETS: u32 = 24;
+    let (x, three, four) = ([1, 0, 0, 0, 0], [2, 3, 0, 0, 0], [2, 4, 0, 0, 0]);
+    let mut rows = vec![x];
+    rows.extend((1..8).map(|row| [5, 11, row, 0, 0]));
+    for _ in 0..LETS {
+        let last = rows.len() as u32;
+        let product = [x, three, [4, last + 1, last + 2, 0, 0], [5, 3, last + 3, 0, 0]];
+        let quotient = [four, [4, last + 4, last + 5, 0, 0], [5, 4, last + 6, 0, 0]];
+        rows.extend([&product[..], &quotient, &[[6, 0, 1, last + 7, last]]].concat());
+    }
+    made(&rows, b"W\n")
 }
 
 /// A name, negated again and again.

@@ -9,6 +9,7 @@ pub mod calls;
 pub mod cases;
 pub mod count;
 pub mod drift;
+pub mod drift_cases;
 pub mod eval;
 pub mod examples;
 pub mod graph;

@@ -1,10 +1,11 @@
-// Times the reader, the tidy call, the evaluator and the machine's calls here and, with the feature `product`, the product's beside them in the same run. Prints
+// Times the reader, the tidy call, the drift call, the evaluator and the machine's calls here and, with the feature `product`, the product's beside them in the same run. Prints
 // the first three tables of docs/BENCHMARKS.md. The last column of the first is the product's speed over ours: 1.00 is as fast, 0.50 takes twice as long;
 // of the second, that of a tray over as many pushes; of the third, that of a log's check over the calls that its lines name.
 
 use compare::bytes::{self, OUT_BYTES, VALUE_BYTES};
 use compare::calls::{self, Calls, PLAIN};
-use compare::examples::{factorial, half_dead, lesser, many_operators, negations, range};
+use compare::drift::{self, NUMBER_BYTES};
+use compare::examples::{factorial, half_dead, lesser, many_operators, mean, negations, range, scaled};
 use compare::log::{self, Handed};
 use compare::memory::{self, Machine};
 use compare::random::{fitting_set, Made, Rng};
@@ -28,6 +29,12 @@ fn main() {
         let mut out = vec![0; tidy::room_for(made.bytes.len())];
         let mut ours = || tidy::tidy(black_box(&made.bytes), &mut out).rows;
         report(&format!("tidy: {name}"), 1, &mut ours, &mut product_tidy(&made));
+    }
+    for (name, made) in [("a mean, 17 rows", mean()), ("200 rows, 24 lets within each other", scaled())] {
+        let tolerances = vec![1; NUMBER_BYTES * made.sheet().sorts.len()];
+        let mut out = [0; drift::ROOM];
+        let mut ours = || drift::drift(black_box(&made.bytes), &made.kinds, &tolerances, &mut out).results;
+        report(&format!("drift: {name}"), 1, &mut ours, &mut product_drift(&made, &tolerances));
     }
     for (name, made, set, rounds) in evaluations() {
         let mut out = [0; OUT_BYTES];
@@ -291,6 +298,17 @@ fn product_tidy(made: &Made) -> Option<Call<'_>> {
 
 #[cfg(not(feature = "product"))]
 fn product_tidy(_: &Made) -> Option<Call<'_>> {
+    None
+}
+
+#[cfg(feature = "product")]
+fn product_drift<'a>(made: &'a Made, tolerances: &'a [u8]) -> Option<Call<'a>> {
+    let mut out = [0; drift::ROOM];
+    Some(Box::new(move || compare::product::drift(black_box(&made.bytes), &made.kinds, tolerances, &mut out).results))
+}
+
+#[cfg(not(feature = "product"))]
+fn product_drift<'a>(_: &'a Made, _: &'a [u8]) -> Option<Call<'a>> {
     None
 }
 

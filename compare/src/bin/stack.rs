@@ -7,7 +7,7 @@ use compare::random::{Made, Rng};
 use compare::sheet::write;
 use compare::tally::Tally;
 use compare::value::Value;
-use compare::{examples, memory, product, tidy};
+use compare::{drift, examples, memory, product, tidy};
 use std::hint::black_box;
 use std::thread;
 
@@ -16,7 +16,12 @@ const PATTERN: u8 = 0xa5;
 const ROUNDS: u32 = 1000;
 const FIRINGS: u32 = 10_000;
 const MOST_ROWS: usize = 200;
-const CALLS: [&str; 11] = ["read", "tidy", "evaluate", "start", "push", "tray", "fire", "run", "rounds", "take", "log"];
+
+/// A row that drift is not told for.
+const SORT: u32 = 20;
+
+const CALLS: [&str; 12] =
+    ["read", "tidy", "drift", "evaluate", "start", "push", "tray", "fire", "run", "rounds", "take", "log"];
 
 type Row = [u32; 5];
 
@@ -42,7 +47,7 @@ fn print_line(name: &str, taken: [usize; CALLS.len()]) {
     println!("{name:36}{}", taken.map(|bytes| format!("{bytes:9}")).concat());
 }
 
-/// What each call takes for one sheet, with `value` for each input. Every call must be accepted, and the pushed set be taken.
+/// What each call takes for one sheet, with `value` for each input. Every call must be accepted, and the pushed set be taken; but drift is not told for each sheet.
 fn measure(made: &Made, value: Value) -> [usize; CALLS.len()] {
     let (sheet, kinds) = (&made.bytes[..], &made.kinds[..]);
     let inputs = bytes::read(sheet, kinds).inputs as usize;
@@ -52,6 +57,13 @@ fn measure(made: &Made, value: Value) -> [usize; CALLS.len()] {
     let read = below(|| product::read(sheet, kinds).refusal);
     let mut tidied = vec![0; tidy::room_for(sheet.len())];
     let tidy = below(|| product::tidy(sheet, &mut tidied).refusal);
+    let tolerances = vec![0; drift::NUMBER_BYTES * inputs];
+    let mut numbers = [0; drift::ROOM];
+    let drift = below(|| match product::drift(sheet, kinds, &tolerances, &mut numbers).refusal {
+        // given once all rows were looked at
+        SORT => 0,
+        refusal => refusal,
+    });
     let evaluate = below(|| product::evaluate(sheet, kinds, &set, ROUNDS, &mut out).refusal);
     let start = below(|| product::start(sheet, kinds, 1, &mut mem, &mut tally).refusal);
     let mut copy = mem.clone();
@@ -66,7 +78,7 @@ fn measure(made: &Made, value: Value) -> [usize; CALLS.len()] {
     let handed = Handed { sheet, kinds, capacity: 1, sets: &set, number: 1, log: &lines };
     let mut room = vec![0; log::room_for(lines.len())];
     let log = below(|| product::check_log(&handed, &mut mem, &mut room).refusal);
-    [read, tidy, evaluate, start, push, tray, fire, run, rounds, take, log]
+    [read, tidy, drift, evaluate, start, push, tray, fire, run, rounds, take, log]
 }
 
 /// The log of one set's way through the product's machine.
@@ -132,6 +144,7 @@ fn sheets() -> Vec<(&'static str, Made, Value)> {
         ("quotients of floats in quotients", of_floats(chain(NEGATE, quotient)), Value::real(1.0)),
         ("range from strength", examples::range(), Value::real(1.5)),
         ("lets in lets", chain(NEGATE, inner_let), whole),
+        ("products in lets in lets", examples::scaled(), whole),
         ("ifs in ifs", chain(NOT, |last| vec![NAME, NAME, [7, last + 1, last, last + 2, 0]]), yes),
         ("ifs in the tests of ifs", chain(NOT, |last| vec![NAME, NAME, [7, last, last + 1, last + 2, 0]]), yes),
         ("loops in loops", chain(NOT, loop_around), no),

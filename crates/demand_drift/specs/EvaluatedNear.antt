@@ -20,7 +20,7 @@ use Rattle.value.specs.Bytes.{InRange, valueOf, wordAt}
 use Rattle.value.specs.Senses.{err}
 use Rattle.value.proofs.Words.{value-of-word}
 use Rattle.names.specs.Names.{below}
-use Rattle.value_sets.specs.Sets.{setValues, setOk, IsSet, values-set, set-values}
+use Rattle.value_sets.specs.Sets.{setOk, IsSet, values-set, set-values}
 use Rattle.formula.specs.declared.Refusal.the-variants.{Memory}
 use Rattle.formula.specs.declared.Verdict.{Verdict}
 use Rattle.formula.specs.declared.Verdict.the-variants.{Passed, Refused}
@@ -31,14 +31,14 @@ use Rattle.formula.specs.Faults.{lettersOf}
 use Rattle.formula.specs.Widths.{width}
 use Rattle.formula.specs.Tests.{figuresOf}
 use Rattle.formula.specs.Acceptance.{Admissible, modest}
-use Rattle.meaning.specs.Meaning.{Outcome, yields, inputsHold, evalE}
-use Rattle.meaning.specs.WidthLaws.{SoundE, Sized, sized}
+use Rattle.meaning.specs.Meaning.{inputsHold}
+use Rattle.meaning.specs.WidthLaws.{SoundE, sized}
 use Rattle.meaning.specs.Loopless.{loopless-ends}
 use Rattle.meaning.specs.Accepted.{has-rows, formula-sound}
 use Rattle.theory_verdicts.specs.Admitting.{accepted-admitted}
 use Rattle.eval_sheet.specs.Handed as Evaluation
 use Rattle.eval_sheet.specs.Handed.{handedOut}
-use Rattle.sheet_movement.specs.Moves.{numberAt, numberBytes, inputMoves, movesE, resultMoves, driftVerdict}
+use Rattle.sheet_movement.specs.Moves.{numberAt, numberBytes, inputMoves, resultMoves, driftVerdict}
 use Rattle.sheet_movement.specs.Drifts.{Drifts}
 use Rattle.sheet_movement.specs.Numbers.{number-read, moves-width}
 use Rattle.sheet_movement.specs.Passed.{drift-reads, drift-admissible, drift-formula, drift-tolerances, drift-numbers}
@@ -46,7 +46,7 @@ use Rattle.sheet_movement.specs.Near.{Near, left}
 use Rattle.sheet_movement.specs.Sound.{drifts-loopless, AllNear, near-at, NearEnv, moves-near}
 use Rattle.sheet_movement.specs.Ranged.{AllRanged, RangedEnv, evaluation-ranged}
 use Rattle.sheet_drift.specs.Drifting.{Handed, handed, answers, byVerdict, driftedInto}
-use Rattle.demand_drift.specs.Fields.{NearField, NearFields, WithinTolerance}
+use Rattle.demand_drift.specs.Fields.{NearFields, WithinTolerance}
 use Rattle.demand_drift.specs.Evaluates.{Evaluates, evaluates, accepts, evaluates-says, result-field}
 
 -- ---- an accepted drift

@@ -11,21 +11,21 @@ use native.Mathlib.Omega.{arith}
 use Rattle.value.specs.declared.Value.{Value}
 use Rattle.value.specs.Bytes.{wordAt}
 use Rattle.value_sets.specs.Sets.{setOk, values-pass}
-use Rattle.formula.specs.Tree.{Exp, formulaOf}
+use Rattle.formula.specs.Tree.{formulaOf}
 use Rattle.formula.specs.Faults.{lettersOf}
 use Rattle.theory_verdicts.specs.Running as Abstract
 use Rattle.machine_start.specs.Start.{started}
-use Rattle.machine_start.specs.StartLaws.{AcceptedStart, accepted-start}
+use Rattle.machine_start.specs.StartLaws.{accepted-start}
 use Rattle.demand_begin.specs.StartedStands.{accepted-stands}
-use Rattle.demand.specs.MemoryCalls.{Call, Result, result, memoryAfterAll, setsPushed, resultsTaken}
+use Rattle.demand.specs.MemoryCalls.{Call, Result, result, setsPushed, resultsTaken}
 use Rattle.demand.specs.Claim.{Enough}
 use Rattle.demand.specs.Demand3.{demand-3}
 use Rattle.demand.specs.Agreed.{calls-agree}
-use Rattle.demand.specs.Followed.{Follows, read-count, read-at}
+use Rattle.demand.specs.Followed.{read-count, read-at}
 use Rattle.demand.specs.OnMemory.{F as bytes-follow}
 use Rattle.demand.specs.Evaluated.{take-writes-evaluation}
 use Rattle.eval_sheet.specs.Handed.{handedOut}
-use Rattle.sheet_drift.specs.Drifting.{Handed, driftedInto}
+use Rattle.sheet_drift.specs.Drifting.{driftedInto}
 use Rattle.demand_drift.specs.Fields.{NearFields, WithinTolerance}
 use Rattle.demand_drift.specs.Evaluates.{evaluates, evaluates-enough}
 use Rattle.demand_drift.specs.EvaluatedNear.{evaluation-always-ends, evaluated-width, evaluated-near, few-results}

@@ -1,10 +1,9 @@
 -- Two values near each other (document 02, Job 13: "err in either or differs by no more than ..") and what the operators of that job make of them.
 -- An answer out of range is an err, so the laws ask nothing of the range. Assumes nothing.
-use Prim.Native.Nat.{ℕ, zero, suc, _+_, _*_, _<_}
-use mathlib.Core.Path.{_≡_, sym, subst}
+use Prim.Native.Nat.{ℕ, zero, suc, _+_, _*_, _≤_, _<_}
 use mathlib.Core.Bool.{Bool, true, false}
 use native.Mathlib.Omega.{arith}
-use lib.IntN.{ℤ, pos, negℤ, _+ℤ_, _-ℤ_, _*ℤ_, *ℤ-comm}
+use lib.IntN.{ℤ, pos, negℤ, natAbs, _+ℤ_, _-ℤ_, _*ℤ_, *ℤ-comm}
 use lib.Signed.{quotZ}
 use Rattle.value.specs.declared.Reason.{Reason}
 use Rattle.value.specs.declared.Reason.the-variants.{OutOfRange}
@@ -12,13 +11,17 @@ use Rattle.value.specs.declared.Value.{Value}
 use Rattle.value.specs.declared.Value.the-variants.{Whole, Err}
 use Rattle.value.specs.Operators.{apply, pick, inRange, fitOf}
 use Rattle.sheet_movement.specs.Moves.{over}
-use Rattle.sheet_movement.specs.Within.{Within, within-same, within-add, within-subtract, within-negate, within-multiply, within-divide}
+use Rattle.sheet_movement.specs.Within.{Within, within-difference, within-same, within-add, within-subtract, within-negate, within-multiply, within-divide}
 
 -- Err in either, or two whole numbers that differ by no more than d.
 pub data Near (d : ℕ) : Value → Value → Type 0 where
   both : {x y : ℤ} → Within d x y → Near d (Whole x) (Whole y)
   left : (r : Reason) (w : Value) → Near d (Err r) w
   right : (v : Value) (r : Reason) → Near d v (Err r)
+
+-- In plain numbers, where neither is an err.
+pub near-difference : (d : ℕ) (x y : ℤ) → Near d (Whole x) (Whole y) → natAbs (x -ℤ y) ≤ d
+near-difference d x y (both a) = within-difference d x y a
 
 -- A constant does not move.
 pub near-constant : (a : ℕ) → Near 0 (Whole (pos a)) (Whole (pos a))

@@ -11,7 +11,7 @@ use Rattle.formula.specs.declared.Check.the-variants.{Passed as passes}
 use Rattle.formula.specs.declared.Verdict.{Verdict}
 use Rattle.formula.specs.declared.Verdict.the-variants.{Passed, Refused}
 use Rattle.formula.specs.Sheet.{rowCount, fieldsOf}
-use Rattle.formula.specs.Tree.{expOf, formulaOf}
+use Rattle.formula.specs.Tree.{formulaOf}
 use Rattle.formula.specs.TreeLaws.{and-true}
 use Rattle.formula.specs.Free.{freeE, inputsOf}
 use Rattle.formula.specs.Tests.{tests, sheetOf, verdictBy, verdictOf}

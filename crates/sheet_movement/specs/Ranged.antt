@@ -13,7 +13,7 @@ use Rattle.names.specs.Names.{range}
 use Rattle.formula.specs.Constants.{constant-in-range}
 use Rattle.formula.specs.Tree.{Exp, identifier, constant, pair, operator, letE, ifE, forE}
 use Rattle.formula.specs.Admitted.{AdmittedE}
-use Rattle.meaning.specs.Meaning.{Env, bind, Outcome, yields, then, evalE}
+use Rattle.meaning.specs.Meaning.{Env, bind, yields, evalE}
 use Rattle.sheet_movement.specs.Drifts.{Drifts}
 use Rattle.sheet_movement.specs.Outcomes.{Each, then-each}
 

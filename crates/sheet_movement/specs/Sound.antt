@@ -2,7 +2,7 @@
 -- in two environments that are near identifier by identifier. Whether the numbers fit (21) is of no consequence here. Rests on test 8: without the
 -- width 1 of the row beside a constant nothing says in which place of the operands the constant stands.
 use Prim.Native.Nat.{ℕ, zero, suc, _-_}
-use mathlib.Core.Path.{_≡_, refl, ap, subst, _∙_}
+use mathlib.Core.Path.{_≡_, refl, subst, _∙_}
 use mathlib.Core.Bool.{Bool, true, false, cond}
 use mathlib.Core.List.{List, [], _∷_, _++_}
 use lib.IntN.{pos}
@@ -40,10 +40,6 @@ drifts-loopless (forE a b x y) h = absurd h
 pub data AllNear : List ℕ → List Value → List Value → Type 0 where
   none : AllNear [] [] []
   more : {d : ℕ} {v w : Value} {ds : List ℕ} {vs ws : List Value} → Near d v w → AllNear ds vs ws → AllNear (d ∷ ds) (v ∷ vs) (w ∷ ws)
-
-pub near-lengths : (ds : List ℕ) (vs ws : List Value) → AllNear ds vs ws → (length vs ≡ length ds) × (length ws ≡ length ds)
-near-lengths ds vs ws none = (refl, refl)
-near-lengths ds vs ws (more {ds = es} {vs = us} {ws = xs} n a) = let l = near-lengths es us xs a in (ap suc (l .0), ap suc (l .1))
 
 -- At every place: past the values there is err.
 pub near-at : (ds : List ℕ) (vs ws : List Value) → AllNear ds vs ws → (i : ℕ) → Near (getD ds i 0) (getD vs i err) (getD ws i err)

@@ -1,6 +1,6 @@
 -- How far two whole numbers lie apart, over all integers, and what each operator of document 02, Job 13 makes of it. Assumes nothing.
-use Prim.Native.Nat.{ℕ, zero, suc, _+_, _*_, _-_, _/_, _%_, _≤_, _<_}
-use mathlib.Core.Path.{_≡_, refl, sym, ap, _∙_}
+use Prim.Native.Nat.{ℕ, zero, suc, _+_, _*_, _-_, _/_, _≤_, _<_}
+use mathlib.Core.Path.{_≡_, refl, _∙_}
 use mathlib.Core.Bool.{Bool, true, false, cond}
 use native.Mathlib.Omega.{arith}
 use native.Mathlib.Nat.{div-add-mod, mod-lt, mul-div-le, div-lt-iff-lt-mul, div-le-of-le-mul, le-of-mul-le-mul-left, mul-le-mul-left, mul-add}
