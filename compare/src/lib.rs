@@ -22,6 +22,7 @@ pub mod memory;
 pub mod product;
 pub mod random;
 pub mod sheet;
+pub mod small;
 pub mod surrounded;
 pub mod table;
 pub mod tally;
