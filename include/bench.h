@@ -3,7 +3,7 @@
  *
  * A formula sheet is read (bench_read), evaluated directly (bench_evaluate), or started as a machine on memory that the caller lends
  * (bench_start) and then driven by pushes, firings, runs and takes. A sheet with rows that its formula no longer uses is tidied first (bench_tidy).
- * How far its results can move where its inputs move within tolerances is told by bench_drift. All small sheets, for the factory, are written one after another
+ * How far a formula's results can move where its inputs move within tolerances is told by bench_drift. All small sheets, for the factory, are written one after another
  * by bench_next. The log of a bench that drives such machines in its own order is checked by following it (bench_check_log). No call keeps anything but what
  * stands in that memory and in the tally: there is no heap and no global. Every call always returns, for any bytes and any numbers.
  *
@@ -82,7 +82,7 @@ enum {
     BENCH_LOG_REFUSED = 16, /* a log's line that the machine would refuse */
     BENCH_KINDS_LINE = 17,  /* a kinds line of another length, or with another letter */
     BENCH_KINDS = 18,       /* a row that breaks the kinds: an operator or test of another kind, arms or loop rounds that do not agree */
-    BENCH_SORT = 20,        /* a row of another sort than drift is told for, or with a value not of kind W */
+    BENCH_SORT = 20,        /* a row that drift cannot be told for, or with a value not of kind W */
     BENCH_MOVEMENT = 21,    /* tolerances not as many as the inputs, one out of range, or a row's movement past 2,147,483,647 */
     BENCH_UNLISTED = 22,    /* a given sheet that is neither empty nor a small one */
     BENCH_LAST_LISTED = 23, /* the last small sheet, which has no next one */

@@ -198,6 +198,7 @@ impl Movements<'_> {
 #[cfg(test)]
 mod tests {
     use super::*;
+    use crate::random::movements::encoded;
     use crate::sheet::write;
 
     const X: [u32; 5] = [1, 0, 0, 0, 0];
@@ -206,14 +207,10 @@ mod tests {
         [2, value, 0, 0, 0]
     }
 
-    fn bytes(tolerances: &[u32]) -> Vec<u8> {
-        tolerances.iter().flat_map(|tolerance| tolerance.to_le_bytes()).collect()
-    }
-
     /// The numbers, or the refusal with its row.
     fn said(rows: &[[u32; 5]], line: &[u8], tolerances: &[u32]) -> Result<Vec<u32>, (u32, u32)> {
         let mut out = [0x55; ROOM + 1];
-        let answer = drift(&write(rows), line, &bytes(tolerances), &mut out);
+        let answer = drift(&write(rows), line, &encoded(tolerances), &mut out);
         let end = NUMBER_BYTES * answer.results as usize;
         assert!(out[end..].iter().all(|&byte| byte == 0x55));
         match answer.refusal {

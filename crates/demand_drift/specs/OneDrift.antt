@@ -1,4 +1,4 @@
--- What the theorems assume can be met, and no number told could be less, by computation: x / 3 and x - y, with x told to 1 and y to 2. Drift tells 1 and 3; the
+-- What the theorems assume can be met, and of this sheet no number told could be less, by computation: x / 3 and x - y, with x told to 1 and y to 2. Drift tells 1 and 3; the
 -- sets 2, 5 and 3, 3 are within tolerance, and their results, 0, -3 and 1, 0, lie 1 and 3 apart. Were the divide's movement not rounded up, it would be 0.
 use Prim.Native.Nat.{ℕ, zero, suc}
 use mathlib.Core.Path.{_≡_, refl, sym, ap}

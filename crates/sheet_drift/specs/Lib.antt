@@ -5,4 +5,3 @@ pub mod Drifts
 pub mod Moved
 pub mod Walk
 pub mod Tested
-pub mod ReadBack

@@ -1,8 +1,8 @@
 -- An operator's number (sheet_movement's specs/Moves) read off the rows of a table: what the row that it is on names, and that constants are small.
 -- Assumes an accepted sheet's row of a sort that drift is told for.
-use Prim.Native.Nat.{ℕ, _+_, _*_, _-_, _≤_, _<_}
-use mathlib.Core.Path.{_≡_, refl, sym, ap, _∙_, subst}
-use mathlib.Core.Bool.{Bool, true, false, not, _&&_, false≢true}
+use Prim.Native.Nat.{ℕ, _+_, _*_, _≤_, _<_}
+use mathlib.Core.Path.{_≡_, refl, sym, ap, _∙_}
+use mathlib.Core.Bool.{true, false, not}
 use mathlib.Core.List.{List}
 use native.Mathlib.Omega.{arith}
 use native.Mathlib.Nat.{mul-le-mul}
@@ -14,10 +14,10 @@ use Rattle.formula.specs.declared.Shape.{Shape}
 use Rattle.formula.specs.declared.Shape.the-variants.{Identifier, Constant, Pair, Operator, Let, If, For, Iter}
 use Rattle.formula.specs.Constants.{most-bounded}
 use Rattle.formula.specs.Sheet.{shapeAt}
-use Rattle.formula.specs.Tree.{Exp, expNode, expOf, bodyOf}
+use Rattle.formula.specs.Tree.{Exp, expNode, expOf}
 use Rattle.formula.specs.TreeLaws.{and-true}
 use Rattle.meaning.specs.Rows.{ExpRow, ExpChildren, exp-children, bounds-as}
-use Rattle.sheet_movement.specs.Sorts.{isWhole, amount, namesWhole, dividesByWhole, codeSort}
+use Rattle.sheet_movement.specs.Sorts.{codeSort}
 use Rattle.sheet_movement.specs.Moves.{over, multiplied, divided, moved}
 use Rattle.sheet_sorts.specs.Shapes.{wholeRow, amountRow, namesWholeRow, dividesByWholeRow, known, whole-row, amount-row, code-row}
 use Rattle.sheet_drift.specs.Drifts.{tree}

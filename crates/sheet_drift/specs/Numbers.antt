@@ -5,8 +5,8 @@ use mathlib.Core.Path.{_≡_, refl, sym, ap, _∙_, fun-ext}
 use mathlib.Core.Bool.{Bool, true, false, _&&_}
 use mathlib.Core.List.{List, [], _∷_, _++_}
 use lib.Dec.{eqb, leb, ltb}
-use lib.ListN.{length, getD, set, take, drop, length-append, length-set, List·getD-append, List·getD-eq-default}
-use lib.Seq.{sets, sets-eq, take-suc, getD-append-add, getD-drop, getD-set-same, getD-set-other}
+use lib.ListN.{length, getD, set, take, length-set, List·getD-eq-default}
+use lib.Seq.{sets, take-suc, length-take-le, getD-set-same, getD-set-other}
 use native.Mathlib.Numerals.{add-one}
 use native.Mathlib.Omega.{arith}
 use borrow.Author.Tests.{leb-true, ltb-true, ltb-false, eqb-true, eqb-false, eq-eqb, ne-eqb}
@@ -17,6 +17,7 @@ use Rattle.formula.specs.TreeLaws.{and-true}
 use Rattle.formula.specs.Free.{freeE, inputsOf}
 use Rattle.eval_words.specs.Inputs.{setIn, inputs-below}
 use Rattle.sheet_movement.specs.Moves.{Moves, allWithin, numberAt, numbersFrom, tolerancesWell, inputMoves, numberBytes}
+use Rattle.sheet_movement.specs.Numbers.{length-number-bytes}
 use Rattle.sheet_drift.specs.Stores.{sets-append}
 
 -- The numbers that an array holds, as those of identifiers.
@@ -147,11 +148,6 @@ module _ (x : Exp) (s env : List ℕ) (m n : ℕ) (masked : m ≡ mask (freeE x)
 
 -- ---- numbers written
 
-pub length-bytes : (ds : List ℕ) → length (numberBytes ds) ≡ 4 * length ds
-unfolding numberBytes
-length-bytes [] = refl
-length-bytes (d ∷ ds) = omega (arith, length-bytes ds)
-
 bytes-append : (ds es : List ℕ) → numberBytes (ds ++ es) ≡ numberBytes ds ++ numberBytes es
 unfolding numberBytes
 bytes-append [] es = refl
@@ -177,7 +173,7 @@ numbers-none l ns = refl
 pub numbers-more : (l ns : List ℕ) (i : ℕ) → i < length ns
     → sets (sets l 0 (numberBytes (take i ns))) (4 * i) (numberBytes (getD ns i 0 ∷ [])) ≡ sets l 0 (numberBytes (take (i + 1) ns))
 numbers-more l ns i h =
-    let n : length (numberBytes (take i ns)) ≡ 4 * i = length-bytes (take i ns) ∙ ap (λ (k : ℕ). 4 * k) (lib.Seq.length-take-le i ns (omega arith)) in
+    let n : length (numberBytes (take i ns)) ≡ 4 * i = length-number-bytes (take i ns) ∙ ap (λ (k : ℕ). 4 * k) (length-take-le i ns (omega arith)) in
     let z : 0 + length (numberBytes (take i ns)) ≡ 4 * i = omega (arith, n) in
     sym (ap (λ (k : ℕ). sets l 0 (numberBytes (take k ns))) (add-one i)
     ∙ ap (λ (xs : List ℕ). sets l 0 (numberBytes xs)) (take-suc ns i 0 h)

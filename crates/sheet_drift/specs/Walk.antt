@@ -21,6 +21,7 @@ use Rattle.sheet_movement.specs.Moves.{Moves, bindMoves, allWithin, moved, move
 use Rattle.sheet_drift.specs.Numbers.{movesIn}
 use Rattle.sheet_drift.specs.Stores.{sets-append, sets-before, sets-among, sets-behind}
 use Rattle.sheet_movement.specs.Drifts.{Drifts}
+use Rattle.sheet_movement.specs.Numbers.{fits-within}
 use Rattle.sheet_drift.specs.Drifts.{tree, drifts-below, moves-counted}
 
 -- No number passes the greatest.
@@ -52,17 +53,6 @@ within-each : (ds : List ℕ) → allWithin ds ≡ true → (i : ℕ) → getD d
 within-each [] h i = omega arith
 within-each (d ∷ ds) h zero = leb-true d 2147483647 (and-true (leb d 2147483647) (allWithin ds) h .0)
 within-each (d ∷ ds) h (suc i) = within-each ds (and-true (leb d 2147483647) (allWithin ds) h .1) i
-
--- A row's own numbers are among those that are.
-fits-within : (x : Exp) (moves : Moves) → fitsE x moves ≡ true → allWithin (movesE x moves) ≡ true
-unfolding fitsE
-fits-within (identifier a) moves h = h
-fits-within (constant k a) moves h = h
-fits-within (pair x y) moves h = and-true _ _ h .0
-fits-within (operator code x) moves h = and-true _ _ h .0
-fits-within (letE a b x y) moves h = and-true _ _ h .0
-fits-within (ifE t x y) moves h = refl
-fits-within (forE a b x y) moves h = refl
 
 pair-fits : (x y : Exp) (moves : Moves) → fitsE (pair x y) moves ≡ fitsE x moves && fitsE y moves
 unfolding fitsE movesE

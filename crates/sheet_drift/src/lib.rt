@@ -54,7 +54,7 @@ fn refused(r: Refusal, row: u32) -> DriftAnswer
     }
 }
 
-// 20 and 21 of n rows of an accepted sheet, the last of which has the free names `free`; the numbers of its values go to the start of `out`.
+// 20 and 21 of n rows of an accepted sheet, the last of which has the free names `free`; the numbers of its values go to the start of `numbers`.
 fn drift_tests(
     fields: &[u32],
     widths: &[u8],
@@ -62,11 +62,11 @@ fn drift_tests(
     free: u64,
     line: &[u8],
     tolerances: &[u8],
-    out: &mut [u32],
+    numbers: &mut [u32],
 ) -> Verdict
-    requires { ⌜ Tabled (now fields) (now widths) n free (now line) × (length (now out) ≡ 16) ⌝ }
+    requires { ⌜ Tabled (now fields) (now widths) n free (now line) × (length (now numbers) ≡ 16) ⌝ }
     ensures { λ v. ⌜ (v ≡ rowsVerdict (now (fields .entry)) n (now (line .entry)) (now (tolerances .entry)))
-        × (v ≡ passed → now (out .exit) ≡ sets (now (out .entry)) 0 (lastMoves (now (fields .entry)) n (now (tolerances .entry)))) ⌝ }
+        × (v ≡ passed → now (numbers .exit) ≡ sets (now (numbers .entry)) 0 (lastMoves (now (fields .entry)) n (now (tolerances .entry)))) ⌝ }
 {
     match test_sorts(fields, widths, n, free, line) {
         Check::Fault(r) => {
@@ -78,7 +78,7 @@ fn drift_tests(
         return Verdict::Refused(Refusal::Movement, 0);
     }
     let env = in_order(free, tolerances);
-    if !row_moves(fields, widths, n, &env, out, 0) {
+    if !row_moves(fields, widths, n, &env, numbers, 0) {
         return Verdict::Refused(Refusal::Movement, 0);
     }
     Verdict::Passed

@@ -15,7 +15,6 @@ ghost use mathlib.Core.Bool.{true};
 ghost use Prim.Native.Nat.{_+_, _≤_, _<_};
 ghost use lib.Dec.{leb};
 ghost use lib.ListN.{length, set};
-ghost use lib.Seq.{sets};
 ghost use Rattle.formula.specs.Tree.{expOf};
 ghost use Rattle.meaning.specs.Rows.{ExpRow};
 ghost use Rattle.eval_words.specs.Needs.{W};

@@ -17,7 +17,10 @@ pub const MOST: u64 = 2147483647;
 // The number of identifiers.
 const IDENTIFIERS: usize = 32;
 
-// A number is this often its second, third and fourth byte.
+// How many values a byte has.
+const VALUES: u32 = 256;
+
+// What the second, third and fourth byte of a number count.
 const SECOND: u32 = 256;
 
 const THIRD: u32 = 65536;
@@ -64,7 +67,7 @@ pub fn tolerances_well(s: &[u8], inputs: usize) -> bool
     true
 }
 
-// The identifiers in the mask, rising, get the tolerances in their order.
+// An environment in which the identifiers of the mask, rising, have the tolerances in their order; those outside it are never asked for.
 pub fn in_order(free: u64, s: &[u8]) -> [u32; IDENTIFIERS]
     ensures { λ env. ⌜ InOrder (now (s .entry)) free env 32 ⌝ }
 {
@@ -83,10 +86,10 @@ fn put_number(out: &mut [u8], at: usize, d: u32)
     requires { ⌜ (at + 4 ≤ length (now out)) ⌝ }
     ensures { λ _. ⌜ now (out .exit) ≡ sets (now (out .entry)) at (numberBytes (d ∷ [])) ⌝ }
 {
-    out[at] = (d % 256) as u8;
-    out[at + 1] = (d / SECOND % 256) as u8;
-    out[at + 2] = (d / THIRD % 256) as u8;
-    out[at + 3] = (d / FOURTH % 256) as u8;
+    out[at] = (d % VALUES) as u8;
+    out[at + 1] = (d / SECOND % VALUES) as u8;
+    out[at + 2] = (d / THIRD % VALUES) as u8;
+    out[at + 3] = (d / FOURTH % VALUES) as u8;
 }
 
 // The first n numbers, from the start of `out` on.

@@ -12,16 +12,14 @@ use Rattle.sheet_fields.proofs.blank.bytes.Reads as bytes-reads
 use Rattle.sheet_fields.proofs.blank.fields.Reads as fields-reads
 use Rattle.sheet_fields.proofs.blank.words.Reads as words-reads
 use Rattle.sheet_read.proofs.read.fill_tables.Reads as fill-tables-reads
-use Prim.Native.Nat.{ℕ, _*_, _≤_}
-use mathlib.Core.Path.{_≡_, refl, sym, ap, _∙_}
-use mathlib.Core.List.{List}
+use mathlib.Core.Path.{sym, ap, _∙_}
 use lib.ListN.{length}
 use lib.Seq.{length-take-le}
 use Rattle.formula.specs.Acceptance.{low-row}
 use Rattle.sheet_read.specs.Reading.{verdictIn}
 use Rattle.sheet_drift.specs.declared.DriftAnswer.{DriftAnswer}
 use Rattle.sheet_drift.specs.Drifting.{handed}
-use Rattle.sheet_drift.specs.Tested.{rowsVerdict, lastMoves, rows-some, rows-few, tabled, verdict-is, moves-are, verdict-first}
+use Rattle.sheet_drift.specs.Tested.{rows-some, rows-few, tabled, verdict-is, moves-are, verdict-first}
 use Rattle.sheet_drift.proofs.AnswerLaws.{memory-short, reader-refuses, rows-decide}
 
 -- src/lib.rt:120:9  if out.len() < NEED { ⏎ return refused(Refusal::Memory, 0);

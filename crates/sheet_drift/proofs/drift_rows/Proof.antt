@@ -8,9 +8,7 @@ use Rattle.sheet_drift.proofs.drift_tests.Reads as drift-tests-reads
 use Rattle.sheet_drift.proofs.numbers.write_numbers.Reads as write-numbers-reads
 use Rattle.sheet_drift.proofs.refused.Reads as refused-reads
 use Rattle.sheet_fields.proofs.shape.width_at.Reads as width-at-reads
-use Prim.Native.Nat.{ℕ, _≤_}
-use mathlib.Core.Path.{_≡_, refl, sym, ap, _∙_}
-use mathlib.Core.List.{List}
+use mathlib.Core.Path.{refl, sym, ap, _∙_}
 use Rattle.eval_words.specs.Needs.{narrow}
 use Rattle.sheet_drift.specs.declared.DriftAnswer.{DriftAnswer}
 use Rattle.sheet_drift.specs.Drifting.{handed}

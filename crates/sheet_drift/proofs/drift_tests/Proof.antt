@@ -1,6 +1,6 @@
 -- The tests, as paths name them:
 --   tie if1  } ⏎ if !tolerances_well(tolerances, inputs_in(free)) {
---   tie if2  let env = in_order(free, tolerances); ⏎ if !row_moves(fields, widths, n, &env, out, 0) {
+--   tie if2  let env = in_order(free, tolerances); ⏎ if !row_moves(fields, widths, n, &env, numbers, 0) {
 use native.Mathlib.Omega.{arith}
 use borrow.Author.Needs.{needs}
 use Rattle.sheet_drift.proofs.drift_tests.Statement.{statement}
@@ -13,7 +13,6 @@ use Rattle.sheet_drift.proofs.numbers.in_order.Reads as in-order-reads
 use Rattle.sheet_drift.proofs.numbers.tolerances_well.Reads as tolerances-well-reads
 use Rattle.sheet_sorts.proofs.walk.test_sorts.Reads as test-sorts-reads
 use mathlib.Core.Path.{sym, ap, _∙_}
-use mathlib.Core.Bool.{true, false}
 use borrow.Author.Tests.{not-true, not-false}
 use Rattle.formula.specs.Tree.{expOf}
 use Rattle.formula.specs.declared.Refusal.the-variants.{Sort, Movement}
@@ -57,26 +56,26 @@ returns-2 c = (fault-tolerances (c .before .before .before .before .before .befo
 in-order-requires : tie.Need-in-order-requires
 in-order-requires c κs = search needs
 
--- src/lib.rt:81:9  let env = in_order(free, tolerances); ⏎ if !row_moves(fields, widths, n, &env, out, 0) {
+-- src/lib.rt:81:9  let env = in_order(free, tolerances); ⏎ if !row_moves(fields, widths, n, &env, numbers, 0) {
 row-moves-requires : tie.Need-row-moves-requires
 row-moves-requires c κs = (c .before .before .before .before .before .before .before .before .before .before .before .before .before .before .pre .0 .row, kept-drifts (c .before .before .before .before .before .before .before .before .before .before .before .before .before .before .args .fields .now) (c .before .before .before .before .before .before .before .before .before .before .before .before .before .before .args .widths .now) (c .before .before .before .before .before .before .before .before .before .before .before .before .before .before .args .n) (c .before .before .before .before .before .before .before .before .before .before .before .before .before .before .args .line .now) (c .before .before .before .before .before .before .before .before .before .before .before .before .before .before .pre .0 .row) (sym (c .before .before .before .before .before .before .before .before .test-sorts .ensures) ∙ c .before .before .before .before .before .before .enum-told .given .1), c .before .before .in-order .ensures .long, order-within (expOf (c .before .before .before .before .before .before .before .before .before .before .before .before .before .before .args .fields .now) (c .before .before .before .before .before .before .before .before .before .before .before .before .before .before .args .n)) (c .before .before .before .before .before .before .before .before .before .before .before .before .before .before .args .tolerances .now) (c .before .before .in-order .result) (c .before .before .before .before .before .before .before .before .before .before .before .before .before .before .args .free) (c .before .before .before .before .before .inputs-in .result) (c .before .before .before .before .before .before .before .before .before .before .before .before .before .before .pre .0 .mask-is) (c .before .before .before .before .before .inputs-in .ensures .0 ∙ inputs-in (expOf (c .before .before .before .before .before .before .before .before .before .before .before .before .before .before .args .fields .now) (c .before .before .before .before .before .before .before .before .before .before .before .before .before .before .args .n)) (c .before .before .before .before .before .before .before .before .before .before .before .before .before .before .args .free) (c .before .before .before .before .before .before .before .before .before .before .before .before .before .before .pre .0 .mask-is)) (sym (c .before .before .before .before .tolerances-well .ensures) ∙ not-false (c .before .before .before .before .tolerances-well .result) (c .before .before .before .if1 .left)) (c .before .before .in-order .ensures), omega (arith, narrow (c .before .before .before .before .before .before .before .before .before .before .before .before .before .before .args .fields .now) (c .before .before .before .before .before .before .before .before .before .before .before .before .before .before .args .widths .now) (c .before .before .before .before .before .before .before .before .before .before .before .before .before .before .args .n) (c .before .before .before .before .before .before .before .before .before .before .before .before .before .before .pre .0 .row), c .before .before .before .before .before .before .before .before .before .before .before .before .before .before .pre .1))
 
--- src/lib.rt:82:9  if !row_moves(fields, widths, n, &env, out, 0) { ⏎ return Verdict::Refused(Refusal::Movement, 0);
+-- src/lib.rt:82:9  if !row_moves(fields, widths, n, &env, numbers, 0) { ⏎ return Verdict::Refused(Refusal::Movement, 0);
 same-length : tie.Need-same-length
 same-length c = search needs
 
--- src/lib.rt:82:9  if !row_moves(fields, widths, n, &env, out, 0) { ⏎ return Verdict::Refused(Refusal::Movement, 0);
+-- src/lib.rt:82:9  if !row_moves(fields, widths, n, &env, numbers, 0) { ⏎ return Verdict::Refused(Refusal::Movement, 0);
 returns-3 : tie.Need-returns-3
 returns-3 c = (fault-moves (c .before .before .before .before .before .before .before .before .before .before .before .before .before .before .before .before .before .before .args .fields .now) (c .before .before .before .before .before .before .before .before .before .before .before .before .before .before .before .before .before .before .args .n) (c .before .before .before .before .before .before .before .before .before .before .before .before .before .before .before .before .before .before .args .line .now) (c .before .before .before .before .before .before .before .before .before .before .before .before .before .before .before .before .before .before .args .tolerances .now) (sym (c .before .before .before .before .before .before .before .before .before .before .before .before .test-sorts .ensures) ∙ c .before .before .before .before .before .before .before .before .before .before .enum-told .given .1) (c .before .before .before .before .before .before .before .before .before .inputs-in .result) (c .before .before .before .before .before .before .before .before .before .inputs-in .ensures .0 ∙ inputs-in (expOf (c .before .before .before .before .before .before .before .before .before .before .before .before .before .before .before .before .before .before .args .fields .now) (c .before .before .before .before .before .before .before .before .before .before .before .before .before .before .before .before .before .before .args .n)) (c .before .before .before .before .before .before .before .before .before .before .before .before .before .before .before .before .before .before .args .free) (c .before .before .before .before .before .before .before .before .before .before .before .before .before .before .before .before .before .before .pre .0 .mask-is)) (sym (c .before .before .before .before .before .before .before .before .tolerances-well .ensures) ∙ not-false (c .before .before .before .before .before .before .before .before .tolerances-well .result) (c .before .before .before .before .before .before .before .if1 .left)) (ap (fitsE (expOf (c .before .before .before .before .before .before .before .before .before .before .before .before .before .before .before .before .before .before .args .fields .now) (c .before .before .before .before .before .before .before .before .before .before .before .before .before .before .before .before .before .before .args .n))) (sym (order-inputs (expOf (c .before .before .before .before .before .before .before .before .before .before .before .before .before .before .before .before .before .before .args .fields .now) (c .before .before .before .before .before .before .before .before .before .before .before .before .before .before .before .before .before .before .args .n)) (c .before .before .before .before .before .before .before .before .before .before .before .before .before .before .before .before .before .before .args .tolerances .now) (c .before .before .before .before .before .before .in-order .result) (c .before .before .before .before .before .before .before .before .before .before .before .before .before .before .before .before .before .before .args .free) (c .before .before .before .before .before .before .before .before .before .inputs-in .result) (c .before .before .before .before .before .before .before .before .before .before .before .before .before .before .before .before .before .before .pre .0 .mask-is) (c .before .before .before .before .before .before .before .before .before .inputs-in .ensures .0 ∙ inputs-in (expOf (c .before .before .before .before .before .before .before .before .before .before .before .before .before .before .before .before .before .before .args .fields .now) (c .before .before .before .before .before .before .before .before .before .before .before .before .before .before .before .before .before .before .args .n)) (c .before .before .before .before .before .before .before .before .before .before .before .before .before .before .before .before .before .before .args .free) (c .before .before .before .before .before .before .before .before .before .before .before .before .before .before .before .before .before .before .pre .0 .mask-is)) (sym (c .before .before .before .before .before .before .before .before .tolerances-well .ensures) ∙ not-false (c .before .before .before .before .before .before .before .before .tolerances-well .result) (c .before .before .before .before .before .before .before .if1 .left)) (c .before .before .before .before .before .before .in-order .ensures))) ∙ sym (c .before .before .before .row-moves .ensures .0) ∙ not-true (c .before .before .before .row-moves .result) (c .if2 .taken)), λ e. never-passed Movement 0 e)
 
--- src/lib.rt:58:1  // 20 and 21 of n rows of an accepted sheet, the last of which has the free names `free`; the numbers of its values go to the start of `out`. ⏎ fn drift_tests(
+-- src/lib.rt:58:1  // 20 and 21 of n rows of an accepted sheet, the last of which has the free names `free`; the numbers of its values go to the start of `numbers`. ⏎ fn drift_tests(
 same-length-2 : tie.Need-same-length-2
 same-length-2 c = search needs
 
--- src/lib.rt:58:1  // 20 and 21 of n rows of an accepted sheet, the last of which has the free names `free`; the numbers of its values go to the start of `out`. ⏎ fn drift_tests(
+-- src/lib.rt:58:1  // 20 and 21 of n rows of an accepted sheet, the last of which has the free names `free`; the numbers of its values go to the start of `numbers`. ⏎ fn drift_tests(
 returns-4 : tie.Need-returns-4
 unfolding lastMoves
-returns-4 c = (tests-pass (c .before .before .before .before .before .before .before .before .before .before .before .before .before .before .before .before .before .before .args .fields .now) (c .before .before .before .before .before .before .before .before .before .before .before .before .before .before .before .before .before .before .args .n) (c .before .before .before .before .before .before .before .before .before .before .before .before .before .before .before .before .before .before .args .line .now) (c .before .before .before .before .before .before .before .before .before .before .before .before .before .before .before .before .before .before .args .tolerances .now) (sym (c .before .before .before .before .before .before .before .before .before .before .before .before .test-sorts .ensures) ∙ c .before .before .before .before .before .before .before .before .before .before .enum-told .given .1) (c .before .before .before .before .before .before .before .before .before .inputs-in .result) (c .before .before .before .before .before .before .before .before .before .inputs-in .ensures .0 ∙ inputs-in (expOf (c .before .before .before .before .before .before .before .before .before .before .before .before .before .before .before .before .before .before .args .fields .now) (c .before .before .before .before .before .before .before .before .before .before .before .before .before .before .before .before .before .before .args .n)) (c .before .before .before .before .before .before .before .before .before .before .before .before .before .before .before .before .before .before .args .free) (c .before .before .before .before .before .before .before .before .before .before .before .before .before .before .before .before .before .before .pre .0 .mask-is)) (sym (c .before .before .before .before .before .before .before .before .tolerances-well .ensures) ∙ not-false (c .before .before .before .before .before .before .before .before .tolerances-well .result) (c .before .before .before .before .before .before .before .if1 .left)) (ap (fitsE (expOf (c .before .before .before .before .before .before .before .before .before .before .before .before .before .before .before .before .before .before .args .fields .now) (c .before .before .before .before .before .before .before .before .before .before .before .before .before .before .before .before .before .before .args .n))) (sym (order-inputs (expOf (c .before .before .before .before .before .before .before .before .before .before .before .before .before .before .before .before .before .before .args .fields .now) (c .before .before .before .before .before .before .before .before .before .before .before .before .before .before .before .before .before .before .args .n)) (c .before .before .before .before .before .before .before .before .before .before .before .before .before .before .before .before .before .before .args .tolerances .now) (c .before .before .before .before .before .before .in-order .result) (c .before .before .before .before .before .before .before .before .before .before .before .before .before .before .before .before .before .before .args .free) (c .before .before .before .before .before .before .before .before .before .inputs-in .result) (c .before .before .before .before .before .before .before .before .before .before .before .before .before .before .before .before .before .before .pre .0 .mask-is) (c .before .before .before .before .before .before .before .before .before .inputs-in .ensures .0 ∙ inputs-in (expOf (c .before .before .before .before .before .before .before .before .before .before .before .before .before .before .before .before .before .before .args .fields .now) (c .before .before .before .before .before .before .before .before .before .before .before .before .before .before .before .before .before .before .args .n)) (c .before .before .before .before .before .before .before .before .before .before .before .before .before .before .before .before .before .before .args .free) (c .before .before .before .before .before .before .before .before .before .before .before .before .before .before .before .before .before .before .pre .0 .mask-is)) (sym (c .before .before .before .before .before .before .before .before .tolerances-well .ensures) ∙ not-false (c .before .before .before .before .before .before .before .before .tolerances-well .result) (c .before .before .before .before .before .before .before .if1 .left)) (c .before .before .before .before .before .before .in-order .ensures))) ∙ sym (c .before .before .before .row-moves .ensures .0) ∙ not-false (c .before .before .before .row-moves .result) (c .if2 .left)), λ e. c .before .before .before .row-moves .ensures .1 (not-false (c .before .before .before .row-moves .result) (c .if2 .left)) ∙ ap (λ (m : Moves). sets (c .before .before .before .before .before .before .before .before .before .before .before .before .before .before .before .before .before .before .args .out .now) 0 (movesE (expOf (c .before .before .before .before .before .before .before .before .before .before .before .before .before .before .before .before .before .before .args .fields .now) (c .before .before .before .before .before .before .before .before .before .before .before .before .before .before .before .before .before .before .args .n)) m)) (order-inputs (expOf (c .before .before .before .before .before .before .before .before .before .before .before .before .before .before .before .before .before .before .args .fields .now) (c .before .before .before .before .before .before .before .before .before .before .before .before .before .before .before .before .before .before .args .n)) (c .before .before .before .before .before .before .before .before .before .before .before .before .before .before .before .before .before .before .args .tolerances .now) (c .before .before .before .before .before .before .in-order .result) (c .before .before .before .before .before .before .before .before .before .before .before .before .before .before .before .before .before .before .args .free) (c .before .before .before .before .before .before .before .before .before .inputs-in .result) (c .before .before .before .before .before .before .before .before .before .before .before .before .before .before .before .before .before .before .pre .0 .mask-is) (c .before .before .before .before .before .before .before .before .before .inputs-in .ensures .0 ∙ inputs-in (expOf (c .before .before .before .before .before .before .before .before .before .before .before .before .before .before .before .before .before .before .args .fields .now) (c .before .before .before .before .before .before .before .before .before .before .before .before .before .before .before .before .before .before .args .n)) (c .before .before .before .before .before .before .before .before .before .before .before .before .before .before .before .before .before .before .args .free) (c .before .before .before .before .before .before .before .before .before .before .before .before .before .before .before .before .before .before .pre .0 .mask-is)) (sym (c .before .before .before .before .before .before .before .before .tolerances-well .ensures) ∙ not-false (c .before .before .before .before .before .before .before .before .tolerances-well .result) (c .before .before .before .before .before .before .before .if1 .left)) (c .before .before .before .before .before .before .in-order .ensures)))
+returns-4 c = (tests-pass (c .before .before .before .before .before .before .before .before .before .before .before .before .before .before .before .before .before .before .args .fields .now) (c .before .before .before .before .before .before .before .before .before .before .before .before .before .before .before .before .before .before .args .n) (c .before .before .before .before .before .before .before .before .before .before .before .before .before .before .before .before .before .before .args .line .now) (c .before .before .before .before .before .before .before .before .before .before .before .before .before .before .before .before .before .before .args .tolerances .now) (sym (c .before .before .before .before .before .before .before .before .before .before .before .before .test-sorts .ensures) ∙ c .before .before .before .before .before .before .before .before .before .before .enum-told .given .1) (c .before .before .before .before .before .before .before .before .before .inputs-in .result) (c .before .before .before .before .before .before .before .before .before .inputs-in .ensures .0 ∙ inputs-in (expOf (c .before .before .before .before .before .before .before .before .before .before .before .before .before .before .before .before .before .before .args .fields .now) (c .before .before .before .before .before .before .before .before .before .before .before .before .before .before .before .before .before .before .args .n)) (c .before .before .before .before .before .before .before .before .before .before .before .before .before .before .before .before .before .before .args .free) (c .before .before .before .before .before .before .before .before .before .before .before .before .before .before .before .before .before .before .pre .0 .mask-is)) (sym (c .before .before .before .before .before .before .before .before .tolerances-well .ensures) ∙ not-false (c .before .before .before .before .before .before .before .before .tolerances-well .result) (c .before .before .before .before .before .before .before .if1 .left)) (ap (fitsE (expOf (c .before .before .before .before .before .before .before .before .before .before .before .before .before .before .before .before .before .before .args .fields .now) (c .before .before .before .before .before .before .before .before .before .before .before .before .before .before .before .before .before .before .args .n))) (sym (order-inputs (expOf (c .before .before .before .before .before .before .before .before .before .before .before .before .before .before .before .before .before .before .args .fields .now) (c .before .before .before .before .before .before .before .before .before .before .before .before .before .before .before .before .before .before .args .n)) (c .before .before .before .before .before .before .before .before .before .before .before .before .before .before .before .before .before .before .args .tolerances .now) (c .before .before .before .before .before .before .in-order .result) (c .before .before .before .before .before .before .before .before .before .before .before .before .before .before .before .before .before .before .args .free) (c .before .before .before .before .before .before .before .before .before .inputs-in .result) (c .before .before .before .before .before .before .before .before .before .before .before .before .before .before .before .before .before .before .pre .0 .mask-is) (c .before .before .before .before .before .before .before .before .before .inputs-in .ensures .0 ∙ inputs-in (expOf (c .before .before .before .before .before .before .before .before .before .before .before .before .before .before .before .before .before .before .args .fields .now) (c .before .before .before .before .before .before .before .before .before .before .before .before .before .before .before .before .before .before .args .n)) (c .before .before .before .before .before .before .before .before .before .before .before .before .before .before .before .before .before .before .args .free) (c .before .before .before .before .before .before .before .before .before .before .before .before .before .before .before .before .before .before .pre .0 .mask-is)) (sym (c .before .before .before .before .before .before .before .before .tolerances-well .ensures) ∙ not-false (c .before .before .before .before .before .before .before .before .tolerances-well .result) (c .before .before .before .before .before .before .before .if1 .left)) (c .before .before .before .before .before .before .in-order .ensures))) ∙ sym (c .before .before .before .row-moves .ensures .0) ∙ not-false (c .before .before .before .row-moves .result) (c .if2 .left)), λ e. c .before .before .before .row-moves .ensures .1 (not-false (c .before .before .before .row-moves .result) (c .if2 .left)) ∙ ap (λ (m : Moves). sets (c .before .before .before .before .before .before .before .before .before .before .before .before .before .before .before .before .before .before .args .numbers .now) 0 (movesE (expOf (c .before .before .before .before .before .before .before .before .before .before .before .before .before .before .before .before .before .before .args .fields .now) (c .before .before .before .before .before .before .before .before .before .before .before .before .before .before .before .before .before .before .args .n)) m)) (order-inputs (expOf (c .before .before .before .before .before .before .before .before .before .before .before .before .before .before .before .before .before .before .args .fields .now) (c .before .before .before .before .before .before .before .before .before .before .before .before .before .before .before .before .before .before .args .n)) (c .before .before .before .before .before .before .before .before .before .before .before .before .before .before .before .before .before .before .args .tolerances .now) (c .before .before .before .before .before .before .in-order .result) (c .before .before .before .before .before .before .before .before .before .before .before .before .before .before .before .before .before .before .args .free) (c .before .before .before .before .before .before .before .before .before .inputs-in .result) (c .before .before .before .before .before .before .before .before .before .before .before .before .before .before .before .before .before .before .pre .0 .mask-is) (c .before .before .before .before .before .before .before .before .before .inputs-in .ensures .0 ∙ inputs-in (expOf (c .before .before .before .before .before .before .before .before .before .before .before .before .before .before .before .before .before .before .args .fields .now) (c .before .before .before .before .before .before .before .before .before .before .before .before .before .before .before .before .before .before .args .n)) (c .before .before .before .before .before .before .before .before .before .before .before .before .before .before .before .before .before .before .args .free) (c .before .before .before .before .before .before .before .before .before .before .before .before .before .before .before .before .before .before .pre .0 .mask-is)) (sym (c .before .before .before .before .before .before .before .before .tolerances-well .ensures) ∙ not-false (c .before .before .before .before .before .before .before .before .tolerances-well .result) (c .before .before .before .before .before .before .before .if1 .left)) (c .before .before .before .before .before .before .in-order .ensures)))
 
 pub drift-tests-spec : {M : Type 1} → statement M
 drift-tests-spec =

@@ -37,7 +37,7 @@ abbrev row-moves-below : ℕ → In 4 row-moves-kinds.ps
 row-moves-below t =
     and 4 row-moves-kinds.ps (falls 4 row-moves-kinds.ps _<_ μ-row-moves t) row-moves.Pre
 
--- src/moves.rt:91:11  { ⏎ match shape_at(t, r) {
+-- src/moves.rt:90:11  { ⏎ match shape_at(t, r) {
 row-moves-shape-at-requires : (t : ℕ) → row-moves-lts.Need-shape-at-requires (
   shape-at-reads.Asked,
   shape-at-reads.Learnt,
@@ -52,7 +52,7 @@ row-moves-shape-at-requires : (t : ℕ) → row-moves-lts.Need-shape-at-requires
 ) (row-moves-at t) row-moves.Post
 row-moves-shape-at-requires t c κs = ((c .before .before .before .pre .1 .0) .low, omega (arith, (c .before .before .before .pre .1 .0) .accepted .fields, (c .before .before .before .pre .1 .0) .high))
 
--- src/moves.rt:92:27  match shape_at(t, r) { ⏎ Shape::Identifier(a) => {
+-- src/moves.rt:91:27  match shape_at(t, r) { ⏎ Shape::Identifier(a) => {
 row-moves-enum-known-a : (t : ℕ) → row-moves-lts.Need-enum-known-a (
   shape-at-reads.Asked,
   shape-at-reads.Learnt,
@@ -67,7 +67,7 @@ row-moves-enum-known-a : (t : ℕ) → row-moves-lts.Need-enum-known-a (
 ) (row-moves-at t) row-moves.Post
 row-moves-enum-known-a t c = search needs
 
--- src/moves.rt:93:27  Shape::Identifier(a) => { ⏎ out[at] = env[a as usize];
+-- src/moves.rt:92:27  Shape::Identifier(a) => { ⏎ out[at] = env[a as usize];
 row-moves-cast-out : (t : ℕ) → row-moves-lts.Need-cast-out (
   shape-at-reads.Asked,
   shape-at-reads.Learnt,
@@ -82,7 +82,7 @@ row-moves-cast-out : (t : ℕ) → row-moves-lts.Need-cast-out (
 ) (row-moves-at t) row-moves.Post
 row-moves-cast-out t c = search needs
 
--- src/moves.rt:93:23  Shape::Identifier(a) => { ⏎ out[at] = env[a as usize];
+-- src/moves.rt:92:23  Shape::Identifier(a) => { ⏎ out[at] = env[a as usize];
 row-moves-mul-out : (t : ℕ) → row-moves-lts.Need-mul-out (
   shape-at-reads.Asked,
   shape-at-reads.Learnt,
@@ -97,7 +97,7 @@ row-moves-mul-out : (t : ℕ) → row-moves-lts.Need-mul-out (
 ) (row-moves-at t) row-moves.Post
 row-moves-mul-out t c = search needs
 
--- src/moves.rt:93:23  Shape::Identifier(a) => { ⏎ out[at] = env[a as usize];
+-- src/moves.rt:92:23  Shape::Identifier(a) => { ⏎ out[at] = env[a as usize];
 row-moves-element-copy-out-out : (t : ℕ) → row-moves-lts.Need-element-copy-out-out (
   shape-at-reads.Asked,
   shape-at-reads.Learnt,
@@ -112,7 +112,7 @@ row-moves-element-copy-out-out : (t : ℕ) → row-moves-lts.Need-element-copy-o
 ) (row-moves-at t) row-moves.Post
 row-moves-element-copy-out-out t c = let f = exp-needs (c .before .before .before .before .before .before .before .args .t .now) (c .before .before .before .before .before .before .before .args .widths .now) (c .before .before .before .before .before .before .before .args .r) (c .before .before .before .before .before .before .before .pre .1 .0) (Identifier (c .before .a .given .0 .0)) (sym (c .before .before .before .shape-at .ensures) ∙ c .before .a .given .1) in omega (arith, f .1, c .before .before .before .before .before .before .before .pre .1 .2)
 
--- src/moves.rt:93:13  Shape::Identifier(a) => { ⏎ out[at] = env[a as usize];
+-- src/moves.rt:92:13  Shape::Identifier(a) => { ⏎ out[at] = env[a as usize];
 row-moves-mul-out-2 : (t : ℕ) → row-moves-lts.Need-mul-out-2 (
   shape-at-reads.Asked,
   shape-at-reads.Learnt,
@@ -127,7 +127,7 @@ row-moves-mul-out-2 : (t : ℕ) → row-moves-lts.Need-mul-out-2 (
 ) (row-moves-at t) row-moves.Post
 row-moves-mul-out-2 t c = search needs
 
--- src/moves.rt:93:13  Shape::Identifier(a) => { ⏎ out[at] = env[a as usize];
+-- src/moves.rt:92:13  Shape::Identifier(a) => { ⏎ out[at] = env[a as usize];
 row-moves-slice-write-out : (t : ℕ) → row-moves-lts.Need-slice-write-out (
   shape-at-reads.Asked,
   shape-at-reads.Learnt,
@@ -142,7 +142,7 @@ row-moves-slice-write-out : (t : ℕ) → row-moves-lts.Need-slice-write-out (
 ) (row-moves-at t) row-moves.Post
 row-moves-slice-write-out t c = let f = exp-needs (c .before .before .before .before .before .before .before .before .args .t .now) (c .before .before .before .before .before .before .before .before .args .widths .now) (c .before .before .before .before .before .before .before .before .args .r) (c .before .before .before .before .before .before .before .before .pre .1 .0) (Identifier (c .before .before .a .given .0 .0)) (sym (c .before .before .before .before .shape-at .ensures) ∙ c .before .before .a .given .1) in omega (arith, f .0, c .before .before .before .before .before .before .before .before .pre .1 .4)
 
--- src/moves.rt:97:13  Shape::Constant(_, _) => { ⏎ out[at] = 0;
+-- src/moves.rt:96:13  Shape::Constant(_, _) => { ⏎ out[at] = 0;
 row-moves-enum-told : (t : ℕ) → row-moves-lts.Need-enum-told (
   shape-at-reads.Asked,
   shape-at-reads.Learnt,
@@ -157,7 +157,7 @@ row-moves-enum-told : (t : ℕ) → row-moves-lts.Need-enum-told (
 ) (row-moves-at t) row-moves.Post
 row-moves-enum-told t c = search needs
 
--- src/moves.rt:97:13  Shape::Constant(_, _) => { ⏎ out[at] = 0;
+-- src/moves.rt:96:13  Shape::Constant(_, _) => { ⏎ out[at] = 0;
 row-moves-mul-out-3 : (t : ℕ) → row-moves-lts.Need-mul-out-3 (
   shape-at-reads.Asked,
   shape-at-reads.Learnt,
@@ -172,7 +172,7 @@ row-moves-mul-out-3 : (t : ℕ) → row-moves-lts.Need-mul-out-3 (
 ) (row-moves-at t) row-moves.Post
 row-moves-mul-out-3 t c = search needs
 
--- src/moves.rt:97:13  Shape::Constant(_, _) => { ⏎ out[at] = 0;
+-- src/moves.rt:96:13  Shape::Constant(_, _) => { ⏎ out[at] = 0;
 row-moves-slice-write-out-2 : (t : ℕ) → row-moves-lts.Need-slice-write-out-2 (
   shape-at-reads.Asked,
   shape-at-reads.Learnt,
@@ -187,7 +187,7 @@ row-moves-slice-write-out-2 : (t : ℕ) → row-moves-lts.Need-slice-write-out-2
 ) (row-moves-at t) row-moves.Post
 row-moves-slice-write-out-2 t c = let f = exp-needs (c .before .before .before .before .before .before .args .t .now) (c .before .before .before .before .before .before .args .widths .now) (c .before .before .before .before .before .before .args .r) (c .before .before .before .before .before .before .pre .1 .0) (Constant (c .enum-told .given .0 .0) (c .enum-told .given .0 .1 .0)) (sym (c .before .before .shape-at .ensures) ∙ c .enum-told .given .1) in omega (arith, f .0, c .before .before .before .before .before .before .pre .1 .4)
 
--- src/moves.rt:100:21  } ⏎ Shape::Pair(a, b) => {
+-- src/moves.rt:99:21  } ⏎ Shape::Pair(a, b) => {
 row-moves-enum-known-a-2 : (t : ℕ) → row-moves-lts.Need-enum-known-a-2 (
   shape-at-reads.Asked,
   shape-at-reads.Learnt,
@@ -202,7 +202,7 @@ row-moves-enum-known-a-2 : (t : ℕ) → row-moves-lts.Need-enum-known-a-2 (
 ) (row-moves-at t) row-moves.Post
 row-moves-enum-known-a-2 t c = search needs
 
--- src/moves.rt:101:17  Shape::Pair(a, b) => { ⏎ if !row_moves(t, widths, a, env, out, at) {
+-- src/moves.rt:100:17  Shape::Pair(a, b) => { ⏎ if !row_moves(t, widths, a, env, out, at) {
 row-moves-row-moves-requires : (t : ℕ) → row-moves-lts.Need-row-moves-requires (
   shape-at-reads.Asked,
   shape-at-reads.Learnt,
@@ -217,7 +217,7 @@ row-moves-row-moves-requires : (t : ℕ) → row-moves-lts.Need-row-moves-requir
 ) (row-moves-at t) row-moves.Post
 row-moves-row-moves-requires t c κs = let f = exp-needs (c .before .before .before .before .before .before .before .before .args .t .now) (c .before .before .before .before .before .before .before .before .args .widths .now) (c .before .before .before .before .before .before .before .before .args .r) (c .before .before .before .before .before .before .before .before .pre .1 .0) (Pair (c .before .before .a2 .given .0 .0) (c .before .before .a2 .given .0 .1 .0)) (sym (c .before .before .before .before .shape-at .ensures) ∙ c .before .before .a2 .given .1) in let k = exp-children (c .before .before .before .before .before .before .before .before .args .t .now) (c .before .before .before .before .before .before .before .before .args .widths .now) (c .before .before .before .before .before .before .before .before .args .r) (c .before .before .before .before .before .before .before .before .pre .1 .0) (Pair (c .before .before .a2 .given .0 .0) (c .before .before .a2 .given .0 .1 .0)) (sym (c .before .before .before .before .shape-at .ensures) ∙ c .before .before .a2 .given .1) in let g = drifts-below (c .before .before .before .before .before .before .before .before .args .t .now) (c .before .before .before .before .before .before .before .before .args .widths .now) (c .before .before .before .before .before .before .before .before .args .r) (c .before .before .before .before .before .before .before .before .pre .1 .0) (c .before .before .before .before .before .before .before .before .pre .1 .1) (Pair (c .before .before .a2 .given .0 .0) (c .before .before .a2 .given .0 .1 .0)) (sym (c .before .before .before .before .shape-at .ensures) ∙ c .before .before .a2 .given .1) in (omega (arith, k .0 .1), (k .0 .0, g .0, c .before .before .before .before .before .before .before .before .pre .1 .2, c .before .before .before .before .before .before .before .before .pre .1 .3, omega (arith, f, c .before .before .before .before .before .before .before .before .pre .1 .4)))
 
--- src/moves.rt:102:17  if !row_moves(t, widths, a, env, out, at) { ⏎ return false;
+-- src/moves.rt:101:17  if !row_moves(t, widths, a, env, out, at) { ⏎ return false;
 row-moves-same-length : (t : ℕ) → row-moves-lts.Need-same-length (
   shape-at-reads.Asked,
   shape-at-reads.Learnt,
@@ -232,7 +232,7 @@ row-moves-same-length : (t : ℕ) → row-moves-lts.Need-same-length (
 ) (row-moves-at t) row-moves.Post
 row-moves-same-length t c = c .before .before .before .row-moves .kept .1 .1 .1 .1 .0
 
--- src/moves.rt:102:17  if !row_moves(t, widths, a, env, out, at) { ⏎ return false;
+-- src/moves.rt:101:17  if !row_moves(t, widths, a, env, out, at) { ⏎ return false;
 row-moves-returns : (t : ℕ) → row-moves-lts.Need-returns (
   shape-at-reads.Asked,
   shape-at-reads.Learnt,
@@ -247,7 +247,7 @@ row-moves-returns : (t : ℕ) → row-moves-lts.Need-returns (
 ) (row-moves-at t) row-moves.Post
 row-moves-returns t c = pair-stopped (c .before .before .before .before .before .before .before .before .before .before .before .before .args .t .now) (c .before .before .before .before .before .before .before .before .before .before .before .before .args .widths .now) (c .before .before .before .before .before .before .before .before .before .before .before .before .args .r) (c .before .before .before .before .before .before .before .before .before .before .before .before .pre .1 .0) (movesIn (c .before .before .before .before .before .before .before .before .before .before .before .before .args .env .now)) (c .before .before .before .before .before .before .before .before .before .before .before .before .args .at) (c .before .before .before .before .before .before .before .before .before .before .before .before .args .out .now) (c .before .before .before .row-moves .last .1 .1 .1 .1 .0) (c .before .before .before .before .before .before .a2 .given .0 .0) (c .before .before .before .before .before .before .a2 .given .0 .1 .0) (sym (c .before .before .before .before .before .before .before .before .shape-at .ensures) ∙ c .before .before .before .before .before .before .a2 .given .1) (c .before .before .before .row-moves .last .1 .1 .1 .1 .0) (c .before .before .before .row-moves .result) (c .before .before .before .row-moves .ensures) (not-true (c .before .before .before .row-moves .result) (c .if1 .taken))
 
--- src/moves.rt:104:52  } ⏎ row_moves(t, widths, b, env, out, at + width_at(widths, a))
+-- src/moves.rt:103:52  } ⏎ row_moves(t, widths, b, env, out, at + width_at(widths, a))
 row-moves-width-at-requires : (t : ℕ) → row-moves-lts.Need-width-at-requires (
   shape-at-reads.Asked,
   shape-at-reads.Learnt,
@@ -262,7 +262,7 @@ row-moves-width-at-requires : (t : ℕ) → row-moves-lts.Need-width-at-requires
 ) (row-moves-at t) row-moves.Post
 row-moves-width-at-requires t c κs = let k = exp-children (c .before .before .before .before .before .before .before .before .before .before .before .before .before .args .t .now) (c .before .before .before .before .before .before .before .before .before .before .before .before .before .args .widths .now) (c .before .before .before .before .before .before .before .before .before .before .before .before .before .args .r) (c .before .before .before .before .before .before .before .before .before .before .before .before .before .pre .1 .0) (Pair (c .before .before .before .before .before .before .before .a2 .given .0 .0) (c .before .before .before .before .before .before .before .a2 .given .0 .1 .0)) (sym (c .before .before .before .before .before .before .before .before .before .shape-at .ensures) ∙ c .before .before .before .before .before .before .before .a2 .given .1) in (k .0 .0 .low, omega (arith, k .0 .0 .high, k .0 .0 .accepted .table))
 
--- src/moves.rt:104:47  } ⏎ row_moves(t, widths, b, env, out, at + width_at(widths, a))
+-- src/moves.rt:103:47  } ⏎ row_moves(t, widths, b, env, out, at + width_at(widths, a))
 row-moves-add-row-moves : (t : ℕ) → row-moves-lts.Need-add-row-moves (
   shape-at-reads.Asked,
   shape-at-reads.Learnt,
@@ -277,7 +277,7 @@ row-moves-add-row-moves : (t : ℕ) → row-moves-lts.Need-add-row-moves (
 ) (row-moves-at t) row-moves.Post
 row-moves-add-row-moves t c = let f = exp-needs (c .before .before .before .before .before .before .before .before .before .before .before .before .before .before .args .t .now) (c .before .before .before .before .before .before .before .before .before .before .before .before .before .before .args .widths .now) (c .before .before .before .before .before .before .before .before .before .before .before .before .before .before .args .r) (c .before .before .before .before .before .before .before .before .before .before .before .before .before .before .pre .1 .0) (Pair (c .before .before .before .before .before .before .before .before .a2 .given .0 .0) (c .before .before .before .before .before .before .before .before .a2 .given .0 .1 .0)) (sym (c .before .before .before .before .before .before .before .before .before .before .shape-at .ensures) ∙ c .before .before .before .before .before .before .before .before .a2 .given .1) in omega (arith, f, c .before .before .before .before .before .before .before .before .before .before .before .before .before .before .pre .1 .4, c .width-at .ensures .0, c .before .before .before .before .before .before .before .before .before .before .before .before .before .before .good .1 .1 .1 .1 .0 .0)
 
--- src/moves.rt:104:13  } ⏎ row_moves(t, widths, b, env, out, at + width_at(widths, a))
+-- src/moves.rt:103:13  } ⏎ row_moves(t, widths, b, env, out, at + width_at(widths, a))
 row-moves-row-moves-requires-2 : (t : ℕ) → row-moves-lts.Need-row-moves-requires-2 (
   shape-at-reads.Asked,
   shape-at-reads.Learnt,
@@ -292,7 +292,7 @@ row-moves-row-moves-requires-2 : (t : ℕ) → row-moves-lts.Need-row-moves-requ
 ) (row-moves-at t) row-moves.Post
 row-moves-row-moves-requires-2 t c κs = let f = exp-needs (c .before .before .before .before .before .before .before .before .before .before .before .before .before .before .args .t .now) (c .before .before .before .before .before .before .before .before .before .before .before .before .before .before .args .widths .now) (c .before .before .before .before .before .before .before .before .before .before .before .before .before .before .args .r) (c .before .before .before .before .before .before .before .before .before .before .before .before .before .before .pre .1 .0) (Pair (c .before .before .before .before .before .before .before .before .a2 .given .0 .0) (c .before .before .before .before .before .before .before .before .a2 .given .0 .1 .0)) (sym (c .before .before .before .before .before .before .before .before .before .before .shape-at .ensures) ∙ c .before .before .before .before .before .before .before .before .a2 .given .1) in let k = exp-children (c .before .before .before .before .before .before .before .before .before .before .before .before .before .before .args .t .now) (c .before .before .before .before .before .before .before .before .before .before .before .before .before .before .args .widths .now) (c .before .before .before .before .before .before .before .before .before .before .before .before .before .before .args .r) (c .before .before .before .before .before .before .before .before .before .before .before .before .before .before .pre .1 .0) (Pair (c .before .before .before .before .before .before .before .before .a2 .given .0 .0) (c .before .before .before .before .before .before .before .before .a2 .given .0 .1 .0)) (sym (c .before .before .before .before .before .before .before .before .before .before .shape-at .ensures) ∙ c .before .before .before .before .before .before .before .before .a2 .given .1) in let g = drifts-below (c .before .before .before .before .before .before .before .before .before .before .before .before .before .before .args .t .now) (c .before .before .before .before .before .before .before .before .before .before .before .before .before .before .args .widths .now) (c .before .before .before .before .before .before .before .before .before .before .before .before .before .before .args .r) (c .before .before .before .before .before .before .before .before .before .before .before .before .before .before .pre .1 .0) (c .before .before .before .before .before .before .before .before .before .before .before .before .before .before .pre .1 .1) (Pair (c .before .before .before .before .before .before .before .before .a2 .given .0 .0) (c .before .before .before .before .before .before .before .before .a2 .given .0 .1 .0)) (sym (c .before .before .before .before .before .before .before .before .before .before .shape-at .ensures) ∙ c .before .before .before .before .before .before .before .before .a2 .given .1) in (omega (arith, k .1 .1), (k .1 .0, g .1, c .before .before .before .before .before .before .before .before .before .before .before .before .before .before .pre .1 .2, c .before .before .before .before .before .before .before .before .before .before .before .before .before .before .pre .1 .3, omega (arith, f, c .before .before .before .before .before .before .before .before .before .before .before .before .before .before .pre .1 .4, c .width-at .ensures .0, c .before .before .before .before .before .row-moves .kept .1 .1 .1 .1 .0)))
 
--- src/moves.rt:106:25  } ⏎ Shape::Operator(code, b) => {
+-- src/moves.rt:105:25  } ⏎ Shape::Operator(code, b) => {
 row-moves-enum-known-code : (t : ℕ) → row-moves-lts.Need-enum-known-code (
   shape-at-reads.Asked,
   shape-at-reads.Learnt,
@@ -307,7 +307,7 @@ row-moves-enum-known-code : (t : ℕ) → row-moves-lts.Need-enum-known-code (
 ) (row-moves-at t) row-moves.Post
 row-moves-enum-known-code t c = search needs
 
--- src/moves.rt:108:46  let mut operands = [0; 2]; ⏎ if !row_moves(t, widths, b, env, &mut operands, 0) {
+-- src/moves.rt:107:46  let mut operands = [0; 2]; ⏎ if !row_moves(t, widths, b, env, &mut operands, 0) {
 row-moves-slice-aggregate-row-moves : (t : ℕ) → row-moves-lts.Need-slice-aggregate-row-moves (
   shape-at-reads.Asked,
   shape-at-reads.Learnt,
@@ -322,7 +322,7 @@ row-moves-slice-aggregate-row-moves : (t : ℕ) → row-moves-lts.Need-slice-agg
 ) (row-moves-at t) row-moves.Post
 row-moves-slice-aggregate-row-moves t c = search needs
 
--- src/moves.rt:108:17  let mut operands = [0; 2]; ⏎ if !row_moves(t, widths, b, env, &mut operands, 0) {
+-- src/moves.rt:107:17  let mut operands = [0; 2]; ⏎ if !row_moves(t, widths, b, env, &mut operands, 0) {
 row-moves-row-moves-requires-3 : (t : ℕ) → row-moves-lts.Need-row-moves-requires-3 (
   shape-at-reads.Asked,
   shape-at-reads.Learnt,
@@ -337,7 +337,7 @@ row-moves-row-moves-requires-3 : (t : ℕ) → row-moves-lts.Need-row-moves-requ
 ) (row-moves-at t) row-moves.Post
 row-moves-row-moves-requires-3 t c κs = let f = exp-needs (c .before .before .before .before .before .before .before .before .args .t .now) (c .before .before .before .before .before .before .before .before .args .widths .now) (c .before .before .before .before .before .before .before .before .args .r) (c .before .before .before .before .before .before .before .before .pre .1 .0) (Operator (c .before .before .code .given .0 .0) (c .before .before .code .given .0 .1 .0)) (sym (c .before .before .before .before .shape-at .ensures) ∙ c .before .before .code .given .1) in let k = exp-children (c .before .before .before .before .before .before .before .before .args .t .now) (c .before .before .before .before .before .before .before .before .args .widths .now) (c .before .before .before .before .before .before .before .before .args .r) (c .before .before .before .before .before .before .before .before .pre .1 .0) (Operator (c .before .before .code .given .0 .0) (c .before .before .code .given .0 .1 .0)) (sym (c .before .before .before .before .shape-at .ensures) ∙ c .before .before .code .given .1) in let g = drifts-below (c .before .before .before .before .before .before .before .before .args .t .now) (c .before .before .before .before .before .before .before .before .args .widths .now) (c .before .before .before .before .before .before .before .before .args .r) (c .before .before .before .before .before .before .before .before .pre .1 .0) (c .before .before .before .before .before .before .before .before .pre .1 .1) (Operator (c .before .before .code .given .0 .0) (c .before .before .code .given .0 .1 .0)) (sym (c .before .before .before .before .shape-at .ensures) ∙ c .before .before .code .given .1) in (omega (arith, k .1), (k .0, g .1, c .before .before .before .before .before .before .before .before .pre .1 .2, c .before .before .before .before .before .before .before .before .pre .1 .3, omega (arith, f .1)))
 
--- src/moves.rt:109:17  if !row_moves(t, widths, b, env, &mut operands, 0) { ⏎ return false;
+-- src/moves.rt:108:17  if !row_moves(t, widths, b, env, &mut operands, 0) { ⏎ return false;
 row-moves-returns-2 : (t : ℕ) → row-moves-lts.Need-returns-2 (
   shape-at-reads.Asked,
   shape-at-reads.Learnt,
@@ -352,7 +352,7 @@ row-moves-returns-2 : (t : ℕ) → row-moves-lts.Need-returns-2 (
 ) (row-moves-at t) row-moves.Post
 row-moves-returns-2 t c = operator-stopped (c .before .before .before .before .before .before .before .before .before .before .before .args .t .now) (c .before .before .before .before .before .before .before .before .before .before .before .args .widths .now) (c .before .before .before .before .before .before .before .before .before .before .before .args .r) (c .before .before .before .before .before .before .before .before .before .before .before .pre .1 .0) (movesIn (c .before .before .before .before .before .before .before .before .before .before .before .args .env .now)) (c .before .before .before .before .before .before .before .before .before .before .before .args .at) (c .before .before .before .before .before .before .before .before .before .before .before .args .out .now) (c .before .before .before .before .before .before .before .before .before .before .before .args .out .now) (c .before .before .before .before .before .code .given .0 .0) (c .before .before .before .before .before .code .given .0 .1 .0) (sym (c .before .before .before .before .before .before .before .shape-at .ensures) ∙ c .before .before .before .before .before .code .given .1) (c .before .before .row-moves3 .last .1 .1 .1 .1 .0) (c .before .before .row-moves3 .result) (c .before .before .row-moves3 .ensures) (not-true (c .before .before .row-moves3 .result) (c .if2 .taken))
 
--- src/moves.rt:114:35  at, ⏎ moved(t, code, b, operands[0] as u64, operands[1] as u64),
+-- src/moves.rt:113:35  at, ⏎ moved(t, code, b, operands[0] as u64, operands[1] as u64),
 row-moves-array-read-moved : (t : ℕ) → row-moves-lts.Need-array-read-moved (
   shape-at-reads.Asked,
   shape-at-reads.Learnt,
@@ -367,7 +367,7 @@ row-moves-array-read-moved : (t : ℕ) → row-moves-lts.Need-array-read-moved (
 ) (row-moves-at t) row-moves.Post
 row-moves-array-read-moved t c = search needs
 
--- src/moves.rt:114:35  at, ⏎ moved(t, code, b, operands[0] as u64, operands[1] as u64),
+-- src/moves.rt:113:35  at, ⏎ moved(t, code, b, operands[0] as u64, operands[1] as u64),
 row-moves-cast-moved : (t : ℕ) → row-moves-lts.Need-cast-moved (
   shape-at-reads.Asked,
   shape-at-reads.Learnt,
@@ -382,7 +382,7 @@ row-moves-cast-moved : (t : ℕ) → row-moves-lts.Need-cast-moved (
 ) (row-moves-at t) row-moves.Post
 row-moves-cast-moved t c = omega (arith, operands-in-range (c .before .before .before .before .before .before .before .before .before .before .before .before .args .t .now) (c .before .before .before .before .before .before .before .before .before .before .before .before .args .widths .now) (c .before .before .before .before .before .before .before .before .before .before .before .before .args .r) (c .before .before .before .before .before .before .before .before .before .before .before .before .pre .1 .0) (movesIn (c .before .before .before .before .before .before .before .before .before .before .before .before .args .env .now)) (c .before .before .before .before .before .before .before .before .before .before .before .before .args .at) (c .before .before .before .before .before .before .before .before .before .before .before .before .args .out .now) (c .before .before .before .before .before .before .before .before .before .before .before .before .args .out .now) (c .before .before .before .before .before .before .code .given .0 .0) (c .before .before .before .before .before .before .code .given .0 .1 .0) (sym (c .before .before .before .before .before .before .before .before .shape-at .ensures) ∙ c .before .before .before .before .before .before .code .given .1) (c .before .before .before .row-moves3 .last .1 .1 .1 .1 .0) (c .before .before .before .row-moves3 .result) (c .before .before .before .row-moves3 .ensures) (c .before .before .before .before .before .before .before .before .before .before .before .before .pre .1 .1) (not-false (c .before .before .before .row-moves3 .result) (c .before .if2 .left)) .0)
 
--- src/moves.rt:114:55  at, ⏎ moved(t, code, b, operands[0] as u64, operands[1] as u64),
+-- src/moves.rt:113:55  at, ⏎ moved(t, code, b, operands[0] as u64, operands[1] as u64),
 row-moves-array-read-moved-2 : (t : ℕ) → row-moves-lts.Need-array-read-moved-2 (
   shape-at-reads.Asked,
   shape-at-reads.Learnt,
@@ -397,7 +397,7 @@ row-moves-array-read-moved-2 : (t : ℕ) → row-moves-lts.Need-array-read-moved
 ) (row-moves-at t) row-moves.Post
 row-moves-array-read-moved-2 t c = search needs
 
--- src/moves.rt:114:55  at, ⏎ moved(t, code, b, operands[0] as u64, operands[1] as u64),
+-- src/moves.rt:113:55  at, ⏎ moved(t, code, b, operands[0] as u64, operands[1] as u64),
 row-moves-cast-moved-2 : (t : ℕ) → row-moves-lts.Need-cast-moved-2 (
   shape-at-reads.Asked,
   shape-at-reads.Learnt,
@@ -412,7 +412,7 @@ row-moves-cast-moved-2 : (t : ℕ) → row-moves-lts.Need-cast-moved-2 (
 ) (row-moves-at t) row-moves.Post
 row-moves-cast-moved-2 t c = omega (arith, operands-in-range (c .before .before .before .before .before .before .before .before .before .before .before .before .args .t .now) (c .before .before .before .before .before .before .before .before .before .before .before .before .args .widths .now) (c .before .before .before .before .before .before .before .before .before .before .before .before .args .r) (c .before .before .before .before .before .before .before .before .before .before .before .before .pre .1 .0) (movesIn (c .before .before .before .before .before .before .before .before .before .before .before .before .args .env .now)) (c .before .before .before .before .before .before .before .before .before .before .before .before .args .at) (c .before .before .before .before .before .before .before .before .before .before .before .before .args .out .now) (c .before .before .before .before .before .before .before .before .before .before .before .before .args .out .now) (c .before .before .before .before .before .before .code .given .0 .0) (c .before .before .before .before .before .before .code .given .0 .1 .0) (sym (c .before .before .before .before .before .before .before .before .shape-at .ensures) ∙ c .before .before .before .before .before .before .code .given .1) (c .before .before .before .row-moves3 .last .1 .1 .1 .1 .0) (c .before .before .before .row-moves3 .result) (c .before .before .before .row-moves3 .ensures) (c .before .before .before .before .before .before .before .before .before .before .before .before .pre .1 .1) (not-false (c .before .before .before .row-moves3 .result) (c .before .if2 .left)) .1)
 
--- src/moves.rt:114:17  at, ⏎ moved(t, code, b, operands[0] as u64, operands[1] as u64),
+-- src/moves.rt:113:17  at, ⏎ moved(t, code, b, operands[0] as u64, operands[1] as u64),
 row-moves-moved-requires : (t : ℕ) → row-moves-lts.Need-moved-requires (
   shape-at-reads.Asked,
   shape-at-reads.Learnt,
@@ -427,7 +427,7 @@ row-moves-moved-requires : (t : ℕ) → row-moves-lts.Need-moved-requires (
 ) (row-moves-at t) row-moves.Post
 row-moves-moved-requires t c κs = let k = exp-children (c .before .before .before .before .before .before .before .before .before .before .before .before .args .t .now) (c .before .before .before .before .before .before .before .before .before .before .before .before .args .widths .now) (c .before .before .before .before .before .before .before .before .before .before .before .before .args .r) (c .before .before .before .before .before .before .before .before .before .before .before .before .pre .1 .0) (Operator (c .before .before .before .before .before .before .code .given .0 .0) (c .before .before .before .before .before .before .code .given .0 .1 .0)) (sym (c .before .before .before .before .before .before .before .before .shape-at .ensures) ∙ c .before .before .before .before .before .before .code .given .1) in let g = drifts-below (c .before .before .before .before .before .before .before .before .before .before .before .before .args .t .now) (c .before .before .before .before .before .before .before .before .before .before .before .before .args .widths .now) (c .before .before .before .before .before .before .before .before .before .before .before .before .args .r) (c .before .before .before .before .before .before .before .before .before .before .before .before .pre .1 .0) (c .before .before .before .before .before .before .before .before .before .before .before .before .pre .1 .1) (Operator (c .before .before .before .before .before .before .code .given .0 .0) (c .before .before .before .before .before .before .code .given .0 .1 .0)) (sym (c .before .before .before .before .before .before .before .before .shape-at .ensures) ∙ c .before .before .before .before .before .before .code .given .1) in let o = operands-in-range (c .before .before .before .before .before .before .before .before .before .before .before .before .args .t .now) (c .before .before .before .before .before .before .before .before .before .before .before .before .args .widths .now) (c .before .before .before .before .before .before .before .before .before .before .before .before .args .r) (c .before .before .before .before .before .before .before .before .before .before .before .before .pre .1 .0) (movesIn (c .before .before .before .before .before .before .before .before .before .before .before .before .args .env .now)) (c .before .before .before .before .before .before .before .before .before .before .before .before .args .at) (c .before .before .before .before .before .before .before .before .before .before .before .before .args .out .now) (c .before .before .before .before .before .before .before .before .before .before .before .before .args .out .now) (c .before .before .before .before .before .before .code .given .0 .0) (c .before .before .before .before .before .before .code .given .0 .1 .0) (sym (c .before .before .before .before .before .before .before .before .shape-at .ensures) ∙ c .before .before .before .before .before .before .code .given .1) (c .before .before .before .row-moves3 .last .1 .1 .1 .1 .0) (c .before .before .before .row-moves3 .result) (c .before .before .before .row-moves3 .ensures) (c .before .before .before .before .before .before .before .before .before .before .before .before .pre .1 .1) (not-false (c .before .before .before .row-moves3 .result) (c .before .if2 .left)) in ((record { widths = (c .before .before .before .before .before .before .before .before .before .before .before .before .args .widths .now); row = k .0 }, g .0), o .0, o .1)
 
--- src/moves.rt:111:13  } ⏎ put_within(
+-- src/moves.rt:110:13  } ⏎ put_within(
 row-moves-put-within-requires : (t : ℕ) → row-moves-lts.Need-put-within-requires (
   shape-at-reads.Asked,
   shape-at-reads.Learnt,
@@ -442,7 +442,7 @@ row-moves-put-within-requires : (t : ℕ) → row-moves-lts.Need-put-within-requ
 ) (row-moves-at t) row-moves.Post
 row-moves-put-within-requires t c κs = let f = exp-needs (c .before .before .before .before .before .before .before .before .before .before .before .before .before .args .t .now) (c .before .before .before .before .before .before .before .before .before .before .before .before .before .args .widths .now) (c .before .before .before .before .before .before .before .before .before .before .before .before .before .args .r) (c .before .before .before .before .before .before .before .before .before .before .before .before .before .pre .1 .0) (Operator (c .before .before .before .before .before .before .before .code .given .0 .0) (c .before .before .before .before .before .before .before .code .given .0 .1 .0)) (sym (c .before .before .before .before .before .before .before .before .before .shape-at .ensures) ∙ c .before .before .before .before .before .before .before .code .given .1) in omega (arith, f .0, c .before .before .before .before .before .before .before .before .before .before .before .before .before .pre .1 .4)
 
--- src/moves.rt:117:20  } ⏎ Shape::Let(a, _, c, d) => {
+-- src/moves.rt:116:20  } ⏎ Shape::Let(a, _, c, d) => {
 row-moves-enum-known-a-3 : (t : ℕ) → row-moves-lts.Need-enum-known-a-3 (
   shape-at-reads.Asked,
   shape-at-reads.Learnt,
@@ -457,7 +457,7 @@ row-moves-enum-known-a-3 : (t : ℕ) → row-moves-lts.Need-enum-known-a-3 (
 ) (row-moves-at t) row-moves.Post
 row-moves-enum-known-a-3 t c = search needs
 
--- src/moves.rt:119:46  let mut inner = *env; ⏎ if !row_moves(t, widths, c, env, &mut inner, a as usize) {
+-- src/moves.rt:118:46  let mut inner = *env; ⏎ if !row_moves(t, widths, c, env, &mut inner, a as usize) {
 row-moves-slice-aggregate-row-moves-2 : (t : ℕ) → row-moves-lts.Need-slice-aggregate-row-moves-2 (
   shape-at-reads.Asked,
   shape-at-reads.Learnt,
@@ -472,7 +472,7 @@ row-moves-slice-aggregate-row-moves-2 : (t : ℕ) → row-moves-lts.Need-slice-a
 ) (row-moves-at t) row-moves.Post
 row-moves-slice-aggregate-row-moves-2 t c = search needs
 
--- src/moves.rt:119:58  let mut inner = *env; ⏎ if !row_moves(t, widths, c, env, &mut inner, a as usize) {
+-- src/moves.rt:118:58  let mut inner = *env; ⏎ if !row_moves(t, widths, c, env, &mut inner, a as usize) {
 row-moves-cast-row-moves : (t : ℕ) → row-moves-lts.Need-cast-row-moves (
   shape-at-reads.Asked,
   shape-at-reads.Learnt,
@@ -487,7 +487,7 @@ row-moves-cast-row-moves : (t : ℕ) → row-moves-lts.Need-cast-row-moves (
 ) (row-moves-at t) row-moves.Post
 row-moves-cast-row-moves t c = search needs
 
--- src/moves.rt:119:17  let mut inner = *env; ⏎ if !row_moves(t, widths, c, env, &mut inner, a as usize) {
+-- src/moves.rt:118:17  let mut inner = *env; ⏎ if !row_moves(t, widths, c, env, &mut inner, a as usize) {
 row-moves-row-moves-requires-4 : (t : ℕ) → row-moves-lts.Need-row-moves-requires-4 (
   shape-at-reads.Asked,
   shape-at-reads.Learnt,
@@ -502,7 +502,7 @@ row-moves-row-moves-requires-4 : (t : ℕ) → row-moves-lts.Need-row-moves-requ
 ) (row-moves-at t) row-moves.Post
 row-moves-row-moves-requires-4 t c κs = let f = exp-needs (c .before .before .before .before .before .before .before .before .before .args .t .now) (c .before .before .before .before .before .before .before .before .before .args .widths .now) (c .before .before .before .before .before .before .before .before .before .args .r) (c .before .before .before .before .before .before .before .before .before .pre .1 .0) (Let (c .before .before .before .a3 .given .0 .0) (c .before .before .before .a3 .given .0 .1 .0) (c .before .before .before .a3 .given .0 .1 .1 .0) (c .before .before .before .a3 .given .0 .1 .1 .1 .0)) (sym (c .before .before .before .before .before .shape-at .ensures) ∙ c .before .before .before .a3 .given .1) in let k = exp-children (c .before .before .before .before .before .before .before .before .before .args .t .now) (c .before .before .before .before .before .before .before .before .before .args .widths .now) (c .before .before .before .before .before .before .before .before .before .args .r) (c .before .before .before .before .before .before .before .before .before .pre .1 .0) (Let (c .before .before .before .a3 .given .0 .0) (c .before .before .before .a3 .given .0 .1 .0) (c .before .before .before .a3 .given .0 .1 .1 .0) (c .before .before .before .a3 .given .0 .1 .1 .1 .0)) (sym (c .before .before .before .before .before .shape-at .ensures) ∙ c .before .before .before .a3 .given .1) in let g = drifts-below (c .before .before .before .before .before .before .before .before .before .args .t .now) (c .before .before .before .before .before .before .before .before .before .args .widths .now) (c .before .before .before .before .before .before .before .before .before .args .r) (c .before .before .before .before .before .before .before .before .before .pre .1 .0) (c .before .before .before .before .before .before .before .before .before .pre .1 .1) (Let (c .before .before .before .a3 .given .0 .0) (c .before .before .before .a3 .given .0 .1 .0) (c .before .before .before .a3 .given .0 .1 .1 .0) (c .before .before .before .a3 .given .0 .1 .1 .1 .0)) (sym (c .before .before .before .before .before .shape-at .ensures) ∙ c .before .before .before .a3 .given .1) in (omega (arith, k .0 .1), (k .0 .0, g .0, c .before .before .before .before .before .before .before .before .before .pre .1 .2, c .before .before .before .before .before .before .before .before .before .pre .1 .3, omega (arith, f .0, f .1, c .before .before .before .before .before .before .before .before .before .pre .1 .2)))
 
--- src/moves.rt:120:17  if !row_moves(t, widths, c, env, &mut inner, a as usize) { ⏎ return false;
+-- src/moves.rt:119:17  if !row_moves(t, widths, c, env, &mut inner, a as usize) { ⏎ return false;
 row-moves-returns-3 : (t : ℕ) → row-moves-lts.Need-returns-3 (
   shape-at-reads.Asked,
   shape-at-reads.Learnt,
@@ -517,7 +517,7 @@ row-moves-returns-3 : (t : ℕ) → row-moves-lts.Need-returns-3 (
 ) (row-moves-at t) row-moves.Post
 row-moves-returns-3 t c = let-stopped (c .before .before .before .before .before .before .before .before .before .before .before .before .args .t .now) (c .before .before .before .before .before .before .before .before .before .before .before .before .args .widths .now) (c .before .before .before .before .before .before .before .before .before .before .before .before .args .r) (c .before .before .before .before .before .before .before .before .before .before .before .before .pre .1 .0) (c .before .before .before .before .before .before .before .before .before .before .before .before .args .env .now) (c .before .before .before .before .before .before .before .before .before .before .before .before .args .at) (c .before .before .before .before .before .before .before .before .before .before .before .before .args .out .now) (c .before .before .before .before .before .before .before .before .before .before .before .before .args .out .now) (c .before .before .before .before .before .before .before .before .before .before .before .before .pre .1 .2) (c .before .before .before .before .before .before .a3 .given .0 .0) (c .before .before .before .before .before .before .a3 .given .0 .1 .0) (c .before .before .before .before .before .before .a3 .given .0 .1 .1 .0) (c .before .before .before .before .before .before .a3 .given .0 .1 .1 .1 .0) (sym (c .before .before .before .before .before .before .before .before .shape-at .ensures) ∙ c .before .before .before .before .before .before .a3 .given .1) (c .before .before .row-moves4 .last .1 .1 .1 .1 .0) (c .before .before .row-moves4 .result) (c .before .before .row-moves4 .ensures) (not-true (c .before .before .row-moves4 .result) (c .if3 .taken))
 
--- src/moves.rt:122:13  } ⏎ row_moves(t, widths, d, &inner, out, at)
+-- src/moves.rt:121:13  } ⏎ row_moves(t, widths, d, &inner, out, at)
 row-moves-row-moves-requires-5 : (t : ℕ) → row-moves-lts.Need-row-moves-requires-5 (
   shape-at-reads.Asked,
   shape-at-reads.Learnt,
@@ -532,7 +532,7 @@ row-moves-row-moves-requires-5 : (t : ℕ) → row-moves-lts.Need-row-moves-requ
 ) (row-moves-at t) row-moves.Post
 row-moves-row-moves-requires-5 t c κs = let f = exp-needs (c .before .before .before .before .before .before .before .before .before .before .before .before .before .before .args .t .now) (c .before .before .before .before .before .before .before .before .before .before .before .before .before .before .args .widths .now) (c .before .before .before .before .before .before .before .before .before .before .before .before .before .before .args .r) (c .before .before .before .before .before .before .before .before .before .before .before .before .before .before .pre .1 .0) (Let (c .before .before .before .before .before .before .before .before .a3 .given .0 .0) (c .before .before .before .before .before .before .before .before .a3 .given .0 .1 .0) (c .before .before .before .before .before .before .before .before .a3 .given .0 .1 .1 .0) (c .before .before .before .before .before .before .before .before .a3 .given .0 .1 .1 .1 .0)) (sym (c .before .before .before .before .before .before .before .before .before .before .shape-at .ensures) ∙ c .before .before .before .before .before .before .before .before .a3 .given .1) in let k = exp-children (c .before .before .before .before .before .before .before .before .before .before .before .before .before .before .args .t .now) (c .before .before .before .before .before .before .before .before .before .before .before .before .before .before .args .widths .now) (c .before .before .before .before .before .before .before .before .before .before .before .before .before .before .args .r) (c .before .before .before .before .before .before .before .before .before .before .before .before .before .before .pre .1 .0) (Let (c .before .before .before .before .before .before .before .before .a3 .given .0 .0) (c .before .before .before .before .before .before .before .before .a3 .given .0 .1 .0) (c .before .before .before .before .before .before .before .before .a3 .given .0 .1 .1 .0) (c .before .before .before .before .before .before .before .before .a3 .given .0 .1 .1 .1 .0)) (sym (c .before .before .before .before .before .before .before .before .before .before .shape-at .ensures) ∙ c .before .before .before .before .before .before .before .before .a3 .given .1) in let g = drifts-below (c .before .before .before .before .before .before .before .before .before .before .before .before .before .before .args .t .now) (c .before .before .before .before .before .before .before .before .before .before .before .before .before .before .args .widths .now) (c .before .before .before .before .before .before .before .before .before .before .before .before .before .before .args .r) (c .before .before .before .before .before .before .before .before .before .before .before .before .before .before .pre .1 .0) (c .before .before .before .before .before .before .before .before .before .before .before .before .before .before .pre .1 .1) (Let (c .before .before .before .before .before .before .before .before .a3 .given .0 .0) (c .before .before .before .before .before .before .before .before .a3 .given .0 .1 .0) (c .before .before .before .before .before .before .before .before .a3 .given .0 .1 .1 .0) (c .before .before .before .before .before .before .before .before .a3 .given .0 .1 .1 .1 .0)) (sym (c .before .before .before .before .before .before .before .before .before .before .shape-at .ensures) ∙ c .before .before .before .before .before .before .before .before .a3 .given .1) in (omega (arith, k .1 .1), (k .1 .0, g .1, c .before .before .before .before .row-moves4 .kept .1 .1 .1 .1 .0 ∙ c .before .before .before .before .before .before .before .before .before .before .before .before .before .before .pre .1 .2, inner-in-range (c .before .before .before .before .before .before .before .before .before .before .before .before .before .before .args .t .now) (c .before .before .before .before .before .before .before .before .before .before .before .before .before .before .args .widths .now) (c .before .before .before .before .before .before .before .before .before .before .before .before .before .before .args .r) (c .before .before .before .before .before .before .before .before .before .before .before .before .before .before .pre .1 .0) (c .before .before .before .before .before .before .before .before .before .before .before .before .before .before .args .env .now) (c .before .before .before .before .before .before .before .before .before .before .before .before .before .before .args .at) (c .before .before .before .before .before .before .before .before .before .before .before .before .before .before .args .out .now) (c .before .before .before .before .before .before .before .before .before .before .before .before .before .before .args .out .now) (c .before .before .before .before .before .before .before .before .before .before .before .before .before .before .pre .1 .2) (c .before .before .before .before .before .before .before .before .a3 .given .0 .0) (c .before .before .before .before .before .before .before .before .a3 .given .0 .1 .0) (c .before .before .before .before .before .before .before .before .a3 .given .0 .1 .1 .0) (c .before .before .before .before .before .before .before .before .a3 .given .0 .1 .1 .1 .0) (sym (c .before .before .before .before .before .before .before .before .before .before .shape-at .ensures) ∙ c .before .before .before .before .before .before .before .before .a3 .given .1) (c .before .before .before .before .row-moves4 .last .1 .1 .1 .1 .0) (c .before .before .before .before .row-moves4 .result) (c .before .before .before .before .row-moves4 .ensures) (c .before .before .before .before .before .before .before .before .before .before .before .before .before .before .pre .1 .1) (not-false (c .before .before .before .before .row-moves4 .result) (c .before .before .if3 .left)) (c .before .before .before .before .before .before .before .before .before .before .before .before .before .before .pre .1 .3), omega (arith, f .2, c .before .before .before .before .before .before .before .before .before .before .before .before .before .before .pre .1 .4)))
 
--- src/moves.rt:125:31  // no such row is handed in ⏎ Shape::If(_, _, _) => false,
+-- src/moves.rt:124:31  // no such row is handed in ⏎ Shape::If(_, _, _) => false,
 row-moves-enum-told-2 : (t : ℕ) → row-moves-lts.Need-enum-told-2 (
   shape-at-reads.Asked,
   shape-at-reads.Learnt,
@@ -547,7 +547,7 @@ row-moves-enum-told-2 : (t : ℕ) → row-moves-lts.Need-enum-told-2 (
 ) (row-moves-at t) row-moves.Post
 row-moves-enum-told-2 t c = search needs
 
--- src/moves.rt:126:35  Shape::If(_, _, _) => false, ⏎ Shape::For(_, _, _, _) => false,
+-- src/moves.rt:125:35  Shape::If(_, _, _) => false, ⏎ Shape::For(_, _, _, _) => false,
 row-moves-enum-told-3 : (t : ℕ) → row-moves-lts.Need-enum-told-3 (
   shape-at-reads.Asked,
   shape-at-reads.Learnt,
@@ -562,7 +562,7 @@ row-moves-enum-told-3 : (t : ℕ) → row-moves-lts.Need-enum-told-3 (
 ) (row-moves-at t) row-moves.Post
 row-moves-enum-told-3 t c = search needs
 
--- src/moves.rt:127:27  Shape::For(_, _, _, _) => false, ⏎ Shape::Iter(_) => false,
+-- src/moves.rt:126:27  Shape::For(_, _, _, _) => false, ⏎ Shape::Iter(_) => false,
 row-moves-enum-told-4 : (t : ℕ) → row-moves-lts.Need-enum-told-4 (
   shape-at-reads.Asked,
   shape-at-reads.Learnt,
@@ -577,7 +577,7 @@ row-moves-enum-told-4 : (t : ℕ) → row-moves-lts.Need-enum-told-4 (
 ) (row-moves-at t) row-moves.Post
 row-moves-enum-told-4 t c = search needs
 
--- src/moves.rt:80:1  // The numbers of row r's values go to `out` from `at` on; false where one of the row or of those below it passes the greatest. ⏎ pub fn row_moves(
+-- src/moves.rt:79:1  // The numbers of row r's values go to `out` from `at` on; false where one of the row or of those below it passes the greatest. ⏎ pub fn row_moves(
 row-moves-same-length-2 : (t : ℕ) → row-moves-lts.Need-same-length-2 (
   shape-at-reads.Asked,
   shape-at-reads.Learnt,
@@ -592,7 +592,7 @@ row-moves-same-length-2 : (t : ℕ) → row-moves-lts.Need-same-length-2 (
 ) (row-moves-at t) row-moves.Post
 row-moves-same-length-2 t c = length-set (c .before .before .before .before .before .before .before .before .args .out .now) (c .before .before .before .before .before .before .before .before .args .at) _
 
--- src/moves.rt:80:1  // The numbers of row r's values go to `out` from `at` on; false where one of the row or of those below it passes the greatest. ⏎ pub fn row_moves(
+-- src/moves.rt:79:1  // The numbers of row r's values go to `out` from `at` on; false where one of the row or of those below it passes the greatest. ⏎ pub fn row_moves(
 row-moves-returns-4 : (t : ℕ) → row-moves-lts.Need-returns-4 (
   shape-at-reads.Asked,
   shape-at-reads.Learnt,
@@ -608,7 +608,7 @@ row-moves-returns-4 : (t : ℕ) → row-moves-lts.Need-returns-4 (
 unfolding movesIn
 row-moves-returns-4 t c = tell-identifier (c .before .before .before .before .before .before .before .before .args .t .now) (c .before .before .before .before .before .before .before .before .args .widths .now) (c .before .before .before .before .before .before .before .before .args .r) (c .before .before .before .before .before .before .before .before .pre .1 .0) (movesIn (c .before .before .before .before .before .before .before .before .args .env .now)) (c .before .before .before .before .before .before .before .before .args .at) (c .before .before .before .before .before .before .before .before .args .out .now) (set (c .before .before .before .before .before .before .before .before .args .out .now) (c .before .before .before .before .before .before .before .before .args .at) (getD (c .before .before .before .before .before .before .before .before .args .env .now) (c .before .before .a .given .0 .0) 0)) (c .before .before .a .given .0 .0) (sym (c .before .before .before .before .shape-at .ensures) ∙ c .before .before .a .given .1) (c .before .before .before .before .before .before .before .before .pre .1 .3) refl
 
--- src/moves.rt:80:1  // The numbers of row r's values go to `out` from `at` on; false where one of the row or of those below it passes the greatest. ⏎ pub fn row_moves(
+-- src/moves.rt:79:1  // The numbers of row r's values go to `out` from `at` on; false where one of the row or of those below it passes the greatest. ⏎ pub fn row_moves(
 row-moves-same-length-3 : (t : ℕ) → row-moves-lts.Need-same-length-3 (
   shape-at-reads.Asked,
   shape-at-reads.Learnt,
@@ -623,7 +623,7 @@ row-moves-same-length-3 : (t : ℕ) → row-moves-lts.Need-same-length-3 (
 ) (row-moves-at t) row-moves.Post
 row-moves-same-length-3 t c = length-set (c .before .before .before .before .before .before .args .out .now) (c .before .before .before .before .before .before .args .at) _
 
--- src/moves.rt:80:1  // The numbers of row r's values go to `out` from `at` on; false where one of the row or of those below it passes the greatest. ⏎ pub fn row_moves(
+-- src/moves.rt:79:1  // The numbers of row r's values go to `out` from `at` on; false where one of the row or of those below it passes the greatest. ⏎ pub fn row_moves(
 row-moves-returns-5 : (t : ℕ) → row-moves-lts.Need-returns-5 (
   shape-at-reads.Asked,
   shape-at-reads.Learnt,
@@ -638,7 +638,7 @@ row-moves-returns-5 : (t : ℕ) → row-moves-lts.Need-returns-5 (
 ) (row-moves-at t) row-moves.Post
 row-moves-returns-5 t c = tell-constant (c .before .before .before .before .before .before .args .t .now) (c .before .before .before .before .before .before .args .widths .now) (c .before .before .before .before .before .before .args .r) (c .before .before .before .before .before .before .pre .1 .0) (movesIn (c .before .before .before .before .before .before .args .env .now)) (c .before .before .before .before .before .before .args .at) (c .before .before .before .before .before .before .args .out .now) (set (c .before .before .before .before .before .before .args .out .now) (c .before .before .before .before .before .before .args .at) 0) (c .enum-told .given .0 .0) (c .enum-told .given .0 .1 .0) (sym (c .before .before .shape-at .ensures) ∙ c .enum-told .given .1) refl
 
--- src/moves.rt:80:1  // The numbers of row r's values go to `out` from `at` on; false where one of the row or of those below it passes the greatest. ⏎ pub fn row_moves(
+-- src/moves.rt:79:1  // The numbers of row r's values go to `out` from `at` on; false where one of the row or of those below it passes the greatest. ⏎ pub fn row_moves(
 row-moves-same-length-4 : (t : ℕ) → row-moves-lts.Need-same-length-4 (
   shape-at-reads.Asked,
   shape-at-reads.Learnt,
@@ -653,7 +653,7 @@ row-moves-same-length-4 : (t : ℕ) → row-moves-lts.Need-same-length-4 (
 ) (row-moves-at t) row-moves.Post
 row-moves-same-length-4 t c = c .before .before .row-moves2 .kept .1 .1 .1 .1 .0 ∙ c .before .before .before .before .before .before .before .before .row-moves .kept .1 .1 .1 .1 .0
 
--- src/moves.rt:80:1  // The numbers of row r's values go to `out` from `at` on; false where one of the row or of those below it passes the greatest. ⏎ pub fn row_moves(
+-- src/moves.rt:79:1  // The numbers of row r's values go to `out` from `at` on; false where one of the row or of those below it passes the greatest. ⏎ pub fn row_moves(
 row-moves-returns-6 : (t : ℕ) → row-moves-lts.Need-returns-6 (
   shape-at-reads.Asked,
   shape-at-reads.Learnt,
@@ -668,7 +668,7 @@ row-moves-returns-6 : (t : ℕ) → row-moves-lts.Need-returns-6 (
 ) (row-moves-at t) row-moves.Post
 row-moves-returns-6 t c = tell-pair (c .before .before .before .before .before .before .before .before .before .before .before .before .before .before .before .before .before .args .t .now) (c .before .before .before .before .before .before .before .before .before .before .before .before .before .before .before .before .before .args .widths .now) (c .before .before .before .before .before .before .before .before .before .before .before .before .before .before .before .before .before .args .r) (c .before .before .before .before .before .before .before .before .before .before .before .before .before .before .before .before .before .pre .1 .0) (movesIn (c .before .before .before .before .before .before .before .before .before .before .before .before .before .before .before .before .before .args .env .now)) (c .before .before .before .before .before .before .before .before .before .before .before .before .before .before .before .before .before .args .at) (c .before .before .before .before .before .before .before .before .before .before .before .before .before .before .before .before .before .args .out .now) (c .before .before .row-moves2 .last .1 .1 .1 .1 .0) (c .before .before .before .before .before .before .before .before .before .before .before .a2 .given .0 .0) (c .before .before .before .before .before .before .before .before .before .before .before .a2 .given .0 .1 .0) (sym (c .before .before .before .before .before .before .before .before .before .before .before .before .before .shape-at .ensures) ∙ c .before .before .before .before .before .before .before .before .before .before .before .a2 .given .1) (c .before .before .before .before .before .before .before .before .row-moves .last .1 .1 .1 .1 .0) (c .before .before .before .before .before .before .before .before .row-moves .result) (c .before .before .before .before .before .before .before .before .row-moves .ensures) (c .before .before .before .before .before .before .before .before .before .before .before .before .before .before .before .before .before .pre .1 .1) (not-false (c .before .before .before .before .before .before .before .before .row-moves .result) (c .before .before .before .before .before .if1 .left)) ((c .before .before .before .before .before .before .before .before .before .before .before .before .before .before .before .before .before .args .at) + c .before .before .before .width-at .result) (ap (λ (z : ℕ). (c .before .before .before .before .before .before .before .before .before .before .before .before .before .before .before .before .before .args .at) + z) (c .before .before .before .width-at .ensures .0)) (c .before .before .row-moves2 .result) (c .before .before .row-moves2 .ensures)
 
--- src/moves.rt:80:1  // The numbers of row r's values go to `out` from `at` on; false where one of the row or of those below it passes the greatest. ⏎ pub fn row_moves(
+-- src/moves.rt:79:1  // The numbers of row r's values go to `out` from `at` on; false where one of the row or of those below it passes the greatest. ⏎ pub fn row_moves(
 row-moves-same-length-5 : (t : ℕ) → row-moves-lts.Need-same-length-5 (
   shape-at-reads.Asked,
   shape-at-reads.Learnt,
@@ -683,7 +683,7 @@ row-moves-same-length-5 : (t : ℕ) → row-moves-lts.Need-same-length-5 (
 ) (row-moves-at t) row-moves.Post
 row-moves-same-length-5 t c = c .before .before .put-within .kept .0
 
--- src/moves.rt:80:1  // The numbers of row r's values go to `out` from `at` on; false where one of the row or of those below it passes the greatest. ⏎ pub fn row_moves(
+-- src/moves.rt:79:1  // The numbers of row r's values go to `out` from `at` on; false where one of the row or of those below it passes the greatest. ⏎ pub fn row_moves(
 row-moves-returns-7 : (t : ℕ) → row-moves-lts.Need-returns-7 (
   shape-at-reads.Asked,
   shape-at-reads.Learnt,
@@ -698,7 +698,7 @@ row-moves-returns-7 : (t : ℕ) → row-moves-lts.Need-returns-7 (
 ) (row-moves-at t) row-moves.Post
 row-moves-returns-7 t c = tell-operator (c .before .before .before .before .before .before .before .before .before .before .before .before .before .before .before .before .args .t .now) (c .before .before .before .before .before .before .before .before .before .before .before .before .before .before .before .before .args .widths .now) (c .before .before .before .before .before .before .before .before .before .before .before .before .before .before .before .before .args .r) (c .before .before .before .before .before .before .before .before .before .before .before .before .before .before .before .before .pre .1 .0) (movesIn (c .before .before .before .before .before .before .before .before .before .before .before .before .before .before .before .before .args .env .now)) (c .before .before .before .before .before .before .before .before .before .before .before .before .before .before .before .before .args .at) (c .before .before .before .before .before .before .before .before .before .before .before .before .before .before .before .before .args .out .now) (c .before .before .put-within .last .0) (c .before .before .before .before .before .before .before .before .before .before .code .given .0 .0) (c .before .before .before .before .before .before .before .before .before .before .code .given .0 .1 .0) (sym (c .before .before .before .before .before .before .before .before .before .before .before .before .shape-at .ensures) ∙ c .before .before .before .before .before .before .before .before .before .before .code .given .1) (c .before .before .before .before .before .before .before .row-moves3 .last .1 .1 .1 .1 .0) (c .before .before .before .before .before .before .before .row-moves3 .result) (c .before .before .before .before .before .before .before .row-moves3 .ensures) (c .before .before .before .before .before .before .before .before .before .before .before .before .before .before .before .before .pre .1 .1) (not-false (c .before .before .before .before .before .before .before .row-moves3 .result) (c .before .before .before .before .before .if2 .left)) (c .before .before .before .moved .result) (c .before .before .before .moved .ensures) (c .before .before .put-within .result) (c .before .before .put-within .ensures .0) (c .before .before .put-within .ensures .1)
 
--- src/moves.rt:80:1  // The numbers of row r's values go to `out` from `at` on; false where one of the row or of those below it passes the greatest. ⏎ pub fn row_moves(
+-- src/moves.rt:79:1  // The numbers of row r's values go to `out` from `at` on; false where one of the row or of those below it passes the greatest. ⏎ pub fn row_moves(
 row-moves-same-length-6 : (t : ℕ) → row-moves-lts.Need-same-length-6 (
   shape-at-reads.Asked,
   shape-at-reads.Learnt,
@@ -713,7 +713,7 @@ row-moves-same-length-6 : (t : ℕ) → row-moves-lts.Need-same-length-6 (
 ) (row-moves-at t) row-moves.Post
 row-moves-same-length-6 t c = c .before .before .row-moves5 .kept .1 .1 .1 .1 .0
 
--- src/moves.rt:80:1  // The numbers of row r's values go to `out` from `at` on; false where one of the row or of those below it passes the greatest. ⏎ pub fn row_moves(
+-- src/moves.rt:79:1  // The numbers of row r's values go to `out` from `at` on; false where one of the row or of those below it passes the greatest. ⏎ pub fn row_moves(
 row-moves-returns-8 : (t : ℕ) → row-moves-lts.Need-returns-8 (
   shape-at-reads.Asked,
   shape-at-reads.Learnt,
@@ -728,7 +728,7 @@ row-moves-returns-8 : (t : ℕ) → row-moves-lts.Need-returns-8 (
 ) (row-moves-at t) row-moves.Post
 row-moves-returns-8 t c = tell-let (c .before .before .before .before .before .before .before .before .before .before .before .before .before .before .before .before .before .args .t .now) (c .before .before .before .before .before .before .before .before .before .before .before .before .before .before .before .before .before .args .widths .now) (c .before .before .before .before .before .before .before .before .before .before .before .before .before .before .before .before .before .args .r) (c .before .before .before .before .before .before .before .before .before .before .before .before .before .before .before .before .before .pre .1 .0) (c .before .before .before .before .before .before .before .before .before .before .before .before .before .before .before .before .before .args .env .now) (c .before .before .before .before .before .before .before .before .before .before .before .before .before .before .before .before .before .args .at) (c .before .before .before .before .before .before .before .before .before .before .before .before .before .before .before .before .before .args .out .now) (c .before .before .row-moves5 .last .1 .1 .1 .1 .0) (c .before .before .before .before .before .before .before .before .before .before .before .before .before .before .before .before .before .pre .1 .2) (c .before .before .before .before .before .before .before .before .before .before .before .a3 .given .0 .0) (c .before .before .before .before .before .before .before .before .before .before .before .a3 .given .0 .1 .0) (c .before .before .before .before .before .before .before .before .before .before .before .a3 .given .0 .1 .1 .0) (c .before .before .before .before .before .before .before .before .before .before .before .a3 .given .0 .1 .1 .1 .0) (sym (c .before .before .before .before .before .before .before .before .before .before .before .before .before .shape-at .ensures) ∙ c .before .before .before .before .before .before .before .before .before .before .before .a3 .given .1) (c .before .before .before .before .before .before .before .row-moves4 .last .1 .1 .1 .1 .0) (c .before .before .before .before .before .before .before .row-moves4 .result) (c .before .before .before .before .before .before .before .row-moves4 .ensures) (c .before .before .before .before .before .before .before .before .before .before .before .before .before .before .before .before .before .pre .1 .1) (not-false (c .before .before .before .before .before .before .before .row-moves4 .result) (c .before .before .before .before .before .if3 .left)) (c .before .before .row-moves5 .result) (c .before .before .row-moves5 .ensures)
 
--- src/moves.rt:80:1  // The numbers of row r's values go to `out` from `at` on; false where one of the row or of those below it passes the greatest. ⏎ pub fn row_moves(
+-- src/moves.rt:79:1  // The numbers of row r's values go to `out` from `at` on; false where one of the row or of those below it passes the greatest. ⏎ pub fn row_moves(
 row-moves-returns-9 : (t : ℕ) → row-moves-lts.Need-returns-9 (
   shape-at-reads.Asked,
   shape-at-reads.Learnt,
@@ -743,7 +743,7 @@ row-moves-returns-9 : (t : ℕ) → row-moves-lts.Need-returns-9 (
 ) (row-moves-at t) row-moves.Post
 row-moves-returns-9 t c = absurd (drifts-below (c .before .before .before .before .before .before .args .t .now) (c .before .before .before .before .before .before .args .widths .now) (c .before .before .before .before .before .before .args .r) (c .before .before .before .before .before .before .pre .1 .0) (c .before .before .before .before .before .before .pre .1 .1) (If (c .enum-told2 .given .0 .0) (c .enum-told2 .given .0 .1 .0) (c .enum-told2 .given .0 .1 .1 .0)) (sym (c .before .before .shape-at .ensures) ∙ c .enum-told2 .given .1))
 
--- src/moves.rt:80:1  // The numbers of row r's values go to `out` from `at` on; false where one of the row or of those below it passes the greatest. ⏎ pub fn row_moves(
+-- src/moves.rt:79:1  // The numbers of row r's values go to `out` from `at` on; false where one of the row or of those below it passes the greatest. ⏎ pub fn row_moves(
 row-moves-returns-10 : (t : ℕ) → row-moves-lts.Need-returns-10 (
   shape-at-reads.Asked,
   shape-at-reads.Learnt,
@@ -758,7 +758,7 @@ row-moves-returns-10 : (t : ℕ) → row-moves-lts.Need-returns-10 (
 ) (row-moves-at t) row-moves.Post
 row-moves-returns-10 t c = absurd (drifts-below (c .before .before .before .before .before .before .args .t .now) (c .before .before .before .before .before .before .args .widths .now) (c .before .before .before .before .before .before .args .r) (c .before .before .before .before .before .before .pre .1 .0) (c .before .before .before .before .before .before .pre .1 .1) (For (c .enum-told3 .given .0 .0) (c .enum-told3 .given .0 .1 .0) (c .enum-told3 .given .0 .1 .1 .0) (c .enum-told3 .given .0 .1 .1 .1 .0)) (sym (c .before .before .shape-at .ensures) ∙ c .enum-told3 .given .1))
 
--- src/moves.rt:80:1  // The numbers of row r's values go to `out` from `at` on; false where one of the row or of those below it passes the greatest. ⏎ pub fn row_moves(
+-- src/moves.rt:79:1  // The numbers of row r's values go to `out` from `at` on; false where one of the row or of those below it passes the greatest. ⏎ pub fn row_moves(
 row-moves-returns-11 : (t : ℕ) → row-moves-lts.Need-returns-11 (
   shape-at-reads.Asked,
   shape-at-reads.Learnt,

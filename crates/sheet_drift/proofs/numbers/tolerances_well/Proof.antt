@@ -12,7 +12,6 @@ use Prim.Native.Nat.{_+_, _*_, _≤_, _-_}
 use mathlib.Core.Path.{_≡_, sym, _∙_, ap}
 use mathlib.Core.Bool.{Bool, true, false, _&&_}
 use lib.Dec.{leb}
-use lib.ListN.{length}
 use borrow.Author.Tests.{le-leb, lt-leb}
 use Rattle.sheet_movement.specs.Moves.{numberAt, tolerancesWell}
 use Rattle.sheet_drift.specs.Numbers.{withinFrom, other-count, well-start, well-step, well-end}

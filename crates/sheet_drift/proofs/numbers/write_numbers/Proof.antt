@@ -7,7 +7,7 @@ use Rattle.sheet_drift.proofs.numbers.write_numbers.Lts as lts
 use Rattle.sheet_drift.proofs.numbers.put_number.Reads as put-number-reads
 use Prim.Native.Nat.{ℕ, _*_, _≤_, _-_}
 use mathlib.Core.List.{List, [], _∷_}
-use mathlib.Core.Path.{_≡_, refl, sym, ap, _∙_}
+use mathlib.Core.Path.{_≡_, refl, ap, _∙_}
 use lib.ListN.{length, getD, take}
 use lib.Seq.{sets}
 use Rattle.sheet_movement.specs.Moves.{numberBytes}
@@ -49,11 +49,12 @@ loop-less c = search needs
 
 -- src/numbers.rt:98:5  let mut i = 0; ⏎ while i < n {
 loop-again : tie.Need-loop-again Inv-loop μ-loop
-loop-again c =
-    (omega arith,
-    c .before .before .put-number .ensures ∙ ap (λ (o : List ℕ). sets o (4 * c .before .before .before .before .before .before .loop .i) (numberBytes (getD (c .before .before .before .before .before .before .before .before .before .args .numbers .now) (c .before .before .before .before .before .before .loop .i) 0 ∷ []))) (c .before .before .before .before .before .before .loop .inv .1)
-    ∙ numbers-more (c .before .before .before .before .before .before .before .before .before .args .out .now) (c .before .before .before .before .before .before .before .before .before .args .numbers .now) (c .before .before .before .before .before .before .loop .i) (omega (arith, c .before .before .before .before .before .loop-test .taken, c .before .before .before .before .before .before .before .before .before .pre .0)),
-    c .before .before .put-number .kept .0 ∙ c .before .before .before .before .before .before .loop .inv .2)
+loop-again c = (
+  omega arith,
+  c .before .before .put-number .ensures ∙ ap (λ (o : List ℕ). sets o (4 * c .before .before .before .before .before .before .loop .i) (numberBytes (getD (c .before .before .before .before .before .before .before .before .before .args .numbers .now) (c .before .before .before .before .before .before .loop .i) 0 ∷ []))) (c .before .before .before .before .before .before .loop .inv .1)
+      ∙ numbers-more (c .before .before .before .before .before .before .before .before .before .args .out .now) (c .before .before .before .before .before .before .before .before .before .args .numbers .now) (c .before .before .before .before .before .before .loop .i) (omega (arith, c .before .before .before .before .before .loop-test .taken, c .before .before .before .before .before .before .before .before .before .pre .0)),
+  c .before .before .put-number .kept .0 ∙ c .before .before .before .before .before .before .loop .inv .2,
+)
 
 -- src/numbers.rt:93:1  // The first n numbers, from the start of `out` on. ⏎ pub fn write_numbers(numbers: &[u32], n: usize, out: &mut [u8])
 same-length : tie.Need-same-length Inv-loop μ-loop
