@@ -10,7 +10,8 @@ use sheet_next::next_sheet;
 use text::HEAD_LINE;
 use text_print::put_head;
 ghost use mathlib.Core.Path.{_≡_};
-ghost use Prim.Native.Nat.{_≤_, _<_};
+ghost use Prim.Native.Nat.{_+_, _≤_, _<_};
+ghost use lib.ListN.{length};
 ghost use Rattle.text.specs.Printed.{headLine};
 
 // The rows and bytes of the longest small sheet; more sheets than there are.
@@ -59,12 +60,18 @@ fn times_prime(sum: u64) -> u64 {
     std::num::wrapping_add_u64(std::num::wrapping_add_u64(low, middle), most)
 }
 
-// A digest with some bytes more.
-fn digest_with(digest: u64, bytes: &[u8]) -> u64 {
+fn wide(b: u8) -> u64 {
+    b as u64
+}
+
+// A digest with so many bytes of a sheet more.
+fn digest_with(digest: u64, sheet: &[u8], end: usize) -> u64
+    requires { ⌜ end ≤ length (now sheet) ⌝ }
+{
     let mut sum = digest;
     let mut i = 0;
-    while i < bytes.len() {
-        sum = times_prime(sum ^ bytes[i] as u64);
+    while i < end {
+        sum = times_prime(sum ^ wide(sheet[i]));
         i += 1;
     }
     sum
@@ -103,34 +110,59 @@ fn bytes_of(rows: u32) -> usize
     ROW_BYTES * n
 }
 
+// Writes how many sheets have so many rows, and how many are listed up to them.
+fn write_count(rows: u32, alike: u32, listed: u32, digest: u64) {
+    io::write_all(STDOUT_FILENO, &line(rows, alike, listed));
+    write_digest(digest);
+}
+
+// Writes some rows of a sheet.
+fn write_rows(sheet: &[u8], rows: u32) {
+    let end = bytes_of(rows);
+    if end <= sheet.len() {
+        io::write_all(STDOUT_FILENO, &sheet[..end]);
+    }
+}
+
+// Writes a sheet behind its answer where it is to be shown.
+fn show(listed: u32, a: NextAnswer, sheet: &[u8]) {
+    if listed % SHOWN == 0 {
+        io::write_all(STDOUT_FILENO, &answer_line(a));
+        write_rows(sheet, a.rows);
+    }
+}
+
+// How many sheets have as many rows as one more, which has as many as the one before or is the first of its length.
+fn count_one(same: bool, alike: u32) -> u32
+    requires { ⌜ alike < 99999 ⌝ }
+    ensures { λ r. ⌜ (1 ≤ r) × (r ≤ alike + 1) ⌝ }
+{
+    if same { alike + 1 } else { 1 }
+}
+
 fn main() {
     let mut sheet = [0u8; SMALL_BYTES];
     let mut rows = 0;
+    let mut alike = 0;
     let mut listed = 0;
-    let mut shorter = 0;
     let mut digest = NO_BYTES;
     while listed < MOST_SHEETS {
         let mut next = [0u8; SMALL_BYTES];
         let end = bytes_of(rows);
         let a = next_sheet(&sheet[..end], &mut next);
         if a.rows != rows {
-            io::write_all(STDOUT_FILENO, &line(rows, listed - shorter, listed));
-            write_digest(digest);
-            shorter = listed;
+            write_count(rows, alike, listed, digest);
         }
         if a.refusal != 0 {
-            io::write_all(STDOUT_FILENO, &sheet[..end]);
+            write_rows(&sheet, rows);
             io::write_all(STDOUT_FILENO, &answer_line(a));
             return;
         }
-        listed += 1;
-        rows = a.rows;
         sheet = next;
-        let bytes = bytes_of(rows);
-        digest = digest_with(digest, &sheet[..bytes]);
-        if listed % SHOWN == 0 {
-            io::write_all(STDOUT_FILENO, &answer_line(a));
-            io::write_all(STDOUT_FILENO, &sheet[..bytes]);
-        }
+        listed += 1;
+        alike = count_one(a.rows == rows, alike);
+        rows = a.rows;
+        digest = digest_with(digest, &sheet, bytes_of(rows));
+        show(listed, a, &sheet);
     }
 }
