@@ -5,3 +5,4 @@ pub mod Drifts
 pub mod Moved
 pub mod Walk
 pub mod Tested
+pub mod ReadBack

@@ -29,8 +29,12 @@ movesIn l k = getD l k 0
 number-past : (s : List ℕ) (at : ℕ) → length s ≤ at → numberAt s at ≡ 0
 unfolding numberAt
 number-past s at h =
-    rw (List·getD-eq-default s 0 {n = at} h, List·getD-eq-default s 0 {n = at + 1} (omega arith),
-    List·getD-eq-default s 0 {n = at + 2} (omega arith), List·getD-eq-default s 0 {n = at + 3} (omega arith)) refl
+    rw (
+      List·getD-eq-default s 0 {n = at} h,
+      List·getD-eq-default s 0 {n = at + 1} (omega arith),
+      List·getD-eq-default s 0 {n = at + 2} (omega arith),
+      List·getD-eq-default s 0 {n = at + 3} (omega arith),
+    ) refl
 
 -- What is left to test from tolerance i on.
 abbrev pub withinFrom : ℕ → List ℕ → ℕ → Bool
@@ -143,7 +147,7 @@ module _ (x : Exp) (s env : List ℕ) (m n : ℕ) (masked : m ≡ mask (freeE x)
 
 -- ---- numbers written
 
-length-bytes : (ds : List ℕ) → length (numberBytes ds) ≡ 4 * length ds
+pub length-bytes : (ds : List ℕ) → length (numberBytes ds) ≡ 4 * length ds
 unfolding numberBytes
 length-bytes [] = refl
 length-bytes (d ∷ ds) = omega (arith, length-bytes ds)

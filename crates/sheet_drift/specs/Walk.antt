@@ -20,7 +20,8 @@ use Rattle.eval_words.specs.Needs.{W, exp-needs}
 use Rattle.sheet_movement.specs.Moves.{Moves, bindMoves, allWithin, moved, movesE, fitsE}
 use Rattle.sheet_drift.specs.Numbers.{movesIn}
 use Rattle.sheet_drift.specs.Stores.{sets-append, sets-before, sets-among, sets-behind}
-use Rattle.sheet_drift.specs.Drifts.{Drifts, tree, drifts-below, moves-counted}
+use Rattle.sheet_movement.specs.Drifts.{Drifts}
+use Rattle.sheet_drift.specs.Drifts.{tree, drifts-below, moves-counted}
 
 -- No number passes the greatest.
 abbrev pub InRange : Moves → Type 0

@@ -129,7 +129,15 @@ pub fn drift(sheet: &[u8], line: &[u8], tolerances: &[u8], out: &mut [u8]) -> Dr
             let n = sheet.len() / ROW_BYTES;
             let end = FIELDS * n;
             let last = n - 1;
-            drift_rows(&fields[..end], &widths[..n], n, masks[last], line, tolerances, out)
+            drift_rows(
+                &fields[..end],
+                &widths[..n],
+                n,
+                masks[last],
+                line,
+                tolerances,
+                out,
+            )
         }
     }
 }

@@ -21,7 +21,7 @@ ghost use Rattle.meaning.specs.Rows.{ExpRow};
 ghost use Rattle.eval_words.specs.Needs.{W};
 ghost use Rattle.sheet_movement.specs.Moves.{moved, multiplied, divided};
 ghost use Rattle.sheet_drift.specs.Numbers.{movesIn};
-ghost use Rattle.sheet_drift.specs.Drifts.{Drifts};
+ghost use Rattle.sheet_movement.specs.Drifts.{Drifts};
 ghost use Rattle.sheet_drift.specs.Moved.{Operand};
 ghost use Rattle.sheet_drift.specs.Walk.{InRange, Told};
 
@@ -108,7 +108,11 @@ pub fn row_moves(
             if !row_moves(t, widths, b, env, &mut operands, 0) {
                 return false;
             }
-            put_within(out, at, moved(t, code, b, operands[0] as u64, operands[1] as u64))
+            put_within(
+                out,
+                at,
+                moved(t, code, b, operands[0] as u64, operands[1] as u64),
+            )
         }
         Shape::Let(a, _, c, d) => {
             let mut inner = *env;

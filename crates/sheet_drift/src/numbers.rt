@@ -40,7 +40,10 @@ fn number_at(s: &[u8], i: usize) -> u32
     ensures { λ d. ⌜ d ≡ numberAt (now (s .entry)) (4 * i) ⌝ }
 {
     let at = NUMBER_BYTES * i;
-    byte_at(s, at) + SECOND * byte_at(s, at + 1) + THIRD * byte_at(s, at + 2) + FOURTH * byte_at(s, at + 3)
+    byte_at(s, at)
+        + SECOND * byte_at(s, at + 1)
+        + THIRD * byte_at(s, at + 2)
+        + FOURTH * byte_at(s, at + 3)
 }
 
 // Whether there is a tolerance in range for each input, and no more.

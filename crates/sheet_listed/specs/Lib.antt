@@ -9,3 +9,14 @@ pub mod Ordered
 pub mod Rising
 pub mod NextLaws
 pub mod Walks
+pub mod Contents
+pub mod Numbers
+pub mod LoopRows
+pub mod RowSizes
+pub mod Passing
+pub mod NoLoops
+pub mod Standing
+pub mod SearchLaws
+pub mod SmallTests
+pub mod Followed
+pub mod Behind

@@ -1,9 +1,9 @@
 -- The list of small sheets is exactly the small sheets (document 02, Job 14), and 22 comes exactly for a sheet that is neither empty nor in it. The
 -- lists of sheets are taken as they are defined and never computed.
-use Prim.Native.Nat.{ℕ, zero, suc, _+_, _≤_, _<_}
+use Prim.Native.Nat.{ℕ, zero, suc, _≤_, _<_}
 use mathlib.Core.Path.{_≡_, refl, sym, ap, subst, _∙_}
 use mathlib.Core.Logic.{_⊎_, inl, inr, _↔_}
-use mathlib.Core.Bool.{Bool, true, false, cond, _&&_, false≢true}
+use mathlib.Core.Bool.{Bool, true, false, cond, false≢true}
 use mathlib.Core.List.{List, [], _∷_, _++_, map}
 use lib.Dec.{eqb}
 use lib.ListN.{length, getD}
@@ -14,20 +14,16 @@ use Rattle.formula.specs.Sheet.{rowCount}
 use Rattle.formula.specs.TreeLaws.{and-true}
 use Rattle.formula.specs.FaultRows.{Among}
 use Rattle.sheet_tidied.specs.Text.{sheetText}
-use Rattle.sheet_tidied.specs.TextLaws.{Rows, text-rows}
-use Rattle.sheet_listed.specs.Small.{isSmall, filtered, each, smallRows, sheetsOf, sheetsUpTo, smallSheets, Behind, next, none-behind, unlisted, same, headed, following, nextOf}
+use Rattle.sheet_tidied.specs.TextLaws.{Rows}
+use Rattle.sheet_listed.specs.Small.{isSmall, filtered, each, smallRows, sheetsOf, sheetsUpTo, smallSheets, unlisted, same, headed, following, nextOf}
 use Rattle.sheet_listed.specs.Lists.{among-left, among-right, among-either, among-filtered, filtered-among, among-map, map-among, among-each, each-among}
 use Rattle.sheet_listed.specs.RowLaws.{listed-row}
-use Rattle.sheet_listed.specs.Texts.{SmallSheet, small-has, small-text, rowsOf, rows-length, row-among}
+use Rattle.sheet_listed.specs.Texts.{small-has, small-text, rowsOf, rows-length, row-among}
 
 -- ---- the sheets of n small rows
 
 abbrev pub before : List (List (List ℕ)) → List ℕ → List (List (List ℕ))
 before l row = map (λ (rest : List (List ℕ)). row ∷ rest) l
-
-pub sheets-more : (n : ℕ) → sheetsOf (suc n) ≡ each (before (sheetsOf n)) smallRows
-unfolding sheetsOf
-sheets-more n = refl
 
 -- n rows, each of the list of small rows.
 pub record RowsListed (n : ℕ) (rs : List (List ℕ)) : Type 0 where
@@ -108,15 +104,15 @@ pub small-sheets : smallSheets ≡ filtered isSmall (map sheetText (sheetsUpTo 5
 unfolding smallSheets
 small-sheets = refl
 
+listed-small : (s : List ℕ) → Among s smallSheets → isSmall s ≡ true
+listed-small s a = filtered-among isSmall s (map sheetText (sheetsUpTo 5)) (subst (Among s) small-sheets a) .1
+
+small-listed : (s : List ℕ) → isSmall s ≡ true → Among s smallSheets
+small-listed s h = subst (Among s) (sym small-sheets) (small-up-to 5 s h (small-has s h .few))
+
 -- The list is exactly the small sheets.
 pub listed-iff : (s : List ℕ) → Among s smallSheets ↔ (isSmall s ≡ true)
-listed-iff s = (there, back)
-  where
-    there : Among s smallSheets → isSmall s ≡ true
-    there a = filtered-among isSmall s (map sheetText (sheetsUpTo 5)) (subst (Among s) small-sheets a) .1
-
-    back : isSmall s ≡ true → Among s smallSheets
-    back h = subst (Among s) (sym small-sheets) (small-up-to 5 s h (small-has s h .few))
+listed-iff s = (listed-small s, small-listed s)
 
 -- ---- "neither empty nor in the list"
 

@@ -1,21 +1,19 @@
 -- "write .. the next one" (document 02, Job 14): what is given is the least small sheet behind the one handed in, 22 comes for a sheet that is neither
 -- empty nor small, 23 for the last one, and from an empty memory the calls list each small sheet once.
-use Prim.Native.Nat.{ℕ, zero, suc, _≤_, _<_}
+use Prim.Native.Nat.{ℕ}
 use mathlib.Core.Path.{_≡_, refl, sym, ap, subst, _∙_}
 use mathlib.Core.Logic.{_⊎_, inl, inr, _↔_}
 use mathlib.Core.Bool.{Bool, true, false, cond, false≢true}
 use mathlib.Core.List.{List, [], _∷_}
-use lib.ListN.{length, getD}
 use native.Mathlib.Omega.{arith}
-use Rattle.formula.specs.Sheet.{rowCount}
 use Rattle.formula.specs.FaultRows.{Among}
 use Rattle.sheet_tidied.specs.Text.{sheetText}
 use Rattle.sheet_listed.specs.Small.{isSmall, precedes, smallSheets, Behind, next, none-behind, unlisted, same, headed, following, nextOf}
 use Rattle.sheet_listed.specs.Texts.{small-has}
 use Rattle.sheet_listed.specs.Listed.{listed-iff, same-true, next-of, next-unlisted, unlisted-next}
 use Rattle.sheet_listed.specs.Orders.{precedes-once, precedes-nothing, fewer-precedes}
-use Rattle.sheet_listed.specs.Ordered.{Ordered, at-among, among-at, ordered-at}
-use Rattle.sheet_listed.specs.Rising.{Precedes, not-itself, listed-ordered, listed-once}
+use Rattle.sheet_listed.specs.Ordered.{Ordered}
+use Rattle.sheet_listed.specs.Rising.{Precedes, not-itself, listed-ordered}
 
 -- ---- answers apart
 

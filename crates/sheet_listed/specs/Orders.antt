@@ -1,6 +1,6 @@
 -- "Fewer rows come first, then rising bytes" (document 02, Job 14) is an order: no sheet precedes itself, what precedes passes on, and of two sheets with
 -- whole rows that differ one precedes the other. Assumes nothing.
-use Prim.Native.Nat.{ℕ, suc, _*_, _<_}
+use Prim.Native.Nat.{ℕ, _*_, _<_}
 use mathlib.Core.Path.{_≡_, refl, sym, ap, _∙_}
 use mathlib.Core.Logic.{_⊎_, inl, inr}
 use mathlib.Core.Bool.{Bool, true, false, _&&_, _||_, false≢true}
@@ -9,7 +9,7 @@ use lib.Dec.{eqb, ltb}
 use lib.ListN.{length}
 use borrow.Author.Tests.{eqb-true, eq-eqb, ltb-true, lt-ltb, le-ltb}
 use native.Mathlib.Omega.{arith}
-use native.Mathlib.Decide.{ℕ-discrete, decLt}
+use native.Mathlib.Decide.{decLt}
 use Rattle.formula.specs.Sheet.{rowCount}
 use Rattle.formula.specs.TreeLaws.{and-true}
 use Rattle.sheet_listed.specs.Small.{rises, precedes}

@@ -1,10 +1,10 @@
 -- The list of small sheets rises (document 02, Job 14: "Fewer rows come first, then rising bytes"). That the texts of the small rows rise is computed;
 -- texts of as many rows rise with the first rows that differ.
-use Prim.Native.Nat.{ℕ, zero, suc, _+_, _*_, _≤_, _<_}
-use mathlib.Core.Path.{_≡_, refl, sym, ap, subst, _∙_}
+use Prim.Native.Nat.{ℕ, zero, suc, _<_}
+use mathlib.Core.Path.{_≡_, refl, sym, subst, _∙_}
 use mathlib.Core.Logic.{_⊎_, inl, inr}
 use mathlib.Core.Bool.{Bool, true, _&&_, false≢true}
-use mathlib.Core.List.{List, [], _∷_, _++_, map}
+use mathlib.Core.List.{List, [], _∷_, map}
 use lib.ListN.{length, getD}
 use native.Mathlib.Omega.{arith}
 use Rattle.formula.specs.Sheet.{rowCount}
@@ -12,7 +12,7 @@ use Rattle.formula.specs.FaultRows.{Among}
 use Rattle.formula.specs.TreeLaws.{and-true}
 use Rattle.sheet_tidied.specs.Text.{rowText, sheetText}
 use Rattle.sheet_tidied.specs.TextLaws.{text-rows}
-use Rattle.sheet_listed.specs.Small.{isSmall, rises, precedes, filtered, smallRows, sheetsOf, sheetsUpTo, smallSheets}
+use Rattle.sheet_listed.specs.Small.{isSmall, rises, precedes, smallRows, sheetsOf, sheetsUpTo, smallSheets}
 use Rattle.sheet_listed.specs.Lists.{map-among}
 use Rattle.sheet_listed.specs.Texts.{text-more, small-has}
 use Rattle.sheet_listed.specs.Listed.{before, sheets-among, listed-rows, up-to-among, small-sheets}

@@ -12,7 +12,7 @@ use Rattle.formula.specs.Tests.{inRange, allBetween}
 use Rattle.formula.specs.FaultRows.{Among}
 use Rattle.formula.specs.TreeLaws.{AllBetween, and-true, all-between}
 use Rattle.sheet_tidied.specs.TextLaws.{Row, five}
-use Rattle.sheet_listed.specs.Small.{modest, smallRow, smallRows, countedRows, countFrom, each, filtered}
+use Rattle.sheet_listed.specs.Small.{modest, smallRow, smallRows, countedRows, countFrom, each}
 use Rattle.sheet_listed.specs.Lists.{among-filtered, filtered-among, among-map, map-among, among-each, each-among, among-counted, counted-among}
 
 and-both : (a b : Bool) → a ≡ true → b ≡ true → a && b ≡ true
@@ -60,7 +60,7 @@ module _ (a b c d : ℕ) where
   binding-counted : AllBetween 5 (c ∷ d ∷ []) → leb (a + b) 2 ≡ true → Counted a b c d
   binding-counted n m = let l = leb-true (a + b) 2 m in (omega arith, omega arith, n .0 .1, n .1 .0 .1)
 
-  pub small-counted : (kind : ℕ) → 1 ≤ kind → kind ≤ 9 → smallRow (kind ∷ a ∷ b ∷ c ∷ d ∷ []) ≡ true → Counted a b c d
+  small-counted : (kind : ℕ) → 1 ≤ kind → kind ≤ 9 → smallRow (kind ∷ a ∷ b ∷ c ∷ d ∷ []) ≡ true → Counted a b c d
   unfolding inRange namedIn shapeOf modest
   small-counted zero l u h = absurd (omega arith)
   small-counted (suc zero) l u h = let t = small-tests 1 h in leaf-counted (leb a 31) (t .0) (t .2)

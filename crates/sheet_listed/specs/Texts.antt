@@ -1,27 +1,26 @@
 -- A small sheet is the text of its rows (document 01, "The formula sheet": a field has one text), and each of its rows is one of the list of small rows.
 use Prim.Native.Nat.{ℕ, zero, suc, _+_, _*_, _-_, _≤_, _<_}
-use mathlib.Core.Path.{_≡_, refl, sym, ap, subst, _∙_}
-use mathlib.Core.Bool.{Bool, true, false, _&&_, false≢true}
-use mathlib.Core.List.{List, [], _∷_, _++_, map, flatten}
+use mathlib.Core.Path.{_≡_, refl, sym, ap, _∙_}
+use mathlib.Core.Bool.{true, _&&_, false≢true}
+use mathlib.Core.List.{List, [], _∷_, _++_, map}
 use lib.Dec.{leb, ltb}
 use lib.ListN.{length, getD, take, drop, length-drop, take-append-drop}
-use lib.Seq.{length-take-le, getD-take, getD-drop, drop-drop, take-add, take-all}
+use lib.Seq.{length-take-le, getD-take, getD-drop, drop-drop}
 use borrow.Author.Tests.{eqb-true, leb-true, ltb-true, lt-ltb}
 use native.Mathlib.Omega.{arith}
 use Rattle.formula.specs.declared.Check.{Check}
 use Rattle.formula.specs.declared.Check.the-variants.{Passed as well, Fault}
 use Rattle.formula.specs.declared.Verdict.{Verdict}
 use Rattle.formula.specs.declared.Verdict.the-variants.{Passed, Refused}
-use Rattle.formula.specs.Sheet.{rowCount, linesIn, linesOf, fieldsIn, fieldsOf, field, shapeAt, shapeOf, namedIn}
+use Rattle.formula.specs.Sheet.{rowCount, linesIn, linesOf, fieldsIn, fieldsOf, field, shapeAt, namedIn}
 use Rattle.formula.specs.SheetLaws.{lineFields, fields-length}
-use Rattle.formula.specs.Tests.{lineAt, endedAt, fieldsWell, rangesWell, namesWell, allBetween, lowest, is-passed, sheetOf, rowTests, formulaTests, verdictBy}
+use Rattle.formula.specs.Tests.{fieldsWell, rangesWell, namesWell, allBetween, lowest, is-passed, sheetOf, rowTests, formulaTests, verdictBy}
 use Rattle.formula.specs.TestLaws.{passed-each}
 use Rattle.formula.specs.Verdicts.{then, then-behind}
 use Rattle.formula.specs.TreeLaws.{and-true}
 use Rattle.formula.specs.FaultRows.{Among}
 use Rattle.sheet_read.specs.Reading.{rowVerdict}
 use Rattle.sheet_tidied.specs.Text.{rowText, sheetText}
-use Rattle.sheet_tidied.specs.TextLaws.{Rows}
 use Rattle.sheet_tidied.specs.FieldTexts.{line-printed}
 use Rattle.sheet_tidied.specs.Rowwise.{Rowwise, passes-rowwise}
 use Rattle.sheet_listed.specs.Small.{isPassed, passesNine, modest, modestRow, isSmall, smallRow, smallRows}

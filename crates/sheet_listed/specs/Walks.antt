@@ -7,6 +7,7 @@ use mathlib.Core.List.{List, [], _∷_}
 use lib.ListN.{length, getD}
 use native.Mathlib.Omega.{arith}
 use native.Mathlib.Decide.{decLt, ℕ-discrete}
+use Rattle.formula.specs.FaultRows.{Among}
 use Rattle.sheet_listed.specs.Small.{isSmall, smallSheets, Behind, next, none-behind, unlisted, same, headed, following, nextOf}
 use Rattle.sheet_listed.specs.Listed.{next-of, listed-iff, same-true, same-self}
 use Rattle.sheet_listed.specs.Ordered.{Ordered, at-among, among-at}
@@ -78,19 +79,24 @@ calls-end (suc k) u = go (ℕ-discrete (suc k) (length smallSheets)) (calls-end 
     go (yes e) ih = ap again (calls-list k (omega arith)) ∙ last-next (suc k) e
     go (no e) ih = ap again (ih (omega arith))
 
--- No call of them is refused by 22, and what one writes is small.
-pub calls-small : (k : ℕ) (s : List ℕ) → called k ≡ next s → (k < length smallSheets) × (getD smallSheets k [] ≡ s)
-calls-small k s h = go (decLt k (length smallSheets))
+called-entry : (k : ℕ) (s : List ℕ) → called k ≡ next s → (k < length smallSheets) × (getD smallSheets k [] ≡ s)
+called-entry k s h = go (decLt k (length smallSheets))
   where
     go : Dec (k < length smallSheets) → (k < length smallSheets) × (getD smallSheets k [] ≡ s)
     go (yes u) = let e : next (getD smallSheets k []) ≡ next s = sym (calls-list k u) ∙ h in (u, cc e)
     go (no u) = absurd (next-none s (sym h ∙ calls-end k (omega arith)))
 
+-- What a call writes is small.
+pub called-small : (k : ℕ) (s : List ℕ) → called k ≡ next s → isSmall s ≡ true
+called-small k s h =
+    let w = called-entry k s h in
+    listed-iff s .0 (subst (λ (x : List ℕ). Among x smallSheets) (w .1) (at-among [] smallSheets k (w .0)))
+
 -- "the calls list each such sheet once": one call writes it, and one alone.
 pub each-called-once : (s : List ℕ) → isSmall s ≡ true → (k : ℕ) × (called k ≡ next s) × ((j : ℕ) → called j ≡ next s → j ≡ k)
 each-called-once s h =
     let w = among-at [] s smallSheets (listed-iff s .1 h) in
-    (w .0, calls-list (w .0) (w .1) ∙ ap next (w .2), λ j c. once w j (calls-small j s c))
+    (w .0, calls-list (w .0) (w .1) ∙ ap next (w .2), λ j c. once w j (called-entry j s c))
   where
     once : (w : (i : ℕ) × (i < length smallSheets) × (getD smallSheets i [] ≡ s)) (j : ℕ) → (j < length smallSheets) × (getD smallSheets j [] ≡ s) → j ≡ w .0
     once w j c = listed-once j (w .0) (c .0) (w .1) (c .1 ∙ sym (w .2))

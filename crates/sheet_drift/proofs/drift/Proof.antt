@@ -84,31 +84,31 @@ mul-end c = search needs
 sub-last : tie.Need-sub-last
 sub-last c = let b = rows-some (c .before .before .before .before .before .before .before .before .before .before .before .before .before .before .before .before .before .args .sheet .now) (c .before .before .before .before .before .before .before .before .before .before .before .before .before .before .before .before .before .args .line .now) _ (c .before .before .before .before .before .fill-tables .ensures) (ap verdictIn (c .enum-told .given .1)) in omega (arith, b)
 
--- src/lib.rt:132:24  let last = n - 1; ⏎ drift_rows(&fields[..end], &widths[..n], n, masks[last], line, tolerances, out)
+-- src/lib.rt:133:17  drift_rows( ⏎ &fields[..end],
 array-share-prefix-fields : tie.Need-array-share-prefix-fields
 array-share-prefix-fields c = let b = rows-few (c .before .before .before .before .before .before .before .before .before .before .before .before .before .before .before .before .before .args .sheet .now) (c .before .before .before .before .before .before .before .before .before .before .before .before .before .before .before .before .before .args .line .now) _ (c .before .before .before .before .before .fill-tables .ensures) (ap verdictIn (c .enum-told .given .1)) in let l = c .before .before .before .before .before .fill-tables .kept .1 .1 .0 ∙ ap length (c .before .before .before .before .before .before .before .before .before .before .before .fields .ensures) in omega (arith, b, l)
 
--- src/lib.rt:132:24  let last = n - 1; ⏎ drift_rows(&fields[..end], &widths[..n], n, masks[last], line, tolerances, out)
+-- src/lib.rt:133:17  drift_rows( ⏎ &fields[..end],
 slice-aggregate-drift-rows : tie.Need-slice-aggregate-drift-rows
 slice-aggregate-drift-rows c = sym (length-take-le _ _ (let b = rows-few (c .before .before .before .before .before .before .before .before .before .before .before .before .before .before .before .before .before .before .args .sheet .now) (c .before .before .before .before .before .before .before .before .before .before .before .before .before .before .before .before .before .before .args .line .now) _ (c .before .before .before .before .before .before .fill-tables .ensures) (ap verdictIn (c .before .enum-told .given .1)) in let l = c .before .before .before .before .before .before .fill-tables .kept .1 .1 .0 ∙ ap length (c .before .before .before .before .before .before .before .before .before .before .before .before .fields .ensures) in omega (arith, b, l)))
 
--- src/lib.rt:132:40  let last = n - 1; ⏎ drift_rows(&fields[..end], &widths[..n], n, masks[last], line, tolerances, out)
+-- src/lib.rt:134:17  &fields[..end], ⏎ &widths[..n],
 array-share-prefix-widths : tie.Need-array-share-prefix-widths
 array-share-prefix-widths c = let b = rows-few (c .before .before .before .before .before .before .before .before .before .before .before .before .before .before .before .before .before .before .args .sheet .now) (c .before .before .before .before .before .before .before .before .before .before .before .before .before .before .before .before .before .before .args .line .now) _ (c .before .before .before .before .before .before .fill-tables .ensures) (ap verdictIn (c .before .enum-told .given .1)) in let l = c .before .before .before .before .before .before .fill-tables .kept .1 .1 .1 .0 ∙ ap length (c .before .before .before .before .before .before .before .before .before .before .before .bytes .ensures) in omega (arith, b, l)
 
--- src/lib.rt:132:40  let last = n - 1; ⏎ drift_rows(&fields[..end], &widths[..n], n, masks[last], line, tolerances, out)
+-- src/lib.rt:134:17  &fields[..end], ⏎ &widths[..n],
 slice-aggregate-drift-rows-2 : tie.Need-slice-aggregate-drift-rows-2
 slice-aggregate-drift-rows-2 c = sym (length-take-le _ _ (let b = rows-few (c .before .before .before .before .before .before .before .before .before .before .before .before .before .before .before .before .before .before .before .args .sheet .now) (c .before .before .before .before .before .before .before .before .before .before .before .before .before .before .before .before .before .before .before .args .line .now) _ (c .before .before .before .before .before .before .before .fill-tables .ensures) (ap verdictIn (c .before .before .enum-told .given .1)) in let l = c .before .before .before .before .before .before .before .fill-tables .kept .1 .1 .1 .0 ∙ ap length (c .before .before .before .before .before .before .before .before .before .before .before .before .bytes .ensures) in omega (arith, b, l)))
 
--- src/lib.rt:132:57  let last = n - 1; ⏎ drift_rows(&fields[..end], &widths[..n], n, masks[last], line, tolerances, out)
+-- src/lib.rt:136:17  n, ⏎ masks[last],
 mul-drift-rows : tie.Need-mul-drift-rows
 mul-drift-rows c = search needs
 
--- src/lib.rt:132:57  let last = n - 1; ⏎ drift_rows(&fields[..end], &widths[..n], n, masks[last], line, tolerances, out)
+-- src/lib.rt:136:17  n, ⏎ masks[last],
 array-read-drift-rows : tie.Need-array-read-drift-rows
 array-read-drift-rows c = let b = rows-few (c .before .before .before .before .before .before .before .before .before .before .before .before .before .before .before .before .before .before .before .args .sheet .now) (c .before .before .before .before .before .before .before .before .before .before .before .before .before .before .before .before .before .before .before .args .line .now) _ (c .before .before .before .before .before .before .before .fill-tables .ensures) (ap verdictIn (c .before .before .enum-told .given .1)) in let a = rows-some (c .before .before .before .before .before .before .before .before .before .before .before .before .before .before .before .before .before .before .before .args .sheet .now) (c .before .before .before .before .before .before .before .before .before .before .before .before .before .before .before .before .before .before .before .args .line .now) _ (c .before .before .before .before .before .before .before .fill-tables .ensures) (ap verdictIn (c .before .before .enum-told .given .1)) in omega (arith, a, b)
 
--- src/lib.rt:132:13  let last = n - 1; ⏎ drift_rows(&fields[..end], &widths[..n], n, masks[last], line, tolerances, out)
+-- src/lib.rt:132:13  let last = n - 1; ⏎ drift_rows(
 drift-rows-requires : tie.Need-drift-rows-requires
 drift-rows-requires c κs = (tabled (c .before .before .before .before .before .before .before .before .before .before .before .before .before .before .before .before .before .before .before .before .args .sheet .now) (c .before .before .before .before .before .before .before .before .before .before .before .before .before .before .before .before .before .before .before .before .args .line .now) _ (c .before .before .before .before .before .before .before .before .fill-tables .ensures) (ap verdictIn (c .before .before .before .enum-told .given .1)), rows-few (c .before .before .before .before .before .before .before .before .before .before .before .before .before .before .before .before .before .before .before .before .args .sheet .now) (c .before .before .before .before .before .before .before .before .before .before .before .before .before .before .before .before .before .before .before .before .args .line .now) _ (c .before .before .before .before .before .before .before .before .fill-tables .ensures) (ap verdictIn (c .before .before .before .enum-told .given .1)), c .before .before .before .before .before .before .before .before .before .before .before .before .before .before .before .if1 .left)
 

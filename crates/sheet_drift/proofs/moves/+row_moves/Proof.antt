@@ -16,7 +16,7 @@ use Rattle.sheet_fields.proofs.shape.shape_at.Reads as shape-at-reads
 use Rattle.sheet_fields.proofs.shape.width_at.Reads as width-at-reads
 use Rattle.sheet_drift.proofs.moves.+row_moves.{statement}
 use Rattle.sheet_drift.proofs.moves.+row_moves.Tie.{close}
-use Prim.Native.Nat.{ℕ, _+_}
+use Prim.Native.Nat.{ℕ, _+_, _<_}
 use mathlib.Core.Path.{refl, sym, ap, _∙_}
 use lib.ListN.{getD, set, length-set}
 use borrow.Author.Tests.{not-true, not-false}
@@ -352,7 +352,7 @@ row-moves-returns-2 : (t : ℕ) → row-moves-lts.Need-returns-2 (
 ) (row-moves-at t) row-moves.Post
 row-moves-returns-2 t c = operator-stopped (c .before .before .before .before .before .before .before .before .before .before .before .args .t .now) (c .before .before .before .before .before .before .before .before .before .before .before .args .widths .now) (c .before .before .before .before .before .before .before .before .before .before .before .args .r) (c .before .before .before .before .before .before .before .before .before .before .before .pre .1 .0) (movesIn (c .before .before .before .before .before .before .before .before .before .before .before .args .env .now)) (c .before .before .before .before .before .before .before .before .before .before .before .args .at) (c .before .before .before .before .before .before .before .before .before .before .before .args .out .now) (c .before .before .before .before .before .before .before .before .before .before .before .args .out .now) (c .before .before .before .before .before .code .given .0 .0) (c .before .before .before .before .before .code .given .0 .1 .0) (sym (c .before .before .before .before .before .before .before .shape-at .ensures) ∙ c .before .before .before .before .before .code .given .1) (c .before .before .row-moves3 .last .1 .1 .1 .1 .0) (c .before .before .row-moves3 .result) (c .before .before .row-moves3 .ensures) (not-true (c .before .before .row-moves3 .result) (c .if2 .taken))
 
--- src/moves.rt:111:51  } ⏎ put_within(out, at, moved(t, code, b, operands[0] as u64, operands[1] as u64))
+-- src/moves.rt:114:35  at, ⏎ moved(t, code, b, operands[0] as u64, operands[1] as u64),
 row-moves-array-read-moved : (t : ℕ) → row-moves-lts.Need-array-read-moved (
   shape-at-reads.Asked,
   shape-at-reads.Learnt,
@@ -367,7 +367,7 @@ row-moves-array-read-moved : (t : ℕ) → row-moves-lts.Need-array-read-moved (
 ) (row-moves-at t) row-moves.Post
 row-moves-array-read-moved t c = search needs
 
--- src/moves.rt:111:51  } ⏎ put_within(out, at, moved(t, code, b, operands[0] as u64, operands[1] as u64))
+-- src/moves.rt:114:35  at, ⏎ moved(t, code, b, operands[0] as u64, operands[1] as u64),
 row-moves-cast-moved : (t : ℕ) → row-moves-lts.Need-cast-moved (
   shape-at-reads.Asked,
   shape-at-reads.Learnt,
@@ -382,7 +382,7 @@ row-moves-cast-moved : (t : ℕ) → row-moves-lts.Need-cast-moved (
 ) (row-moves-at t) row-moves.Post
 row-moves-cast-moved t c = omega (arith, operands-in-range (c .before .before .before .before .before .before .before .before .before .before .before .before .args .t .now) (c .before .before .before .before .before .before .before .before .before .before .before .before .args .widths .now) (c .before .before .before .before .before .before .before .before .before .before .before .before .args .r) (c .before .before .before .before .before .before .before .before .before .before .before .before .pre .1 .0) (movesIn (c .before .before .before .before .before .before .before .before .before .before .before .before .args .env .now)) (c .before .before .before .before .before .before .before .before .before .before .before .before .args .at) (c .before .before .before .before .before .before .before .before .before .before .before .before .args .out .now) (c .before .before .before .before .before .before .before .before .before .before .before .before .args .out .now) (c .before .before .before .before .before .before .code .given .0 .0) (c .before .before .before .before .before .before .code .given .0 .1 .0) (sym (c .before .before .before .before .before .before .before .before .shape-at .ensures) ∙ c .before .before .before .before .before .before .code .given .1) (c .before .before .before .row-moves3 .last .1 .1 .1 .1 .0) (c .before .before .before .row-moves3 .result) (c .before .before .before .row-moves3 .ensures) (c .before .before .before .before .before .before .before .before .before .before .before .before .pre .1 .1) (not-false (c .before .before .before .row-moves3 .result) (c .before .if2 .left)) .0)
 
--- src/moves.rt:111:71  } ⏎ put_within(out, at, moved(t, code, b, operands[0] as u64, operands[1] as u64))
+-- src/moves.rt:114:55  at, ⏎ moved(t, code, b, operands[0] as u64, operands[1] as u64),
 row-moves-array-read-moved-2 : (t : ℕ) → row-moves-lts.Need-array-read-moved-2 (
   shape-at-reads.Asked,
   shape-at-reads.Learnt,
@@ -397,7 +397,7 @@ row-moves-array-read-moved-2 : (t : ℕ) → row-moves-lts.Need-array-read-moved
 ) (row-moves-at t) row-moves.Post
 row-moves-array-read-moved-2 t c = search needs
 
--- src/moves.rt:111:71  } ⏎ put_within(out, at, moved(t, code, b, operands[0] as u64, operands[1] as u64))
+-- src/moves.rt:114:55  at, ⏎ moved(t, code, b, operands[0] as u64, operands[1] as u64),
 row-moves-cast-moved-2 : (t : ℕ) → row-moves-lts.Need-cast-moved-2 (
   shape-at-reads.Asked,
   shape-at-reads.Learnt,
@@ -412,7 +412,7 @@ row-moves-cast-moved-2 : (t : ℕ) → row-moves-lts.Need-cast-moved-2 (
 ) (row-moves-at t) row-moves.Post
 row-moves-cast-moved-2 t c = omega (arith, operands-in-range (c .before .before .before .before .before .before .before .before .before .before .before .before .args .t .now) (c .before .before .before .before .before .before .before .before .before .before .before .before .args .widths .now) (c .before .before .before .before .before .before .before .before .before .before .before .before .args .r) (c .before .before .before .before .before .before .before .before .before .before .before .before .pre .1 .0) (movesIn (c .before .before .before .before .before .before .before .before .before .before .before .before .args .env .now)) (c .before .before .before .before .before .before .before .before .before .before .before .before .args .at) (c .before .before .before .before .before .before .before .before .before .before .before .before .args .out .now) (c .before .before .before .before .before .before .before .before .before .before .before .before .args .out .now) (c .before .before .before .before .before .before .code .given .0 .0) (c .before .before .before .before .before .before .code .given .0 .1 .0) (sym (c .before .before .before .before .before .before .before .before .shape-at .ensures) ∙ c .before .before .before .before .before .before .code .given .1) (c .before .before .before .row-moves3 .last .1 .1 .1 .1 .0) (c .before .before .before .row-moves3 .result) (c .before .before .before .row-moves3 .ensures) (c .before .before .before .before .before .before .before .before .before .before .before .before .pre .1 .1) (not-false (c .before .before .before .row-moves3 .result) (c .before .if2 .left)) .1)
 
--- src/moves.rt:111:33  } ⏎ put_within(out, at, moved(t, code, b, operands[0] as u64, operands[1] as u64))
+-- src/moves.rt:114:17  at, ⏎ moved(t, code, b, operands[0] as u64, operands[1] as u64),
 row-moves-moved-requires : (t : ℕ) → row-moves-lts.Need-moved-requires (
   shape-at-reads.Asked,
   shape-at-reads.Learnt,
@@ -427,7 +427,7 @@ row-moves-moved-requires : (t : ℕ) → row-moves-lts.Need-moved-requires (
 ) (row-moves-at t) row-moves.Post
 row-moves-moved-requires t c κs = let k = exp-children (c .before .before .before .before .before .before .before .before .before .before .before .before .args .t .now) (c .before .before .before .before .before .before .before .before .before .before .before .before .args .widths .now) (c .before .before .before .before .before .before .before .before .before .before .before .before .args .r) (c .before .before .before .before .before .before .before .before .before .before .before .before .pre .1 .0) (Operator (c .before .before .before .before .before .before .code .given .0 .0) (c .before .before .before .before .before .before .code .given .0 .1 .0)) (sym (c .before .before .before .before .before .before .before .before .shape-at .ensures) ∙ c .before .before .before .before .before .before .code .given .1) in let g = drifts-below (c .before .before .before .before .before .before .before .before .before .before .before .before .args .t .now) (c .before .before .before .before .before .before .before .before .before .before .before .before .args .widths .now) (c .before .before .before .before .before .before .before .before .before .before .before .before .args .r) (c .before .before .before .before .before .before .before .before .before .before .before .before .pre .1 .0) (c .before .before .before .before .before .before .before .before .before .before .before .before .pre .1 .1) (Operator (c .before .before .before .before .before .before .code .given .0 .0) (c .before .before .before .before .before .before .code .given .0 .1 .0)) (sym (c .before .before .before .before .before .before .before .before .shape-at .ensures) ∙ c .before .before .before .before .before .before .code .given .1) in let o = operands-in-range (c .before .before .before .before .before .before .before .before .before .before .before .before .args .t .now) (c .before .before .before .before .before .before .before .before .before .before .before .before .args .widths .now) (c .before .before .before .before .before .before .before .before .before .before .before .before .args .r) (c .before .before .before .before .before .before .before .before .before .before .before .before .pre .1 .0) (movesIn (c .before .before .before .before .before .before .before .before .before .before .before .before .args .env .now)) (c .before .before .before .before .before .before .before .before .before .before .before .before .args .at) (c .before .before .before .before .before .before .before .before .before .before .before .before .args .out .now) (c .before .before .before .before .before .before .before .before .before .before .before .before .args .out .now) (c .before .before .before .before .before .before .code .given .0 .0) (c .before .before .before .before .before .before .code .given .0 .1 .0) (sym (c .before .before .before .before .before .before .before .before .shape-at .ensures) ∙ c .before .before .before .before .before .before .code .given .1) (c .before .before .before .row-moves3 .last .1 .1 .1 .1 .0) (c .before .before .before .row-moves3 .result) (c .before .before .before .row-moves3 .ensures) (c .before .before .before .before .before .before .before .before .before .before .before .before .pre .1 .1) (not-false (c .before .before .before .row-moves3 .result) (c .before .if2 .left)) in ((record { widths = (c .before .before .before .before .before .before .before .before .before .before .before .before .args .widths .now); row = k .0 }, g .0), o .0, o .1)
 
--- src/moves.rt:111:13  } ⏎ put_within(out, at, moved(t, code, b, operands[0] as u64, operands[1] as u64))
+-- src/moves.rt:111:13  } ⏎ put_within(
 row-moves-put-within-requires : (t : ℕ) → row-moves-lts.Need-put-within-requires (
   shape-at-reads.Asked,
   shape-at-reads.Learnt,
@@ -442,7 +442,7 @@ row-moves-put-within-requires : (t : ℕ) → row-moves-lts.Need-put-within-requ
 ) (row-moves-at t) row-moves.Post
 row-moves-put-within-requires t c κs = let f = exp-needs (c .before .before .before .before .before .before .before .before .before .before .before .before .before .args .t .now) (c .before .before .before .before .before .before .before .before .before .before .before .before .before .args .widths .now) (c .before .before .before .before .before .before .before .before .before .before .before .before .before .args .r) (c .before .before .before .before .before .before .before .before .before .before .before .before .before .pre .1 .0) (Operator (c .before .before .before .before .before .before .before .code .given .0 .0) (c .before .before .before .before .before .before .before .code .given .0 .1 .0)) (sym (c .before .before .before .before .before .before .before .before .before .shape-at .ensures) ∙ c .before .before .before .before .before .before .before .code .given .1) in omega (arith, f .0, c .before .before .before .before .before .before .before .before .before .before .before .before .before .pre .1 .4)
 
--- src/moves.rt:113:20  } ⏎ Shape::Let(a, _, c, d) => {
+-- src/moves.rt:117:20  } ⏎ Shape::Let(a, _, c, d) => {
 row-moves-enum-known-a-3 : (t : ℕ) → row-moves-lts.Need-enum-known-a-3 (
   shape-at-reads.Asked,
   shape-at-reads.Learnt,
@@ -457,7 +457,7 @@ row-moves-enum-known-a-3 : (t : ℕ) → row-moves-lts.Need-enum-known-a-3 (
 ) (row-moves-at t) row-moves.Post
 row-moves-enum-known-a-3 t c = search needs
 
--- src/moves.rt:115:46  let mut inner = *env; ⏎ if !row_moves(t, widths, c, env, &mut inner, a as usize) {
+-- src/moves.rt:119:46  let mut inner = *env; ⏎ if !row_moves(t, widths, c, env, &mut inner, a as usize) {
 row-moves-slice-aggregate-row-moves-2 : (t : ℕ) → row-moves-lts.Need-slice-aggregate-row-moves-2 (
   shape-at-reads.Asked,
   shape-at-reads.Learnt,
@@ -472,7 +472,7 @@ row-moves-slice-aggregate-row-moves-2 : (t : ℕ) → row-moves-lts.Need-slice-a
 ) (row-moves-at t) row-moves.Post
 row-moves-slice-aggregate-row-moves-2 t c = search needs
 
--- src/moves.rt:115:58  let mut inner = *env; ⏎ if !row_moves(t, widths, c, env, &mut inner, a as usize) {
+-- src/moves.rt:119:58  let mut inner = *env; ⏎ if !row_moves(t, widths, c, env, &mut inner, a as usize) {
 row-moves-cast-row-moves : (t : ℕ) → row-moves-lts.Need-cast-row-moves (
   shape-at-reads.Asked,
   shape-at-reads.Learnt,
@@ -487,7 +487,7 @@ row-moves-cast-row-moves : (t : ℕ) → row-moves-lts.Need-cast-row-moves (
 ) (row-moves-at t) row-moves.Post
 row-moves-cast-row-moves t c = search needs
 
--- src/moves.rt:115:17  let mut inner = *env; ⏎ if !row_moves(t, widths, c, env, &mut inner, a as usize) {
+-- src/moves.rt:119:17  let mut inner = *env; ⏎ if !row_moves(t, widths, c, env, &mut inner, a as usize) {
 row-moves-row-moves-requires-4 : (t : ℕ) → row-moves-lts.Need-row-moves-requires-4 (
   shape-at-reads.Asked,
   shape-at-reads.Learnt,
@@ -502,7 +502,7 @@ row-moves-row-moves-requires-4 : (t : ℕ) → row-moves-lts.Need-row-moves-requ
 ) (row-moves-at t) row-moves.Post
 row-moves-row-moves-requires-4 t c κs = let f = exp-needs (c .before .before .before .before .before .before .before .before .before .args .t .now) (c .before .before .before .before .before .before .before .before .before .args .widths .now) (c .before .before .before .before .before .before .before .before .before .args .r) (c .before .before .before .before .before .before .before .before .before .pre .1 .0) (Let (c .before .before .before .a3 .given .0 .0) (c .before .before .before .a3 .given .0 .1 .0) (c .before .before .before .a3 .given .0 .1 .1 .0) (c .before .before .before .a3 .given .0 .1 .1 .1 .0)) (sym (c .before .before .before .before .before .shape-at .ensures) ∙ c .before .before .before .a3 .given .1) in let k = exp-children (c .before .before .before .before .before .before .before .before .before .args .t .now) (c .before .before .before .before .before .before .before .before .before .args .widths .now) (c .before .before .before .before .before .before .before .before .before .args .r) (c .before .before .before .before .before .before .before .before .before .pre .1 .0) (Let (c .before .before .before .a3 .given .0 .0) (c .before .before .before .a3 .given .0 .1 .0) (c .before .before .before .a3 .given .0 .1 .1 .0) (c .before .before .before .a3 .given .0 .1 .1 .1 .0)) (sym (c .before .before .before .before .before .shape-at .ensures) ∙ c .before .before .before .a3 .given .1) in let g = drifts-below (c .before .before .before .before .before .before .before .before .before .args .t .now) (c .before .before .before .before .before .before .before .before .before .args .widths .now) (c .before .before .before .before .before .before .before .before .before .args .r) (c .before .before .before .before .before .before .before .before .before .pre .1 .0) (c .before .before .before .before .before .before .before .before .before .pre .1 .1) (Let (c .before .before .before .a3 .given .0 .0) (c .before .before .before .a3 .given .0 .1 .0) (c .before .before .before .a3 .given .0 .1 .1 .0) (c .before .before .before .a3 .given .0 .1 .1 .1 .0)) (sym (c .before .before .before .before .before .shape-at .ensures) ∙ c .before .before .before .a3 .given .1) in (omega (arith, k .0 .1), (k .0 .0, g .0, c .before .before .before .before .before .before .before .before .before .pre .1 .2, c .before .before .before .before .before .before .before .before .before .pre .1 .3, omega (arith, f .0, f .1, c .before .before .before .before .before .before .before .before .before .pre .1 .2)))
 
--- src/moves.rt:116:17  if !row_moves(t, widths, c, env, &mut inner, a as usize) { ⏎ return false;
+-- src/moves.rt:120:17  if !row_moves(t, widths, c, env, &mut inner, a as usize) { ⏎ return false;
 row-moves-returns-3 : (t : ℕ) → row-moves-lts.Need-returns-3 (
   shape-at-reads.Asked,
   shape-at-reads.Learnt,
@@ -517,7 +517,7 @@ row-moves-returns-3 : (t : ℕ) → row-moves-lts.Need-returns-3 (
 ) (row-moves-at t) row-moves.Post
 row-moves-returns-3 t c = let-stopped (c .before .before .before .before .before .before .before .before .before .before .before .before .args .t .now) (c .before .before .before .before .before .before .before .before .before .before .before .before .args .widths .now) (c .before .before .before .before .before .before .before .before .before .before .before .before .args .r) (c .before .before .before .before .before .before .before .before .before .before .before .before .pre .1 .0) (c .before .before .before .before .before .before .before .before .before .before .before .before .args .env .now) (c .before .before .before .before .before .before .before .before .before .before .before .before .args .at) (c .before .before .before .before .before .before .before .before .before .before .before .before .args .out .now) (c .before .before .before .before .before .before .before .before .before .before .before .before .args .out .now) (c .before .before .before .before .before .before .before .before .before .before .before .before .pre .1 .2) (c .before .before .before .before .before .before .a3 .given .0 .0) (c .before .before .before .before .before .before .a3 .given .0 .1 .0) (c .before .before .before .before .before .before .a3 .given .0 .1 .1 .0) (c .before .before .before .before .before .before .a3 .given .0 .1 .1 .1 .0) (sym (c .before .before .before .before .before .before .before .before .shape-at .ensures) ∙ c .before .before .before .before .before .before .a3 .given .1) (c .before .before .row-moves4 .last .1 .1 .1 .1 .0) (c .before .before .row-moves4 .result) (c .before .before .row-moves4 .ensures) (not-true (c .before .before .row-moves4 .result) (c .if3 .taken))
 
--- src/moves.rt:118:13  } ⏎ row_moves(t, widths, d, &inner, out, at)
+-- src/moves.rt:122:13  } ⏎ row_moves(t, widths, d, &inner, out, at)
 row-moves-row-moves-requires-5 : (t : ℕ) → row-moves-lts.Need-row-moves-requires-5 (
   shape-at-reads.Asked,
   shape-at-reads.Learnt,
@@ -532,7 +532,7 @@ row-moves-row-moves-requires-5 : (t : ℕ) → row-moves-lts.Need-row-moves-requ
 ) (row-moves-at t) row-moves.Post
 row-moves-row-moves-requires-5 t c κs = let f = exp-needs (c .before .before .before .before .before .before .before .before .before .before .before .before .before .before .args .t .now) (c .before .before .before .before .before .before .before .before .before .before .before .before .before .before .args .widths .now) (c .before .before .before .before .before .before .before .before .before .before .before .before .before .before .args .r) (c .before .before .before .before .before .before .before .before .before .before .before .before .before .before .pre .1 .0) (Let (c .before .before .before .before .before .before .before .before .a3 .given .0 .0) (c .before .before .before .before .before .before .before .before .a3 .given .0 .1 .0) (c .before .before .before .before .before .before .before .before .a3 .given .0 .1 .1 .0) (c .before .before .before .before .before .before .before .before .a3 .given .0 .1 .1 .1 .0)) (sym (c .before .before .before .before .before .before .before .before .before .before .shape-at .ensures) ∙ c .before .before .before .before .before .before .before .before .a3 .given .1) in let k = exp-children (c .before .before .before .before .before .before .before .before .before .before .before .before .before .before .args .t .now) (c .before .before .before .before .before .before .before .before .before .before .before .before .before .before .args .widths .now) (c .before .before .before .before .before .before .before .before .before .before .before .before .before .before .args .r) (c .before .before .before .before .before .before .before .before .before .before .before .before .before .before .pre .1 .0) (Let (c .before .before .before .before .before .before .before .before .a3 .given .0 .0) (c .before .before .before .before .before .before .before .before .a3 .given .0 .1 .0) (c .before .before .before .before .before .before .before .before .a3 .given .0 .1 .1 .0) (c .before .before .before .before .before .before .before .before .a3 .given .0 .1 .1 .1 .0)) (sym (c .before .before .before .before .before .before .before .before .before .before .shape-at .ensures) ∙ c .before .before .before .before .before .before .before .before .a3 .given .1) in let g = drifts-below (c .before .before .before .before .before .before .before .before .before .before .before .before .before .before .args .t .now) (c .before .before .before .before .before .before .before .before .before .before .before .before .before .before .args .widths .now) (c .before .before .before .before .before .before .before .before .before .before .before .before .before .before .args .r) (c .before .before .before .before .before .before .before .before .before .before .before .before .before .before .pre .1 .0) (c .before .before .before .before .before .before .before .before .before .before .before .before .before .before .pre .1 .1) (Let (c .before .before .before .before .before .before .before .before .a3 .given .0 .0) (c .before .before .before .before .before .before .before .before .a3 .given .0 .1 .0) (c .before .before .before .before .before .before .before .before .a3 .given .0 .1 .1 .0) (c .before .before .before .before .before .before .before .before .a3 .given .0 .1 .1 .1 .0)) (sym (c .before .before .before .before .before .before .before .before .before .before .shape-at .ensures) ∙ c .before .before .before .before .before .before .before .before .a3 .given .1) in (omega (arith, k .1 .1), (k .1 .0, g .1, c .before .before .before .before .row-moves4 .kept .1 .1 .1 .1 .0 ∙ c .before .before .before .before .before .before .before .before .before .before .before .before .before .before .pre .1 .2, inner-in-range (c .before .before .before .before .before .before .before .before .before .before .before .before .before .before .args .t .now) (c .before .before .before .before .before .before .before .before .before .before .before .before .before .before .args .widths .now) (c .before .before .before .before .before .before .before .before .before .before .before .before .before .before .args .r) (c .before .before .before .before .before .before .before .before .before .before .before .before .before .before .pre .1 .0) (c .before .before .before .before .before .before .before .before .before .before .before .before .before .before .args .env .now) (c .before .before .before .before .before .before .before .before .before .before .before .before .before .before .args .at) (c .before .before .before .before .before .before .before .before .before .before .before .before .before .before .args .out .now) (c .before .before .before .before .before .before .before .before .before .before .before .before .before .before .args .out .now) (c .before .before .before .before .before .before .before .before .before .before .before .before .before .before .pre .1 .2) (c .before .before .before .before .before .before .before .before .a3 .given .0 .0) (c .before .before .before .before .before .before .before .before .a3 .given .0 .1 .0) (c .before .before .before .before .before .before .before .before .a3 .given .0 .1 .1 .0) (c .before .before .before .before .before .before .before .before .a3 .given .0 .1 .1 .1 .0) (sym (c .before .before .before .before .before .before .before .before .before .before .shape-at .ensures) ∙ c .before .before .before .before .before .before .before .before .a3 .given .1) (c .before .before .before .before .row-moves4 .last .1 .1 .1 .1 .0) (c .before .before .before .before .row-moves4 .result) (c .before .before .before .before .row-moves4 .ensures) (c .before .before .before .before .before .before .before .before .before .before .before .before .before .before .pre .1 .1) (not-false (c .before .before .before .before .row-moves4 .result) (c .before .before .if3 .left)) (c .before .before .before .before .before .before .before .before .before .before .before .before .before .before .pre .1 .3), omega (arith, f .2, c .before .before .before .before .before .before .before .before .before .before .before .before .before .before .pre .1 .4)))
 
--- src/moves.rt:121:31  // no such row is handed in ⏎ Shape::If(_, _, _) => false,
+-- src/moves.rt:125:31  // no such row is handed in ⏎ Shape::If(_, _, _) => false,
 row-moves-enum-told-2 : (t : ℕ) → row-moves-lts.Need-enum-told-2 (
   shape-at-reads.Asked,
   shape-at-reads.Learnt,
@@ -547,7 +547,7 @@ row-moves-enum-told-2 : (t : ℕ) → row-moves-lts.Need-enum-told-2 (
 ) (row-moves-at t) row-moves.Post
 row-moves-enum-told-2 t c = search needs
 
--- src/moves.rt:122:35  Shape::If(_, _, _) => false, ⏎ Shape::For(_, _, _, _) => false,
+-- src/moves.rt:126:35  Shape::If(_, _, _) => false, ⏎ Shape::For(_, _, _, _) => false,
 row-moves-enum-told-3 : (t : ℕ) → row-moves-lts.Need-enum-told-3 (
   shape-at-reads.Asked,
   shape-at-reads.Learnt,
@@ -562,7 +562,7 @@ row-moves-enum-told-3 : (t : ℕ) → row-moves-lts.Need-enum-told-3 (
 ) (row-moves-at t) row-moves.Post
 row-moves-enum-told-3 t c = search needs
 
--- src/moves.rt:123:27  Shape::For(_, _, _, _) => false, ⏎ Shape::Iter(_) => false,
+-- src/moves.rt:127:27  Shape::For(_, _, _, _) => false, ⏎ Shape::Iter(_) => false,
 row-moves-enum-told-4 : (t : ℕ) → row-moves-lts.Need-enum-told-4 (
   shape-at-reads.Asked,
   shape-at-reads.Learnt,

@@ -7,55 +7,55 @@ use Rattle.sheet_drift.proofs.numbers.put_number.Lts as lts
 use lib.ListN.{length-set}
 use Rattle.sheet_drift.specs.Numbers.{number-put}
 
--- src/numbers.rt:83:15  { ⏎ out[at] = (d % 256) as u8;
+-- src/numbers.rt:86:15  { ⏎ out[at] = (d % 256) as u8;
 cast-out : tie.Need-cast-out
 cast-out c = search needs
 
--- src/numbers.rt:83:5  { ⏎ out[at] = (d % 256) as u8;
+-- src/numbers.rt:86:5  { ⏎ out[at] = (d % 256) as u8;
 slice-write-out : tie.Need-slice-write-out
 slice-write-out c = search needs
 
--- src/numbers.rt:84:19  out[at] = (d % 256) as u8; ⏎ out[at + 1] = (d / SECOND % 256) as u8;
+-- src/numbers.rt:87:19  out[at] = (d % 256) as u8; ⏎ out[at + 1] = (d / SECOND % 256) as u8;
 cast-out-2 : tie.Need-cast-out-2
 cast-out-2 c = search needs
 
--- src/numbers.rt:84:9  out[at] = (d % 256) as u8; ⏎ out[at + 1] = (d / SECOND % 256) as u8;
+-- src/numbers.rt:87:9  out[at] = (d % 256) as u8; ⏎ out[at + 1] = (d / SECOND % 256) as u8;
 add-out : tie.Need-add-out
 add-out c = search needs
 
--- src/numbers.rt:84:5  out[at] = (d % 256) as u8; ⏎ out[at + 1] = (d / SECOND % 256) as u8;
+-- src/numbers.rt:87:5  out[at] = (d % 256) as u8; ⏎ out[at + 1] = (d / SECOND % 256) as u8;
 slice-write-out-2 : tie.Need-slice-write-out-2
 slice-write-out-2 c = simp length-set (omega arith)
 
--- src/numbers.rt:85:19  out[at + 1] = (d / SECOND % 256) as u8; ⏎ out[at + 2] = (d / THIRD % 256) as u8;
+-- src/numbers.rt:88:19  out[at + 1] = (d / SECOND % 256) as u8; ⏎ out[at + 2] = (d / THIRD % 256) as u8;
 cast-out-3 : tie.Need-cast-out-3
 cast-out-3 c = search needs
 
--- src/numbers.rt:85:9  out[at + 1] = (d / SECOND % 256) as u8; ⏎ out[at + 2] = (d / THIRD % 256) as u8;
+-- src/numbers.rt:88:9  out[at + 1] = (d / SECOND % 256) as u8; ⏎ out[at + 2] = (d / THIRD % 256) as u8;
 add-out-2 : tie.Need-add-out-2
 add-out-2 c = search needs
 
--- src/numbers.rt:85:5  out[at + 1] = (d / SECOND % 256) as u8; ⏎ out[at + 2] = (d / THIRD % 256) as u8;
+-- src/numbers.rt:88:5  out[at + 1] = (d / SECOND % 256) as u8; ⏎ out[at + 2] = (d / THIRD % 256) as u8;
 slice-write-out-3 : tie.Need-slice-write-out-3
 slice-write-out-3 c = simp length-set (omega arith)
 
--- src/numbers.rt:86:19  out[at + 2] = (d / THIRD % 256) as u8; ⏎ out[at + 3] = (d / FOURTH % 256) as u8;
+-- src/numbers.rt:89:19  out[at + 2] = (d / THIRD % 256) as u8; ⏎ out[at + 3] = (d / FOURTH % 256) as u8;
 cast-out-4 : tie.Need-cast-out-4
 cast-out-4 c = search needs
 
--- src/numbers.rt:86:9  out[at + 2] = (d / THIRD % 256) as u8; ⏎ out[at + 3] = (d / FOURTH % 256) as u8;
+-- src/numbers.rt:89:9  out[at + 2] = (d / THIRD % 256) as u8; ⏎ out[at + 3] = (d / FOURTH % 256) as u8;
 add-out-3 : tie.Need-add-out-3
 add-out-3 c = search needs
 
--- src/numbers.rt:86:5  out[at + 2] = (d / THIRD % 256) as u8; ⏎ out[at + 3] = (d / FOURTH % 256) as u8;
+-- src/numbers.rt:89:5  out[at + 2] = (d / THIRD % 256) as u8; ⏎ out[at + 3] = (d / FOURTH % 256) as u8;
 slice-write-out-4 : tie.Need-slice-write-out-4
 slice-write-out-4 c = simp length-set (omega arith)
 
--- src/numbers.rt:79:1  } ⏎ fn put_number(out: &mut [u8], at: usize, d: u32)
+-- src/numbers.rt:82:1  } ⏎ fn put_number(out: &mut [u8], at: usize, d: u32)
 same-length : tie.Need-same-length
 same-length c = simp length-set
 
--- src/numbers.rt:79:1  } ⏎ fn put_number(out: &mut [u8], at: usize, d: u32)
+-- src/numbers.rt:82:1  } ⏎ fn put_number(out: &mut [u8], at: usize, d: u32)
 returns : tie.Need-returns
 returns c = number-put (c .args .out .now) (c .args .at) (c .args .d)
 
