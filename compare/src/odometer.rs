@@ -12,24 +12,8 @@ pub struct Odometer(Vec<Row>);
 
 impl Odometer {
     pub fn new() -> Odometer {
-        let mut rows = Vec::new();
-        for kind in 1..=9 {
-            for fields in 0..12 * 5 * 5 * 5 {
-                let row = [kind, fields / 125, fields / 25 % 5, fields / 5 % 5, fields % 5];
-                let named = naming_fields(kind);
-                let own = |field: usize| if named.contains(&field) { 0 } else { row[field] };
-                let listed = match kind {
-                    1..=3 => own(1) <= 1 && row[2..] == [0, 0, 0],
-                    5 => (1..=11).contains(&row[1]) && row[3..] == [0, 0],
-                    6 | 8 => row[2] >= 1 && row[1] + row[2] <= 2,
-                    _ => (1..5).all(|field| own(field) == 0),
-                };
-                if listed && named.iter().all(|&field| (1..MOST_ROWS as u32).contains(&row[field])) {
-                    rows.push(row);
-                }
-            }
-        }
-        Odometer(rows)
+        let row = |fields: u32| [fields / 1500, fields / 125 % 12, fields / 25 % 5, fields / 5 % 5, fields % 5];
+        Odometer((0..10 * 1500).map(row).filter(can_stand).collect())
     }
 
     /// As `SmallSheets::next`.
@@ -82,6 +66,21 @@ impl Odometer {
         }
         false
     }
+}
+
+/// Whether a row's kind, code, identifiers and constant are a small sheet's, and the rows that it names are 1 to 4.
+fn can_stand(row: &Row) -> bool {
+    let names_well = naming_fields(row[0]).iter().all(|&field| (1..MOST_ROWS as u32).contains(&row[field]));
+    let fits = match row[0] {
+        1..=3 => row[1] <= 1 && row[2..] == [0, 0, 0],
+        4 => row[3..] == [0, 0],
+        5 => (1..=11).contains(&row[1]) && row[3..] == [0, 0],
+        6 | 8 => row[2] >= 1 && row[1] + row[2] <= 2,
+        7 => row[4] == 0,
+        9 => row[2..] == [0, 0, 0],
+        _ => false,
+    };
+    names_well && fits
 }
 
 /// The rows that a row names.
