@@ -18,6 +18,7 @@ pub mod log;
 pub mod log_cases;
 pub mod machine;
 pub mod memory;
+pub mod odometer;
 #[cfg(feature = "product")]
 pub mod product;
 pub mod random;

@@ -98,18 +98,17 @@ impl Digest {
 type Rows = Vec<[u32; 5]>;
 
 /// "row kinds 1 to 9, identifiers and constants 0 and 1, and any code": the rows that name so many others, with 0 for each row named.
-fn parts(naming: usize) -> Rows {
+fn parts(tops: usize) -> Rows {
     let leaves = (1..=3).flat_map(|kind| [[kind, 0, 0, 0, 0], [kind, 1, 0, 0, 0]]);
     let operators = CODES.map(|code| [5, code, 0, 0, 0]);
     // The identifiers a to a+b-1 of a let or for are 0, 1 or both.
     let bindings = [6, 8].into_iter().flat_map(|kind| [(0, 1), (0, 2), (1, 1)].map(|(a, b)| [kind, a, b, 0, 0]));
     let others = [[4, 0, 0, 0, 0], [7, 0, 0, 0, 0], [9, 0, 0, 0, 0]];
     let all = leaves.chain(operators).chain(bindings).chain(others);
-    all.filter(|row| naming_fields(row[0]).len() == naming).collect()
+    all.filter(|row| naming_fields(row[0]).len() == tops).collect()
 }
 
 /// Rows in which some stand for themselves: every other row is named once, by one of these or by a row of theirs.
-#[derive(Clone)]
 struct Forest {
     rows: Rows,
     /// The numbers of the rows that nobody names, in the order in which they are to be named.
@@ -127,11 +126,7 @@ fn each_formula(found: &mut dyn FnMut(&[[u32; 5]])) {
                 let mut rows = forest.rows.clone();
                 rows.push([0; 5]);
                 for &row in &last {
-                    rows[size - 1] = row;
-                    naming_fields(row[0])
-                        .iter()
-                        .zip(&forest.tops)
-                        .for_each(|(&field, &top)| rows[size - 1][field] = top);
+                    rows[size - 1] = naming(row, &forest.tops);
                     found(&rows);
                     if size < MOST_ROWS {
                         formulas.push(Forest { rows: rows.clone(), tops: vec![size as u32] });
@@ -141,6 +136,12 @@ fn each_formula(found: &mut dyn FnMut(&[[u32; 5]])) {
         }
         smaller.push(formulas);
     }
+}
+
+/// A row with these rows named.
+fn naming(mut row: [u32; 5], tops: &[u32]) -> [u32; 5] {
+    naming_fields(row[0]).iter().zip(tops).for_each(|(&field, &top)| row[field] = top);
+    row
 }
 
 /// So many formulas side by side, of so many rows in all, in every order of their rows.
@@ -184,7 +185,7 @@ mod tests {
     use super::*;
 
     #[test]
-    fn they_are_as_many_as_ever_and_rise() {
+    fn they_rise_and_each_is_there_once() {
         let sheets = SmallSheets::all();
         let rows = |sheet: &Vec<u8>| sheet.len() / ROW_BYTES;
         let count = |number| sheets.list().iter().filter(|sheet| rows(sheet) == number).count();
