@@ -1,3 +1,2 @@
+pub mod Found
 pub mod Next
-pub mod Fronts
-pub mod Tests

@@ -1,18 +1,16 @@
 // The next small sheet (document 02, Job 14): given a sheet of the list, or none, the one behind it is written to lent memory. Refusals 11, 22, 23. The
 // definitions are specs/Next and sheet_listed's; the contract of `next_sheet`, which the entry point calls, is an equation on the answer and on every lent
 // byte, and asks nothing of its caller.
-pub mod contents; // contents.rt: the rows that a small sheet can have, by their number
-pub mod tests; // tests.rt: whether rows are a small sheet, and whether a row can stand in one
-pub mod search; // search.rt: the first small sheet that begins with given rows
+pub mod search;
 
-use crate::contents::row_at;
 use crate::search::behind;
-use crate::tests::SMALL_BYTES;
-use crate::tests::SMALL_FIELDS;
-use crate::tests::listed;
 use formula::Refusal;
 use formula::refusal_number;
 use sheet_fields::layout::ROW_BYTES;
+use sheet_stands::contents::row_at;
+use sheet_stands::tests::SMALL_BYTES;
+use sheet_stands::tests::SMALL_FIELDS;
+use sheet_stands::tests::listed;
 use sheet_tidy::rows::put_row;
 ghost use mathlib.Core.Path.{_≡_};
 ghost use Prim.Native.Nat.{_*_, _≤_};
@@ -20,7 +18,7 @@ ghost use lib.ListN.{length};
 ghost use lib.Seq.{sets};
 ghost use Rattle.formula.specs.Refusals.{numberOf};
 ghost use Rattle.sheet_tidied.specs.Text.{sheetText};
-ghost use Rattle.sheet_next.specs.Fronts.{fives};
+ghost use Rattle.sheet_stands.specs.Fronts.{fives};
 ghost use Rattle.sheet_next.specs.Next.{handed, answers, nextInto};
 
 // The answer: document 01's number of a refusal, 0 where accepted; its row, 0; the rows of the next sheet.

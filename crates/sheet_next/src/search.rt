@@ -1,18 +1,19 @@
 // The first small sheet that begins with given rows, and the one behind a given sheet (sheet_listed's specs/Search). A table has five fields a row;
 // `widths` and `masks` are those of the rows before r.
-use crate::contents::CONTENTS;
-use crate::contents::number_of;
-use crate::contents::put_content;
-use crate::tests::SMALL_ROWS;
-use crate::tests::passes;
-use crate::tests::stands;
 use sheet_fields::shape::FIELDS;
+use sheet_stands::contents::CONTENTS;
+use sheet_stands::contents::number_of;
+use sheet_stands::contents::put_content;
+use sheet_stands::tests::SMALL_ROWS;
+use sheet_stands::tests::passes;
+use sheet_stands::tests::stands;
 ghost use mathlib.Core.Path.{_≡_};
 ghost use mathlib.Core.List.{[], _∷_};
 ghost use Prim.Native.Nat.{_+_, _*_, _-_, _≤_, _<_, suc};
 ghost use lib.ListN.{length, take};
 ghost use Rattle.sheet_listed.specs.Search.{firstSmall, completions, searched, orElse, downFrom, upFrom};
-ghost use Rattle.sheet_next.specs.Fronts.{fieldRow, fives, Content, Front, Given, found, foundAs};
+ghost use Rattle.sheet_stands.specs.Fronts.{fieldRow, fives, Content, Front};
+ghost use Rattle.sheet_next.specs.Found.{Given, found, foundAs};
 
 // Rows r to n, the first of them number `start` or a later one, so that the n rows are a small sheet: the least such, where there is one.
 fn first_from(
@@ -23,10 +24,10 @@ fn first_from(
     r: usize,
     start: usize,
 ) -> bool
-    requires { ⌜ (1 ≤ r) × (r ≤ n) × (n ≤ 5) × (start ≤ 178) × (length (now t) ≡ 25) × Front (take (5 * (r - 1)) (now t)) (now widths) (now masks) (r - 1) ⌝ }
+    requires { ⌜ (1 ≤ r) × (r ≤ n) × (n ≤ 5) × (start ≤ 178) × (length (now t) ≡ 25) × Front (now t) (now widths) (now masks) (r - 1) ⌝ }
     ensures { λ b. ⌜ (found b (fives n (now (t .exit))) ≡ searched (fives (r - 1) (now (t .entry))) start (n - r))
         × (take (5 * (r - 1)) (now (t .exit)) ≡ take (5 * (r - 1)) (now (t .entry)))
-        × Front (take (5 * (r - 1)) (now (t .exit))) (now (widths .exit)) (now (masks .exit)) (r - 1) ⌝ }
+        × Front (now (t .exit)) (now (widths .exit)) (now (masks .exit)) (r - 1) ⌝ }
 {
     let mut k = start;
     while k < CONTENTS {
@@ -41,10 +42,10 @@ fn first_from(
 
 // The same with row r as it is.
 fn completes(t: &mut [u32], widths: &mut [u8], masks: &mut [u64], n: usize, r: usize) -> bool
-    requires { ⌜ (1 ≤ r) × (r ≤ n) × (n ≤ 5) × (length (now t) ≡ 25) × Content (fieldRow (now t) r) × Front (take (5 * (r - 1)) (now t)) (now widths) (now masks) (r - 1) ⌝ }
+    requires { ⌜ (1 ≤ r) × (r ≤ n) × (n ≤ 5) × (length (now t) ≡ 25) × Content (fieldRow (now t) r) × Front (now t) (now widths) (now masks) (r - 1) ⌝ }
     ensures { λ b. ⌜ (found b (fives n (now (t .exit))) ≡ firstSmall (completions (fives (r - 1) (now (t .entry))) (fieldRow (now (t .entry)) r ∷ []) (n - r)))
         × (take (5 * (r - 1)) (now (t .exit)) ≡ take (5 * (r - 1)) (now (t .entry)))
-        × Front (take (5 * (r - 1)) (now (t .exit))) (now (widths .exit)) (now (masks .exit)) (r - 1) ⌝ }
+        × Front (now (t .exit)) (now (widths .exit)) (now (masks .exit)) (r - 1) ⌝ }
 {
     let end = FIELDS * r;
     if !stands(&t[..end], r, widths, masks) {
@@ -59,7 +60,7 @@ fn completes(t: &mut [u32], widths: &mut [u8], masks: &mut [u64], n: usize, r: u
 // Fills the tables of the n rows of a small sheet.
 fn fill(t: &[u32], n: usize, widths: &mut [u8], masks: &mut [u64])
     requires { ⌜ Given (now t) n × (length (now widths) ≡ 5) × (length (now masks) ≡ 5) ⌝ }
-    ensures { λ _. ⌜ Front (take (5 * n) (now (t .entry))) (now (widths .exit)) (now (masks .exit)) n ⌝ }
+    ensures { λ _. ⌜ Front (now (t .entry)) (now (widths .exit)) (now (masks .exit)) n ⌝ }
 {
     let mut r = 0;
     while r < n {
