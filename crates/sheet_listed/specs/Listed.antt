@@ -100,16 +100,15 @@ small-up-to n s h u =
     (among-up-to n (rowCount s) (rowsOf s) (k .rowwise .some) u (among-sheets (rowCount s) (rowsOf s) (small-rows s h)))))
     h
 
-small-listed : (s : List ℕ) → isSmall s ≡ true → Among s smallSheets
-unfolding smallSheets
-small-listed s h = small-up-to 5 s h (small-has s h .few)
-
 pub small-sheets : smallSheets ≡ filtered isSmall (map sheetText (sheetsUpTo 5))
 unfolding smallSheets
 small-sheets = refl
 
 listed-small : (s : List ℕ) → Among s smallSheets → isSmall s ≡ true
 listed-small s a = filtered-among isSmall s (map sheetText (sheetsUpTo 5)) (subst (Among s) small-sheets a) .1
+
+small-listed : (s : List ℕ) → isSmall s ≡ true → Among s smallSheets
+small-listed s h = subst (Among s) (sym small-sheets) (small-up-to 5 s h (small-has s h .few))
 
 -- The list is exactly the small sheets.
 pub listed-iff : (s : List ℕ) → Among s smallSheets ↔ (isSmall s ≡ true)

@@ -88,60 +88,48 @@ module _ (a b c d : ℕ) where
 
 -- ---- the list, field by field
 
-abbrev withD : ℕ → ℕ → ℕ → ℕ → ℕ → List (List ℕ)
-withD n kind a b c = map (λ d. kind ∷ a ∷ b ∷ c ∷ d ∷ []) (countFrom 0 n)
+abbrev withD : ℕ → ℕ → ℕ → ℕ → List (List ℕ)
+withD kind a b c = map (λ d. kind ∷ a ∷ b ∷ c ∷ d ∷ []) (countFrom 0 5)
 
-abbrev withC : ℕ → ℕ → ℕ → ℕ → ℕ → List (List ℕ)
-withC m n kind a b = each (withD n kind a b) (countFrom 0 m)
+abbrev withC : ℕ → ℕ → ℕ → List (List ℕ)
+withC kind a b = each (withD kind a b) (countFrom 0 5)
 
-abbrev withB : ℕ → ℕ → ℕ → ℕ → ℕ → List (List ℕ)
-withB l m n kind a = each (withC m n kind a) (countFrom 0 l)
+abbrev withB : ℕ → ℕ → List (List ℕ)
+withB kind a = each (withC kind a) (countFrom 0 5)
 
-abbrev withA : ℕ → ℕ → ℕ → ℕ → ℕ → List (List ℕ)
-withA k l m n kind = each (withB l m n kind) (countFrom 0 k)
+abbrev withA : ℕ → List (List ℕ)
+withA kind = each (withB kind) (countFrom 0 12)
 
--- All rows of kinds 1 to j and of fields below four bounds.
-abbrev rowsBelow : ℕ → ℕ → ℕ → ℕ → ℕ → List (List ℕ)
-rowsBelow j k l m n = each (withA k l m n) (countFrom 1 j)
-
-module _ (j k l m n : ℕ) where
-  among-below : (kind a b c d : ℕ) → 1 ≤ kind → kind ≤ j → a < k → b < l → c < m → d < n → Among (kind ∷ a ∷ b ∷ c ∷ d ∷ []) (rowsBelow j k l m n)
-  among-below kind a b c d low high ha hb hc hd =
-      let row : List ℕ = kind ∷ a ∷ b ∷ c ∷ d ∷ [] in
-      among-each (withA k l m n) kind (countFrom 1 j) row (among-counted kind 1 j low (omega arith))
-      (among-each (withB l m n kind) a (countFrom 0 k) row (among-counted a 0 k (omega arith) (omega arith))
-      (among-each (withC m n kind a) b (countFrom 0 l) row (among-counted b 0 l (omega arith) (omega arith))
-      (among-each (withD n kind a b) c (countFrom 0 m) row (among-counted c 0 m (omega arith) (omega arith))
-      (among-map (λ d. kind ∷ a ∷ b ∷ c ∷ d ∷ []) d (countFrom 0 n) (among-counted d 0 n (omega arith) (omega arith))))))
-
-  below-among : (q : List ℕ) → Among q (rowsBelow j k l m n) → j ≤ 999999 → k ≤ 999999 → l ≤ 999999 → m ≤ 999999 → n ≤ 999999 → Row q
-  below-among q z hj hk hl hm hn = each-among (withA k l m n) Row (countFrom 1 j) (λ kind e.
-      each-among (withB l m n kind) Row (countFrom 0 k) (λ a f.
-      each-among (withC m n kind a) Row (countFrom 0 l) (λ b g.
-      each-among (withD n kind a b) Row (countFrom 0 m) (λ c h.
-      map-among (λ d. kind ∷ a ∷ b ∷ c ∷ d ∷ []) Row (countFrom 0 n) (λ d i.
-      five kind a b c d
-      (omega (arith, counted-among kind 1 j e .1))
-      (omega (arith, counted-among a 0 k f .1))
-      (omega (arith, counted-among b 0 l g .1))
-      (omega (arith, counted-among c 0 m h .1))
-      (omega (arith, counted-among d 0 n i .1)))))))
-      q z
-
--- A small row of kind 1 to 9 is counted, and so one of the list.
-among-counted-rows : (kind a b c d : ℕ) → 1 ≤ kind → kind ≤ 9 → Counted a b c d → Among (kind ∷ a ∷ b ∷ c ∷ d ∷ []) countedRows
+among-rows : (kind a b c d : ℕ) → 1 ≤ kind → kind ≤ 9 → Counted a b c d → Among (kind ∷ a ∷ b ∷ c ∷ d ∷ []) countedRows
 unfolding countedRows
-among-counted-rows kind a b c d l u h = among-below 9 12 5 5 5 kind a b c d l u (h .0) (h .1) (h .2) (h .3)
+among-rows kind a b c d l u h =
+    let row : List ℕ = kind ∷ a ∷ b ∷ c ∷ d ∷ [] in
+    among-each withA kind (countFrom 1 9) row (among-counted kind 1 9 l (omega arith))
+    (among-each (withB kind) a (countFrom 0 12) row (among-counted a 0 12 (omega arith) (omega (arith, h .0)))
+    (among-each (withC kind a) b (countFrom 0 5) row (among-counted b 0 5 (omega arith) (omega (arith, h .1)))
+    (among-each (withD kind a b) c (countFrom 0 5) row (among-counted c 0 5 (omega arith) (omega (arith, h .2)))
+    (among-map (λ d. kind ∷ a ∷ b ∷ c ∷ d ∷ []) d (countFrom 0 5) (among-counted d 0 5 (omega arith) (omega (arith, h .3)))))))
 
+rows-among : (q : List ℕ) → Among q countedRows → Row q
+unfolding countedRows
+rows-among = each-among withA Row (countFrom 1 9) (λ kind i.
+    each-among (withB kind) Row (countFrom 0 12) (λ a j.
+    each-among (withC kind a) Row (countFrom 0 5) (λ b k.
+    each-among (withD kind a b) Row (countFrom 0 5) (λ c l.
+    map-among (λ d. kind ∷ a ∷ b ∷ c ∷ d ∷ []) Row (countFrom 0 5) (λ d m.
+    five kind a b c d
+    (omega (arith, counted-among kind 1 9 i .1))
+    (omega (arith, counted-among a 0 12 j .1))
+    (omega (arith, counted-among b 0 5 k .1))
+    (omega (arith, counted-among c 0 5 l .1))
+    (omega (arith, counted-among d 0 5 m .1)))))))
+
+-- A small row of kind 1 to 9 is one of the list.
 pub row-listed : (kind a b c d : ℕ) → 1 ≤ kind → kind ≤ 9 → smallRow (kind ∷ a ∷ b ∷ c ∷ d ∷ []) ≡ true → Among (kind ∷ a ∷ b ∷ c ∷ d ∷ []) smallRows
 unfolding smallRows
 row-listed kind a b c d l u h =
     let row : List ℕ = kind ∷ a ∷ b ∷ c ∷ d ∷ [] in
-    among-filtered smallRow row countedRows (among-counted-rows kind a b c d l u (small-counted a b c d kind l u h)) h
-
-rows-among : (q : List ℕ) → Among q countedRows → Row q
-unfolding countedRows
-rows-among q h = below-among 9 12 5 5 5 q h (omega arith) (omega arith) (omega arith) (omega arith) (omega arith)
+    among-filtered smallRow row countedRows (among-rows kind a b c d l u (small-counted a b c d kind l u h)) h
 
 -- Each of the list is small, with five fields that a sheet can hold.
 pub listed-row : (q : List ℕ) → Among q smallRows → Row q × (smallRow q ≡ true)
