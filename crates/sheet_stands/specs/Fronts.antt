@@ -3,24 +3,20 @@
 use Prim.Native.Nat.{ℕ, zero, suc, _≤_, _<_}
 use mathlib.Core.Path.{_≡_}
 use mathlib.Core.Bool.{true}
-use mathlib.Core.List.{List, [], _∷_}
-use lib.ListN.{length, take, drop}
+use mathlib.Core.List.{List, [], _∷_, _++_}
+use lib.ListN.{length}
 use Rattle.names.specs.Names.{mask}
-use Rattle.formula.specs.Sheet.{field}
 use Rattle.formula.specs.Tree.{expOf}
 use Rattle.formula.specs.Widths.{width}
 use Rattle.formula.specs.Free.{freeE}
 use Rattle.sheet_tables.specs.Nodes.{Holds}
 use Rattle.sheet_listed.specs.Search.{Rows, contentAt, standsAt}
+use Rattle.sheet_listed.specs.Texts.{fieldRow}
 
--- The fields of row r of a table.
-abbrev pub fieldRow : List ℕ → ℕ → List ℕ
-fieldRow t r = field t r 0 ∷ field t r 1 ∷ field t r 2 ∷ field t r 3 ∷ field t r 4 ∷ []
-
--- A table of fields cut into rows of five.
-unfoldable pub fives : ℕ → List ℕ → Rows
-fives zero t = []
-fives (suc n) t = take 5 t ∷ fives n (drop 5 t)
+-- The first n rows of a table.
+unfoldable pub rowsTo : ℕ → List ℕ → Rows
+rowsTo zero t = []
+rowsTo (suc n) t = rowsTo n t ++ (fieldRow t (suc n) ∷ [])
 
 -- A row that a small sheet can have, by its number.
 pub record Content (q : List ℕ) : Type 0 where

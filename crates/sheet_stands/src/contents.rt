@@ -9,7 +9,7 @@ ghost use lib.ListN.{length};
 ghost use lib.Seq.{sets};
 ghost use Rattle.sheet_listed.specs.Search.{contentAt, sameRow, placeOf};
 ghost use Rattle.sheet_tidy.specs.Rows.{listed};
-ghost use Rattle.sheet_stands.specs.Fronts.{fieldRow};
+ghost use Rattle.sheet_listed.specs.Texts.{fieldRow};
 
 // How many there are.
 pub const CONTENTS: usize = 178;

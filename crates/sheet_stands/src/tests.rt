@@ -31,7 +31,8 @@ ghost use Rattle.formula.specs.TreeLaws.{AllBetween};
 ghost use Rattle.sheet_tables.specs.Ready.{Ready};
 ghost use Rattle.sheet_listed.specs.Small.{modest as modestShape, modestRow, isSmall};
 ghost use Rattle.sheet_listed.specs.Search.{onceEach, standsAt};
-ghost use Rattle.sheet_stands.specs.Fronts.{fieldRow, Content, Front};
+ghost use Rattle.sheet_listed.specs.Texts.{fieldRow};
+ghost use Rattle.sheet_stands.specs.Fronts.{Content, Front};
 ghost use Rattle.sheet_stands.specs.Tests.{allOnce, formulaPasses, tablesPass};
 
 // The rows of the longest small sheet, their fields and their bytes.
