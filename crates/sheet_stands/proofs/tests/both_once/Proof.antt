@@ -9,19 +9,19 @@ use Rattle.sheet_stands.proofs.tests.once.Reads as once-reads
 use mathlib.Core.Path.{sym}
 use borrow.Author.Tests.{not-true, not-false}
 
--- src/tests.rt:63:9  { ⏎ if !once(times, x) {
+-- src/tests.rt:64:9  { ⏎ if !once(times, x) {
 once-requires : tie.Need-once-requires
 once-requires c κs = search needs
 
--- src/tests.rt:64:9  if !once(times, x) { ⏎ return false;
+-- src/tests.rt:65:9  if !once(times, x) { ⏎ return false;
 returns : tie.Need-returns
 returns c = simp (sym (c .before .once .ensures), not-true (c .before .once .result) (c .if1 .taken))
 
--- src/tests.rt:66:5  } ⏎ once(times, y)
+-- src/tests.rt:67:5  } ⏎ once(times, y)
 once-requires-2 : tie.Need-once-requires-2
 once-requires-2 c κs = search needs
 
--- src/tests.rt:59:1  } ⏎ fn both_once(times: &[u8], x: usize, y: usize) -> bool
+-- src/tests.rt:60:1  } ⏎ fn both_once(times: &[u8], x: usize, y: usize) -> bool
 returns-2 : tie.Need-returns-2
 returns-2 c = simp (sym (c .before .before .once .ensures), not-false (c .before .before .once .result) (c .before .if1 .left), c .once2 .ensures)
 
