@@ -1,5 +1,5 @@
 -- Laws of the tests: rows named once by a tally, the tests of whole rows in their order, and a small sheet by its tests. Assumes nothing.
-use Prim.Native.Nat.{ℕ, _+_, _-_, _≤_, _<_}
+use Prim.Native.Nat.{ℕ, _+_, _*_, _-_, _≤_, _<_}
 use mathlib.Core.Path.{_≡_, refl, sym, ap, _∙_}
 use mathlib.Core.Bool.{Bool, true, false, _&&_, false≢true}
 use mathlib.Core.List.{List, [], _∷_}
@@ -14,14 +14,15 @@ use Rattle.formula.specs.declared.Verdict.{Verdict}
 use Rattle.formula.specs.declared.Verdict.the-variants.{Passed as passed, Refused}
 use Rattle.formula.specs.Sheet.{rowCount, fieldsOf, field, shapeAt, namedIn}
 use Rattle.formula.specs.Places.{placesOf}
-use Rattle.formula.specs.Tests.{lowest, is-passed, namesWell, allNamed, namedOnce, placedWell, widthsWell, boundWell, afterCheck, verdictBy, rowTests, formulaTests, sheetOf}
+use Rattle.formula.specs.Tests.{lowest, is-passed, rangesWell, namesWell, allNamed, namedOnce, placedWell, widthsWell, boundWell, afterCheck, verdictBy, rowTests, formulaTests, sheetOf}
+use Rattle.formula.specs.SheetLaws.{fields-length}
 use Rattle.formula.specs.TestLaws.{each-passed}
 use Rattle.formula.specs.TreeLaws.{AllBetween}
 use Rattle.formula.specs.Verdicts.{then, then-behind}
 use Rattle.sheet_rows.specs.Tallies.{tallied}
 use Rattle.sheet_rows.proofs.RowLaws.{named-by, tallied-row}
 use Rattle.sheet_read.specs.Reading.{rowsIn, rowVerdict}
-use Rattle.sheet_tidied.specs.Rowwise.{rowwise-passes}
+use Rattle.sheet_tidied.specs.Rowwise.{passes-rowwise, rowwise-passes}
 use Rattle.sheet_tidy.proofs.KeptLaws.{between-wider}
 use Rattle.sheet_listed.specs.Small.{isPassed, modest, modestRow, passesNine, isSmall}
 use Rattle.sheet_listed.specs.Search.{onceEach}
@@ -88,6 +89,16 @@ module _ (s : List ℕ) where
   pub not-modest : is-passed (lowest (rowCount s) (modestRow (fieldsOf s))) ≡ false → isSmall s ≡ false
   not-modest e =
       not-small s (λ h. false≢true (sym e ∙ ap is-passed (each-passed (rowCount s) (modestRow (fieldsOf s)) (small-has s h .modestly))))
+
+  module _ (h : rowVerdict s ≡ passed) (t : List ℕ) (e : t ≡ fieldsOf s) where
+    pub table-size : length t ≡ 5 * rowCount s
+    table-size = ap length e ∙ fields-length s
+
+    pub rows-ranged : lowest (rowCount s) (rangesWell t) ≡ Passed
+    rows-ranged = rw e (each-passed (rowCount s) (rangesWell (fieldsOf s)) (passes-rowwise s h .ranged))
+
+    pub rows-named : lowest (rowCount s) (namesWell t) ≡ Passed
+    rows-named = rw e (each-passed (rowCount s) (namesWell (fieldsOf s)) (passes-rowwise s h .names))
 
   by-formula : rowVerdict s ≡ passed → passesNine s ≡ formulaPasses (fieldsOf s) (rowCount s)
   unfolding passesNine rowVerdict formulaPasses verdictBy formulaTests sheetOf
