@@ -6,7 +6,8 @@ use mathlib.Core.List.{List}
 use mathlib.Core.Option.{Option, some, none}
 use lib.ListN.{length}
 use Rattle.sheet_listed.specs.Search.{Rows, standsAt}
-use Rattle.sheet_stands.specs.Fronts.{fieldRow, Content}
+use Rattle.sheet_listed.specs.Texts.{fieldRow}
+use Rattle.sheet_stands.specs.Fronts.{Content}
 
 -- The n rows of a small sheet, in a table of five.
 pub record Given (t : List ℕ) (n : ℕ) : Type 0 where

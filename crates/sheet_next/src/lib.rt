@@ -18,7 +18,7 @@ ghost use lib.ListN.{length};
 ghost use lib.Seq.{sets};
 ghost use Rattle.formula.specs.Refusals.{numberOf};
 ghost use Rattle.sheet_tidied.specs.Text.{sheetText};
-ghost use Rattle.sheet_stands.specs.Fronts.{fives};
+ghost use Rattle.sheet_stands.specs.Fronts.{rowsTo};
 ghost use Rattle.sheet_next.specs.Next.{handed, answers, nextInto};
 
 // The answer: document 01's number of a refusal, 0 where accepted; its row, 0; the rows of the next sheet.
@@ -42,7 +42,7 @@ fn refused(r: Refusal) -> NextAnswer
 // Writes the first n rows of a table.
 fn write_rows(fields: &[u32], n: usize, out: &mut [u8])
     requires { ⌜ (5 * n ≤ length (now fields)) × (31 * n ≤ length (now out)) ⌝ }
-    ensures { λ _. ⌜ now (out .exit) ≡ sets (now (out .entry)) 0 (sheetText (fives n (now (fields .entry)))) ⌝ }
+    ensures { λ _. ⌜ now (out .exit) ≡ sets (now (out .entry)) 0 (sheetText (rowsTo n (now (fields .entry)))) ⌝ }
 {
     let mut i = 0;
     while i < n {

@@ -8,11 +8,13 @@ use sheet_stands::tests::SMALL_ROWS;
 use sheet_stands::tests::passes;
 use sheet_stands::tests::stands;
 ghost use mathlib.Core.Path.{_≡_};
-ghost use mathlib.Core.List.{[], _∷_};
 ghost use Prim.Native.Nat.{_+_, _*_, _-_, _≤_, _<_, suc};
-ghost use lib.ListN.{length, take};
-ghost use Rattle.sheet_listed.specs.Search.{firstSmall, completions, searched, orElse, downFrom, upFrom};
-ghost use Rattle.sheet_stands.specs.Fronts.{fieldRow, fives, Content, Front};
+ghost use lib.ListN.{length};
+ghost use Rattle.sheet_listed.specs.Search.{firstSmall, searched, orElse, downFrom, upFrom};
+ghost use Rattle.sheet_listed.specs.SearchLaws.{behindRow};
+ghost use Rattle.sheet_listed.specs.Standing.{Agree};
+ghost use Rattle.sheet_listed.specs.Texts.{fieldRow};
+ghost use Rattle.sheet_stands.specs.Fronts.{rowsTo, Content, Front};
 ghost use Rattle.sheet_next.specs.Found.{Given, found, foundAs};
 
 // Rows r to n, the first of them number `start` or a later one, so that the n rows are a small sheet: the least such, where there is one.
@@ -25,8 +27,8 @@ fn first_from(
     start: usize,
 ) -> bool
     requires { ⌜ (1 ≤ r) × (r ≤ n) × (n ≤ 5) × (start ≤ 178) × (length (now t) ≡ 25) × Front (now t) (now widths) (now masks) (r - 1) ⌝ }
-    ensures { λ b. ⌜ (found b (fives n (now (t .exit))) ≡ searched (fives (r - 1) (now (t .entry))) start (n - r))
-        × (take (5 * (r - 1)) (now (t .exit)) ≡ take (5 * (r - 1)) (now (t .entry)))
+    ensures { λ b. ⌜ (found b (rowsTo n (now (t .exit))) ≡ searched (rowsTo (r - 1) (now (t .entry))) start (n - r))
+        × Agree (r - 1) (now (t .exit)) (now (t .entry))
         × Front (now (t .exit)) (now (widths .exit)) (now (masks .exit)) (r - 1) ⌝ }
 {
     let mut k = start;
@@ -43,8 +45,8 @@ fn first_from(
 // The same with row r as it is.
 fn completes(t: &mut [u32], widths: &mut [u8], masks: &mut [u64], n: usize, r: usize) -> bool
     requires { ⌜ (1 ≤ r) × (r ≤ n) × (n ≤ 5) × (length (now t) ≡ 25) × Content (fieldRow (now t) r) × Front (now t) (now widths) (now masks) (r - 1) ⌝ }
-    ensures { λ b. ⌜ (found b (fives n (now (t .exit))) ≡ firstSmall (completions (fives (r - 1) (now (t .entry))) (fieldRow (now (t .entry)) r ∷ []) (n - r)))
-        × (take (5 * (r - 1)) (now (t .exit)) ≡ take (5 * (r - 1)) (now (t .entry)))
+    ensures { λ b. ⌜ (found b (rowsTo n (now (t .exit))) ≡ firstSmall (behindRow (rowsTo (r - 1) (now (t .entry))) (fieldRow (now (t .entry)) r) (n - r)))
+        × Agree (r - 1) (now (t .exit)) (now (t .entry))
         × Front (now (t .exit)) (now (widths .exit)) (now (masks .exit)) (r - 1) ⌝ }
 {
     let end = FIELDS * r;
@@ -73,7 +75,7 @@ fn fill(t: &[u32], n: usize, widths: &mut [u8], masks: &mut [u64])
 // The small sheet behind the one of n rows in `t`, with as many rows: from the last row's number up, then the row's before it, and so on.
 fn as_long(t: &mut [u32], n: usize) -> bool
     requires { ⌜ Given (now t) n ⌝ }
-    ensures { λ b. ⌜ found b (fives n (now (t .exit))) ≡ downFrom n (fives n (now (t .entry))) ⌝ }
+    ensures { λ b. ⌜ found b (rowsTo n (now (t .exit))) ≡ downFrom n (rowsTo n (now (t .entry))) ⌝ }
 {
     let mut widths = [0; SMALL_ROWS];
     let mut masks = [0; SMALL_ROWS];
@@ -92,7 +94,7 @@ fn as_long(t: &mut [u32], n: usize) -> bool
 // The first small sheet with more than n rows; the answer is its rows, 0 where there is none.
 fn longer(t: &mut [u32], n: usize) -> usize
     requires { ⌜ (length (now t) ≡ 25) × (n ≤ 5) ⌝ }
-    ensures { λ m. ⌜ (foundAs m (fives m (now (t .exit))) ≡ upFrom (suc n) (5 - n)) × (m ≤ 5) ⌝ }
+    ensures { λ m. ⌜ (foundAs m (rowsTo m (now (t .exit))) ≡ upFrom (suc n) (5 - n)) × (m ≤ 5) ⌝ }
 {
     let mut widths = [0; SMALL_ROWS];
     let mut masks = [0; SMALL_ROWS];
@@ -109,7 +111,7 @@ fn longer(t: &mut [u32], n: usize) -> usize
 // The small sheet behind the one of n rows in `t`, or the first where n is 0; the answer is its rows, 0 where there is none.
 pub fn behind(t: &mut [u32], n: usize) -> usize
     requires { ⌜ Given (now t) n ⌝ }
-    ensures { λ m. ⌜ (foundAs m (fives m (now (t .exit))) ≡ orElse (downFrom n (fives n (now (t .entry)))) (upFrom (suc n) (5 - n))) × (m ≤ 5) ⌝ }
+    ensures { λ m. ⌜ (foundAs m (rowsTo m (now (t .exit))) ≡ orElse (downFrom n (rowsTo n (now (t .entry)))) (upFrom (suc n) (5 - n))) × (m ≤ 5) ⌝ }
 {
     if as_long(t, n) {
         return n;

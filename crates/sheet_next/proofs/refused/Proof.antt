@@ -1,0 +1,17 @@
+use borrow.Author.Needs.{needs}
+use Rattle.sheet_next.proofs.refused.Statement.{statement}
+use Rattle.sheet_next.proofs.refused.Tie as tie
+use Rattle.sheet_next.proofs.refused.Reads as reads
+use Rattle.sheet_next.proofs.refused.Lts as lts
+use Rattle.formula.proofs.refusal_number.Reads as refusal-number-reads
+
+-- src/lib.rt:36:18
+refusal-number-requires : tie.Need-refusal-number-requires
+refusal-number-requires c κs = search needs
+
+-- src/lib.rt:32:1
+returns : tie.Need-returns
+returns c = ?
+
+pub refused-spec : {M : Type 1} → statement M
+refused-spec = tie.close (tie.spec refusal-number-requires returns)
