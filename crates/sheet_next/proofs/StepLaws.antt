@@ -114,8 +114,12 @@ module _ (t u : List ℕ) (r k : ℕ) (a : 1 ≤ r) (b : r ≤ 5) (low : k < 178
   pub laid-content : Content (fieldRow u r)
   laid-content = record { number = k; low = low; is = laid-row }
 
-  pub laid-before : Agree (r - 1) u t
+  laid-before : Agree (r - 1) u t
   laid-before = rw laid (put-before t (contentAt k) (content-row (contentAt k) content) r a (omega arith))
+
+  -- Rows that stay with u stay with what t stays with.
+  pub laid-stays : (x v : List ℕ) → Agree (r - 1) x u → Agree (r - 1) t v → Agree (r - 1) x v
+  laid-stays x v g h = agree-then (r - 1) x u v g (agree-then (r - 1) u t v laid-before h)
 
   pub laid-size : length u ≡ 25
   laid-size = ap length laid ∙ length-sets t (5 * (r - 1)) (contentAt k) ∙ size
