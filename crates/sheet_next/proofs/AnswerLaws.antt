@@ -57,6 +57,10 @@ text-bytes (suc n) t =
     ∙ length-append (sheetText (rowsTo n t)) (rowText (fieldRow t (n + 1)))
     ∙ omega (arith, text-bytes n t, row-bytes t (n + 1))
 
+pub nothing-written : (t out : List ℕ) → out ≡ sets out 0 (sheetText (rowsTo 0 t))
+unfolding rowsTo sheetText
+nothing-written t out = refl
+
 pub row-written : (t out : List ℕ) (i : ℕ) → 31 * i + 31 ≤ length out
     → sets (sets out 0 (sheetText (rowsTo i t))) (31 * i) (rowText (fieldRow t (i + 1))) ≡ sets out 0 (sheetText (rowsTo (i + 1) t))
 row-written t out i h =
