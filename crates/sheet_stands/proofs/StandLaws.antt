@@ -175,9 +175,9 @@ module _ (t w m : List ℕ) (r : ℕ) (a : 1 ≤ r) (q : Content (fieldRow t r))
         content = λ k b c. each k b c (ℕ-discrete k r);
         stand = λ k b c. stands k b c (ℕ-discrete k r);
         widths = subst (λ (i : ℕ). Holds 0 (set w (r - 1) x) i (λ k. width (expOf t k))) z
-        (holds-more 0 w (r - 1) (λ k. width (expOf t k)) x (f .widths) (omega (arith, f .widths-size)) (rw z d));
+            (holds-more 0 w (r - 1) (λ k. width (expOf t k)) x (f .widths) (omega (arith, f .widths-size)) (rw z d));
         masks = subst (λ (i : ℕ). Holds 0 (set m (r - 1) y) i (λ k. mask (freeE (expOf t k)))) z
-        (holds-more 0 m (r - 1) (λ k. mask (freeE (expOf t k))) y (f .masks) (omega (arith, f .masks-size)) (rw z e));
+            (holds-more 0 m (r - 1) (λ k. mask (freeE (expOf t k))) y (f .masks) (omega (arith, f .masks-size)) (rw z e));
         widths-size = length-set w (r - 1) x ∙ f .widths-size;
         masks-size = length-set m (r - 1) y ∙ f .masks-size;
       }

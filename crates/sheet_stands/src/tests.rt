@@ -78,7 +78,13 @@ fn each_once(times: &[u8], s: Shape) -> bool
         Shape::Pair(a, b) => both_once(times, a, b),
         Shape::Operator(_, b) => once(times, b),
         Shape::Let(_, _, c, d) => both_once(times, c, d),
-        Shape::If(a, b, c) => { if once(times, a) { both_once(times, b, c) } else { false } }
+        Shape::If(a, b, c) => {
+            if once(times, a) {
+                both_once(times, b, c)
+            } else {
+                false
+            }
+        }
         Shape::For(_, _, c, d) => both_once(times, c, d),
         Shape::Iter(a) => once(times, a),
     }
