@@ -1,7 +1,7 @@
 // The next small sheet (document 02, Job 14): given a sheet of the list, or none, the one behind it is written to lent memory. Refusals 11, 22, 23. The
 // definitions are specs/Next and sheet_listed's; the contract of `next_sheet`, which the entry point calls, is an equation on the answer and on every lent
 // byte, and asks nothing of its caller.
-pub mod search;
+pub mod search; // search.rt: the first small sheet behind given rows
 
 use crate::search::behind;
 use formula::Refusal;

@@ -58,7 +58,7 @@ fn number(i: usize) -> u32
     (1 + i) as u32
 }
 
-// Row number i, counted from 0, of those of one kind that name two rows, the first of which may be a code.
+// Row number i, counted from 0, of the pairs or of the operators: a counts from 1 on, b is one of the rows 1 to 4.
 fn two_fields(kind: u32, i: usize) -> RowFields
     requires { ⌜ i < 44 ⌝ }
     ensures { λ r. ⌜ r ≡ record { kind = kind; a = 1 + i / 4; b = 1 + i % 4; c = 0; d = 0 } ⌝ }
