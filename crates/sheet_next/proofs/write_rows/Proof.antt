@@ -6,7 +6,7 @@ use Rattle.sheet_next.proofs.write_rows.Lts as lts
 use Rattle.sheet_stands.proofs.contents.row_at.Reads as row-at-reads
 use Rattle.sheet_tidy.proofs.rows.put_row.Reads as put-row-reads
 use Prim.Native.Nat.{ℕ, _+_, _*_, _-_, _≤_}
-use mathlib.Core.Path.{_≡_, refl, sym, ap, _∙_}
+use mathlib.Core.Path.{_≡_, refl, ap, _∙_}
 use mathlib.Core.List.{List}
 use native.Mathlib.Omega.{arith}
 use lib.ListN.{length}
@@ -52,14 +52,12 @@ loop-less c = search needs
 
 -- src/lib.rt:48:5  let mut i = 0; ⏎ while i < n {
 loop-again : tie.Need-loop-again Inv-loop μ-loop
-loop-again c = (
-  omega arith,
-  c .before .before .put-row .kept .0 ∙ c .before .before .before .before .before .before .loop .inv .1,
-  c .before .before .put-row .ensures
-      ∙ ap (λ (q : List ℕ). sets (c .before .before .before .before .before .before .loop .out) (31 * c .before .before .before .before .before .before .loop .i) (rowText q)) (c .before .before .before .row-at .ensures)
-      ∙ ap (λ (o : List ℕ). sets o (31 * c .before .before .before .before .before .before .loop .i) (rowText (fieldRow (c .before .before .before .before .before .before .before .before .before .args .fields .now) (c .before .before .before .before .before .before .loop .i + 1)))) (c .before .before .before .before .before .before .loop .inv .2)
-      ∙ row-written (c .before .before .before .before .before .before .before .before .before .args .fields .now) (c .before .before .before .before .before .before .before .before .before .args .out .now) (c .before .before .before .before .before .before .loop .i) (omega (arith, c .before .before .before .before .before .before .before .before .before .pre .1)),
-)
+loop-again c =
+    (omega arith, c .before .before .put-row .kept .0 ∙ c .before .before .before .before .before .before .loop .inv .1,
+    c .before .before .put-row .ensures
+    ∙ ap (λ (q : List ℕ). sets (c .before .before .before .before .before .before .loop .out) (31 * c .before .before .before .before .before .before .loop .i) (rowText q)) (c .before .before .before .row-at .ensures)
+    ∙ ap (λ (o : List ℕ). sets o (31 * c .before .before .before .before .before .before .loop .i) (rowText (fieldRow (c .before .before .before .before .before .before .before .before .before .args .fields .now) (c .before .before .before .before .before .before .loop .i + 1)))) (c .before .before .before .before .before .before .loop .inv .2)
+    ∙ row-written (c .before .before .before .before .before .before .before .before .before .args .fields .now) (c .before .before .before .before .before .before .before .before .before .args .out .now) (c .before .before .before .before .before .before .loop .i) (omega (arith, c .before .before .before .before .before .before .before .before .before .pre .1)))
 
 -- src/lib.rt:43:1  // Writes the first n rows of a table. ⏎ fn write_rows(fields: &[u32], n: usize, out: &mut [u8])
 same-length : tie.Need-same-length Inv-loop μ-loop
