@@ -59,7 +59,7 @@ fn completes(t: &mut [u32], widths: &mut [u8], masks: &mut [u64], n: usize, r: u
     first_from(t, widths, masks, n, r + 1, 0)
 }
 
-// Fills the tables of the n rows of a small sheet.
+// Fills the tables of the n rows of a small sheet, each of which stands.
 fn fill(t: &[u32], n: usize, widths: &mut [u8], masks: &mut [u64])
     requires { ⌜ Given (now t) n × (length (now widths) ≡ 5) × (length (now masks) ≡ 5) ⌝ }
     ensures { λ _. ⌜ Front (now (t .entry)) (now (widths .exit)) (now (masks .exit)) n ⌝ }

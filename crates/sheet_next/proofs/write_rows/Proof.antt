@@ -52,12 +52,14 @@ loop-less c = search needs
 
 -- src/lib.rt:48:5  let mut i = 0; ⏎ while i < n {
 loop-again : tie.Need-loop-again Inv-loop μ-loop
-loop-again c =
-    (omega arith, c .before .before .put-row .kept .0 ∙ c .before .before .before .before .before .before .loop .inv .1,
-    c .before .before .put-row .ensures
-    ∙ ap (λ (q : List ℕ). sets (c .before .before .before .before .before .before .loop .out) (31 * c .before .before .before .before .before .before .loop .i) (rowText q)) (c .before .before .before .row-at .ensures)
-    ∙ ap (λ (o : List ℕ). sets o (31 * c .before .before .before .before .before .before .loop .i) (rowText (fieldRow (c .before .before .before .before .before .before .before .before .before .args .fields .now) (c .before .before .before .before .before .before .loop .i + 1)))) (c .before .before .before .before .before .before .loop .inv .2)
-    ∙ row-written (c .before .before .before .before .before .before .before .before .before .args .fields .now) (c .before .before .before .before .before .before .before .before .before .args .out .now) (c .before .before .before .before .before .before .loop .i) (omega (arith, c .before .before .before .before .before .before .before .before .before .pre .1)))
+loop-again c = (
+  omega arith,
+  c .before .before .put-row .kept .0 ∙ c .before .before .before .before .before .before .loop .inv .1,
+  c .before .before .put-row .ensures
+      ∙ ap (λ (q : List ℕ). sets (c .before .before .before .before .before .before .loop .out) (31 * c .before .before .before .before .before .before .loop .i) (rowText q)) (c .before .before .before .row-at .ensures)
+      ∙ ap (λ (o : List ℕ). sets o (31 * c .before .before .before .before .before .before .loop .i) (rowText (fieldRow (c .before .before .before .before .before .before .before .before .before .args .fields .now) (c .before .before .before .before .before .before .loop .i + 1)))) (c .before .before .before .before .before .before .loop .inv .2)
+      ∙ row-written (c .before .before .before .before .before .before .before .before .before .args .fields .now) (c .before .before .before .before .before .before .before .before .before .args .out .now) (c .before .before .before .before .before .before .loop .i) (omega (arith, c .before .before .before .before .before .before .before .before .before .pre .1)),
+)
 
 -- src/lib.rt:43:1  // Writes the first n rows of a table. ⏎ fn write_rows(fields: &[u32], n: usize, out: &mut [u8])
 same-length : tie.Need-same-length Inv-loop μ-loop

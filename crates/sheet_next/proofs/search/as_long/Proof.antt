@@ -84,11 +84,13 @@ loop-less c = search needs
 
 -- src/search.rt:84:5  let mut r = n; ⏎ while 0 < r {
 loop-again : tie.Need-loop-again Inv-loop μ-loop
-loop-again c =
-    (omega arith, c .before .before .before .before .before .first-from .kept .0 ∙ c .before .before .before .before .before .before .before .before .before .before .before .before .loop .inv .1,
-    agree-then (c .before .before .before .before .before .before .before .before .before .before .before .before .loop .r - 1) (c .before .before .before .before .before .first-from .last .0) (c .before .before .before .before .before .before .before .before .before .before .before .before .loop .t) (c .before .before .before .before .before .before .before .before .before .before .before .before .before .before .before .before .before .before .before .before .args .t .now) (c .before .before .before .before .before .first-from .ensures .1) (agree-less (c .before .before .before .before .before .before .before .before .before .before .before .before .loop .r) (c .before .before .before .before .before .before .before .before .before .before .before .before .loop .r - 1) (c .before .before .before .before .before .before .before .before .before .before .before .before .loop .t) (c .before .before .before .before .before .before .before .before .before .before .before .before .before .before .before .before .before .before .before .before .args .t .now) (omega arith) (c .before .before .before .before .before .before .before .before .before .before .before .before .loop .inv .2)),
-    c .before .before .before .before .before .first-from .ensures .2,
-    down-less (c .before .before .before .before .before .before .before .before .before .before .before .before .loop .t) (c .before .before .before .before .before .before .before .before .before .before .before .before .before .before .before .before .before .before .before .before .args .t .now) (c .before .before .before .before .before .before .before .before .before .before .before .before .before .before .before .before .before .before .before .before .args .n) (c .before .before .before .before .before .before .before .before .before .before .before .before .loop .r) (c .before .before .before .before .before .before .before .before .before .before .before .loop-test .taken) (c .before .before .before .before .before .before .before .before .before .before .before .before .loop .inv .0) (c .before .before .before .before .before .before .before .before .before .before .before .before .loop .inv .2) (ap (λ (b : Bool). found b (rowsTo (c .before .before .before .before .before .before .before .before .before .before .before .before .before .before .before .before .before .before .before .before .args .n) (c .before .before .before .before .before .first-from .last .0))) (sym (c .if1 .left)) ∙ (c .before .before .before .before .before .first-from .ensures .0 ∙ ap (λ (k : ℕ). searched (rowsTo (c .before .before .before .before .before .before .before .before .before .before .before .before .loop .r - 1) (c .before .before .before .before .before .before .before .before .before .before .before .before .loop .t)) (k + 1) ((c .before .before .before .before .before .before .before .before .before .before .before .before .before .before .before .before .before .before .before .before .args .n) - c .before .before .before .before .before .before .before .before .before .before .before .before .loop .r)) (c .before .before .before .before .before .before .before .before .before .number-of .ensures))) ∙ c .before .before .before .before .before .before .before .before .before .before .before .before .loop .inv .4)
+loop-again c = (
+  omega arith,
+  c .before .before .before .before .before .first-from .kept .0 ∙ c .before .before .before .before .before .before .before .before .before .before .before .before .loop .inv .1,
+  agree-then (c .before .before .before .before .before .before .before .before .before .before .before .before .loop .r - 1) (c .before .before .before .before .before .first-from .last .0) (c .before .before .before .before .before .before .before .before .before .before .before .before .loop .t) (c .before .before .before .before .before .before .before .before .before .before .before .before .before .before .before .before .before .before .before .before .args .t .now) (c .before .before .before .before .before .first-from .ensures .1) (agree-less (c .before .before .before .before .before .before .before .before .before .before .before .before .loop .r) (c .before .before .before .before .before .before .before .before .before .before .before .before .loop .r - 1) (c .before .before .before .before .before .before .before .before .before .before .before .before .loop .t) (c .before .before .before .before .before .before .before .before .before .before .before .before .before .before .before .before .before .before .before .before .args .t .now) (omega arith) (c .before .before .before .before .before .before .before .before .before .before .before .before .loop .inv .2)),
+  c .before .before .before .before .before .first-from .ensures .2,
+  down-less (c .before .before .before .before .before .before .before .before .before .before .before .before .loop .t) (c .before .before .before .before .before .before .before .before .before .before .before .before .before .before .before .before .before .before .before .before .args .t .now) (c .before .before .before .before .before .before .before .before .before .before .before .before .before .before .before .before .before .before .before .before .args .n) (c .before .before .before .before .before .before .before .before .before .before .before .before .loop .r) (c .before .before .before .before .before .before .before .before .before .before .before .loop-test .taken) (c .before .before .before .before .before .before .before .before .before .before .before .before .loop .inv .0) (c .before .before .before .before .before .before .before .before .before .before .before .before .loop .inv .2) (ap (λ (b : Bool). found b (rowsTo (c .before .before .before .before .before .before .before .before .before .before .before .before .before .before .before .before .before .before .before .before .args .n) (c .before .before .before .before .before .first-from .last .0))) (sym (c .if1 .left)) ∙ (c .before .before .before .before .before .first-from .ensures .0 ∙ ap (λ (k : ℕ). searched (rowsTo (c .before .before .before .before .before .before .before .before .before .before .before .before .loop .r - 1) (c .before .before .before .before .before .before .before .before .before .before .before .before .loop .t)) (k + 1) ((c .before .before .before .before .before .before .before .before .before .before .before .before .before .before .before .before .before .before .before .before .args .n) - c .before .before .before .before .before .before .before .before .before .before .before .before .loop .r)) (c .before .before .before .before .before .before .before .before .before .number-of .ensures))) ∙ c .before .before .before .before .before .before .before .before .before .before .before .before .loop .inv .4,
+)
 
 -- src/search.rt:76:1  // The small sheet behind the one of n rows in `t`, with as many rows: from the last row's number up, then the row's before it, and so on. ⏎ fn as_long(t: &mut [u32], n: usize) -> bool
 same-length-2 : tie.Need-same-length-2 Inv-loop μ-loop

@@ -37,9 +37,13 @@ slice-aggregate-stands c = sym (part-size (c .before .before .before .before .be
 -- src/search.rt:71:9  let end = FIELDS * r; ⏎ stands(&t[..end], r, widths, masks);
 stands-requires : tie.Need-stands-requires Inv-loop μ-loop
 stands-requires c κs =
-    let e : c .before .before .before .before .loop .r ≡ (c .before .before .before .before .loop .r + 1) - 1 = omega arith in
-    (part-size (c .before .before .before .before .before .before .before .before .args .t .now) (c .before .before .before .before .loop .r + 1) (omega arith) (omega (arith, c .before .before .before .before .before .before .before .before .pre .0 .size, c .before .before .before .before .before .before .before .before .pre .0 .few, c .before .before .before .loop-test .taken)), omega arith, omega (arith, c .before .before .before .before .before .before .before .before .pre .0 .few), part-content (c .before .before .before .before .before .before .before .before .args .t .now) (c .before .before .before .before .loop .r + 1) (omega arith) (omega (arith, c .before .before .before .before .before .before .before .before .pre .0 .size, c .before .before .before .before .before .before .before .before .pre .0 .few, c .before .before .before .loop-test .taken)) (c .before .before .before .before .before .before .before .before .pre .0 .content (c .before .before .before .before .loop .r + 1) (omega arith) (omega arith)),
-    part-front (c .before .before .before .before .before .before .before .before .args .t .now) (c .before .before .before .before .loop .r + 1) (omega arith) (omega (arith, c .before .before .before .before .before .before .before .before .pre .0 .size, c .before .before .before .before .before .before .before .before .pre .0 .few, c .before .before .before .loop-test .taken)) (c .before .before .before .before .loop .widths) (c .before .before .before .before .loop .masks) (subst (λ (i : ℕ). Front (c .before .before .before .before .before .before .before .before .args .t .now) (c .before .before .before .before .loop .widths) (c .before .before .before .before .loop .masks) i) e (c .before .before .before .before .loop .inv .1)))
+    let e : c .before .before .before .before .loop .r ≡ (c .before .before .before .before .loop .r + 1) - 1 = omega arith in (
+      part-size (c .before .before .before .before .before .before .before .before .args .t .now) (c .before .before .before .before .loop .r + 1) (omega arith) (omega (arith, c .before .before .before .before .before .before .before .before .pre .0 .size, c .before .before .before .before .before .before .before .before .pre .0 .few, c .before .before .before .loop-test .taken)),
+      omega arith,
+      omega (arith, c .before .before .before .before .before .before .before .before .pre .0 .few),
+      part-content (c .before .before .before .before .before .before .before .before .args .t .now) (c .before .before .before .before .loop .r + 1) (omega arith) (omega (arith, c .before .before .before .before .before .before .before .before .pre .0 .size, c .before .before .before .before .before .before .before .before .pre .0 .few, c .before .before .before .loop-test .taken)) (c .before .before .before .before .before .before .before .before .pre .0 .content (c .before .before .before .before .loop .r + 1) (omega arith) (omega arith)),
+      part-front (c .before .before .before .before .before .before .before .before .args .t .now) (c .before .before .before .before .loop .r + 1) (omega arith) (omega (arith, c .before .before .before .before .before .before .before .before .pre .0 .size, c .before .before .before .before .before .before .before .before .pre .0 .few, c .before .before .before .loop-test .taken)) (c .before .before .before .before .loop .widths) (c .before .before .before .before .loop .masks) (subst (λ (i : ℕ). Front (c .before .before .before .before .before .before .before .before .args .t .now) (c .before .before .before .before .loop .widths) (c .before .before .before .before .loop .masks) i) e (c .before .before .before .before .loop .inv .1)),
+    )
 
 -- src/search.rt:68:5  let mut r = 0; ⏎ while r < n {
 loop-less : tie.Need-loop-less Inv-loop μ-loop

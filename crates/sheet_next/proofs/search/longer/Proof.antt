@@ -57,9 +57,13 @@ loop-less c = search needs
 
 -- src/search.rt:102:5  let mut m = n; ⏎ while m < SMALL_ROWS {
 loop-again : tie.Need-loop-again Inv-loop μ-loop
-loop-again c =
-    (omega arith, c .before .before .before .before .before .first-from .kept .0 ∙ c .before .before .before .before .before .before .before .before .before .before .loop .inv .1, c .before .before .before .before .before .first-from .kept .1 .0 ∙ c .before .before .before .before .before .before .before .before .before .before .loop .inv .2, c .before .before .before .before .before .first-from .kept .1 .1 .0 ∙ c .before .before .before .before .before .before .before .before .before .before .loop .inv .3,
-    up-later (c .before .before .before .before .before .before .before .before .before .before .loop .t) (c .before .before .before .before .before .before .before .before .before .before .loop .m) (c .before .before .before .before .before .before .before .before .before .loop-test .taken) (ap (λ (b : Bool). found b (rowsTo (c .before .before .before .before .before .before .before .before .before .before .loop .m + 1) (c .before .before .before .before .before .first-from .last .0))) (sym (c .if1 .left)) ∙ c .before .before .before .before .before .first-from .ensures .0) ∙ c .before .before .before .before .before .before .before .before .before .before .loop .inv .4)
+loop-again c = (
+  omega arith,
+  c .before .before .before .before .before .first-from .kept .0 ∙ c .before .before .before .before .before .before .before .before .before .before .loop .inv .1,
+  c .before .before .before .before .before .first-from .kept .1 .0 ∙ c .before .before .before .before .before .before .before .before .before .before .loop .inv .2,
+  c .before .before .before .before .before .first-from .kept .1 .1 .0 ∙ c .before .before .before .before .before .before .before .before .before .before .loop .inv .3,
+  up-later (c .before .before .before .before .before .before .before .before .before .before .loop .t) (c .before .before .before .before .before .before .before .before .before .before .loop .m) (c .before .before .before .before .before .before .before .before .before .loop-test .taken) (ap (λ (b : Bool). found b (rowsTo (c .before .before .before .before .before .before .before .before .before .before .loop .m + 1) (c .before .before .before .before .before .first-from .last .0))) (sym (c .if1 .left)) ∙ c .before .before .before .before .before .first-from .ensures .0) ∙ c .before .before .before .before .before .before .before .before .before .before .loop .inv .4,
+)
 
 -- src/search.rt:95:1  // The first small sheet with more than n rows; the answer is its rows, 0 where there is none. ⏎ fn longer(t: &mut [u32], n: usize) -> usize
 same-length-2 : tie.Need-same-length-2 Inv-loop μ-loop

@@ -83,12 +83,13 @@ slice-aggregate-tables-pass c = sym (ap length (part-back (c .before .before .be
 tables-pass-requires : tie.Need-tables-pass-requires
 tables-pass-requires c κs =
     let p = part-back (c .before .before .before .before .before .before .before .before .before .before .before .before .args .n) 5 (c .before .before .before .before .before .before .before .before .before .before .before .before .pre .2) (replicate 5 false) refl (c .before .before .before .before .before .before .find-places .last .1 .1 .0) (c .before .before .before .before .before .before .find-places .kept .1 .1 .0) ∙ c .before .before .before .before .before .before .find-places .ensures in
-    let w = c .before .before .before .test-places .ensures ∙ ap (λ (x : List Bool). lowest (c .before .before .before .before .before .before .before .before .before .before .before .before .args .n) (placedWell (c .before .before .before .before .before .before .before .before .before .before .before .before .args .t .now) x)) p in
-    (subst (λ (x : List Bool). Ready (c .before .before .before .before .before .before .before .before .before .before .before .before .args .t .now) (c .before .before .before .before .before .before .before .before .before .before .before .before .args .n) x) (sym p)
-    (ready (c .before .before .before .before .before .before .before .before .before .before .before .before .args .t .now) (c .before .before .before .before .before .before .before .before .before .before .before .before .args .n) (c .before .before .before .before .before .before .before .before .before .before .before .before .pre .0) (c .before .before .before .before .before .before .before .before .before .before .before .before .pre .3) (c .before .before .before .before .before .before .before .before .before .before .before .before .pre .4)
-    (sym (c .before .before .before .before .before .before .before .before .before .before .test-named .ensures) ∙ is-well (c .before .before .before .before .before .before .before .before .before .before .test-named .result) (sym (c .before .before .before .before .before .before .before .before .before .passed .ensures) ∙ not-false (c .before .before .before .before .before .before .before .before .before .passed .result) (c .before .before .before .before .before .before .before .before .if1 .left)))
-    (sym w ∙ is-well (c .before .before .before .test-places .result) (sym (c .before .before .passed2 .ensures) ∙ not-false (c .before .before .passed2 .result) (c .before .if2 .left)))),
-    c .before .before .before .before .before .before .before .before .before .before .before .before .pre .2)
+    let w = c .before .before .before .test-places .ensures ∙ ap (λ (x : List Bool). lowest (c .before .before .before .before .before .before .before .before .before .before .before .before .args .n) (placedWell (c .before .before .before .before .before .before .before .before .before .before .before .before .args .t .now) x)) p in (
+      subst (λ (x : List Bool). Ready (c .before .before .before .before .before .before .before .before .before .before .before .before .args .t .now) (c .before .before .before .before .before .before .before .before .before .before .before .before .args .n) x) (sym p)
+          (ready (c .before .before .before .before .before .before .before .before .before .before .before .before .args .t .now) (c .before .before .before .before .before .before .before .before .before .before .before .before .args .n) (c .before .before .before .before .before .before .before .before .before .before .before .before .pre .0) (c .before .before .before .before .before .before .before .before .before .before .before .before .pre .3) (c .before .before .before .before .before .before .before .before .before .before .before .before .pre .4)
+          (sym (c .before .before .before .before .before .before .before .before .before .before .test-named .ensures) ∙ is-well (c .before .before .before .before .before .before .before .before .before .before .test-named .result) (sym (c .before .before .before .before .before .before .before .before .before .passed .ensures) ∙ not-false (c .before .before .before .before .before .before .before .before .before .passed .result) (c .before .before .before .before .before .before .before .before .if1 .left)))
+          (sym w ∙ is-well (c .before .before .before .test-places .result) (sym (c .before .before .passed2 .ensures) ∙ not-false (c .before .before .passed2 .result) (c .before .if2 .left)))),
+      c .before .before .before .before .before .before .before .before .before .before .before .before .pre .2,
+    )
 
 -- src/tests.rt:154:1  // Tests 6 to 9 of n rows. ⏎ pub fn passes(t: &[u32], n: usize) -> bool
 returns-3 : tie.Need-returns-3
