@@ -1,20 +1,19 @@
 -- Laws of the call's answer: the rows as they are written, what a given sheet's table has, and 11, 22, 23 and the next sheet. Assumes nothing.
-use Prim.Native.Nat.{ℕ, zero, suc, _+_, _*_, _-_, _/_, _≤_, _<_}
+use Prim.Native.Nat.{ℕ, zero, suc, _+_, _*_, _-_, _≤_, _<_}
 use mathlib.Core.Path.{_≡_, refl, sym, ap, subst, _∙_}
 use mathlib.Core.Bool.{Bool, true, false, _||_, false≢true}
 use mathlib.Core.List.{List, [], _∷_, _++_}
-use mathlib.Core.Option.{Option, some, none}
+use mathlib.Core.Option.{Option}
 use native.Mathlib.Omega.{arith}
 use native.Mathlib.Numerals.{add-one}
 use lib.Dec.{eqb, ltb}
 use lib.ListN.{length, getD, take, length-append}
-use lib.Seq.{sets, length-sets, getD-take, ext-getD}
-use borrow.Author.Tests.{lt-ltb, le-ltb, eq-eqb, eqb-true, eqb-false}
+use lib.Seq.{sets, getD-take, ext-getD}
+use borrow.Author.Tests.{lt-ltb, le-ltb, eqb-true, eqb-false}
 use Rattle.value.specs.Operators.{pick}
 use Rattle.formula.specs.declared.Refusal.the-variants.{Memory, Unlisted, LastListed}
 use Rattle.formula.specs.Refusals.{numberOf}
 use Rattle.formula.specs.Sheet.{rowCount, fieldsOf}
-use Rattle.formula.specs.SheetLaws.{fields-length}
 use Rattle.text.specs.PrintLaws.{written-both}
 use Rattle.sheet_tidied.specs.Text.{rowText, sheetText}
 use Rattle.sheet_tidied.specs.TextLaws.{row-text-length, text-append, text-one}
@@ -48,7 +47,7 @@ text-more i t =
     ∙ ap (λ (x : List ℕ). sheetText (rowsTo i t) ++ x) (text-one (fieldRow t (suc i)))
     ∙ ap (λ (k : ℕ). sheetText (rowsTo i t) ++ rowText (fieldRow t k)) (sym (add-one i))
 
-pub text-bytes : (n : ℕ) (t : List ℕ) → length (sheetText (rowsTo n t)) ≡ 31 * n
+text-bytes : (n : ℕ) (t : List ℕ) → length (sheetText (rowsTo n t)) ≡ 31 * n
 unfolding rowsTo sheetText
 text-bytes zero t = refl
 text-bytes (suc n) t =

@@ -4,12 +4,10 @@ use mathlib.Core.Path.{_≡_, refl, sym, ap, _∙_}
 use mathlib.Core.List.{List, [], _∷_, _++_, append-nil, append-assoc, flatten}
 use native.Mathlib.Omega.{arith}
 use native.Mathlib.Decide.{ℕ-discrete}
-use lib.ListN.{length, getD, take, drop, length-append, length-drop, List·getD-append}
-use lib.Seq.{sets, sets-eq, take-add, take-at, take-all, take-take, drop-cons, length-take-le, getD-take, getD-append-add, getD-append-seam, take-append-le}
+use lib.ListN.{length, getD, take, drop, length-append, List·getD-append}
+use lib.Seq.{sets, sets-eq, take-add, take-all, drop-cons, length-take-le, getD-take, getD-append-add, getD-append-seam, take-append-le}
 use Rattle.formula.specs.Sheet.{field}
-use Rattle.formula.specs.FaultRows.{Among}
 use Rattle.sheet_tidied.specs.TextLaws.{Row, five, Rows as Written, row-length, rows-append}
-use Rattle.sheet_listed.specs.Small.{smallRows}
 use Rattle.sheet_listed.specs.Search.{Rows}
 use Rattle.sheet_listed.specs.Texts.{fieldRow}
 use Rattle.sheet_listed.specs.Standing.{Agree}

@@ -108,7 +108,7 @@ module _ (t u : List ℕ) (r k : ℕ) (a : 1 ≤ r) (b : r ≤ 5) (low : k < 178
   content : Content (contentAt k)
   content = record { number = k; low = low; is = refl }
 
-  pub laid-row : fieldRow u r ≡ contentAt k
+  laid-row : fieldRow u r ≡ contentAt k
   laid-row = rw laid (put-row t (contentAt k) (content-row (contentAt k) content) r a (omega arith))
 
   pub laid-content : Content (fieldRow u r)

@@ -1,5 +1,5 @@
 -- Laws of the rows that a small sheet can have: their kinds and ranges, and that every row of a small sheet is one. Assumes nothing.
-use Prim.Native.Nat.{ℕ, suc, _+_, _*_, _-_, _/_, _%_, _≤_, _<_}
+use Prim.Native.Nat.{ℕ, suc, _+_, _-_, _/_, _%_, _≤_, _<_}
 use mathlib.Core.Path.{_≡_, refl, sym, ap, subst, _∙_}
 use mathlib.Core.Bool.{Bool, true, false, cond, _&&_}
 use mathlib.Core.List.{List, [], _∷_}
@@ -19,7 +19,7 @@ use Rattle.sheet_listed.specs.Small.{modest, smallRow, smallRows}
 use Rattle.sheet_listed.specs.Search.{contentAt, sameRow, placeIn, placeOf}
 use Rattle.sheet_listed.specs.RowLaws.{listed-row}
 use Rattle.sheet_listed.specs.Ordered.{among-at}
-use Rattle.sheet_listed.specs.Contents.{rows-listed, contents-listed, content-among, loop-row, among-at as at-among}
+use Rattle.sheet_listed.specs.Contents.{contents-listed, content-among, loop-row, among-at as at-among}
 use Rattle.sheet_listed.specs.Numbers.{content-number, number-step}
 use Rattle.sheet_stands.specs.Fronts.{Content}
 

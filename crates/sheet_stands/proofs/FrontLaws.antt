@@ -2,21 +2,21 @@
 -- Assumes nothing.
 use Prim.Native.Nat.{ℕ, _*_, _≤_, _<_}
 use mathlib.Core.Path.{_≡_, refl, sym, ap, subst, _∙_}
-use mathlib.Core.Bool.{Bool, true, _&&_}
-use mathlib.Core.List.{List, [], _∷_}
+use mathlib.Core.Bool.{true}
+use mathlib.Core.List.{List}
 use native.Mathlib.Omega.{arith}
 use lib.Dec.{leb}
-use lib.ListN.{length, getD, take}
+use lib.ListN.{length, take}
 use lib.Seq.{getD-take}
 use borrow.Author.Tests.{leb-true}
 use Rattle.names.specs.Names.{mask}
 use Rattle.formula.specs.Sheet.{field, shapeAt, namedIn}
 use Rattle.formula.specs.Tree.{Exp, expOf}
-use Rattle.formula.specs.Tests.{namesWell, allNamed}
-use Rattle.formula.specs.Widths.{width, wideE}
-use Rattle.formula.specs.Free.{freeE, boundE}
+use Rattle.formula.specs.Tests.{namesWell}
+use Rattle.formula.specs.Widths.{width}
+use Rattle.formula.specs.Free.{freeE}
 use Rattle.formula.specs.TreeLaws.{Named, and-true, all-between}
-use Rattle.sheet_listed.specs.Search.{onceEach, standsAt}
+use Rattle.sheet_listed.specs.Search.{standsAt}
 use Rattle.sheet_listed.specs.Texts.{fieldRow}
 use Rattle.sheet_listed.specs.Standing.{Agree, field-alike, exp-alike, stands-alike}
 use Rattle.sheet_stands.specs.Fronts.{Content, Front}

@@ -1,12 +1,12 @@
 -- Laws of one further row: whether it stands behind rows that stand, by the tables of their widths and masks, and its own entries there. Assumes nothing.
 use Prim.Native.Nat.{ℕ, zero, suc, _+_, _-_, _≤_, _<_}
 use mathlib.Core.Path.{_≡_, refl, sym, ap, subst, _∙_}
-use mathlib.Core.Bool.{Bool, true, false, cond, _&&_}
+use mathlib.Core.Bool.{Bool, true, false, cond}
 use mathlib.Core.List.{List}
 use native.Mathlib.Omega.{arith}
 use native.Mathlib.Decide.{ℕ-discrete}
 use lib.Dec.{eqb}
-use lib.ListN.{length, getD, set, replicate, length-set}
+use lib.ListN.{getD, set, replicate, length-set}
 use borrow.Author.Tests.{le-leb, ne-eqb}
 use Rattle.names.specs.Names.{mask}
 use Rattle.formula.specs.declared.Check.the-variants.{Passed}

@@ -4,7 +4,6 @@ use mathlib.Core.Path.{_≡_, refl, sym, ap, _∙_}
 use mathlib.Core.Bool.{Bool, true, false, _&&_, false≢true}
 use mathlib.Core.List.{List, [], _∷_}
 use native.Mathlib.Omega.{arith}
-use lib.Dec.{leb}
 use lib.ListN.{length, replicate}
 use borrow.Author.Tests.{le-leb}
 use Rattle.formula.specs.declared.Check.{Check}
@@ -20,8 +19,8 @@ use Rattle.formula.specs.TestLaws.{each-passed}
 use Rattle.formula.specs.TreeLaws.{AllBetween}
 use Rattle.formula.specs.Verdicts.{then, then-behind}
 use Rattle.sheet_rows.specs.Tallies.{tallied}
-use Rattle.sheet_rows.proofs.RowLaws.{named-by, tallied-row}
-use Rattle.sheet_read.specs.Reading.{rowsIn, rowVerdict}
+use Rattle.sheet_rows.proofs.RowLaws.{and-true-last, named-by, tallied-row}
+use Rattle.sheet_read.specs.Reading.{rowVerdict}
 use Rattle.sheet_tidied.specs.Rowwise.{passes-rowwise, rowwise-passes}
 use Rattle.sheet_tidy.proofs.KeptLaws.{between-wider}
 use Rattle.sheet_listed.specs.Small.{isPassed, modest, modestRow, passesNine, isSmall}
@@ -53,16 +52,11 @@ two-tests i j Passed Passed v = refl
 two-tests i j Passed (Fault r) v = refl
 two-tests i j (Fault r) b v = refl
 
-and-last : (a b : Bool) → (a && (b && true)) ≡ (a && b)
-and-last true true = refl
-and-last true false = refl
-and-last false b = refl
-
 pub tables-by : (t : List ℕ) (n : ℕ) (p : List Bool) → tablesPass t n p ≡ (is-passed (lowest n (widthsWell t p)) && is-passed (lowest n (boundWell t p)))
 unfolding tablesPass verdictBy formulaTests
 tables-by t n p =
     two-tests _ _ (lowest n (widthsWell t p)) (lowest n (boundWell t p)) passed
-    ∙ and-last (is-passed (lowest n (widthsWell t p))) (is-passed (lowest n (boundWell t p)))
+    ∙ ap (λ (b : Bool). is-passed (lowest n (widthsWell t p)) && b) (and-true-last (is-passed (lowest n (boundWell t p))))
 
 pub passes-by : (t : List ℕ) (n : ℕ)
     → formulaPasses t n
@@ -104,11 +98,7 @@ module _ (s : List ℕ) where
   unfolding passesNine rowVerdict formulaPasses verdictBy formulaTests sheetOf
   by-formula h = ap isPassed (then-behind (sheetOf s) rowTests formulaTests ∙ ap (λ (v : Verdict). then v (verdictBy formulaTests (sheetOf s))) h)
 
-  and-both : (b : Bool) → (b && true && true) ≡ b
-  and-both true = refl
-  and-both false = refl
-
   pub small-decides : rowVerdict s ≡ passed → rowCount s ≤ 5 → is-passed (lowest (rowCount s) (modestRow (fieldsOf s))) ≡ true
       → isSmall s ≡ formulaPasses (fieldsOf s) (rowCount s)
   unfolding isSmall
-  small-decides h few m = rw (le-leb (rowCount s) 5 few, m) (and-both (passesNine s)) ∙ by-formula h
+  small-decides h few m = rw (le-leb (rowCount s) 5 few, m, and-true-last (passesNine s && true), and-true-last (passesNine s)) (by-formula h)

@@ -20,7 +20,7 @@ use sheet_tables::widths::test_widths;
 use sheet_tables::widths::widths_of;
 use sheet_tables::widths::widths_well;
 ghost use mathlib.Core.Path.{_≡_};
-ghost use mathlib.Core.Bool.{Bool, true, false, _||_, _&&_};
+ghost use mathlib.Core.Bool.{true, false, _||_, _&&_};
 ghost use Prim.Native.Nat.{_+_, _*_, _-_, _≤_, _<_};
 ghost use lib.Dec.{eqb, leb};
 ghost use lib.ListN.{length, getD, take};
@@ -42,10 +42,14 @@ pub const SMALL_FIELDS: usize = SMALL_ROWS * FIELDS;
 
 pub const SMALL_BYTES: usize = SMALL_ROWS * ROW_BYTES;
 
+const FIRST_KIND: u32 = 1;
+
 const LAST_KIND: u32 = 9;
 
 // The last identifier and the last constant.
 const LAST_MODEST: u32 = 1;
+
+const MODEST_IDENTIFIERS: u32 = LAST_MODEST + 1;
 
 // A tally's mark of a row that is named once.
 const ONCE: u8 = 1;
@@ -170,10 +174,10 @@ pub fn passes(t: &[u32], n: usize) -> bool
 fn binds_modestly(a: u32, b: u32) -> bool
     ensures { λ r. ⌜ r ≡ leb (a + b) 2 ⌝ }
 {
-    if LAST_MODEST + 1 < b {
+    if MODEST_IDENTIFIERS < b {
         return false;
     }
-    a <= LAST_MODEST + 1 - b
+    a <= MODEST_IDENTIFIERS - b
 }
 
 // "identifiers and constants 0 and 1"
@@ -198,7 +202,7 @@ fn modest_row(t: &[u32], r: usize) -> bool
     ensures { λ b. ⌜ b ≡ modestRow (now (t .entry)) r ⌝ }
 {
     let kind = field_at(t, r, 0);
-    if kind < 1 {
+    if kind < FIRST_KIND {
         return false;
     }
     if LAST_KIND < kind {

@@ -11,11 +11,9 @@ use Rattle.sheet_next.proofs.refused.Reads as refused-reads
 use Rattle.sheet_next.proofs.search.behind.Reads as behind-reads
 use Rattle.sheet_next.proofs.write_rows.Reads as write-rows-reads
 use Rattle.sheet_stands.proofs.tests.listed.Reads as listed-reads
-use Prim.Native.Nat.{ℕ, _*_, _≤_}
-use mathlib.Core.Path.{_≡_, refl, sym, ap, _∙_}
-use mathlib.Core.List.{List}
+use Prim.Native.Nat.{_*_}
+use mathlib.Core.Path.{refl, sym, ap, _∙_}
 use native.Mathlib.Omega.{arith}
-use lib.ListN.{length}
 use borrow.Author.Tests.{not-true, not-false}
 use Rattle.sheet_stands.specs.Fronts.{rowsTo}
 use Rattle.sheet_next.specs.Next.{handed, answers}

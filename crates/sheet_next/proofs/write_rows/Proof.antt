@@ -6,7 +6,7 @@ use Rattle.sheet_next.proofs.write_rows.Lts as lts
 use Rattle.sheet_stands.proofs.contents.row_at.Reads as row-at-reads
 use Rattle.sheet_tidy.proofs.rows.put_row.Reads as put-row-reads
 use Prim.Native.Nat.{ℕ, _+_, _*_, _-_, _≤_}
-use mathlib.Core.Path.{_≡_, refl, sym, ap, _∙_}
+use mathlib.Core.Path.{_≡_, refl, ap, _∙_}
 use mathlib.Core.List.{List}
 use native.Mathlib.Omega.{arith}
 use lib.ListN.{length}

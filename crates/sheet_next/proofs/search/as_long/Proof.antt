@@ -8,12 +8,12 @@ use Rattle.sheet_next.proofs.search.as_long.Lts as lts
 use Rattle.sheet_next.proofs.search.fill.Reads as fill-reads
 use Rattle.sheet_next.proofs.search.first_from.Reads as first-from-reads
 use Rattle.sheet_stands.proofs.contents.number_of.Reads as number-of-reads
-use Prim.Native.Nat.{ℕ, _+_, _*_, _-_, _≤_, _<_}
+use Prim.Native.Nat.{ℕ, _+_, _*_, _-_, _≤_}
 use mathlib.Core.Path.{_≡_, refl, sym, ap, _∙_}
 use mathlib.Core.Bool.{Bool}
 use native.Mathlib.Omega.{arith}
 use lib.ListN.{length}
-use Rattle.sheet_listed.specs.Search.{searched, downFrom, placeOf}
+use Rattle.sheet_listed.specs.Search.{searched, downFrom}
 use Rattle.sheet_listed.specs.Standing.{Agree}
 use Rattle.sheet_listed.specs.Texts.{fieldRow}
 use Rattle.sheet_stands.specs.Fronts.{rowsTo, Front}

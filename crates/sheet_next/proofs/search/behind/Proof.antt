@@ -7,11 +7,10 @@ use Rattle.sheet_next.proofs.search.behind.Reads as reads
 use Rattle.sheet_next.proofs.search.behind.Lts as lts
 use Rattle.sheet_next.proofs.search.as_long.Reads as as-long-reads
 use Rattle.sheet_next.proofs.search.longer.Reads as longer-reads
-use Prim.Native.Nat.{ℕ, suc, _-_}
-use mathlib.Core.Path.{_≡_, refl, sym, ap, _∙_}
+use Prim.Native.Nat.{suc, _-_}
+use mathlib.Core.Path.{sym, ap, _∙_}
 use mathlib.Core.Bool.{Bool}
 use mathlib.Core.Option.{Option}
-use native.Mathlib.Omega.{arith}
 use Rattle.sheet_listed.specs.Search.{Rows, orElse, upFrom}
 use Rattle.sheet_stands.specs.Fronts.{rowsTo}
 use Rattle.sheet_next.specs.Found.{found}

@@ -6,7 +6,7 @@ use Rattle.sheet_next.proofs.search.longer.Tie as tie
 use Rattle.sheet_next.proofs.search.longer.Reads as reads
 use Rattle.sheet_next.proofs.search.longer.Lts as lts
 use Rattle.sheet_next.proofs.search.first_from.Reads as first-from-reads
-use Prim.Native.Nat.{ℕ, suc, _+_, _-_, _≤_}
+use Prim.Native.Nat.{suc, _+_, _-_, _≤_}
 use mathlib.Core.Path.{_≡_, refl, sym, ap, _∙_}
 use mathlib.Core.Bool.{Bool}
 use native.Mathlib.Omega.{arith}

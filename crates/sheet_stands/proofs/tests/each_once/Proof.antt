@@ -1,5 +1,5 @@
 -- The tests, as paths name them:
---   tie if1  Shape::Let(_, _, c, d) => both_once(times, c, d), ⏎ Shape::If(a, b, c) => { if once(times, a) { both_once(times, b, c) } else { false } }
+--   tie if1  Shape::If(a, b, c) => { ⏎ if once(times, a) {
 use borrow.Author.Needs.{needs}
 use Rattle.sheet_stands.proofs.tests.each_once.Statement.{statement}
 use Rattle.sheet_stands.proofs.tests.each_once.Tie as tie
@@ -50,34 +50,34 @@ both-once-requires-2 : tie.Need-both-once-requires-2
 unfolding namedIn
 both-once-requires-2 c κs = let h = subst (λ z. AllBetween (length (c .before .before .before .before .args .times .now) + 1) (namedIn z)) (c .before .s3 .given .1) (c .before .before .before .before .pre) in omega arith
 
--- src/tests.rt:81:19  Shape::Let(_, _, c, d) => both_once(times, c, d), ⏎ Shape::If(a, b, c) => { if once(times, a) { both_once(times, b, c) } else { false } }
+-- src/tests.rt:81:19  Shape::Let(_, _, c, d) => both_once(times, c, d), ⏎ Shape::If(a, b, c) => {
 enum-known-s-4 : tie.Need-enum-known-s-4
 enum-known-s-4 c = search needs
 
--- src/tests.rt:81:36  Shape::Let(_, _, c, d) => both_once(times, c, d), ⏎ Shape::If(a, b, c) => { if once(times, a) { both_once(times, b, c) } else { false } }
+-- src/tests.rt:82:16  Shape::If(a, b, c) => { ⏎ if once(times, a) {
 once-requires-2 : tie.Need-once-requires-2
 unfolding namedIn
 once-requires-2 c κs = let h = subst (λ z. AllBetween (length (c .before .before .before .before .args .times .now) + 1) (namedIn z)) (c .before .s4 .given .1) (c .before .before .before .before .pre) in omega arith
 
--- src/tests.rt:81:53  Shape::Let(_, _, c, d) => both_once(times, c, d), ⏎ Shape::If(a, b, c) => { if once(times, a) { both_once(times, b, c) } else { false } }
+-- src/tests.rt:83:17  if once(times, a) { ⏎ both_once(times, b, c)
 both-once-requires-3 : tie.Need-both-once-requires-3
 unfolding namedIn
 both-once-requires-3 c κs = let h = subst (λ z. AllBetween (length (c .before .before .before .before .before .before .args .times .now) + 1) (namedIn z)) (c .before .before .before .s4 .given .1) (c .before .before .before .before .before .before .pre) in omega arith
 
--- src/tests.rt:82:26  Shape::If(a, b, c) => { if once(times, a) { both_once(times, b, c) } else { false } } ⏎ Shape::For(_, _, c, d) => both_once(times, c, d),
+-- src/tests.rt:88:26  } ⏎ Shape::For(_, _, c, d) => both_once(times, c, d),
 enum-known-s-5 : tie.Need-enum-known-s-5
 enum-known-s-5 c = search needs
 
--- src/tests.rt:82:35  Shape::If(a, b, c) => { if once(times, a) { both_once(times, b, c) } else { false } } ⏎ Shape::For(_, _, c, d) => both_once(times, c, d),
+-- src/tests.rt:88:35  } ⏎ Shape::For(_, _, c, d) => both_once(times, c, d),
 both-once-requires-4 : tie.Need-both-once-requires-4
 unfolding namedIn
 both-once-requires-4 c κs = let h = subst (λ z. AllBetween (length (c .before .before .before .before .args .times .now) + 1) (namedIn z)) (c .before .s5 .given .1) (c .before .before .before .before .pre) in omega arith
 
--- src/tests.rt:83:21  Shape::For(_, _, c, d) => both_once(times, c, d), ⏎ Shape::Iter(a) => once(times, a),
+-- src/tests.rt:89:21  Shape::For(_, _, c, d) => both_once(times, c, d), ⏎ Shape::Iter(a) => once(times, a),
 enum-known-s-6 : tie.Need-enum-known-s-6
 enum-known-s-6 c = search needs
 
--- src/tests.rt:83:27  Shape::For(_, _, c, d) => both_once(times, c, d), ⏎ Shape::Iter(a) => once(times, a),
+-- src/tests.rt:89:27  Shape::For(_, _, c, d) => both_once(times, c, d), ⏎ Shape::Iter(a) => once(times, a),
 once-requires-3 : tie.Need-once-requires-3
 unfolding namedIn
 once-requires-3 c κs = let h = subst (λ z. AllBetween (length (c .before .before .before .before .args .times .now) + 1) (namedIn z)) (c .before .s6 .given .1) (c .before .before .before .before .pre) in omega arith
