@@ -3,9 +3,9 @@
  *
  * A formula sheet is read (bench_read), evaluated directly (bench_evaluate), or started as a machine on memory that the caller lends
  * (bench_start) and then driven by pushes, firings, runs and takes. A sheet with rows that its formula no longer uses is tidied first (bench_tidy).
- * How far a formula's results can move where its inputs move within tolerances is told by bench_drift. The log of a bench that drives such machines in its own order
- * is checked by following it (bench_check_log). No call keeps anything but what stands in that memory and in the tally: there is no heap and no global. Every
- * call always returns, for any bytes and any numbers.
+ * How far a formula's results can move where its inputs move within tolerances is told by bench_drift. All small sheets, for the factory, are written one after another
+ * by bench_next. The log of a bench that drives such machines in its own order is checked by following it (bench_check_log). No call keeps anything but what
+ * stands in that memory and in the tally: there is no heap and no global. Every call always returns, for any bytes and any numbers.
  *
  * Lent memory. A pointer goes with its length in bytes; a length of 0 goes with any pointer, NULL included. The stretches lent to one
  * call must not overlap, and nothing else may write them during the call. That and what is said of the tally is all that is asked of a caller:
@@ -84,6 +84,8 @@ enum {
     BENCH_KINDS = 18,       /* a row that breaks the kinds: an operator or test of another kind, arms or loop rounds that do not agree */
     BENCH_SORT = 20,        /* a row that drift cannot be told for, or with a value not of kind W */
     BENCH_MOVEMENT = 21,    /* tolerances not as many as the inputs, one out of range, or a row's movement past 2,147,483,647 */
+    BENCH_UNLISTED = 22,    /* a given sheet that is neither empty nor a small one */
+    BENCH_LAST_LISTED = 23, /* the last small sheet, which has no next one */
 
     /* Said of how the machine stands. */
     BENCH_ALTERED = 31,     /* a stored figure, letter or token outside its range, or a link named twice by one operator, the inputs or the results;
@@ -104,6 +106,9 @@ enum {
 /* The bytes of a tolerance and of a number of drift, and what the numbers need: those of sixteen results. */
 #define BENCH_NUMBER_BYTES 4
 #define BENCH_DRIFT_BYTES (16 * BENCH_NUMBER_BYTES)
+
+/* What a small sheet needs: five rows. */
+#define BENCH_SMALL_SHEET_BYTES (5 * BENCH_ROW_BYTES)
 
 /* What a result set needs: sixteen values. */
 #define BENCH_RESULT_BYTES (16 * BENCH_VALUE_BYTES)
@@ -138,6 +143,12 @@ typedef struct {
     uint32_t row;
     uint32_t results; /* how many numbers stand in `out` */
 } bench_drift_answer;
+
+typedef struct {
+    uint32_t refusal;
+    uint32_t row;  /* 0 */
+    uint32_t rows; /* of the next sheet */
+} bench_next_answer;
 
 typedef struct {
     uint32_t refusal;
@@ -209,6 +220,16 @@ bench_tidy_answer bench_tidy(const uint8_t *sheet, size_t sheet_bytes, uint8_t *
  */
 bench_drift_answer bench_drift(const uint8_t *sheet, size_t sheet_bytes, const uint8_t *kinds, size_t kinds_bytes, const uint8_t *tolerances,
                                size_t tolerances_bytes, uint8_t *out, size_t out_bytes);
+
+/*
+ * Writes the next small sheet to the start of `out`. A small sheet passes tests 1 to 9 (there is no kinds line) and has at most five rows, row kinds 1 to 9,
+ * identifiers and constants 0 and 1, and any codes; a let's or for's identifiers are those it binds. Of two of them the one with fewer rows comes first, of as
+ * many rows the one with the lesser byte where they first differ. `sheet` is one of them, or of no bytes for the first: calls that are each lent what the one
+ * before wrote list every small sheet once, 35,298 in all. The next one is the first BENCH_ROW_BYTES * rows bytes of `out`; bytes past it are left alone. As
+ * stretches must not overlap, take two buffers in turn. Refusals, in this order: 11 (`out` shorter than BENCH_SMALL_SHEET_BYTES, whatever is handed in), 22,
+ * 23 (the row is 0 always).
+ */
+bench_next_answer bench_next(const uint8_t *sheet, size_t sheet_bytes, uint8_t *out, size_t out_bytes);
 
 /*
  * Evaluates a sheet with its kinds line on a set within the lent rounds; a round is one entry into a loop's body. Writes sixteen values to `out`, E past the

@@ -18,10 +18,12 @@ pub mod log;
 pub mod log_cases;
 pub mod machine;
 pub mod memory;
+pub mod odometer;
 #[cfg(feature = "product")]
 pub mod product;
 pub mod random;
 pub mod sheet;
+pub mod small;
 pub mod surrounded;
 pub mod table;
 pub mod tally;

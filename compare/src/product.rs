@@ -5,6 +5,7 @@ use crate::bytes::{EvaluateAnswer, ReadAnswer};
 use crate::drift::DriftAnswer;
 use crate::log::{Handed, LogAnswer};
 use crate::memory::{Answer, RoundsAnswer, StartAnswer};
+use crate::small::NextAnswer;
 use crate::tally::Tally;
 use crate::tidy::TidyAnswer;
 
@@ -21,6 +22,7 @@ extern "C" {
         out: *mut u8,
         out_len: usize,
     ) -> DriftAnswer;
+    fn bench_next(sheet: *const u8, sheet_len: usize, out: *mut u8, out_len: usize) -> NextAnswer;
     fn bench_evaluate(
         sheet: *const u8,
         sheet_len: usize,
@@ -96,6 +98,10 @@ pub fn drift(sheet: &[u8], kinds: &[u8], tolerances: &[u8], out: &mut [u8]) -> D
             out.len(),
         )
     }
+}
+
+pub fn next(sheet: &[u8], out: &mut [u8]) -> NextAnswer {
+    unsafe { bench_next(sheet.as_ptr(), sheet.len(), out.as_mut_ptr(), out.len()) }
 }
 
 pub fn evaluate(sheet: &[u8], kinds: &[u8], set: &[u8], rounds: u32, out: &mut [u8]) -> EvaluateAnswer {

@@ -10,6 +10,7 @@ pub mod linear;
 pub mod lines;
 pub mod logs;
 pub mod movements;
+pub mod nearly_small;
 pub mod sheets;
 pub mod tree;
 pub mod turns;

@@ -1,5 +1,5 @@
-// Times the reader, the tidy call, the drift call, the evaluator and the machine's calls here and, with the feature `product`, the product's beside them in the same run. Prints
-// the first three tables of docs/BENCHMARKS.md. The last column of the first is the product's speed over ours: 1.00 is as fast, 0.50 takes twice as long;
+// Times the reader, the calls for sheets, the evaluator and the machine's calls here and, with the feature `product`, the product's beside them in the same run.
+// Prints the first three tables of docs/BENCHMARKS.md. The last column of the first is the product's speed over ours: 1.00 is as fast, 0.50 takes twice as long;
 // of the second, that of a tray over as many pushes; of the third, that of a log's check over the calls that its lines name.
 
 use compare::bytes::{self, OUT_BYTES, VALUE_BYTES};
@@ -8,15 +8,17 @@ use compare::drift::{self, NUMBER_BYTES};
 use compare::examples::{factorial, half_dead, lesser, many_operators, mean, negations, range, scaled};
 use compare::log::{self, Handed};
 use compare::memory::{self, Machine};
+use compare::odometer::Odometer;
 use compare::random::{fitting_set, Made, Rng};
-use compare::sheet::read_number;
+use compare::sheet::{read_number, ROW_BYTES};
+use compare::small::{NextAnswer, ROOM};
 use compare::table::{grouped, head, row, speed};
 use compare::tally::Tally;
 use compare::tidy;
 use compare::timing::{in_turns, side_by_side, Call, BATCHES};
 use compare::value::Value;
 use std::hint::black_box;
-use std::time::Duration;
+use std::time::{Duration, Instant};
 
 fn main() {
     head(&["call", "plain, ns", "product, ns", "speed"]);
@@ -36,6 +38,7 @@ fn main() {
         let mut ours = || drift::drift(black_box(&made.bytes), &made.kinds, &tolerances, &mut out).results;
         report(&format!("drift: {name}"), 1, &mut ours, &mut product_drift(&made, &tolerances));
     }
+    small_sheets();
     for (name, made, set, rounds) in evaluations() {
         let mut out = [0; OUT_BYTES];
         let mut ours = || bytes::evaluate(black_box(&made.bytes), &made.kinds, &set, rounds, &mut out).refusal;
@@ -83,6 +86,54 @@ fn report(name: &str, steps: u32, ours: &mut dyn FnMut() -> u32, product: &mut O
         other.map_or_else(none, |time| speed(least, time)),
     ]);
 }
+
+/// A call for the next small sheet.
+type Next<'a> = &'a dyn Fn(&[u8], &mut [u8]) -> NextAnswer;
+
+/// All small sheets one after another: the mean call, and the longest.
+fn small_sheets() {
+    let odometer = Odometer::new();
+    let plain = walk(&|sheet, out| odometer.next(sheet, out));
+    let product = product_next().map(walk);
+    let figures: [(&str, fn(&[f64]) -> f64); 2] = [
+        ("the mean", |times| times.iter().sum::<f64>() / times.len() as f64),
+        ("the longest", |times| times.iter().copied().fold(0.0, f64::max)),
+    ];
+    for (name, figure) in figures {
+        let (plain, product) = (figure(&plain), product.as_deref().map(figure));
+        let none = || String::from("-");
+        row(&[
+            format!("next: {name} of all small sheets"),
+            grouped(plain),
+            product.map_or_else(none, grouped),
+            product.map_or_else(none, |time| speed(plain, time)),
+        ]);
+    }
+}
+
+/// Nanoseconds of each call, from the empty sheet to the refusal behind the last: the least over some walks.
+fn walk(next: Next<'_>) -> Vec<f64> {
+    let mut least: Vec<f64> = Vec::new();
+    for _ in 0..WALKS {
+        let (mut sheet, mut out, mut rows) = ([0; ROOM], [0; ROOM], 0);
+        for place in 0.. {
+            let start = Instant::now();
+            let answer = next(black_box(&sheet[..ROW_BYTES * rows]), &mut out);
+            let time = start.elapsed().as_nanos() as f64;
+            match least.get_mut(place) {
+                Some(known) => *known = known.min(time),
+                None => least.push(time),
+            }
+            if answer.refusal != 0 {
+                break;
+            }
+            (sheet, rows) = (out, answer.rows as usize);
+        }
+    }
+    least
+}
+
+const WALKS: usize = 5;
 
 /// The calls on a machine at capacity 2: a start; a run of as many sets as fit, by the firing; the same by rounds, by the round; a take with the push of
 /// another set; the whole way of one set.
@@ -309,6 +360,16 @@ fn product_drift<'a>(made: &'a Made, tolerances: &'a [u8]) -> Option<Call<'a>> {
 
 #[cfg(not(feature = "product"))]
 fn product_drift<'a>(_: &'a Made, _: &'a [u8]) -> Option<Call<'a>> {
+    None
+}
+
+#[cfg(feature = "product")]
+fn product_next() -> Option<Next<'static>> {
+    Some(&compare::product::next)
+}
+
+#[cfg(not(feature = "product"))]
+fn product_next() -> Option<Next<'static>> {
     None
 }
 

@@ -5,6 +5,7 @@ use compare::bytes::{self, OUT_BYTES};
 use compare::log::{self, Handed};
 use compare::random::{Made, Rng};
 use compare::sheet::write;
+use compare::small::{self, SmallSheets};
 use compare::tally::Tally;
 use compare::value::Value;
 use compare::{drift, examples, memory, product, tidy};
@@ -41,6 +42,14 @@ fn measure_all() {
         most = std::array::from_fn(|call| most[call].max(taken[call]));
     }
     print_line("the most", most);
+    println!("{:36}{:9}", "next, the most", deepest_next());
+}
+
+/// The most that a call for the next small sheet takes, from every so-manieth sheet on.
+fn deepest_next() -> usize {
+    const STEP: usize = 100;
+    let next = |sheet: &Vec<u8>| below(|| product::next(sheet, &mut [0; small::ROOM]).refusal);
+    SmallSheets::all().list().iter().step_by(STEP).map(next).max().unwrap_or(0)
 }
 
 fn print_line(name: &str, taken: [usize; CALLS.len()]) {

@@ -11,6 +11,7 @@ use machine_rounds::RoundsAnswer;
 use machine_start::StartAnswer;
 use machine_tally::Tally;
 use sheet_drift::DriftAnswer;
+use sheet_next::NextAnswer;
 use sheet_read::read::ReadAnswer;
 use sheet_tidy::TidyAnswer;
 ghost use mathlib.Core.Path.{_≡_};
@@ -18,6 +19,7 @@ ghost use Rattle.formula.specs.Tests.{readingOf};
 ghost use Rattle.sheet_read.specs.Reading.{answerOf};
 ghost use Rattle.sheet_tidy.specs.Tidying.{handed as tidyHanded, tidiedInto};
 ghost use Rattle.sheet_drift.specs.Drifting.{handed as driftHanded, driftedInto};
+ghost use Rattle.sheet_next.specs.Next.{handed as nextHanded, nextInto};
 ghost use Rattle.eval_sheet.specs.Handed.{handed as evaluationHanded, handedOut};
 ghost use Rattle.machine_start.specs.Start.{begun, started};
 ghost use Rattle.machine_calls.specs.Calls.{outcome, handed, pushed, fired, ran, taken};
@@ -50,6 +52,13 @@ pub extern "C" fn bench_drift(
     ensures { λ a. ⌜ driftHanded a (now (out .exit)) ≡ driftedInto (now (sheet .entry)) (now (kinds .entry)) (now (tolerances .entry)) (now (out .entry)) ⌝ }
 {
     sheet_drift::drift(sheet, kinds, tolerances, out)
+}
+
+#[no_mangle]
+pub extern "C" fn bench_next(sheet: &[u8], out: &mut [u8]) -> NextAnswer
+    ensures { λ a. ⌜ nextHanded a (now (out .exit)) ≡ nextInto (now (sheet .entry)) (now (out .entry)) ⌝ }
+{
+    sheet_next::next_sheet(sheet, out)
 }
 
 #[no_mangle]

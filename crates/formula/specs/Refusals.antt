@@ -1,8 +1,8 @@
--- Document 01, "Said by what was handed in" and "Said by how the machine stands": the number of each refusal; 15 and 16 are document 02's, Job 3, 17 and 18 Job 6, 20 and 21 Job 13.
+-- Document 01, "Said by what was handed in" and "Said by how the machine stands": the number of each refusal; 15 and 16 are document 02's, Job 3, 17 and 18 Job 6, 20 and 21 Job 13, 22 and 23 Job 14.
 use Prim.Native.Nat.{ℕ, _≤_}
 use native.Mathlib.Omega.{arith}
 use Rattle.formula.specs.declared.Refusal.{Refusal}
-use Rattle.formula.specs.declared.Refusal.the-variants.{Layout, Rows, Malformed, Range, Naming, Named, StrayIter, Width, Unused, Operators, Memory, Set, SetFile, Capacity, LogLine, LogRefused, KindsLine, KindsBroken, Sort, Movement, Altered, Untaken, Full, NotAble, NoResult, Unfinished}
+use Rattle.formula.specs.declared.Refusal.the-variants.{Layout, Rows, Malformed, Range, Naming, Named, StrayIter, Width, Unused, Operators, Memory, Set, SetFile, Capacity, LogLine, LogRefused, KindsLine, KindsBroken, Sort, Movement, Unlisted, LastListed, Altered, Untaken, Full, NotAble, NoResult, Unfinished}
 
 abbrev pub numberOf : Refusal → ℕ
 numberOf Layout = 1
@@ -25,6 +25,8 @@ numberOf KindsLine = 17
 numberOf KindsBroken = 18
 numberOf Sort = 20
 numberOf Movement = 21
+numberOf Unlisted = 22
+numberOf LastListed = 23
 numberOf Altered = 31
 numberOf Untaken = 32
 numberOf Full = 33
@@ -54,6 +56,8 @@ number-positive KindsLine = omega arith
 number-positive KindsBroken = omega arith
 number-positive Sort = omega arith
 number-positive Movement = omega arith
+number-positive Unlisted = omega arith
+number-positive LastListed = omega arith
 number-positive Altered = omega arith
 number-positive Untaken = omega arith
 number-positive Full = omega arith

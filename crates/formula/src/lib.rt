@@ -91,6 +91,10 @@ pub enum Refusal {
     Sort,
     // 21: tolerances not as many as the inputs or out of range, or a row's movement past the range
     Movement,
+    // 22: the given sheet is neither empty nor in the list of small sheets
+    Unlisted,
+    // 23: the given sheet is the last of that list
+    LastListed,
     // 31: a stored figure or token outside its range, or a link named twice
     Altered,
     // 32: sixteen sets untaken
@@ -169,6 +173,8 @@ pub fn refusal_number(r: Refusal) -> u32
         Refusal::KindsBroken => 18,
         Refusal::Sort => 20,
         Refusal::Movement => 21,
+        Refusal::Unlisted => 22,
+        Refusal::LastListed => 23,
         Refusal::Altered => 31,
         Refusal::Untaken => 32,
         Refusal::Full => 33,

@@ -1,16 +1,16 @@
 -- The refusals of each call as an ordered table, each condition by name: document 01, "Said by what was handed in" and "Said by how the machine stands",
 -- "11 comes before all", "Order: 11, 31, 12, then these", "14 .. (start: after 11, before 1)"; document 02, Job 6, "17 .., 18 .., in this order after 9 and
 -- before 10"; document 02, Job 7, "36 is given when something can fire after them"; document 02, Job 3, "15 tested over the whole log first, both after 12";
--- document 02, Job 13, "20 .., after 10, and 21 .., after 20".
+-- document 02, Job 13, "20 .., after 10, and 21 .., after 20"; document 02, Job 14, "both after 11".
 -- Definitions only; assumes nothing.
 use Prim.Native.Nat.{ℕ, zero, suc, _-_, _*_}
-use mathlib.Core.Bool.{Bool, true, false, not, _&&_}
+use mathlib.Core.Bool.{Bool, true, false, not, _&&_, _||_}
 use mathlib.Core.List.{List, [], _∷_, _++_}
 use mathlib.Core.Option.{Option, some, none}
 use lib.Dec.{eqb, leb, ltb}
 use lib.ListN.{length, take, drop}
 use Rattle.value.specs.declared.Value.{Value}
-use Rattle.formula.specs.declared.Refusal.the-variants.{Layout, Rows, Malformed, Range, Naming, Named, StrayIter, Width, Unused, Operators, Memory, Set, Capacity, LogLine, LogRefused, KindsLine, KindsBroken, Sort, Movement, Altered, Untaken, Full, NotAble, NoResult, Unfinished}
+use Rattle.formula.specs.declared.Refusal.the-variants.{Layout, Rows, Malformed, Range, Naming, Named, StrayIter, Width, Unused, Operators, Memory, Set, Capacity, LogLine, LogRefused, KindsLine, KindsBroken, Sort, Movement, Unlisted, LastListed, Altered, Untaken, Full, NotAble, NoResult, Unfinished}
 use Rattle.formula.specs.declared.Check.{Check}
 use Rattle.formula.specs.declared.Check.the-variants.{Passed, Fault}
 use Rattle.formula.specs.Sheet.{rowCount, linesOf, fieldsOf}
@@ -20,6 +20,7 @@ use Rattle.formula.specs.Free.{freeE}
 use Rattle.formula.specs.Faults.{lettersOf}
 use Rattle.formula.specs.Tests.{lowest, laidOut, fewRows, fieldsWell, rangesWell, namesWell, namedOnce, allNamed, placedWell, widthsWell, boundWell, lineFits, kindsKept, operatorsOf as operatorsIn}
 use Rattle.sheet_tidied.specs.Tidy.{tidyNeed}
+use Rattle.sheet_listed.specs.Small.{isSmall, Behind, none-behind, unlisted, nextOf}
 use Rattle.sheet_movement.specs.Sorts.{sortsKept}
 use Rattle.sheet_movement.specs.Moves.{movementsFit}
 use Rattle.meaning.specs.Meaning.{Outcome, yields, inputsHold, evalE}
@@ -183,6 +184,31 @@ movementTable s line tolerances =
 abbrev pub driftTable : List ℕ → List ℕ → List ℕ → List ℕ → List Row
 driftTable s line tolerances out = (no-room-for-drift out, Memory) ∷ (sheetTable s line ++ movementTable s line tolerances)
 
+-- 11 for five rows, the most that a small sheet has
+abbrev pub no-room-for-next : List ℕ → Bool
+no-room-for-next out = ltb (length out) 155
+
+abbrev pub is-empty : List ℕ → Bool
+is-empty [] = true
+is-empty (x ∷ s) = false
+
+-- 22 "when the given sheet is neither empty nor in the list", which has the small sheets
+abbrev pub not-listed : List ℕ → Bool
+not-listed s = not (is-empty s || isSmall s)
+
+abbrev pub is-last : Behind → Bool
+is-last (Behind.next u) = false
+is-last none-behind = true
+is-last unlisted = false
+
+-- "22 .., and 23 when it is the last one, both after 11"
+abbrev pub nextTable : List ℕ → List ℕ → List Row
+nextTable s out =
+    (no-room-for-next out, Memory)
+    ∷ (not-listed s, Unlisted)
+    ∷ (is-last (nextOf s), LastListed)
+    ∷ []
+
 -- 11 by the capacity asked
 abbrev pub short-asked : ℕ → List ℕ → Bool
 short-asked capacity m = ltb (length m) (need (sizeOf (capacityIn capacity)))
@@ -269,6 +295,9 @@ tidyNumbers = 11 ∷ 1 ∷ 2 ∷ 3 ∷ 4 ∷ 5 ∷ []
 
 abbrev pub driftNumbers : List ℕ
 driftNumbers = 11 ∷ (sheetNumbers ++ (20 ∷ 21 ∷ []))
+
+abbrev pub nextNumbers : List ℕ
+nextNumbers = 11 ∷ 22 ∷ 23 ∷ []
 
 abbrev pub pushNumbers : List ℕ
 pushNumbers = 11 ∷ 31 ∷ 12 ∷ 32 ∷ 33 ∷ []

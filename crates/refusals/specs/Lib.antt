@@ -11,5 +11,6 @@ pub mod Kept
 pub mod LogKept
 pub mod TidyRefused
 pub mod DriftRefused
+pub mod NextRefused
 pub mod Refused
 pub mod FiredLinks

@@ -14,6 +14,7 @@ use Rattle.formula.specs.Tests.{readingOf}
 use Rattle.sheet_read.specs.Reading.{answerOf}
 use Rattle.sheet_tidy.specs.Tidying.{tidiedInto}
 use Rattle.sheet_drift.specs.Drifting.{driftedInto}
+use Rattle.sheet_next.specs.Next.{nextInto}
 use Rattle.eval_sheet.specs.Handed.{handedOut}
 use Rattle.machine_calls.specs.Calls.{pushed, fired, ran, taken}
 use Rattle.machine_rounds.specs.Rounds.{ranRounds}
@@ -21,7 +22,7 @@ use Rattle.machine_tray.specs.Tray.{trayed}
 use Rattle.machine_start.specs.Start.{started}
 use Rattle.machine_log.specs.Checked.{checked}
 use Rattle.refusals.specs.FirstRefusal.{Row, first-refusal, Named, Among, numbers, NoneHolds, FirstHolds, accepted-exactly, refused-exactly, first-among, first-named}
-use Rattle.refusals.specs.Conditions.{tidyTable, driftTable, pushTable, trayTable, fireTable, runTable, roundsTable, takeTable, sheetTable, startTable, evaluateTable, logTable, sheetNumbers, tidyNumbers, driftNumbers, pushNumbers, trayNumbers, fireNumbers, runNumbers, roundsNumbers, takeNumbers, startNumbers, evaluateNumbers, logNumbers}
+use Rattle.refusals.specs.Conditions.{tidyTable, driftTable, nextTable, pushTable, trayTable, fireTable, runTable, roundsTable, takeTable, sheetTable, startTable, evaluateTable, logTable, sheetNumbers, tidyNumbers, driftNumbers, nextNumbers, pushNumbers, trayNumbers, fireNumbers, runNumbers, roundsNumbers, takeNumbers, startNumbers, evaluateNumbers, logNumbers}
 use Rattle.refusals.specs.Rows.{RowTold}
 use Rattle.refusals.specs.Exact.{push-exact, fire-exact, run-exact, rounds-exact, take-exact, read-exact, start-exact, evaluate-exact}
 use Rattle.refusals.specs.TrayExact.{tray-exact, tray-numbers}
@@ -29,6 +30,7 @@ use Rattle.refusals.specs.LogExact.{log-exact}
 use Rattle.refusals.specs.LogRows.{LogRow, log-row}
 use Rattle.refusals.specs.TidyRefused.{tidy-exact, tidy-keeps}
 use Rattle.refusals.specs.DriftRefused.{drift-exact, drift-keeps}
+use Rattle.refusals.specs.NextRefused.{next-exact, next-keeps}
 use Rattle.refusals.specs.Kept.{UsedUpFirings, UsedUpRounds, RoundsLeave, SetRefused, read-keeps, start-keeps, push-keeps, tray-keeps, fire-keeps, run-keeps, rounds-keeps, take-keeps, evaluate-keeps}
 use Rattle.refusals.specs.LogKept.{AsEarlierLines, LogLeaves, log-keeps}
 
@@ -37,6 +39,7 @@ pub data Call : Type 0 where
   read : List ℕ → List ℕ → Call
   tidy : List ℕ → List ℕ → Call
   drift : List ℕ → List ℕ → List ℕ → List ℕ → Call
+  nextSheet : List ℕ → List ℕ → Call
   start : List ℕ → List ℕ → ℕ → List ℕ → Call
   push : List ℕ → List ℕ → Call
   tray : List ℕ → List ℕ → ℕ → Call
@@ -51,6 +54,7 @@ unfoldable pub refusalOf : Call → ℕ
 refusalOf (read sheet line) = answerOf (readingOf sheet line) .refusal
 refusalOf (tidy sheet out) = tidiedInto sheet out .answer .refusal
 refusalOf (drift sheet line tolerances out) = driftedInto sheet line tolerances out .answer .refusal
+refusalOf (nextSheet sheet out) = nextInto sheet out .answer .refusal
 refusalOf (start sheet line capacity m) = started sheet line capacity m .answer .refusal
 refusalOf (push m set) = pushed m set .answer .refusal
 refusalOf (tray m sets number) = trayed m sets number .answer .refusal
@@ -66,6 +70,7 @@ unfoldable pub countsOf : Call → List ℕ
 countsOf (read sheet line) = let a = answerOf (readingOf sheet line) in a .rows ∷ a .operators ∷ a .inputs ∷ a .results ∷ []
 countsOf (tidy sheet out) = tidiedInto sheet out .answer .rows ∷ []
 countsOf (drift sheet line tolerances out) = driftedInto sheet line tolerances out .answer .results ∷ []
+countsOf (nextSheet sheet out) = nextInto sheet out .answer .rows ∷ []
 countsOf (start sheet line capacity m) = let a = started sheet line capacity m .answer in a .operators ∷ a .inputs ∷ a .results ∷ []
 countsOf (push m set) = pushed m set .answer .count ∷ []
 countsOf (tray m sets number) = trayed m sets number .answer .count ∷ []
@@ -81,6 +86,7 @@ unfoldable pub lent : Call → List (List ℕ)
 lent (read sheet line) = []
 lent (tidy sheet out) = out ∷ []
 lent (drift sheet line tolerances out) = out ∷ []
+lent (nextSheet sheet out) = out ∷ []
 lent (start sheet line capacity m) = m ∷ []
 lent (push m set) = m ∷ []
 lent (tray m sets number) = m ∷ []
@@ -95,6 +101,7 @@ unfoldable pub handed-back : Call → List (List ℕ)
 handed-back (read sheet line) = []
 handed-back (tidy sheet out) = tidiedInto sheet out .out ∷ []
 handed-back (drift sheet line tolerances out) = driftedInto sheet line tolerances out .out ∷ []
+handed-back (nextSheet sheet out) = nextInto sheet out .out ∷ []
 handed-back (start sheet line capacity m) = started sheet line capacity m .mem ∷ []
 handed-back (push m set) = pushed m set .mem ∷ []
 handed-back (tray m sets number) = trayed m sets number .mem ∷ []
@@ -110,6 +117,7 @@ unfoldable pub tableOf : Call → List Row
 tableOf (read sheet line) = sheetTable sheet line
 tableOf (tidy sheet out) = tidyTable sheet out
 tableOf (drift sheet line tolerances out) = driftTable sheet line tolerances out
+tableOf (nextSheet sheet out) = nextTable sheet out
 tableOf (start sheet line capacity m) = startTable sheet line capacity m
 tableOf (push m set) = pushTable m set
 tableOf (tray m sets number) = trayTable m sets number
@@ -124,6 +132,7 @@ unfoldable pub numbersOf : Call → List ℕ
 numbersOf (read sheet line) = sheetNumbers
 numbersOf (tidy sheet out) = tidyNumbers
 numbersOf (drift sheet line tolerances out) = driftNumbers
+numbersOf (nextSheet sheet out) = nextNumbers
 numbersOf (start sheet line capacity m) = startNumbers
 numbersOf (push m set) = pushNumbers
 numbersOf (tray m sets number) = trayNumbers
@@ -146,6 +155,7 @@ abbrev pub Excepted : Call → Type 0
 Excepted (read sheet line) = ⊥
 Excepted (tidy sheet out) = ⊥
 Excepted (drift sheet line tolerances out) = ⊥
+Excepted (nextSheet sheet out) = ⊥
 Excepted (start sheet line capacity m) = ⊥
 Excepted (push m set) = ⊥
 Excepted (tray m sets number) = SetRefused m sets number
@@ -161,6 +171,7 @@ abbrev pub RowSaid : Call → Type 0
 RowSaid (read sheet line) = RowTold sheet line (answerOf (readingOf sheet line) .refusal) (answerOf (readingOf sheet line) .row)
 RowSaid (tidy sheet out) = RowTold sheet [] (tidiedInto sheet out .answer .refusal) (tidiedInto sheet out .answer .row)
 RowSaid (drift sheet line tolerances out) = RowTold sheet line (driftedInto sheet line tolerances out .answer .refusal) (driftedInto sheet line tolerances out .answer .row)
+RowSaid (nextSheet sheet out) = RowTold sheet [] (nextInto sheet out .answer .refusal) (nextInto sheet out .answer .row)
 RowSaid (start sheet line capacity m) = RowTold sheet line (started sheet line capacity m .answer .refusal) (started sheet line capacity m .answer .row)
 RowSaid (push m set) = Unit {0}
 RowSaid (tray m sets number) = Unit {0}
@@ -178,6 +189,7 @@ unfolding refusalOf tableOf
 call-exact (read sheet line) = read-exact sheet line
 call-exact (tidy sheet out) = tidy-exact sheet out
 call-exact (drift sheet line tolerances out) = drift-exact sheet line tolerances out
+call-exact (nextSheet sheet out) = next-exact sheet out
 call-exact (start sheet line capacity m) = start-exact sheet line capacity m
 call-exact (push m set) = push-exact m set
 call-exact (tray m sets number) = tray-exact m sets number
@@ -211,6 +223,7 @@ unfolding tableOf numbersOf
 table-numbers (read sheet line) n a = a
 table-numbers (tidy sheet out) n a = a
 table-numbers (drift sheet line tolerances out) n a = a
+table-numbers (nextSheet sheet out) n a = a
 table-numbers (start sheet line capacity m) n a = a
 table-numbers (push m set) n a = a
 table-numbers (tray m sets number) n a = tray-numbers m sets number n a
@@ -234,6 +247,7 @@ unfolding refusalOf
 row-said (read sheet line) h = read-keeps sheet line h .0
 row-said (tidy sheet out) h = tidy-keeps sheet out h .0
 row-said (drift sheet line tolerances out) h = drift-keeps sheet line tolerances out h .0
+row-said (nextSheet sheet out) h = next-keeps sheet out h .0
 row-said (start sheet line capacity m) h = start-keeps sheet line capacity m h .0
 row-said (push m set) h = tt
 row-said (tray m sets number) h = tt
@@ -249,6 +263,7 @@ unfolding refusalOf handed-back lent countsOf
 bytes-back (read sheet line) h = let k = read-keeps sheet line h in inl (refl, (k .1, (k .2, (k .3, (k .4, tt)))))
 bytes-back (tidy sheet out) h = let k = tidy-keeps sheet out h in inl (one (k .2), (k .1, tt))
 bytes-back (drift sheet line tolerances out) h = let k = drift-keeps sheet line tolerances out h in inl (one (k .2), (k .1, tt))
+bytes-back (nextSheet sheet out) h = let k = next-keeps sheet out h in inl (one (k .2), (k .1, tt))
 bytes-back (start sheet line capacity m) h = let k = start-keeps sheet line capacity m h in inl (one (k .4), (k .1, (k .2, (k .3, tt))))
 bytes-back (push m set) h = let k = push-keeps m set h in inl (one (k .1), (k .0, tt))
 bytes-back (tray m sets number) h = go (tray-keeps m sets number h)

@@ -6,7 +6,7 @@ use mathlib.Core.Bool.{Bool, true, false}
 use mathlib.Core.List.{List, _++_}
 use lib.Dec.{leb}
 use Rattle.formula.specs.declared.Refusal.{Refusal}
-use Rattle.formula.specs.declared.Refusal.the-variants.{Layout, Rows, Malformed, Range, Naming, Named, StrayIter, Width, Unused, Operators, Memory, Set, SetFile, Capacity, LogLine, LogRefused, KindsLine, KindsBroken, Sort, Movement, Altered, Untaken, Full, NotAble, NoResult, Unfinished}
+use Rattle.formula.specs.declared.Refusal.the-variants.{Layout, Rows, Malformed, Range, Naming, Named, StrayIter, Width, Unused, Operators, Memory, Set, SetFile, Capacity, LogLine, LogRefused, KindsLine, KindsBroken, Sort, Movement, Unlisted, LastListed, Altered, Untaken, Full, NotAble, NoResult, Unfinished}
 use Rattle.formula.specs.declared.Check.the-variants.{Fault}
 use Rattle.formula.specs.declared.Verdict.{Verdict}
 use Rattle.formula.specs.declared.Verdict.the-variants.{Passed as passed, Refused as refused}
@@ -59,6 +59,8 @@ RowOf s line LogLine row = ⊥
 RowOf s line LogRefused row = ⊥
 RowOf s line Sort row = LowestOfKinds drifting s line row
 RowOf s line Movement row = row ≡ 0
+RowOf s line Unlisted row = row ≡ 0
+RowOf s line LastListed row = row ≡ 0
 RowOf s line Altered row = row ≡ 0
 RowOf s line Untaken row = row ≡ 0
 RowOf s line Full row = row ≡ 0

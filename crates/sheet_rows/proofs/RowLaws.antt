@@ -96,16 +96,15 @@ pub named-by : (t : List ℕ) (n : ℕ) → lowest n (namesWell t) ≡ Passed �
 unfolding namesWell
 named-by t n h = record { names = λ r a b. all-between r (namedIn (shapeAt t r)) (passed-each n (namesWell t) h r a b) }
 
--- Test 6 by a tally of n rows.
-pub tallied-once : (t l : List ℕ) (n : ℕ) → lowest n (namesWell t) ≡ Passed → l ≡ replicate n 0
-    → lowest (n - 1) (λ k. eqb (getD (tallied t n l) (k - 1) 0) 1) ≡ lowest (n - 1) (λ k. namedOnce (allNamed t n) k)
-tallied-once t l n h z =
-    same-lowest (n - 1) (λ k. eqb (getD (tallied t n l) (k - 1) 0) 1) (λ k. namedOnce (allNamed t n) k) one
-  where
-    one : (r : ℕ) → 1 ≤ r → r ≤ n - 1 → eqb (getD (tallied t n l) (r - 1) 0) 1 ≡ namedOnce (allNamed t n) r
-    one r a b =
-        let e : suc (r - 1) ≡ r = omega arith in
-        let len : length l ≡ n = ap length z ∙ length-replicate n 0 in
-        ap (λ (v : ℕ). eqb v 1) (tallied-at t l n n (r - 1) (named-by t n h) (omega arith) (omega arith) (rw z (getD-replicate n (r - 1) 0 0 (omega arith))))
-        ∙ cap-once (occurrences (suc (r - 1)) (allNamed t n))
-        ∙ ap (λ (k : ℕ). namedOnce (allNamed t n) k) e
+-- By a tally of n rows: whether a row is named once, and test 6.
+module _ (t l : List ℕ) (n : ℕ) (h : lowest n (namesWell t) ≡ Passed) (z : l ≡ replicate n 0) where
+  pub tallied-row : (r : ℕ) → 1 ≤ r → r ≤ n → eqb (getD (tallied t n l) (r - 1) 0) 1 ≡ namedOnce (allNamed t n) r
+  tallied-row r a b =
+      let e : suc (r - 1) ≡ r = omega arith in
+      let len : length l ≡ n = ap length z ∙ length-replicate n 0 in
+      ap (λ (v : ℕ). eqb v 1) (tallied-at t l n n (r - 1) (named-by t n h) (omega arith) (omega arith) (rw z (getD-replicate n (r - 1) 0 0 (omega arith))))
+      ∙ cap-once (occurrences (suc (r - 1)) (allNamed t n))
+      ∙ ap (λ (k : ℕ). namedOnce (allNamed t n) k) e
+
+  pub tallied-once : lowest (n - 1) (λ k. eqb (getD (tallied t n l) (k - 1) 0) 1) ≡ lowest (n - 1) (λ k. namedOnce (allNamed t n) k)
+  tallied-once = same-lowest (n - 1) (λ k. eqb (getD (tallied t n l) (k - 1) 0) 1) (λ k. namedOnce (allNamed t n) k) (λ r a b. tallied-row r a (omega arith))

@@ -122,7 +122,7 @@ fn between(x: usize, r: usize) -> bool
 }
 
 // Test 5 of row r, by its shape.
-fn names_well(s: Shape, r: usize) -> bool
+pub fn names_well(s: Shape, r: usize) -> bool
     ensures { λ b. ⌜ b ≡ allBetween r (namedIn s) ⌝ }
 {
     match s {
@@ -205,7 +205,7 @@ fn tally_row(times: &mut [u8], s: Shape, r: usize)
 }
 
 // How often each row is named: 0 never, 1 once, 2 more than once.
-fn tally_all(fields: &[u32], n: usize, times: &mut [u8])
+pub fn tally_all(fields: &[u32], n: usize, times: &mut [u8])
     requires { ⌜ (length (now fields) ≡ 5 * n) × (length (now times) ≡ n) × (lowest n (namesWell (now fields)) ≡ Passed) ⌝ }
     ensures { λ _. ⌜ now (times .exit) ≡ tallied (now (fields .entry)) n (now (times .entry)) ⌝ }
 {

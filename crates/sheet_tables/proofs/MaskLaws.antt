@@ -52,7 +52,7 @@ module _ (N : ℕ → Node) (E : ℕ → Exp) (B : ℕ → Body) (M : ℕ → �
     as-body : (x : ℕ) → (1 ≤ x) × (x < r) → N x ≡ body (B x) → M x ≡ mask (freeB (B x))
     as-body x h e = known x (h .0) (h .1) ∙ ap (λ n. mask (freeIn n)) e
 
-    masked : (b : Bool) (s : Shape) → Parts N E B b s → Ranged s → AllBetween r (namedIn s) → maskBy b M s ≡ mask (freeIn (nodeBy b E B s))
+    pub masked : (b : Bool) (s : Shape) → Parts N E B b s → Ranged s → AllBetween r (namedIn s) → maskBy b M s ≡ mask (freeIn (nodeBy b E B s))
     unfolding plainMask namedIn expNode bodyNode freeE
     masked true (Identifier a) h q l = with-trigger (2 ^ a) (one a) (sym (mask-one a (omega arith)))
     masked false (Identifier a) h q l = sym (mask-one a (omega arith))
@@ -77,7 +77,7 @@ module _ (N : ℕ → Node) (E : ℕ → Exp) (B : ℕ → Body) (M : ℕ → �
     masked true (Iter x) h q l = with-trigger (M x) (freeE (E x)) (as-exp x (l .0) (h .1))
     masked false (Iter x) h q l = absurd (false≢true (h .0))
 
-    bound : (b : Bool) (s : Shape) → Parts N E B b s → Ranged s → AllBetween r (namedIn s) → boundNode (nodeBy b E B s) ≡ boundBy M s
+    pub bound : (b : Bool) (s : Shape) → Parts N E B b s → Ranged s → AllBetween r (namedIn s) → boundNode (nodeBy b E B s) ≡ boundBy M s
     unfolding boundNode boundE boundB boundBy namedIn expNode bodyNode covers
     bound true (Identifier a) h q l = refl
     bound false (Identifier a) h q l = refl
@@ -141,12 +141,15 @@ ranged-by a b c d false false false false false false false false true k10 h = t
 ranged-by a b c d false false false false false false false false false true h = tt
 ranged-by a b c d false false false false false false false false false false h = tt
 
+pub ranged-row : (t : List ℕ) (r : ℕ) → rangesWell t r ≡ true → Ranged (shapeAt t r)
+unfolding shapeAt shapeOf rangesWell inRange
+ranged-row t r h =
+    ranged-by (field t r 1) (field t r 2) (field t r 3) (field t r 4) (eqb (field t r 0) 1) (eqb (field t r 0) 2) (eqb (field t r 0) 3)
+    (eqb (field t r 0) 4) (eqb (field t r 0) 5) (eqb (field t r 0) 6) (eqb (field t r 0) 7) (eqb (field t r 0) 8) (eqb (field t r 0) 9) (eqb (field t r 0) 10) h
+
 module _ (t : List ℕ) (n : ℕ) (p : List Bool) (ok : Ready t n p) where
   pub ranged-at : (r : ℕ) → 1 ≤ r → r ≤ n → Ranged (shapeAt t r)
-  unfolding shapeAt shapeOf rangesWell inRange
-  ranged-at r a b =
-      ranged-by (field t r 1) (field t r 2) (field t r 3) (field t r 4) (eqb (field t r 0) 1) (eqb (field t r 0) 2) (eqb (field t r 0) 3)
-      (eqb (field t r 0) 4) (eqb (field t r 0) 5) (eqb (field t r 0) 6) (eqb (field t r 0) 7) (eqb (field t r 0) 8) (eqb (field t r 0) 9) (eqb (field t r 0) 10) (ok .ranges r a b)
+  ranged-at r a b = ranged-row t r (ok .ranges r a b)
 
   module _ (i : ℕ) (l : i < n) (m : List ℕ) (hm : Holds 0 m i (λ k. mask (freeIn (nodeAt t p k)))) (s : Shape) (e : s ≡ shapeAt t (i + 1)) where
     pub names-of : AllBetween (i + 1) (namedIn s)

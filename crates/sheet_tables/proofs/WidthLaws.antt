@@ -34,7 +34,7 @@ module _ (N : ℕ → Node) (E : ℕ → Exp) (B : ℕ → Body) where
   I : ℕ → ℕ
   I k = iteratedIn (N k)
 
-  tells : (b : Bool) (s : Shape) → Parts N E B b s → Tells (nodeBy b E B s) (widthsBy b (λ k. returnedIn (N k)) (λ k. iteratedIn (N k)) s)
+  pub tells : (b : Bool) (s : Shape) → Parts N E B b s → Tells (nodeBy b E B s) (widthsBy b (λ k. returnedIn (N k)) (λ k. iteratedIn (N k)) s)
   unfolding widthsBy expNode bodyNode width iterated wideNode wideE wideB fittingE fittingB
   tells true (Identifier a) h = record { returns = refl; iterates = refl; rules = refl }
   tells false (Identifier a) h = record { returns = refl; iterates = refl; rules = refl }
@@ -54,7 +54,7 @@ module _ (N : ℕ → Node) (E : ℕ → Exp) (B : ℕ → Body) where
   tells false (Iter x) h = let z : _≡_ {A = ℕ} 0 1 = cc (h .0) in absurd (omega arith)
 
 -- A row's widths by tables that hold those of the earlier rows.
-same-widths : (b : Bool) (r : ℕ) (R I J K : ℕ → ℕ) (s : Shape) → AllBetween r (namedIn s)
+pub same-widths : (b : Bool) (r : ℕ) (R I J K : ℕ → ℕ) (s : Shape) → AllBetween r (namedIn s)
     → ((k : ℕ) → 1 ≤ k → k < r → J k ≡ R k) → ((k : ℕ) → 1 ≤ k → k < r → K k ≡ I k) → widthsBy b J K s ≡ widthsBy b R I s
 unfolding widthsBy namedIn
 same-widths b r R I J K (Identifier a) h u v = refl

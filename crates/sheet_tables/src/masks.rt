@@ -94,7 +94,7 @@ fn covered(m: u64, a: u32, b: u32) -> bool
 }
 
 // Test 9 of row r, of shape s.
-fn bound_well(s: Shape, r: usize, masks: &[u64]) -> bool
+pub fn bound_well(s: Shape, r: usize, masks: &[u64]) -> bool
     requires { ⌜ (AllBetween r (namedIn s)) × (Ranged s) × (r ≤ length (now masks) + 1) ⌝ }
     ensures { λ b. ⌜ b ≡ boundBy (λ k. getD (now (masks .entry)) (k - 1) 0) s ⌝ }
 {

@@ -100,7 +100,7 @@ fn for_widths(k: usize, u: usize, v: usize, x: usize) -> Widths
 }
 
 // The widths of row r, of shape s, from those of earlier rows.
-fn widths_of(s: Shape, r: usize, in_body: bool, returned: &[u8], iterated: &[u8]) -> Widths
+pub fn widths_of(s: Shape, r: usize, in_body: bool, returned: &[u8], iterated: &[u8]) -> Widths
     requires { ⌜ (AllBetween r (namedIn s)) × (r ≤ length (now returned) + 1) × (r ≤ length (now iterated) + 1) ⌝ }
     ensures { λ w. ⌜ w ≡ widthsBy «in_body» (λ k. getD (now (returned .entry)) (k - 1) 0) (λ k. getD (now (iterated .entry)) (k - 1) 0) s ⌝ }
 {
@@ -139,7 +139,7 @@ fn widths_of(s: Shape, r: usize, in_body: bool, returned: &[u8], iterated: &[u8]
 }
 
 // Test 8 of a row's widths.
-fn widths_well(w: Widths) -> bool
+pub fn widths_well(w: Widths) -> bool
     ensures { λ b. ⌜ b ≡ wellBy w ⌝ }
 {
     if WIDEST < w.iterated {

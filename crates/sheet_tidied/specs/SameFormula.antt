@@ -23,10 +23,10 @@ use Rattle.sheet_tidied.specs.Tidied.{keptIn, new-count, new-shape, tidi
 
 -- A row whose named rows are the same trees under their new numbers is the same tree.
 module _ (f : ℕ → ℕ) (E E′ : ℕ → Exp) (B B′ : ℕ → Body) where
-  abbrev Same : List ℕ → Type 0
+  abbrev pub Same : List ℕ → Type 0
   Same l = (x : ℕ) → Among x l → (E′ (f x) ≡ E x) × (B′ (f x) ≡ B x)
 
-  exp-same : (s : Shape) → Same (namedIn s) → expNode E′ B′ (renumbered f s) ≡ expNode E B s
+  pub exp-same : (s : Shape) → Same (namedIn s) → expNode E′ B′ (renumbered f s) ≡ expNode E B s
   unfolding expNode renumbered namedIn
   exp-same (Identifier a) h = refl
   exp-same (Constant k a) h = refl
@@ -37,7 +37,7 @@ module _ (f : ℕ → ℕ) (E E′ : ℕ → Exp) (B B′ : ℕ → Body) where
   exp-same (For a b c d) h = cc (h c (inl refl) .0, h d (inr (inl refl)) .1)
   exp-same (Iter a) h = h a (inl refl) .0
 
-  body-same : (s : Shape) → Same (namedIn s) → bodyNode E′ B′ (renumbered f s) ≡ bodyNode E B s
+  pub body-same : (s : Shape) → Same (namedIn s) → bodyNode E′ B′ (renumbered f s) ≡ bodyNode E B s
   unfolding bodyNode renumbered namedIn
   body-same (Identifier a) h = refl
   body-same (Constant k a) h = refl

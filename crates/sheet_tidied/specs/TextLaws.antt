@@ -156,7 +156,7 @@ module _ (rs : List (List ℕ)) (h : Rows rs) where
           let q : List ℕ = kind ∷ a ∷ b ∷ c ∷ d ∷ [] in
           rw (read-part q 0 (omega arith) h, read-part q 1 (omega arith) i, read-part q 2 (omega arith) j, read-part q 3 (omega arith) k, read-part q 4 (omega arith) l) refl
 
-  field-at : (r j : ℕ) → 1 ≤ r → r ≤ length rs → j < 5 → field (flatten rs) r j ≡ getD (getD rs (r - 1) []) j 0
+  pub field-at : (r j : ℕ) → 1 ≤ r → r ≤ length rs → j < 5 → field (flatten rs) r j ≡ getD (getD rs (r - 1) []) j 0
   field-at r j l u k = field-in rs h (r - 1) j (omega arith) k
 
   module _ (r : ℕ) (l : 1 ≤ r) (u : r ≤ length rs) where

@@ -36,7 +36,7 @@ const LINE_FEED_AT: usize = 30;
 
 const LINE_FEED: u8 = 10;
 
-fn row(kind: u32, a: u32, b: u32, c: u32, d: u32) -> RowFields
+pub fn row(kind: u32, a: u32, b: u32, c: u32, d: u32) -> RowFields
     ensures { λ r. ⌜ r ≡ record { kind = kind; a = a; b = b; c = c; d = d } ⌝ }
 {
     RowFields { kind, a, b, c, d }

@@ -1,0 +1,4 @@
+pub mod RowsLaws
+pub mod StepLaws
+pub mod DownLaws
+pub mod AnswerLaws

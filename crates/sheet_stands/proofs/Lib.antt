@@ -1,0 +1,4 @@
+pub mod FrontLaws
+pub mod ContentLaws
+pub mod StandLaws
+pub mod TestLaws
