@@ -15,7 +15,8 @@ use Rattle.formula.specs.Refusals.{numberOf}
 use Rattle.sheet_listed.specs.Small.{isSmall, smallSheets, Behind, next, none-behind, nextOf}
 use Rattle.sheet_listed.specs.Texts.{small-has}
 use Rattle.sheet_listed.specs.Listed.{listed-iff}
-use Rattle.sheet_listed.specs.Ordered.{at-among}
+use Rattle.sheet_listed.specs.Ordered.{at-among, among-at}
+use Rattle.sheet_listed.specs.Rising.{listed-once}
 use Rattle.sheet_listed.specs.Walks.{nth-next, last-next}
 use Rattle.sheet_next.specs.Next.{Handed, handed, answers, byBehind, nextInto}
 
@@ -78,3 +79,15 @@ module _ (memory : ℕ → List ℕ) (room : (k : ℕ) → 155 ≤ length (memor
   calls-stop k e =
       ap (λ (h : Handed). h .answer .refusal)
       (by-behind (givenTo memory k) (memory k) (room k) none-behind (ap nextOf (given-listed k (omega (arith, e))) ∙ last-next k e))
+
+  -- Up to that 23 each small sheet is written by one call and by no other.
+  pub each-written-once : (s : List ℕ) → isSmall s ≡ true
+      → (k : ℕ) × (k < length smallSheets) × (sheetIn (callOf memory k) ≡ s)
+      × ((j : ℕ) → j < length smallSheets → sheetIn (callOf memory j) ≡ s → j ≡ k)
+  each-written-once s h =
+      let w = among-at [] s smallSheets (listed-iff s .1 h) in (
+        w .0,
+        w .1,
+        calls-write (w .0) (w .1) .1 ∙ w .2,
+        λ j l e. listed-once j (w .0) l (w .1) (sym (calls-write j l .1) ∙ e ∙ sym (w .2)),
+      )
