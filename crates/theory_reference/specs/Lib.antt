@@ -27,3 +27,4 @@ pub mod Marks
 pub mod GraphBench
 pub mod TwinNets
 pub mod TestCopies
+pub mod Placed
