@@ -19,6 +19,7 @@ pub mod LoopRounds
 pub mod LoopCore
 pub mod Bareness
 pub mod GraphLayout
+pub mod GraphParts
 pub mod Schedule
 pub mod Bystanders
 pub mod WrittenOut
