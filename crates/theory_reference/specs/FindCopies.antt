@@ -1,15 +1,14 @@
 -- The three operators by which a body's test reaches iter? are found in the graph behind the test's name, and again in a let around it; a net that has
 -- them carries the test of every round by them. Assumes that the graph's operators are placed (Placed.antt) and that the graph is fit and has room.
-use Prim.Native.Nat.{ℕ, _+_, _*_, _≤_, _<_}
+use Prim.Native.Nat.{ℕ, _+_, _≤_, _<_}
 use mathlib.Core.Path.{_≡_, refl, sym, _∙_, ap, subst}
-use mathlib.Core.Logic.{_≢_, _⊎_, inl, inr}
+use mathlib.Core.Logic.{inl, inr}
 use mathlib.Core.Bool.{Bool, true, false, cond, _&&_}
 use mathlib.Core.List.{List, [], _∷_, _++_}
-use mathlib.Core.Option.{some}
-use lib.ListN.{length, getD}
+use lib.ListN.{getD}
 use native.Mathlib.Omega.{arith}
 use borrow.Author.Tests.{eq-eqb}
-use Rattle.names.specs.Names.{Names, one, union, without}
+use Rattle.names.specs.Names.{Names, without}
 use Rattle.network.specs.Net.{Token, mark, Demand, ask}
 use Rattle.network.specs.Commute.{Never-emits}
 use Rattle.network.specs.Uses.{Puts-onto}
@@ -71,6 +70,13 @@ module _ (ns : List ℕ) (a b : Graph) where
       shared-each =
           each-first P (sharing (free a) outer n env) (operatorsOf a (n + copies) (firstUse (free a) outer n env) ++ operatorsOf b behind-first link) H
 
+      first-each : Each P (operatorsOf a (n + copies) (firstUse (free a) outer n env))
+      unfolding operatorsOf
+      first-each =
+          let oa : List Operator = operatorsOf a (n + copies) (firstUse (free a) outer n env) in
+          let ob : List Operator = operatorsOf b behind-first link in
+          each-first P oa ob (each-rest P (sharing (free a) outer n env) (oa ++ ob) H)
+
       second-each : Each P (operatorsOf b behind-first link)
       unfolding operatorsOf
       second-each =
@@ -119,7 +125,7 @@ and-none : (p q : Bool) → q ≡ false → p && q ≡ false
 and-none true q e = e
 and-none false q e = refl
 
--- A name that the first of two alone has, comes to it by its own link.
+-- A name that the second of two parts does not use keeps its link in the first.
 alone-first : (f g : Names) (n : ℕ) (env : Env) (x : ℕ) → g x ≡ false → firstUse f g n env x ≡ env x
 alone-first f g n env x e = first-alone f g n env x (and-none (f x) (g x) e)
 
@@ -140,14 +146,20 @@ unfolding gateOf nth
 IC-gives true ls n = inl refl
 IC-gives false ls n = inl refl
 
-IC-outputs : (both : Bool) (n : ℕ) → (ls : List ℕ) × (upFrom n (gateOutputs (IC both)) ≡ n ∷ ls)
+-- iter? is the first output of IC, and of what is joined.
+IC-named : (both : Bool) (k : ℕ) (ks : List ℕ) (o : ℕ) (env : Env) → named (k ∷ ks) (upFrom o (gateOutputs (IC both))) env k ≡ o
 unfolding upFrom gateOutputs
-IC-outputs true n = (_, refl)
-IC-outputs false n = (_, refl)
+IC-named true k ks o env = named-head k ks o _ env
+IC-named false k ks o env = named-head k ks o _ env
+
+IC-first : (both : Bool) (k : ℕ) (ks : List ℕ) (v : Graph) (o n : ℕ) (env : Env) → free v k ≡ false →
+    getD (outputs (beside (wire k) v) n (named (k ∷ ks) (upFrom o (gateOutputs (IC both))) env)) 0 0 ≡ o
+IC-first both k ks v o n env e = ap (λ ls. getD ls 0 0) (wire-first k v n (named (k ∷ ks) (upFrom o (gateOutputs (IC both))) env) e .1) ∙ IC-named both k ks o env
 
 module _ (at : ℕ → Demand) (plain : ℕ → ℕ) where
-  ic-found : (both : Bool) (k : ℕ) (ks : List ℕ) (z v : Graph) → free z testName ≡ false → without (free (beside (wire k) v)) (memberOf (k ∷ ks)) testName ≡ false → free v k ≡ false → (n : ℕ) (env : Env) →
-      Each (Placed at plain) (operatorsOf (joined both k ks z v) n env) →
+  -- It takes the test from its own link, since neither the other inputs nor what is joined uses it.
+  ic-found : (both : Bool) (k : ℕ) (ks : List ℕ) (z v : Graph) → free z testName ≡ false → without (free (beside (wire k) v)) (memberOf (k ∷ ks)) testName ≡ false → free v k ≡ false →
+      (n : ℕ) (env : Env) → Each (Placed at plain) (operatorsOf (joined both k ks z v) n env) →
       (o : Operator) × Placed at plain o × ((j : Token → Demand) × (demandOf o ≡ ask (env testName) j)) × Puts-onto (o .kind) (portsOf o) (getD (outputs (joined both k ks z v) n env) 0 0)
   unfolding free linksOf outputs operatorsOf
   ic-found both k ks z v hz hg hv n env H =
@@ -160,21 +172,13 @@ module _ (at : ℕ → Demand) (plain : ℕ → ℕ) where
       let ins : List ℕ = outputs c m e in
       let o : ℕ = m + linksOf c in
       let op : Operator = gateOf (IC both) ins o in
-      let e′ : Env = named (k ∷ ks) (upFrom o (gateOutputs (IC both))) (secondUse f g n env) in
       let opc : List Operator = operatorsOf c m e in
-      let opb : List Operator = operatorsOf b (m + linksOf (gate (IC both) c)) e′ in
-      let Hc : Each (Placed at plain) (opc ++ (op ∷ []))
-      = each-first (Placed at plain) (opc ++ (op ∷ [])) opb (each-rest (Placed at plain) (sharing f g n env) ((opc ++ (op ∷ [])) ++ opb) H) in
       let w = wire-first testName z m e hz in
-      let w′ = wire-first k v (m + linksOf (gate (IC both) c)) e′ hv in
-      let u = IC-outputs both o in
-      let is-ins : ins ≡ env testName ∷ w .0 = w .1 ∙ ap (λ l. l ∷ w .0) (alone-first f g n env testName hg) in
-      let is-out : getD (outputs b (m + linksOf (gate (IC both) c)) e′) 0 0 ≡ o
-      = ap (λ ls. getD ls 0 0) (w′ .1) ∙ ap (λ ls. named (k ∷ ks) ls (secondUse f g n env) k) (u .1) ∙ named-head k ks o (u .0) (secondUse f g n env) in (
+      let is-ins : ins ≡ env testName ∷ w .0 = w .1 ∙ ap (λ l. l ∷ w .0) (alone-first f g n env testName hg) in (
         op,
-        each-rest (Placed at plain) opc (op ∷ []) Hc .0,
+        each-rest (Placed at plain) opc (op ∷ []) (first-each (k ∷ ks) (gate (IC both) c) b n env (Placed at plain) H) .0,
         subst (λ is. (j : Token → Demand) × (demandOf (gateOf (IC both) is o) ≡ ask (env testName) j)) (sym is-ins) (IC-begins both (env testName) (w .0) o),
-        subst (λ l. Puts-onto (op .kind) (portsOf op) l) (sym is-out) (IC-gives both ins o),
+        subst (λ l. Puts-onto (op .kind) (portsOf op) l) (sym (IC-first both k ks v o (m + linksOf (gate (IC both) c)) (secondUse f g n env) hv)) (IC-gives both ins o),
       )
 
   -- Behind the test's name: the copies at the first and at the second arm, and IC.
@@ -201,8 +205,7 @@ module _ (at : ℕ → Demand) (plain : ℕ → ℕ) where
       = each-copy (Placed at plain) (free q) g₂ n₂ env₂ (shared-each ns q t n₂ env₂ (Placed at plain) H₂) testName test-small (and-both (free q testName) (g₂ testName) hq in-t) in
       let i = ic-found both k ks z v hz hg hv (behind-first ns q t n₂ env₂) (link ns q t n₂ env₂) (second-each ns q t n₂ env₂ (Placed at plain) H₂) in
       let l₁ = copy-links ms p r n env E testName hp in-r in
-      let l₂ = copy-links ns q t n₂ env₂ E₂ testName hq in-t in
-      (
+      let l₂ = copy-links ns q t n₂ env₂ E₂ testName hq in-t in (
         record {
           test = env testName;
           arm₁ = firstUse (free p) g₁ n env testName;
