@@ -29,3 +29,4 @@ pub mod GraphBench
 pub mod TwinNets
 pub mod TestCopies
 pub mod Placed
+pub mod FindCopies
