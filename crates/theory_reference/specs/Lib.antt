@@ -30,3 +30,4 @@ pub mod TwinNets
 pub mod TestCopies
 pub mod Placed
 pub mod FindCopies
+pub mod CutSchedule
