@@ -1,12 +1,12 @@
 -- THE SCHEDULE LEMMA WHERE LOOPS MAY BE CUT. As Schedule.antt, for what a graph yields when each loop may end from N rounds on with its first test err:
--- the schedule then has a twin of that test's first copy, behind N firings of the copy itself. So in all of it each twin comes late.
+-- the schedule then has a twin of that test's first copy, behind N firings of the copy itself. So every twin in it comes late.
 -- Assumes that every loop has such a test (graph, Tests.antt) and that the graph's operators are placed in a net with twins (Placed.antt).
 use Prim.Native.Nat.{ℕ, _+_, _≤_, _<_}
 use mathlib.Core.Path.{_≡_, refl, sym, _∙_, ap, subst, fun-ext}
 use mathlib.Core.Logic.{_≢_, _⊎_, inl, inr, ⊎-elim}
 use mathlib.Core.Bool.{true, _&&_}
 use mathlib.Core.List.{List, [], _∷_, cons-ne-nil}
-use mathlib.Core.Option.{Option, none, some}
+use mathlib.Core.Option.{Option, some}
 use lib.ListN.{length}
 use native.Mathlib.Decide.{ℕ-discrete}
 use native.Mathlib.Omega.{arith}
@@ -16,15 +16,15 @@ use Rattle.network.specs.Values.{true-value, err-value}
 use Rattle.network.specs.Net.{val, Demand, Links}
 use Rattle.network.specs.Commute.{Never-emits}
 use Rattle.theory_schedule.specs.Counts.{count}
-use Rattle.theory_pieces.specs.Goes.{Net, Steps, led-to}
+use Rattle.theory_pieces.specs.Goes.{Net, Steps}
 use Rattle.theory_pieces.specs.LateNets.{late-net, with-one, twin-fine, close}
-use Rattle.graph.specs.Assembly.{IC, Graph, wire, nothing, beside, bind, gate, loop, Env, nameCount, memberOf, free, linksOf, outputs, operatorsOf, gateOutputs, gateOf, sharedLinks, firstUse, secondUse, copyOf, chainLinks, total}
+use Rattle.graph.specs.Assembly.{IC, Graph, wire, nothing, beside, bind, gate, loop, Env, memberOf, free, linksOf, outputs, operatorsOf, gateOutputs, gateOf, sharing, sharedLinks, firstUse, secondUse, copyOf, chainLinks, total}
 use Rattle.graph.specs.Yields.{Values, Answer, YieldsBy, YieldsIn, cut-loops, outputCount, bound, Sequel, stops, goes-on}
 use Rattle.graph.specs.Translation.{testName}
 use Rattle.graph.specs.Tests.{Behind, behind, Testing, let-first, at-test, Cuttable}
 use Rattle.graph.specs.Fit.{Fit}
 use Rattle.theory_reference.specs.NameSets.{and-both, or-left, without-in}
-use Rattle.theory_reference.specs.Plugged.{nowhere, Somewhere, Each, each-first, each-copy}
+use Rattle.theory_reference.specs.Plugged.{nowhere, Somewhere, Has, Each, each-first, each-copy}
 use Rattle.theory_reference.specs.Plan.{Between, Envs, Serves}
 use Rattle.theory_reference.specs.Sharing.{envs-first, envs-second}
 use Rattle.theory_reference.specs.Binding.{bound-here, bound-later}
@@ -33,7 +33,7 @@ use Rattle.theory_reference.specs.LoopRounds as Rounds
 use Rattle.theory_reference.specs.LoopCore as Core
 use Rattle.theory_reference.specs.LoopCore.{Cut-core}
 use Rattle.theory_reference.specs.GraphLayout.{RingOf, planOf, fore-fits}
-use Rattle.theory_reference.specs.GraphParts.{left-at, left-env, right-at, right-env, pair-parts, outer, maker-at, maker-env, user-at, user-env, Bind-parts, bind-parts, body-at, inner, yielded, iter, iterates, returns, CorePlan, iterated, started, own, Loop-parts, loop-parts}
+use Rattle.theory_reference.specs.GraphParts.{left-at, left-env, right-at, right-env, pair-room, pair-each, outer, maker-at, maker-env, user-at, user-env, bind-room, bind-each, body-at, inner, iter, iterates, returns, CorePlan, iterated, started, own, loop-room, Loop-each, loop-each}
 use Rattle.theory_reference.specs.Schedule.{serve-wire, serve-nothing, serve-beside, serve-over, serve-bind, serve-gate, serve-body, serve-loop, cut-looped}
 use Rattle.theory_reference.specs.TwinNets.{round-tests}
 use Rattle.theory_reference.specs.TestCopies.{one-changes}
@@ -141,11 +141,12 @@ module _ (at : ℕ → Demand) (plain : ℕ → ℕ) (N : ℕ) (pos : 1 ≤ N) w
   abbrev Test : Graph → Values → ℕ → Answer → Type 0
   Test g ρ c a = ((v : Value) × (ρ testName ≡ some v)) × Cut g (err-test ρ) c a
 
-  -- Served in each net that lets the twin of the test's first copy come.
+  -- Served in each net that lets the twin of the test's first copy come. X holds the operators whose twins a loop around the graph answers for.
   abbrev Through : Graph → ℕ → Env → (Values → ℕ → Answer → Type 0) → Type 1
   Through g n env M =
       (F : Copied at plain g n env) × ((X : ℕ → Type 0) → Away X n (linksOf g) → Serves (net-of (also X (F .first .number))) (planOf g n env) M)
 
+  -- What the recursion shows of each graph: its loops cut; and where it has a test, the same with that test err.
   record Results (g : Graph) (n : ℕ) (env : Env) : Type 1 where
     cut : (X : ℕ → Type 0) → Away X n (linksOf g) → Serves (net-of X) (planOf g n env) (Cut g)
     over : Testing g → Through g n env (Over g)
@@ -166,29 +167,36 @@ module _ (at : ℕ → Demand) (plain : ℕ → ℕ) (N : ℕ) (pos : 1 ≤ N) w
     abbrev nb : ℕ
     nb = user-at ns a b n env
 
-    abbrev shared : ℕ
-    shared = sharedLinks (free a) (outer ns a b n env)
+    abbrev eb : Env
+    eb = user-env ns a b n env
 
-    parts : (X : ℕ → Type 0) → Bind-parts ns a b n env (Somewhere (net-of X))
-    parts X = bind-parts ns a b n env (Somewhere (net-of X)) ft En le (placed-has at plain N X (operatorsOf (bind ns a b) n env) H)
+    away-a : (X : ℕ → Type 0) → Away X n (linksOf (bind ns a b)) → Away X na (linksOf a)
+    unfolding linksOf
+    away-a X A = first-away X n (sharedLinks (free a) (outer ns a b n env)) (linksOf a) (linksOf b) A
+
+    away-b : (X : ℕ → Type 0) → Away X n (linksOf (bind ns a b)) → Away X nb (linksOf b)
+    unfolding linksOf
+    away-b X A = second-away X n (sharedLinks (free a) (outer ns a b n env)) (linksOf a) (linksOf b) A
+
+    copies : (X : ℕ → Type 0) → Has (net-of X) (sharing (free a) (outer ns a b n env) n env)
+    copies X = placed-has at plain N X (sharing (free a) (outer ns a b n env) n env) (bind-each ns a b n env (Placed at plain) H .0)
 
     cut-bind : (X : ℕ → Type 0) → Away X n (linksOf (bind ns a b)) → Serves (net-of X) (planOf (bind ns a b) n env) (Cut (bind ns a b))
-    unfolding free linksOf
-    cut-bind X A =
-        serve-bind (net-of X) ns a b ft n env En le (parts X) (Cut a) (Cut b) (ra .cut X (first-away X n shared (linksOf a) (linksOf b) A)) (rb .cut X (second-away X n shared (linksOf a) (linksOf b) A))
+    unfolding free
+    cut-bind X A = serve-bind (net-of X) ns a b ft n env En le (copies X) (Cut a) (Cut b) (ra .cut X (away-a X A)) (rb .cut X (away-b X A))
 
-    -- What comes behind is served with its twin, so the whole is.
-    lifted : (Z : Values → ℕ → Answer → Type 0) → Through b nb (user-env ns a b n env) Z → Through (bind ns a b) n env (λ ρ. Sequel (Cut a ρ) (λ vs. Z (bound ns vs ρ)))
-    unfolding free linksOf
+    -- Where what comes behind is served with a twin, the whole is.
+    lifted : (Z : Values → ℕ → Answer → Type 0) → Through b nb eb Z → Through (bind ns a b) n env (λ ρ. Sequel (Cut a ρ) (λ vs. Z (bound ns vs ρ)))
+    unfolding free
     lifted Z (F, S) =
         let t : ℕ = F .first .number in
+        let else : (l : ℕ) → Between na (linksOf a) l → Never-emits (at t) l
+        = λ l w. first-else at plain b nb eb F l (ahead na (linksOf a) (F .arm₁) l (F .own-arm .0) w) (ahead na (linksOf a) (F .on₁) l (F .own₁ .0) w) in
         let G = lift-copied at plain ns a b ft n env En le F in (
           G .0,
           λ X A. subst (λ z. Serves (net-of (also X z)) (planOf (bind ns a b) n env) (λ ρ. Sequel (Cut a ρ) (λ vs. Z (bound ns vs ρ)))) (sym (G .1))
-              (serve-bind (net-of (also X t)) ns a b ft n env En le (parts (also X t)) (Cut a) Z
-              (ra .cut (also X t) (also-away X t na (linksOf a) (first-away X n shared (linksOf a) (linksOf b) A)
-              (λ l w. first-else at plain b nb (user-env ns a b n env) F l (ahead na (linksOf a) (F .arm₁) l (F .own-arm .0) w) (ahead na (linksOf a) (F .on₁) l (F .own₁ .0) w))))
-              (S X (second-away X n shared (linksOf a) (linksOf b) A))),
+              (serve-bind (net-of (also X t)) ns a b ft n env En le (copies (also X t)) (Cut a) Z
+              (ra .cut (also X t) (also-away X t na (linksOf a) (away-a X A) else)) (S X (away-b X A))),
         )
 
     over-bind : Testing (bind ns a b) → Through (bind ns a b) n env (Over (bind ns a b))
@@ -206,30 +214,33 @@ module _ (at : ℕ → Demand) (plain : ℕ → ℕ) (N : ℕ) (pos : 1 ≤ N) w
 
         go : ((ns ≡ testName ∷ [] → ⊥) × Testing b) ⊎ ((ns ≡ testName ∷ []) × Behind b) → Through (bind ns a b) n env (Over (bind ns a b))
         go (inl (ne, u)) =
-            through-map (bind ns a b) n env (λ ρ. Sequel (Cut a ρ) (λ vs. Over b (bound ns vs ρ))) (Over (bind ns a b)) (λ ρ c v y. ⊎-elim (λ z. z .1) (λ z. absurd (ne (z .0))) y) (lifted (Over b) (rb .over u))
-        go (inr (e, u)) = through-map (bind ns a b) n env (λ ρ. Sequel (Cut a ρ) (λ vs. Test b (bound ns vs ρ))) (Over (bind ns a b)) (meant e) (lifted (Test b) (rb .test u))
+            through-map (bind ns a b) n env (λ ρ. Sequel (Cut a ρ) (λ vs. Over b (bound ns vs ρ))) (Over (bind ns a b))
+            (λ ρ c v y. ⊎-elim (λ z. z .1) (λ z. absurd (ne (z .0))) y) (lifted (Over b) (rb .over u))
+        go (inr (e, u)) =
+            through-map (bind ns a b) n env (λ ρ. Sequel (Cut a ρ) (λ vs. Test b (bound ns vs ρ))) (Over (bind ns a b)) (meant e) (lifted (Test b) (rb .test u))
 
     -- The twin of the test's first copy.
     test-bind : Behind (bind ns a b) → Through (bind ns a b) n env (Test (bind ns a b))
-    unfolding free linksOf
+    unfolding free
     test-bind t =
         let f : Names = free a in
         let g : Names = outer ns a b n env in
         let uses = behind-shared ns a b t in
         let both : f testName && g testName ≡ true = and-both (f testName) (g testName) (uses .0) (uses .1) in
-        let low₁ : firstUse f g n env testName < na = envs-first f g n env En .below testName (uses .0) in
-        let low₂ : secondUse f g n env testName < na = envs-second f g n env En .below testName (uses .1) in
-        let c : Placed at plain (copyOf (env testName) (firstUse f g n env testName) (secondUse f g n env testName))
-        = each-copy (Placed at plain) f g n env (bind-parts ns a b n env (Placed at plain) ft En le H .copies) testName test-small both in
+        let l₁ : ℕ = firstUse f g n env testName in
+        let l₂ : ℕ = secondUse f g n env testName in
+        let c : Placed at plain (copyOf (env testName) l₁ l₂)
+        = each-copy (Placed at plain) f g n env (bind-each ns a b n env (Placed at plain) H .0) testName test-small both in
         let k : ℕ = c .number in
-        let F = find-behind at plain ns a b t ft n env En le H c in
         let else : (l : ℕ) → na ≤ l → Never-emits (at k) l
-        = λ l le. copy-else at plain (env testName) (firstUse f g n env testName) (secondUse f g n env testName) c l (above (firstUse f g n env testName) na l low₁ le) (above (secondUse f g n env testName) na l low₂ le) in (
+        = λ l h. copy-else at plain (env testName) l₁ l₂ c l (above l₁ na l (envs-first f g n env En .below testName (uses .0)) h)
+        (above l₂ na l (envs-second f g n env En .below testName (uses .1)) h) in
+        let F = find-behind at plain ns a b t ft n env En le H c in (
           F .0,
           λ X A. subst (λ z. Serves (net-of (also X z)) (planOf (bind ns a b) n env) (Test (bind ns a b))) (sym (F .1)) (λ ρ d v y.
-              serve-over (net-of (also X k)) ns a b ft n env En le (parts (also X k)) (Cut a) (Cut b)
-              (ra .cut (also X k) (also-away X k na (linksOf a) (first-away X n shared (linksOf a) (linksOf b) A) (λ l w. else l (w .0))))
-              (rb .cut (also X k) (also-away X k nb (linksOf b) (second-away X n shared (linksOf a) (linksOf b) A) (λ l w. else l (further na (linksOf a) l (w .0))))) ρ d v (
+              serve-over (net-of (also X k)) ns a b ft n env En le (copies (also X k)) (Cut a) (Cut b)
+              (ra .cut (also X k) (also-away X k na (linksOf a) (away-a X A) (λ l w. else l (w .0))))
+              (rb .cut (also X k) (also-away X k nb (linksOf b) (away-b X A) (λ l w. else l (further na (linksOf a) l (w .0))))) ρ d v (
                 err-test ρ,
                 one-changes f g n env En (net-of (also X k)) ρ (err-test ρ) testName (y .0 .0) both (y .0 .1) (bound-here testName [] (some err-value) [] ρ) (err-others ρ)
                     (c .twin, c .twin-is, twin-fine at plain N X k (c .twin) (c .twin-own)),
@@ -261,8 +272,8 @@ module _ (at : ℕ → Demand) (plain : ℕ → ℕ) (N : ℕ) (pos : 1 ≤ N) w
     abbrev within : Env
     within = inner ns a b n env
 
-    loop-in : (X : ℕ → Type 0) → Loop-parts ns a b n env (Somewhere (net-of X))
-    loop-in X = loop-parts ns a b n env (Somewhere (net-of X)) ft En le (placed-has at plain N X (operatorsOf (loop ns a b) n env) H)
+    ops : (X : ℕ → Type 0) → Loop-each ns a b n env (Somewhere (net-of X))
+    ops X = loop-each ns a b n env (Somewhere (net-of X)) ft (placed-has at plain N X (operatorsOf (loop ns a b) n env) H)
 
     abbrev F : Copied at plain b start within
     F = rb .over tb .0
@@ -285,31 +296,33 @@ module _ (at : ℕ → Demand) (plain : ℕ → ℕ) (N : ℕ) (pos : 1 ≤ N) w
         let shared : ℕ = sharedLinks (free a) (outer ns a b n env) in
         let s : ℕ = total (free b) in
         let Ab : Away X start (linksOf b) = body-away X n shared (linksOf a) s (linksOf b) (chainLinks s) A in
-        let p = loop-in X in
-        let p° = loop-in (also X t) in
+        let p = loop-room ns a b n env ft En le in
         let core : Serves (net-of X) (CorePlan ns a b n env) (Cut-core ns (free b) (length rs) N (Cut b) (Over b))
         = Core.cut-core-serves ns (free b) o (linksOf b) it is rs (RingOf b start) link (p .laid) (net-of X) (net-of (also X t)) refl t N (close at plain N X t)
-        (iterated ns a b n env) (started ns a b n env) (own ns a b n env) (p .start-is) (p .own-is) (p .iter-is) (p .gates) (p° .gates) (p .fan) (p° .fan) (Cut b) (Over b)
-        (serve-body (net-of X) ns a b n env p (Cut b) (rb .cut X Ab)) (serve-body (net-of (also X t)) ns a b n env p° (Over b) (rb .over tb .1 X Ab)) (tests X Ab (p .laid)) in
-        λ ρ c v y. serve-loop (net-of X) ns a b n env p ft En le (Cut a) (Cut-core ns (free b) (length rs) N (Cut b) (Over b)) (ra .cut X (first-away X n shared (linksOf a) (s + (linksOf b + chainLinks s)) A)) core
-        ρ c v (cut-looped (net-of X) N ns (free b) (length rs) (outputCount (loop ns a b)) ρ (Cut a ρ) (Cut b) (Over b) (p .returned) c v y)
+        (iterated ns a b n env) (started ns a b n env) (own ns a b n env) (p .start-is) (p .own-is) (p .iter-is)
+        (ops X .gates) (ops (also X t) .gates) (ops X .fan) (ops (also X t) .fan) (Cut b) (Over b)
+        (serve-body (net-of X) ns a b n env p (Cut b) (rb .cut X Ab)) (serve-body (net-of (also X t)) ns a b n env p (Over b) (rb .over tb .1 X Ab)) (tests X Ab (p .laid)) in
+        λ ρ c v y. serve-loop (net-of X) ns a b n env p ft En le (ops X .copies) (Cut a) (Cut-core ns (free b) (length rs) N (Cut b) (Over b))
+        (ra .cut X (first-away X n shared (linksOf a) (s + (linksOf b + chainLinks s)) A)) core ρ c v
+        (cut-looped (net-of X) N ns (free b) (length rs) (outputCount (loop ns a b)) ρ (Cut a ρ) (Cut b) (Over b) (p .returned) c v y)
 
   results : (g : Graph) → Fit g → Cuttable g → (n : ℕ) (env : Env) → Envs (free g) env n → n + linksOf g ≤ nowhere → Each (Placed at plain) (operatorsOf g n env) → Results g n env
   unfolding free linksOf operatorsOf
   results (wire x) ft cb n env En le H = only-cut (wire x) n env (λ z. z) (λ X A. serve-wire (net-of X) x n env)
   results nothing ft cb n env En le H = only-cut nothing n env (λ z. z) (λ X A. serve-nothing (net-of X) n env)
   results (beside a b) ft cb n env En le H =
-      let p = pair-parts a b n env (Placed at plain) En le H in
+      let p = pair-room a b n env En le in
+      let h = pair-each a b n env (Placed at plain) H in
       let shared : ℕ = sharedLinks (free a) (free b) in
-      let ra = results a (ft .0) (cb .0) (left-at a b n env) (left-env a b n env) (p .envs-a) (p .fits-a) (p .first) in
-      let rb = results b (ft .1) (cb .1) (right-at a b n env) (right-env a b n env) (p .envs-b) (p .fits-b) (p .second) in
-      only-cut (beside a b) n env (λ z. z) (λ X A. serve-beside (net-of X) a b ft n env En le
-      (pair-parts a b n env (Somewhere (net-of X)) En le (placed-has at plain N X (operatorsOf (beside a b) n env) H)) (Cut a) (Cut b)
+      let ra = results a (ft .0) (cb .0) (left-at a b n env) (left-env a b n env) (p .envs-a) (p .fits-a) (h .1) in
+      let rb = results b (ft .1) (cb .1) (right-at a b n env) (right-env a b n env) (p .envs-b) (p .fits-b) (h .2) in
+      only-cut (beside a b) n env (λ z. z) (λ X A. serve-beside (net-of X) a b ft n env En le (placed-has at plain N X (sharing (free a) (free b) n env) (h .0)) (Cut a) (Cut b)
       (ra .cut X (first-away X n shared (linksOf a) (linksOf b) A)) (rb .cut X (second-away X n shared (linksOf a) (linksOf b) A)))
   results (bind ns a b) ft cb n env En le H =
-      let p = bind-parts ns a b n env (Placed at plain) ft En le H in
-      let ra = results a (ft .0) (cb .0) (maker-at ns a b n env) (maker-env ns a b n env) (p .envs-a) (p .fits-a) (p .first) in
-      let rb = results b (ft .1) (cb .1) (user-at ns a b n env) (user-env ns a b n env) (p .envs-b) (p .fits-b) (p .second) in
+      let p = bind-room ns a b n env ft En le in
+      let h = bind-each ns a b n env (Placed at plain) H in
+      let ra = results a (ft .0) (cb .0) (maker-at ns a b n env) (maker-env ns a b n env) (p .envs-a) (p .fits-a) (h .1) in
+      let rb = results b (ft .1) (cb .1) (user-at ns a b n env) (user-env ns a b n env) (p .envs-b) (p .fits-b) (h .2) in
       record { cut = cut-bind ns a b ft n env En le H ra rb; over = over-bind ns a b ft n env En le H ra rb; test = test-bind ns a b ft n env En le H ra rb }
   results (gate g a) ft cb n env En le H =
       let opg = gateOf g (outputs a n env) (n + linksOf a) in
@@ -317,9 +330,10 @@ module _ (at : ℕ → Demand) (plain : ℕ → ℕ) (N : ℕ) (pos : 1 ≤ N) w
       only-cut (gate g a) n env (λ z. z) (λ X A. serve-gate (net-of X) g a ft n env En le (placed-has at plain N X (operatorsOf (gate g a) n env) H) (Cut a)
       (ra .cut X (fore-away X n (linksOf a) (gateOutputs g) A)))
   results (loop ns a b) ft cb n env En le H =
-      let p = loop-parts ns a b n env (Placed at plain) ft En le H in
-      let ra = results a (ft .0) (cb .0) (maker-at ns a b n env) (maker-env ns a b n env) (p .envs-a) (p .fits-a) (p .first) in
-      let rb = results b (ft .1) (cb .1) (body-at ns a b n env) (inner ns a b n env) (p .envs-b) (p .fits-b) (p .second) in
+      let p = loop-room ns a b n env ft En le in
+      let h = loop-each ns a b n env (Placed at plain) ft H in
+      let ra = results a (ft .0) (cb .0) (maker-at ns a b n env) (maker-env ns a b n env) (p .envs-a) (p .fits-a) (h .first) in
+      let rb = results b (ft .1) (cb .1) (body-at ns a b n env) (inner ns a b n env) (p .envs-b) (p .fits-b) (h .second) in
       only-cut (loop ns a b) n env (λ z. z) (cut-loop ns a b ft n env En le H ra rb (cb .2))
 
   pub cut-serves : (g : Graph) → Fit g → Cuttable g → (n : ℕ) (env : Env) → Envs (free g) env n → n + linksOf g ≤ nowhere → Each (Placed at plain) (operatorsOf g n env) →

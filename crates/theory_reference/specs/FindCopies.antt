@@ -4,7 +4,7 @@ use Prim.Native.Nat.{ℕ, _+_, _≤_, _<_}
 use mathlib.Core.Path.{_≡_, refl, sym, _∙_, ap, subst}
 use mathlib.Core.Logic.{inl, inr}
 use mathlib.Core.Bool.{Bool, true, false, cond, _&&_}
-use mathlib.Core.List.{List, [], _∷_, _++_}
+use mathlib.Core.List.{List, [], _∷_}
 use lib.ListN.{getD}
 use native.Mathlib.Omega.{arith}
 use borrow.Author.Tests.{eq-eqb}
@@ -12,17 +12,17 @@ use Rattle.names.specs.Names.{Names, without}
 use Rattle.network.specs.Net.{Token, mark, Demand, ask}
 use Rattle.network.specs.Commute.{Never-emits}
 use Rattle.network.specs.Uses.{Puts-onto}
-use Rattle.graph.specs.Assembly.{Graph, wire, beside, bind, gate, IC, Env, nameCount, memberOf, nth, named, upFrom, gateOutputs, free, linksOf, outputs, operatorsOf, sharing, sharedLinks, firstUse, secondUse, Operator, copyOf, gateOf}
+use Rattle.graph.specs.Assembly.{Graph, wire, beside, bind, gate, IC, Env, nameCount, memberOf, nth, named, upFrom, gateOutputs, free, linksOf, outputs, operatorsOf, sharedLinks, firstUse, secondUse, Operator, copyOf, gateOf}
 use Rattle.graph.specs.Translation.{testName}
 use Rattle.graph.specs.Tests.{Behind, behind}
 use Rattle.graph.specs.Fit.{Fit}
 use Rattle.theory_reference.specs.NameSets.{and-both, or-left, without-in}
-use Rattle.theory_reference.specs.Plugged.{nowhere, portsOf, demandOf, Each, each-first, each-rest, each-copy}
+use Rattle.theory_reference.specs.Plugged.{nowhere, portsOf, demandOf, Each, each-rest, each-copy}
 use Rattle.theory_reference.specs.Plan.{Between, Control, Envs}
 use Rattle.theory_reference.specs.Sharing.{first-shared, first-alone, second-shared, envs-first, envs-second}
 use Rattle.theory_reference.specs.Binding.{named-others}
-use Rattle.theory_reference.specs.OneAfterAnother as After
-use Rattle.theory_reference.specs.GraphLayout.{RingOf, planOf, Layout, layout, first-fits, second-fits}
+use Rattle.theory_reference.specs.GraphLayout.{RingOf, planOf, layout}
+use Rattle.theory_reference.specs.GraphParts.{outer, maker-at, maker-env, user-at, user-env, bind-room, bind-each}
 use Rattle.theory_reference.specs.Placed.{Placed, Copied}
 use Rattle.theory_reference.specs.TwinNets.{Tested}
 
@@ -33,82 +33,48 @@ copies-own : (n s a b l : ℕ) → Between n s l → Between n (s + (a + b)) l
 copies-own n s a b l o = (omega arith, omega arith)
 
 -- One graph bound to names of another: where the copies and the two parts lie, and that neither part's controls lie among the links of the rest.
-module _ (ns : List ℕ) (a b : Graph) where
-  abbrev outer : Names
-  outer = without (free b) (memberOf ns)
+module _ (ns : List ℕ) (a b : Graph) (n : ℕ) (env : Env) where
+  abbrev apart : Names
+  apart = outer ns a b n env
 
   abbrev copies : ℕ
-  copies = sharedLinks (free a) outer
+  copies = sharedLinks (free a) apart
 
-  copy-up : (n l : ℕ) → Between n copies l → Between n (linksOf (bind ns a b)) l
+  copy-up : (l : ℕ) → Between n copies l → Between n (linksOf (bind ns a b)) l
   unfolding linksOf
-  copy-up n l o = copies-own n copies (linksOf a) (linksOf b) l o
+  copy-up l o = copies-own n copies (linksOf a) (linksOf b) l o
 
-  second-up : (n l : ℕ) → Between (n + copies + linksOf a) (linksOf b) l → Between n (linksOf (bind ns a b)) l
+  second-up : (l : ℕ) → Between (user-at ns a b n env) (linksOf b) l → Between n (linksOf (bind ns a b)) l
   unfolding linksOf
-  second-up n l o = second-own n copies (linksOf a) (linksOf b) l o
+  second-up l o = second-own n copies (linksOf a) (linksOf b) l o
 
-  module _ (n : ℕ) (env : Env) where
-    abbrev link : Env
-    link = named ns (outputs a (n + copies) (firstUse (free a) outer n env)) (secondUse (free a) outer n env)
+  -- the links of a shared name's copy
+  copy-links : Envs (free (bind ns a b)) env n → (x : ℕ) → free a x ≡ true → apart x ≡ true →
+      Between n copies (firstUse (free a) apart n env x) × Between n copies (secondUse (free a) apart n env x)
+  unfolding free
+  copy-links E x p q =
+      let u = first-shared (free a) apart n env x (and-both (free a x) (apart x) p q) in
+      let v = second-shared (free a) apart n env x (and-both (free a x) (apart x) p q) in
+      ((omega arith, envs-first (free a) apart n env E .below x p), (omega arith, envs-second (free a) apart n env E .below x q))
 
-    abbrev behind-first : ℕ
-    behind-first = n + copies + linksOf a
+  module _ (ft : Fit (bind ns a b)) (E : Envs (free (bind ns a b)) env n) (le : n + linksOf (bind ns a b) ≤ nowhere) where
+    first-controls : (c r : ℕ) → RingOf a (maker-at ns a b n env) c r → Between (maker-at ns a b n env) (linksOf a) c
+    first-controls c r k =
+        let p = bind-room ns a b n env ft E le in
+        layout a (ft .0) (maker-at ns a b n env) (maker-env ns a b n env) (p .envs-a) (p .fits-a) .sound .ring-own c r k .0
 
-    -- the links of a shared name's copy
-    copy-links : Envs (free (bind ns a b)) env n → (x : ℕ) → free a x ≡ true → outer x ≡ true →
-        Between n copies (firstUse (free a) outer n env x) × Between n copies (secondUse (free a) outer n env x)
-    unfolding free
-    copy-links E x p q =
-        let u = first-shared (free a) outer n env x (and-both (free a x) (outer x) p q) in
-        let v = second-shared (free a) outer n env x (and-both (free a x) (outer x) p q) in
-        ((omega arith, envs-first (free a) outer n env E .below x p), (omega arith, envs-second (free a) outer n env E .below x q))
+    second-controls : (c r : ℕ) → RingOf b (user-at ns a b n env) c r → Between (user-at ns a b n env) (linksOf b) c
+    second-controls c r k =
+        let p = bind-room ns a b n env ft E le in
+        layout b (ft .1) (user-at ns a b n env) (user-env ns a b n env) (p .envs-b) (p .fits-b) .sound .ring-own c r k .0
 
-    module _ (P : Operator → Type 0) (H : Each P (operatorsOf (bind ns a b) n env)) where
-      shared-each : Each P (sharing (free a) outer n env)
-      unfolding operatorsOf
-      shared-each =
-          each-first P (sharing (free a) outer n env) (operatorsOf a (n + copies) (firstUse (free a) outer n env) ++ operatorsOf b behind-first link) H
+    copies-off : (l : ℕ) → Between n copies l → Control (planOf (bind ns a b) n env) l → ⊥
+    copies-off l o (r, inl k) = let c = first-controls l r k in omega arith
+    copies-off l o (r, inr k) = let c = second-controls l r k in omega arith
 
-      first-each : Each P (operatorsOf a (n + copies) (firstUse (free a) outer n env))
-      unfolding operatorsOf
-      first-each =
-          let oa : List Operator = operatorsOf a (n + copies) (firstUse (free a) outer n env) in
-          let ob : List Operator = operatorsOf b behind-first link in
-          each-first P oa ob (each-rest P (sharing (free a) outer n env) (oa ++ ob) H)
-
-      second-each : Each P (operatorsOf b behind-first link)
-      unfolding operatorsOf
-      second-each =
-          let oa : List Operator = operatorsOf a (n + copies) (firstUse (free a) outer n env) in
-          let ob : List Operator = operatorsOf b behind-first link in
-          each-rest P oa ob (each-rest P (sharing (free a) outer n env) (oa ++ ob) H)
-
-    module _ (ft : Fit (bind ns a b)) (E : Envs (free (bind ns a b)) env n) (le : n + linksOf (bind ns a b) ≤ nowhere) where
-      bind-fits : n + (copies + (linksOf a + linksOf b)) ≤ nowhere
-      unfolding linksOf
-      bind-fits = le
-
-      first-layout : Layout a (n + copies) (firstUse (free a) outer n env)
-      unfolding free
-      first-layout = layout a (ft .0) (n + copies) (firstUse (free a) outer n env) (envs-first (free a) outer n env E) (first-fits n copies (linksOf a) (linksOf b) bind-fits)
-
-      second-envs : Envs (free b) link behind-first
-      unfolding free
-      second-envs =
-          After.user-envs ns (free a) (free b) n (linksOf a) (linksOf b) env (outputs a (n + copies) (firstUse (free a) outer n env)) (outputs b behind-first link) (RingOf a (n + copies))
-          (RingOf b behind-first) E bind-fits (first-layout .sound) (first-layout .count ∙ ft .2) (ft .3) (ft .4)
-
-      second-room : behind-first + linksOf b ≤ nowhere
-      second-room = second-fits n copies (linksOf a) (linksOf b) bind-fits
-
-      copies-off : (l : ℕ) → Between n copies l → Control (planOf (bind ns a b) n env) l → ⊥
-      copies-off l o (r, inl k) = let c = first-layout .sound .ring-own l r k in omega (arith, c .0)
-      copies-off l o (r, inr k) = let c = layout b (ft .1) behind-first link second-envs second-room .sound .ring-own l r k in omega (arith, c .0)
-
-      second-off : (l : ℕ) → behind-first ≤ l → (Control (planOf b behind-first link) l → ⊥) → Control (planOf (bind ns a b) n env) l → ⊥
-      second-off l low off (r, inl k) = let c = first-layout .sound .ring-own l r k in omega (arith, c .0)
-      second-off l low off (r, inr k) = off (r, k)
+    second-off : (l : ℕ) → user-at ns a b n env ≤ l → (Control (planOf b (user-at ns a b n env) (user-env ns a b n env)) l → ⊥) → Control (planOf (bind ns a b) n env) l → ⊥
+    second-off l low off (r, inl k) = let c = first-controls l r k in omega arith
+    second-off l low off (r, inr k) = off (r, k)
 
 pub test-small : testName < nameCount
 test-small = omega arith
@@ -176,7 +142,7 @@ module _ (at : ℕ → Demand) (plain : ℕ → ℕ) where
       let w = wire-first testName z m e hz in
       let is-ins : ins ≡ env testName ∷ w .0 = w .1 ∙ ap (λ l. l ∷ w .0) (alone-first f g n env testName hg) in (
         op,
-        each-rest (Placed at plain) opc (op ∷ []) (first-each (k ∷ ks) (gate (IC both) c) b n env (Placed at plain) H) .0,
+        each-rest (Placed at plain) opc (op ∷ []) (bind-each (k ∷ ks) (gate (IC both) c) b n env (Placed at plain) H .1) .0,
         subst (λ is. (j : Token → Demand) × (demandOf (gateOf (IC both) is o) ≡ ask (env testName) j)) (sym is-ins) (IC-begins both (env testName) (w .0) o),
         subst (λ l. Puts-onto (op .kind) (portsOf op) l) (sym (IC-first both k ks v o (m + linksOf (gate (IC both) c)) (secondUse f g n env) hv)) (IC-gives both ins o),
       )
@@ -192,18 +158,19 @@ module _ (at : ℕ → Demand) (plain : ℕ → ℕ) where
       let r : Graph = bind ns q t in
       let g₁ : Names = without (free r) (memberOf ms) in
       let g₂ : Names = without (free t) (memberOf ns) in
-      let n₂ : ℕ = behind-first ms p r n env in
-      let env₂ : Env = link ms p r n env in
-      let E₂ : Envs (free r) env₂ n₂ = second-envs ms p r n env ft E le in
-      let le₂ : n₂ + linksOf r ≤ nowhere = second-room ms p r n env ft E le in
-      let H₂ : Each (Placed at plain) (operatorsOf r n₂ env₂) = second-each ms p r n env (Placed at plain) H in
+      let n₂ : ℕ = user-at ms p r n env in
+      let env₂ : Env = user-env ms p r n env in
+      let room = bind-room ms p r n env ft E le in
+      let E₂ : Envs (free r) env₂ n₂ = room .envs-b in
+      let le₂ : n₂ + linksOf r ≤ nowhere = room .fits-b in
+      let H₂ = bind-each ns q t n₂ env₂ (Placed at plain) (bind-each ms p r n env (Placed at plain) H .2) in
       let in-t : g₂ testName ≡ true = without-in (free t) (memberOf ns) testName refl hn in
       let in-r : g₁ testName ≡ true = without-in (free r) (memberOf ms) testName (or-left (free q testName) (g₂ testName) hq) hm in
       let a₂ : ℕ = firstUse (free q) g₂ n₂ env₂ testName in
       let o₂ : ℕ = secondUse (free q) g₂ n₂ env₂ testName in
       let d : Placed at plain (copyOf (env₂ testName) a₂ o₂)
-      = each-copy (Placed at plain) (free q) g₂ n₂ env₂ (shared-each ns q t n₂ env₂ (Placed at plain) H₂) testName test-small (and-both (free q testName) (g₂ testName) hq in-t) in
-      let i = ic-found both k ks z v hz hg hv (behind-first ns q t n₂ env₂) (link ns q t n₂ env₂) (second-each ns q t n₂ env₂ (Placed at plain) H₂) in
+      = each-copy (Placed at plain) (free q) g₂ n₂ env₂ (H₂ .0) testName test-small (and-both (free q testName) (g₂ testName) hq in-t) in
+      let i = ic-found both k ks z v hz hg hv (user-at ns q t n₂ env₂) (user-env ns q t n₂ env₂) (H₂ .2) in
       let l₁ = copy-links ms p r n env E testName hp in-r in
       let l₂ = copy-links ns q t n₂ env₂ E₂ testName hq in-t in (
         record {
@@ -213,15 +180,15 @@ module _ (at : ℕ → Demand) (plain : ℕ → ℕ) where
           arm₂ = a₂;
           on₂ = o₂;
           first = c;
-          second = subst (λ l. Placed at plain (copyOf l a₂ o₂)) (named-others ms (outputs p (n + copies ms p r) (firstUse (free p) g₁ n env)) (secondUse (free p) g₁ n env) testName hm) d;
+          second = subst (λ l. Placed at plain (copyOf l a₂ o₂)) (named-others ms (outputs p (maker-at ms p r n env) (firstUse (free p) g₁ n env)) (secondUse (free p) g₁ n env) testName hm) d;
           ic = i .0;
           third = i .1;
           begins = subst (λ l. (j : Token → Demand) × (demandOf (i .0) ≡ ask l j))
-              (named-others ns (outputs q (n₂ + copies ns q t) (firstUse (free q) g₂ n₂ env₂)) (secondUse (free q) g₂ n₂ env₂) testName hn) (i .2);
+              (named-others ns (outputs q (maker-at ns q t n₂ env₂) (firstUse (free q) g₂ n₂ env₂)) (secondUse (free q) g₂ n₂ env₂) testName hn) (i .2);
           gives = i .3;
-          own-arm = copy-up ms p r n (firstUse (free p) g₁ n env testName) (l₁ .0);
-          own₁ = copy-up ms p r n (secondUse (free p) g₁ n env testName) (l₁ .1);
-          own₂ = second-up ms p r n o₂ (copy-up ns q t n₂ o₂ (l₂ .1));
+          own-arm = copy-up ms p r n env (firstUse (free p) g₁ n env testName) (l₁ .0);
+          own₁ = copy-up ms p r n env (secondUse (free p) g₁ n env testName) (l₁ .1);
+          own₂ = second-up ms p r n env o₂ (copy-up ns q t n₂ env₂ o₂ (l₂ .1));
           free₁ = copies-off ms p r n env ft E le (secondUse (free p) g₁ n env testName) (l₁ .1);
           free₂ = second-off ms p r n env ft E le o₂ (l₂ .1 .0) (copies-off ns q t n₂ env₂ (ft .1) E₂ le₂ o₂ (l₂ .1));
         },
@@ -236,7 +203,7 @@ module _ (at : ℕ → Demand) (plain : ℕ → ℕ) where
       (G : Copied at plain (bind ns a b) n env) × (G .first .number ≡ F .first .number) × (G .arm₁ ≡ F .arm₁) × (G .on₁ ≡ F .on₁)
   unfolding outputs
   lift-copied ns a b ft n env E le F =
-      let up : (l : ℕ) → Between (n + copies ns a b + linksOf a) (linksOf b) l → Between n (linksOf (bind ns a b)) l = second-up ns a b n in (
+      let up : (l : ℕ) → Between (user-at ns a b n env) (linksOf b) l → Between n (linksOf (bind ns a b)) l = second-up ns a b n env in (
         record {
           test = F .test;
           arm₁ = F .arm₁;

@@ -27,6 +27,11 @@ rest-long : (k : ℕ) (ls : List ℕ) → suc k ≤ length ls → k ≤ length (
 rest-long k [] le = absurd (omega arith)
 rest-long k (l ∷ ls) le = omega arith
 
+each-three : (P : Operator → Type 0) (xs ys zs : List Operator) → Each P (xs ++ (ys ++ zs)) → Each P xs × Each P ys × Each P zs
+each-three P xs ys zs h =
+    let r = each-rest P xs (ys ++ zs) h in
+    (each-first P xs (ys ++ zs) h, each-first P ys zs r, each-rest P ys zs r)
+
 -- Side by side.
 module _ (a b : Graph) (n : ℕ) (env : Env) where
   abbrev pub left-at : ℕ
@@ -41,32 +46,28 @@ module _ (a b : Graph) (n : ℕ) (env : Env) where
   abbrev pub right-env : Env
   right-env = secondUse (free a) (free b) n env
 
-  pub record Pair-parts (P : Operator → Type 0) : Type 0 where
+  pub record Pair-room : Type 0 where
     pub envs-a : Envs (free a) left-env left-at
     pub fits-a : left-at + linksOf a ≤ nowhere
     pub envs-b : Envs (free b) right-env right-at
     pub fits-b : right-at + linksOf b ≤ nowhere
-    pub copies : Each P (sharing (free a) (free b) n env)
-    pub first : Each P (operatorsOf a left-at left-env)
-    pub second : Each P (operatorsOf b right-at right-env)
 
-  pub pair-parts : (P : Operator → Type 0) → Envs (free (beside a b)) env n → n + linksOf (beside a b) ≤ nowhere → Each P (operatorsOf (beside a b) n env) → Pair-parts P
-  unfolding free linksOf operatorsOf
-  pair-parts P En le H =
+  pub pair-room : Envs (free (beside a b)) env n → n + linksOf (beside a b) ≤ nowhere → Pair-room
+  unfolding free linksOf
+  pair-room En le =
       let f : Names = free a in
       let g : Names = free b in
-      let opa = operatorsOf a left-at left-env in
-      let opb = operatorsOf b right-at right-env in
-      let Hp : Each P (opa ++ opb) = each-rest P (sharing f g n env) (opa ++ opb) H in
       record {
         envs-a = envs-first f g n env En;
         fits-a = first-fits n (sharedLinks f g) (linksOf a) (linksOf b) le;
         envs-b = envs-up g right-env left-at right-at (up-to left-at (linksOf a)) (envs-second f g n env En);
         fits-b = second-fits n (sharedLinks f g) (linksOf a) (linksOf b) le;
-        copies = each-first P (sharing f g n env) (opa ++ opb) H;
-        first = each-first P opa opb Hp;
-        second = each-rest P opa opb Hp;
       }
+
+  pub pair-each : (P : Operator → Type 0) → Each P (operatorsOf (beside a b) n env) →
+      Each P (sharing (free a) (free b) n env) × Each P (operatorsOf a left-at left-env) × Each P (operatorsOf b right-at right-env)
+  unfolding operatorsOf
+  pair-each P H = each-three P (sharing (free a) (free b) n env) (operatorsOf a left-at left-env) (operatorsOf b right-at right-env) H
 
 -- One after another, and a loop's start.
 module _ (ns : List ℕ) (a b : Graph) (n : ℕ) (env : Env) where
@@ -88,33 +89,30 @@ module _ (ns : List ℕ) (a b : Graph) (n : ℕ) (env : Env) where
   abbrev pub user-env : Env
   user-env = named ns made (secondUse (free a) outer n env)
 
-  pub record Bind-parts (P : Operator → Type 0) : Type 0 where
+  pub record Bind-room : Type 0 where
     pub envs-a : Envs (free a) maker-env maker-at
     pub fits-a : maker-at + linksOf a ≤ nowhere
     pub envs-b : Envs (free b) user-env user-at
     pub fits-b : user-at + linksOf b ≤ nowhere
-    pub copies : Each P (sharing (free a) outer n env)
-    pub first : Each P (operatorsOf a maker-at maker-env)
-    pub second : Each P (operatorsOf b user-at user-env)
 
-  pub bind-parts : (P : Operator → Type 0) → Fit (bind ns a b) → Envs (free (bind ns a b)) env n → n + linksOf (bind ns a b) ≤ nowhere → Each P (operatorsOf (bind ns a b) n env) → Bind-parts P
-  unfolding free linksOf operatorsOf
-  bind-parts P ft En le H =
+  pub bind-room : Fit (bind ns a b) → Envs (free (bind ns a b)) env n → n + linksOf (bind ns a b) ≤ nowhere → Bind-room
+  unfolding free linksOf
+  bind-room ft En le =
       let f : Names = free a in
       let fa : maker-at + linksOf a ≤ nowhere = first-fits n (sharedLinks f outer) (linksOf a) (linksOf b) le in
       let la : Layout a maker-at maker-env = layout a (ft .0) maker-at maker-env (envs-first f outer n env En) fa in
-      let opa = operatorsOf a maker-at maker-env in
-      let opb = operatorsOf b user-at user-env in
-      let Hp : Each P (opa ++ opb) = each-rest P (sharing f outer n env) (opa ++ opb) H in
       record {
         envs-a = envs-first f outer n env En;
         fits-a = fa;
-        envs-b = Follow.user-envs ns f (free b) n (linksOf a) (linksOf b) env made (outputs b user-at user-env) (RingOf a maker-at) (RingOf b user-at) En le (la .sound) (la .count ∙ ft .2) (ft .3) (ft .4);
+        envs-b = Follow.user-envs ns f (free b) n (linksOf a) (linksOf b) env made (outputs b user-at user-env) (RingOf a maker-at) (RingOf b user-at) En le
+            (la .sound) (la .count ∙ ft .2) (ft .3) (ft .4);
         fits-b = second-fits n (sharedLinks f outer) (linksOf a) (linksOf b) le;
-        copies = each-first P (sharing f outer n env) (opa ++ opb) H;
-        first = each-first P opa opb Hp;
-        second = each-rest P opa opb Hp;
       }
+
+  pub bind-each : (P : Operator → Type 0) → Each P (operatorsOf (bind ns a b) n env) →
+      Each P (sharing (free a) outer n env) × Each P (operatorsOf a maker-at maker-env) × Each P (operatorsOf b user-at user-env)
+  unfolding operatorsOf
+  bind-each P H = each-three P (sharing (free a) outer n env) (operatorsOf a maker-at maker-env) (operatorsOf b user-at user-env) H
 
   -- A loop: behind its start the outputs of its gates, the body, and the copies of iter?.
   abbrev pub users : ℕ
@@ -160,16 +158,11 @@ module _ (ns : List ℕ) (a b : Graph) (n : ℕ) (env : Env) where
   abbrev pub own : Env
   own = secondUse (free a) outer n env
 
-  pub record Loop-parts (P : Operator → Type 0) : Type 0 where
+  pub record Loop-room : Type 0 where
     pub envs-a : Envs (free a) maker-env maker-at
     pub fits-a : maker-at + linksOf a ≤ nowhere
     pub envs-b : Envs (free b) inner body-at
     pub fits-b : body-at + linksOf b ≤ nowhere
-    pub copies : Each P (sharing (free a) outer n env)
-    pub first : Each P (operatorsOf a maker-at maker-env)
-    pub second : Each P (operatorsOf b body-at inner)
-    pub fan : Each P (chain iter (body-at + linksOf b) users)
-    pub gates : (x : ℕ) → free b x ≡ true → P (ringGate (memberOf ns x) (getD controls (rank (free b) x) 0) (iterated x) (started x) (own x) (inner x))
     pub laid : Lay.Laid-out ns (free b) user-at (linksOf b) iter iterates returns (RingOf b body-at) user-env
     pub long : suc (length ns) ≤ length yielded
     pub returned : length returns ≡ outputCount (loop ns a b)
@@ -177,9 +170,9 @@ module _ (ns : List ℕ) (a b : Graph) (n : ℕ) (env : Env) where
     pub own-is : (x : ℕ) → free b x ≡ true → memberOf ns x ≡ false → own x ≡ user-env x
     pub iter-is : (x : ℕ) → memberOf ns x ≡ true → iterated x ≡ named ns iterates user-env x
 
-  pub loop-parts : (P : Operator → Type 0) → Fit (loop ns a b) → Envs (free (loop ns a b)) env n → n + linksOf (loop ns a b) ≤ nowhere → Each P (operatorsOf (loop ns a b) n env) → Loop-parts P
-  unfolding free linksOf operatorsOf
-  loop-parts P ft En le H =
+  pub loop-room : Fit (loop ns a b) → Envs (free (loop ns a b)) env n → n + linksOf (loop ns a b) ≤ nowhere → Loop-room
+  unfolding free linksOf
+  loop-room ft En le =
       let f : Names = free a in
       let h : Names = free b in
       let fa : maker-at + linksOf a ≤ nowhere = first-fits n (sharedLinks f outer) (linksOf a) core-size le in
@@ -190,28 +183,40 @@ module _ (ns : List ℕ) (a b : Graph) (n : ℕ) (env : Env) where
       let Es : Envs h inner body-at = spread-envs h user-at (free-small b (ft .1)) in
       let lb : Layout b body-at inner = layout b (ft .1) body-at inner Es fb in
       let long : suc (length ns) ≤ length yielded = enough (lb .count) (ft .5) in
-      let opa = operatorsOf a maker-at maker-env in
-      let opb = operatorsOf b body-at inner in
-      let opc = chain iter (body-at + linksOf b) users in
-      let opr = ring (listed h) (memberOf ns) controls iterated started own inner in
-      let Hp : Each P (opa ++ (opb ++ (opc ++ opr))) = each-rest P (sharing f outer n env) (opa ++ (opb ++ (opc ++ opr))) H in
-      let Hq : Each P (opb ++ (opc ++ opr)) = each-rest P opa (opb ++ (opc ++ opr)) Hp in
-      let Hr : Each P (opc ++ opr) = each-rest P opb (opc ++ opr) Hq in
       record {
         envs-a = envs-first f outer n env En;
         fits-a = fa;
         envs-b = Es;
         fits-b = fb;
-        copies = each-first P (sharing f outer n env) (opa ++ (opb ++ (opc ++ opr))) H;
-        first = each-first P opa (opb ++ (opc ++ opr)) Hp;
-        second = each-first P opb (opc ++ opr) Hq;
-        fan = each-first P opc opr Hr;
-        gates = λ x e. each-ring P h (memberOf ns) controls iterated started own inner (no-more (ends-length users iter (body-at + linksOf b))) (each-rest P opc opr Hr) x (free-small b (ft .1) x e) e;
         laid = loop-laid ns h user-at (linksOf b) yielded (RingOf b body-at) user-env Ec (second-fits n (sharedLinks f outer) (linksOf a) core-size le) (lb .sound)
             (never-bare b body-at inner (lb .straight) (ft .7)) (ft .6) long (ft .3) (ft .4);
         long = long;
         returned = loop-length ns a b yielded (lb .count) (ft .5);
         start-is = λ x e k. named-any ns made env own x (no-more many) k;
         own-is = λ x e k. sym (named-others ns made own x k);
-        iter-is = λ x k. sym (named-front ns (drop 1 yielded) env x (rest-long (length ns) yielded long)) ∙ named-any ns iterates env user-env x (no-more (iterated-length (length ns) yielded long)) k;
+        iter-is = λ x k. sym (named-front ns (drop 1 yielded) env x (rest-long (length ns) yielded long))
+            ∙ named-any ns iterates env user-env x (no-more (iterated-length (length ns) yielded long)) k;
+      }
+
+  pub record Loop-each (P : Operator → Type 0) : Type 0 where
+    pub copies : Each P (sharing (free a) outer n env)
+    pub first : Each P (operatorsOf a maker-at maker-env)
+    pub second : Each P (operatorsOf b body-at inner)
+    pub fan : Each P (chain iter (body-at + linksOf b) users)
+    pub gates : (x : ℕ) → free b x ≡ true → P (ringGate (memberOf ns x) (getD controls (rank (free b) x) 0) (iterated x) (started x) (own x) (inner x))
+
+  pub loop-each : (P : Operator → Type 0) → Fit (loop ns a b) → Each P (operatorsOf (loop ns a b) n env) → Loop-each P
+  unfolding operatorsOf
+  loop-each P ft H =
+      let opb = operatorsOf b body-at inner in
+      let opc = chain iter (body-at + linksOf b) users in
+      let opr = ring (listed (free b)) (memberOf ns) controls iterated started own inner in
+      let p = each-three P (sharing (free a) outer n env) (operatorsOf a maker-at maker-env) (opb ++ (opc ++ opr)) H in
+      let q = each-three P opb opc opr (p .2) in
+      record {
+        copies = p .0;
+        first = p .1;
+        second = q .0;
+        fan = q .1;
+        gates = λ x e. each-ring P (free b) (memberOf ns) controls iterated started own inner (no-more (ends-length users iter (body-at + linksOf b))) (q .2) x (free-small b (ft .1) x e) e;
       }

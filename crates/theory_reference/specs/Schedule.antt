@@ -2,11 +2,11 @@
 -- names' values and its gates ready, a schedule that is possible with one place a link, of at least as many firings as rounds, leads
 -- to the yielded values on its outputs, everything else of it empty and its gates ready again, and nothing outside touched; or,
 -- where the rounds lent do not suffice, there is a schedule of that many firings.
-use Prim.Native.Nat.{ℕ, suc, _+_, _≤_}
+use Prim.Native.Nat.{ℕ, _+_, _≤_}
 use mathlib.Core.Path.{_≡_, refl, sym, _∙_, ap, subst}
 use mathlib.Core.Logic.{_⊎_, inl, inr, ⊎-elim}
 use mathlib.Core.Bool.{Bool, true, false, _||_, false≢true}
-use mathlib.Core.List.{List, [], _∷_, _++_}
+use mathlib.Core.List.{List, [], _∷_}
 use mathlib.Core.Option.{none, some}
 use lib.ListN.{length}
 use lib.Dec.{eqb}
@@ -15,7 +15,7 @@ use borrow.Author.Tests.{eqb-true, eq-eqb}
 use Rattle.value.specs.Operators.{operands, pick}
 use Rattle.names.specs.Names.{Names, union}
 use Rattle.theory_pieces.specs.Goes.{Net, stay}
-use Rattle.graph.specs.Assembly.{Gate, const, oper, T, F, M, E, IC, Graph, wire, nothing, beside, bind, gate, loop, Env, memberOf, free, linksOf, outputs, operatorsOf, gateOutputs, gateOf}
+use Rattle.graph.specs.Assembly.{Gate, const, oper, T, F, M, E, IC, Graph, wire, nothing, beside, bind, gate, loop, Env, memberOf, free, linksOf, outputs, operatorsOf, gateOutputs, gateOf, sharing}
 use Rattle.graph.specs.Yields.{Values, Answer, Yields, outputCount, absent, present, bound, Sequel, stops, goes-on, Beside, Gated, Looped, rests, spins, Cut-looped}
 use Rattle.graph.specs.Fit.{Fit, gateInputs}
 use Rattle.theory_reference.specs.NameSets.{either}
@@ -30,7 +30,7 @@ use Rattle.theory_reference.specs.LoopLayout as Lay
 use Rattle.theory_reference.specs.LoopCore as Core
 use Rattle.theory_reference.specs.LoopCore.{Core-yields, Cut-core}
 use Rattle.theory_reference.specs.GraphLayout.{RingOf, planOf, Layout, layout, bodyPlan, outs-parts, fore-fits}
-use Rattle.theory_reference.specs.GraphParts.{left-at, left-env, right-at, right-env, Pair-parts, pair-parts, outer, maker-at, maker-env, user-at, user-env, Bind-parts, bind-parts, body-at, inner, yielded, iter, iterates, returns, core-size, BodyPlan, CorePlan, iterated, started, own, Loop-parts, loop-parts}
+use Rattle.theory_reference.specs.GraphParts.{left-at, left-env, right-at, right-env, pair-room, pair-each, outer, maker-at, maker-env, user-at, user-env, bind-room, bind-each, body-at, inner, yielded, iter, iterates, returns, core-size, BodyPlan, CorePlan, iterated, started, own, Loop-room, loop-room, loop-each}
 
 few-operands : (b : Bool) → pick b 1 2 ≤ 3
 few-operands true = omega arith
@@ -108,32 +108,34 @@ module _ (net : Net) where
 
   -- Each way of putting graphs together, over any meanings of the parts.
   pub serve-beside : (a b : Graph) → Fit (beside a b) → (n : ℕ) (env : Env) → Envs (free (beside a b)) env n → n + linksOf (beside a b) ≤ nowhere →
-      Pair-parts a b n env (Somewhere net) → (Y Z : Values → ℕ → Answer → Type 0) → Serves net (planOf a (left-at a b n env) (left-env a b n env)) Y →
+      Has net (sharing (free a) (free b) n env) → (Y Z : Values → ℕ → Answer → Type 0) → Serves net (planOf a (left-at a b n env) (left-env a b n env)) Y →
       Serves net (planOf b (right-at a b n env) (right-env a b n env)) Z → Serves net (planOf (beside a b) n env) (λ ρ. Beside (Y ρ) (Z ρ))
   unfolding free linksOf outputs
-  serve-beside a b ft n env En le p =
+  serve-beside a b ft n env En le H =
+      let p = pair-room a b n env En le in
       let na : ℕ = left-at a b n env in
       let nb : ℕ = right-at a b n env in
       let ea : Env = left-env a b n env in
       let eb : Env = right-env a b n env in
       Side.beside-serves (free a) (free b) n (linksOf a) (linksOf b) env (outputs a na ea) (outputs b nb eb) (RingOf a na) (RingOf b nb) En le
-      (layout a (ft .0) na ea (p .envs-a) (p .fits-a) .sound) (layout b (ft .1) nb eb (p .envs-b) (p .fits-b) .sound) net (p .copies)
+      (layout a (ft .0) na ea (p .envs-a) (p .fits-a) .sound) (layout b (ft .1) nb eb (p .envs-b) (p .fits-b) .sound) net H
 
   module _ (ns : List ℕ) (a b : Graph) (ft : Fit (bind ns a b)) (n : ℕ) (env : Env) (En : Envs (union (free a) (outer ns a b n env)) env n) (le : n + linksOf (bind ns a b) ≤ nowhere)
-      (p : Bind-parts ns a b n env (Somewhere net)) (Y Z : Values → ℕ → Answer → Type 0) (SY : Serves net (planOf a (maker-at ns a b n env) (maker-env ns a b n env)) Y)
+      (H : Has net (sharing (free a) (outer ns a b n env) n env)) (Y Z : Values → ℕ → Answer → Type 0) (SY : Serves net (planOf a (maker-at ns a b n env) (maker-env ns a b n env)) Y)
       (SZ : Serves net (planOf b (user-at ns a b n env) (user-env ns a b n env)) Z) where
     -- where twins of shared names' copies make their values err
     pub serve-over : Serves net (planOf (bind ns a b) n env)
         (λ ρ c v. (ρ′ : Values) × Changes (free a) (outer ns a b n env) n env En net ρ ρ′ × Sequel (Y ρ′) (λ vs. Z (bound ns vs ρ′)) c v)
     unfolding free linksOf outputs
     serve-over =
+        let p = bind-room ns a b n env ft En le in
         let na : ℕ = maker-at ns a b n env in
         let nb : ℕ = user-at ns a b n env in
         let ea : Env = maker-env ns a b n env in
         let eb : Env = user-env ns a b n env in
         let la : Layout a na ea = layout a (ft .0) na ea (p .envs-a) (p .fits-a) in
         Follow.bind-over ns (free a) (free b) n (linksOf a) (linksOf b) env (outputs a na ea) (outputs b nb eb) (RingOf a na) (RingOf b nb) En le (la .sound) (la .count ∙ ft .2) (ft .3) (ft .4)
-        (layout b (ft .1) nb eb (p .envs-b) (p .fits-b) .sound) net (p .copies) Y Z SY SZ
+        (layout b (ft .1) nb eb (p .envs-b) (p .fits-b) .sound) net H Y Z SY SZ
 
     -- and where they change nothing
     pub serve-bind : Serves net (planOf (bind ns a b) n env) (λ ρ. Sequel (Y ρ) (λ vs. Z (bound ns vs ρ)))
@@ -147,46 +149,51 @@ module _ (net : Net) where
       Gates.gate-serves g (free a) n (linksOf a) env (outputs a n env) (RingOf a n) (la .sound) le (few (la .count) (ft .1) (few-inputs g)) net
       (each-rest (Somewhere net) (operatorsOf a n env) (gateOf g (outputs a n env) (n + linksOf a) ∷ []) H .0)
 
-  module _ (ns : List ℕ) (a b : Graph) (n : ℕ) (env : Env) (p : Loop-parts ns a b n env (Somewhere net)) where
+  module _ (ns : List ℕ) (a b : Graph) (n : ℕ) (env : Env) (p : Loop-room ns a b n env) where
     -- a loop's body with its outputs told apart
     pub serve-body : (Y : Values → ℕ → Answer → Type 0) → Serves net (planOf b (body-at ns a b n env) (inner ns a b n env)) Y → Serves net (BodyPlan ns a b n env) Y
     serve-body Y = subst (λ os. Serves net (bodyPlan (free b) (user-at ns a b n env) (linksOf b) (RingOf b (body-at ns a b n env)) os) Y) (outs-parts (length ns) (yielded ns a b n env) (p .long))
 
     -- and the whole, from its start and the rest
-    pub serve-loop : Fit (loop ns a b) → Envs (free (loop ns a b)) env n → n + linksOf (loop ns a b) ≤ nowhere → (Y Z : Values → ℕ → Answer → Type 0) →
-        Serves net (planOf a (maker-at ns a b n env) (maker-env ns a b n env)) Y → Serves net (CorePlan ns a b n env) Z → Serves net (planOf (loop ns a b) n env) (λ ρ. Sequel (Y ρ) (λ vs. Z (bound ns vs ρ)))
+    pub serve-loop : Fit (loop ns a b) → Envs (free (loop ns a b)) env n → n + linksOf (loop ns a b) ≤ nowhere → Has net (sharing (free a) (outer ns a b n env) n env) →
+        (Y Z : Values → ℕ → Answer → Type 0) → Serves net (planOf a (maker-at ns a b n env) (maker-env ns a b n env)) Y → Serves net (CorePlan ns a b n env) Z →
+        Serves net (planOf (loop ns a b) n env) (λ ρ. Sequel (Y ρ) (λ vs. Z (bound ns vs ρ)))
     unfolding free linksOf outputs
-    serve-loop ft En le =
+    serve-loop ft En le H =
         let na : ℕ = maker-at ns a b n env in
         let ea : Env = maker-env ns a b n env in
+        let rs : List ℕ = returns ns a b n env in
         let la : Layout a na ea = layout a (ft .0) na ea (p .envs-a) (p .fits-a) in
-        Follow.bind-serves ns (free a) (free b) n (linksOf a) (core-size ns a b n env) env (outputs a na ea) (returns ns a b n env) (RingOf a na) (CorePlan ns a b n env .Ring) En le (la .sound) (la .count ∙ ft .2)
-        (ft .3) (ft .4) (Lay.core-sound ns (free b) (user-at ns a b n env) (linksOf b) (iter ns a b n env) (iterates ns a b n env) (returns ns a b n env) (RingOf b (body-at ns a b n env)) (user-env ns a b n env) (p .laid))
-        net (p .copies)
+        let core = Lay.core-sound ns (free b) (user-at ns a b n env) (linksOf b) (iter ns a b n env) (iterates ns a b n env) rs (RingOf b (body-at ns a b n env)) (user-env ns a b n env) (p .laid) in
+        Follow.bind-serves ns (free a) (free b) n (linksOf a) (core-size ns a b n env) env (outputs a na ea) rs (RingOf a na) (CorePlan ns a b n env .Ring) En le (la .sound)
+        (la .count ∙ ft .2) (ft .3) (ft .4) core net H
 
   pub serves : (g : Graph) → Fit g → (n : ℕ) (env : Env) → Envs (free g) env n → n + linksOf g ≤ nowhere → Has net (operatorsOf g n env) → Serves net (planOf g n env) (Yields g)
   unfolding free linksOf operatorsOf
   serves (wire x) ft n env En le H = serve-wire x n env
   serves nothing ft n env En le H = serve-nothing n env
   serves (beside a b) ft n env En le H =
-      let p = pair-parts a b n env (Somewhere net) En le H in
-      serve-beside a b ft n env En le p (Yields a) (Yields b) (serves a (ft .0) (left-at a b n env) (left-env a b n env) (p .envs-a) (p .fits-a) (p .first))
-      (serves b (ft .1) (right-at a b n env) (right-env a b n env) (p .envs-b) (p .fits-b) (p .second))
+      let p = pair-room a b n env En le in
+      let h = pair-each a b n env (Somewhere net) H in
+      serve-beside a b ft n env En le (h .0) (Yields a) (Yields b) (serves a (ft .0) (left-at a b n env) (left-env a b n env) (p .envs-a) (p .fits-a) (h .1))
+      (serves b (ft .1) (right-at a b n env) (right-env a b n env) (p .envs-b) (p .fits-b) (h .2))
   serves (bind ns a b) ft n env En le H =
-      let p = bind-parts ns a b n env (Somewhere net) ft En le H in
-      serve-bind ns a b ft n env En le p (Yields a) (Yields b) (serves a (ft .0) (maker-at ns a b n env) (maker-env ns a b n env) (p .envs-a) (p .fits-a) (p .first))
-      (serves b (ft .1) (user-at ns a b n env) (user-env ns a b n env) (p .envs-b) (p .fits-b) (p .second))
+      let p = bind-room ns a b n env ft En le in
+      let h = bind-each ns a b n env (Somewhere net) H in
+      serve-bind ns a b ft n env En le (h .0) (Yields a) (Yields b) (serves a (ft .0) (maker-at ns a b n env) (maker-env ns a b n env) (p .envs-a) (p .fits-a) (h .1))
+      (serves b (ft .1) (user-at ns a b n env) (user-env ns a b n env) (p .envs-b) (p .fits-b) (h .2))
   serves (gate g a) ft n env En le H =
       serve-gate g a ft n env En le H (Yields a) (serves a (ft .0) n env En (fore-fits n (linksOf a) (gateOutputs g) le)
       (each-first (Somewhere net) (operatorsOf a n env) (gateOf g (outputs a n env) (n + linksOf a) ∷ []) H))
   serves (loop ns a b) ft n env En le H =
-      let p = loop-parts ns a b n env (Somewhere net) ft En le H in
+      let p = loop-room ns a b n env ft En le in
+      let h = loop-each ns a b n env (Somewhere net) ft H in
       let rs : List ℕ = returns ns a b n env in
       let nb : ℕ = body-at ns a b n env in
-      let eb : Env = inner ns a b n env in
       let core : Serves net (CorePlan ns a b n env) (Core-yields ns (free b) (length rs) (Yields b))
       = Core.core-serves ns (free b) (user-at ns a b n env) (linksOf b) (iter ns a b n env) (iterates ns a b n env) rs (RingOf b nb) (user-env ns a b n env) (p .laid) net
-      (iterated ns a b n env) (started ns a b n env) (own ns a b n env) (p .start-is) (p .own-is) (p .iter-is) (p .gates) (p .fan) (Yields b)
-      (serve-body ns a b n env p (Yields b) (serves b (ft .1) nb eb (p .envs-b) (p .fits-b) (p .second))) in
-      λ ρ c v y. serve-loop ns a b n env p ft En le (Yields a) (Core-yields ns (free b) (length rs) (Yields b)) (serves a (ft .0) (maker-at ns a b n env) (maker-env ns a b n env) (p .envs-a) (p .fits-a) (p .first)) core
-      ρ c v (looped ns (free b) (length rs) (outputCount (loop ns a b)) ρ (Yields a ρ) (Yields b) (p .returned) c v y)
+      (iterated ns a b n env) (started ns a b n env) (own ns a b n env) (p .start-is) (p .own-is) (p .iter-is) (h .gates) (h .fan) (Yields b)
+      (serve-body ns a b n env p (Yields b) (serves b (ft .1) nb (inner ns a b n env) (p .envs-b) (p .fits-b) (h .second))) in
+      let start = serves a (ft .0) (maker-at ns a b n env) (maker-env ns a b n env) (p .envs-a) (p .fits-a) (h .first) in
+      λ ρ c v y. serve-loop ns a b n env p ft En le (h .copies) (Yields a) (Core-yields ns (free b) (length rs) (Yields b)) start core ρ c v
+      (looped ns (free b) (length rs) (outputCount (loop ns a b)) ρ (Yields a ρ) (Yields b) (p .returned) c v y)
