@@ -7,3 +7,4 @@ pub mod RunLaws
 pub mod Verdicts
 pub mod ResultSets
 pub mod LesserRuns
+pub mod BehindEndless
