@@ -23,3 +23,4 @@ pub mod Agreement
 pub mod Examples
 pub mod Cuts
 pub mod FirstTests
+pub mod CutGraphs
