@@ -1,11 +1,11 @@
 -- Every loop of an admitted formula's graph can be cut: its body is lets around an if whose test passes two copies before IC takes it (graph/specs/Tests).
 -- Assumes an admitted tree; for a body alone, that the whole loop returns at most 16 values, so that the arms' names end before IC's.
 use Prim.Native.Nat.{ℕ, _+_, _≤_}
-use mathlib.Core.Path.{_≡_, refl}
+use mathlib.Core.Path.{_≡_, refl, _∙_}
 use mathlib.Core.Bool.{Bool, true, false, _&&_}
 use mathlib.Core.List.{List, [], _∷_}
 use native.Mathlib.Omega.{arith}
-use Rattle.names.specs.Names.{Names, without, members}
+use Rattle.names.specs.Names.{Names, trigger, without, members}
 use Rattle.formula.specs.Tree.{Exp, identifier, constant, pair, operator, letE, ifE, forE, Body, ret, iter, letB, ifB}
 use Rattle.formula.specs.Widths.{width, returned, iterated}
 use Rattle.formula.specs.Free.{freeE, freeB}
@@ -15,13 +15,25 @@ use Rattle.meaning.specs.WidthLaws.{for-fits}
 use Rattle.graph.specs.Assembly.{Graph, wire, beside, bind, gate, Gate, T, F, IC, free, memberOf, upFrom}
 use Rattle.graph.specs.Translation.{testName, iterName, iteratedName, returnedName, joinName, row, gated, arm, merged, excepted, mergeRow, exceptRow, straight, copied, iteratedJoin, returnedJoin, armNames, joinNames, joined, graphE, graphB}
 use Rattle.graph.specs.Tests.{Behind, behind, Testing, let-first, at-test, Cuttable}
-use Rattle.theory_yields.specs.Naming.{or-false, above-upFrom}
+use Rattle.theory_yields.specs.Naming.{Small, or-left, or-false, member-members, above-upFrom}
 use Rattle.theory_yields.specs.BodyWidths.{not-too-wide, iterated-16, iteratedOutputs, returnedOutputs}
-use Rattle.theory_yields.specs.Choice.{unseen}
+use Rattle.theory_yields.specs.Choice.{unseen, row-has}
 use Rattle.theory_yields.specs.Joins.{merge-lacks, straight-lacks, joinI, joinR, joinR-lacks}
 use Rattle.theory_yields.specs.ArmNames.{Foreign, foreign, narrow, arm-to, arm-from-test, join-from, parts-lack}
+use Rattle.theory_yields.specs.FreeNames.{small-B, body-triggered}
 use Rattle.theory_yields.specs.Cuts.{no-test}
-use Rattle.theory_yields.specs.FirstTests.{arm-tests}
+
+-- ---- each arm of a body's if takes the test: it stands behind at least one gate, since every body uses the trigger
+
+-- Gates on names take the test.
+gates-test : (G : Gate) (f : Names) (k : ℕ) → Small f → f k ≡ true → free (row (gated G) (members f)) testName ≡ true
+unfolding free
+gates-test G f k s e = row-has (gated G) (members f) testName k (member-members f s k ∙ e) refl
+
+-- The arm of a body's if, behind its gates, takes the test.
+arm-tests : (G : Gate) (w : ℕ) (y : Body) → AdmittedB y → free (arm G (freeB y) (graphB w y)) testName ≡ true
+unfolding free arm
+arm-tests G w y adm = or-left _ _ (gates-test G (freeB y) trigger (small-B y adm) (body-triggered y adm))
 
 -- ---- an if behind its test
 
