@@ -78,7 +78,7 @@ module _ (graph : ℕ → Demand) (credit : ℕ) (ins outs : List ℕ) (cap : �
   untaken-counted C (taking ∷ w) q (o, a) =
       omega (arith, untaken-counted C w (act (take-demand credit outs) q) a, collect-credit cap credit outs (λ ts. ts) q (C .credit-no-result) o)
 
-length-results : (graph : ℕ → Demand) (credit : ℕ) (ins outs : List ℕ) (cap : ℕ → ℕ) (w : List Step) (q : Links) →
+pub length-results : (graph : ℕ → Demand) (credit : ℕ) (ins outs : List ℕ) (cap : ℕ → ℕ) (w : List Step) (q : Links) →
     length (results-of graph credit ins outs cap w q) ≡ takes-of w
 length-results graph credit ins outs cap [] q = refl
 length-results graph credit ins outs cap (pushing vs ∷ w) q = length-results graph credit ins outs cap w (act (fire ((credit, val true-value) ∷ onto ins vs) []) q)

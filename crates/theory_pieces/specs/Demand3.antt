@@ -88,10 +88,10 @@ module _ (graph : ℕ → Demand) (p k source credit : ℕ) (P : Piece) (M : Mea
     pub few : count p w ≤ n
     pub untaken : count k w < n
 
-  ref-nil : (q : Links) → Reference q [] q
+  unfoldable pub ref-nil : (q : Links) → Reference q [] q
   ref-nil q = record { w = []; runs = tt; leads = refl; gives = refl; pushes = refl; takes = refl }
 
-  ref-then : (q q₁ q₂ : Links) (r s : List (List Token)) → Reference q r q₁ → Reference q₁ s q₂ → Reference q (r ++ s) q₂
+  unfoldable pub ref-then : (q q₁ q₂ : Links) (r s : List (List Token)) → Reference q r q₁ → Reference q₁ s q₂ → Reference q (r ++ s) q₂
   ref-then q q₁ q₂ r s f g =
       record {
         w = f .w ++ g .w;
@@ -114,13 +114,13 @@ module _ (graph : ℕ → Demand) (p k source credit : ℕ) (P : Piece) (M : Mea
       }
 
   -- push: an event of the machine, to the load of the piece's inputs on a base that holds the credit
-  base : List Token → Links → Links
+  pub base : List Token → Links → Links
   base tape b = set-link credit (val true-value ∷ []) (set-link source tape b)
 
   own-src : (σ : Load) → P .Idle σ → (l : ℕ) → (Region P l → ⊥) → On l σ → ⊥
   own-src σ i l n o = n (inl (B .neat .idle-own σ i l o))
 
-  base-clear : (tape : List Token) (b : Links) → Clear (Region P) b → Clear (Region P) (base tape b)
+  pub base-clear : (tape : List Token) (b : Links) → Clear (Region P) b → Clear (Region P) (base tape b)
   unfolding base
   base-clear tape b c l d =
       set-other credit l (val true-value ∷ []) (set-link source tape b) (λ e. B .credit-off (subst (Region P) e d))
@@ -182,13 +182,31 @@ module _ (graph : ℕ → Demand) (p k source credit : ℕ) (P : Piece) (M : Mea
         (λ j ne. set-other credit j (val true-value ∷ []) (set-link source tape b) ne))
         ∙ sym (put-set source tape σ b (own-src σ i source (B .source-off)))
 
-  -- one set, from its push to its take
-  pub one : (vs rs : List Value) (c : ℕ) (tape : List Token) (σ : Load) (b : Links) → Fits (P .ins) vs → Fits (P .outs) rs → M (some-of vs) c (some (some-of rs)) →
-      P .Idle σ → Clear (Region P) b → b credit ≡ [] → (σ′ : Load) × P .Idle σ′ × Reference (Between σ (tokens-of vs ++ tape) b) (tokens-of rs ∷ []) (Between σ′ tape b)
-  one vs rs c tape σ b fv fr m i cl ce =
-      let h = B .serves (some-of vs) c (some (some-of rs)) m σ i in
-      let s = h .2 (base tape b) (base-clear tape b cl) in
-      (h .0, h .1, done (h .0) (h .1) (s .w) (s .runs) (s .ends))
+  -- one set, from its push to its take, by a schedule of the piece
+  pub worked : (vs rs : List Value) (tape : List Token) (σ σ′ : Load) (b : Links) → Fits (P .ins) vs → Fits (P .outs) rs → P .Idle σ → P .Idle σ′ → Clear (Region P) b → b credit ≡ [] →
+      (w : List ℕ) → Feasible graph w (put (load (P .ins) (some-of vs) ++ σ) (base tape b)) →
+      led-to graph w (put (load (P .ins) (some-of vs) ++ σ) (base tape b)) ≡ put (load (P .outs) (some-of rs) ++ σ′) (base tape b) →
+      (R : Reference (Between σ (tokens-of vs ++ tape) b) (tokens-of rs ∷ []) (Between σ′ tape b)) × (R .w ≡ p ∷ (w ++ (k ∷ [])))
+  worked vs rs tape σ σ′ b fv fr i j cl ce w r e =
+      let l : Lift w q₁ = lift w q₁ r in
+      let pt : Next p q₀ ≡ q₁ = push-to vs tape σ b fv i cl ce in
+      let en₁ : reached Enabled Next Output w (Next p q₀) ≡ Q rs tape σ′ b fr j cl ce = ap (reached Enabled Next Output w) pt ∙ l .ends′ ∙ e in
+      let kp : k ≢ p = Ne·symm (B .push-not-take) in
+      let tail : Possible Enabled Next Output (w ++ (k ∷ [])) (Next p q₀)
+      = possible-append Enabled Next Output w (k ∷ []) (Next p q₀) (subst (Possible Enabled Next Output w) (sym pt) (l .runs)) (subst (λ q. Enabled k q) (sym en₁) (take-on rs tape σ′ b fr j cl ce), tt) in (
+        record {
+          w = p ∷ (w ++ (k ∷ []));
+          runs = (push-on vs tape σ b fv i cl ce, tail);
+          leads = reached-append Enabled Next Output w (k ∷ []) (Next p q₀) ∙ ap (Next k) en₁ ∙ take-to rs tape σ′ b fr j cl ce;
+          gives = if-neg (ℕ-discrete k p) kp _ _ ∙ outputs-append Enabled Next Output k w (k ∷ []) (Next p q₀)
+              ∙ ap (λ z. outputs Enabled Next Output k w z ++ outputs Enabled Next Output k (k ∷ []) (reached Enabled Next Output w (Next p q₀))) pt
+              ∙ ap (λ z. z ++ outputs Enabled Next Output k (k ∷ []) (reached Enabled Next Output w (Next p q₀))) (l .quiet)
+              ∙ if-pos (ℕ-discrete k k) refl _ _ ∙ ap (λ z. Output k z ∷ []) en₁ ∙ ap (λ z. z ∷ []) (take-out rs tape σ′ b fr j cl ce);
+          pushes = if-pos (ℕ-discrete p p) refl _ _ ∙ ap suc (count-append p w (k ∷ []) ∙ ap (λ z. z + count p (k ∷ [])) (l .no-push) ∙ ap (λ z. 0 + z) (if-neg (ℕ-discrete p k) (B .push-not-take) _ _));
+          takes = if-neg (ℕ-discrete k p) kp _ _ ∙ count-append k w (k ∷ []) ∙ ap (λ z. z + count k (k ∷ [])) (l .no-take) ∙ ap (λ z. 0 + z) (if-pos (ℕ-discrete k k) refl _ _);
+        },
+        refl,
+      )
     where
       q₀ : Links
       q₀ = Between σ (tokens-of vs ++ tape) b
@@ -196,26 +214,13 @@ module _ (graph : ℕ → Demand) (p k source credit : ℕ) (P : Piece) (M : Mea
       q₁ : Links
       q₁ = put (load (P .ins) (some-of vs) ++ σ) (base tape b)
 
-      done : (σ′ : Load) → P .Idle σ′ → (w : List ℕ) → Feasible graph w q₁ → led-to graph w q₁ ≡ put (load (P .outs) (some-of rs) ++ σ′) (base tape b) →
-          Reference q₀ (tokens-of rs ∷ []) (Between σ′ tape b)
-      done σ′ j w r e =
-          let l : Lift w q₁ = lift w q₁ r in
-          let pt : Next p q₀ ≡ q₁ = push-to vs tape σ b fv i cl ce in
-          let en₁ : reached Enabled Next Output w (Next p q₀) ≡ Q rs tape σ′ b fr j cl ce = ap (reached Enabled Next Output w) pt ∙ l .ends′ ∙ e in
-          let kp : k ≢ p = Ne·symm (B .push-not-take) in
-          let tail : Possible Enabled Next Output (w ++ (k ∷ [])) (Next p q₀)
-          = possible-append Enabled Next Output w (k ∷ []) (Next p q₀) (subst (Possible Enabled Next Output w) (sym pt) (l .runs)) (subst (λ q. Enabled k q) (sym en₁) (take-on rs tape σ′ b fr j cl ce), tt) in
-          record {
-            w = p ∷ (w ++ (k ∷ []));
-            runs = (push-on vs tape σ b fv i cl ce, tail);
-            leads = reached-append Enabled Next Output w (k ∷ []) (Next p q₀) ∙ ap (Next k) en₁ ∙ take-to rs tape σ′ b fr j cl ce;
-            gives = if-neg (ℕ-discrete k p) kp _ _ ∙ outputs-append Enabled Next Output k w (k ∷ []) (Next p q₀)
-                ∙ ap (λ z. outputs Enabled Next Output k w z ++ outputs Enabled Next Output k (k ∷ []) (reached Enabled Next Output w (Next p q₀))) pt
-                ∙ ap (λ z. z ++ outputs Enabled Next Output k (k ∷ []) (reached Enabled Next Output w (Next p q₀))) (l .quiet)
-                ∙ if-pos (ℕ-discrete k k) refl _ _ ∙ ap (λ z. Output k z ∷ []) en₁ ∙ ap (λ z. z ∷ []) (take-out rs tape σ′ b fr j cl ce);
-            pushes = if-pos (ℕ-discrete p p) refl _ _ ∙ ap suc (count-append p w (k ∷ []) ∙ ap (λ z. z + count p (k ∷ [])) (l .no-push) ∙ ap (λ z. 0 + z) (if-neg (ℕ-discrete p k) (B .push-not-take) _ _));
-            takes = if-neg (ℕ-discrete k p) kp _ _ ∙ count-append k w (k ∷ []) ∙ ap (λ z. z + count k (k ∷ [])) (l .no-take) ∙ ap (λ z. 0 + z) (if-pos (ℕ-discrete k k) refl _ _);
-          }
+  -- and by the schedule that the piece has
+  pub one : (vs rs : List Value) (c : ℕ) (tape : List Token) (σ : Load) (b : Links) → Fits (P .ins) vs → Fits (P .outs) rs → M (some-of vs) c (some (some-of rs)) →
+      P .Idle σ → Clear (Region P) b → b credit ≡ [] → (σ′ : Load) × P .Idle σ′ × Reference (Between σ (tokens-of vs ++ tape) b) (tokens-of rs ∷ []) (Between σ′ tape b)
+  one vs rs c tape σ b fv fr m i cl ce =
+      let h = B .serves (some-of vs) c (some (some-of rs)) m σ i in
+      let s = h .2 (base tape b) (base-clear tape b cl) in
+      (h .0, h .1, worked vs rs tape σ (h .0) b fv fr i (h .1) cl ce (s .w) (s .runs) (s .ends) .0)
 
   -- a set whose rounds do not suffice
   pub one-long : (vs : List Value) (c : ℕ) (tape : List Token) (σ : Load) (b : Links) → Fits (P .ins) vs → M (some-of vs) c none →
