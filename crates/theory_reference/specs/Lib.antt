@@ -28,3 +28,4 @@ pub mod GraphBench
 pub mod TwinNets
 pub mod TestCopies
 pub mod Placed
+pub mod FindCopies
