@@ -1,6 +1,7 @@
 -- A whole fit graph as a piece with the schedule lemma (pieces, Piece.antt), so that both halves of demand 3 follow (pieces, Made.antt and
 -- Calls.antt). Its inputs are the links of its free names, rising; an idle load says what lies on its own links and registers
--- between two sets. Assumes that source and credit are no links of the graph and that no operator of the net uses them.
+-- between two sets. Assumes the schedule lemma for the graph's layout, with any meaning, and that source and credit are no links of the graph and that
+-- no operator of the net uses them.
 use Prim.Native.Nat.{ℕ, _+_, _≤_, _<_}
 use mathlib.Core.Path.{_≡_, refl, sym, _∙_, ap, subst, fun-ext}
 use mathlib.Core.Logic.{_≢_, _⊎_, inl, inr, ⊎-elim}
@@ -327,7 +328,7 @@ module _ (g : Graph) (n : ℕ) (env : Env) (source credit : ℕ) where
 
     -- The whole graph has the schedule lemma as the pieces state it, for every meaning with which its layout has it.
     pub whole-serves : (net : Net) (M : Values → ℕ → Answer → Type 0) → Serves net plan M → Unused (net .at) source → Unused (net .at) credit →
-        Pieces.Serves net whole (λ vs c a. M (bound (listed (free g)) vs no-values) c a)
+        Pieces.Serves net whole (from-inputs M)
     whole-serves net M S Us Uc vs c a y σ I = go a (S (ρ vs σ I) c a y (s₀ vs σ I) (before vs σ I))
       where
         go : (a : Answer) → Leads net plan (s₀ vs σ I) c a → Pieces.Leads net (Region whole) (load inputs vs ++ σ) results Idle-load c a
