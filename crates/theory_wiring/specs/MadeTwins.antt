@@ -3,7 +3,6 @@
 -- Assumes what MadeGraph.antt assumes, and that T lies past all operators, push and take.
 use Prim.Native.Nat.{ℕ, _≤_, _<_}
 use mathlib.Core.Path.{_≡_}
-use mathlib.Core.List.{List}
 use lib.ListN.{length}
 use native.Mathlib.Omega.{arith}
 use Rattle.theory_schedule.specs.Twins.{Part-diamond}
@@ -16,8 +15,7 @@ use Rattle.network.specs.Net.{Demand, halt, Links, Able}
 use Rattle.network.specs.Commute.{enabled, next, output}
 use Rattle.network.specs.Poisoned.{plain, twinned}
 use Rattle.network.specs.Ends.{machine}
-use Rattle.theory_pieces.specs.Goes.{Net}
-use Rattle.theory_pieces.specs.Piece.{Piece, Means}
+use Rattle.theory_pieces.specs.Piece.{Piece}
 use Rattle.theory_pieces.specs.Piece as Pieces
 use Rattle.theory_pieces.specs.Sets.{Bench}
 use Rattle.theory_pieces.specs.LateNets.{late-net}
