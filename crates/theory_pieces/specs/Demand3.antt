@@ -9,7 +9,7 @@ use mathlib.Core.Option.{none, some}
 use lib.ListN.{length, length-append}
 use native.Mathlib.Decide.{ℕ-discrete}
 use native.Mathlib.Omega.{arith}
-use Rattle.theory_schedule.specs.Schedules.{Possible, reached, outputs, Diamond, Agree, outputs-agree, possible-append, reached-append, outputs-append}
+use Rattle.theory_schedule.specs.Schedules.{Possible, reached, outputs, Diamond, possible-append, reached-append, outputs-append}
 use Rattle.theory_schedule.specs.Counts.{count, count-append}
 use Rattle.theory_schedule.specs.Progress.{progress, endless, something-left}
 use Rattle.value.specs.declared.Value.{Value}
@@ -247,16 +247,6 @@ module _ (graph : ℕ → Demand) (p k source credit : ℕ) (P : Piece) (M : Mea
   Evaluated (v ∷ vss) [] = ⊥
   Evaluated (v ∷ vss) (r ∷ rss) = Fits (P .ins) v × Fits (P .outs) r × ((c : ℕ) × M (some-of v) c (some (some-of r))) × Evaluated vss rss
 
-  many : (vss rss : List (List Value)) (tail : List Token) (σ : Load) (b : Links) → Evaluated vss rss → P .Idle σ → Clear (Region P) b → b credit ≡ [] →
-      (σ′ : Load) × P .Idle σ′ × Reference (Between σ (tape-of vss tail) b) (each-tokens rss) (Between σ′ tail b)
-  many [] [] tail σ b e i cl ce = (σ, i, ref-nil (Between σ tail b))
-  many [] (r ∷ rss) tail σ b e i cl ce = absurd e
-  many (v ∷ vss) [] tail σ b e i cl ce = absurd e
-  many (v ∷ vss) (r ∷ rss) tail σ b e i cl ce =
-      let f = one v r (e .2 .0) (tape-of vss tail) σ b (e .0) (e .1) (e .2 .1) i cl ce in
-      let g = many vss rss tail (f .0) b (e .3) (f .1) cl ce in
-      (g .0, g .1, ref-then (Between σ (tokens-of v ++ tape-of vss tail) b) (Between (f .0) (tape-of vss tail) b) (Between (g .0) tail b) (tokens-of r ∷ []) (each-tokens rss) (f .2) (g .2))
-
   -- the evaluator, lent `c` rounds for each set: it ends or it does not
   abbrev pub Tried : ℕ → List (List Value) → Type 0
   Tried c [] = Unit {0}
@@ -304,15 +294,6 @@ module _ (graph : ℕ → Demand) (p k source credit : ℕ) (P : Piece) (M : Mea
   module _ (free : (a b : ℕ) → a ≢ b → Free (N a) (N b)) where
     abbrev Commutes : Diamond Enabled Next Output
     Commutes = diamond N cap free
-
-    -- Demand 3, first half. Whatever the list of events done from the start, and whatever the capacity: the j-th take hands out the direct
-    -- evaluation of the j-th set, for every j up to the first set whose evaluation does not end (`vss` are the sets before it, `tail` the rest).
-    pub results : (vss rss : List (List Value)) (tail : List Token) (σ : Load) (b : Links) (u : List ℕ) → Evaluated vss rss → P .Idle σ → Clear (Region P) b → b credit ≡ [] →
-        Possible Enabled Next Output u (Between σ (tape-of vss tail) b) → Agree (outputs Enabled Next Output k u (Between σ (tape-of vss tail) b)) (each-tokens rss)
-    results vss rss tail σ b u e i cl ce ru =
-        let r = many vss rss tail σ b e i cl ce in
-        subst (λ z. Agree (outputs Enabled Next Output k u (Between σ (tape-of vss tail) b)) z) (r .2 .gives)
-        (outputs-agree Enabled Next Output Commutes k u (r .2 .w) (Between σ (tape-of vss tail) b) ru (r .2 .runs))
 
     -- Demand 3, second half. If the sets `vss` are pushed and not all of them taken, and nothing can fire, then a whole result is ready: a take is
     -- possible. Nothing is assumed of whether evaluations end; the evaluator is only asked with more rounds than there were events.

@@ -11,13 +11,12 @@ use lib.IntN.{pos}
 use Rattle.value.specs.declared.Value.{Value}
 use Rattle.value.specs.declared.Value.the-variants.{Whole, Truth}
 use Rattle.value.specs.Operators.{apply}
-use Rattle.value.specs.Senses.{sense}
 use Rattle.network.specs.Net.{val, pop, append}
 use Rattle.network.specs.Ends.{capacities}
 use Rattle.theory_pieces.specs.Load.{set-link}
 use Rattle.formula.specs.Tree.{Exp, identifier, letE, ifE, forE, Body, ret, iter, ifB}
 use Rattle.formula.specs.Free.{freeE}
-use Rattle.meaning.specs.Meaning.{Env, bind, Outcome, unfinished, then, loop, enter, evalE, evalB, inputsHold}
+use Rattle.meaning.specs.Meaning.{Env, bind, Outcome, unfinished, then, loop, evalE, evalB, inputsHold}
 use Rattle.graph.specs.Translation.{madeOf}
 use Rattle.theory_reference.specs.Marks.{marks}
 use Rattle.theory_verdicts.specs.Results.{valuesOf, resultOf, EndsWith}

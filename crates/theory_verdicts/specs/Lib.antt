@@ -1,6 +1,7 @@
 pub mod Admitting
 pub mod Results
 pub mod Owed
+pub mod CutOwed
 pub mod Running
 pub mod RunningLaws
 pub mod RunLaws
