@@ -110,7 +110,7 @@ module _ (ns : List ℕ) (a b : Graph) where
       second-off l low off (r, inl k) = let c = first-layout .sound .ring-own l r k in omega (arith, c .0)
       second-off l low off (r, inr k) = off (r, k)
 
-test-small : testName < nameCount
+pub test-small : testName < nameCount
 test-small = omega arith
 
 -- The IC of an if.
@@ -260,6 +260,11 @@ module _ (at : ℕ → Demand) (plain : ℕ → ℕ) where
         refl,
       )
 
+  -- A copy gives on both outputs and on no other link.
+  pub copy-else : (t a b : ℕ) (c : Placed at plain (copyOf t a b)) (l : ℕ) → (l ≡ a → ⊥) → (l ≡ b → ⊥) → Never-emits (at (c .number)) l
+  unfolding nth
+  copy-else t a b c l off-a off-b = subst (λ d. Never-emits d l) (sym (c .is)) (λ v. (λ e. off-a (sym e), (λ e. off-b (sym e), tt)))
+
   module _ (g : Graph) (n : ℕ) (env : Env) (F : Copied at plain g n env) where
     pub copied-tested : Tested at plain (F .first .number) (F .second .number) (F .third .number) (F .on₁) (F .on₂) (getD (outputs g n env) 0 0)
     unfolding nth
@@ -272,11 +277,9 @@ module _ (at : ℕ → Demand) (plain : ℕ → ℕ) where
           asks₂ = F .third .asks (F .on₂) (F .begins .0) (F .begins .1);
         }
 
-    -- A copy gives on both outputs and on no other link.
     pub first-emits : Never-emits (at (F .first .number)) (F .on₁) → ⊥
     unfolding nth
     first-emits h = subst (λ d. Never-emits d (F .on₁)) (F .first .is) h mark .1 .0 refl
 
     pub first-else : (l : ℕ) → (l ≡ F .arm₁ → ⊥) → (l ≡ F .on₁ → ⊥) → Never-emits (at (F .first .number)) l
-    unfolding nth
-    first-else l off-arm off-on = subst (λ d. Never-emits d l) (sym (F .first .is)) (λ t. (λ e. off-arm (sym e), (λ e. off-on (sym e), tt)))
+    first-else = copy-else (F .test) (F .arm₁) (F .on₁) (F .first)

@@ -19,6 +19,7 @@ pub mod LoopRounds
 pub mod LoopCore
 pub mod Bareness
 pub mod GraphLayout
+pub mod GraphParts
 pub mod Schedule
 pub mod Bystanders
 pub mod WrittenOut
@@ -29,3 +30,4 @@ pub mod TwinNets
 pub mod TestCopies
 pub mod Placed
 pub mod FindCopies
+pub mod CutSchedule
