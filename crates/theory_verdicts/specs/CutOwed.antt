@@ -1,10 +1,10 @@
 -- What theory_pieces/specs/Alone asks besides, met by the made graph of every admitted formula: with twins behind N firings of their operators every set of
 -- values comes to an end, by its own evaluation or cut (theory_yields/specs/Cuts, theory_reference/specs/CutSchedule). Assumes at most 1,024 operators.
 use Prim.Native.Nat.{ℕ, _≤_}
-use mathlib.Core.Path.{_≡_, refl, sym, ap, subst, _∙_}
+use mathlib.Core.Path.{sym, ap, subst, _∙_}
 use mathlib.Core.Logic.{_⊎_, inl, inr}
 use mathlib.Core.List.{List}
-use mathlib.Core.Option.{Option, some}
+use mathlib.Core.Option.{some}
 use lib.ListN.{length, take}
 use native.Mathlib.Omega.{arith}
 use Rattle.value.specs.declared.Value.{Value}
@@ -26,6 +26,7 @@ use Rattle.theory_reference.specs.Plan.{Plan, Serves}
 use Rattle.theory_reference.specs.GraphLayout.{planOf}
 use Rattle.theory_reference.specs.Schedule.{serves}
 use Rattle.theory_reference.specs.Placed.{placed-has}
+use Rattle.theory_reference.specs.CutSchedule.{cut-serves}
 use Rattle.theory_reference.specs.WholeGraph.{from-inputs}
 use Rattle.theory_yields.specs.FitGraphs.{fit-E}
 use Rattle.theory_yields.specs.Cuts.{ends-E}
@@ -64,7 +65,7 @@ module _ (x : Exp) (h : AdmittedE x) (few : countE x .operators ≤ 1024) (N : �
       serves late (graphE x) (fit-E x h) (size (freeE x)) (portOf x) (made-envs x h) (room x h few)
       (placed-has twin-net operator-of N (λ a. ⊥) (operatorsOf (graphE x) (size (freeE x)) (portOf x)) (made-placed x h few twinOffset large)) σ c a y
   either-served σ c a (inr y) =
-      ?
+      cut-serves twin-net operator-of N pos (graphE x) (fit-E x h) (cuttable-E x h) (size (freeE x)) (portOf x) (made-envs x h) (room x h few) (made-placed x h few twinOffset large) σ c a y
 
   -- a set cut
   some-result : (v : List Value) (fits : Fits (pieceOf x h .ins) v) →
