@@ -21,11 +21,13 @@ use Rattle.theory_pieces.specs.Rows.{in-front, in-back}
 use Rattle.theory_pieces.specs.Sets.{Bench}
 use Rattle.theory_pieces.specs.Wiring.{Wiring, wiring-free}
 use Rattle.graph.specs.Assembly.{Graph, free, Env, Operator, linksOf, outputs, operatorsOf}
+use Rattle.graph.specs.Yields.{Yields}
 use Rattle.graph.specs.Fit.{Fit}
 use Rattle.theory_reference.specs.Plan.{Between, Envs}
 use Rattle.theory_reference.specs.Plugged.{nowhere, registers, link-of, portsOf, demandOf, Each, Numbered, Has, numbered-has}
 use Rattle.theory_pieces.specs.Goes.{any-list}
 use Rattle.theory_reference.specs.Bystanders.{Unused}
+use Rattle.theory_reference.specs.Schedule.{serves}
 use Rattle.theory_reference.specs.TwinNets.{Tested, tested-twinned}
 use Rattle.theory_reference.specs.WholeGraph.{whole, yields, Idle-load}
 use Rattle.theory_reference.specs.GraphBench.{ends-apart, fresh, fresh-is-idle, graph-bench}
@@ -304,7 +306,8 @@ module _ (g : Graph) (n : ℕ) (env : Env) (fit : Fit g) (E : Envs (free g) env 
     pub bench : Bench (netOf ops) push take source credit (whole g n env source credit) (yields g n env source credit)
     bench =
         graph-bench g fit n env E room source credit
-        (ends-apart g fit n env E room source credit (H .spare-source) (H .spare-credit) (H .source-not-credit)) (netOf ops) push take (net-has ops)
+        (ends-apart g fit n env E room source credit (H .spare-source) (H .spare-credit) (H .source-not-credit)) (any-list (netOf ops)) push take (Yields g)
+        (serves (any-list (netOf ops)) g fit n env E room (net-has ops))
         (spare-unused source (H .spare-source)) (spare-unused credit (H .spare-credit)) (net-past ops push (H .push-past)) (net-past ops take (H .take-past))
         (H .push-not-take)
 

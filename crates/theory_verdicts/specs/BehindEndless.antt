@@ -1,0 +1,84 @@
+-- A result taken behind a set that never ends: "let x4 = (for x2 = x1 do if x2 then iter x2 else x0) in if x3 then x0 else x4". The loop goes on for ever where x1
+-- is true, and so does direct evaluation, which evaluates what a let binds, used or not; the machine gives x0 where x3 is true without
+-- waiting for the loop. Of the sets (6, T, T) and (5, F, T) both results are taken while the first one's loop is under way. By computation, at capacity 2.
+use Prim.Native.Nat.{ℕ, zero, suc}
+use mathlib.Core.Path.{_≡_, refl, sym, subst, ap, _∙_}
+use mathlib.Core.Bool.{true, false}
+use mathlib.Core.List.{List, [], _∷_, _++_, map}
+use mathlib.Core.Option.{Option, none, some}
+use native.Mathlib.Decide.{decLt, ℕ-discrete}
+use lib.IntN.{pos}
+use Rattle.value.specs.declared.Value.{Value}
+use Rattle.value.specs.declared.Value.the-variants.{Whole, Truth}
+use Rattle.value.specs.Operators.{apply}
+use Rattle.network.specs.Net.{val, pop, append}
+use Rattle.network.specs.Ends.{capacities}
+use Rattle.theory_pieces.specs.Load.{set-link}
+use Rattle.formula.specs.Tree.{Exp, identifier, letE, ifE, forE, Body, ret, iter, ifB}
+use Rattle.formula.specs.Free.{freeE}
+use Rattle.meaning.specs.Meaning.{Env, bind, Outcome, unfinished, then, loop, evalE, evalB, inputsHold}
+use Rattle.graph.specs.Translation.{madeOf}
+use Rattle.theory_reference.specs.Marks.{marks}
+use Rattle.theory_verdicts.specs.Results.{valuesOf, resultOf, EndsWith}
+use Rattle.theory_verdicts.specs.Running.{both, decRoom, decAble, Call, pushes, fires, takes, stepsFrom, pushed, taken}
+
+abbrev body : Body
+body = ifB (identifier 2) (iter (identifier 2)) (ret (identifier 0))
+
+abbrev pub besideLoop : Exp
+besideLoop = letE 4 1 (forE 2 1 (identifier 1) body) (ifE (identifier 3) (identifier 0) (identifier 4))
+
+abbrev pub endlessSet : List Value
+endlessSet = Whole (pos 6) ∷ Truth true ∷ Truth true ∷ []
+
+abbrev pub endingSet : List Value
+endingSet = Whole (pos 5) ∷ Truth false ∷ Truth true ∷ []
+
+-- The operators that the result needs where x3 is true, and those of one round of the loop, in an order in which each can fire.
+abbrev chosen : List Call
+chosen = map fires (0 ∷ 17 ∷ 18 ∷ 19 ∷ 20 ∷ 21 ∷ 22 ∷ 24 ∷ [])
+
+abbrev oneRound : List Call
+oneRound = map fires (1 ∷ 2 ∷ 3 ∷ 4 ∷ 5 ∷ 6 ∷ 7 ∷ 8 ∷ 9 ∷ 10 ∷ 11 ∷ 13 ∷ 15 ∷ 16 ∷ [])
+
+abbrev pub overtakingCalls : List Call
+overtakingCalls = (pushes endlessSet ∷ chosen) ++ (takes ∷ (oneRound ++ (pushes endingSet ∷ (chosen ++ (takes ∷ [])))))
+
+pub both-pushed : pushed besideLoop 2 overtakingCalls ≡ endlessSet ∷ endingSet ∷ []
+unfolding stepsFrom madeOf decAble both decLt marks decRoom capacities ℕ-discrete append pop apply set-link
+both-pushed = refl
+
+pub both-taken : taken besideLoop 2 overtakingCalls ≡ (val (Whole (pos 6)) ∷ []) ∷ (val (Whole (pos 5)) ∷ []) ∷ []
+unfolding stepsFrom madeOf decAble both decLt marks decRoom capacities ℕ-discrete append pop apply set-link
+both-taken = refl
+
+-- ---- the first set's evaluation does not end, the second's does
+
+goes-round : (outer : Env) (bound left : ℕ) (env : Env) → env 2 ≡ Truth true → loop bound (λ e m. evalB body 1 e m) (λ ws. bind 2 1 ws outer) env left ≡ unfinished
+unfolding loop evalB evalE
+goes-round outer zero left env e = refl
+goes-round outer (suc bound) zero env e = refl
+goes-round outer (suc bound) (suc left) env e = rw e (goes-round outer bound left (bind 2 1 (Truth true ∷ []) outer) refl)
+
+abbrev given : Env
+given = inputsHold (freeE besideLoop) endlessSet
+
+no-result : (rounds : ℕ) → resultOf besideLoop endlessSet rounds ≡ none
+unfolding resultOf evalE then bind freeE inputsHold
+no-result rounds =
+    ap (λ (o : Outcome). valuesOf (then o (λ vs l. evalE (ifE (identifier 3) (identifier 0) (identifier 4)) (bind 4 1 vs given) l)))
+    (goes-round given rounds rounds (bind 2 1 (given 1 ∷ []) given) refl)
+
+pub never-ends : (r : List Value) → EndsWith besideLoop endlessSet r → ⊥
+never-ends r e = different (sym (no-result (e .0)) ∙ e .1)
+  where
+    Is-none : Option (List Value) → Type 0
+    Is-none none = Unit {0}
+    Is-none (some v) = ⊥
+
+    different : none ≡ some r → ⊥
+    different z = subst Is-none z tt
+
+pub ends : EndsWith besideLoop endingSet (Whole (pos 5) ∷ [])
+unfolding resultOf
+ends = (1, refl)
