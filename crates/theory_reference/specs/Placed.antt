@@ -1,6 +1,6 @@
 -- Operators of a net with twins: each has its number, is the only one that puts onto its links, and has a twin. And the three operators by which a
 -- body's test reaches iter?: two copies and IC. Assumes nothing; crate theory_wiring places the operators of every fit graph.
-use Prim.Native.Nat.{ℕ, _+_}
+use Prim.Native.Nat.{ℕ}
 use mathlib.Core.Path.{_≡_}
 use mathlib.Core.Logic.{_≢_}
 use mathlib.Core.List.{List, [], _∷_}

@@ -9,7 +9,7 @@ use Rattle.theory_schedule.specs.Counts.{count}
 use Rattle.theory_schedule.specs.Twins.{Late}
 use Rattle.network.specs.Net.{Token, Demand, ask, Links}
 use Rattle.network.specs.Commute.{Never-emits}
-use Rattle.network.specs.Poisoned.{Made-by, fed, fed-before, plain as plainIn, twinned, twinned-puts, twinned-asks}
+use Rattle.network.specs.Poisoned.{Made-by, fed, fed-before}
 use Rattle.theory_pieces.specs.Goes.{one-place, Feasible, led-to}
 
 -- a: the first copy of the test, onto l₁; b: the second, from l₁ onto l₂; c: IC, from l₂ onto iter?.
@@ -19,18 +19,6 @@ pub record Tested (net : ℕ → Demand) (plain : ℕ → ℕ) (a b c l₁ l₂ 
   pub one₃ : (e : ℕ) → c ≢ plain e → Never-emits (net e) it
   pub asks₁ : (e : ℕ) → b ≡ plain e → (k : Token → Demand) × (net e ≡ ask l₁ k)
   pub asks₂ : (e : ℕ) → c ≡ plain e → (k : Token → Demand) × (net e ≡ ask l₂ k)
-
--- In a net with twins it follows from what the operators themselves do.
-pub tested-twinned : (net : ℕ → Demand) (T a b c l₁ l₂ it : ℕ) (j k : Token → Demand) → ((e : ℕ) → a ≢ e → Never-emits (net e) l₁) → ((e : ℕ) → b ≢ e → Never-emits (net e) l₂) →
-    ((e : ℕ) → c ≢ e → Never-emits (net e) it) → net b ≡ ask l₁ j → net c ≡ ask l₂ k → Tested (twinned net T) (plainIn net T) a b c l₁ l₂ it
-tested-twinned net T a b c l₁ l₂ it j k p q r s t =
-    record {
-      one₁ = twinned-puts net T a l₁ p;
-      one₂ = twinned-puts net T b l₂ q;
-      one₃ = twinned-puts net T c it r;
-      asks₁ = twinned-asks net T b l₁ j s;
-      asks₂ = twinned-asks net T c l₂ k t;
-    }
 
 module _ (net : ℕ → Demand) (plain : ℕ → ℕ) (a b c l₁ l₂ it : ℕ) (T : Tested net plain a b c l₁ l₂ it) where
   tested : (w : List ℕ) (q : Links) → Feasible net w q → q l₁ ≡ [] → q l₂ ≡ [] → q it ≡ [] → led-to net w q it ≢ [] → Made-by net one-place plain a w

@@ -15,4 +15,3 @@ pub mod FormulaCounts
 pub mod MadeGraph
 pub mod MadeTwins
 pub mod LesserOfTwo
-pub mod SmallestLoop
