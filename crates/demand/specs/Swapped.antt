@@ -40,3 +40,40 @@ sets {sheet} r = setsPushed (r .calls) (started sheet (r .line) (r .capacity) (r
 
 abbrev pub results : {sheet : List ℕ} → Run sheet → List Result
 results {sheet} r = resultsTaken (r .calls) (started sheet (r .line) (r .capacity) (r .memory) .mem)
+
+module _ {sheet : List ℕ} (a b : Run sheet) (j k : ℕ) (l : j < length (sets a)) (m : k < length (sets b)) (same : getD (sets a) j [] ≡ getD (sets b) k []) where
+  -- Of a set that both runs accepted, direct evaluation does the same with the one kinds line and with the other,
+  evaluation-either : (rounds : ℕ) → evaluationOf sheet (a .line) (getD (sets a) j []) rounds ≡ evaluationOf sheet (b .line) (getD (sets b) k []) rounds
+  evaluation-either rounds =
+      let A = accepted-start sheet (a .line) (a .capacity) (a .memory) (a .accepted) in
+      let B = accepted-start sheet (b .line) (b .capacity) (b .memory) (b .accepted) in
+      ap (λ (s : List ℕ). evaluationOf sheet (a .line) s rounds) same
+      ∙ evaluation-same sheet (a .line) (b .line) (A .admissible) (A .kinded) (B .kinded) (getD (sets b) k [])
+      (subst (λ (s : List ℕ). setOk (lettersOf (formulaOf sheet) (a .line)) s ≡ true) same
+      (pushed-is-set sheet (a .line) (a .capacity) (a .memory) (a .accepted) (a .calls) j l))
+      (pushed-is-set sheet (b .line) (b .capacity) (b .memory) (b .accepted) (b .calls) k m) rounds
+
+  enough-either : (rounds : ℕ) → Enough sheet (a .line) (getD (sets a) j []) rounds → Enough sheet (b .line) (getD (sets b) k []) rounds
+  enough-either rounds h = ap (λ (e : Evaluation). e .verdict) (sym (evaluation-either rounds)) ∙ h
+
+  -- so it ends with both or with neither.
+  pub ends-either : Ends sheet (a .line) (getD (sets a) j []) → Ends sheet (b .line) (getD (sets b) k [])
+  ends-either e = (e .0, enough-either (e .0) (e .1))
+
+module _ (alone : (s : List ℕ) → Admissible s → (capacity : ℕ) → 1 ≤ capacity → (calls : List Abstract.Call) → (k : ℕ) → k < length (Abstract.taken (formulaOf s) capacity calls) → (r : List Value)
+      → EndsWith (formulaOf s) (getD (Abstract.pushed (formulaOf s) capacity calls) k []) r → getD (Abstract.taken (formulaOf s) capacity calls) k [] ≡ tokens-of r) where
+  -- EVERY POSITION OUTSIDE THE GROUP HAS THE SAME RESULT. Positions count from 0. "The group may be empty or all": it is any predicate on them.
+  pub swapped : (sheet : List ℕ) (a b : Run sheet) (group : ℕ → Bool)
+      -- "whose sets differ only at a chosen group of positions"
+      → ((k : ℕ) → group k ≡ false → k < length (sets a) → k < length (sets b) → getD (sets a) k [] ≡ getD (sets b) k [])
+      -- "The evaluation of every set outside the group ends; in the group it need not." Asked with the kinds line of a; with that of b it is the same (`ends-either`).
+      → ((k : ℕ) → group k ≡ false → k < length (sets a) → k < length (sets b) → Ends sheet (a .line) (getD (sets a) k []))
+      -- "Every position outside the group that was taken in both runs has the same result."
+      → (k : ℕ) → group k ≡ false → k < length (results a) → k < length (results b) → getD (results a) k (result 0 []) ≡ getD (results b) k (result 0 [])
+  swapped sheet a b group same ends k out l m =
+      let p : k < length (sets a) = omega (arith, l, demand-3 sheet (a .line) (a .capacity) (a .memory) (a .accepted) (a .calls) .none-invented) in
+      let q : k < length (sets b) = omega (arith, m, demand-3 sheet (b .line) (b .capacity) (b .memory) (b .accepted) (b .calls) .none-invented) in
+      let e = ends k out p q in
+      own-alone alone sheet (a .line) (a .capacity) (a .memory) (a .accepted) (a .calls) k l (e .0) (e .1)
+      ∙ ap yielded (evaluation-either a b k k p q (same k out p q) (e .0))
+      ∙ sym (own-alone alone sheet (b .line) (b .capacity) (b .memory) (b .accepted) (b .calls) k m (e .0) (enough-either a b k k p q (same k out p q) (e .0) (e .1)))
