@@ -4,3 +4,4 @@ pub mod Traced
 pub mod WorkInTurn
 pub mod Waiting
 pub mod Worked
+pub mod OneSwap
