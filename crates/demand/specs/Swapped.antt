@@ -77,3 +77,10 @@ module _ (alone : (s : List ℕ) → Admissible s → (capacity : ℕ) → 1 ≤
       own-alone alone sheet (a .line) (a .capacity) (a .memory) (a .accepted) (a .calls) k l (e .0) (e .1)
       ∙ ap yielded (evaluation-either a b k k p q (same k out p q) (e .0))
       ∙ sym (own-alone alone sheet (b .line) (b .capacity) (b .memory) (b .accepted) (b .calls) k m (e .0) (enough-either a b k k p q (same k out p q) (e .0) (e .1)))
+
+  -- The empty group: two runs with the same sets have the same results, in any orders and at any capacities. Of the group of all nothing is claimed.
+  pub swapped-none : (sheet : List ℕ) (a b : Run sheet)
+      → ((k : ℕ) → k < length (sets a) → k < length (sets b) → getD (sets a) k [] ≡ getD (sets b) k [])
+      → ((k : ℕ) → k < length (sets a) → k < length (sets b) → Ends sheet (a .line) (getD (sets a) k []))
+      → (k : ℕ) → k < length (results a) → k < length (results b) → getD (results a) k (result 0 []) ≡ getD (results b) k (result 0 [])
+  swapped-none sheet a b same ends k = swapped sheet a b (λ j. false) (λ j out. same j) (λ j out. ends j) k refl
