@@ -32,7 +32,7 @@ OwnAlone sheet line start calls =
     → getD (resultsTaken calls start) k (result 0 []) ≡ yielded (evaluationOf sheet line (getD (setsPushed calls start) k []) rounds)
 
 module _ (alone : (s : List ℕ) → Admissible s → (capacity : ℕ) → 1 ≤ capacity → (calls : List Abstract.Call) → (k : ℕ) → k < length (Abstract.taken (formulaOf s) capacity calls) → (r : List Value)
-      → EndsWith (formulaOf s) (getD (Abstract.pushed (formulaOf s) capacity calls) k []) r → getD (Abstract.taken (formulaOf s) capacity calls) k [] ≡ tokens-of r) where
+    → EndsWith (formulaOf s) (getD (Abstract.pushed (formulaOf s) capacity calls) k []) r → getD (Abstract.taken (formulaOf s) capacity calls) k [] ≡ tokens-of r) where
   -- What an accepted start leaves, with any bytes behind what it was lent: the calls may be lent more than start was.
   pub own-alone-behind : (sheet line : List ℕ) (capacity : ℕ) (memory : List ℕ) → started sheet line capacity memory .answer .refusal ≡ 0
       → (rest : List ℕ) (calls : List Call) → OwnAlone sheet line (started sheet line capacity memory .mem ++ rest) calls

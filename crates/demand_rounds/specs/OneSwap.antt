@@ -55,16 +55,16 @@ unfolding evaluationOf bytes lesser yielded bytesOf
 yields-1 = refl
 
 -- A run of the lesser of two with two inputs of kind W that pushed these sets and took a result of each.
-pub record Rack (capacity : ℕ) (set set′ : List ℕ) : Type 0 where
+pub record TwoTaken (capacity : ℕ) (set set′ : List ℕ) : Type 0 where
   pub made : Run (bytes lesser)
   pub line-is : made .line ≡ bytes "WW\n"
   pub capacity-is : made .capacity ≡ capacity
   pub sets-are : sets made ≡ set ∷ set′ ∷ []
   pub taken : length (results made) ≡ 2
 
-rack : (capacity : ℕ) (memory : List ℕ) → started (bytes lesser) (bytes "WW\n") capacity memory .answer .refusal ≡ 0 → (set set′ : List ℕ) → Evaluates set → Evaluates set′
-    → Rack capacity set set′
-rack capacity memory h set set′ e e′ =
+two-taken : (capacity : ℕ) (memory : List ℕ) → started (bytes lesser) (bytes "WW\n") capacity memory .answer .refusal ≡ 0 → (set set′ : List ℕ) → Evaluates set → Evaluates set′
+    → TwoTaken capacity set set′
+two-taken capacity memory h set set′ e e′ =
     let w = worked-run (bytes lesser) (bytes "WW\n") capacity memory h (set ∷ set′ ∷ []) ((0, e), ((0, e′), tt)) in
     record { made = w .0; line-is = w .1; capacity-is = w .2; sets-are = w .3; taken = w .4 }
 
@@ -72,27 +72,27 @@ starts-at-2 : started (bytes lesser) (bytes "WW\n") 2 (zeros 55915) .answer .ref
 unfolding verdictOf bytes lesser zeros
 starts-at-2 = start-accepts (bytes lesser) (bytes "WW\n") 2 (zeros 55915) refl (omega arith) (omega arith) (omega (arith, length-replicate {A = ℕ} 55915 0))
 
-pub one-swap : Rack 1 threeAndFive twoAndSeven × Rack 2 nineAndOne twoAndSeven
+pub one-swap : TwoTaken 1 threeAndFive twoAndSeven × TwoTaken 2 nineAndOne twoAndSeven
 one-swap = (
-  rack 1 (zeros 40390) lesser-starts threeAndFive twoAndSeven (evaluate .0) (evaluate .2),
-  rack 2 (zeros 55915) starts-at-2 nineAndOne twoAndSeven (evaluate .1) (evaluate .2),
+  two-taken 1 (zeros 40390) lesser-starts threeAndFive twoAndSeven (evaluate .0) (evaluate .2),
+  two-taken 2 (zeros 55915) starts-at-2 nineAndOne twoAndSeven (evaluate .1) (evaluate .2),
 )
 
-module _ (capacity : ℕ) (set set′ : List ℕ) (R : Rack capacity set set′) where
+module _ (capacity : ℕ) (set set′ : List ℕ) (R : TwoTaken capacity set set′) where
   -- Evaluation of its sets is that with the line WW.
-  rack-evaluates : (k : ℕ) → evaluationOf (bytes lesser) (R .made .line) (getD (sets (R .made)) k []) 0 ≡ evaluationOf (bytes lesser) (bytes "WW\n") (getD (set ∷ set′ ∷ []) k []) 0
-  rack-evaluates k = ap₂ (λ (l : List ℕ) (s : List (List ℕ)). evaluationOf (bytes lesser) l (getD s k []) 0) (R .line-is) (R .sets-are)
+  taken-evaluates : (k : ℕ) → evaluationOf (bytes lesser) (R .made .line) (getD (sets (R .made)) k []) 0 ≡ evaluationOf (bytes lesser) (bytes "WW\n") (getD (set ∷ set′ ∷ []) k []) 0
+  taken-evaluates k = ap₂ (λ (l : List ℕ) (s : List (List ℕ)). evaluationOf (bytes lesser) l (getD s k []) 0) (R .line-is) (R .sets-are)
 
-  rack-enough : (k : ℕ) → Evaluates (getD (set ∷ set′ ∷ []) k []) → Enough (bytes lesser) (R .made .line) (getD (sets (R .made)) k []) 0
-  rack-enough k e = ap (λ (z : Evaluation). z .verdict) (rack-evaluates k) ∙ e
+  taken-enough : (k : ℕ) → Evaluates (getD (set ∷ set′ ∷ []) k []) → Enough (bytes lesser) (R .made .line) (getD (sets (R .made)) k []) 0
+  taken-enough k e = ap (λ (z : Evaluation). z .verdict) (taken-evaluates k) ∙ e
 
 -- Position 0.
 abbrev first : ℕ → Bool
 first k = eqb k 0
 
 module _ (alone : (s : List ℕ) → Admissible s → (capacity : ℕ) → 1 ≤ capacity → (calls : List Abstract.Call) → (k : ℕ) → k < length (Abstract.taken (formulaOf s) capacity calls) → (r : List Value)
-      → EndsWith (formulaOf s) (getD (Abstract.pushed (formulaOf s) capacity calls) k []) r → getD (Abstract.taken (formulaOf s) capacity calls) k [] ≡ tokens-of r)
-    (A : Rack 1 threeAndFive twoAndSeven) (B : Rack 2 nineAndOne twoAndSeven) where
+    → EndsWith (formulaOf s) (getD (Abstract.pushed (formulaOf s) capacity calls) k []) r → getD (Abstract.taken (formulaOf s) capacity calls) k [] ≡ tokens-of r)
+    (A : TwoTaken 1 threeAndFive twoAndSeven) (B : TwoTaken 2 nineAndOne twoAndSeven) where
   differ-at-first : (k : ℕ) → first k ≡ false → k < length (sets (A .made)) → k < length (sets (B .made)) → getD (sets (A .made)) k [] ≡ getD (sets (B .made)) k []
   differ-at-first zero out l m = absurd (false≢true (sym out))
   differ-at-first (suc zero) out l m = ap (λ (s : List (List ℕ)). getD s 1 []) (A .sets-are) ∙ sym (ap (λ (s : List (List ℕ)). getD s 1 []) (B .sets-are))
@@ -100,7 +100,7 @@ module _ (alone : (s : List ℕ) → Admissible s → (capacity : ℕ) → 1 ≤
 
   other-ends : (k : ℕ) → first k ≡ false → k < length (sets (A .made)) → k < length (sets (B .made)) → Ends (bytes lesser) (A .made .line) (getD (sets (A .made)) k [])
   other-ends zero out l m = absurd (false≢true (sym out))
-  other-ends (suc zero) out l m = (0, rack-enough 1 threeAndFive twoAndSeven A 1 (evaluate .2))
+  other-ends (suc zero) out l m = (0, taken-enough 1 threeAndFive twoAndSeven A 1 (evaluate .2))
   other-ends (suc (suc k)) out l m = absurd (omega (arith, l, ap length (A .sets-are)))
 
   pub other-same : getD (results (A .made)) 1 (result 0 []) ≡ getD (results (B .made)) 1 (result 0 [])
@@ -114,10 +114,10 @@ module _ (alone : (s : List ℕ) → Admissible s → (capacity : ℕ) → 1 ≤
       let z : _≡_ {A = ℕ} 3 1 = sym a ∙ ap (λ (r : Result). getD (r .bytes) 1 0) e ∙ b in
       omega (arith, z)
     where
-      taken-first : (capacity : ℕ) (set : List ℕ) (R : Rack capacity set twoAndSeven) → Evaluates set
+      taken-first : (capacity : ℕ) (set : List ℕ) (R : TwoTaken capacity set twoAndSeven) → Evaluates set
           → getD (getD (results (R .made)) 0 (result 0 []) .bytes) 1 0 ≡ getD (yielded (evaluationOf (bytes lesser) (bytes "WW\n") set 0) .bytes) 1 0
       taken-first capacity set R e =
           ap (λ (r : Result). getD (r .bytes) 1 0)
           (own-alone alone (bytes lesser) (R .made .line) (R .made .capacity) (R .made .memory) (R .made .accepted) (R .made .calls) 0 (omega (arith, R .taken)) 0
-          (rack-enough capacity set twoAndSeven R 0 e)
-          ∙ ap yielded (rack-evaluates capacity set twoAndSeven R 0))
+          (taken-enough capacity set twoAndSeven R 0 e)
+          ∙ ap yielded (taken-evaluates capacity set twoAndSeven R 0))
