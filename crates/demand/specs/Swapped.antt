@@ -20,7 +20,7 @@ use Rattle.value_sets.specs.Sets.{setOk}
 use Rattle.machine_start.specs.Start.{started}
 use Rattle.machine_start.specs.StartLaws.{accepted-start}
 use Rattle.demand.specs.MemoryCalls.{Call, Result, result, setsPushed, resultsTaken}
-use Rattle.demand.specs.Claim.{Enough, Ends, yielded}
+use Rattle.demand.specs.Claim.{Ends, yielded}
 use Rattle.demand.specs.Demand3.{demand-3}
 use Rattle.demand.specs.PushedSets.{pushed-is-set, evaluation-same}
 use Rattle.demand.specs.Alone.{own-alone}

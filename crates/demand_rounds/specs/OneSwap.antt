@@ -2,7 +2,7 @@
 -- sets (3, 5), (2, 7) and (9, 1), (2, 7), all taken (`one-swap`). Swapped at position 0, they have the same result at position 1 (`other-same`) and different ones at
 -- position 0 (`own-differs`). The runs are there by the laws of Worked; evaluation by computation.
 use Prim.Native.Nat.{ℕ, zero, suc, _≤_, _<_}
-use mathlib.Core.Path.{_≡_, refl, sym, ap, ap₂, subst, _∙_}
+use mathlib.Core.Path.{_≡_, refl, sym, ap, ap₂, _∙_}
 use mathlib.Core.Logic.{_≢_}
 use mathlib.Core.Bool.{Bool, false, false≢true}
 use mathlib.Core.List.{List, [], _∷_}
@@ -12,7 +12,6 @@ use lib.ListN.{length, getD, length-replicate}
 use Rattle.value.specs.declared.Value.{Value}
 use Rattle.value.specs.Bytes.{bytesOf}
 use Rattle.examples.specs.Sheets.{bytes, lesser}
-use Rattle.formula.specs.declared.Verdict.the-variants.{Passed}
 use Rattle.formula.specs.Tree.{formulaOf}
 use Rattle.formula.specs.Acceptance.{Admissible}
 use Rattle.formula.specs.Tests.{verdictOf}
