@@ -16,6 +16,9 @@ pub mod FollowAll
 pub mod OnMemory
 pub mod Agreed
 pub mod Demand3
+pub mod PushedSets
+pub mod Alone
+pub mod Swapped
 pub mod Oldest
 pub mod ByHistory
 pub mod Evaluated

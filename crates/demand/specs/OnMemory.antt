@@ -134,18 +134,22 @@ module _ (sheet line : List ℕ) (ok : Admissible sheet) (told : Kinded sheet li
 
   -- ---- the k-th result
 
+  -- Where the abstract machine's k-th result is what its set's evaluation ends with, the k-th result taken is what direct evaluation yields.
+  pub result-yielded : (k : ℕ) → k < length (resultsTaken calls start) → ((r : List Value) → EndsWith x (getD sets k []) r → getD results k [] ≡ tokens-of r)
+      → (rounds : ℕ) → Enough sheet line (getD (setsPushed calls start) k []) rounds
+      → getD (resultsTaken calls start) k (result 0 []) ≡ yielded (evaluationOf sheet line (getD (setsPushed calls start) k []) rounds)
+  result-yielded k l own rounds enough =
+      let y = enough-yields sheet line ok told (getD (setsPushed calls start) k []) (getD sets k []) (read k (omega (arith, abstractly .none-invented, as-many-results))) rounds enough in
+      ap (λ (z : List Result). getD z k (result 0 [])) (F .shows)
+      ∙ result-at shownTokens results (result 0 []) k (omega (arith, as-many-results))
+      ∙ ap (λ (ts : List Token). shown (valuesIn ts)) (own (y .0) (y .1))
+      ∙ ap shown (tokens-shown (y .0))
+      ∙ sym (y .2)
+
   own-verdict : (k : ℕ) → k < length (resultsTaken calls start) → ((j : ℕ) → j ≤ k → Ends sheet line (getD (setsPushed calls start) j []))
       → (rounds : ℕ) → Enough sheet line (getD (setsPushed calls start) k []) rounds
       → getD (resultsTaken calls start) k (result 0 []) ≡ yielded (evaluationOf sheet line (getD (setsPushed calls start) k []) rounds)
-  own-verdict k l ends rounds enough =
-      let lt : k < length results = omega (arith, as-many-results) in
-      let many = abstractly .none-invented in
-      let y = enough-yields sheet line ok told (getD (setsPushed calls start) k []) (getD sets k []) (read k (omega arith)) rounds enough in
-      ap (λ (z : List Result). getD z k (result 0 [])) (F .shows)
-      ∙ result-at shownTokens results (result 0 []) k lt
-      ∙ ap (λ (ts : List Token). shown (valuesIn ts)) (abstractly .own k lt (each many) (y .0) (y .1))
-      ∙ ap shown (tokens-shown (y .0))
-      ∙ sym (y .2)
+  own-verdict k l ends = result-yielded k l (abstractly .own k (omega (arith, as-many-results)) (each (abstractly .none-invented)))
     where
       each : length results ≤ length sets → (j : ℕ) → j ≤ k → (r : List Value) × EndsWith x (getD sets j []) r
       each many j h =

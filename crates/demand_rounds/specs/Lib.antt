@@ -3,3 +3,5 @@ pub mod Told
 pub mod Traced
 pub mod WorkInTurn
 pub mod Waiting
+pub mod Worked
+pub mod OneSwap
