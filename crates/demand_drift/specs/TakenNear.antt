@@ -56,8 +56,8 @@ module _ (sheet line tolerances out : List ℕ) (h : driftedInto sheet line tole
     abbrev kinds : List ℕ
     kinds = lettersOf (formulaOf sheet) line
 
-    is-set : (j k : ℕ) → k < length results → j ≤ k → setOk kinds (getD sets j []) ≡ true
-    is-set j k l i = pushed-is-set sheet line capacity memory starts calls j (omega (arith, l, i, demand-3 sheet line capacity memory starts calls .none-invented))
+    is-set : (k : ℕ) → k < length results → setOk kinds (getD sets k []) ≡ true
+    is-set k l = pushed-is-set sheet line capacity memory starts calls k (omega (arith, l, demand-3 sheet line capacity memory starts calls .none-invented))
 
     accepted : (set : List ℕ) → setOk kinds set ≡ true → handedOut sheet line set 0 room .answer .refusal ≡ 0
     accepted set ok = evaluation-always-ends sheet line tolerances out h set ok 0 room enough-room
@@ -66,15 +66,14 @@ module _ (sheet line tolerances out : List ℕ) (h : driftedInto sheet line tole
     enough set ok = evaluates-enough sheet line set 0 room (evaluates sheet line set 0 room (accepted set ok))
 
     evaluated : (k : ℕ) → k < length results → handedOut sheet line (getD sets k []) 0 room .answer .refusal ≡ 0
-    evaluated k l = accepted (getD sets k []) (is-set k k l (omega arith))
+    evaluated k l = accepted (getD sets k []) (is-set k l)
 
     -- What is taken is what evaluation writes.
     same : (k : ℕ) → k < length results
         → (handedOut sheet line (getD sets k []) 0 room .answer .width ≡ getD results k (result 0 []) .width)
         × (firstOf 80 (handedOut sheet line (getD sets k []) 0 room .out) ≡ getD results k (result 0 []) .bytes)
     same k l =
-        let e = take-writes-evaluation sheet line capacity memory starts calls k l (λ j i. (0, enough (getD sets j []) (is-set j k l i)))
-        0 (enough (getD sets k []) (is-set k k l (omega arith))) room enough-room in
+        let e = take-writes-evaluation sheet line capacity memory starts calls k l 0 (enough (getD sets k []) (is-set k l)) room enough-room in
         (e .1, e .2)
 
     field-taken : (k : ℕ) → k < length results → (i : ℕ) → i < 16
