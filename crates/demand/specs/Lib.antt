@@ -13,6 +13,7 @@ pub mod FollowRounds
 pub mod Answered
 pub mod FollowTake
 pub mod FollowAll
+pub mod Carried
 pub mod OnMemory
 pub mod Agreed
 pub mod Demand3

@@ -14,13 +14,14 @@ use Rattle.value.specs.Operators.{apply}
 use Rattle.network.specs.Net.{val, pop, append}
 use Rattle.network.specs.Ends.{capacities}
 use Rattle.theory_pieces.specs.Load.{set-link}
+use Rattle.theory_pieces.specs.Tape.{Step, pushing, firing, taking}
 use Rattle.formula.specs.Tree.{Exp, identifier, letE, ifE, forE, Body, ret, iter, ifB}
 use Rattle.formula.specs.Free.{freeE}
 use Rattle.meaning.specs.Meaning.{Env, bind, Outcome, unfinished, then, loop, evalE, evalB, inputsHold}
 use Rattle.graph.specs.Translation.{madeOf}
 use Rattle.theory_reference.specs.Marks.{marks}
 use Rattle.theory_verdicts.specs.Results.{valuesOf, resultOf, EndsWith}
-use Rattle.theory_verdicts.specs.Running.{both, decRoom, decAble, Call, pushes, fires, takes, stepsFrom, pushed, taken}
+use Rattle.theory_verdicts.specs.Running.{both, decRoom, decAble, Call, pushes, fires, takes, stepsFrom, history, taken}
 
 abbrev body : Body
 body = ifB (identifier 2) (iter (identifier 2)) (ret (identifier 0))
@@ -34,23 +35,48 @@ endlessSet = Whole (pos 6) ∷ Truth true ∷ Truth true ∷ []
 abbrev pub endingSet : List Value
 endingSet = Whole (pos 5) ∷ Truth false ∷ Truth true ∷ []
 
--- The operators that the result needs where x3 is true, and those of one round of the loop, in an order in which each can fire.
-abbrev chosen : List Call
-chosen = map fires (0 ∷ 17 ∷ 18 ∷ 19 ∷ 20 ∷ 21 ∷ 22 ∷ 24 ∷ [])
+abbrev pub swappedSet : List Value
+swappedSet = Whole (pos 7) ∷ Truth false ∷ Truth true ∷ []
 
-abbrev oneRound : List Call
-oneRound = map fires (1 ∷ 2 ∷ 3 ∷ 4 ∷ 5 ∷ 6 ∷ 7 ∷ 8 ∷ 9 ∷ 10 ∷ 11 ∷ 13 ∷ 15 ∷ 16 ∷ [])
+-- The operators that a result needs where x3 is true, and those of one round of the loop, each in an order in which they can fire. A set passes by the former alone.
+abbrev chosen : List ℕ
+chosen = 0 ∷ 20 ∷ 21 ∷ 22 ∷ 24 ∷ []
 
-abbrev pub overtakingCalls : List Call
-overtakingCalls = (pushes endlessSet ∷ chosen) ++ (takes ∷ (oneRound ++ (pushes endingSet ∷ (chosen ++ (takes ∷ [])))))
+abbrev oneRound : List ℕ
+oneRound = 17 ∷ 18 ∷ 19 ∷ 1 ∷ 2 ∷ 3 ∷ 4 ∷ 5 ∷ 6 ∷ 7 ∷ 8 ∷ 9 ∷ 10 ∷ 11 ∷ 13 ∷ 15 ∷ 16 ∷ []
 
-pub both-pushed : pushed besideLoop 2 overtakingCalls ≡ endlessSet ∷ endingSet ∷ []
+abbrev passes : List Value → List Step
+passes v = pushing v ∷ (map firing chosen ++ (taking ∷ []))
+
+-- The loop of the first set goes one round before the second set is pushed and one after its result is taken.
+abbrev pub overtaking : List Step
+overtaking = passes endlessSet ++ (map firing oneRound ++ (passes endingSet ++ map firing oneRound))
+
+abbrev pub withoutLoop : List Step
+withoutLoop = passes swappedSet ++ passes endingSet
+
+abbrev pub asked : List Step → List Call
+asked [] = []
+asked (pushing v ∷ w) = pushes v ∷ asked w
+asked (firing a ∷ w) = fires a ∷ asked w
+asked (taking ∷ w) = takes ∷ asked w
+
+-- Each call is accepted.
+pub overtaking-made : history besideLoop 2 (asked overtaking) ≡ overtaking
 unfolding stepsFrom madeOf decAble both decLt marks decRoom capacities ℕ-discrete append pop apply set-link
-both-pushed = refl
+overtaking-made = refl
 
-pub both-taken : taken besideLoop 2 overtakingCalls ≡ (val (Whole (pos 6)) ∷ []) ∷ (val (Whole (pos 5)) ∷ []) ∷ []
+pub without-loop-made : history besideLoop 16 (asked withoutLoop) ≡ withoutLoop
 unfolding stepsFrom madeOf decAble both decLt marks decRoom capacities ℕ-discrete append pop apply set-link
-both-taken = refl
+without-loop-made = refl
+
+pub overtaking-taken : taken besideLoop 2 (asked overtaking) ≡ (val (Whole (pos 6)) ∷ []) ∷ (val (Whole (pos 5)) ∷ []) ∷ []
+unfolding stepsFrom madeOf decAble both decLt marks decRoom capacities ℕ-discrete append pop apply set-link
+overtaking-taken = refl
+
+pub without-loop-taken : taken besideLoop 16 (asked withoutLoop) ≡ (val (Whole (pos 7)) ∷ []) ∷ (val (Whole (pos 5)) ∷ []) ∷ []
+unfolding stepsFrom madeOf decAble both decLt marks decRoom capacities ℕ-discrete append pop apply set-link
+without-loop-taken = refl
 
 -- ---- the first set's evaluation does not end, the second's does
 
