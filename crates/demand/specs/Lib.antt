@@ -27,3 +27,4 @@ pub mod Onward
 pub mod Trays
 pub mod Pushes
 pub mod LesserStarts
+pub mod OneSwap

@@ -1,6 +1,6 @@
--- A result taken behind a set that never ends: "let x4 = (for x2 = x1 do if x2 then iter x2 else x0) in if x3 then x0 else x4". The loop goes on for ever where x1
--- is true, and so does direct evaluation, which evaluates what a let binds, used or not; the machine gives x0 where x3 is true without
--- waiting for the loop. Of the sets (6, T, T) and (5, F, T) both results are taken while the first one's loop is under way. By computation, at capacity 2.
+-- A result taken behind a set that never ends: "let x4 = (for x2 = x1 do if x2 then iter x2 else x0) in if x3 then x0 else x4". Where x1 is true the loop goes on for
+-- ever, and so does direct evaluation, which evaluates what a let binds, used or not; the machine gives x0 where x3 is true without waiting for the loop. Of
+-- the sets (6, T, T) and (5, F, T) it hands out 6, though the first has no result by evaluation, and 5, the second's, while the loop is under way. By computation.
 use Prim.Native.Nat.{ℕ, zero, suc}
 use mathlib.Core.Path.{_≡_, refl, sym, subst, ap, _∙_}
 use mathlib.Core.Bool.{true, false}
@@ -38,7 +38,7 @@ endingSet = Whole (pos 5) ∷ Truth false ∷ Truth true ∷ []
 abbrev pub swappedSet : List Value
 swappedSet = Whole (pos 7) ∷ Truth false ∷ Truth true ∷ []
 
--- The operators that a result needs where x3 is true, and those of one round of the loop, each in an order in which they can fire. A set passes by the former alone.
+-- The operators that a result needs where x3 is true, and those of one round of the loop, its gates 17, 18 and 19 first, in orders in which they can fire.
 abbrev chosen : List ℕ
 chosen = 0 ∷ 20 ∷ 21 ∷ 22 ∷ 24 ∷ []
 
@@ -52,16 +52,18 @@ passes v = pushing v ∷ (map firing chosen ++ (taking ∷ []))
 abbrev pub overtaking : List Step
 overtaking = passes endlessSet ++ (map firing oneRound ++ (passes endingSet ++ map firing oneRound))
 
+-- With another first set, and no round of the loop.
 abbrev pub withoutLoop : List Step
 withoutLoop = passes swappedSet ++ passes endingSet
 
+-- The calls that ask for these steps.
 abbrev pub asked : List Step → List Call
 asked [] = []
 asked (pushing v ∷ w) = pushes v ∷ asked w
 asked (firing a ∷ w) = fires a ∷ asked w
 asked (taking ∷ w) = takes ∷ asked w
 
--- Each call is accepted.
+-- Each call is accepted, at capacities 2 and 16.
 pub overtaking-made : history besideLoop 2 (asked overtaking) ≡ overtaking
 unfolding stepsFrom madeOf decAble both decLt marks decRoom capacities ℕ-discrete append pop apply set-link
 overtaking-made = refl
