@@ -13,6 +13,7 @@ pub mod FollowRounds
 pub mod Answered
 pub mod FollowTake
 pub mod FollowAll
+pub mod Carried
 pub mod OnMemory
 pub mod Agreed
 pub mod Demand3
@@ -26,3 +27,4 @@ pub mod Onward
 pub mod Trays
 pub mod Pushes
 pub mod LesserStarts
+pub mod OneSwap

@@ -3,5 +3,3 @@ pub mod Told
 pub mod Traced
 pub mod WorkInTurn
 pub mod Waiting
-pub mod Worked
-pub mod OneSwap

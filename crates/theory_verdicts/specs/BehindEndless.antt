@@ -1,6 +1,6 @@
--- A result taken behind a set that never ends: "let x4 = (for x2 = x1 do if x2 then iter x2 else x0) in if x3 then x0 else x4". The loop goes on for ever where x1
--- is true, and so does direct evaluation, which evaluates what a let binds, used or not; the machine gives x0 where x3 is true without
--- waiting for the loop. Of the sets (6, T, T) and (5, F, T) both results are taken while the first one's loop is under way. By computation, at capacity 2.
+-- A result taken behind a set that never ends: "let x4 = (for x2 = x1 do if x2 then iter x2 else x0) in if x3 then x0 else x4". Where x1 is true the loop goes on for
+-- ever, and so does direct evaluation, which evaluates what a let binds, used or not; the machine gives x0 where x3 is true without waiting for the loop. Of
+-- the sets (6, T, T) and (5, F, T) it hands out 6, though the first has no result by evaluation, and 5, the second's, while the loop is under way. By computation.
 use Prim.Native.Nat.{ℕ, zero, suc}
 use mathlib.Core.Path.{_≡_, refl, sym, subst, ap, _∙_}
 use mathlib.Core.Bool.{true, false}
@@ -14,13 +14,14 @@ use Rattle.value.specs.Operators.{apply}
 use Rattle.network.specs.Net.{val, pop, append}
 use Rattle.network.specs.Ends.{capacities}
 use Rattle.theory_pieces.specs.Load.{set-link}
+use Rattle.theory_pieces.specs.Tape.{Step, pushing, firing, taking}
 use Rattle.formula.specs.Tree.{Exp, identifier, letE, ifE, forE, Body, ret, iter, ifB}
 use Rattle.formula.specs.Free.{freeE}
 use Rattle.meaning.specs.Meaning.{Env, bind, Outcome, unfinished, then, loop, evalE, evalB, inputsHold}
 use Rattle.graph.specs.Translation.{madeOf}
 use Rattle.theory_reference.specs.Marks.{marks}
 use Rattle.theory_verdicts.specs.Results.{valuesOf, resultOf, EndsWith}
-use Rattle.theory_verdicts.specs.Running.{both, decRoom, decAble, Call, pushes, fires, takes, stepsFrom, pushed, taken}
+use Rattle.theory_verdicts.specs.Running.{both, decRoom, decAble, Call, pushes, fires, takes, stepsFrom, history, taken}
 
 abbrev body : Body
 body = ifB (identifier 2) (iter (identifier 2)) (ret (identifier 0))
@@ -34,23 +35,50 @@ endlessSet = Whole (pos 6) ∷ Truth true ∷ Truth true ∷ []
 abbrev pub endingSet : List Value
 endingSet = Whole (pos 5) ∷ Truth false ∷ Truth true ∷ []
 
--- The operators that the result needs where x3 is true, and those of one round of the loop, in an order in which each can fire.
-abbrev chosen : List Call
-chosen = map fires (0 ∷ 17 ∷ 18 ∷ 19 ∷ 20 ∷ 21 ∷ 22 ∷ 24 ∷ [])
+abbrev pub swappedSet : List Value
+swappedSet = Whole (pos 7) ∷ Truth false ∷ Truth true ∷ []
 
-abbrev oneRound : List Call
-oneRound = map fires (1 ∷ 2 ∷ 3 ∷ 4 ∷ 5 ∷ 6 ∷ 7 ∷ 8 ∷ 9 ∷ 10 ∷ 11 ∷ 13 ∷ 15 ∷ 16 ∷ [])
+-- The operators that a result needs where x3 is true, and those of one round of the loop, its gates 17, 18 and 19 first, in orders in which they can fire.
+abbrev chosen : List ℕ
+chosen = 0 ∷ 20 ∷ 21 ∷ 22 ∷ 24 ∷ []
 
-abbrev pub overtakingCalls : List Call
-overtakingCalls = (pushes endlessSet ∷ chosen) ++ (takes ∷ (oneRound ++ (pushes endingSet ∷ (chosen ++ (takes ∷ [])))))
+abbrev oneRound : List ℕ
+oneRound = 17 ∷ 18 ∷ 19 ∷ 1 ∷ 2 ∷ 3 ∷ 4 ∷ 5 ∷ 6 ∷ 7 ∷ 8 ∷ 9 ∷ 10 ∷ 11 ∷ 13 ∷ 15 ∷ 16 ∷ []
 
-pub both-pushed : pushed besideLoop 2 overtakingCalls ≡ endlessSet ∷ endingSet ∷ []
+abbrev passes : List Value → List Step
+passes v = pushing v ∷ (map firing chosen ++ (taking ∷ []))
+
+-- The loop of the first set goes one round before the second set is pushed and one after its result is taken.
+abbrev pub overtaking : List Step
+overtaking = passes endlessSet ++ (map firing oneRound ++ (passes endingSet ++ map firing oneRound))
+
+-- With another first set, and no round of the loop.
+abbrev pub withoutLoop : List Step
+withoutLoop = passes swappedSet ++ passes endingSet
+
+-- The calls that ask for these steps.
+abbrev pub asked : List Step → List Call
+asked [] = []
+asked (pushing v ∷ w) = pushes v ∷ asked w
+asked (firing a ∷ w) = fires a ∷ asked w
+asked (taking ∷ w) = takes ∷ asked w
+
+-- Each call is accepted, at capacities 2 and 16.
+pub overtaking-made : history besideLoop 2 (asked overtaking) ≡ overtaking
 unfolding stepsFrom madeOf decAble both decLt marks decRoom capacities ℕ-discrete append pop apply set-link
-both-pushed = refl
+overtaking-made = refl
 
-pub both-taken : taken besideLoop 2 overtakingCalls ≡ (val (Whole (pos 6)) ∷ []) ∷ (val (Whole (pos 5)) ∷ []) ∷ []
+pub without-loop-made : history besideLoop 16 (asked withoutLoop) ≡ withoutLoop
 unfolding stepsFrom madeOf decAble both decLt marks decRoom capacities ℕ-discrete append pop apply set-link
-both-taken = refl
+without-loop-made = refl
+
+pub overtaking-taken : taken besideLoop 2 (asked overtaking) ≡ (val (Whole (pos 6)) ∷ []) ∷ (val (Whole (pos 5)) ∷ []) ∷ []
+unfolding stepsFrom madeOf decAble both decLt marks decRoom capacities ℕ-discrete append pop apply set-link
+overtaking-taken = refl
+
+pub without-loop-taken : taken besideLoop 16 (asked withoutLoop) ≡ (val (Whole (pos 7)) ∷ []) ∷ (val (Whole (pos 5)) ∷ []) ∷ []
+unfolding stepsFrom madeOf decAble both decLt marks decRoom capacities ℕ-discrete append pop apply set-link
+without-loop-taken = refl
 
 -- ---- the first set's evaluation does not end, the second's does
 
