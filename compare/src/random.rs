@@ -2,6 +2,7 @@
 // The generator of numbers is Marsaglia's xorshift with a multiplied output.
 
 pub mod dead;
+pub mod endless;
 pub mod faults;
 pub mod floats;
 pub mod folders;
@@ -18,6 +19,7 @@ pub mod turns;
 use crate::bytes::VALUE_BYTES;
 use crate::sheet::Sheet;
 use crate::value::{Sort, Value};
+pub use endless::endless_sheet;
 pub use floats::{random_float, random_pattern};
 pub use sheets::{
     accepted_sheet, heavy_sheet, heavy_sheet_of_wholes, loose_sheet, renamed_sheet, unkinded_sheet, Made,

@@ -2,7 +2,8 @@
 // prints. After every call the answers, every byte and the records of firings, takes and refused pushes must agree; bytes past the lent ones and words around a
 // record must be as they were. A record must show what its calls did since it was set (document 02, Job 10). A tray must answer and leave what the
 // product's pushes one by one do. Where nothing but calls wrote the memory, each result taken must also be what direct evaluation gives for the set
-// pushed (demand 3), and the oldest untaken set waits no more rounds than the firings that it is owed (document 02, Job 7).
+// pushed (demand 3), also behind a set whose evaluation does not end (document 02, Job 11), and the oldest untaken set waits no more rounds than the
+// firings that it is owed (document 02, Job 7).
 // Usage: compare_machine CASES SEED [FIRST]. `compare_machine 1 SEED NUMBER` makes a case again.
 
 use compare::arguments::Cases;
@@ -10,7 +11,8 @@ use compare::bytes::{self, OUT_BYTES, VALUE_BYTES};
 use compare::memory::{self, Answer, RoundsAnswer, GREATEST_CONSTANT, LETTERS, MOST_LINKS};
 use compare::random::faults::{plant, PLANTABLE};
 use compare::random::{
-    accepted_sheet, heavy_sheet, random_err, random_float_bytes, random_pattern, random_set, random_value, Made, Rng,
+    accepted_sheet, endless_sheet, heavy_sheet, random_err, random_float_bytes, random_pattern, random_set,
+    random_value, Made, Rng,
 };
 use compare::sheet::{self, Sheet};
 use compare::tally::Tally;
@@ -76,6 +78,7 @@ fn random_sheet(number: u64, rng: &mut Rng) -> Made {
     match number % 20 {
         0 => heavy_sheet(rng),
         1 => plant(rng.pick(&PLANTABLE), rng).made,
+        2..=4 => endless_sheet(rng),
         _ => accepted_sheet(rng),
     }
 }
@@ -85,10 +88,14 @@ fn random_sheet(number: u64, rng: &mut Rng) -> Made {
 struct Run<'a> {
     sheet: &'a Sheet,
     mem: Vec<u8>,
+    /// Copies of it that are no longer wanted.
+    spare: Vec<Vec<u8>>,
     pushed: VecDeque<Vec<u8>>,
     times: Vec<u64>,
     in_turn: InTurn,
     taken: usize,
+    /// A set taken before did not end within the rounds of an evaluation.
+    endless: bool,
     altered: bool,
     tally: Tally,
     done: Done,
@@ -205,6 +212,15 @@ impl Side {
     }
 }
 
+/// A fire, a run of either sort or a take.
+#[derive(Clone, Copy)]
+enum Drive {
+    Fire(u32),
+    Run(u32),
+    Rounds(u32),
+    Take,
+}
+
 /// A call's answers here and in the product, and its sets: of a push the one pushed, of a tray those that went in.
 struct Called {
     name: &'static str,
@@ -243,24 +259,21 @@ fn compare_case(number: u64, made: &Made, counts: &mut Counts, rng: &mut Rng) ->
     let times = vec![0; sheet.figures.operators as usize];
     let tally = shown.tally;
     let in_turn = InTurn { mem: mem[..length].to_vec(), tally, times: times.clone(), worked: Some(0) };
-    let (pushed, altered, done) = (VecDeque::new(), false, Done::since(tally));
-    let mut run = Run { sheet: &sheet, mem, pushed, times, in_turn, taken: 0, altered, tally, done, counts };
-    let alters = rng.chance(40);
-    for _ in 0..rng.between(10, 80) {
-        if alters && rng.chance(15) {
-            alter(&mut run.mem, length, rng);
-            run.altered = true;
-        }
-        if rng.chance(OTHER_RECORDS) {
-            run.tally = random_record(rng);
-            run.done = Done::since(run.tally);
-        }
-        run.call(length, rng)?;
-        if rng.chance(WAITS) && !run.altered {
-            run.wait(length)?;
-        }
-    }
-    Ok(())
+    let run = Run {
+        sheet: &sheet,
+        mem,
+        spare: vec![],
+        pushed: VecDeque::new(),
+        times,
+        in_turn,
+        taken: 0,
+        endless: false,
+        altered: false,
+        tally,
+        done: Done::since(tally),
+        counts,
+    };
+    run.list(length, rng)
 }
 
 /// What a start stores whatever the numbering is: the header's figures before the links, and the letters.
@@ -269,16 +282,87 @@ fn fixed_figures(mem: &[u8]) -> (&[u8], &[u8]) {
 }
 
 impl Run<'_> {
+    /// A random list of calls; where nothing else wrote the memory, what can still be taken is taken at the end.
+    fn list(mut self, length: usize, rng: &mut Rng) -> Result<(), String> {
+        let alters = rng.chance(40);
+        for _ in 0..rng.between(10, 80) {
+            if alters && rng.chance(15) {
+                alter(&mut self.mem, length, rng);
+                self.altered = true;
+            }
+            if rng.chance(OTHER_RECORDS) {
+                self.tally = random_record(rng);
+                self.done = Done::since(self.tally);
+            }
+            self.call(length, rng)?;
+            if rng.chance(WAITS) && !self.altered {
+                self.wait(length)?;
+            }
+        }
+        match self.altered {
+            true => Ok(()),
+            false => self.finish(length),
+        }
+    }
+
     fn call(&mut self, length: usize, rng: &mut Rng) -> Result<(), String> {
         let lent = if rng.chance(97) { length } else { rng.pick(&[0, 1, 8, length - 1 - length / 3, length - 3]) };
         let room = if rng.chance(97) { OUT_BYTES + rng.below(3) } else { rng.pick(&[0, 79]) };
-        let record = Record::of(self.tally);
-        let side = || Side { mem: self.mem.clone(), lent, out: vec![0x55; 90], room, record };
-        let (mut plain, mut product) = (side(), side());
-        let Called { name, ours, theirs, sets } = match rng.below(12) {
+        let (mut plain, mut product) = self.sides(lent, room);
+        let called = match rng.below(12) {
             0..=4 => self.push_both(&mut plain, &mut product, rng)?,
-            _ => self.drive_both(&mut plain, &mut product, rng),
+            _ => {
+                let drive = self.random_drive(lent, rng);
+                self.drive_both(&mut plain, &mut product, drive)
+            }
         };
+        self.compare(called, plain, product)
+    }
+
+    /// Runs by rounds and takes what is ready, until nothing is: many sets are still untaken at the end of a list, and their results are to be held to
+    /// evaluation too.
+    fn finish(&mut self, length: usize) -> Result<(), String> {
+        let mut taken = None;
+        while taken != Some(self.taken) {
+            taken = Some(self.taken);
+            self.drive(length, Drive::Rounds(MANY_ROUNDS))?;
+            self.take_all(length)?;
+        }
+        Ok(())
+    }
+
+    fn take_all(&mut self, length: usize) -> Result<(), String> {
+        let mut taken = None;
+        while taken != Some(self.taken) {
+            taken = Some(self.taken);
+            self.drive(length, Drive::Take)?;
+        }
+        Ok(())
+    }
+
+    /// A call that is lent all it needs.
+    fn drive(&mut self, length: usize, drive: Drive) -> Result<(), String> {
+        let (mut plain, mut product) = self.sides(length, OUT_BYTES);
+        let called = self.drive_both(&mut plain, &mut product, drive);
+        self.compare(called, plain, product)
+    }
+
+    fn sides(&mut self, lent: usize, room: usize) -> (Side, Side) {
+        let record = Record::of(self.tally);
+        let mut side = || Side { mem: self.copy(), lent, out: vec![0x55; 90], room, record };
+        (side(), side())
+    }
+
+    /// A copy of the memory, in the place of one that is no longer wanted: new places for every call would take a third of the time.
+    fn copy(&mut self) -> Vec<u8> {
+        let mut copy = self.spare.pop().unwrap_or_default();
+        copy.clone_from(&self.mem);
+        copy
+    }
+
+    /// A call that was made on both sides.
+    fn compare(&mut self, called: Called, plain: Side, product: Side) -> Result<(), String> {
+        let Called { name, ours, theirs, sets } = called;
         *self.counts.entry(format!("{name} with {:2}", ours.refusal)).or_default() += 1;
         if ours != theirs || product != plain {
             let records = format!("records {:?} and {:?}", plain.record, product.record);
@@ -291,7 +375,7 @@ impl Run<'_> {
         if ours.refusal == 31 && !self.altered {
             return Err(format!("{name} gives 31 for memory that only calls wrote"));
         }
-        self.mem = product.mem;
+        self.spare.extend([plain.mem, std::mem::replace(&mut self.mem, product.mem)]);
         self.tally = product.record.tally;
         self.count_call(name, ours)?;
         self.follow(name, ours, sets, &product.out)
@@ -333,30 +417,35 @@ impl Run<'_> {
         Ok(Called { name: "tray", ours: ours.into(), theirs: theirs.into(), sets })
     }
 
-    /// A fire, a run of either sort or a take.
-    fn drive_both(&mut self, plain: &mut Side, product: &mut Side, rng: &mut Rng) -> Called {
+    fn random_drive(&self, lent: usize, rng: &mut Rng) -> Drive {
+        match rng.below(9) {
+            0 | 1 => Drive::Fire(self.random_operator(rng)),
+            2 | 3 => Drive::Run(rng.pick(&[0, 1, 2, 7, 50, 1000, 20_000])),
+            4 | 5 => Drive::Rounds(random_rounds(&self.mem[..lent], rng)),
+            _ => Drive::Take,
+        }
+    }
+
+    fn drive_both(&mut self, plain: &mut Side, product: &mut Side, drive: Drive) -> Called {
         let (mem, out, tally) = plain.memory_and_room();
         let (their_mem, their_out, their_tally) = product.memory_and_room();
-        let (name, ours, theirs): (_, Told, Told) = match rng.below(9) {
-            0 | 1 => {
-                let number = self.random_operator(rng);
+        let (name, ours, theirs): (_, Told, Told) = match drive {
+            Drive::Fire(number) => {
                 let ours = memory::fire(mem, number, tally);
                 if ours.refusal == 0 {
                     self.count_firing(number as usize);
                 }
                 ("fire", ours.into(), product::fire(their_mem, number, their_tally).into())
             }
-            2 | 3 => {
-                let firings = rng.pick(&[0, 1, 2, 7, 50, 1000, 20_000]);
+            Drive::Run(firings) => {
                 let ours = memory::run_telling(mem, firings, tally, |operator| self.count_firing(operator));
                 ("run", ours.into(), product::run(their_mem, firings, their_tally).into())
             }
-            4 | 5 => {
-                let rounds = random_rounds(mem, rng);
+            Drive::Rounds(rounds) => {
                 let ours = memory::run_rounds_telling(mem, rounds, tally, |operator| self.count_firing(operator));
                 ("rounds", ours.into(), product::run_rounds(their_mem, rounds, their_tally).into())
             }
-            _ => {
+            Drive::Take => {
                 let theirs = product::take(their_mem, their_out, their_tally);
                 ("take", memory::take(mem, out, tally).into(), theirs.into())
             }
@@ -431,13 +520,18 @@ impl Run<'_> {
             if bytes::encode_result(&done.set) != out[..OUT_BYTES] || done.set.width as u32 != answer.count {
                 return Err(format!("the result of {set:02x?} is {out:02x?}, evaluation gives {:?}", done.set));
             }
+            if self.endless {
+                *self.counts.entry("of these behind a set that did not end".into()).or_default() += 1;
+            }
+        } else {
+            self.endless = true;
         }
         Ok(())
     }
 
     /// The product's tray answered and left what its pushes of the same sets one by one do, up to the first refused. Gives the sets that went in.
     fn one_by_one(&mut self, sets: &[u8], number: u32, tray: Answer, left: &Side) -> Result<Vec<Vec<u8>>, String> {
-        let (mut mem, lent, mut tally) = (self.mem.clone(), left.lent, Tally::default());
+        let (mut mem, lent, mut tally) = (self.copy(), left.lent, Tally::default());
         // A firing of no operator gives 11, 31 or 34, and leaves all.
         let fired = product::fire(&mut mem[..lent], u32::MAX, &mut tally);
         let mut refusal = Some(fired.refusal).filter(|&refusal| refusal != 34);
@@ -453,10 +547,11 @@ impl Run<'_> {
         }
         let pushes = Answer { refusal: refusal.unwrap_or(0), count: went_in.len() as u32 };
         self.count_tray(number, pushes);
-        match pushes == tray && mem == left.mem {
-            true => Ok(went_in),
-            false => Err(format!("a tray of {number}: {}", difference(pushes.into(), tray.into(), &mem, &left.mem))),
+        if pushes != tray || mem != left.mem {
+            return Err(format!("a tray of {number}: {}", difference(pushes.into(), tray.into(), &mem, &left.mem)));
         }
+        self.spare.push(mem);
+        Ok(went_in)
     }
 
     fn count_tray(&mut self, number: u32, answer: Answer) {

@@ -57,6 +57,14 @@ pub fn random_expression(sorts: &[Sort], must: Vec<u32>, scope: &Scope, manner: 
     Maker { rng, fuel, wrong, palette }.expression(sorts, must, scope)
 }
 
+/// A random for with values of these sorts that does not count down, so that its ending hangs on its own tests.
+pub fn random_loop(sorts: &[Sort], scope: &Scope, manner: &Manner, rng: &mut Rng) -> Tree {
+    let &Manner { fuel, wrong, palette } = manner;
+    let mut maker = Maker { rng, fuel, wrong, palette };
+    let count = maker.count();
+    maker.repetition_of(count, false, sorts, Vec::new(), scope)
+}
+
 /// Sorts for so many values.
 pub fn random_sorts(count: usize, palette: Palette, rng: &mut Rng) -> Vec<Sort> {
     (0..count).map(|_| rng.pick(palette)).collect()
@@ -244,6 +252,11 @@ impl Maker<'_> {
     fn repetition(&mut self, sorts: &[Sort], must: Vec<u32>, scope: &Scope) -> Tree {
         let count = self.count();
         let counted = self.rng.chance(85);
+        self.repetition_of(count, counted, sorts, must, scope)
+    }
+
+    /// A for of so many identifiers, the first of which may count down.
+    fn repetition_of(&mut self, count: usize, counted: bool, sorts: &[Sort], must: Vec<u32>, scope: &Scope) -> Tree {
         let mut iterated = random_sorts(count, self.palette, self.rng);
         if counted {
             let by_floats = self.has_floats() && self.rng.chance(FLOAT_COUNTERS);

@@ -98,7 +98,7 @@ fn mixed(depth: u32, leaves: &[Tree], rng: &mut Rng) -> Tree {
     }
 }
 
-fn random_palette(rng: &mut Rng) -> Palette {
+pub(super) fn random_palette(rng: &mut Rng) -> Palette {
     if rng.chance(FLOATS) {
         WITH_FLOATS
     } else {
@@ -111,11 +111,7 @@ fn random_tree(wrong: usize, rng: &mut Rng) -> (Tree, [Sort; 32]) {
     let palette = random_palette(rng);
     let sorts: [Sort; 32] = std::array::from_fn(|_| rng.pick(palette));
     let many = rng.pick(&[0, 1, 2, 3, 4, 6, 32]);
-    let mut scope: Scope = [None; 32];
-    for _ in 0..many {
-        let name = rng.below(32);
-        scope[name] = Some(sorts[name]);
-    }
+    let scope = random_scope(many, &sorts, rng);
     let fuel = rng.pick(&[1, 3, 10, 25, 50, 80, 120]);
     let width = rng.pick(&[1, 1, 1, 1, 2, 3, 4, 8, 15, 16]);
     let results = random_sorts(width, palette, rng);
@@ -127,6 +123,16 @@ fn random_tree(wrong: usize, rng: &mut Rng) -> (Tree, [Sort; 32]) {
     (tree, sorts)
 }
 
+/// So many names or fewer, of these sorts.
+pub(super) fn random_scope(many: usize, sorts: &[Sort; 32], rng: &mut Rng) -> Scope {
+    let mut scope: Scope = [None; 32];
+    for _ in 0..many {
+        let name = rng.below(32);
+        scope[name] = Some(sorts[name]);
+    }
+    scope
+}
+
 /// The sheet of a tree with the kinds line of its inputs.
 pub(super) fn laid_out(tree: &Tree, sorts: [Sort; 32], shuffled: bool, rng: &mut Rng) -> Made {
     let bytes = sheet::write(&rows(tree, shuffled, rng));
@@ -136,7 +142,7 @@ pub(super) fn laid_out(tree: &Tree, sorts: [Sort; 32], shuffled: bool, rng: &mut
 }
 
 /// The sheet of a tree; nothing if it has too many rows or operators.
-fn made(tree: Tree, sorts: [Sort; 32], rng: &mut Rng) -> Option<Made> {
+pub(super) fn made(tree: Tree, sorts: [Sort; 32], rng: &mut Rng) -> Option<Made> {
     if tree.size() > MOST_ROWS {
         return None;
     }

@@ -1,7 +1,7 @@
 -- The firmware's two ways to a verdict, byte for byte: the eighty bytes that the k-th take wrote are the first eighty that evaluation of the k-th set writes
--- (eval_sheet/specs/Handed `handedOut`, the contract of bench_evaluate), and both tell the same width. Demand 3 (Claim) compares with the result set's bytes; here
+-- (eval_sheet/specs/Handed `handedOut`, the contract of bench_evaluate), and both tell the same width. Claim and Alone compare with the result set's bytes; here
 -- they are those that evaluation stores cell by cell. Document 01, "the result taken equals its result set in width and all sixteen places". Assumes an accepted
--- start, and rounds and room enough for the evaluation.
+-- start, and rounds and room enough for the evaluation of the k-th set.
 use Prim.Native.Nat.{ℕ, zero, suc, _+_, _-_, _*_, _≤_, _<_}
 use mathlib.Core.Path.{_≡_, refl, sym, ap, ap₂, _∙_}
 use mathlib.Core.List.{List, [], _++_, map}
@@ -29,8 +29,8 @@ use Rattle.machine_calls.specs.Written.{storedOut}
 use Rattle.demand_ends.specs.ResultBytes.{cellBytes, length-cell-bytes, cells-stored}
 use Rattle.machine_start.specs.Start.{started}
 use Rattle.demand.specs.MemoryCalls.{Call, Result, result, setsPushed, resultsTaken}
-use Rattle.demand.specs.Claim.{Enough, Ends, yielded}
-use Rattle.demand.specs.Demand3.{demand-3}
+use Rattle.demand.specs.Claim.{Enough, yielded}
+use Rattle.demand.specs.Alone.{own-alone}
 
 -- ---- a result set has sixteen cells
 
@@ -97,12 +97,11 @@ module _ (sheet line : List ℕ) (capacity : ℕ) (memory : List ℕ) (h : start
   results = resultsTaken calls (started sheet line capacity memory .mem)
 
   -- THE SAME BYTES. Sets and results count from 0.
-  pub take-writes-evaluation : (k : ℕ) → k < length results → ((j : ℕ) → j ≤ k → Ends sheet line (getD sets j []))
-      → (rounds : ℕ) → Enough sheet line (getD sets k []) rounds → (out : List ℕ) → 80 ≤ length out
+  pub take-writes-evaluation : (k : ℕ) → k < length results → (rounds : ℕ) → Enough sheet line (getD sets k []) rounds → (out : List ℕ) → 80 ≤ length out
       → (handedOut sheet line (getD sets k []) rounds out .answer .refusal ≡ 0)
       × (handedOut sheet line (getD sets k []) rounds out .answer .width ≡ getD results k (result 0 []) .width)
       × (firstOf 80 (handedOut sheet line (getD sets k []) rounds out .out) ≡ getD results k (result 0 []) .bytes)
-  take-writes-evaluation k l ends rounds enough out room =
+  take-writes-evaluation k l rounds enough out room =
       let e = evaluation-hands sheet line (getD sets k []) rounds enough out room in
-      let same = e .1 ∙ sym (demand-3 sheet line capacity memory h calls .own k l ends rounds enough) in
+      let same = e .1 ∙ sym (own-alone sheet line capacity memory h calls k l rounds enough) in
       (e .0, ap (λ (r : Result). r .width) same, ap (λ (r : Result). r .bytes) same)

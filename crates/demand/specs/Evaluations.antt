@@ -46,7 +46,7 @@ concluded-enough rounds Outcome.unfinished r e = absurd (subst Is-some (sym e) t
 
 module _ (sheet line : List ℕ) (ok : Admissible sheet) (told : Kinded sheet line) (set : List ℕ) (v : List Value)
     (read : setValues (lettersOf (formulaOf sheet) line) set ≡ some v) where
-  evaluation-concludes : (rounds : ℕ)
+  pub evaluation-concludes : (rounds : ℕ)
       → evaluationOf sheet line set rounds ≡ concluded rounds (evalE (formulaOf sheet) (inputsHold (freeE (formulaOf sheet)) v) rounds)
   unfolding evaluationOf evaluated
   evaluation-concludes rounds = rw (admissible-passed sheet line ok told, read) refl

@@ -70,7 +70,8 @@ module _ (x : Exp) (kinds : List ℕ) (capacity : ℕ) (low : 1 ≤ capacity) (h
         values-length (label (takeOf x) q) ∙ collected (madeOf x .results) (λ ts. ask creditLink (λ u. emits [] ts)) 0 (λ ts r. omega arith) q ∙ omega arith
 
     module _ (a : ltb 0 (untakenOf lentPart) ≡ true) (b : allBelow (length (madeOf x .results)) (resultReady lentPart (sizeOf capacity)) ≡ true) where
-      take-shows : result (length (madeOf x .results)) (firstOf 80 (written 16 lentPart (sizeOf capacity) (length (madeOf x .results)) out)) ≡ shownTokens (label (takeOf x) q)
+      -- What it writes is the tokens' result set.
+      pub take-shows : result (length (madeOf x .results)) (firstOf 80 (written 16 lentPart (sizeOf capacity) (length (madeOf x .results)) out)) ≡ shownTokens (label (takeOf x) q)
       unfolding shown
       take-shows =
           let few = A .sound .few-results in

@@ -13,9 +13,13 @@ pub mod FollowRounds
 pub mod Answered
 pub mod FollowTake
 pub mod FollowAll
+pub mod Carried
 pub mod OnMemory
 pub mod Agreed
 pub mod Demand3
+pub mod PushedSets
+pub mod Alone
+pub mod Swapped
 pub mod Oldest
 pub mod ByHistory
 pub mod Evaluated
@@ -23,3 +27,4 @@ pub mod Onward
 pub mod Trays
 pub mod Pushes
 pub mod LesserStarts
+pub mod OneSwap

@@ -31,7 +31,6 @@ use Rattle.machine_valid.specs.Below.{allBelow}
 use Rattle.machine_calls.specs.declared.Answer.{Answer}
 use Rattle.machine_calls.specs.Calls.{answers, resultReady, fired}
 use Rattle.machine_calls.specs.CallLaws.{fired-accepted, taken-accepted}
-use Rattle.theory_verdicts.specs.Results.{EndsWith}
 use Rattle.theory_verdicts.specs.ResultSets.{valuesIn}
 use Rattle.theory_verdicts.specs.Running as Abstract
 use Rattle.theory_verdicts.specs.Running.{places, operatorAt, takeOf, startOf, decAble, fires, accept, stepsOf}
@@ -134,24 +133,17 @@ module _ (sheet line : List ℕ) (ok : Admissible sheet) (told : Kinded sheet li
 
   -- ---- the k-th result
 
-  own-verdict : (k : ℕ) → k < length (resultsTaken calls start) → ((j : ℕ) → j ≤ k → Ends sheet line (getD (setsPushed calls start) j []))
-      → (rounds : ℕ) → Enough sheet line (getD (setsPushed calls start) k []) rounds
+  -- It is what direct evaluation yields for the k-th set, if that ends, whatever the sets before it do.
+  pub own-verdict : (k : ℕ) → k < length (resultsTaken calls start) → (rounds : ℕ) → Enough sheet line (getD (setsPushed calls start) k []) rounds
       → getD (resultsTaken calls start) k (result 0 []) ≡ yielded (evaluationOf sheet line (getD (setsPushed calls start) k []) rounds)
-  own-verdict k l ends rounds enough =
+  own-verdict k l rounds enough =
       let lt : k < length results = omega (arith, as-many-results) in
-      let many = abstractly .none-invented in
-      let y = enough-yields sheet line ok told (getD (setsPushed calls start) k []) (getD sets k []) (read k (omega arith)) rounds enough in
+      let y = enough-yields sheet line ok told (getD (setsPushed calls start) k []) (getD sets k []) (read k (omega (arith, abstractly .none-invented))) rounds enough in
       ap (λ (z : List Result). getD z k (result 0 [])) (F .shows)
       ∙ result-at shownTokens results (result 0 []) k lt
-      ∙ ap (λ (ts : List Token). shown (valuesIn ts)) (abstractly .own k lt (each many) (y .0) (y .1))
+      ∙ ap (λ (ts : List Token). shown (valuesIn ts)) (Verdicts.alone-verdict sheet ok capacity low (F .calls) k lt (y .0) (y .1))
       ∙ ap shown (tokens-shown (y .0))
       ∙ sym (y .2)
-    where
-      each : length results ≤ length sets → (j : ℕ) → j ≤ k → (r : List Value) × EndsWith x (getD sets j []) r
-      each many j h =
-          let e = ends j h in
-          let z = enough-yields sheet line ok told (getD (setsPushed calls start) j []) (getD sets j []) (read j (omega (arith, as-many-results))) (e .0) (e .1) in
-          (z .0, z .1)
 
   -- ---- when nothing can fire
 
@@ -191,7 +183,7 @@ module _ (sheet line : List ℕ) (ok : Admissible sheet) (told : Kinded sheet li
   pub own-verdicts-of-bytes : OwnVerdicts sheet line capacity start calls
   own-verdicts-of-bytes =
       record {
-        own = own-verdict;
+        own = λ k l ends. own-verdict k l;
         none-invented = omega (arith, abstractly .none-invented, as-many-results, as-many-sets);
         ready = ready-when-still;
         never-altered = calls-unaltered x kinds capacity low high A calls start (startOf x) H;

@@ -8,21 +8,15 @@ use mathlib.Core.List.{List, []}
 use lib.ListN.{length, getD, take as firstOf, replicate, length-replicate}
 use lib.Seq.{getD-take}
 use native.Mathlib.Omega.{arith}
-use Rattle.value.specs.declared.Value.{Value}
 use Rattle.value.specs.Bytes.{wordAt}
-use Rattle.value_sets.specs.Sets.{setOk, values-pass}
+use Rattle.value_sets.specs.Sets.{setOk}
 use Rattle.formula.specs.Tree.{formulaOf}
 use Rattle.formula.specs.Faults.{lettersOf}
-use Rattle.theory_verdicts.specs.Running as Abstract
 use Rattle.machine_start.specs.Start.{started}
-use Rattle.machine_start.specs.StartLaws.{accepted-start}
-use Rattle.demand_begin.specs.StartedStands.{accepted-stands}
 use Rattle.demand.specs.MemoryCalls.{Call, Result, result, setsPushed, resultsTaken}
 use Rattle.demand.specs.Claim.{Enough}
 use Rattle.demand.specs.Demand3.{demand-3}
-use Rattle.demand.specs.Agreed.{calls-agree}
-use Rattle.demand.specs.Followed.{read-count, read-at}
-use Rattle.demand.specs.OnMemory.{F as bytes-follow}
+use Rattle.demand.specs.PushedSets.{pushed-is-set}
 use Rattle.demand.specs.Evaluated.{take-writes-evaluation}
 use Rattle.eval_sheet.specs.Handed.{handedOut}
 use Rattle.sheet_drift.specs.Drifting.{driftedInto}
@@ -53,9 +47,6 @@ module _ (sheet line tolerances out : List ℕ) (h : driftedInto sheet line tole
   -- ---- one machine
 
   module _ (capacity : ℕ) (memory : List ℕ) (starts : started sheet line capacity memory .answer .refusal ≡ 0) (calls : List Call) where
-    abbrev start : List ℕ
-    start = started sheet line capacity memory .mem
-
     abbrev sets : List (List ℕ)
     sets = setsPushed calls (started sheet line capacity memory .mem)
 
@@ -65,18 +56,8 @@ module _ (sheet line tolerances out : List ℕ) (h : driftedInto sheet line tole
     abbrev kinds : List ℕ
     kinds = lettersOf (formulaOf sheet) line
 
-    -- Push refuses every other set with 12.
-    pushed-is-set : (j : ℕ) → j < length sets → setOk kinds (getD sets j []) ≡ true
-    pushed-is-set j l =
-        let a = accepted-start sheet line capacity memory starts in
-        let f = bytes-follow sheet line (a .admissible) (a .kinded) capacity (a .some) (a .most) (calls-agree sheet (a .admissible) kinds capacity (a .some) (a .most))
-        start (accepted-stands sheet line capacity memory starts) calls in
-        let vss : List (List Value) = Abstract.pushed (formulaOf sheet) capacity (f .calls) in
-        values-pass kinds (getD sets j []) (getD vss j [])
-        (read-at (formulaOf sheet) kinds capacity sets vss (f .reads) j (omega (arith, l, read-count (formulaOf sheet) kinds capacity sets vss (f .reads))))
-
-    is-set : (j k : ℕ) → k < length results → j ≤ k → setOk kinds (getD sets j []) ≡ true
-    is-set j k l i = pushed-is-set j (omega (arith, l, i, demand-3 sheet line capacity memory starts calls .none-invented))
+    is-set : (k : ℕ) → k < length results → setOk kinds (getD sets k []) ≡ true
+    is-set k l = pushed-is-set sheet line capacity memory starts calls k (omega (arith, l, demand-3 sheet line capacity memory starts calls .none-invented))
 
     accepted : (set : List ℕ) → setOk kinds set ≡ true → handedOut sheet line set 0 room .answer .refusal ≡ 0
     accepted set ok = evaluation-always-ends sheet line tolerances out h set ok 0 room enough-room
@@ -85,15 +66,14 @@ module _ (sheet line tolerances out : List ℕ) (h : driftedInto sheet line tole
     enough set ok = evaluates-enough sheet line set 0 room (evaluates sheet line set 0 room (accepted set ok))
 
     evaluated : (k : ℕ) → k < length results → handedOut sheet line (getD sets k []) 0 room .answer .refusal ≡ 0
-    evaluated k l = accepted (getD sets k []) (is-set k k l (omega arith))
+    evaluated k l = accepted (getD sets k []) (is-set k l)
 
     -- What is taken is what evaluation writes.
     same : (k : ℕ) → k < length results
         → (handedOut sheet line (getD sets k []) 0 room .answer .width ≡ getD results k (result 0 []) .width)
         × (firstOf 80 (handedOut sheet line (getD sets k []) 0 room .out) ≡ getD results k (result 0 []) .bytes)
     same k l =
-        let e = take-writes-evaluation sheet line capacity memory starts calls k l (λ j i. (0, enough (getD sets j []) (is-set j k l i)))
-        0 (enough (getD sets k []) (is-set k k l (omega arith))) room enough-room in
+        let e = take-writes-evaluation sheet line capacity memory starts calls k l 0 (enough (getD sets k []) (is-set k l)) room enough-room in
         (e .1, e .2)
 
     field-taken : (k : ℕ) → k < length results → (i : ℕ) → i < 16

@@ -6,21 +6,15 @@
 use Prim.Native.Nat.{ℕ, _<_}
 use mathlib.Core.Path.{_≡_, refl, sym, ap, ap₂, subst, _∙_}
 use mathlib.Core.List.{List, [], _∷_}
-use mathlib.Core.Option.{some, Option·some-injective}
 use native.Mathlib.Omega.{arith}
-use lib.ListN.{length, getD}
-use lib.Seq.{ext-getD}
+use lib.ListN.{length}
 use Rattle.theory_schedule.specs.Counts.{count}
 use Rattle.value.specs.declared.Value.{Value}
-use Rattle.value.specs.Bytes.{valueOf}
-use Rattle.value.specs.Senses.{err}
-use Rattle.value.proofs.Words.{value-of-word}
 use Rattle.formula.specs.declared.Refusal.the-variants.{NotAble}
 use Rattle.formula.specs.Refusals.{numberOf}
 use Rattle.formula.specs.Tree.{Exp, formulaOf}
 use Rattle.formula.specs.Faults.{lettersOf}
 use Rattle.graph.specs.Translation.{madeOf}
-use Rattle.value_sets.specs.Sets.{setValues, values-set}
 use Rattle.machine_layout.specs.Layout.{operatorsOf}
 use Rattle.machine_start.specs.Start.{started}
 use Rattle.machine_start.specs.StartLaws.{AcceptedStart, accepted-start}
@@ -35,6 +29,7 @@ use Rattle.demand.specs.Agree.{CallsAgree}
 use Rattle.demand.specs.Agreed.{calls-agree}
 use Rattle.demand.specs.Followed.{EachRead, read-count}
 use Rattle.demand.specs.OnMemory.{still-links}
+use Rattle.demand.specs.PushedSets.{values-same}
 use Rattle.demand_rounds.specs.InTurn.{allFired, timesFired}
 use Rattle.demand_rounds.specs.Traced.{Traced, calls-traced}
 use Rattle.demand_rounds.specs.Waiting.{times-count}
@@ -47,29 +42,18 @@ pub record AtRest (start : List ℕ) (calls : List Call) : Type 0 where
   -- "and every pushed set is taken"
   pub all-taken : length (resultsTaken calls start) ≡ length (setsPushed calls start)
 
--- ---- a set that passes 12 with two kinds lines has the same values with both
+-- ---- sets that pass 12 with two kinds lines have the same values with both
 
-values-same : (kinds kinds′ set : List ℕ) (v v′ : List Value) → length kinds ≡ length kinds′ → setValues kinds set ≡ some v → setValues kinds′ set ≡ some v′ → v ≡ v′
-values-same kinds kinds′ set v v′ e r r′ =
-    let I = values-set kinds set v r in
-    let I′ = values-set kinds′ set v′ r′ in
-    ext-getD err v v′ (I .count ∙ e ∙ sym (I′ .count))
-    (λ j l.
-    let m : j < length kinds = omega (arith, I .count) in
-    let m′ : j < length kinds′ = omega (arith, I .count, e) in
-    Option·some-injective (getD v j err) (getD v′ j err)
-    (sym (value-of-word (getD v j err) (I .ranged j m)) ∙ ap valueOf (sym (I .words j m) ∙ I′ .words j m′) ∙ value-of-word (getD v′ j err) (I′ .ranged j m′)))
-
-reads-same : (x : Exp) (kinds kinds′ : List ℕ) (capacity capacity′ : ℕ) → length kinds ≡ length kinds′ → (sets : List (List ℕ)) (vss vss′ : List (List Value))
+reads-same : (x : Exp) (kinds kinds′ : List ℕ) (capacity capacity′ : ℕ) (sets : List (List ℕ)) (vss vss′ : List (List Value))
     → EachRead x kinds capacity sets vss → EachRead x kinds′ capacity′ sets vss′ → vss ≡ vss′
-reads-same x kinds kinds′ capacity capacity′ e [] [] [] r r′ = refl
-reads-same x kinds kinds′ capacity capacity′ e [] [] (v′ ∷ vss′) r r′ = absurd r′
-reads-same x kinds kinds′ capacity capacity′ e [] (v ∷ vss) vss′ r r′ = absurd r
-reads-same x kinds kinds′ capacity capacity′ e (s ∷ sets) [] vss′ r r′ = absurd r
-reads-same x kinds kinds′ capacity capacity′ e (s ∷ sets) (v ∷ vss) [] r r′ = absurd r′
-reads-same x kinds kinds′ capacity capacity′ e (s ∷ sets) (v ∷ vss) (v′ ∷ vss′) r r′ =
-    ap₂ {B = List (List Value)} (λ (u : List Value) (us : List (List Value)). u ∷ us) (values-same kinds kinds′ s v v′ e (r .0) (r′ .0))
-    (reads-same x kinds kinds′ capacity capacity′ e sets vss vss′ (r .1) (r′ .1))
+reads-same x kinds kinds′ capacity capacity′ [] [] [] r r′ = refl
+reads-same x kinds kinds′ capacity capacity′ [] [] (v′ ∷ vss′) r r′ = absurd r′
+reads-same x kinds kinds′ capacity capacity′ [] (v ∷ vss) vss′ r r′ = absurd r
+reads-same x kinds kinds′ capacity capacity′ (s ∷ sets) [] vss′ r r′ = absurd r
+reads-same x kinds kinds′ capacity capacity′ (s ∷ sets) (v ∷ vss) [] r r′ = absurd r′
+reads-same x kinds kinds′ capacity capacity′ (s ∷ sets) (v ∷ vss) (v′ ∷ vss′) r r′ =
+    ap₂ {B = List (List Value)} (λ (u : List Value) (us : List (List Value)). u ∷ us) (values-same kinds kinds′ s v v′ (r .0) (r′ .0))
+    (reads-same x kinds kinds′ capacity capacity′ sets vss vss′ (r .1) (r′ .1))
 
 -- ---- a list of calls from one start, followed on links
 
@@ -126,10 +110,8 @@ module _ (sheet line line′ : List ℕ) (capacity capacity′ : ℕ) (memory me
       let S = T sheet line capacity memory h calls in
       let S′ = T sheet line′ capacity′ memory′ h′ calls′ in
       let x = formulaOf sheet in
-      let letters : length (lettersOf x line) ≡ length (lettersOf x line′)
-      = H sheet line capacity memory h .kinds-count ∙ sym (H sheet line′ capacity′ memory′ h′ .kinds-count) in
       let sets : pushed x capacity (S .calls) ≡ pushed x capacity′ (S′ .calls)
-      = reads-same x (lettersOf x line) (lettersOf x line′) capacity capacity′ letters (setsPushed calls′ (started sheet line′ capacity′ memory′ .mem)) (pushed x capacity (S .calls))
+      = reads-same x (lettersOf x line) (lettersOf x line′) capacity capacity′ (setsPushed calls′ (started sheet line′ capacity′ memory′ .mem)) (pushed x capacity (S .calls))
       (pushed x capacity′ (S′ .calls)) (subst (λ (z : List (List ℕ)). EachRead x (lettersOf x line) capacity z (pushed x capacity (S .calls))) same (S .reads)) (S′ .reads) in
       fired-on-links sheet line capacity memory h calls i
       ∙ Links-firings.same-firings sheet (B .admissible) capacity capacity′ (B .some) (B′ .some) (S .calls) (S′ .calls) sets (rests sheet line capacity memory h calls r)

@@ -181,5 +181,4 @@ module _ (net : ℕ → Demand) (cap : ℕ → ℕ) where
       record {
         stays = λ a b q ne ha hb. stays cap (net a) (net b) q (free a b ne) ha hb;
         meets = λ a b q ne ha hb. meets cap (net a) (net b) q (free a b ne) ha hb;
-        same = λ a b q ne ha hb. same-label cap (net a) (net b) q (free a b ne) ha hb;
       }

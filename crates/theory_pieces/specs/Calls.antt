@@ -11,7 +11,7 @@ use mathlib.Core.Option.{Option}
 use lib.ListN.{length, take, drop, take-append-drop, length-append}
 use native.Mathlib.Decide.{ℕ-discrete, decLe}
 use native.Mathlib.Omega.{arith}
-use Rattle.theory_schedule.specs.Schedules.{Possible, reached, outputs, Agree, Diamond}
+use Rattle.theory_schedule.specs.Schedules.{Possible, reached, Diamond}
 use Rattle.theory_schedule.specs.Counts.{count}
 use Rattle.theory_schedule.specs.Progress.{endless, rest-covers}
 use Rattle.network.specs.Commute.{diamond}
@@ -25,8 +25,8 @@ use Rattle.theory_pieces.specs.Load.{Load, set-link, set-other, set-ext,
 use Rattle.theory_pieces.specs.Piece.{Piece, Means, Fits}
 use Rattle.theory_pieces.specs.Sets.{tokens-of, onto, net, drawn-able, able-with-more}
 use Rattle.theory_pieces.specs.Goes.{one-place}
-use Rattle.theory_pieces.specs.Demand3.{tape-of, each-tokens, All-worked, Long-reference, tried}
-use Rattle.theory_pieces.specs.Made.{Made, Ending, Fitting, E, X, O, demand-results, demand-ready, demand-ends, demand-push-or-take, tries}
+use Rattle.theory_pieces.specs.Demand3.{tape-of, All-worked, Long-reference, tried}
+use Rattle.theory_pieces.specs.Made.{Made, Ending, Fitting, E, X, O, demand-ready, demand-ends, demand-push-or-take, tries}
 use Rattle.theory_pieces.specs.Tape.{able-set, Step, pushing, firing, taking, sets-of, takes-of, Accepted, after, results-of, Sized, events-of, Source-apart, Follows, asks-take, emits-take, simulated, counts}
 
 -- A firing leaves a link that it does not use as it was.
@@ -78,7 +78,7 @@ module _ (graph : ℕ → Demand) (credit : ℕ) (ins outs : List ℕ) (cap : �
   untaken-counted C (taking ∷ w) q (o, a) =
       omega (arith, untaken-counted C w (act (take-demand credit outs) q) a, collect-credit cap credit outs (λ ts. ts) q (C .credit-no-result) o)
 
-length-results : (graph : ℕ → Demand) (credit : ℕ) (ins outs : List ℕ) (cap : ℕ → ℕ) (w : List Step) (q : Links) →
+pub length-results : (graph : ℕ → Demand) (credit : ℕ) (ins outs : List ℕ) (cap : ℕ → ℕ) (w : List Step) (q : Links) →
     length (results-of graph credit ins outs cap w q) ≡ takes-of w
 length-results graph credit ins outs cap [] q = refl
 length-results graph credit ins outs cap (pushing vs ∷ w) q = length-results graph credit ins outs cap w (act (fire ((credit, val true-value) ∷ onto ins vs) []) q)
@@ -88,13 +88,6 @@ length-results graph credit ins outs cap (taking ∷ w) q = ap suc (length-resul
 pub tape-append : (vss wss : List (List Value)) (t : List Token) → tape-of (vss ++ wss) t ≡ tape-of vss (tape-of wss t)
 tape-append [] wss t = refl
 tape-append (v ∷ vss) wss t = ap (λ z. tokens-of v ++ z) (tape-append vss wss t)
-
--- two lists that agree, the first at least as long
-agree-first : {A : Type 0} (xs ys : List A) → Agree xs ys → length ys ≤ length xs → take (length ys) xs ≡ ys
-agree-first [] [] a h = refl
-agree-first [] (y ∷ ys) a h = absurd (omega arith)
-agree-first (x ∷ xs) [] a h = refl
-agree-first (x ∷ xs) (y ∷ ys) a h = ap (λ z. z ∷ take (length ys) xs) (a .0) ∙ ap (λ z. y ∷ z) (agree-first xs ys (a .1) (omega arith))
 
 pub one-each : (l : ℕ) → 1 ≤ one-place l
 one-each l = omega arith
@@ -118,12 +111,6 @@ module _ (graph : ℕ → Demand) (p k source credit : ℕ) (P : Piece) (M : Mea
   fitting [] s = tt
   fitting (v ∷ vss) s = (s .0, fitting vss (s .1))
 
-  ending-length : (vss rss : List (List Value)) → Ending graph p k source credit P M eval vss rss → length (each-tokens rss) ≡ length vss
-  ending-length [] [] e = refl
-  ending-length [] (r ∷ rss) e = absurd e
-  ending-length (v ∷ vss) [] e = absurd e
-  ending-length (v ∷ vss) (r ∷ rss) e = ap suc (ending-length vss rss (e .2))
-
   credit-empty : started credit ≡ []
   credit-empty = put-off credit (F .fresh) (λ l. []) (λ o. F .bench .credit-off (inl (F .bench .neat .idle-own (F .fresh) (F .fresh-idle) credit o)))
 
@@ -140,24 +127,6 @@ module _ (graph : ℕ → Demand) (p k source credit : ℕ) (P : Piece) (M : Mea
   -- No more results are taken than sets were pushed.
   pub taken-at-most-pushed : (w : List Step) → Accepted-calls w → takes-of w ≤ length (sets-of w)
   taken-at-most-pushed w a = omega (arith, untaken-from-start w a)
-
-  -- First half: "For every k up to the number of results taken since that start: if direct evaluation of each of the first k sets pushed ends, the
-  -- k-th result taken is exactly what it yields for the k-th set pushed."
-  pub first-half : (w : List Step) → Sized (P .ins) (sets-of w) → Accepted-calls w → (n : ℕ) → n ≤ takes-of w → (rss : List (List Value)) →
-      Ending graph p k source credit P M eval (take n (sets-of w)) rss → take n (taken-results w) ≡ each-tokens rss
-  first-half w s a n h rss e =
-      let sim = simulated graph p k source credit (P .ins) (P .outs) cap A w started [] s a in
-      let tapes : tape-of (sets-of w) [] ≡ tape-of (take n (sets-of w)) (tape-of (drop n (sets-of w)) [])
-      = ap (λ z. tape-of z []) (sym (take-append-drop n (sets-of w))) ∙ tape-append (take n (sets-of w)) (drop n (sets-of w)) [] in
-      let ag : Agree (taken-results w) (each-tokens rss)
-      = subst (λ z. Agree z (each-tokens rss)) (sim .hands)
-      (subst (λ t. Agree (outputs (E graph p k source credit P M eval F cap roomy) (X graph p k source credit P M eval F cap roomy) (O graph p k source credit P M eval F cap roomy) k (events-of p k w) (set-link source t started)) (each-tokens rss)) (sym tapes)
-      (demand-results graph p k source credit P M eval F cap roomy (take n (sets-of w)) rss (tape-of (drop n (sets-of w)) []) (events-of p k w) e
-      (subst (λ t. Possible (E graph p k source credit P M eval F cap roomy) (X graph p k source credit P M eval F cap roomy) (O graph p k source credit P M eval F cap roomy) (events-of p k w) (set-link source t started)) tapes (sim .possible)))) in
-      let len : length (each-tokens rss) ≡ n
-      = ending-length (take n (sets-of w)) rss e ∙ length-take-at n (sets-of w) (omega (arith, taken-at-most-pushed w a)) in
-      subst (λ z. take z (taken-results w) ≡ each-tokens rss) len
-      (agree-first (taken-results w) (each-tokens rss) ag (omega (arith, length-results graph credit (P .ins) (P .outs) cap w started)))
 
   -- a firing that does not use the source, with the tape and without it
   without-tape : (tape : List Token) (d : Demand) (q : Links) → Never-asks d source → Never-emits d source → Able cap d (set-link source tape q) → Able cap d q

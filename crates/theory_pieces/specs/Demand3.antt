@@ -9,7 +9,7 @@ use mathlib.Core.Option.{none, some}
 use lib.ListN.{length, length-append}
 use native.Mathlib.Decide.{ℕ-discrete}
 use native.Mathlib.Omega.{arith}
-use Rattle.theory_schedule.specs.Schedules.{Possible, reached, outputs, Diamond, Agree, outputs-agree, possible-append, reached-append, outputs-append}
+use Rattle.theory_schedule.specs.Schedules.{Possible, reached, outputs, Diamond, possible-append, reached-append, outputs-append}
 use Rattle.theory_schedule.specs.Counts.{count, count-append}
 use Rattle.theory_schedule.specs.Progress.{progress, endless, something-left}
 use Rattle.value.specs.declared.Value.{Value}
@@ -88,10 +88,10 @@ module _ (graph : ℕ → Demand) (p k source credit : ℕ) (P : Piece) (M : Mea
     pub few : count p w ≤ n
     pub untaken : count k w < n
 
-  ref-nil : (q : Links) → Reference q [] q
+  unfoldable pub ref-nil : (q : Links) → Reference q [] q
   ref-nil q = record { w = []; runs = tt; leads = refl; gives = refl; pushes = refl; takes = refl }
 
-  ref-then : (q q₁ q₂ : Links) (r s : List (List Token)) → Reference q r q₁ → Reference q₁ s q₂ → Reference q (r ++ s) q₂
+  unfoldable pub ref-then : (q q₁ q₂ : Links) (r s : List (List Token)) → Reference q r q₁ → Reference q₁ s q₂ → Reference q (r ++ s) q₂
   ref-then q q₁ q₂ r s f g =
       record {
         w = f .w ++ g .w;
@@ -114,13 +114,13 @@ module _ (graph : ℕ → Demand) (p k source credit : ℕ) (P : Piece) (M : Mea
       }
 
   -- push: an event of the machine, to the load of the piece's inputs on a base that holds the credit
-  base : List Token → Links → Links
+  pub base : List Token → Links → Links
   base tape b = set-link credit (val true-value ∷ []) (set-link source tape b)
 
   own-src : (σ : Load) → P .Idle σ → (l : ℕ) → (Region P l → ⊥) → On l σ → ⊥
   own-src σ i l n o = n (inl (B .neat .idle-own σ i l o))
 
-  base-clear : (tape : List Token) (b : Links) → Clear (Region P) b → Clear (Region P) (base tape b)
+  pub base-clear : (tape : List Token) (b : Links) → Clear (Region P) b → Clear (Region P) (base tape b)
   unfolding base
   base-clear tape b c l d =
       set-other credit l (val true-value ∷ []) (set-link source tape b) (λ e. B .credit-off (subst (Region P) e d))
@@ -182,13 +182,31 @@ module _ (graph : ℕ → Demand) (p k source credit : ℕ) (P : Piece) (M : Mea
         (λ j ne. set-other credit j (val true-value ∷ []) (set-link source tape b) ne))
         ∙ sym (put-set source tape σ b (own-src σ i source (B .source-off)))
 
-  -- one set, from its push to its take
-  pub one : (vs rs : List Value) (c : ℕ) (tape : List Token) (σ : Load) (b : Links) → Fits (P .ins) vs → Fits (P .outs) rs → M (some-of vs) c (some (some-of rs)) →
-      P .Idle σ → Clear (Region P) b → b credit ≡ [] → (σ′ : Load) × P .Idle σ′ × Reference (Between σ (tokens-of vs ++ tape) b) (tokens-of rs ∷ []) (Between σ′ tape b)
-  one vs rs c tape σ b fv fr m i cl ce =
-      let h = B .serves (some-of vs) c (some (some-of rs)) m σ i in
-      let s = h .2 (base tape b) (base-clear tape b cl) in
-      (h .0, h .1, done (h .0) (h .1) (s .w) (s .runs) (s .ends))
+  -- one set, from its push to its take, by a schedule of the piece
+  pub worked : (vs rs : List Value) (tape : List Token) (σ σ′ : Load) (b : Links) → Fits (P .ins) vs → Fits (P .outs) rs → P .Idle σ → P .Idle σ′ → Clear (Region P) b → b credit ≡ [] →
+      (w : List ℕ) → Feasible graph w (put (load (P .ins) (some-of vs) ++ σ) (base tape b)) →
+      led-to graph w (put (load (P .ins) (some-of vs) ++ σ) (base tape b)) ≡ put (load (P .outs) (some-of rs) ++ σ′) (base tape b) →
+      (R : Reference (Between σ (tokens-of vs ++ tape) b) (tokens-of rs ∷ []) (Between σ′ tape b)) × (R .w ≡ p ∷ (w ++ (k ∷ [])))
+  worked vs rs tape σ σ′ b fv fr i j cl ce w r e =
+      let l : Lift w q₁ = lift w q₁ r in
+      let pt : Next p q₀ ≡ q₁ = push-to vs tape σ b fv i cl ce in
+      let en₁ : reached Enabled Next Output w (Next p q₀) ≡ Q rs tape σ′ b fr j cl ce = ap (reached Enabled Next Output w) pt ∙ l .ends′ ∙ e in
+      let kp : k ≢ p = Ne·symm (B .push-not-take) in
+      let tail : Possible Enabled Next Output (w ++ (k ∷ [])) (Next p q₀)
+      = possible-append Enabled Next Output w (k ∷ []) (Next p q₀) (subst (Possible Enabled Next Output w) (sym pt) (l .runs)) (subst (λ q. Enabled k q) (sym en₁) (take-on rs tape σ′ b fr j cl ce), tt) in (
+        record {
+          w = p ∷ (w ++ (k ∷ []));
+          runs = (push-on vs tape σ b fv i cl ce, tail);
+          leads = reached-append Enabled Next Output w (k ∷ []) (Next p q₀) ∙ ap (Next k) en₁ ∙ take-to rs tape σ′ b fr j cl ce;
+          gives = if-neg (ℕ-discrete k p) kp _ _ ∙ outputs-append Enabled Next Output k w (k ∷ []) (Next p q₀)
+              ∙ ap (λ z. outputs Enabled Next Output k w z ++ outputs Enabled Next Output k (k ∷ []) (reached Enabled Next Output w (Next p q₀))) pt
+              ∙ ap (λ z. z ++ outputs Enabled Next Output k (k ∷ []) (reached Enabled Next Output w (Next p q₀))) (l .quiet)
+              ∙ if-pos (ℕ-discrete k k) refl _ _ ∙ ap (λ z. Output k z ∷ []) en₁ ∙ ap (λ z. z ∷ []) (take-out rs tape σ′ b fr j cl ce);
+          pushes = if-pos (ℕ-discrete p p) refl _ _ ∙ ap suc (count-append p w (k ∷ []) ∙ ap (λ z. z + count p (k ∷ [])) (l .no-push) ∙ ap (λ z. 0 + z) (if-neg (ℕ-discrete p k) (B .push-not-take) _ _));
+          takes = if-neg (ℕ-discrete k p) kp _ _ ∙ count-append k w (k ∷ []) ∙ ap (λ z. z + count k (k ∷ [])) (l .no-take) ∙ ap (λ z. 0 + z) (if-pos (ℕ-discrete k k) refl _ _);
+        },
+        refl,
+      )
     where
       q₀ : Links
       q₀ = Between σ (tokens-of vs ++ tape) b
@@ -196,26 +214,13 @@ module _ (graph : ℕ → Demand) (p k source credit : ℕ) (P : Piece) (M : Mea
       q₁ : Links
       q₁ = put (load (P .ins) (some-of vs) ++ σ) (base tape b)
 
-      done : (σ′ : Load) → P .Idle σ′ → (w : List ℕ) → Feasible graph w q₁ → led-to graph w q₁ ≡ put (load (P .outs) (some-of rs) ++ σ′) (base tape b) →
-          Reference q₀ (tokens-of rs ∷ []) (Between σ′ tape b)
-      done σ′ j w r e =
-          let l : Lift w q₁ = lift w q₁ r in
-          let pt : Next p q₀ ≡ q₁ = push-to vs tape σ b fv i cl ce in
-          let en₁ : reached Enabled Next Output w (Next p q₀) ≡ Q rs tape σ′ b fr j cl ce = ap (reached Enabled Next Output w) pt ∙ l .ends′ ∙ e in
-          let kp : k ≢ p = Ne·symm (B .push-not-take) in
-          let tail : Possible Enabled Next Output (w ++ (k ∷ [])) (Next p q₀)
-          = possible-append Enabled Next Output w (k ∷ []) (Next p q₀) (subst (Possible Enabled Next Output w) (sym pt) (l .runs)) (subst (λ q. Enabled k q) (sym en₁) (take-on rs tape σ′ b fr j cl ce), tt) in
-          record {
-            w = p ∷ (w ++ (k ∷ []));
-            runs = (push-on vs tape σ b fv i cl ce, tail);
-            leads = reached-append Enabled Next Output w (k ∷ []) (Next p q₀) ∙ ap (Next k) en₁ ∙ take-to rs tape σ′ b fr j cl ce;
-            gives = if-neg (ℕ-discrete k p) kp _ _ ∙ outputs-append Enabled Next Output k w (k ∷ []) (Next p q₀)
-                ∙ ap (λ z. outputs Enabled Next Output k w z ++ outputs Enabled Next Output k (k ∷ []) (reached Enabled Next Output w (Next p q₀))) pt
-                ∙ ap (λ z. z ++ outputs Enabled Next Output k (k ∷ []) (reached Enabled Next Output w (Next p q₀))) (l .quiet)
-                ∙ if-pos (ℕ-discrete k k) refl _ _ ∙ ap (λ z. Output k z ∷ []) en₁ ∙ ap (λ z. z ∷ []) (take-out rs tape σ′ b fr j cl ce);
-            pushes = if-pos (ℕ-discrete p p) refl _ _ ∙ ap suc (count-append p w (k ∷ []) ∙ ap (λ z. z + count p (k ∷ [])) (l .no-push) ∙ ap (λ z. 0 + z) (if-neg (ℕ-discrete p k) (B .push-not-take) _ _));
-            takes = if-neg (ℕ-discrete k p) kp _ _ ∙ count-append k w (k ∷ []) ∙ ap (λ z. z + count k (k ∷ [])) (l .no-take) ∙ ap (λ z. 0 + z) (if-pos (ℕ-discrete k k) refl _ _);
-          }
+  -- and by the schedule that the piece has
+  pub one : (vs rs : List Value) (c : ℕ) (tape : List Token) (σ : Load) (b : Links) → Fits (P .ins) vs → Fits (P .outs) rs → M (some-of vs) c (some (some-of rs)) →
+      P .Idle σ → Clear (Region P) b → b credit ≡ [] → (σ′ : Load) × P .Idle σ′ × Reference (Between σ (tokens-of vs ++ tape) b) (tokens-of rs ∷ []) (Between σ′ tape b)
+  one vs rs c tape σ b fv fr m i cl ce =
+      let h = B .serves (some-of vs) c (some (some-of rs)) m σ i in
+      let s = h .2 (base tape b) (base-clear tape b cl) in
+      (h .0, h .1, worked vs rs tape σ (h .0) b fv fr i (h .1) cl ce (s .w) (s .runs) (s .ends) .0)
 
   -- a set whose rounds do not suffice
   pub one-long : (vs : List Value) (c : ℕ) (tape : List Token) (σ : Load) (b : Links) → Fits (P .ins) vs → M (some-of vs) c none →
@@ -241,16 +246,6 @@ module _ (graph : ℕ → Demand) (p k source credit : ℕ) (P : Piece) (M : Mea
   Evaluated [] (r ∷ rss) = ⊥
   Evaluated (v ∷ vss) [] = ⊥
   Evaluated (v ∷ vss) (r ∷ rss) = Fits (P .ins) v × Fits (P .outs) r × ((c : ℕ) × M (some-of v) c (some (some-of r))) × Evaluated vss rss
-
-  many : (vss rss : List (List Value)) (tail : List Token) (σ : Load) (b : Links) → Evaluated vss rss → P .Idle σ → Clear (Region P) b → b credit ≡ [] →
-      (σ′ : Load) × P .Idle σ′ × Reference (Between σ (tape-of vss tail) b) (each-tokens rss) (Between σ′ tail b)
-  many [] [] tail σ b e i cl ce = (σ, i, ref-nil (Between σ tail b))
-  many [] (r ∷ rss) tail σ b e i cl ce = absurd e
-  many (v ∷ vss) [] tail σ b e i cl ce = absurd e
-  many (v ∷ vss) (r ∷ rss) tail σ b e i cl ce =
-      let f = one v r (e .2 .0) (tape-of vss tail) σ b (e .0) (e .1) (e .2 .1) i cl ce in
-      let g = many vss rss tail (f .0) b (e .3) (f .1) cl ce in
-      (g .0, g .1, ref-then (Between σ (tokens-of v ++ tape-of vss tail) b) (Between (f .0) (tape-of vss tail) b) (Between (g .0) tail b) (tokens-of r ∷ []) (each-tokens rss) (f .2) (g .2))
 
   -- the evaluator, lent `c` rounds for each set: it ends or it does not
   abbrev pub Tried : ℕ → List (List Value) → Type 0
@@ -299,15 +294,6 @@ module _ (graph : ℕ → Demand) (p k source credit : ℕ) (P : Piece) (M : Mea
   module _ (free : (a b : ℕ) → a ≢ b → Free (N a) (N b)) where
     abbrev Commutes : Diamond Enabled Next Output
     Commutes = diamond N cap free
-
-    -- Demand 3, first half. Whatever the list of events done from the start, and whatever the capacity: the j-th take hands out the direct
-    -- evaluation of the j-th set, for every j up to the first set whose evaluation does not end (`vss` are the sets before it, `tail` the rest).
-    pub results : (vss rss : List (List Value)) (tail : List Token) (σ : Load) (b : Links) (u : List ℕ) → Evaluated vss rss → P .Idle σ → Clear (Region P) b → b credit ≡ [] →
-        Possible Enabled Next Output u (Between σ (tape-of vss tail) b) → Agree (outputs Enabled Next Output k u (Between σ (tape-of vss tail) b)) (each-tokens rss)
-    results vss rss tail σ b u e i cl ce ru =
-        let r = many vss rss tail σ b e i cl ce in
-        subst (λ z. Agree (outputs Enabled Next Output k u (Between σ (tape-of vss tail) b)) z) (r .2 .gives)
-        (outputs-agree Enabled Next Output Commutes k u (r .2 .w) (Between σ (tape-of vss tail) b) ru (r .2 .runs))
 
     -- Demand 3, second half. If the sets `vss` are pushed and not all of them taken, and nothing can fire, then a whole result is ready: a take is
     -- possible. Nothing is assumed of whether evaluations end; the evaluator is only asked with more rounds than there were events.

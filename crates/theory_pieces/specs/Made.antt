@@ -6,7 +6,7 @@ use mathlib.Core.List.{List, [], _∷_}
 use mathlib.Core.Option.{Option, none, some}
 use lib.ListN.{length}
 use native.Mathlib.Omega.{arith}
-use Rattle.theory_schedule.specs.Schedules.{Possible, reached, outputs, Agree}
+use Rattle.theory_schedule.specs.Schedules.{Possible, reached}
 use Rattle.theory_schedule.specs.Counts.{count}
 use Rattle.theory_schedule.specs.Progress.{endless-inside}
 use Rattle.value.specs.declared.Value.{Value}
@@ -15,7 +15,7 @@ use Rattle.network.specs.Commute.{Free, diamond}
 use Rattle.theory_pieces.specs.Load.{Load}
 use Rattle.theory_pieces.specs.Piece.{Piece, Means, some-of, Fits}
 use Rattle.theory_pieces.specs.Sets.{tokens-of, net, Bench}
-use Rattle.theory_pieces.specs.Demand3.{Enabled, Next, Output, Between, Reference, Long-reference, ref-long, one, one-long, tape-of, each-tokens, Evaluated, Tried, results, ready, push-or-take}
+use Rattle.theory_pieces.specs.Demand3.{Enabled, Next, Output, Between, Reference, Long-reference, ref-long, one, one-long, tape-of, Tried, ready, push-or-take}
 
 -- For one accepted formula: the graph `graph` with the numbers of push and take, of the tape's link and of the credit's; its piece, with the schedule lemma
 -- (in `bench`); that operators commute (`free`, from one taker and one putter a link); and that the piece means what the evaluator gives.
@@ -59,12 +59,6 @@ module _ (graph : ℕ → Demand) (p k source credit : ℕ) (P : Piece) (M : Mea
     abbrev pub Start : List Token → Links
     Start tape = At (F .fresh) tape
 
-    evals : (vss rss : List (List Value)) → Ending vss rss → Evaluated graph p k source credit P M (F .bench) cap roomy vss rss
-    evals [] [] e = tt
-    evals [] (r ∷ rss) e = e
-    evals (v ∷ vss) [] e = e
-    evals (v ∷ vss) (r ∷ rss) e = let h = F .ended (e .1 .0) v r (e .0) (e .1 .1) in (e .0, h .0, h .1, evals vss rss (e .2))
-
     pub tries : (n : ℕ) (vss : List (List Value)) → Fitting vss → Tried graph p k source credit P M (F .bench) cap roomy n vss
     tries n [] f = tt
     tries n (v ∷ vss) f = (f .0, go (eval n v) refl, tries n vss (f .1))
@@ -72,12 +66,6 @@ module _ (graph : ℕ → Demand) (p k source credit : ℕ) (P : Piece) (M : Mea
         go : (o : Option (List Value)) → eval n v ≡ o → ((r : List Value) × (d : ℕ) × Fits (P .outs) r × M (some-of v) d (some (some-of r))) ⊎ M (some-of v) n none
         go none e = inr (F .lost n v (f .0) e)
         go (some r) e = let h = F .ended n v r (f .0) e in inl (r, h .1 .0, h .0, h .1 .1)
-
-    -- First half: for every list of accepted calls and firings, the j-th take hands out the evaluation of the j-th set, as long as the sets so far end.
-    pub demand-results : (vss rss : List (List Value)) (tail : List Token) (u : List ℕ) → Ending vss rss → Possible E X O u (Start (tape-of vss tail)) →
-        Agree (outputs E X O k u (Start (tape-of vss tail))) (each-tokens rss)
-    demand-results vss rss tail u e ru =
-        results graph p k source credit P M (F .bench) cap roomy (F .free) vss rss tail (F .fresh) (λ l. []) u (evals vss rss e) (F .fresh-idle) (λ l d. refl) refl ru
 
     -- Second half: with all of `vss` pushed and fewer taken, where nothing can fire a whole result is ready.
     pub demand-ready : (vss : List (List Value)) (tail : List Token) (u : List ℕ) → Fitting vss → Possible E X O u (Start (tape-of vss tail)) → length vss ≤ count p u →

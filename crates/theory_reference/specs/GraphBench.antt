@@ -1,28 +1,38 @@
 -- What the schedule lemma gives to the machine over a fit graph: the bench of theory_pieces/specs/Sets, from which both halves of demand 3 follow
--- (theory_pieces/specs/Made, Calls), and the load that start leaves. Assumes of the net that it has the graph's operators, that push and take are none
--- of them, and that source and credit link lie beyond the graph's links and registers and are used by no operator (crate wiring).
+-- (theory_pieces/specs/Made, Calls), and the load that start leaves. Assumes the schedule lemma for some meaning of the graph, that push and take are no
+-- operators of the net, and that source and credit link lie beyond the graph's links and registers and are used by no operator (crate wiring).
 use Prim.Native.Nat.{ℕ, _+_, _≤_, _<_}
 use mathlib.Core.Path.{_≡_}
 use mathlib.Core.Logic.{_≢_, inl, inr}
 use mathlib.Core.Bool.{true}
+use mathlib.Core.Option.{none, some}
 use native.Mathlib.Omega.{arith}
 use Rattle.names.specs.Names.{Names}
-use Rattle.network.specs.Net.{Demand, halt}
+use Rattle.network.specs.Net.{Links, halt}
 use Rattle.theory_pieces.specs.Load.{Load, On}
-use Rattle.theory_pieces.specs.Goes.{any-list}
+use Rattle.theory_pieces.specs.Goes.{Net, any-list}
 use Rattle.theory_pieces.specs.Sets.{Bench}
 use Rattle.graph.specs.Assembly.{Graph, Env, nameCount, rank, total, free, linksOf, operatorsOf}
+use Rattle.graph.specs.Yields.{Values, Answer}
 use Rattle.graph.specs.Fit.{Fit}
 use Rattle.theory_reference.specs.NameSets.{rank-total, rank-differs}
-use Rattle.theory_reference.specs.Plugged.{nowhere, registers, Has}
-use Rattle.theory_reference.specs.Plan.{Between, Zone, Register, Envs}
+use Rattle.theory_reference.specs.Plugged.{nowhere, registers}
+use Rattle.theory_reference.specs.Plan.{Between, Plan, Zone, Register, Envs, Leads, Serves}
 use Rattle.theory_reference.specs.Bystanders.{Unused}
 use Rattle.theory_reference.specs.Marks.{marks, marks-hold, marks-in, each-marked, registers-own, rings-marked}
-use Rattle.theory_reference.specs.WholeGraph.{plan, whole, yields, Idle-load, Ends-apart, fresh-idle, bare-state, whole-neat, whole-serves, inputs-differ, results-differ, source-off-region, credit-off-region}
+use Rattle.theory_reference.specs.WholeGraph.{plan, whole, from-inputs, Idle-load, Ends-apart, fresh-idle, bare-state, whole-neat, whole-serves, inputs-differ, results-differ, source-off-region, credit-off-region}
 
 -- The links 0, 1, .. in the order of the names.
 pub rank-envs : (f : Names) → ((x : ℕ) → f x ≡ true → x < nameCount) → Envs f (rank f) (total f)
 rank-envs f small = record { below = λ x e. rank-total f x e (small x e); differ = λ x y a b e. rank-differs f x y a b e; small = small }
+
+-- A schedule in a net is one where nothing is asked of the lists of firings.
+any-leads : (net : Net) (P : Plan) (s : Links) (c : ℕ) (a : Answer) → Leads net P s c a → Leads (any-list (net .at)) P s c a
+any-leads net P s c none t = record { w = t .w; runs = t .runs; many = t .many; fine = tt }
+any-leads net P s c (some vs) (s′, t, X) = (s′, record { w = t .w; runs = t .runs; ends = t .ends; many = t .many; fine = tt }, X)
+
+any-serves : (net : Net) (P : Plan) (M : Values → ℕ → Answer → Type 0) → Serves net P M → Serves (any-list (net .at)) P M
+any-serves net P M S ρ c a y s B = any-leads net P s c a (S ρ c a y s B)
 
 module _ (g : Graph) (ft : Fit g) (n : ℕ) (env : Env) (E : Envs (free g) env n) (fits : n + linksOf g ≤ nowhere) (source credit : ℕ) where
   -- A link beyond the graph's links and registers.
@@ -56,11 +66,11 @@ module _ (g : Graph) (ft : Fit g) (n : ℕ) (env : Env) (E : Envs (free g) env n
         fresh-idle g n env source credit ft E fits A fresh (marks-in (Between (registers + n) (linksOf g)) (operatorsOf g n env) (registers-own g ft n env))
         (λ c r k. marks-hold (operatorsOf g n env) bare-state r (rings-marked (λ l. On l fresh) g ft n env (each-marked (λ l. On l fresh) (operatorsOf g n env) (λ l o. o)) c r k))
 
-    pub graph-bench : (net : ℕ → Demand) (push take : ℕ) → Has (any-list net) (operatorsOf g n env) → Unused net source → Unused net credit → net push ≡ halt → net take ≡ halt → push ≢ take →
-        Bench net push take source credit (whole g n env source credit) (yields g n env source credit)
-    graph-bench net push take H us uc np nt ne =
+    pub graph-bench : (net : Net) (push take : ℕ) (M : Values → ℕ → Answer → Type 0) → Serves net (plan g n env source credit) M → Unused (net .at) source → Unused (net .at) credit →
+        net .at push ≡ halt → net .at take ≡ halt → push ≢ take → Bench (net .at) push take source credit (whole g n env source credit) (from-inputs g n env source credit M)
+    graph-bench net push take M S us uc np nt ne =
         record {
-          serves = whole-serves g n env source credit ft E fits A (any-list net) H us uc;
+          serves = whole-serves g n env source credit ft E fits A (any-list (net .at)) M (any-serves net (plan g n env source credit) M S) us uc;
           neat = whole-neat g n env source credit;
           push-apart = np;
           take-apart = nt;

@@ -19,6 +19,7 @@ pub mod LoopRounds
 pub mod LoopCore
 pub mod Bareness
 pub mod GraphLayout
+pub mod GraphParts
 pub mod Schedule
 pub mod Bystanders
 pub mod WrittenOut
@@ -27,3 +28,6 @@ pub mod Marks
 pub mod GraphBench
 pub mod TwinNets
 pub mod TestCopies
+pub mod Placed
+pub mod FindCopies
+pub mod CutSchedule

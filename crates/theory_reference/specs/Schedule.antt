@@ -2,36 +2,35 @@
 -- names' values and its gates ready, a schedule that is possible with one place a link, of at least as many firings as rounds, leads
 -- to the yielded values on its outputs, everything else of it empty and its gates ready again, and nothing outside touched; or,
 -- where the rounds lent do not suffice, there is a schedule of that many firings.
-use Prim.Native.Nat.{ℕ, suc, _+_, _≤_}
+use Prim.Native.Nat.{ℕ, _+_, _≤_}
 use mathlib.Core.Path.{_≡_, refl, sym, _∙_, ap, subst}
 use mathlib.Core.Logic.{_⊎_, inl, inr, ⊎-elim}
 use mathlib.Core.Bool.{Bool, true, false, _||_, false≢true}
-use mathlib.Core.List.{List, [], _∷_, _++_}
+use mathlib.Core.List.{List, [], _∷_}
 use mathlib.Core.Option.{none, some}
-use lib.ListN.{length, getD, take, drop}
+use lib.ListN.{length}
 use lib.Dec.{eqb}
 use native.Mathlib.Omega.{arith}
 use borrow.Author.Tests.{eqb-true, eq-eqb}
 use Rattle.value.specs.Operators.{operands, pick}
-use Rattle.names.specs.Names.{Names, without}
+use Rattle.names.specs.Names.{Names, union}
 use Rattle.theory_pieces.specs.Goes.{Net, stay}
-use Rattle.graph.specs.Assembly.{Gate, const, oper, T, F, M, E, IC, Graph, wire, nothing, beside, bind, gate, loop, Env, memberOf, named, spread, rank, total, free, linksOf, outputs, operatorsOf, gateOutputs, gateOf, sharing, sharedLinks, firstUse, secondUse, chain, chainEnds, chainLinks, ring, listed}
-use Rattle.graph.specs.Yields.{Values, Answer, Yields, outputCount, absent, present, bound, Sequel, stops, goes-on, Looped, rests, spins, Cut-looped}
+use Rattle.graph.specs.Assembly.{Gate, const, oper, T, F, M, E, IC, Graph, wire, nothing, beside, bind, gate, loop, Env, memberOf, free, linksOf, outputs, operatorsOf, gateOutputs, gateOf, sharing}
+use Rattle.graph.specs.Yields.{Values, Answer, Yields, outputCount, absent, present, bound, Sequel, stops, goes-on, Beside, Gated, Looped, rests, spins, Cut-looped}
 use Rattle.graph.specs.Fit.{Fit, gateInputs}
 use Rattle.theory_reference.specs.NameSets.{either}
-use Rattle.theory_reference.specs.Plugged.{nowhere, registers, Somewhere, Has, each-first, each-rest, each-ring}
+use Rattle.theory_reference.specs.Plugged.{nowhere, Somewhere, Has, each-first, each-rest}
 use Rattle.theory_reference.specs.Plan.{Between, Envs, Leads, Serves}
-use Rattle.theory_reference.specs.Sharing.{envs-first, envs-second}
-use Rattle.theory_reference.specs.Binding.{named-others, named-any, named-front, bound-others, bound-absent}
-use Rattle.theory_reference.specs.Copies.{ends-length}
+use Rattle.theory_reference.specs.Sharing.{Changes}
+use Rattle.theory_reference.specs.Binding.{bound-others, bound-absent}
 use Rattle.theory_reference.specs.SideBySide as Side
 use Rattle.theory_reference.specs.OneAfterAnother as Follow
 use Rattle.theory_reference.specs.BehindGate as Gates
 use Rattle.theory_reference.specs.LoopLayout as Lay
-use Rattle.theory_reference.specs.LoopLayout.{spread-envs}
 use Rattle.theory_reference.specs.LoopCore as Core
 use Rattle.theory_reference.specs.LoopCore.{Core-yields, Cut-core}
-use Rattle.theory_reference.specs.GraphLayout.{RingOf, planOf, Layout, layout, free-small, bodyPlan, loop-laid, outs-parts, iterated-length, loop-length, never-bare, enough, envs-up, up-to, first-fits, second-fits, fore-fits, body-fits}
+use Rattle.theory_reference.specs.GraphLayout.{RingOf, planOf, Layout, layout, bodyPlan, outs-parts, fore-fits}
+use Rattle.theory_reference.specs.GraphParts.{left-at, left-env, right-at, right-env, pair-room, pair-each, outer, maker-at, maker-env, user-at, user-env, bind-room, bind-each, body-at, inner, yielded, iter, iterates, returns, core-size, BodyPlan, CorePlan, iterated, started, own, Loop-room, loop-room, loop-each}
 
 few-operands : (b : Bool) → pick b 1 2 ≤ 3
 few-operands true = omega arith
@@ -50,15 +49,12 @@ few-inputs (IC both) = omega arith
 few : {k c d : ℕ} → k ≡ c → c ≡ d → d ≤ 3 → k ≤ 3
 few e h le = omega arith
 
-no-more : {k c : ℕ} → c ≡ k → k ≤ c
-no-more e = omega arith
-
-rest-long : (k : ℕ) (ls : List ℕ) → suc k ≤ length ls → k ≤ length (drop 1 ls)
-rest-long k [] le = absurd (omega arith)
-rest-long k (l ∷ ls) le = omega arith
+nothing-comes : (ns : List ℕ) (ρ : Values) (x : ℕ) → (memberOf ns x ≡ false → ρ x ≡ none) → (memberOf ns x ≡ true) ⊎ (memberOf ns x ≡ false) → bound ns (absent (length ns)) ρ x ≡ none
+nothing-comes ns ρ x q (inl w) = bound-absent ns (length ns) ρ x (omega arith) w
+nothing-comes ns ρ x q (inr w) = bound-others ns (absent (length ns)) ρ x w ∙ q w
 
 module _ (net : Net) where
-  serve-wire : (x n : ℕ) (env : Env) → Serves net (planOf (wire x) n env) (Yields (wire x))
+  pub serve-wire : (x n : ℕ) (env : Env) → Serves net (planOf (wire x) n env) (Yields (wire x))
   unfolding free linksOf outputs
   serve-wire x n env ρ c a (ec, ea) s bef =
       subst (λ d. Leads net (planOf (wire x) n env) s d a) (sym ec)
@@ -73,7 +69,7 @@ module _ (net : Net) where
         },
       ))
 
-  serve-nothing : (n : ℕ) (env : Env) → Serves net (planOf nothing n env) (Yields nothing)
+  pub serve-nothing : (n : ℕ) (env : Env) → Serves net (planOf nothing n env) (Yields nothing)
   unfolding free linksOf outputs
   serve-nothing n env ρ c a (ec, ea) s bef =
       subst (λ d. Leads net (planOf nothing n env) s d a) (sym ec)
@@ -93,11 +89,7 @@ module _ (net : Net) where
       Looped ns (λ n. (h n ≡ true) × (memberOf ns n ≡ false)) r ρ P (λ vs. B (bound ns (present vs) ρ)) c a → Sequel P (λ vs. Core-yields ns h k B (bound ns vs ρ)) c a
   looped ns h k r ρ P B e c a (rests p q) =
       subst (λ z. Sequel P (λ vs. Core-yields ns h k B (bound ns vs ρ)) 0 (some (absent z))) e
-      (goes-on 0 0 (absent (length ns)) (some (absent k)) p (Core.rests (λ x m. nothing-comes x m (either (memberOf ns x)))))
-    where
-      nothing-comes : (x : ℕ) → h x ≡ true → (memberOf ns x ≡ true) ⊎ (memberOf ns x ≡ false) → bound ns (absent (length ns)) ρ x ≡ none
-      nothing-comes x m (inl w) = bound-absent ns (length ns) ρ x (omega arith) w
-      nothing-comes x m (inr w) = bound-others ns (absent (length ns)) ρ x w ∙ q x (m, w)
+      (goes-on 0 0 (absent (length ns)) (some (absent k)) p (Core.rests (λ x m. nothing-comes ns ρ x (λ w. q x (m, w)) (either (memberOf ns x)))))
   looped ns h k r ρ P B e _ _ (stops c p) = stops c p
   looped ns h k r ρ P B e _ _ (spins c d vs a fit p q y) =
       goes-on c d (present vs) a p (Core.spins ρ vs d a fit (λ x m. refl) (λ x m w. q x (m, w)) y)
@@ -108,112 +100,100 @@ module _ (net : Net) where
       Sequel P (λ vs. Cut-core ns h k N B C (bound ns vs ρ)) c a
   cut-looped N ns h k r ρ P B C e _ _ (Cut-looped.rests p q) =
       subst (λ z. Sequel P (λ vs. Cut-core ns h k N B C (bound ns vs ρ)) 0 (some (absent z))) e
-      (goes-on 0 0 (absent (length ns)) (some (absent k)) p (Cut-core.rests (λ x m. nothing-comes x m (either (memberOf ns x)))))
-    where
-      nothing-comes : (x : ℕ) → h x ≡ true → (memberOf ns x ≡ true) ⊎ (memberOf ns x ≡ false) → bound ns (absent (length ns)) ρ x ≡ none
-      nothing-comes x m (inl w) = bound-absent ns (length ns) ρ x (omega arith) w
-      nothing-comes x m (inr w) = bound-others ns (absent (length ns)) ρ x w ∙ q x (m, w)
+      (goes-on 0 0 (absent (length ns)) (some (absent k)) p (Cut-core.rests (λ x m. nothing-comes ns ρ x (λ w. q x (m, w)) (either (memberOf ns x)))))
   cut-looped N ns h k r ρ P B C e _ _ (Cut-looped.spins c vs us fit p q y) =
       let z : c + 0 ≡ c = omega arith in
       subst (λ d. Sequel P (λ vs. Cut-core ns h k N B C (bound ns vs ρ)) d (some us)) z
       (goes-on c 0 (present vs) (some us) p (Cut-core.spins ρ vs us fit (λ x m. refl) (λ x m w. q x (m, w)) y))
 
-  pub serves : (g : Graph) → Fit g → (n : ℕ) (env : Env) → Envs (free g) env n → n + linksOf g ≤ nowhere → Has net (operatorsOf g n env) → Serves net (planOf g n env) (Yields g)
+  -- Each way of putting graphs together, over any meanings of the parts.
+  pub serve-beside : (a b : Graph) → Fit (beside a b) → (n : ℕ) (env : Env) → Envs (free (beside a b)) env n → n + linksOf (beside a b) ≤ nowhere →
+      Has net (sharing (free a) (free b) n env) → (Y Z : Values → ℕ → Answer → Type 0) → Serves net (planOf a (left-at a b n env) (left-env a b n env)) Y →
+      Serves net (planOf b (right-at a b n env) (right-env a b n env)) Z → Serves net (planOf (beside a b) n env) (λ ρ. Beside (Y ρ) (Z ρ))
+  unfolding free linksOf outputs
+  serve-beside a b ft n env En le H =
+      let p = pair-room a b n env En le in
+      let na : ℕ = left-at a b n env in
+      let nb : ℕ = right-at a b n env in
+      let ea : Env = left-env a b n env in
+      let eb : Env = right-env a b n env in
+      Side.beside-serves (free a) (free b) n (linksOf a) (linksOf b) env (outputs a na ea) (outputs b nb eb) (RingOf a na) (RingOf b nb) En le
+      (layout a (ft .0) na ea (p .envs-a) (p .fits-a) .sound) (layout b (ft .1) nb eb (p .envs-b) (p .fits-b) .sound) net H
+
+  module _ (ns : List ℕ) (a b : Graph) (ft : Fit (bind ns a b)) (n : ℕ) (env : Env) (En : Envs (union (free a) (outer ns a b n env)) env n) (le : n + linksOf (bind ns a b) ≤ nowhere)
+      (H : Has net (sharing (free a) (outer ns a b n env) n env)) (Y Z : Values → ℕ → Answer → Type 0) (SY : Serves net (planOf a (maker-at ns a b n env) (maker-env ns a b n env)) Y)
+      (SZ : Serves net (planOf b (user-at ns a b n env) (user-env ns a b n env)) Z) where
+    -- where twins of shared names' copies make their values err
+    pub serve-over : Serves net (planOf (bind ns a b) n env)
+        (λ ρ c v. (ρ′ : Values) × Changes (free a) (outer ns a b n env) n env En net ρ ρ′ × Sequel (Y ρ′) (λ vs. Z (bound ns vs ρ′)) c v)
+    unfolding free linksOf outputs
+    serve-over =
+        let p = bind-room ns a b n env ft En le in
+        let na : ℕ = maker-at ns a b n env in
+        let nb : ℕ = user-at ns a b n env in
+        let ea : Env = maker-env ns a b n env in
+        let eb : Env = user-env ns a b n env in
+        let la : Layout a na ea = layout a (ft .0) na ea (p .envs-a) (p .fits-a) in
+        Follow.bind-over ns (free a) (free b) n (linksOf a) (linksOf b) env (outputs a na ea) (outputs b nb eb) (RingOf a na) (RingOf b nb) En le (la .sound) (la .count ∙ ft .2) (ft .3) (ft .4)
+        (layout b (ft .1) nb eb (p .envs-b) (p .fits-b) .sound) net H Y Z SY SZ
+
+    -- and where they change nothing
+    pub serve-bind : Serves net (planOf (bind ns a b) n env) (λ ρ. Sequel (Y ρ) (λ vs. Z (bound ns vs ρ)))
+    serve-bind ρ c v y = serve-over ρ c v (ρ, record { shared = λ x e. inl refl; alone = λ x e. refl }, y)
+
+  pub serve-gate : (g : Gate) (a : Graph) → Fit (gate g a) → (n : ℕ) (env : Env) → Envs (free a) env n → n + linksOf (gate g a) ≤ nowhere → Has net (operatorsOf (gate g a) n env) →
+      (Y : Values → ℕ → Answer → Type 0) → Serves net (planOf a n env) Y → Serves net (planOf (gate g a) n env) (λ ρ. Gated g (Y ρ))
   unfolding free linksOf outputs operatorsOf
+  serve-gate g a ft n env En le H =
+      let la : Layout a n env = layout a (ft .0) n env En (fore-fits n (linksOf a) (gateOutputs g) le) in
+      Gates.gate-serves g (free a) n (linksOf a) env (outputs a n env) (RingOf a n) (la .sound) le (few (la .count) (ft .1) (few-inputs g)) net
+      (each-rest (Somewhere net) (operatorsOf a n env) (gateOf g (outputs a n env) (n + linksOf a) ∷ []) H .0)
+
+  module _ (ns : List ℕ) (a b : Graph) (n : ℕ) (env : Env) (p : Loop-room ns a b n env) where
+    -- a loop's body with its outputs told apart
+    pub serve-body : (Y : Values → ℕ → Answer → Type 0) → Serves net (planOf b (body-at ns a b n env) (inner ns a b n env)) Y → Serves net (BodyPlan ns a b n env) Y
+    serve-body Y = subst (λ os. Serves net (bodyPlan (free b) (user-at ns a b n env) (linksOf b) (RingOf b (body-at ns a b n env)) os) Y) (outs-parts (length ns) (yielded ns a b n env) (p .long))
+
+    -- and the whole, from its start and the rest
+    pub serve-loop : Fit (loop ns a b) → Envs (free (loop ns a b)) env n → n + linksOf (loop ns a b) ≤ nowhere → Has net (sharing (free a) (outer ns a b n env) n env) →
+        (Y Z : Values → ℕ → Answer → Type 0) → Serves net (planOf a (maker-at ns a b n env) (maker-env ns a b n env)) Y → Serves net (CorePlan ns a b n env) Z →
+        Serves net (planOf (loop ns a b) n env) (λ ρ. Sequel (Y ρ) (λ vs. Z (bound ns vs ρ)))
+    unfolding free linksOf outputs
+    serve-loop ft En le H =
+        let na : ℕ = maker-at ns a b n env in
+        let ea : Env = maker-env ns a b n env in
+        let rs : List ℕ = returns ns a b n env in
+        let la : Layout a na ea = layout a (ft .0) na ea (p .envs-a) (p .fits-a) in
+        let core = Lay.core-sound ns (free b) (user-at ns a b n env) (linksOf b) (iter ns a b n env) (iterates ns a b n env) rs (RingOf b (body-at ns a b n env)) (user-env ns a b n env) (p .laid) in
+        Follow.bind-serves ns (free a) (free b) n (linksOf a) (core-size ns a b n env) env (outputs a na ea) rs (RingOf a na) (CorePlan ns a b n env .Ring) En le (la .sound)
+        (la .count ∙ ft .2) (ft .3) (ft .4) core net H
+
+  pub serves : (g : Graph) → Fit g → (n : ℕ) (env : Env) → Envs (free g) env n → n + linksOf g ≤ nowhere → Has net (operatorsOf g n env) → Serves net (planOf g n env) (Yields g)
+  unfolding free linksOf operatorsOf
   serves (wire x) ft n env En le H = serve-wire x n env
   serves nothing ft n env En le H = serve-nothing n env
   serves (beside a b) ft n env En le H =
-      let f : Names = free a in
-      let g : Names = free b in
-      let m : ℕ = n + sharedLinks f g in
-      let fits : n + (sharedLinks f g + (linksOf a + linksOf b)) ≤ nowhere = le in
-      let ea : Env = firstUse f g n env in
-      let eb : Env = secondUse f g n env in
-      let Ea : Envs f ea m = envs-first f g n env En in
-      let Eb : Envs g eb (m + linksOf a) = envs-up g eb m (m + linksOf a) (up-to m (linksOf a)) (envs-second f g n env En) in
-      let fa : m + linksOf a ≤ nowhere = first-fits n (sharedLinks f g) (linksOf a) (linksOf b) fits in
-      let fb : m + linksOf a + linksOf b ≤ nowhere = second-fits n (sharedLinks f g) (linksOf a) (linksOf b) fits in
-      let opa = operatorsOf a m ea in
-      let opb = operatorsOf b (m + linksOf a) eb in
-      let Hp : Has net (opa ++ opb) = each-rest (Somewhere net) (sharing f g n env) (opa ++ opb) H in
-      Side.beside-serves f g n (linksOf a) (linksOf b) env (outputs a m ea) (outputs b (m + linksOf a) eb) (RingOf a m) (RingOf b (m + linksOf a)) En fits
-      (layout a (ft .0) m ea Ea fa .sound) (layout b (ft .1) (m + linksOf a) eb Eb fb .sound) net (each-first (Somewhere net) (sharing f g n env) (opa ++ opb) H) (Yields a) (Yields b)
-      (serves a (ft .0) m ea Ea fa (each-first (Somewhere net) opa opb Hp)) (serves b (ft .1) (m + linksOf a) eb Eb fb (each-rest (Somewhere net) opa opb Hp))
+      let p = pair-room a b n env En le in
+      let h = pair-each a b n env (Somewhere net) H in
+      serve-beside a b ft n env En le (h .0) (Yields a) (Yields b) (serves a (ft .0) (left-at a b n env) (left-env a b n env) (p .envs-a) (p .fits-a) (h .1))
+      (serves b (ft .1) (right-at a b n env) (right-env a b n env) (p .envs-b) (p .fits-b) (h .2))
   serves (bind ns a b) ft n env En le H =
-      let f : Names = free a in
-      let g : Names = without (free b) (memberOf ns) in
-      let m : ℕ = n + sharedLinks f g in
-      let fits : n + (sharedLinks f g + (linksOf a + linksOf b)) ≤ nowhere = le in
-      let ea : Env = firstUse f g n env in
-      let Ea : Envs f ea m = envs-first f g n env En in
-      let fa : m + linksOf a ≤ nowhere = first-fits n (sharedLinks f g) (linksOf a) (linksOf b) fits in
-      let fb : m + linksOf a + linksOf b ≤ nowhere = second-fits n (sharedLinks f g) (linksOf a) (linksOf b) fits in
-      let oa : List ℕ = outputs a m ea in
-      let eb : Env = named ns oa (secondUse f g n env) in
-      let ob : List ℕ = outputs b (m + linksOf a) eb in
-      let la : Layout a m ea = layout a (ft .0) m ea Ea fa in
-      let many : length oa ≡ length ns = la .count ∙ ft .2 in
-      let Eb : Envs (free b) eb (m + linksOf a)
-      = Follow.user-envs ns f (free b) n (linksOf a) (linksOf b) env oa ob (RingOf a m) (RingOf b (m + linksOf a)) En fits (la .sound) many (ft .3) (ft .4) in
-      let opa = operatorsOf a m ea in
-      let opb = operatorsOf b (m + linksOf a) eb in
-      let Hp : Has net (opa ++ opb) = each-rest (Somewhere net) (sharing f g n env) (opa ++ opb) H in
-      Follow.bind-serves ns f (free b) n (linksOf a) (linksOf b) env oa ob (RingOf a m) (RingOf b (m + linksOf a)) En fits (la .sound) many (ft .3) (ft .4)
-      (layout b (ft .1) (m + linksOf a) eb Eb fb .sound) net (each-first (Somewhere net) (sharing f g n env) (opa ++ opb) H) (Yields a) (Yields b)
-      (serves a (ft .0) m ea Ea fa (each-first (Somewhere net) opa opb Hp)) (serves b (ft .1) (m + linksOf a) eb Eb fb (each-rest (Somewhere net) opa opb Hp))
+      let p = bind-room ns a b n env ft En le in
+      let h = bind-each ns a b n env (Somewhere net) H in
+      serve-bind ns a b ft n env En le (h .0) (Yields a) (Yields b) (serves a (ft .0) (maker-at ns a b n env) (maker-env ns a b n env) (p .envs-a) (p .fits-a) (h .1))
+      (serves b (ft .1) (user-at ns a b n env) (user-env ns a b n env) (p .envs-b) (p .fits-b) (h .2))
   serves (gate g a) ft n env En le H =
-      let fits : n + (linksOf a + gateOutputs g) ≤ nowhere = le in
-      let fa : n + linksOf a ≤ nowhere = fore-fits n (linksOf a) (gateOutputs g) fits in
-      let la : Layout a n env = layout a (ft .0) n env En fa in
-      let opa = operatorsOf a n env in
-      let opg = gateOf g (outputs a n env) (n + linksOf a) in
-      Gates.gate-serves g (free a) n (linksOf a) env (outputs a n env) (RingOf a n) (la .sound) fits (few (la .count) (ft .1) (few-inputs g)) net
-      (each-rest (Somewhere net) opa (opg ∷ []) H .0) (Yields a) (serves a (ft .0) n env En fa (each-first (Somewhere net) opa (opg ∷ []) H))
+      serve-gate g a ft n env En le H (Yields a) (serves a (ft .0) n env En (fore-fits n (linksOf a) (gateOutputs g) le)
+      (each-first (Somewhere net) (operatorsOf a n env) (gateOf g (outputs a n env) (n + linksOf a) ∷ []) H))
   serves (loop ns a b) ft n env En le H =
-      let f : Names = free a in
-      let h : Names = free b in
-      let g : Names = without h (memberOf ns) in
-      let m : ℕ = n + sharedLinks f g in
-      let o : ℕ = m + linksOf a in
-      let s : ℕ = total h in
-      let kc : ℕ = s + (linksOf b + chainLinks s) in
-      let fits : n + (sharedLinks f g + (linksOf a + kc)) ≤ nowhere = le in
-      let ea : Env = firstUse f g n env in
-      let e₂ : Env = secondUse f g n env in
-      let Ea : Envs f ea m = envs-first f g n env En in
-      let fa : m + linksOf a ≤ nowhere = first-fits n (sharedLinks f g) (linksOf a) kc fits in
-      let fb : o + s + linksOf b ≤ nowhere = body-fits n (sharedLinks f g) (linksOf a) s (linksOf b) (chainLinks s) fits in
-      let oa : List ℕ = outputs a m ea in
-      let link : Env = named ns oa e₂ in
-      let ob : List ℕ = outputs b (o + s) (spread h o) in
-      let it : ℕ = getD ob 0 0 in
-      let is : List ℕ = take (length ns) (drop 1 ob) in
-      let rs : List ℕ = drop (suc (length ns)) ob in
-      let la : Layout a m ea = layout a (ft .0) m ea Ea fa in
-      let many : length oa ≡ length ns = la .count ∙ ft .2 in
-      let RB : ℕ → ℕ → Type 0 = RingOf b (o + s) in
-      let RC : ℕ → ℕ → Type 0 = λ c r. RB c r ⊎ ((x : ℕ) × (h x ≡ true) × (c ≡ getD (chainEnds it (o + s + linksOf b) s) (rank h x) 0) × (r ≡ registers + spread h o x)) in
-      let Ec : Envs h link o = Follow.user-envs ns f h n (linksOf a) kc env oa rs (RingOf a m) RC En fits (la .sound) many (ft .3) (ft .4) in
-      let Es : Envs h (spread h o) (o + s) = spread-envs h o (free-small b (ft .1)) in
-      let lb : Layout b (o + s) (spread h o) = layout b (ft .1) (o + s) (spread h o) Es fb in
-      let long : suc (length ns) ≤ length ob = enough (lb .count) (ft .5) in
-      let K : Lay.Laid-out ns h o (linksOf b) it is rs RB link
-      = loop-laid ns h o (linksOf b) ob RB link Ec (second-fits n (sharedLinks f g) (linksOf a) kc fits) (lb .sound) (never-bare b (o + s) (spread h o) (lb .straight) (ft .7)) (ft .6) long (ft .3) (ft .4) in
-      let opa = operatorsOf a m ea in
-      let opb = operatorsOf b (o + s) (spread h o) in
-      let opc = chain it (o + s + linksOf b) s in
-      let opr = ring (listed h) (memberOf ns) (chainEnds it (o + s + linksOf b) s) (named ns (drop 1 ob) env) (named ns oa env) e₂ (spread h o) in
-      let Hp : Has net (opa ++ (opb ++ (opc ++ opr))) = each-rest (Somewhere net) (sharing f g n env) (opa ++ (opb ++ (opc ++ opr))) H in
-      let Hq : Has net (opb ++ (opc ++ opr)) = each-rest (Somewhere net) opa (opb ++ (opc ++ opr)) Hp in
-      let Hr : Has net (opc ++ opr) = each-rest (Somewhere net) opb (opc ++ opr) Hq in
-      let body : Serves net (bodyPlan h o (linksOf b) RB (it ∷ (is ++ rs))) (Yields b)
-      = subst (λ os. Serves net (bodyPlan h o (linksOf b) RB os) (Yields b)) (outs-parts (length ns) ob long) (serves b (ft .1) (o + s) (spread h o) Es fb (each-first (Somewhere net) opb (opc ++ opr) Hq)) in
-      let core : Serves net (Lay.Core ns h o (linksOf b) it is rs RB link) (Core-yields ns h (length rs) (Yields b))
-      = Core.core-serves ns h o (linksOf b) it is rs RB link K net (named ns (drop 1 ob) env) (named ns oa env) e₂
-      (λ x e k. named-any ns oa env e₂ x (no-more many) k) (λ x e k. sym (named-others ns oa e₂ x k))
-      (λ x k. sym (named-front ns (drop 1 ob) env x (rest-long (length ns) ob long)) ∙ named-any ns is env link x (no-more (iterated-length (length ns) ob long)) k)
-      (λ x e. each-ring (Somewhere net) h (memberOf ns) (chainEnds it (o + s + linksOf b) s) (named ns (drop 1 ob) env) (named ns oa env) e₂ (spread h o) (no-more (ends-length s it (o + s + linksOf b)))
-      (each-rest (Somewhere net) opc opr Hr) x (free-small b (ft .1) x e) e) (each-first (Somewhere net) opc opr Hr) (Yields b) body in
-      let whole = Follow.bind-serves ns f h n (linksOf a) kc env oa rs (RingOf a m) RC En fits (la .sound) many (ft .3) (ft .4) (Lay.core-sound ns h o (linksOf b) it is rs RB link K) net
-      (each-first (Somewhere net) (sharing f g n env) (opa ++ (opb ++ (opc ++ opr))) H) (Yields a) (Core-yields ns h (length rs) (Yields b)) (serves a (ft .0) m ea Ea fa (each-first (Somewhere net) opa (opb ++ (opc ++ opr)) Hp)) core in
-      λ ρ c v y. whole ρ c v (looped ns h (length rs) (outputCount (loop ns a b)) ρ (Yields a ρ) (Yields b) (loop-length ns a b ob (lb .count) (ft .5)) c v y)
+      let p = loop-room ns a b n env ft En le in
+      let h = loop-each ns a b n env (Somewhere net) ft H in
+      let rs : List ℕ = returns ns a b n env in
+      let nb : ℕ = body-at ns a b n env in
+      let core : Serves net (CorePlan ns a b n env) (Core-yields ns (free b) (length rs) (Yields b))
+      = Core.core-serves ns (free b) (user-at ns a b n env) (linksOf b) (iter ns a b n env) (iterates ns a b n env) rs (RingOf b nb) (user-env ns a b n env) (p .laid) net
+      (iterated ns a b n env) (started ns a b n env) (own ns a b n env) (p .start-is) (p .own-is) (p .iter-is) (h .gates) (h .fan) (Yields b)
+      (serve-body ns a b n env p (Yields b) (serves b (ft .1) nb (inner ns a b n env) (p .envs-b) (p .fits-b) (h .second))) in
+      let start = serves a (ft .0) (maker-at ns a b n env) (maker-env ns a b n env) (p .envs-a) (p .fits-a) (h .first) in
+      λ ρ c v y. serve-loop ns a b n env p ft En le (h .copies) (Yields a) (Core-yields ns (free b) (length rs) (Yields b)) start core ρ c v
+      (looped ns (free b) (length rs) (outputCount (loop ns a b)) ρ (Yields a ρ) (Yields b) (p .returned) c v y)

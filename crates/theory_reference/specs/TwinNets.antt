@@ -1,50 +1,16 @@
--- The nets of references with twins: every twin comes late, except those of the operators in X, which a loop around them answers for. And that in each
--- round of a loop its first test is copied, from what lies on three links before and after. Assumes one putter for each of the three.
+-- In each round of a loop its first test is copied, from what lies on three links before and after. Assumes one putter for each of the three.
 use Prim.Native.Nat.{ℕ, zero, suc, _≤_}
-use mathlib.Core.Path.{_≡_, refl, sym, _∙_, subst}
+use mathlib.Core.Path.{_≡_, refl}
 use mathlib.Core.Logic.{_≢_, _⊎_, inl, inr, ite}
-use mathlib.Core.List.{List, [], _∷_, _++_}
+use mathlib.Core.List.{List, [], _∷_}
 use native.Mathlib.Decide.{ℕ-discrete}
 use native.Mathlib.Omega.{arith}
 use Rattle.theory_schedule.specs.Counts.{count}
-use Rattle.theory_schedule.specs.Twins.{Late, late-append, late-behind, late-one, late-other}
+use Rattle.theory_schedule.specs.Twins.{Late}
 use Rattle.network.specs.Net.{Token, Demand, ask, Links}
 use Rattle.network.specs.Commute.{Never-emits}
-use Rattle.network.specs.Poisoned.{Made-by, fed, fed-before, plain as plainIn, twinned, twinned-puts, twinned-asks}
-use Rattle.theory_pieces.specs.Goes.{Net, one-place, Feasible, led-to}
-
-module _ (at : ℕ → Demand) (plain : ℕ → ℕ) (N : ℕ) where
-  abbrev pub late-net : (ℕ → Type 0) → Net
-  late-net X =
-      record {
-        at = at;
-        Fine = λ w. (b : ℕ) → (X b → ⊥) → Late plain N b w;
-        fine-none = λ b n. tt;
-        fine-both = λ u w f g b n. late-append plain N b u w (f b n) (g b n);
-      }
-
-  -- An operator's own event is fine in every such net.
-  pub own-fine : (X : ℕ → Type 0) (a : ℕ) → plain a ≡ a → late-net X .Fine (a ∷ [])
-  own-fine X a e b n = late-one plain N b a e
-
-  abbrev pub with-one : (ℕ → Type 0) → ℕ → ℕ → Type 0
-  with-one X a b = X b ⊎ (b ≡ a)
-
-  -- And so is a's twin where a is one of those that a loop answers for.
-  pub twin-fine : (X : ℕ → Type 0) (a p : ℕ) → plain p ≡ a → late-net (with-one X a) .Fine (p ∷ [])
-  twin-fine X a p e b n = late-other plain N b p (λ z. n (inr (z ∙ e)))
-
-  -- Behind N firings of a, what was fine but for a's twin is fine.
-  pub close : (X : ℕ → Type 0) (a : ℕ) (u w : List ℕ) → late-net X .Fine u → N ≤ count a u → late-net (with-one X a) .Fine w → late-net X .Fine (u ++ w)
-  close X a u w f le g b n = go (ℕ-discrete b a)
-    where
-      other : b ≢ a → X b ⊎ (b ≡ a) → ⊥
-      other ne (inl x) = n x
-      other ne (inr e) = ne e
-
-      go : Dec (b ≡ a) → Late plain N b (u ++ w)
-      go (yes e) = late-behind plain N b u w (f b n) (subst (λ z. N ≤ count z u) (sym e) le)
-      go (no ne) = late-append plain N b u w (f b n) (g b (other ne))
+use Rattle.network.specs.Poisoned.{Made-by, fed, fed-before}
+use Rattle.theory_pieces.specs.Goes.{one-place, Feasible, led-to}
 
 -- a: the first copy of the test, onto l₁; b: the second, from l₁ onto l₂; c: IC, from l₂ onto iter?.
 pub record Tested (net : ℕ → Demand) (plain : ℕ → ℕ) (a b c l₁ l₂ it : ℕ) : Type 0 where
@@ -53,18 +19,6 @@ pub record Tested (net : ℕ → Demand) (plain : ℕ → ℕ) (a b c l₁ l₂ 
   pub one₃ : (e : ℕ) → c ≢ plain e → Never-emits (net e) it
   pub asks₁ : (e : ℕ) → b ≡ plain e → (k : Token → Demand) × (net e ≡ ask l₁ k)
   pub asks₂ : (e : ℕ) → c ≡ plain e → (k : Token → Demand) × (net e ≡ ask l₂ k)
-
--- In a net with twins it follows from what the operators themselves do.
-pub tested-twinned : (net : ℕ → Demand) (T a b c l₁ l₂ it : ℕ) (j k : Token → Demand) → ((e : ℕ) → a ≢ e → Never-emits (net e) l₁) → ((e : ℕ) → b ≢ e → Never-emits (net e) l₂) →
-    ((e : ℕ) → c ≢ e → Never-emits (net e) it) → net b ≡ ask l₁ j → net c ≡ ask l₂ k → Tested (twinned net T) (plainIn net T) a b c l₁ l₂ it
-tested-twinned net T a b c l₁ l₂ it j k p q r s t =
-    record {
-      one₁ = twinned-puts net T a l₁ p;
-      one₂ = twinned-puts net T b l₂ q;
-      one₃ = twinned-puts net T c it r;
-      asks₁ = twinned-asks net T b l₁ j s;
-      asks₂ = twinned-asks net T c l₂ k t;
-    }
 
 module _ (net : ℕ → Demand) (plain : ℕ → ℕ) (a b c l₁ l₂ it : ℕ) (T : Tested net plain a b c l₁ l₂ it) where
   tested : (w : List ℕ) (q : Links) → Feasible net w q → q l₁ ≡ [] → q l₂ ≡ [] → q it ≡ [] → led-to net w q it ≢ [] → Made-by net one-place plain a w

@@ -1,6 +1,7 @@
 -- A whole fit graph as a piece with the schedule lemma (pieces, Piece.antt), so that both halves of demand 3 follow (pieces, Made.antt and
 -- Calls.antt). Its inputs are the links of its free names, rising; an idle load says what lies on its own links and registers
--- between two sets. Assumes that source and credit are no links of the graph and that no operator of the net uses them.
+-- between two sets. Assumes the schedule lemma for the graph's layout, with any meaning, and that source and credit are no links of the graph and that
+-- no operator of the net uses them.
 use Prim.Native.Nat.{ℕ, _+_, _≤_, _<_}
 use mathlib.Core.Path.{_≡_, refl, sym, _∙_, ap, subst, fun-ext}
 use mathlib.Core.Logic.{_≢_, _⊎_, inl, inr, ⊎-elim}
@@ -18,15 +19,14 @@ use Rattle.theory_pieces.specs.Piece.{load, load-in, Piece, Region, Neat, Means
 use Rattle.theory_pieces.specs.Piece as Pieces
 use Rattle.theory_pieces.specs.Sets.{Different}
 use Rattle.theory_pieces.specs.Rows.{in-front, in-back, in-app, dec-in}
-use Rattle.graph.specs.Assembly.{Graph, Env, free, linksOf, outputs, operatorsOf, listed, upFrom}
+use Rattle.graph.specs.Assembly.{Graph, Env, free, linksOf, outputs, listed, upFrom}
 use Rattle.graph.specs.Yields.{Values, Answer, Yields, bound}
 use Rattle.graph.specs.Fit.{Fit}
 use Rattle.theory_reference.specs.NameSets.{listed-has, listed-only, listed-differ}
-use Rattle.theory_reference.specs.Plugged.{nowhere, registers, Has}
-use Rattle.theory_reference.specs.Plan.{Hold, hold-same, Between, Plan, Own, Register, Port, Zone, Control, Envs, Sound, Ready, ready-same, Before, After, Leads}
+use Rattle.theory_reference.specs.Plugged.{nowhere, registers}
+use Rattle.theory_reference.specs.Plan.{Hold, hold-same, Between, Plan, Own, Register, Port, Zone, Control, Envs, Sound, Ready, ready-same, Before, After, Leads, Serves}
 use Rattle.theory_reference.specs.BehindGate.{in-upFrom, upFrom-in}
 use Rattle.theory_reference.specs.GraphLayout.{planOf, layout, RingOf}
-use Rattle.theory_reference.specs.Schedule.{serves}
 use Rattle.theory_reference.specs.Bystanders.{Unused, steps-beside, long-beside, Single, steps-single}
 use Rattle.theory_reference.specs.WrittenOut.{links-of, in-links, links-in, links-differ, no-values, load-laid, load-holds, written, written-on, written-here, written-there}
 
@@ -74,9 +74,13 @@ module _ (g : Graph) (n : ℕ) (env : Env) (source credit : ℕ) where
   abbrev pub whole : Piece
   whole = record { ins = inputs; outs = results; own = owned; Idle = Idle-load }
 
+  -- What is said of values of names, said of the values of the inputs.
+  abbrev pub from-inputs : (Values → ℕ → Answer → Type 0) → Means
+  from-inputs M vs c a = M (bound (listed (free g)) vs no-values) c a
+
   -- What the graph means: what it yields with these values of its names.
   abbrev pub yields : Means
-  yields vs c a = Yields g (bound (listed (free g)) vs no-values) c a
+  yields = from-inputs (Yields g)
 
   pub whole-neat : Neat whole
   whole-neat =
@@ -322,9 +326,10 @@ module _ (g : Graph) (n : ℕ) (env : Env) (source credit : ℕ) where
                 go (no e) (no c) (yes i) = τ-here b l i no-out ∙ sym (plain l e c)
                 go (no e) (no c) (no i) = τ-there b l i ∙ cl l (in-region l e c) ∙ sym (plain l e c ∙ rest-empty l i no-out)
 
-    -- The whole graph has the schedule lemma as the pieces state it.
-    pub whole-serves : (net : Net) → Has net (operatorsOf g n env) → Unused (net .at) source → Unused (net .at) credit → Pieces.Serves net whole yields
-    whole-serves net H Us Uc vs c a y σ I = go a (serves net g ft n env E fits H (ρ vs σ I) c a y (s₀ vs σ I) (before vs σ I))
+    -- The whole graph has the schedule lemma as the pieces state it, for every meaning with which its layout has it.
+    pub whole-serves : (net : Net) (M : Values → ℕ → Answer → Type 0) → Serves net plan M → Unused (net .at) source → Unused (net .at) credit →
+        Pieces.Serves net whole (from-inputs M)
+    whole-serves net M S Us Uc vs c a y σ I = go a (S (ρ vs σ I) c a y (s₀ vs σ I) (before vs σ I))
       where
         go : (a : Answer) → Leads net plan (s₀ vs σ I) c a → Pieces.Leads net (Region whole) (load inputs vs ++ σ) results Idle-load c a
         go none L = λ b cl.

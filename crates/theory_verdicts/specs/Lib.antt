@@ -1,9 +1,11 @@
 pub mod Admitting
 pub mod Results
 pub mod Owed
+pub mod CutOwed
 pub mod Running
 pub mod RunningLaws
 pub mod RunLaws
 pub mod Verdicts
 pub mod ResultSets
 pub mod LesserRuns
+pub mod BehindEndless

@@ -63,7 +63,7 @@ length-fits [] (y ∷ ys) e = absurd (omega arith)
 length-fits (x ∷ xs) [] e = absurd (omega arith)
 length-fits (x ∷ xs) (y ∷ ys) e = length-fits xs ys (omega arith)
 
-some-present : (vs : List Value) → some-of vs ≡ present vs
+pub some-present : (vs : List Value) → some-of vs ≡ present vs
 some-present [] = refl
 some-present (v ∷ vs) = ap {B = List (Option Value)} (λ r. some v ∷ r) (some-present vs)
 
@@ -164,7 +164,7 @@ module _ (x : Exp) (h : AdmittedE x) where
       omega (arith, sizeFrom-mono (suc k) 32 (freeE x) l, trigger-rank)
 
   module _ (v : List Value) (fits : Fits (pieceOf .ins) v) where
-    abbrev ρ : Values
+    abbrev pub ρ : Values
     ρ = bound (listed (free (graphE x))) (some-of v) no-values
 
     long : length v ≡ length (inputsOf x) + bit (freeE x trigger)
@@ -181,7 +181,7 @@ module _ (x : Exp) (h : AdmittedE x) where
         ∙ ap (λ (j : ℕ). getD (present v) j none) (same-rank k)
         ∙ present-at v (sizeFrom k (freeE x)) i
 
-    held : Holds (freeE x) (inputsHold (freeE x) (take (length (inputsOf x)) v)) ρ
+    pub held : Holds (freeE x) (inputsHold (freeE x) (take (length (inputsOf x)) v)) ρ
     unfolding inputsHold below
     held = (
       λ k l e.

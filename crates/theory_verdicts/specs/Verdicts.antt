@@ -20,17 +20,18 @@ use Rattle.network.specs.Net.{Token, val, Demand, fire, Links, Able}
 use Rattle.network.specs.Ends.{take-demand, capacities-one}
 use Rattle.theory_pieces.specs.Load.{put}
 use Rattle.theory_pieces.specs.Sets.{tokens-of, onto}
-use Rattle.theory_pieces.specs.Demand3.{each-tokens}
 use Rattle.theory_pieces.specs.Made.{Ending}
 use Rattle.theory_pieces.specs.Tape.{Step, taking, sets-of, takes-of, Accepted, after, results-of, Sized}
-use Rattle.theory_pieces.specs.Calls.{first-half, second-half, ended-when-quiet, untaken-from-start, push-when-quiet}
+use Rattle.theory_pieces.specs.Calls.{second-half, ended-when-quiet, untaken-from-start, push-when-quiet}
+use Rattle.theory_pieces.specs.Alone.{alone}
 use Rattle.graph.specs.Translation.{madeOf}
 use Rattle.theory_wiring.specs.Machine.{netOf}
 use Rattle.theory_wiring.specs.FormulaCounts.{made-operators, made-links-bound}
 use Rattle.theory_wiring.specs.MadeGraph.{pushLinks}
 use Rattle.theory_verdicts.specs.Admitting.{accepted-admitted, accepted-operators}
-use Rattle.theory_verdicts.specs.Results.{resultOf, EndsWith, EachEnds, one-result}
+use Rattle.theory_verdicts.specs.Results.{resultOf, EndsWith, EachEnds}
 use Rattle.theory_verdicts.specs.Owed.{pushNumber, takeNumber, sourceLink, creditLink, pieceOf, meansOf, evaluation, result-width, results-are, inputs-are, input-count, owed, source-is-apart, credit-is-apart}
+use Rattle.theory_verdicts.specs.CutOwed.{cut-owed}
 use Rattle.theory_verdicts.specs.Running.{places, operatorAt, withTrigger, pushOf, takeOf, startOf, decAble, Call, fires, takes, afterSteps, handed, accept, stepsOf, history, standing, pushed, taken, OwnVerdicts}
 use Rattle.theory_verdicts.specs.RunningLaws.{Made-in-turn, calls-made, Whole-sets, calls-whole, triggering, triggered-sets, steps-accepted, steps-after, steps-handed, steps-sets, steps-takes, handed-count, trigger-off, Each-whole, sets-whole, first-whole, first-triggered, sets-sized}
 
@@ -93,31 +94,12 @@ module _ (x : Exp) (h : AdmittedE x) (few : countE x .operators ≤ 1024) (capac
       ap (λ (m : ℕ). resultOf x (take m (withTrigger (madeOf x .triggered) v)) rounds) (sym (e ∙ made-inputs))
       ∙ ap (λ (u : List Value). resultOf x u rounds) (trigger-off x capacity (madeOf x .triggered) v)
 
-  ending : (vss rss : List (List Value)) → Each-whole x capacity vss → EachEnds x vss rss
-      → Ending (netOf (madeOf x .operators)) pushNumber takeNumber sourceLink creditLink (pieceOf x h) (meansOf x h) (evaluation x h) (triggered-sets x capacity vss) rss
-  ending [] [] a e = tt
-  ending [] (r ∷ rss) a e = e
-  ending (v ∷ vss) [] a e = e
-  ending (v ∷ vss) (r ∷ rss) a e =
-      (sets-sized x capacity (pieceOf x h .ins) ports (v ∷ []) (a .0, tt) .0, (e .0 .0, triggered-result v (a .0) (e .0 .0) ∙ e .0 .1), ending vss rss (a .1) (e .1))
-
   ended : (vss rss : List (List Value)) → Each-whole x capacity vss
       → Ending (netOf (madeOf x .operators)) pushNumber takeNumber sourceLink creditLink (pieceOf x h) (meansOf x h) (evaluation x h) (triggered-sets x capacity vss) rss → EachEnds x vss rss
   ended [] [] a e = tt
   ended [] (r ∷ rss) a e = e
   ended (v ∷ vss) [] a e = e
   ended (v ∷ vss) (r ∷ rss) a e = ((e .1 .0, sym (triggered-result v (a .0) (e .1 .0)) ∙ e .1 .1), ended vss rss (a .1) (e .2))
-
-  first-results : (w : List Step) → Made-in-turn x capacity w (startOf x) → Whole-sets x capacity w → (k : ℕ) → k ≤ length (handed x w (startOf x)) → (rss : List (List Value))
-      → EachEnds x (take k (sets-of w)) rss → take k (handed x w (startOf x)) ≡ each-tokens rss
-  first-results w a f k l rss e =
-      ap (take k) (sym (handed-here w))
-      ∙ first-half (netOf (madeOf x .operators)) pushNumber takeNumber sourceLink creditLink (pieceOf x h) (meansOf x h) (evaluation x h) (owed x h few) (places capacity) roomy
-      (source-is-apart x h few (places capacity)) (credit-is-apart x h few (places capacity)) (map (triggering x capacity) w) (sized-here w f) (accepted-here w a) k
-      (omega (arith, l, handed-count x capacity w (startOf x), steps-takes x capacity w)) rss
-      (subst (λ (vss : List (List Value)). Ending (netOf (madeOf x .operators)) pushNumber takeNumber sourceLink creditLink (pieceOf x h) (meansOf x h) (evaluation x h) vss rss)
-      (sym (ap (take k) (steps-sets x capacity w) ∙ first-triggered x capacity k (sets-of w)))
-      (ending (take k (sets-of w)) rss (first-whole x capacity k (sets-of w) (sets-whole x capacity w f)) e))
 
   length-triggered : (vss : List (List Value)) → length (triggered-sets x capacity vss) ≡ length vss
   length-triggered [] = refl
@@ -138,6 +120,28 @@ module _ (x : Exp) (h : AdmittedE x) (few : countE x .operators ≤ 1024) (capac
         untaken-from-start (netOf (madeOf x .operators)) pushNumber takeNumber sourceLink creditLink (pieceOf x h) (meansOf x h) (evaluation x h) (owed x h few) (places capacity) roomy
             (source-is-apart x h few (places capacity)) (credit-is-apart x h few (places capacity)) (map (triggering x capacity) w) (accepted-here w a),
       )
+
+  -- The k-th set, pushed with the trigger's value behind it.
+  triggered-at : (vss : List (List Value)) (k : ℕ) → k < length vss → getD (triggered-sets x capacity vss) k [] ≡ withTrigger (madeOf x .triggered) (getD vss k [])
+  triggered-at [] k l = absurd (omega arith)
+  triggered-at (v ∷ vss) zero l = refl
+  triggered-at (v ∷ vss) (suc k) l = triggered-at vss k (omega arith)
+
+  whole-at : (vss : List (List Value)) → Each-whole x capacity vss → (k : ℕ) → k < length vss → length (getD vss k []) ≡ madeOf x .inputs
+  whole-at [] a k l = absurd (omega arith)
+  whole-at (v ∷ vss) a zero l = a .0
+  whole-at (v ∷ vss) a (suc k) l = whole-at vss (a .1) k (omega arith)
+
+  alone-result : (w : List Step) → Made-in-turn x capacity w (startOf x) → Whole-sets x capacity w → (k : ℕ) → k < length (handed x w (startOf x))
+      → (r : List Value) → EndsWith x (getD (sets-of w) k []) r → getD (handed x w (startOf x)) k [] ≡ tokens-of r
+  alone-result w a f k l r (rounds, e) =
+      let inside : k < length (sets-of w) = omega (arith, untaken-here w a) in
+      ap (λ (z : List (List Token)). getD z k []) (sym (handed-here w))
+      ∙ alone (netOf (madeOf x .operators)) pushNumber takeNumber sourceLink creditLink (pieceOf x h) (meansOf x h) (evaluation x h) (owed x h few) (places capacity) roomy
+      (source-is-apart x h few (places capacity)) (credit-is-apart x h few (places capacity)) (cut-owed x h few) (map (triggering x capacity) w) (sized-here w f) (accepted-here w a) k
+      (omega (arith, l, handed-count x capacity w (startOf x), steps-takes x capacity w)) rounds r
+      (ap (λ (vss : List (List Value)). evaluation x h rounds (getD vss k [])) (steps-sets x capacity w) ∙ ap (evaluation x h rounds) (triggered-at (sets-of w) k inside)
+      ∙ triggered-result (getD (sets-of w) k []) (whole-at (sets-of w) (sets-whole x capacity w f) k inside) rounds ∙ e)
 
   quiet-ready : (w : List Step) → Made-in-turn x capacity w (startOf x) → Whole-sets x capacity w
       → ((a : ℕ) → Able (places capacity) (operatorAt x a) (afterSteps x w (startOf x)) → ⊥)
@@ -190,32 +194,11 @@ module _ (x : Exp) (h : AdmittedE x) (few : countE x .operators ≤ 1024) (capac
 
 -- ---- results one by one
 
-abbrev Some-end : Exp → List Value → Type 0
-Some-end x v = (r : List Value) × EndsWith x v r
-
-gathered : (x : Exp) (k : ℕ) (vss : List (List Value)) → k ≤ length vss → ((j : ℕ) → j < k → Some-end x (getD vss j [])) → (rss : List (List Value)) × EachEnds x (take k vss) rss
-gathered x zero vss l f = ([], tt)
-gathered x (suc k) [] l f = absurd (omega arith)
-gathered x (suc k) (v ∷ vss) l f =
-    let first = f 0 (omega arith) in
-    let rest = gathered x k vss (omega arith) (λ j i. f (suc j) (omega arith)) in
-    (first .0 ∷ rest .0, (first .1, rest .1))
-
 ends-at : (x : Exp) (k : ℕ) (vss rss : List (List Value)) → suc k ≤ length vss → EachEnds x (take (suc k) vss) rss → EndsWith x (getD vss k []) (getD rss k [])
 ends-at x k [] rss l e = absurd (omega arith)
 ends-at x k (v ∷ vss) [] l e = absurd e
 ends-at x zero (v ∷ vss) (r ∷ rss) l e = e .0
 ends-at x (suc k) (v ∷ vss) (r ∷ rss) l e = ends-at x k vss rss (omega arith) (e .1)
-
-tokens-at : (k : ℕ) (tss : List (List Token)) (rss : List (List Value)) → suc k ≤ length tss → take (suc k) tss ≡ each-tokens rss → getD tss k [] ≡ tokens-of (getD rss k [])
-tokens-at k [] rss l e = absurd (omega arith)
-tokens-at k (t ∷ tss) [] l e = let z : suc (length (take k tss)) ≡ 0 = ap length e in absurd (omega arith)
-tokens-at zero (t ∷ tss) (r ∷ rss) l e = ap (λ (z : List (List Token)). getD z 0 []) e
-tokens-at (suc k) (t ∷ tss) (r ∷ rss) l e = tokens-at k tss rss (omega arith) (ap (λ (z : List (List Token)). rest z) e)
-  where
-    rest : List (List Token) → List (List Token)
-    rest [] = []
-    rest (y ∷ ys) = ys
 
 -- ---- demand 3
 
@@ -235,11 +218,6 @@ module _ (s : List ℕ) (accepted : Admissible s) (capacity : ℕ) (room : 1 ≤
   sets : Whole-sets x capacity (history x capacity calls)
   sets = calls-whole x capacity calls (startOf x)
 
-  -- The first k results taken are what direct evaluation yields for the first k sets pushed, if it ends for each of them.
-  pub first-verdicts : (k : ℕ) → k ≤ length (taken (formulaOf s) capacity calls) → (rss : List (List Value))
-      → EachEnds (formulaOf s) (take k (pushed (formulaOf s) capacity calls)) rss → take k (taken (formulaOf s) capacity calls) ≡ each-tokens rss
-  first-verdicts k l rss e = first-results x admitted few capacity room (history x capacity calls) made sets k l rss e
-
   -- The credit link counts the sets pushed and not taken.
   pub untaken-counted : length (taken (formulaOf s) capacity calls) + length (standing (formulaOf s) capacity calls creditLink) ≡ length (pushed (formulaOf s) capacity calls)
   untaken-counted = untaken-here x admitted few capacity room (history x capacity calls) made
@@ -247,13 +225,10 @@ module _ (s : List ℕ) (accepted : Admissible s) (capacity : ℕ) (room : 1 ≤
   were-pushed : length (taken x capacity calls) ≤ length (pushed x capacity calls)
   were-pushed = omega (arith, untaken-counted)
 
-  own-verdict : (k : ℕ) → k < length (taken x capacity calls) → ((j : ℕ) → j ≤ k → (r : List Value) × EndsWith x (getD (pushed x capacity calls) j []) r)
-      → (r : List Value) → EndsWith x (getD (pushed x capacity calls) k []) r → getD (taken x capacity calls) k [] ≡ tokens-of r
-  own-verdict k l ends r e =
-      let many : suc k ≤ length (pushed x capacity calls) = omega (arith, were-pushed) in
-      let g = gathered x (suc k) (pushed x capacity calls) many (λ j i. ends j (omega arith)) in
-      tokens-at k (taken x capacity calls) (g .0) l (first-verdicts (suc k) l (g .0) (g .1))
-      ∙ ap tokens-of (one-result x (getD (pushed x capacity calls) k []) (getD (g .0) k []) r (ends-at x k (pushed x capacity calls) (g .0) many (g .1)) e)
+  -- The k-th result taken is what direct evaluation yields for the k-th set, if it ends, whatever the sets before it do.
+  pub alone-verdict : (k : ℕ) → k < length (taken (formulaOf s) capacity calls) → (r : List Value)
+      → EndsWith (formulaOf s) (getD (pushed (formulaOf s) capacity calls) k []) r → getD (taken (formulaOf s) capacity calls) k [] ≡ tokens-of r
+  alone-verdict k l r e = alone-result x admitted few capacity room (history x capacity calls) made sets k l r e
 
   none-able : ((a : ℕ) → stepsOf x capacity (fires a) (standing x capacity calls) ≡ []) → (a : ℕ) → Able (places capacity) (operatorAt x a) (standing x capacity calls) → ⊥
   unfolding stepsOf
@@ -288,7 +263,7 @@ module _ (s : List ℕ) (accepted : Admissible s) (capacity : ℕ) (room : 1 ≤
 pub demand-3 : (s : List ℕ) → Admissible s → (capacity : ℕ) → 1 ≤ capacity → capacity ≤ 16 → (calls : List Call) → OwnVerdicts (formulaOf s) capacity calls
 demand-3 s accepted capacity room most calls =
     record {
-      own = own-verdict s accepted capacity room calls;
+      own = λ k l ends r e. alone-verdict s accepted capacity room calls k l r e;
       none-invented = were-pushed s accepted capacity room calls;
       ready = ready-when-quiet s accepted capacity room calls;
     }

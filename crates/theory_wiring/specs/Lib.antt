@@ -5,6 +5,7 @@ pub mod Wiring
 pub mod Ports
 pub mod PortedGraphs
 pub mod Machine
+pub mod Twins
 pub mod AtRest
 pub mod Counts
 pub mod RowCounts
@@ -12,5 +13,5 @@ pub mod ChoiceCounts
 pub mod JoinCounts
 pub mod FormulaCounts
 pub mod MadeGraph
+pub mod MadeTwins
 pub mod LesserOfTwo
-pub mod SmallestLoop

@@ -10,10 +10,9 @@ use mathlib.Core.Option.{Option, some}
 use lib.ListN.{length}
 use native.Mathlib.Omega.{arith}
 use Rattle.network.specs.Rules.{Input, first as input₁, second as input₂, third as input₃}
-use Rattle.network.specs.Net.{Token, Demand, ask, halt}
+use Rattle.network.specs.Net.{Demand, halt}
 use Rattle.network.specs.Fill.{input}
 use Rattle.network.specs.Commute.{Free, Never-emits}
-use Rattle.network.specs.Poisoned.{plain, twinned}
 use Rattle.network.specs.Wired.{Uses, never-asks, never-emits}
 use Rattle.network.specs.Ends.{machine}
 use Rattle.network.specs.Uses.{In, Takes-from, Puts-onto, fill-uses}
@@ -21,12 +20,13 @@ use Rattle.theory_pieces.specs.Rows.{in-front, in-back}
 use Rattle.theory_pieces.specs.Sets.{Bench}
 use Rattle.theory_pieces.specs.Wiring.{Wiring, wiring-free}
 use Rattle.graph.specs.Assembly.{Graph, free, Env, Operator, linksOf, outputs, operatorsOf}
+use Rattle.graph.specs.Yields.{Yields}
 use Rattle.graph.specs.Fit.{Fit}
 use Rattle.theory_reference.specs.Plan.{Between, Envs}
 use Rattle.theory_reference.specs.Plugged.{nowhere, registers, link-of, portsOf, demandOf, Each, Numbered, Has, numbered-has}
 use Rattle.theory_pieces.specs.Goes.{any-list}
 use Rattle.theory_reference.specs.Bystanders.{Unused}
-use Rattle.theory_reference.specs.TwinNets.{Tested, tested-twinned}
+use Rattle.theory_reference.specs.Schedule.{serves}
 use Rattle.theory_reference.specs.WholeGraph.{whole, yields, Idle-load}
 use Rattle.theory_reference.specs.GraphBench.{ends-apart, fresh, fresh-is-idle, graph-bench}
 use Rattle.theory_wiring.specs.Links.{optional, inputLinks, outputLinks}
@@ -242,14 +242,9 @@ module _ (g : Graph) (n : ℕ) (env : Env) (fit : Fit g) (E : Envs (free g) env 
         emits = λ i. never-emits (TakesAt ops i) (PutsAt ops i) (netOf ops i) (net-uses ops i) l (puts-no-spare i l s);
       }
 
-  -- Where one operator puts, no other does; so three operators that hand on a test are tested in the net with twins.
+  -- Where one operator puts, no other does.
   pub puts-alone : (i l : ℕ) → PutsAt ops i l → (e : ℕ) → i ≢ e → Never-emits (netOf ops e) l
   puts-alone i l s e ne = never-emits (TakesAt ops e) (PutsAt ops e) (netOf ops e) (net-uses ops e) l (λ t. ne (one-putter i e l s t))
-
-  pub tested-at : (T a b c l₁ l₂ it : ℕ) (j k : Token → Demand) → PutsAt ops a l₁ → PutsAt ops b l₂ → PutsAt ops c it → netOf ops b ≡ ask l₁ j → netOf ops c ≡ ask l₂ k →
-      Tested (twinned (netOf ops) T) (plain (netOf ops) T) a b c l₁ l₂ it
-  tested-at T a b c l₁ l₂ it j k p q r s t =
-      tested-twinned (netOf ops) T a b c l₁ l₂ it j k (puts-alone a l₁ p) (puts-alone b l₂ q) (puts-alone c it r) s t
 
   -- Push and take beside the graph: they have numbers past the last operator, the inputs are links below the graph's own, the results its outputs.
   pub record Ends (push take source credit : ℕ) (ins : List ℕ) : Type 0 where
@@ -304,7 +299,8 @@ module _ (g : Graph) (n : ℕ) (env : Env) (fit : Fit g) (E : Envs (free g) env 
     pub bench : Bench (netOf ops) push take source credit (whole g n env source credit) (yields g n env source credit)
     bench =
         graph-bench g fit n env E room source credit
-        (ends-apart g fit n env E room source credit (H .spare-source) (H .spare-credit) (H .source-not-credit)) (netOf ops) push take (net-has ops)
+        (ends-apart g fit n env E room source credit (H .spare-source) (H .spare-credit) (H .source-not-credit)) (any-list (netOf ops)) push take (Yields g)
+        (serves (any-list (netOf ops)) g fit n env E room (net-has ops))
         (spare-unused source (H .spare-source)) (spare-unused credit (H .spare-credit)) (net-past ops push (H .push-past)) (net-past ops take (H .take-past))
         (H .push-not-take)
 

@@ -230,7 +230,7 @@ module _ (x : Exp) (h : AdmittedE x) where
           let w = in-links (listed (free (graphE x))) (portOf x) l i in
           subst (λ k. k < n) (sym (w .2)) (E .below (w .0) (listed-only (free (graphE x)) (w .0) (w .1)))
 
-      made-ends : Ends (graphE x) n (portOf x) (fit-E x h) E room push take source credit ins
+      pub made-ends : Ends (graphE x) n (portOf x) (fit-E x h) E room push take source credit ins
       unfolding madeOf
       made-ends =
           record {

@@ -22,4 +22,4 @@ pub mod TreeMeets
 pub mod Agreement
 pub mod Examples
 pub mod Cuts
-pub mod FirstTests
+pub mod CutGraphs
