@@ -403,7 +403,7 @@ fn link_ok(mem: &[u8], size: usize, l: usize) -> bool
     requires { ⌜ (leastSize ≤ size) × (size ≤ mostSize) × (need size ≤ length (now mem)) × (l < mostLinks) ⌝ }
     ensures { λ r. ⌜ r ≡ linkOk (now (mem .entry)) size l ⌝ }
 {
-    let a = machine_layout::link_at(size, l);
+    let a = machine_layout::link_from(machine_layout::LINKS_AT, size, l);
     let e = a + size;
     stretch_ok(&mem[a..e])
 }

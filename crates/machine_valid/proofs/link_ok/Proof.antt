@@ -4,17 +4,17 @@ use Rattle.machine_valid.proofs.link_ok.Statement.{statement}
 use Rattle.machine_valid.proofs.link_ok.Tie as tie
 use Rattle.machine_valid.proofs.link_ok.Reads as reads
 use Rattle.machine_valid.proofs.link_ok.Lts as lts
-use Rattle.machine_layout.proofs.link_at.Reads as link-at-reads
+use Rattle.machine_layout.proofs.link_from.Reads as link-from-reads
 use Rattle.machine_valid.proofs.stretch_ok.Reads as stretch-ok-reads
 use mathlib.Core.Path.{_≡_, sym, _∙_, refl, ap}
 use Prim.Native.Nat.{ℕ, _+_, _-_, _*_, _≤_, _<_}
 use Rattle.machine_valid.specs.Valid.{unlike, unlikeAt, freshAt, resultOk, inputOk, portOk, namedOk, registerOk, kindOk, operatorOk, tokenOk, stretchOk, linkOk, figuresOk, valid}
 
--- src/lib.rt:406:9  { ⏎ let a = machine_layout::link_at(size, l);
-link-at-requires : tie.Need-link-at-requires
-link-at-requires c κs = search needs
+-- src/lib.rt:406:9  { ⏎ let a = machine_layout::link_from(machine_layout::LINKS_AT, size, l);
+link-from-requires : tie.Need-link-from-requires
+link-from-requires c κs = search needs
 
--- src/lib.rt:407:13  let a = machine_layout::link_at(size, l); ⏎ let e = a + size;
+-- src/lib.rt:407:13  let a = machine_layout::link_from(machine_layout::LINKS_AT, size, l); ⏎ let e = a + size;
 add-e : tie.Need-add-e
 add-e c = search needs
 
@@ -37,13 +37,13 @@ stretch-ok-requires c κs = search needs
 -- src/lib.rt:402:1  } ⏎ fn link_ok(mem: &[u8], size: usize, l: usize) -> bool
 returns : tie.Need-returns
 unfolding linkOk
-returns c = let k : c .before .before .link-at .result + c .before .before .before .before .args .size - c .before .before .link-at .result ≡ c .before .before .before .before .args .size = omega arith in (rw (k, c .before .before .link-at .ensures .0) at (c .stretch-ok .ensures))
+returns c = let k : c .before .before .link-from .result + c .before .before .before .before .args .size - c .before .before .link-from .result ≡ c .before .before .before .before .args .size = omega arith in (rw (k, c .before .before .link-from .ensures .0) at (c .stretch-ok .ensures))
 
 pub link-ok-spec : {M : Type 1} → statement M
 link-ok-spec =
     tie.close
     (tie.spec
-    link-at-requires
+    link-from-requires
     add-e
     sub-stretch-ok
     part-stretch-ok-start
