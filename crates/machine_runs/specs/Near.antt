@@ -16,8 +16,8 @@ use Rattle.value.specs.Bytes.{wordAt, decoded, valueOf}
 use Rattle.machine_queue.specs.Stretch.{waiting, headOf, roomIn}
 use Rattle.machine_gates.specs.Decide.{isAbsent}
 use Rattle.machine_layout.specs.Layout.{need, number16, noLink, nameAt, operatorAt, portOf, registerAt}
-use Rattle.machine_firing.specs.Links.{headAt, tokenAt, roomAt}
-use Rattle.machine_firing.specs.Fire.{Plan, taken, given, planned, registerOf, decisionAt, planAt, readyFor, performed, ableAt, firedAt}
+use Rattle.machine_firing.specs.Links.{headFrom, tokenAt, tokenFrom, roomAt, roomFrom}
+use Rattle.machine_firing.specs.Fire.{Plan, taken, given, planned, registerOf, decisionAt, decisionFrom, planAt, planFrom, readyFor, readyFrom, performed, ableAt, ableFrom, firedAt, firedFrom}
 use Rattle.machine_firing.specs.LinkLaws.{linkPart}
 use Rattle.machine_runs.specs.Performed.{Among, Single, low-performed, other-register, head-performed, room-performed}
 
@@ -32,16 +32,16 @@ Once m i a e l = (k k′ : ℕ) → a ≤ k → k < k′ → k′ < e → l ≡ 
 
 module _ (m n : List ℕ) (size l : ℕ) where
   token-same : l < 3105 → headOf (linkPart n size l) ≡ headOf (linkPart m size l) → tokenAt n size l ≡ tokenAt m size l
-  unfolding tokenAt headAt
+  unfolding tokenFrom headFrom
   token-same lt e = rw (lt-ltb l 3105 lt, e) refl
 
   room-same : l < 3105 → roomIn (linkPart n size l) ≡ roomIn (linkPart m size l) → roomAt n size l ≡ roomAt m size l
-  unfolding roomAt
+  unfolding roomFrom
   room-same lt e = rw (lt-ltb l 3105 lt, e) refl
 
   -- where there is no link, nothing waits and there is always room
   token-anywhere : (l < 3105 → tokenAt n size l ≡ tokenAt m size l) → tokenAt n size l ≡ tokenAt m size l
-  unfolding tokenAt headAt
+  unfolding tokenFrom headFrom
   token-anywhere e = go (decLt l 3105)
     where
       go : Dec (l < 3105) → tokenAt n size l ≡ tokenAt m size l
@@ -49,7 +49,7 @@ module _ (m n : List ℕ) (size l : ℕ) where
       go (no ge) = rw (le-ltb l 3105 (omega arith)) refl
 
   room-anywhere : (l < 3105 → roomAt n size l ≡ roomAt m size l) → roomAt n size l ≡ roomAt m size l
-  unfolding roomAt
+  unfolding roomFrom
   room-anywhere e = go (decLt l 3105)
     where
       go : Dec (l < 3105) → roomAt n size l ≡ roomAt m size l
@@ -77,27 +77,27 @@ module _ (m : List ℕ) (size : ℕ) (h : need size ≤ length m) (i : ℕ) (sma
 
   module _ (l : ℕ) (lt : l < 3105) where
     in1 : l ≡ plan .in1 → l ≡ name m i 0
-    unfolding planAt planned
+    unfolding planFrom planned
     in1 = is-taken (decisionAt m size i .take1) (name m i 0) l lt
 
     in2 : l ≡ plan .in2 → l ≡ name m i 1
-    unfolding planAt planned
+    unfolding planFrom planned
     in2 = is-taken (decisionAt m size i .take2) (name m i 1) l lt
 
     in3 : l ≡ plan .in3 → l ≡ name m i 2
-    unfolding planAt planned
+    unfolding planFrom planned
     in3 = is-taken (decisionAt m size i .take3) (name m i 2) l lt
 
     out1 : l ≡ plan .out1 → l ≡ name m i 3
-    unfolding planAt planned
+    unfolding planFrom planned
     out1 = is-given (decisionAt m size i .give1) (name m i 3) l lt
 
     out2 : l ≡ plan .out2 → l ≡ name m i 4
-    unfolding planAt planned
+    unfolding planFrom planned
     out2 = is-given (decisionAt m size i .give2) (name m i 4) l lt
 
     out3 : l ≡ plan .out3 → l ≡ name m i 5
-    unfolding planAt planned
+    unfolding planFrom planned
     out3 = is-given (decisionAt m size i .give3) (name m i 5) l lt
 
     input : (P : Type 0) → ((k : ℕ) → k < 3 → l ≡ name m i k → P) → Among l (plan .in1) (plan .in2) (plan .in3) → P
@@ -127,7 +127,7 @@ module _ (m : List ℕ) (size : ℕ) (h : need size ≤ length m) (i : ℕ) (sma
     -- THE FIRST TOKEN STAYS on a link that i does not take from: what i gives goes behind one that waits, and where none did, one waits afterwards.
     pub head-kept : ((k : ℕ) → k < 3 → l ≢ name m i k) → Once m i 3 6 l →
         ((k : ℕ) → 3 ≤ k → k < 6 → l ≡ name m i k → waiting (linkPart (firedAt m size i) size l) ≢ 1) → tokenAt (firedAt m size i) size l ≡ tokenAt m size l
-    unfolding firedAt
+    unfolding firedFrom
     head-kept ins once = go (ableAt m size i)
       where
         go : (b : Bool) → ((k : ℕ) → 3 ≤ k → k < 6 → l ≡ name m i k → waiting (linkPart (pick b (performed m size i plan) m) size l) ≢ 1) →
@@ -140,7 +140,7 @@ module _ (m : List ℕ) (size : ℕ) (h : need size ≤ length m) (i : ℕ) (sma
     -- WHETHER THERE IS ROOM STAYS on a link that i gives nothing to: where two places are free after i took a token, one was free before.
     pub room-kept : ((k : ℕ) → 3 ≤ k → k < 6 → l ≢ name m i k) → Once m i 0 3 l →
         ((k : ℕ) → k < 3 → l ≡ name m i k → 5 * waiting (linkPart (firedAt m size i) size l) + 11 ≤ size) → roomAt (firedAt m size i) size l ≡ roomAt m size l
-    unfolding firedAt
+    unfolding firedFrom
     room-kept outs once = go (ableAt m size i)
       where
         go : (b : Bool) → ((k : ℕ) → k < 3 → l ≡ name m i k → 5 * waiting (linkPart (pick b (performed m size i plan) m) size l) + 11 ≤ size) →
@@ -153,7 +153,7 @@ module _ (m : List ℕ) (size : ℕ) (h : need size ≤ length m) (i : ℕ) (sma
   -- ---- the bytes below the registers after a firing
 
   pub static-fired : (at : ℕ) → at < 16640 → getD (firedAt m size i) at 0 ≡ getD m at 0
-  unfolding firedAt
+  unfolding firedFrom
   static-fired at k = go (ableAt m size i)
     where
       go : (b : Bool) → getD (pick b (performed m size i plan) m) at 0 ≡ getD m at 0
@@ -168,7 +168,7 @@ module _ (m : List ℕ) (size : ℕ) (h : need size ≤ length m) (i : ℕ) (sma
 
   module _ (j : ℕ) (jl : j < 1024) (ne : j ≢ i) where
     register-fired : registerOf (firedAt m size i) j ≡ registerOf m j
-    unfolding firedAt registerOf
+    unfolding firedFrom registerOf
     register-fired = go (ableAt m size i)
       where
         go : (b : Bool) → decoded (valueOf (wordAt (pick b (performed m size i plan) m) (registerAt j))) ≡ decoded (valueOf (wordAt m (registerAt j)))
@@ -184,11 +184,11 @@ module _ (m : List ℕ) (size : ℕ) (h : need size ≤ length m) (i : ℕ) (sma
       token k kl = ap (tokenAt m′ size) (port-fired j k jl (omega arith)) ∙ token-anywhere m m′ size (name m j k) (heads k kl)
 
       decision-same : decisionAt m′ size j ≡ decisionAt m size j
-      unfolding decisionAt
+      unfolding decisionFrom
       decision-same = rw (static-fired (operatorAt j) (omega arith), token 0 (omega arith), token 1 (omega arith), token 2 (omega arith), register-fired) refl
 
       plan-same : planAt m′ size j ≡ planAt m size j
-      unfolding planAt planned
+      unfolding planFrom planned
       plan-same =
           rw (decision-same, port-fired j 0 jl (omega arith), port-fired j 1 jl (omega arith), port-fired j 2 jl (omega arith), port-fired j 3 jl (omega arith), port-fired j 4 jl (omega arith), port-fired j 5 jl (omega arith)) refl
 
@@ -198,11 +198,11 @@ module _ (m : List ℕ) (size : ℕ) (h : need size ≤ length m) (i : ℕ) (sma
           (λ lt. let e = is-given t (name m j k) (given t (name m j k)) lt refl in rw e (rooms k lo hi (rw e at lt)))
 
       ready-same : readyFor m′ size (planAt m size j) ≡ readyFor m size (planAt m size j)
-      unfolding readyFor planAt planned
+      unfolding readyFrom planFrom planned
       ready-same =
           rw (room 3 (decisionAt m size j .give1) (omega arith) (omega arith), room 4 (decisionAt m size j .give2) (omega arith) (omega arith), room 5 (decisionAt m size j .give3) (omega arith) (omega arith)) refl
 
       -- AS ABLE AS BEFORE: an operator that did not fire, where its inputs' first tokens and its outputs' room are the same.
       pub able-kept : ableAt m′ size j ≡ ableAt m size j
-      unfolding ableAt
+      unfolding ableFrom
       able-kept = ap (readyFor m′ size) plan-same ∙ ready-same

@@ -12,11 +12,11 @@ use Rattle.value.specs.Bytes.{wordAt, stored}
 use Rattle.value.proofs.Words.{word-stored}
 use Rattle.machine_queue.specs.Stretch.{waiting, removed, appended, headOf, roomIn}
 use Rattle.machine_queue.specs.StretchLaws.{appended-head, removed-room}
-use Rattle.machine_layout.specs.Layout.{need, registerAt, linkAt}
+use Rattle.machine_layout.specs.Layout.{linksAt, need, registerAt, linkAt}
 use Rattle.machine_layout.specs.Fits.{stretch-fits}
 use Rattle.machine_firing.specs.Parts.{part-length}
-use Rattle.machine_firing.specs.Links.{onLink, removedAt, appendedAt}
-use Rattle.machine_firing.specs.Fire.{Plan, performed}
+use Rattle.machine_firing.specs.Links.{onLink, removedFrom, appendedFrom}
+use Rattle.machine_firing.specs.Fire.{Plan, performed, performedFrom}
 use Rattle.machine_firing.specs.LinkLaws.{linkPart, Keeps, length-on, low-on, same-on, other-on, part-stored, byte-kept, keeps-appended, keeps-removed}
 
 -- a link among three, and at most once among them
@@ -30,15 +30,15 @@ Single l x y z = (l ≡ x → l ≢ y) × (l ≡ x → l ≢ z) × (l ≡ y → 
 
 module _ (m : List ℕ) (size : ℕ) (h : need size ≤ length m) (x : ℕ) (f : List ℕ → List ℕ) (kf : Keeps f) where
   long-on : need size ≤ length (onLink m size x f)
-  long-on = let e = length-on m size h x f kf in omega arith
+  long-on = let e = length-on m linksAt size h x f kf in omega arith
 
   -- a link after a change of x, by whether it is x
   by-link : (l : ℕ) → l < 3105 → (P : List ℕ → Type 0) → (l ≢ x → P (linkPart m size l)) → (l ≡ x → P (f (linkPart m size l))) → P (linkPart (onLink m size x f) size l)
   by-link l lt P other same = go (ℕ-discrete l x)
     where
       go : Dec (l ≡ x) → P (linkPart (onLink m size x f) size l)
-      go (yes e) = subst (λ (y : ℕ). P (linkPart (onLink m size y f) size l)) e (subst P (sym (same-on m size h l f kf lt)) (same e))
-      go (no ne) = subst P (sym (other-on m size h x f kf l ne)) (other ne)
+      go (yes e) = subst (λ (y : ℕ). P (linkPart (onLink m size y f) size l)) e (subst P (sym (same-on m linksAt size h l f kf lt)) (same e))
+      go (no ne) = subst P (sym (other-on m linksAt size h x f kf l ne)) (other ne)
 
 module _ (step : ℕ → List ℕ → List ℕ) (keeps : (w : ℕ) → Keeps (step w)) (m : List ℕ) (size : ℕ) (h : need size ≤ length m) (x1 w1 x2 w2 x3 w3 : ℕ) where
   abbrev m1 : List ℕ
@@ -60,7 +60,7 @@ module _ (step : ℕ → List ℕ → List ℕ) (keeps : (w : ℕ) → Keeps (st
   long-thrice = long-on m2 size h2 x3 (step w3) (keeps w3)
 
   low-thrice : (at : ℕ) → at < 21760 → getD m3 at 0 ≡ getD m at 0
-  low-thrice at k = low-on m2 size h2 x3 (step w3) (keeps w3) at k ∙ low-on m1 size h1 x2 (step w2) (keeps w2) at k ∙ low-on m size h x1 (step w1) (keeps w1) at k
+  low-thrice at k = low-on m2 linksAt size h2 x3 (step w3) (keeps w3) at k ∙ low-on m1 linksAt size h1 x2 (step w2) (keeps w2) at k ∙ low-on m linksAt size h x1 (step w1) (keeps w1) at k
 
   -- a link that is changed at most once
   by-thrice : (l : ℕ) → l < 3105 → Single l x1 x2 x3 → (P : List ℕ → Type 0) → P (linkPart m size l) →
@@ -77,9 +77,9 @@ module _ (step : ℕ → List ℕ → List ℕ) (keeps : (w : ℕ) → Keeps (st
   -- one that is not changed
   off-thrice : (l : ℕ) → (Among l x1 x2 x3 → ⊥) → linkPart m3 size l ≡ linkPart m size l
   off-thrice l n =
-      other-on m2 size h2 x3 (step w3) (keeps w3) l (λ e. n (inr (inr e)))
-      ∙ other-on m1 size h1 x2 (step w2) (keeps w2) l (λ e. n (inr (inl e)))
-      ∙ other-on m size h x1 (step w1) (keeps w1) l (λ e. n (inl e))
+      other-on m2 linksAt size h2 x3 (step w3) (keeps w3) l (λ e. n (inr (inr e)))
+      ∙ other-on m1 linksAt size h1 x2 (step w2) (keeps w2) l (λ e. n (inr (inl e)))
+      ∙ other-on m linksAt size h x1 (step w1) (keeps w1) l (λ e. n (inl e))
 
 abbrev taking : ℕ → List ℕ → List ℕ
 taking w q = removed q
@@ -113,7 +113,7 @@ module _ (m : List ℕ) (size : ℕ) (h : need size ≤ length m) (i : ℕ) (sma
   long-sent = long-thrice giving keeps-appended drawn size long-drawn (p .out1) (p .word1) (p .out2) (p .word2) (p .out3) (p .word3)
 
   performed-is : performed m size i p ≡ stored sent (registerAt i) (p .register)
-  unfolding performed removedAt appendedAt
+  unfolding performedFrom removedFrom appendedFrom
   performed-is = refl
 
   -- ---- below the links
@@ -174,6 +174,6 @@ module _ (m : List ℕ) (size : ℕ) (h : need size ≤ length m) (i : ℕ) (sma
 
       less : 5 * waiting (removed (linkPart m size l)) + 11 ≤ size → roomIn (removed (linkPart m size l)) ≡ roomIn (linkPart m size l)
       less k =
-          let a = stretch-fits size l lt in
+          let a = stretch-fits linksAt size l lt in
           let e : length (linkPart m size l) ≡ size = part-length m (linkAt size l) size (omega arith) in
           removed-room (linkPart m size l) (omega arith)

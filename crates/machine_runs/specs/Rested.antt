@@ -22,9 +22,9 @@ use Rattle.machine_queue.specs.Stretch.{waiting, headOf}
 use Rattle.machine_layout.specs.Layout.{need, operatorAt, kindByte, registerAt}
 use Rattle.machine_layout.specs.Kinds.{kindOf}
 use Rattle.machine_gates.specs.Decide.{optional, heads, idle, told, ruled, decideAt}
-use Rattle.machine_firing.specs.Links.{headAt, tokenAt}
+use Rattle.machine_firing.specs.Links.{headAt, headFrom, tokenAt, tokenFrom}
 use Rattle.machine_firing.specs.LinkLaws.{linkPart}
-use Rattle.machine_firing.specs.Fire.{planned, registerOf, decisionAt, planAt, readyFor, performed, ableAt, firedAt}
+use Rattle.machine_firing.specs.Fire.{planned, registerOf, decisionAt, decisionFrom, planAt, planFrom, readyFrom, performed, ableAt, ableFrom, firedAt, firedFrom}
 use Rattle.machine_runs.specs.Performed.{own-register}
 use Rattle.machine_runs.specs.Near.{name, static-fired, port-fired}
 
@@ -150,11 +150,11 @@ module _ (m : List ℕ) (size : ℕ) (h : need size ≤ length m) (i : ℕ) (sma
   m′ = firedAt m size i
 
   decision-able : decisionAt m size i .able ≡ true
-  unfolding ableAt readyFor planAt planned
+  unfolding ableFrom readyFrom planFrom planned
   decision-able = left (decisionAt m size i .able) _ able
 
   token-ranged : (l : ℕ) → Ranged (optional (tokenAt m size l))
-  unfolding tokenAt
+  unfolding tokenFrom
   token-ranged l = word-ranged (headAt m size l)
 
   register-ranged : Ranged (optional (registerOf m i))
@@ -162,11 +162,11 @@ module _ (m : List ℕ) (size : ℕ) (h : need size ≤ length m) (i : ℕ) (sma
   register-ranged = word-ranged (wordAt m (registerAt i))
 
   register-is : planAt m size i .register ≡ wordOr (decisionAt m size i .register)
-  unfolding planAt planned
+  unfolding planFrom planned
   register-is = refl
 
   register-read : Reads (optional (decisionAt m size i .register)) (optional (registerOf m′ i))
-  unfolding firedAt registerOf
+  unfolding firedFrom registerOf
   register-read = rw able (go (decisionAt m size i .register) register-is)
     where
       go : (x : Decoded) → planAt m size i .register ≡ wordOr x → Reads (optional x) (optional (decoded (valueOf (wordAt (performed m size i (planAt m size i)) (registerAt i)))))
@@ -177,15 +177,15 @@ module _ (m : List ℕ) (size : ℕ) (h : need size ≤ length m) (i : ℕ) (sma
 
   module _ (lt : name m i 0 < 3105) (empty : waiting (linkPart m′ size (name m i 0)) ≡ 0) where
     token-none : tokenAt m′ size (name m′ i 0) ≡ Invalid
-    unfolding tokenAt headAt headOf
+    unfolding tokenFrom headFrom headOf
     token-none = rw (port-fired m size h i small i 0 small (omega arith), lt-ltb (name m i 0) 3105 lt, empty, no-value) refl
 
     decision-idle : decisionAt m′ size i ≡ idle
-    unfolding decisionAt
+    unfolding decisionFrom
     decision-idle =
         rw (token-none, static-fired m size h i small (operatorAt i) (omega arith))
         (decide-rests _ _ _ _ (token-ranged (name m i 0)) (token-ranged (name m i 1)) (token-ranged (name m i 2)) register-ranged _ _ _ (kindByte m i) decision-able register-read)
 
     pub rested : ableAt m′ size i ≡ false
-    unfolding ableAt readyFor planAt planned
+    unfolding ableFrom readyFrom planFrom planned
     rested = rw decision-idle refl

@@ -9,7 +9,7 @@ use borrow.Author.Tests.{lt-ltb, le-ltb}
 use lib.Dec.{ltb}
 use lib.ListN.{length}
 use Rattle.value.specs.Operators.{pick}
-use Rattle.machine_firing.specs.Fire.{ableAt, firedAt}
+use Rattle.machine_firing.specs.Fire.{ableAt, firedAt, firedFrom}
 use Rattle.machine_runs.specs.Run.{leastFrom, least, Ran, ran, runs, stillAt}
 
 -- nothing below i is able
@@ -71,7 +71,7 @@ unfolding runs
 runs-zero size n m c = refl
 
 pub fired-idle : (m : List ℕ) (size i : ℕ) → ableAt m size i ≡ false → firedAt m size i ≡ m
-unfolding firedAt
+unfolding firedFrom
 fired-idle m size i e = rw e refl
 
 -- what a run's loop keeps

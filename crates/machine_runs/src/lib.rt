@@ -2,6 +2,7 @@
 // operator fires, again and again. `run` makes it without looking at every operator after each
 // firing: one that was found not able is passed over until a firing may have made it able
 // (specs/Marks). Assumes that the memory is as long as a machine needs, and nothing of its contents.
+use machine_layout::LINKS_AT;
 use machine_marks::Marks;
 ghost use mathlib.Core.Path.{_≡_};
 ghost use mathlib.Core.Bool.{false};
@@ -49,7 +50,7 @@ pub fn run_plain(mem: &mut [u8], size: usize, n: usize, budget: u32) -> u32
         if i == n {
             return count;
         }
-        if machine_operators::fire_at(mem, size, i) {
+        if machine_operators::fire_at(mem, LINKS_AT, size, i) {
             count += 1;
             i = 0;
         } else {
@@ -64,7 +65,7 @@ fn waiting_on(mem: &[u8], size: usize, l: usize) -> usize
     requires { ⌜ (leastSize ≤ size) × (size ≤ mostSize) × (need size ≤ length (now mem)) × (l < mostLinks) ⌝ }
     ensures { λ r. ⌜ (r ≡ waiting (linkPart (now (mem .entry)) size l)) × (r < 256) ⌝ }
 {
-    let a = machine_layout::link_at(size, l);
+    let a = machine_layout::link_from(LINKS_AT, size, l);
     let e = a + size;
     machine_queue::waiting(&mem[a..e])
 }
@@ -184,7 +185,7 @@ fn run_marked(mem: &mut [u8], size: usize, n: usize, budget: u32, users: &[u16])
         if n <= i {
             return fired;
         }
-        if machine_operators::fire_at(mem, size, i) {
+        if machine_operators::fire_at(mem, LINKS_AT, size, i) {
             fired += 1;
             m = wake(mem, size, users, i, &mut awake, m);
         } else {
@@ -230,7 +231,7 @@ pub fn idle(mem: &mut [u8], size: usize, n: usize) -> bool
 {
     let mut i = 0;
     while i < n {
-        if machine_operators::able_at(mem, size, i) {
+        if machine_operators::able_at(mem, LINKS_AT, size, i) {
             return false;
         }
         i += 1;
