@@ -28,7 +28,7 @@ use Rattle.network.specs.Firing.{Holds}
 use Rattle.network.specs.Uses.{In}
 use Rattle.theory_pieces.specs.Sets.{Different}
 use Rattle.machine_queue.specs.Stretch.{waiting}
-use Rattle.machine_layout.specs.Layout.{inputKindsAt, capacityByte, operatorsOf, linksOf, inputsOf, resultsOf, untakenOf, noLink, number16, nameAt, triggerOf, inputLink, operatorAt, kindByte, portOf, sizeOf, linkAt, need}
+use Rattle.machine_layout.specs.Layout.{linksAt, inputKindsAt, capacityByte, operatorsOf, linksOf, inputsOf, resultsOf, untakenOf, noLink, number16, nameAt, triggerOf, inputLink, operatorAt, kindByte, portOf, sizeOf, linkAt, need}
 use Rattle.machine_layout.specs.Fits.{stretch-fits}
 use Rattle.machine_layout.specs.Kinds.{byteOf, Coded, hasPort, mayLack}
 use Rattle.machine_firing.specs.Parts.{part-length}
@@ -281,7 +281,7 @@ module _ (g : Made) (S : Sound g) (kinds : List ℕ) (capacity : ℕ) (low : 1 �
   link-valid : (l : ℕ) → l < g .links → linkOk m (sizeOf capacity) l ≡ true
   unfolding linkOk
   link-valid l h =
-      let f = stretch-fits (sizeOf capacity) l (omega (arith, S .few-links)) in
+      let f = stretch-fits linksAt (sizeOf capacity) l (omega (arith, S .few-links)) in
       stretch-valid (linkPart m (sizeOf capacity) l) (q l) (H .waits l h) (part-length m (linkAt (sizeOf capacity) l) (sizeOf capacity) (omega (arith, H .long)))
 
   links-valid : allBelow (linksOf m) (linkOk m (sizeOf (capacityByte m))) ≡ true
