@@ -189,7 +189,7 @@ module _ (m : List ℕ) where
 
       -- fewer firings than lent: nothing can fire
       pub ran-early : c < b → ran m b ≡ outcome (answers 0 c) m′
-      ran-early h = ran-still (rw (← e) at (runs-below (sizeIn m) (operatorsOf m) b m 0 (rw (← e) (omega arith))))
+      ran-early h = ran-still (rw (← e) at (runs-below linksAt (sizeIn m) (operatorsOf m) b m 0 (rw (← e) (omega arith))))
 
 -- ---- every push, accepted or not, keeps the memory's length and counts none
 

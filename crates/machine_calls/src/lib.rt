@@ -149,11 +149,11 @@ pub fn run(mem: &mut [u8], firings: u32) -> Answer
     }
     let n = machine_layout::operators(mem);
     let size = machine_layout::stretch_size(machine_layout::capacity(mem));
-    let count = machine_runs::run(mem, size, n, firings);
+    let count = machine_runs::run(mem, LINKS_AT, size, n, firings);
     if count < firings {
         return reply(0, count);
     }
-    if machine_runs::idle(mem, size, n) {
+    if machine_runs::idle(mem, LINKS_AT, size, n) {
         return reply(0, count);
     }
     reply(formula::refusal_number(Refusal::Unfinished), count)

@@ -62,7 +62,7 @@ module _ (m : List ℕ) (size : ℕ) (h : need size ≤ length m) where
       go false = refl
 
   pub fired-keeps : (i : ℕ) → i < 1024 → Keeps m (firedAt m size i)
-  fired-keeps i l = record { len = length-fired i; below = static-fired m size h i l }
+  fired-keeps i l = record { len = length-fired i; below = static-fired m linksAt size (omega arith) h i l }
 
 -- ---- rounds
 

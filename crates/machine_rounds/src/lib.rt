@@ -89,7 +89,7 @@ pub fn run_rounds(mem: &mut [u8], lent: u32) -> RoundsAnswer
     if made.rounds < lent {
         return reply(0, made);
     }
-    if machine_runs::idle(mem, size, n) {
+    if machine_runs::idle(mem, LINKS_AT, size, n) {
         return reply(0, made);
     }
     reply(formula::refusal_number(Refusal::Unfinished), made)

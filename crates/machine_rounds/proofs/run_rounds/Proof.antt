@@ -1,7 +1,7 @@
 -- The tests, as paths name them:
 --   tie if1  let stands = machine_calls::standing_of(mem); ⏎ if stands != 0 {
 --   tie if2  let made = make_rounds(mem, size, n, lent); ⏎ if made.rounds < lent {
---   tie if3  } ⏎ if machine_runs::idle(mem, size, n) {
+--   tie if3  } ⏎ if machine_runs::idle(mem, LINKS_AT, size, n) {
 use borrow.Author.Needs.{needs}
 use Rattle.machine_rounds.proofs.run_rounds.Statement.{statement}
 use Rattle.machine_rounds.proofs.run_rounds.Tie as tie
@@ -83,24 +83,24 @@ returns-2 c =
     let e : rounded (c .before .before .before .before .before .make-rounds .last .0) (c .before .before .before .before .before .make-rounds .result .rounds) (c .before .before .before .before .before .make-rounds .result .firings) ≡ roundsFrom (sizeIn (c .before .before .before .before .before .before .before .before .before .before .before .before .before .before .before .before .args .mem .now)) (operatorsOf (c .before .before .before .before .before .before .before .before .before .before .before .before .before .before .before .before .args .mem .now)) (c .before .before .before .before .before .before .before .before .before .before .before .before .before .before .before .before .args .lent) (c .before .before .before .before .before .before .before .before .before .before .before .before .before .before .before .before .args .mem .now) 0 0 = rw (c .before .before .before .before .before .before .before .before .before .before .operators .ensures .0, s) at (c .before .before .before .before .before .make-rounds .ensures) in
     rw (c .reply2 .ensures) (sym (rounds-early (c .before .before .before .before .before .before .before .before .before .before .before .before .before .before .before .before .args .mem .now) (c .before .before .before .before .before .before .before .before .before .before .before .before .before .before .before .before .args .lent) st (c .before .before .before .before .before .make-rounds .last .0) (c .before .before .before .before .before .make-rounds .result .rounds) (c .before .before .before .before .before .make-rounds .result .firings) e (c .before .if2 .taken)))
 
--- src/lib.rt:92:8  } ⏎ if machine_runs::idle(mem, size, n) {
+-- src/lib.rt:92:8  } ⏎ if machine_runs::idle(mem, LINKS_AT, size, n) {
 idle-requires : tie.Need-idle-requires
 idle-requires c κs =
     let st : standing (c .before .before .before .before .before .before .before .before .before .before .before .before .before .before .before .before .args .mem .now) ≡ 0 = sym (c .before .before .before .before .before .before .before .before .before .before .before .before .before .standing-of .ensures) ∙ c .before .before .before .before .before .before .before .before .before .before .before .before .if1 .left in
     let g = standing-good (c .before .before .before .before .before .before .before .before .before .before .before .before .before .before .before .before .args .mem .now) st in
     let f = valid-figures (c .before .before .before .before .before .before .before .before .before .before .before .before .before .before .before .before .args .mem .now) (g .1) in
     let s : c .before .before .before .before .before .before .before .stretch-size .result ≡ sizeIn (c .before .before .before .before .before .before .before .before .before .before .before .before .before .before .before .before .args .mem .now) = c .before .before .before .before .before .before .before .stretch-size .ensures ∙ ap sizeOf (c .before .before .before .before .before .before .before .before .capacity .ensures .0) in
-    (omega (arith, c .before .before .before .before .before .before .before .stretch-size .ensures, c .before .before .before .before .before .before .before .before .capacity .ensures .1), omega (arith, c .before .before .before .before .before .before .before .stretch-size .ensures, c .before .before .before .before .before .before .before .before .capacity .ensures .2), omega (arith, s, g .0, c .before .before .before .before .before .make-rounds .kept .0), omega (arith, f .operators, c .before .before .before .before .before .before .before .before .before .before .operators .ensures .0))
+    (omega arith, omega (arith, c .before .before .before .before .before .before .before .stretch-size .ensures, c .before .before .before .before .before .before .before .before .capacity .ensures .1), omega (arith, c .before .before .before .before .before .before .before .stretch-size .ensures, c .before .before .before .before .before .before .before .before .capacity .ensures .2), omega (arith, s, g .0, c .before .before .before .before .before .make-rounds .kept .0), omega (arith, f .operators, c .before .before .before .before .before .before .before .before .before .before .operators .ensures .0))
 
--- src/lib.rt:93:9  if machine_runs::idle(mem, size, n) { ⏎ return reply(0, made);
+-- src/lib.rt:93:9  if machine_runs::idle(mem, LINKS_AT, size, n) { ⏎ return reply(0, made);
 reply-requires-3 : tie.Need-reply-requires-3
 reply-requires-3 c κs = search needs
 
--- src/lib.rt:93:9  if machine_runs::idle(mem, size, n) { ⏎ return reply(0, made);
+-- src/lib.rt:93:9  if machine_runs::idle(mem, LINKS_AT, size, n) { ⏎ return reply(0, made);
 same-length-3 : tie.Need-same-length-3
 same-length-3 c = search needs
 
--- src/lib.rt:93:9  if machine_runs::idle(mem, size, n) { ⏎ return reply(0, made);
+-- src/lib.rt:93:9  if machine_runs::idle(mem, LINKS_AT, size, n) { ⏎ return reply(0, made);
 returns-3 : tie.Need-returns-3
 returns-3 c =
     let st : standing (c .before .before .before .before .before .before .before .before .before .before .before .before .before .before .before .before .before .before .before .before .before .args .mem .now) ≡ 0 = sym (c .before .before .before .before .before .before .before .before .before .before .before .before .before .before .before .before .before .before .standing-of .ensures) ∙ c .before .before .before .before .before .before .before .before .before .before .before .before .before .before .before .before .before .if1 .left in
