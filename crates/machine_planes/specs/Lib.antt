@@ -1,3 +1,4 @@
 pub mod Planes
 pub mod Seams
 pub mod PlaneBytes
+pub mod PlaneFirings
