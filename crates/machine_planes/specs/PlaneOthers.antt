@@ -1,0 +1,135 @@
+-- What a call under a tag leaves: the machines of the other tags, but for a register that an operator changes, and every byte below the registers.
+-- Assumes that the memory has its planes and that the tags are such; it may hold anything.
+use Prim.Native.Nat.{ℕ, _+_, _*_, _≤_, _<_}
+use mathlib.Core.Path.{_≡_, refl, sym, ap, ap₂, _∙_}
+use mathlib.Core.Logic.{_≢_}
+use mathlib.Core.Bool.{Bool, true, false}
+use mathlib.Core.List.{List, _++_}
+use native.Mathlib.Omega.{arith}
+use native.Mathlib.Decide.{decLt}
+use borrow.Author.Tests.{ltb-true}
+use lib.Dec.{ltb}
+use lib.ListN.{length, getD}
+use Rattle.value.specs.Operators.{pick}
+use Rattle.value.specs.Bytes.{stored}
+use Rattle.value.proofs.Words.{length-stored, byte-before}
+use Rattle.machine_queue.specs.Stretch.{removed, appended}
+use Rattle.machine_layout.specs.Layout.{mostOperators, recordsAt, registersAt, linksAt, leastSize, needFrom, linkFrom, registerAt, part, put}
+use Rattle.machine_firing.specs.Links.{onLinkFrom, removedFrom, appendedFrom}
+use Rattle.machine_firing.specs.Parts.{length-put, part-put-below, part-put-above, part-length}
+use Rattle.machine_firing.specs.LinkLaws.{Keeps, length-on, low-on, keeps-removed, keeps-appended}
+use Rattle.machine_firing.specs.Fire.{Plan, planFrom, movedFrom, performedFrom, ableFrom, firedFrom}
+use Rattle.machine_planes.specs.Planes.{mostTags, planeBytes, planeAt, taggedNeed, planeOf}
+use Rattle.machine_planes.specs.PlaneBytes.{headed, plane-split}
+use Rattle.machine_planes.specs.PlaneFirings.{plane-stored, by-moves}
+
+-- ---- another tag's machine
+
+module _ (t u : ℕ) (tag : t < mostTags) (tag′ : u < mostTags) (other : u ≢ t) where
+  module _ (m : List ℕ) (long : taggedNeed ≤ length m) where
+    beside-part : (b s : ℕ) (ys : List ℕ) → length ys ≡ s → b + s ≤ planeBytes → part (put m (planeAt t + b) s ys) (planeAt u) planeBytes ≡ part m (planeAt u) planeBytes
+    beside-part b s ys e h = go (decLt u t)
+      where
+        go : Dec (u < t) → part (put m (planeAt t + b) s ys) (planeAt u) planeBytes ≡ part m (planeAt u) planeBytes
+        go (yes p) = part-put-below m (planeAt t + b) s ys (omega arith) e (planeAt u) planeBytes (omega arith)
+        go (no p) = let q : t < u = omega arith in part-put-above m (planeAt t + b) s ys (omega arith) e (planeAt u) planeBytes (omega arith)
+
+    pub beside-put : (b s : ℕ) (ys : List ℕ) → length ys ≡ s → b + s ≤ planeBytes → planeOf (put m (planeAt t + b) s ys) u ≡ planeOf m u
+    beside-put b s ys e h =
+        let k = length-put m (planeAt t + b) s ys (omega arith) e in
+        plane-split (put m (planeAt t + b) s ys) u (omega arith) tag′
+        ∙ ap₂ (λ (x y : List ℕ). headed x u ++ y) (part-put-below m (planeAt t + b) s ys (omega arith) e 0 linksAt (omega arith)) (beside-part b s ys e h)
+        ∙ sym (plane-split m u long tag′)
+
+    pub beside-on : (l : ℕ) (f : List ℕ → List ℕ) → Keeps f → planeOf (onLinkFrom m (planeAt t) leastSize l f) u ≡ planeOf m u
+    beside-on l f keeps = go (ltb l 3105) refl
+      where
+        go : (b : Bool) → ltb l 3105 ≡ b → planeOf (pick b (put m (linkFrom (planeAt t) leastSize l) leastSize (f (part m (linkFrom (planeAt t) leastSize l) leastSize))) m) u ≡ planeOf m u
+        go true e =
+            let h = ltb-true l 3105 e in
+            let q = part m (linkFrom (planeAt t) leastSize l) leastSize in
+            beside-put (l * leastSize) leastSize (f q) (keeps q ∙ part-length m (linkFrom (planeAt t) leastSize l) leastSize (omega arith)) (omega arith)
+        go false e = refl
+
+    pub beside-removed : (l : ℕ) → planeOf (removedFrom m (planeAt t) leastSize l) u ≡ planeOf m u
+    unfolding removedFrom
+    beside-removed l = beside-on l removed keeps-removed
+
+    pub beside-appended : (l w : ℕ) → planeOf (appendedFrom m (planeAt t) leastSize l w) u ≡ planeOf m u
+    unfolding appendedFrom
+    beside-appended l w = beside-on l (λ q. appended q w) (keeps-appended w)
+
+  module _ (m : List ℕ) (long : taggedNeed ≤ length m) where
+    abbrev Beside : List ℕ → List ℕ → Type 0
+    Beside x y = (taggedNeed ≤ length x) × (planeOf x u ≡ planeOf m u)
+
+    on-beside : (x y : List ℕ) (l : ℕ) (f : List ℕ → List ℕ) → Keeps f → Beside x y → Beside (onLinkFrom x (planeAt t) leastSize l f) (onLinkFrom y (planeAt t) leastSize l f)
+    on-beside x y l f keeps b =
+        let long′ = b .0 in
+        (omega (arith, length-on x (planeAt t) leastSize (omega arith) l f keeps), beside-on x long′ l f keeps ∙ b .1)
+
+    moved-beside : (p : Plan) → Beside (movedFrom m (planeAt t) leastSize p) (movedFrom m (planeAt t) leastSize p)
+    moved-beside p = by-moves Beside (planeAt t) (planeAt t) leastSize on-beside p m m (long, refl)
+
+    module _ (i : ℕ) (few : i < mostOperators) where
+      -- what is left of a firing is the register
+      pub beside-performed : (p : Plan) → planeOf (performedFrom m (planeAt t) leastSize i p) u ≡ stored (planeOf m u) (registerAt i) (p .register)
+      unfolding performedFrom
+      beside-performed p =
+          plane-stored (movedFrom m (planeAt t) leastSize p) u (registerAt i) (p .register) (moved-beside p .0) tag′ (omega arith) (omega arith)
+          ∙ ap (λ (x : List ℕ). stored x (registerAt i) (p .register)) (moved-beside p .1)
+
+      -- nothing, where the word stored is the one that was there
+      pub beside-fired : (ableFrom m (planeAt t) leastSize i ≡ true → stored m (registerAt i) (planFrom m (planeAt t) leastSize i .register) ≡ m) →
+          planeOf (firedFrom m (planeAt t) leastSize i) u ≡ planeOf m u
+      unfolding firedFrom
+      beside-fired kept = go (ableFrom m (planeAt t) leastSize i) refl
+        where
+          plan : Plan
+          plan = planFrom m (planeAt t) leastSize i
+
+          go : (b : Bool) → ableFrom m (planeAt t) leastSize i ≡ b → planeOf (pick b (performedFrom m (planeAt t) leastSize i (planFrom m (planeAt t) leastSize i)) m) u ≡ planeOf m u
+          go true e =
+              beside-performed (planFrom m (planeAt t) leastSize i)
+              ∙ sym (plane-stored m u (registerAt i) (planFrom m (planeAt t) leastSize i .register) long tag′ (omega arith) (omega arith))
+              ∙ ap (λ (x : List ℕ). planeOf x u) (kept e)
+          go false e = refl
+
+-- ---- the length, and every byte below the registers, whatever the byte where the links begin
+
+module _ (m : List ℕ) (base size : ℕ) (h : needFrom base size ≤ length m) where
+  abbrev Low : List ℕ → List ℕ → Type 0
+  Low x y = (length x ≡ length m) × ((at : ℕ) → at < base → getD x at 0 ≡ getD m at 0)
+
+  on-low : (x y : List ℕ) (l : ℕ) (f : List ℕ → List ℕ) → Keeps f → Low x y → Low (onLinkFrom x base size l f) (onLinkFrom y base size l f)
+  on-low x y l f keeps w =
+      let e = w .0 in
+      let k : needFrom base size ≤ length x = omega arith in
+      (length-on x base size k l f keeps ∙ e, λ at q. low-on x base size k l f keeps at q ∙ w .1 at q)
+
+  moved-low : (p : Plan) → Low (movedFrom m base size p) (movedFrom m base size p)
+  moved-low p = by-moves Low base base size on-low p m m (refl, λ at q. refl)
+
+  performed-length : (i : ℕ) (p : Plan) → length (performedFrom m base size i p) ≡ length m
+  unfolding performedFrom
+  performed-length i p = length-stored (movedFrom m base size p) (registerAt i) (p .register) ∙ moved-low p .0
+
+  performed-low : (i : ℕ) (p : Plan) (at : ℕ) → at < base → at < registerAt i → getD (performedFrom m base size i p) at 0 ≡ getD m at 0
+  unfolding performedFrom
+  performed-low i p at q k = byte-before (movedFrom m base size p) (registerAt i) (p .register) at k ∙ moved-low p .1 at q
+
+  pub fired-length : (i : ℕ) → length (firedFrom m base size i) ≡ length m
+  unfolding firedFrom
+  fired-length i = go (ableFrom m base size i)
+    where
+      go : (b : Bool) → length (pick b (performedFrom m base size i (planFrom m base size i)) m) ≡ length m
+      go true = performed-length i (planFrom m base size i)
+      go false = refl
+
+  pub fired-low : registersAt ≤ base → (i at : ℕ) → at < registersAt → getD (firedFrom m base size i) at 0 ≡ getD m at 0
+  unfolding firedFrom
+  fired-low above i at q = go (ableFrom m base size i)
+    where
+      go : (b : Bool) → getD (pick b (performedFrom m base size i (planFrom m base size i)) m) at 0 ≡ getD m at 0
+      go true = performed-low i (planFrom m base size i) at (omega arith) (omega arith)
+      go false = refl
