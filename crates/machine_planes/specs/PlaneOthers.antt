@@ -1,24 +1,34 @@
 -- What a call under a tag leaves: the machines of the other tags, but for a register that an operator changes, and every byte below the registers.
 -- Assumes that the memory has its planes and that the tags are such; it may hold anything.
-use Prim.Native.Nat.{ℕ, _+_, _*_, _≤_, _<_}
+use Prim.Native.Nat.{ℕ, suc, _+_, _*_, _/_, _%_, _≤_, _<_}
 use mathlib.Core.Path.{_≡_, refl, sym, ap, ap₂, _∙_}
 use mathlib.Core.Logic.{_≢_}
-use mathlib.Core.Bool.{Bool, true, false}
-use mathlib.Core.List.{List, _++_}
+use mathlib.Core.Bool.{Bool, true, false, _&&_}
+use mathlib.Core.List.{List, [], _∷_, _++_}
+use mathlib.Core.Option.{Option, none, some}
 use native.Mathlib.Omega.{arith}
 use native.Mathlib.Decide.{decLt}
-use borrow.Author.Tests.{ltb-true}
-use lib.Dec.{ltb}
+use borrow.Author.Tests.{ltb-true, ne-eqb}
+use lib.Dec.{leb, ltb, eqb}
 use lib.ListN.{length, getD}
+use lib.Seq.{sets, set-getD}
+use Rattle.value.specs.declared.Value.{Value}
+use Rattle.value.specs.declared.Decoded.{Decoded}
 use Rattle.value.specs.Operators.{pick}
-use Rattle.value.specs.Bytes.{stored}
+use Rattle.value.specs.Bytes.{decoded, wordOr, wordBytes, wordAt, stored}
 use Rattle.value.proofs.Words.{length-stored, byte-before}
+use Rattle.network.specs.Rules.{Kind, constant, copy, operator, T-gate, F-gate, M-gate, E-gate, IC-gate, FM-gate, Input, Firing, takes, gives, never, rule}
+use Rattle.network.specs.Decide.{Taken, untouched, also, with-head, decided}
+use Rattle.network.specs.Fill.{remembering, Gives, register-kept}
 use Rattle.machine_queue.specs.Stretch.{removed, appended}
-use Rattle.machine_layout.specs.Layout.{mostOperators, recordsAt, registersAt, linksAt, leastSize, needFrom, linkFrom, registerAt, part, put}
+use Rattle.machine_gates.specs.Decide.{optional, heads, told, ruled, decideAt, read-back}
+use Rattle.machine_gates.specs.GateLaws.{Leaves, idle-leaves}
+use Rattle.machine_layout.specs.Kinds.{byteOf, kindOf}
+use Rattle.machine_layout.specs.Layout.{mostOperators, recordsAt, registersAt, linksAt, leastSize, needFrom, linkFrom, kindByte, registerAt, part, put}
 use Rattle.machine_firing.specs.Links.{onLinkFrom, removedFrom, appendedFrom}
 use Rattle.machine_firing.specs.Parts.{length-put, part-put-below, part-put-above, part-length}
 use Rattle.machine_firing.specs.LinkLaws.{Keeps, length-on, low-on, keeps-removed, keeps-appended}
-use Rattle.machine_firing.specs.Fire.{Plan, planFrom, movedFrom, performedFrom, ableFrom, firedFrom}
+use Rattle.machine_firing.specs.Fire.{Plan, planned, registerOf, decisionFrom, planFrom, readyFrom, movedFrom, performedFrom, ableFrom, firedFrom}
 use Rattle.machine_planes.specs.Planes.{mostTags, planeBytes, planeAt, taggedNeed, planeOf}
 use Rattle.machine_planes.specs.PlaneBytes.{headed, plane-split}
 use Rattle.machine_planes.specs.PlaneFirings.{plane-stored, by-moves}
@@ -85,9 +95,6 @@ module _ (t u : ℕ) (tag : t < mostTags) (tag′ : u < mostTags) (other : u ≢
       unfolding firedFrom
       beside-fired kept = go (ableFrom m (planeAt t) leastSize i) refl
         where
-          plan : Plan
-          plan = planFrom m (planeAt t) leastSize i
-
           go : (b : Bool) → ableFrom m (planeAt t) leastSize i ≡ b → planeOf (pick b (performedFrom m (planeAt t) leastSize i (planFrom m (planeAt t) leastSize i)) m) u ≡ planeOf m u
           go true e =
               beside-performed (planFrom m (planeAt t) leastSize i)
@@ -133,3 +140,84 @@ module _ (m : List ℕ) (base size : ℕ) (h : needFrom base size ≤ length m) 
       go : (b : Bool) → getD (pick b (performedFrom m base size i (planFrom m base size i)) m) at 0 ≡ getD m at 0
       go true = performed-low i (planFrom m base size i) at (omega arith) (omega arith)
       go false = refl
+
+-- ---- an operator that does not remember
+
+-- a rule that leaves its register, decided
+rule-leaves : (g : Decoded) (f : Firing) (t : Taken) (hs : Input → Option Value) → Gives (λ h. h ≡ optional g) f → Leaves g (told (decided t f hs))
+rule-leaves g (takes i k) t hs s = go (λ v. rule-leaves g (k v) (also i t) hs (s v)) (hs i)
+  where
+    go : ((v : Value) → Leaves g (told (decided (also i t) (k v) hs))) → (o : Option Value) → Leaves g (told (with-head o (λ v. decided (also i t) (k v) hs)))
+    go ih none = idle-leaves g
+    go ih (some v) = ih v
+rule-leaves g (gives a b c r) t hs s = λ e. ap decoded s ∙ read-back g
+rule-leaves g never t hs s = idle-leaves g
+
+abbrev Forgets : Option Kind → Type 0
+Forgets none = Unit {0}
+Forgets (some k) = remembering k ≡ false
+
+-- the bytes below FM's are those of the kinds that do not remember
+forgets : (kind : ℕ) → kind < byteOf FM-gate → Forgets (kindOf kind)
+unfolding kindOf
+forgets kind h =
+    rw (ne-eqb kind 19 (omega arith), ne-eqb kind 20 (omega arith))
+    (or (leb 1 kind && leb kind 11) (some (operator kind)) _ refl
+    (or (eqb kind 12) (some constant) _ refl
+    (or (eqb kind 13) (some copy) _ refl
+    (or (eqb kind 14) (some T-gate) _ refl
+    (or (eqb kind 15) (some F-gate) _ refl
+    (or (eqb kind 16) (some M-gate) _ refl
+    (or (eqb kind 17) (some E-gate) _ refl
+    (or (eqb kind 18) (some IC-gate) none refl tt))))))))
+  where
+    or : (b : Bool) (x y : Option Kind) → Forgets x → Forgets y → Forgets (pick b x y)
+    or true x y p q = p
+    or false x y p q = q
+
+decision-leaves : (kind : ℕ) (a b c g : Decoded) → kind < byteOf FM-gate → Leaves g (decideAt kind a b c g)
+unfolding decideAt
+decision-leaves kind a b c g h = go (kindOf kind) (forgets kind h)
+  where
+    go : (o : Option Kind) → Forgets o → Leaves g (told (ruled o a b c g))
+    go none f = idle-leaves g
+    go (some k) f = rule-leaves g (rule k (optional g)) untouched (heads a b c) (register-kept k (optional g) f)
+
+lowest : (x a r : ℕ) → a < 256 → x ≡ a + 256 * r → x % 256 ≡ a
+lowest x a r h e = omega arith
+
+word-bytes : (a b c d e : ℕ) → a < 256 → b < 256 → c < 256 → d < 256 → e < 256 →
+    wordBytes (a + 256 * b + 65536 * c + 16777216 * d + 4294967296 * e) ≡ a ∷ b ∷ c ∷ d ∷ e ∷ []
+unfolding wordBytes
+word-bytes a b c d e p q r s t =
+    let w = a + 256 * b + 65536 * c + 16777216 * d + 4294967296 * e in
+    let e0 : w % 256 ≡ a = omega arith in
+    let e1 : w / 256 % 256 ≡ b = lowest (w / 256) b (c + 256 * d + 65536 * e) q (omega arith) in
+    let e2 : w / 65536 % 256 ≡ c = lowest (w / 65536) c (d + 256 * e) r (omega arith) in
+    let e3 : w / 16777216 % 256 ≡ d = lowest (w / 16777216) d e s (omega arith) in
+    let e4 : w / 4294967296 % 256 ≡ e = lowest (w / 4294967296) e 0 t (omega arith) in
+    rw (e0, e1, e2, e3, e4) refl
+
+-- the word that stands there stored again
+stored-same : (m : List ℕ) (at : ℕ) → ((i : ℕ) → getD m i 0 < 256) → stored m at (wordAt m at) ≡ m
+unfolding stored wordAt
+stored-same m at small =
+    let p1 : at + 1 ≡ suc at = omega arith in
+    let p2 : at + 2 ≡ suc (suc at) = omega arith in
+    let p3 : at + 3 ≡ suc (suc (suc at)) = omega arith in
+    let p4 : at + 4 ≡ suc (suc (suc (suc at))) = omega arith in
+    ap (sets m at) (word-bytes (getD m at 0) (getD m (at + 1) 0) (getD m (at + 2) 0) (getD m (at + 3) 0) (getD m (at + 4) 0) (small at) (small (at + 1)) (small (at + 2)) (small (at + 3)) (small (at + 4)))
+    ∙ rw (p1, p2, p3, p4) (simp set-getD)
+
+-- What `beside-fired` asks: the kind is none that remembers, and the register holds a value or nothing.
+pub register-stays : (m : List ℕ) (base size i : ℕ) → ((j : ℕ) → getD m j 0 < 256) → kindByte m i < byteOf FM-gate → wordOr (registerOf m i) ≡ wordAt m (registerAt i) →
+    ableFrom m base size i ≡ true → stored m (registerAt i) (planFrom m base size i .register) ≡ m
+unfolding ableFrom readyFrom planFrom planned decisionFrom
+register-stays m base size i small kind holds able =
+    ap (λ (g : Decoded). stored m (registerAt i) (wordOr g)) (decision-leaves (kindByte m i) _ _ _ (registerOf m i) kind (first-true _ _ able))
+    ∙ ap (stored m (registerAt i)) holds
+    ∙ stored-same m (registerAt i) small
+  where
+    first-true : (x y : Bool) → x && y ≡ true → x ≡ true
+    first-true true y e = refl
+    first-true false y e = e
