@@ -1,5 +1,4 @@
 pub mod Planes
-pub mod Seams
 pub mod PlaneBytes
 pub mod PlaneFirings
 pub mod PlaneOthers

@@ -1,20 +1,66 @@
 -- The bytes of a tag's machine: what stands once is the memory's, but for the capacity and the sets untaken, and its links are those of the tag's plane.
 -- Assumes that the memory has its planes and that the tag is one; it may hold anything.
-use Prim.Native.Nat.{ℕ, _+_, _*_, _≤_, _<_}
+use Prim.Native.Nat.{ℕ, _+_, _-_, _*_, _≤_, _<_}
 use mathlib.Core.Path.{_≡_, refl, sym, ap, ap₂, _∙_}
 use mathlib.Core.Logic.{_≢_}
-use mathlib.Core.List.{List, [], _∷_, _++_}
+use mathlib.Core.List.{List, _++_, append-assoc}
 use native.Mathlib.Omega.{arith}
-use lib.ListN.{length, getD, take, drop, set, length-append, length-set, List·getD-append, take-append-drop}
-use lib.Seq.{length-take-le, getD-take, getD-set-same, getD-set-other, set-append-left}
+use native.Mathlib.Nat.{add-assoc}
+use lib.ListN.{length, getD, take, drop, set, length-append, length-drop, length-set, List·getD-append, take-append-drop}
+use lib.Seq.{length-take-le, take-append-le, drop-append-le, take-append-add, drop-append-add, take-at, drop-at, drop-drop, getD-take, getD-set-same, getD-set-other, set-append-left}
 use Rattle.value.specs.Bytes.{wordAt}
-use Rattle.machine_layout.specs.Layout.{capacityAt, capacityByte, operatorsOf, linksOf, inputsOf, resultsOf, untakenAt, untakenOf, triggerOf, inputLink, resultLink, inputKindsAt, storedKinds, mostInputs, mostResults, mostOperators, mostLinks, recordsAt, linksAt, leastSize, linkAt, linkFrom, need, number16, nameAt, operatorAt, portsAt, portOf, kindByte, registerAt, part}
-use Rattle.machine_firing.specs.Parts.{part-length, part-set-below}
+use Rattle.machine_layout.specs.Layout.{capacityAt, operatorCountAt, linkCountAt, inputCountAt, resultCountAt, untakenAt, triggerAt, inputLinksAt, resultLinksAt, inputKindsAt, capacityByte, operatorsOf, linksOf, inputsOf, resultsOf, untakenOf, triggerOf, inputLink, resultLink, storedKinds, mostInputs, mostResults, mostOperators, mostLinks, linksAt, leastSize, linkAt, linkFrom, need, number16, nameAt, operatorAt, portsAt, portOf, kindByte, registerAt, part, put}
+use Rattle.machine_firing.specs.Parts.{length-put, part-length, part-set-below}
 use Rattle.machine_firing.specs.Fire.{registerOf}
 use Rattle.machine_planes.specs.Planes.{mostTags, tagsAt, tagByte, planeBytes, planeAt, taggedNeed, planeOf}
-use Rattle.machine_planes.specs.Seams.{part-before, part-behind, part-inside}
 
--- what stands once, as the machine of a tag has it
+-- ---- two lists behind each other: a part read or replaced in one of them
+
+module _ (x y : List ℕ) (b s : ℕ) where
+  pub part-before : b + s ≤ length x → part (x ++ y) b s ≡ part x b s
+  part-before h =
+      let d : length (drop b x) ≡ length x - b = length-drop b x in
+      ap (take s) (drop-append-le b x y (omega arith)) ∙ take-append-le s (drop b x) y (omega arith)
+
+  pub part-behind : (n : ℕ) → length x ≡ n → part (x ++ y) (n + b) s ≡ part y b s
+  part-behind n e = ap (λ (k : ℕ). part (x ++ y) (k + b) s) (sym e) ∙ ap (take s) (drop-append-add x y b)
+
+  pub put-before : (ys : List ℕ) → b + s ≤ length x → put (x ++ y) b s ys ≡ put x b s ys ++ y
+  put-before ys h =
+      ap₂ (λ (p q : List ℕ). p ++ (ys ++ q)) (take-append-le b x y (omega arith)) (drop-append-le (b + s) x y h)
+      ∙ ap (λ (q : List ℕ). take b x ++ q) (sym (append-assoc ys (drop (b + s) x) y))
+      ∙ sym (append-assoc (take b x) (ys ++ drop (b + s) x) y)
+
+  pub put-behind : (ys : List ℕ) (n : ℕ) → length x ≡ n → put (x ++ y) (n + b) s ys ≡ x ++ put y b s ys
+  put-behind ys n e =
+      ap (λ (k : ℕ). put (x ++ y) (k + b) s ys) (sym e)
+      ∙ ap₂ (λ (p q : List ℕ). p ++ (ys ++ q)) (take-append-add x y b)
+      (ap (λ (k : ℕ). drop k (x ++ y)) (add-assoc (length x) b s) ∙ drop-append-add x y (b + s))
+      ∙ append-assoc x (take b y) (ys ++ drop (b + s) y)
+
+-- ---- a part within a part
+
+module _ (m : List ℕ) (a n : ℕ) (h : a + n ≤ length m) (b s : ℕ) (k : b + s ≤ n) where
+  pub part-inside : part (part m a n) b s ≡ part m (a + b) s
+  part-inside =
+      let w : length (part m a n) ≡ n = part-length m a n h in
+      sym (part-before (take n (drop a m)) (drop n (drop a m)) b s (omega arith))
+      ∙ ap (λ (l : List ℕ). part l b s) (take-append-drop n (drop a m))
+      ∙ ap (take s) (drop-drop b a m)
+
+  pub put-inside : (ys : List ℕ) → length ys ≡ s → part (put m (a + b) s ys) a n ≡ put (part m a n) b s ys
+  put-inside ys e =
+      let w : length (part m a n) ≡ n = part-length m a n h in
+      let t : length (take a m) ≡ a = length-take-le a m (omega arith) in
+      ap (λ (l : List ℕ). part (put l (a + b) s ys) a n) (sym (take-append-drop a m))
+      ∙ ap (λ (l : List ℕ). part l a n) (put-behind (take a m) (drop a m) b s ys a t)
+      ∙ ap (take n) (drop-at (take a m) (put (drop a m) b s ys) a t)
+      ∙ ap (λ (l : List ℕ). take n (put l b s ys)) (sym (take-append-drop n (drop a m)))
+      ∙ ap (take n) (put-before (take n (drop a m)) (drop n (drop a m)) b s ys (omega arith))
+      ∙ take-at (put (part m a n) b s ys) (drop n (drop a m)) n (length-put (part m a n) b s ys (omega arith) e ∙ w)
+
+-- ---- the machine of a tag: what stands once, and the plane
+
 abbrev pub headed : List ℕ → ℕ → List ℕ
 headed x t = set (set x capacityAt 1) untakenAt (getD x (tagsAt + t) 0)
 
@@ -82,10 +128,9 @@ module _ (m : List ℕ) (t : ℕ) (long : taggedNeed ≤ length m) (tag : t < mo
 
   -- ---- figures, names and words
 
-  pub plane-number : (at : ℕ) → at ≢ 0 → at ≢ 6 → at ≢ 7 → at + 2 ≤ linksAt → number16 (planeOf m t) at ≡ number16 m at
+  pub plane-number : (at : ℕ) → at ≢ capacityAt → at ≢ untakenAt → at + 1 ≢ untakenAt → at + 2 ≤ linksAt → number16 (planeOf m t) at ≡ number16 m at
   unfolding number16
-  plane-number at p q r h =
-      ap₂ (λ (x y : ℕ). x + 256 * y) (plane-byte at (omega arith) p r) (plane-byte (at + 1) (omega arith) (omega arith) (omega arith))
+  plane-number at p q r h = ap₂ (λ (x y : ℕ). x + 256 * y) (plane-byte at (omega arith) p q) (plane-byte (at + 1) (omega arith) (omega arith) r)
 
   pub plane-name : (at j : ℕ) → untakenAt < at → at + 2 * j + 2 ≤ linksAt → nameAt (planeOf m t) at j ≡ nameAt m at j
   unfolding nameAt
@@ -100,27 +145,27 @@ module _ (m : List ℕ) (t : ℕ) (long : taggedNeed ≤ length m) (tag : t < mo
   -- ---- the header
 
   pub plane-operators : operatorsOf (planeOf m t) ≡ operatorsOf m
-  plane-operators = plane-number 1 (omega arith) (omega arith) (omega arith) (omega arith)
+  plane-operators = plane-number operatorCountAt (omega arith) (omega arith) (omega arith) (omega arith)
 
   pub plane-link-count : linksOf (planeOf m t) ≡ linksOf m
-  plane-link-count = plane-number 3 (omega arith) (omega arith) (omega arith) (omega arith)
+  plane-link-count = plane-number linkCountAt (omega arith) (omega arith) (omega arith) (omega arith)
 
   pub plane-inputs : inputsOf (planeOf m t) ≡ inputsOf m
-  plane-inputs = plane-byte 5 (omega arith) (omega arith) (omega arith)
+  plane-inputs = plane-byte inputCountAt (omega arith) (omega arith) (omega arith)
 
   pub plane-results : resultsOf (planeOf m t) ≡ resultsOf m
-  plane-results = plane-byte 6 (omega arith) (omega arith) (omega arith)
+  plane-results = plane-byte resultCountAt (omega arith) (omega arith) (omega arith)
 
   pub plane-trigger : triggerOf (planeOf m t) ≡ triggerOf m
-  plane-trigger = plane-number 8 (omega arith) (omega arith) (omega arith) (omega arith)
+  plane-trigger = plane-number triggerAt (omega arith) (omega arith) (omega arith) (omega arith)
 
   pub plane-input-link : (j : ℕ) → j < mostInputs → inputLink (planeOf m t) j ≡ inputLink m j
-  plane-input-link j h = plane-name 10 j (omega arith) (omega arith)
+  plane-input-link j h = plane-name inputLinksAt j (omega arith) (omega arith)
 
   pub plane-result-link : (j : ℕ) → j < mostResults → resultLink (planeOf m t) j ≡ resultLink m j
-  plane-result-link j h = plane-name 74 j (omega arith) (omega arith)
+  plane-result-link j h = plane-name resultLinksAt j (omega arith) (omega arith)
 
-  pub plane-kinds : inputsOf m ≤ mostInputs → storedKinds (planeOf m t) ≡ storedKinds m
+  pub plane-kinds : inputKindsAt + inputsOf m ≤ linksAt → storedKinds (planeOf m t) ≡ storedKinds m
   plane-kinds h = ap (part (planeOf m t) inputKindsAt) plane-inputs ∙ plane-part inputKindsAt (inputsOf m) (omega arith) (omega arith)
 
   -- ---- an operator

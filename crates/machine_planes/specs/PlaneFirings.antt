@@ -3,38 +3,35 @@
 use Prim.Native.Nat.{ℕ, suc, _+_, _*_, _≤_, _<_}
 use mathlib.Core.Path.{_≡_, refl, sym, ap, ap₂, _∙_}
 use mathlib.Core.Logic.{_≢_}
-use mathlib.Core.Bool.{Bool, true, false, _&&_}
+use mathlib.Core.Bool.{Bool, true, false}
 use mathlib.Core.List.{List, [], _∷_, _++_}
 use native.Mathlib.Omega.{arith}
 use borrow.Author.Tests.{ltb-true}
 use lib.Dec.{ltb}
-use lib.ListN.{length, getD, take, drop, set, length-set}
-use lib.Seq.{sets, take-set-lt, drop-set-lt, set-comm, set-append-left, getD-set-other, length-take-le}
+use lib.ListN.{length, getD, take, set, length-set}
+use lib.Seq.{sets, take-set-lt, set-comm, set-append-left, getD-set-other}
 use Rattle.value.specs.Operators.{pick}
 use Rattle.value.specs.Bytes.{stored, wordBytes, decoded, valueOf}
-use Rattle.value.specs.declared.Decoded.{Decoded}
 use Rattle.machine_queue.specs.Stretch.{headOf, roomIn, removed, appended}
-use Rattle.machine_gates.specs.Decide.{Decided, decideAt}
-use Rattle.machine_layout.specs.Layout.{capacityAt, untakenAt, mostOperators, mostLinks, recordsAt, linksAt, leastSize, linkAt, linkFrom, operatorAt, registerAt, kindByte, portOf, nameAt, part, put}
+use Rattle.machine_layout.specs.Layout.{capacityAt, untakenAt, mostOperators, mostLinks, recordsAt, linksAt, leastSize, linkAt, linkFrom, registerAt, portOf, part, put}
 use Rattle.machine_firing.specs.Links.{headFrom, headAt, tokenFrom, tokenAt, roomFrom, roomAt, onLinkFrom, onLink, removedFrom, removedAt, appendedFrom, appendedAt}
 use Rattle.machine_firing.specs.Parts.{length-put, part-put-below, part-length, part-set-below}
 use Rattle.machine_firing.specs.LinkLaws.{Keeps, length-on, keeps-removed, keeps-appended}
-use Rattle.machine_firing.specs.Fire.{Plan, taken, given, planned, registerOf, decisionFrom, decisionAt, planFrom, planAt, readyFrom, readyFor, movedFrom, moved, performedFrom, performed, ableFrom, ableAt, firedFrom, firedAt}
+use Rattle.machine_firing.specs.Fire.{Plan, planned, decisionFrom, decisionAt, planFrom, planAt, readyFrom, readyFor, movedFrom, moved, performedFrom, performed, ableFrom, ableAt, firedFrom, firedAt}
 use Rattle.machine_planes.specs.Planes.{mostTags, tagsAt, planeBytes, planeAt, taggedNeed, planeOf}
-use Rattle.machine_planes.specs.Seams.{put-behind, put-inside}
-use Rattle.machine_planes.specs.PlaneBytes.{headed, headed-length, plane-split, plane-kind, plane-port, plane-register, plane-link}
+use Rattle.machine_planes.specs.PlaneBytes.{put-behind, put-inside, headed, headed-length, plane-split, plane-kind, plane-port, plane-register, plane-link}
 
 -- ---- what is read under a tag
 
 module _ (m : List ℕ) (t : ℕ) (long : taggedNeed ≤ length m) (tag : t < mostTags) where
   -- whatever is read of a link's stretch, with another answer where the number is no link
   read : {A : Type 0} (f : List ℕ → A) (none : A) (l : ℕ) →
-      pick (ltb l 3105) (f (part m (linkFrom (planeAt t) leastSize l) leastSize)) none ≡ pick (ltb l 3105) (f (part (planeOf m t) (linkAt leastSize l) leastSize)) none
-  read f none l = go (ltb l 3105) refl
+      pick (ltb l mostLinks) (f (part m (linkFrom (planeAt t) leastSize l) leastSize)) none ≡ pick (ltb l mostLinks) (f (part (planeOf m t) (linkAt leastSize l) leastSize)) none
+  read f none l = go (ltb l mostLinks) refl
     where
-      go : (b : Bool) → ltb l 3105 ≡ b →
+      go : (b : Bool) → ltb l mostLinks ≡ b →
           pick b (f (part m (linkFrom (planeAt t) leastSize l) leastSize)) none ≡ pick b (f (part (planeOf m t) (linkAt leastSize l) leastSize)) none
-      go true e = ap f (sym (plane-link m t long tag l (ltb-true l 3105 e)))
+      go true e = ap f (sym (plane-link m t long tag l (ltb-true l mostLinks e)))
       go false e = refl
 
   pub plane-head : (l : ℕ) → headFrom m (planeAt t) leastSize l ≡ headAt (planeOf m t) leastSize l
@@ -70,7 +67,7 @@ module _ (m : List ℕ) (t : ℕ) (long : taggedNeed ≤ length m) (tag : t < mo
     unfolding ableFrom
     plane-able = plane-ready (planFrom m (planeAt t) leastSize i) ∙ ap (readyFor (planeOf m t) leastSize) plane-plan
 
--- ---- what is written under a tag: a link, and a byte behind the header
+-- ---- what is written under a tag: a link, and a byte that stands once
 
 module _ (m : List ℕ) (t : ℕ) (long : taggedNeed ≤ length m) (tag : t < mostTags) where
   pub plane-put : (b s : ℕ) (ys : List ℕ) → length ys ≡ s → b + s ≤ planeBytes → planeOf (put m (planeAt t + b) s ys) t ≡ put (planeOf m t) (linksAt + b) s ys
@@ -83,13 +80,13 @@ module _ (m : List ℕ) (t : ℕ) (long : taggedNeed ≤ length m) (tag : t < mo
       ∙ ap (λ (x : List ℕ). put x (linksAt + b) s ys) (sym (plane-split m t long tag))
 
   pub plane-on : (l : ℕ) (f : List ℕ → List ℕ) → Keeps f → planeOf (onLinkFrom m (planeAt t) leastSize l f) t ≡ onLink (planeOf m t) leastSize l f
-  plane-on l f keeps = go (ltb l 3105) refl
+  plane-on l f keeps = go (ltb l mostLinks) refl
     where
-      go : (b : Bool) → ltb l 3105 ≡ b →
+      go : (b : Bool) → ltb l mostLinks ≡ b →
           planeOf (pick b (put m (linkFrom (planeAt t) leastSize l) leastSize (f (part m (linkFrom (planeAt t) leastSize l) leastSize))) m) t
           ≡ pick b (put (planeOf m t) (linkAt leastSize l) leastSize (f (part (planeOf m t) (linkAt leastSize l) leastSize))) (planeOf m t)
       go true e =
-          let h = ltb-true l 3105 e in
+          let h = ltb-true l mostLinks e in
           let q = part m (linkFrom (planeAt t) leastSize l) leastSize in
           plane-put (l * leastSize) leastSize (f q) (keeps q ∙ part-length m (linkFrom (planeAt t) leastSize l) leastSize (omega arith)) (omega arith)
           ∙ ap (λ (x : List ℕ). put (planeOf m t) (linkAt leastSize l) leastSize (f x)) (sym (plane-link m t long tag l h))
@@ -103,18 +100,18 @@ module _ (m : List ℕ) (t : ℕ) (long : taggedNeed ≤ length m) (tag : t < mo
   unfolding appendedFrom
   plane-appended l w = plane-on l (λ q. appended q w) (keeps-appended w)
 
-  headed-set : (x : List ℕ) (i v : ℕ) → recordsAt ≤ i → headed (set x i v) t ≡ set (headed x t) i v
-  headed-set x i v h =
+  headed-set : (x : List ℕ) (i v : ℕ) → untakenAt < i → i ≢ tagsAt + t → headed (set x i v) t ≡ set (headed x t) i v
+  headed-set x i v h n =
       ap₂ (λ (y : List ℕ) (b : ℕ). set y untakenAt b) (set-comm x i capacityAt v 1 (omega arith)) (getD-set-other x i (tagsAt + t) v 0 (omega arith))
       ∙ set-comm (set x capacityAt 1) i untakenAt v (getD x (tagsAt + t) 0) (omega arith)
 
-  pub plane-set : (i v : ℕ) → recordsAt ≤ i → i < linksAt → planeOf (set m i v) t ≡ set (planeOf m t) i v
-  plane-set i v h k =
+  pub plane-set : (i v : ℕ) → untakenAt < i → i ≢ tagsAt + t → i < linksAt → planeOf (set m i v) t ≡ set (planeOf m t) i v
+  plane-set i v h n k =
       let e = length-set m i v in
       let w = headed-length m t long tag in
       plane-split (set m i v) t (omega arith) tag
       ∙ ap₂ (λ (x y : List ℕ). headed x t ++ y) (take-set-lt linksAt m i v k) (part-set-below m i v (planeAt t) planeBytes (omega arith))
-      ∙ ap (λ (x : List ℕ). x ++ part m (planeAt t) planeBytes) (headed-set (take linksAt m) i v h)
+      ∙ ap (λ (x : List ℕ). x ++ part m (planeAt t) planeBytes) (headed-set (take linksAt m) i v h n)
       ∙ sym (set-append-left (headed (take linksAt m) t) (part m (planeAt t) planeBytes) i v (omega arith))
       ∙ ap (λ (x : List ℕ). set x i v) (sym (plane-split m t long tag))
 
@@ -123,7 +120,7 @@ plane-sets [] m t at long tag h k = refl
 plane-sets (v ∷ vs) m t at long tag h k =
     let e = length-set m at v in
     plane-sets vs (set m at v) t (suc at) (omega arith) tag (omega arith) (omega arith)
-    ∙ ap (λ (x : List ℕ). sets x (suc at) vs) (plane-set m t long tag at v h (omega arith))
+    ∙ ap (λ (x : List ℕ). sets x (suc at) vs) (plane-set m t long tag at v (omega arith) (omega arith) (omega arith))
 
 pub plane-stored : (m : List ℕ) (t at w : ℕ) → taggedNeed ≤ length m → t < mostTags → recordsAt ≤ at → at + 5 ≤ linksAt → planeOf (stored m at w) t ≡ stored (planeOf m t) at w
 unfolding stored wordBytes

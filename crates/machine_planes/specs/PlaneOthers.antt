@@ -17,14 +17,14 @@ use Rattle.value.specs.declared.Decoded.{Decoded}
 use Rattle.value.specs.Operators.{pick}
 use Rattle.value.specs.Bytes.{decoded, wordOr, wordBytes, wordAt, stored}
 use Rattle.value.proofs.Words.{length-stored, byte-before}
-use Rattle.network.specs.Rules.{Kind, constant, copy, operator, T-gate, F-gate, M-gate, E-gate, IC-gate, FM-gate, Input, Firing, takes, gives, never, rule}
+use Rattle.network.specs.Rules.{Kind, constant, copy, operator, T-gate, F-gate, M-gate, E-gate, IC-gate, FM-gate, FS-gate, Input, Firing, takes, gives, never, rule}
 use Rattle.network.specs.Decide.{Taken, untouched, also, with-head, decided}
 use Rattle.network.specs.Fill.{remembering, Gives, register-kept}
 use Rattle.machine_queue.specs.Stretch.{removed, appended}
 use Rattle.machine_gates.specs.Decide.{optional, heads, told, ruled, decideAt, read-back}
 use Rattle.machine_gates.specs.GateLaws.{Leaves, idle-leaves}
 use Rattle.machine_layout.specs.Kinds.{byteOf, kindOf}
-use Rattle.machine_layout.specs.Layout.{mostOperators, recordsAt, registersAt, linksAt, leastSize, needFrom, linkFrom, kindByte, registerAt, part, put}
+use Rattle.machine_layout.specs.Layout.{mostOperators, mostLinks, registersAt, linksAt, leastSize, needFrom, linkFrom, kindByte, registerAt, part, put}
 use Rattle.machine_firing.specs.Links.{onLinkFrom, removedFrom, appendedFrom}
 use Rattle.machine_firing.specs.Parts.{length-put, part-put-below, part-put-above, part-length}
 use Rattle.machine_firing.specs.LinkLaws.{Keeps, length-on, low-on, keeps-removed, keeps-appended}
@@ -52,11 +52,11 @@ module _ (t u : ℕ) (tag : t < mostTags) (tag′ : u < mostTags) (other : u ≢
         ∙ sym (plane-split m u long tag′)
 
     pub beside-on : (l : ℕ) (f : List ℕ → List ℕ) → Keeps f → planeOf (onLinkFrom m (planeAt t) leastSize l f) u ≡ planeOf m u
-    beside-on l f keeps = go (ltb l 3105) refl
+    beside-on l f keeps = go (ltb l mostLinks) refl
       where
-        go : (b : Bool) → ltb l 3105 ≡ b → planeOf (pick b (put m (linkFrom (planeAt t) leastSize l) leastSize (f (part m (linkFrom (planeAt t) leastSize l) leastSize))) m) u ≡ planeOf m u
+        go : (b : Bool) → ltb l mostLinks ≡ b → planeOf (pick b (put m (linkFrom (planeAt t) leastSize l) leastSize (f (part m (linkFrom (planeAt t) leastSize l) leastSize))) m) u ≡ planeOf m u
         go true e =
-            let h = ltb-true l 3105 e in
+            let h = ltb-true l mostLinks e in
             let q = part m (linkFrom (planeAt t) leastSize l) leastSize in
             beside-put (l * leastSize) leastSize (f q) (keeps q ∙ part-length m (linkFrom (planeAt t) leastSize l) leastSize (omega arith)) (omega arith)
         go false e = refl
@@ -70,6 +70,7 @@ module _ (t u : ℕ) (tag : t < mostTags) (tag′ : u < mostTags) (other : u ≢
     beside-appended l w = beside-on l (λ q. appended q w) (keeps-appended w)
 
   module _ (m : List ℕ) (long : taggedNeed ≤ length m) where
+    -- of the second memory nothing is asked
     abbrev Beside : List ℕ → List ℕ → Type 0
     Beside x y = (taggedNeed ≤ length x) × (planeOf x u ≡ planeOf m u)
 
@@ -161,15 +162,15 @@ Forgets (some k) = remembering k ≡ false
 forgets : (kind : ℕ) → kind < byteOf FM-gate → Forgets (kindOf kind)
 unfolding kindOf
 forgets kind h =
-    rw (ne-eqb kind 19 (omega arith), ne-eqb kind 20 (omega arith))
+    rw (ne-eqb kind (byteOf FM-gate) (omega arith), ne-eqb kind (byteOf FS-gate) (omega arith))
     (or (leb 1 kind && leb kind 11) (some (operator kind)) _ refl
-    (or (eqb kind 12) (some constant) _ refl
-    (or (eqb kind 13) (some copy) _ refl
-    (or (eqb kind 14) (some T-gate) _ refl
-    (or (eqb kind 15) (some F-gate) _ refl
-    (or (eqb kind 16) (some M-gate) _ refl
-    (or (eqb kind 17) (some E-gate) _ refl
-    (or (eqb kind 18) (some IC-gate) none refl tt))))))))
+    (or (eqb kind (byteOf constant)) (some constant) _ refl
+    (or (eqb kind (byteOf copy)) (some copy) _ refl
+    (or (eqb kind (byteOf T-gate)) (some T-gate) _ refl
+    (or (eqb kind (byteOf F-gate)) (some F-gate) _ refl
+    (or (eqb kind (byteOf M-gate)) (some M-gate) _ refl
+    (or (eqb kind (byteOf E-gate)) (some E-gate) _ refl
+    (or (eqb kind (byteOf IC-gate)) (some IC-gate) none refl tt))))))))
   where
     or : (b : Bool) (x y : Option Kind) → Forgets x → Forgets y → Forgets (pick b x y)
     or true x y p q = p
