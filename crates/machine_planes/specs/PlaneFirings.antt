@@ -158,27 +158,27 @@ module _ (t : ℕ) (tag : t < mostTags) where
         plane-on m t long tag l f keeps ∙ ap (λ (x : List ℕ). onLink x leastSize l f) (u .1),
       )
 
-  module _ (m : List ℕ) (long : taggedNeed ≤ length m) where
-    under-moved : (p : Plan) → Under (movedFrom m (planeAt t) leastSize p) (moved (planeOf m t) leastSize p)
-    under-moved p = by-moves Under (planeAt t) linksAt leastSize under-on p m (planeOf m t) (long, refl)
+module _ (m : List ℕ) (t : ℕ) (long : taggedNeed ≤ length m) (tag : t < mostTags) where
+  under-moved : (p : Plan) → Under t tag (movedFrom m (planeAt t) leastSize p) (moved (planeOf m t) leastSize p)
+  under-moved p = by-moves (Under t tag) (planeAt t) linksAt leastSize (under-on t tag) p m (planeOf m t) (long, refl)
 
-    pub plane-moved : (p : Plan) → planeOf (movedFrom m (planeAt t) leastSize p) t ≡ moved (planeOf m t) leastSize p
-    plane-moved p = under-moved p .1
+  pub plane-moved : (p : Plan) → planeOf (movedFrom m (planeAt t) leastSize p) t ≡ moved (planeOf m t) leastSize p
+  plane-moved p = under-moved p .1
 
-    module _ (i : ℕ) (few : i < mostOperators) where
-      pub plane-performed : (p : Plan) → planeOf (performedFrom m (planeAt t) leastSize i p) t ≡ performed (planeOf m t) leastSize i p
-      unfolding performedFrom
-      plane-performed p =
-          plane-stored (movedFrom m (planeAt t) leastSize p) t (registerAt i) (p .register) (under-moved p .0) tag (omega arith) (omega arith)
-          ∙ ap (λ (x : List ℕ). stored x (registerAt i) (p .register)) (plane-moved p)
+  module _ (i : ℕ) (few : i < mostOperators) where
+    pub plane-performed : (p : Plan) → planeOf (performedFrom m (planeAt t) leastSize i p) t ≡ performed (planeOf m t) leastSize i p
+    unfolding performedFrom
+    plane-performed p =
+        plane-stored (movedFrom m (planeAt t) leastSize p) t (registerAt i) (p .register) (under-moved p .0) tag (omega arith) (omega arith)
+        ∙ ap (λ (x : List ℕ). stored x (registerAt i) (p .register)) (plane-moved p)
 
-      pub plane-fired : planeOf (firedFrom m (planeAt t) leastSize i) t ≡ firedAt (planeOf m t) leastSize i
-      unfolding firedFrom
-      plane-fired =
-          go (ableFrom m (planeAt t) leastSize i)
-          ∙ ap₂ (λ (b : Bool) (p : Plan). pick b (performed (planeOf m t) leastSize i p) (planeOf m t)) (plane-able m t long tag i few) (plane-plan m t long tag i few)
-        where
-          go : (b : Bool) → planeOf (pick b (performedFrom m (planeAt t) leastSize i (planFrom m (planeAt t) leastSize i)) m) t
-              ≡ pick b (performed (planeOf m t) leastSize i (planFrom m (planeAt t) leastSize i)) (planeOf m t)
-          go true = plane-performed (planFrom m (planeAt t) leastSize i)
-          go false = refl
+    pub plane-fired : planeOf (firedFrom m (planeAt t) leastSize i) t ≡ firedAt (planeOf m t) leastSize i
+    unfolding firedFrom
+    plane-fired =
+        go (ableFrom m (planeAt t) leastSize i)
+        ∙ ap₂ (λ (b : Bool) (p : Plan). pick b (performed (planeOf m t) leastSize i p) (planeOf m t)) (plane-able m t long tag i few) (plane-plan m t long tag i few)
+      where
+        go : (b : Bool) → planeOf (pick b (performedFrom m (planeAt t) leastSize i (planFrom m (planeAt t) leastSize i)) m) t
+            ≡ pick b (performed (planeOf m t) leastSize i (planFrom m (planeAt t) leastSize i)) (planeOf m t)
+        go true = plane-performed (planFrom m (planeAt t) leastSize i)
+        go false = refl
