@@ -2,24 +2,23 @@
 -- Assumes that the memory has its planes and that the tag is one; it may hold anything.
 use Prim.Native.Nat.{ℕ, suc, _+_, _*_, _≤_, _<_}
 use mathlib.Core.Path.{_≡_, refl, sym, ap, ap₂, _∙_}
-use mathlib.Core.Logic.{_≢_}
 use mathlib.Core.Bool.{Bool, true, false}
 use mathlib.Core.List.{List, [], _∷_, _++_}
 use native.Mathlib.Omega.{arith}
 use borrow.Author.Tests.{ltb-true}
 use lib.Dec.{ltb}
-use lib.ListN.{length, getD, take, set, length-set}
-use lib.Seq.{sets, take-set-lt, set-comm, set-append-left, getD-set-other}
+use lib.ListN.{length, take, set, length-set}
+use lib.Seq.{sets, take-set-lt, take-set-le, set-set, set-comm, set-append-left, getD-set-same, getD-set-other}
 use Rattle.value.specs.Operators.{pick}
 use Rattle.value.specs.Bytes.{stored, wordBytes, decoded, valueOf}
 use Rattle.machine_queue.specs.Stretch.{headOf, roomIn, removed, appended}
-use Rattle.machine_layout.specs.Layout.{capacityAt, untakenAt, mostOperators, mostLinks, recordsAt, linksAt, leastSize, linkAt, linkFrom, registerAt, portOf, part, put}
+use Rattle.machine_layout.specs.Layout.{capacityAt, untakenAt, mostOperators, mostLinks, linksAt, leastSize, linkAt, linkFrom, registerAt, portOf, part, put}
 use Rattle.machine_firing.specs.Links.{headFrom, headAt, tokenFrom, tokenAt, roomFrom, roomAt, onLinkFrom, onLink, removedFrom, removedAt, appendedFrom, appendedAt}
 use Rattle.machine_firing.specs.Parts.{length-put, part-put-below, part-length, part-set-below}
 use Rattle.machine_firing.specs.LinkLaws.{Keeps, length-on, keeps-removed, keeps-appended}
 use Rattle.machine_firing.specs.Fire.{Plan, planned, decisionFrom, decisionAt, planFrom, planAt, readyFrom, readyFor, movedFrom, moved, performedFrom, performed, ableFrom, ableAt, firedFrom, firedAt}
-use Rattle.machine_planes.specs.Planes.{mostTags, tagsAt, planeBytes, planeAt, taggedNeed, planeOf}
-use Rattle.machine_planes.specs.PlaneBytes.{put-behind, put-inside, headed, headed-length, plane-split, plane-kind, plane-port, plane-register, plane-link}
+use Rattle.machine_planes.specs.Planes.{mostTags, tagsAt, tagByte, planeBytes, planeAt, taggedNeed, planeOf}
+use Rattle.machine_planes.specs.PlaneBytes.{put-behind, put-inside, getD-put-above, part-set-above, headed, headed-length, plane-split, plane-kind, plane-port, plane-register, plane-link}
 
 -- ---- what is read under a tag
 
@@ -54,29 +53,52 @@ module _ (m : List ℕ) (t : ℕ) (long : taggedNeed ≤ length m) (tag : t < mo
     pub plane-decision : decisionFrom m (planeAt t) leastSize i ≡ decisionAt (planeOf m t) leastSize i
     unfolding decisionFrom
     plane-decision =
-        rw (plane-kind m t long tag i few, plane-port m t long tag i few 0 (omega arith), plane-port m t long tag i few 1 (omega arith), plane-port m t long tag i few 2 (omega arith),
-        plane-register m t long tag i few, plane-token (portOf m i 0), plane-token (portOf m i 1), plane-token (portOf m i 2)) refl
+        rw (
+          plane-kind m t long tag i few,
+          plane-port m t long tag i few 0 (omega arith),
+          plane-port m t long tag i few 1 (omega arith),
+          plane-port m t long tag i few 2 (omega arith),
+          plane-register m t long tag i few,
+          plane-token (portOf m i 0),
+          plane-token (portOf m i 1),
+          plane-token (portOf m i 2),
+        ) refl
 
     pub plane-plan : planFrom m (planeAt t) leastSize i ≡ planAt (planeOf m t) leastSize i
     unfolding planFrom planned
     plane-plan =
-        rw (plane-decision, plane-port m t long tag i few 0 (omega arith), plane-port m t long tag i few 1 (omega arith), plane-port m t long tag i few 2 (omega arith),
-        plane-port m t long tag i few 3 (omega arith), plane-port m t long tag i few 4 (omega arith), plane-port m t long tag i few 5 (omega arith)) refl
+        rw (
+          plane-decision,
+          plane-port m t long tag i few 0 (omega arith),
+          plane-port m t long tag i few 1 (omega arith),
+          plane-port m t long tag i few 2 (omega arith),
+          plane-port m t long tag i few 3 (omega arith),
+          plane-port m t long tag i few 4 (omega arith),
+          plane-port m t long tag i few 5 (omega arith),
+        ) refl
 
     pub plane-able : ableFrom m (planeAt t) leastSize i ≡ ableAt (planeOf m t) leastSize i
     unfolding ableFrom
     plane-able = plane-ready (planFrom m (planeAt t) leastSize i) ∙ ap (readyFor (planeOf m t) leastSize) plane-plan
 
--- ---- what is written under a tag: a link, and a byte that stands once
+-- ---- what is written under a tag: a link, a byte that stands once, and the tag's byte
+
+headed-set : (x : List ℕ) (b i v : ℕ) → untakenAt < i → headed (set x i v) b ≡ set (headed x b) i v
+headed-set x b i v h = ap (λ (y : List ℕ). set y untakenAt b) (set-comm x i capacityAt v 1 (omega arith)) ∙ set-comm (set x capacityAt 1) i untakenAt v b (omega arith)
 
 module _ (m : List ℕ) (t : ℕ) (long : taggedNeed ≤ length m) (tag : t < mostTags) where
+  -- the bytes of the tags lie behind the planes
+  pub tag-put : (b s : ℕ) (ys : List ℕ) → length ys ≡ s → b + s ≤ planeBytes → (u : ℕ) → tagByte (put m (planeAt t + b) s ys) u ≡ tagByte m u
+  tag-put b s ys e h u = getD-put-above m (planeAt t + b) s ys (omega arith) e _ (omega arith)
+
   pub plane-put : (b s : ℕ) (ys : List ℕ) → length ys ≡ s → b + s ≤ planeBytes → planeOf (put m (planeAt t + b) s ys) t ≡ put (planeOf m t) (linksAt + b) s ys
   plane-put b s ys e h =
       let k = length-put m (planeAt t + b) s ys (omega arith) e in
       plane-split (put m (planeAt t + b) s ys) t (omega arith) tag
-      ∙ ap₂ (λ (x y : List ℕ). headed x t ++ y) (part-put-below m (planeAt t + b) s ys (omega arith) e 0 linksAt (omega arith))
+      ∙ ap (λ (c : ℕ). headed (take linksAt (put m (planeAt t + b) s ys)) c ++ part (put m (planeAt t + b) s ys) (planeAt t) planeBytes) (tag-put b s ys e h t)
+      ∙ ap₂ (λ (x y : List ℕ). headed x (tagByte m t) ++ y) (part-put-below m (planeAt t + b) s ys (omega arith) e 0 linksAt (omega arith))
       (put-inside m (planeAt t) planeBytes (omega arith) b s h ys e)
-      ∙ sym (put-behind (headed (take linksAt m) t) (part m (planeAt t) planeBytes) b s ys linksAt (headed-length m t long tag))
+      ∙ sym (put-behind (headed (take linksAt m) (tagByte m t)) (part m (planeAt t) planeBytes) b s ys linksAt (headed-length m t long tag))
       ∙ ap (λ (x : List ℕ). put x (linksAt + b) s ys) (sym (plane-split m t long tag))
 
   pub plane-on : (l : ℕ) (f : List ℕ → List ℕ) → Keeps f → planeOf (onLinkFrom m (planeAt t) leastSize l f) t ≡ onLink (planeOf m t) leastSize l f
@@ -100,29 +122,41 @@ module _ (m : List ℕ) (t : ℕ) (long : taggedNeed ≤ length m) (tag : t < mo
   unfolding appendedFrom
   plane-appended l w = plane-on l (λ q. appended q w) (keeps-appended w)
 
-  headed-set : (x : List ℕ) (i v : ℕ) → untakenAt < i → i ≢ tagsAt + t → headed (set x i v) t ≡ set (headed x t) i v
-  headed-set x i v h n =
-      ap₂ (λ (y : List ℕ) (b : ℕ). set y untakenAt b) (set-comm x i capacityAt v 1 (omega arith)) (getD-set-other x i (tagsAt + t) v 0 (omega arith))
-      ∙ set-comm (set x capacityAt 1) i untakenAt v (getD x (tagsAt + t) 0) (omega arith)
-
-  pub plane-set : (i v : ℕ) → untakenAt < i → i ≢ tagsAt + t → i < linksAt → planeOf (set m i v) t ≡ set (planeOf m t) i v
-  plane-set i v h n k =
+  pub plane-set : (i v : ℕ) → untakenAt < i → i < linksAt → planeOf (set m i v) t ≡ set (planeOf m t) i v
+  plane-set i v h k =
       let e = length-set m i v in
       let w = headed-length m t long tag in
       plane-split (set m i v) t (omega arith) tag
-      ∙ ap₂ (λ (x y : List ℕ). headed x t ++ y) (take-set-lt linksAt m i v k) (part-set-below m i v (planeAt t) planeBytes (omega arith))
-      ∙ ap (λ (x : List ℕ). x ++ part m (planeAt t) planeBytes) (headed-set (take linksAt m) i v h n)
-      ∙ sym (set-append-left (headed (take linksAt m) t) (part m (planeAt t) planeBytes) i v (omega arith))
+      ∙ ap (λ (c : ℕ). headed (take linksAt (set m i v)) c ++ part (set m i v) (planeAt t) planeBytes) (getD-set-other m i _ v 0 (omega arith))
+      ∙ ap₂ (λ (x y : List ℕ). headed x (tagByte m t) ++ y) (take-set-lt linksAt m i v k) (part-set-below m i v (planeAt t) planeBytes (omega arith))
+      ∙ ap (λ (x : List ℕ). x ++ part m (planeAt t) planeBytes) (headed-set (take linksAt m) (tagByte m t) i v h)
+      ∙ sym (set-append-left (headed (take linksAt m) (tagByte m t)) (part m (planeAt t) planeBytes) i v (omega arith))
       ∙ ap (λ (x : List ℕ). set x i v) (sym (plane-split m t long tag))
 
-plane-sets : (vs m : List ℕ) (t at : ℕ) → taggedNeed ≤ length m → t < mostTags → recordsAt ≤ at → at + length vs ≤ linksAt → planeOf (sets m at vs) t ≡ sets (planeOf m t) at vs
+  -- of a byte set behind the planes a tag's machine sees what it makes of the tag's byte
+  pub plane-beyond : (i v : ℕ) → tagsAt ≤ i → planeOf (set m i v) t ≡ headed (take linksAt m) (tagByte (set m i v) t) ++ part m (planeAt t) planeBytes
+  plane-beyond i v h =
+      let e = length-set m i v in
+      plane-split (set m i v) t (omega arith) tag
+      ∙ ap₂ (λ (x y : List ℕ). headed x (tagByte (set m i v) t) ++ y) (take-set-le linksAt m i v (omega arith)) (part-set-above m i v (planeAt t) planeBytes (omega arith))
+
+  pub plane-tag : (v : ℕ) → planeOf (set m (tagsAt + t) v) t ≡ set (planeOf m t) untakenAt v
+  plane-tag v =
+      let w = headed-length m t long tag in
+      plane-beyond (tagsAt + t) v (omega arith)
+      ∙ ap (λ (c : ℕ). headed (take linksAt m) c ++ part m (planeAt t) planeBytes) (getD-set-same m (tagsAt + t) v 0 (omega arith))
+      ∙ ap (λ (x : List ℕ). x ++ part m (planeAt t) planeBytes) (sym (set-set (set (take linksAt m) capacityAt 1) untakenAt (tagByte m t) v))
+      ∙ sym (set-append-left (headed (take linksAt m) (tagByte m t)) (part m (planeAt t) planeBytes) untakenAt v (omega arith))
+      ∙ ap (λ (x : List ℕ). set x untakenAt v) (sym (plane-split m t long tag))
+
+plane-sets : (vs m : List ℕ) (t at : ℕ) → taggedNeed ≤ length m → t < mostTags → untakenAt < at → at + length vs ≤ linksAt → planeOf (sets m at vs) t ≡ sets (planeOf m t) at vs
 plane-sets [] m t at long tag h k = refl
 plane-sets (v ∷ vs) m t at long tag h k =
     let e = length-set m at v in
     plane-sets vs (set m at v) t (suc at) (omega arith) tag (omega arith) (omega arith)
-    ∙ ap (λ (x : List ℕ). sets x (suc at) vs) (plane-set m t long tag at v (omega arith) (omega arith) (omega arith))
+    ∙ ap (λ (x : List ℕ). sets x (suc at) vs) (plane-set m t long tag at v h (omega arith))
 
-pub plane-stored : (m : List ℕ) (t at w : ℕ) → taggedNeed ≤ length m → t < mostTags → recordsAt ≤ at → at + 5 ≤ linksAt → planeOf (stored m at w) t ≡ stored (planeOf m t) at w
+pub plane-stored : (m : List ℕ) (t at w : ℕ) → taggedNeed ≤ length m → t < mostTags → untakenAt < at → at + 5 ≤ linksAt → planeOf (stored m at w) t ≡ stored (planeOf m t) at w
 unfolding stored wordBytes
 plane-stored m t at w long tag h k = plane-sets (wordBytes w) m t at long tag h k
 
@@ -152,8 +186,7 @@ module _ (t : ℕ) (tag : t < mostTags) where
 
   under-on : (m p : List ℕ) (l : ℕ) (f : List ℕ → List ℕ) → Keeps f → Under m p → Under (onLinkFrom m (planeAt t) leastSize l f) (onLink p leastSize l f)
   under-on m p l f keeps u =
-      let long = u .0 in
-      (
+      let long = u .0 in (
         omega (arith, length-on m (planeAt t) leastSize (omega arith) l f keeps),
         plane-on m t long tag l f keeps ∙ ap (λ (x : List ℕ). onLink x leastSize l f) (u .1),
       )

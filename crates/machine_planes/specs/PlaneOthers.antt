@@ -1,8 +1,8 @@
--- What a call under a tag leaves: the machines of the other tags, but for a register that an operator changes, and every byte below the registers.
+-- What a call under a tag leaves: the machines of the other tags, but for a register that an operator changes, every byte below the registers, and the bytes of the tags.
 -- Assumes that the memory has its planes and that the tags are such; it may hold anything.
 use Prim.Native.Nat.{ℕ, suc, _+_, _*_, _/_, _%_, _≤_, _<_}
 use mathlib.Core.Path.{_≡_, refl, sym, ap, ap₂, _∙_}
-use mathlib.Core.Logic.{_≢_}
+use mathlib.Core.Logic.{_≢_, _⊎_, inl, inr, ⊎-elim}
 use mathlib.Core.Bool.{Bool, true, false, _&&_}
 use mathlib.Core.List.{List, [], _∷_, _++_}
 use mathlib.Core.Option.{Option, none, some}
@@ -10,13 +10,13 @@ use native.Mathlib.Omega.{arith}
 use native.Mathlib.Decide.{decLt}
 use borrow.Author.Tests.{ltb-true, ne-eqb}
 use lib.Dec.{leb, ltb, eqb}
-use lib.ListN.{length, getD}
-use lib.Seq.{sets, set-getD}
+use lib.ListN.{length, getD, take, set}
+use lib.Seq.{sets, set-getD, getD-set-other}
 use Rattle.value.specs.declared.Value.{Value}
 use Rattle.value.specs.declared.Decoded.{Decoded}
 use Rattle.value.specs.Operators.{pick}
 use Rattle.value.specs.Bytes.{decoded, wordOr, wordBytes, wordAt, stored}
-use Rattle.value.proofs.Words.{length-stored, byte-before}
+use Rattle.value.proofs.Words.{length-stored}
 use Rattle.network.specs.Rules.{Kind, constant, copy, operator, T-gate, F-gate, M-gate, E-gate, IC-gate, FM-gate, FS-gate, Input, Firing, takes, gives, never, rule}
 use Rattle.network.specs.Decide.{Taken, untouched, also, with-head, decided}
 use Rattle.network.specs.Fill.{remembering, Gives, register-kept}
@@ -25,13 +25,14 @@ use Rattle.machine_gates.specs.Decide.{optional, heads, told, ruled, decideAt, 
 use Rattle.machine_gates.specs.GateLaws.{Leaves, idle-leaves}
 use Rattle.machine_layout.specs.Kinds.{byteOf, kindOf}
 use Rattle.machine_layout.specs.Layout.{mostOperators, mostLinks, registersAt, linksAt, leastSize, needFrom, linkFrom, kindByte, registerAt, part, put}
+use Rattle.machine_layout.specs.Fits.{stretch-fits}
 use Rattle.machine_firing.specs.Links.{onLinkFrom, removedFrom, appendedFrom}
 use Rattle.machine_firing.specs.Parts.{length-put, part-put-below, part-put-above, part-length}
-use Rattle.machine_firing.specs.LinkLaws.{Keeps, length-on, low-on, keeps-removed, keeps-appended}
+use Rattle.machine_firing.specs.LinkLaws.{Keeps, length-on, low-on, byte-kept, keeps-removed, keeps-appended}
 use Rattle.machine_firing.specs.Fire.{Plan, planned, registerOf, decisionFrom, planFrom, readyFrom, movedFrom, performedFrom, ableFrom, firedFrom}
-use Rattle.machine_planes.specs.Planes.{mostTags, planeBytes, planeAt, taggedNeed, planeOf}
-use Rattle.machine_planes.specs.PlaneBytes.{headed, plane-split}
-use Rattle.machine_planes.specs.PlaneFirings.{plane-stored, by-moves}
+use Rattle.machine_planes.specs.Planes.{mostTags, tagsAt, tagByte, planeBytes, planeAt, taggedNeed, planeOf}
+use Rattle.machine_planes.specs.PlaneBytes.{getD-put-above, headed, plane-split}
+use Rattle.machine_planes.specs.PlaneFirings.{tag-put, plane-beyond, plane-stored, by-moves}
 
 -- ---- another tag's machine
 
@@ -48,7 +49,15 @@ module _ (t u : ℕ) (tag : t < mostTags) (tag′ : u < mostTags) (other : u ≢
     beside-put b s ys e h =
         let k = length-put m (planeAt t + b) s ys (omega arith) e in
         plane-split (put m (planeAt t + b) s ys) u (omega arith) tag′
-        ∙ ap₂ (λ (x y : List ℕ). headed x u ++ y) (part-put-below m (planeAt t + b) s ys (omega arith) e 0 linksAt (omega arith)) (beside-part b s ys e h)
+        ∙ ap (λ (c : ℕ). headed (take linksAt (put m (planeAt t + b) s ys)) c ++ part (put m (planeAt t + b) s ys) (planeAt u) planeBytes) (tag-put m t long tag b s ys e h u)
+        ∙ ap₂ (λ (x y : List ℕ). headed x (tagByte m u) ++ y) (part-put-below m (planeAt t + b) s ys (omega arith) e 0 linksAt (omega arith)) (beside-part b s ys e h)
+        ∙ sym (plane-split m u long tag′)
+
+    -- the tag's own byte
+    pub beside-tag : (v : ℕ) → planeOf (set m (tagsAt + t) v) u ≡ planeOf m u
+    beside-tag v =
+        plane-beyond m u long tag′ (tagsAt + t) v (omega arith)
+        ∙ ap (λ (c : ℕ). headed (take linksAt m) c ++ part m (planeAt u) planeBytes) (getD-set-other m (tagsAt + t) _ v 0 (omega arith))
         ∙ sym (plane-split m u long tag′)
 
     pub beside-on : (l : ℕ) (f : List ℕ → List ℕ) → Keeps f → planeOf (onLinkFrom m (planeAt t) leastSize l f) u ≡ planeOf m u
@@ -103,28 +112,50 @@ module _ (t u : ℕ) (tag : t < mostTags) (tag′ : u < mostTags) (other : u ≢
               ∙ ap (λ (x : List ℕ). planeOf x u) (kept e)
           go false e = refl
 
--- ---- the length, and every byte below the registers, whatever the byte where the links begin
+-- ---- the length, and every byte below the registers or behind the links, whatever the byte where the links begin
 
 module _ (m : List ℕ) (base size : ℕ) (h : needFrom base size ≤ length m) where
-  abbrev Low : List ℕ → List ℕ → Type 0
-  Low x y = (length x ≡ length m) × ((at : ℕ) → at < base → getD x at 0 ≡ getD m at 0)
+  behind-on : (l : ℕ) (f : List ℕ → List ℕ) → Keeps f → (at : ℕ) → needFrom base size ≤ at → getD (onLinkFrom m base size l f) at 0 ≡ getD m at 0
+  behind-on l f keeps at q = go (ltb l mostLinks) refl
+    where
+      go : (b : Bool) → ltb l mostLinks ≡ b → getD (pick b (put m (linkFrom base size l) size (f (part m (linkFrom base size l) size))) m) at 0 ≡ getD m at 0
+      go true e =
+          let a = stretch-fits base size l (ltb-true l mostLinks e) in
+          let x = part m (linkFrom base size l) size in
+          getD-put-above m (linkFrom base size l) size (f x) (omega arith) (keeps x ∙ part-length m (linkFrom base size l) size (omega arith)) at (omega arith)
+      go false e = refl
 
-  on-low : (x y : List ℕ) (l : ℕ) (f : List ℕ → List ℕ) → Keeps f → Low x y → Low (onLinkFrom x base size l f) (onLinkFrom y base size l f)
-  on-low x y l f keeps w =
+  pub removed-behind : (l at : ℕ) → needFrom base size ≤ at → getD (removedFrom m base size l) at 0 ≡ getD m at 0
+  unfolding removedFrom
+  removed-behind l = behind-on l removed keeps-removed
+
+  pub appended-behind : (l w at : ℕ) → needFrom base size ≤ at → getD (appendedFrom m base size l w) at 0 ≡ getD m at 0
+  unfolding appendedFrom
+  appended-behind l w = behind-on l (λ q. appended q w) (keeps-appended w)
+
+module _ (m : List ℕ) (base size : ℕ) (h : needFrom base size ≤ length m) where
+  abbrev Outside : ℕ → Type 0
+  Outside at = (at < base) ⊎ (needFrom base size ≤ at)
+
+  abbrev Kept : List ℕ → List ℕ → Type 0
+  Kept x y = (length x ≡ length m) × ((at : ℕ) → Outside at → getD x at 0 ≡ getD m at 0)
+
+  on-kept : (x y : List ℕ) (l : ℕ) (f : List ℕ → List ℕ) → Keeps f → Kept x y → Kept (onLinkFrom x base size l f) (onLinkFrom y base size l f)
+  on-kept x y l f keeps w =
       let e = w .0 in
       let k : needFrom base size ≤ length x = omega arith in
-      (length-on x base size k l f keeps ∙ e, λ at q. low-on x base size k l f keeps at q ∙ w .1 at q)
+      (length-on x base size k l f keeps ∙ e, λ at q. ⊎-elim (low-on x base size k l f keeps at) (behind-on x base size k l f keeps at) q ∙ w .1 at q)
 
-  moved-low : (p : Plan) → Low (movedFrom m base size p) (movedFrom m base size p)
-  moved-low p = by-moves Low base base size on-low p m m (refl, λ at q. refl)
+  moved-kept : (p : Plan) → Kept (movedFrom m base size p) (movedFrom m base size p)
+  moved-kept p = by-moves Kept base base size on-kept p m m (refl, λ at q. refl)
 
   performed-length : (i : ℕ) (p : Plan) → length (performedFrom m base size i p) ≡ length m
   unfolding performedFrom
-  performed-length i p = length-stored (movedFrom m base size p) (registerAt i) (p .register) ∙ moved-low p .0
+  performed-length i p = length-stored (movedFrom m base size p) (registerAt i) (p .register) ∙ moved-kept p .0
 
-  performed-low : (i : ℕ) (p : Plan) (at : ℕ) → at < base → at < registerAt i → getD (performedFrom m base size i p) at 0 ≡ getD m at 0
+  performed-byte : (i : ℕ) (p : Plan) (at : ℕ) → Outside at → (at < registerAt i) ⊎ (registerAt i + 5 ≤ at) → getD (performedFrom m base size i p) at 0 ≡ getD m at 0
   unfolding performedFrom
-  performed-low i p at q k = byte-before (movedFrom m base size p) (registerAt i) (p .register) at k ∙ moved-low p .1 at q
+  performed-byte i p at q k = byte-kept (movedFrom m base size p) (registerAt i) (p .register) at k ∙ moved-kept p .1 at q
 
   pub fired-length : (i : ℕ) → length (firedFrom m base size i) ≡ length m
   unfolding firedFrom
@@ -134,13 +165,31 @@ module _ (m : List ℕ) (base size : ℕ) (h : needFrom base size ≤ length m) 
       go true = performed-length i (planFrom m base size i)
       go false = refl
 
-  pub fired-low : registersAt ≤ base → (i at : ℕ) → at < registersAt → getD (firedFrom m base size i) at 0 ≡ getD m at 0
+  fired-byte : (i at : ℕ) → Outside at → (at < registerAt i) ⊎ (registerAt i + 5 ≤ at) → getD (firedFrom m base size i) at 0 ≡ getD m at 0
   unfolding firedFrom
-  fired-low above i at q = go (ableFrom m base size i)
+  fired-byte i at q k = go (ableFrom m base size i)
     where
       go : (b : Bool) → getD (pick b (performedFrom m base size i (planFrom m base size i)) m) at 0 ≡ getD m at 0
-      go true = performed-low i (planFrom m base size i) at (omega arith) (omega arith)
+      go true = performed-byte i (planFrom m base size i) at q k
       go false = refl
+
+  pub fired-low : registersAt ≤ base → (i at : ℕ) → at < registersAt → getD (firedFrom m base size i) at 0 ≡ getD m at 0
+  fired-low above i at q = fired-byte i at (inl (omega arith)) (inl (omega arith))
+
+  pub fired-behind : linksAt ≤ base → (i at : ℕ) → i < mostOperators → needFrom base size ≤ at → getD (firedFrom m base size i) at 0 ≡ getD m at 0
+  fired-behind above i at few q = fired-byte i at (inr q) (inr (omega arith))
+
+-- ---- the bytes of the tags
+
+module _ (m : List ℕ) (t : ℕ) (long : taggedNeed ≤ length m) (tag : t < mostTags) where
+  pub tag-removed : (l u : ℕ) → tagByte (removedFrom m (planeAt t) leastSize l) u ≡ tagByte m u
+  tag-removed l u = removed-behind m (planeAt t) leastSize (omega arith) l _ (omega arith)
+
+  pub tag-appended : (l w u : ℕ) → tagByte (appendedFrom m (planeAt t) leastSize l w) u ≡ tagByte m u
+  tag-appended l w u = appended-behind m (planeAt t) leastSize (omega arith) l w _ (omega arith)
+
+  pub tag-fired : (i : ℕ) → i < mostOperators → (u : ℕ) → tagByte (firedFrom m (planeAt t) leastSize i) u ≡ tagByte m u
+  tag-fired i few u = fired-behind m (planeAt t) leastSize (omega arith) (omega arith) i _ few (omega arith)
 
 -- ---- an operator that does not remember
 

@@ -9,21 +9,22 @@ use Rattle.machine_layout.specs.Layout.{capacityAt, untakenAt, mostLinks, links
 abbrev pub mostTags : ℕ
 mostTags = 16
 
--- For each tag 1 where a set is pushed and its result not taken, else 0.
-abbrev pub tagsAt : ℕ
-tagsAt = 138
-
-abbrev pub tagByte : List ℕ → ℕ → ℕ
-tagByte m t = getD m (tagsAt + t) 0
-
 abbrev pub planeBytes : ℕ
 planeBytes = mostLinks * leastSize
 
 abbrev pub planeAt : ℕ → ℕ
 planeAt t = linksAt + t * planeBytes
 
+-- Behind the planes, so that no tag's machine holds another's, a byte for each tag: 1 where a set is pushed and its result not taken, else 0.
+abbrev pub tagsAt : ℕ
+tagsAt = planeAt mostTags
+
+abbrev pub tagByte : List ℕ → ℕ → ℕ
+tagByte m t = getD m (tagsAt + t) 0
+
+-- 319,856 bytes
 abbrev pub taggedNeed : ℕ
-taggedNeed = planeAt mostTags
+taggedNeed = tagsAt + mostTags
 
 -- The machine of a tag: capacity 1, the tag's byte for the sets untaken, and the links of its plane.
 unfoldable pub planeOf : List ℕ → ℕ → List ℕ
