@@ -1,4 +1,4 @@
--- Every stretch lies in the memory that a machine needs, and the stretches of two links lie apart. Assumes nothing.
+-- Every stretch lies in the memory that its links need, and the stretches of two links lie apart. Assumes nothing.
 use Prim.Native.Nat.{ℕ, suc, _+_, _*_, _≤_, _<_}
 use mathlib.Core.Path.{_≡_}
 use native.Mathlib.Omega.{arith}

@@ -16,7 +16,7 @@ kept false x m = refl
 
 -- src/lib.rt:294:5  { ⏎ fire_or_tell(mem, base, size, i, true)
 fire-or-tell-requires : tie.Need-fire-or-tell-requires
-fire-or-tell-requires c κs = search needs
+fire-or-tell-requires c κs = c .before .before .pre
 
 -- src/lib.rt:290:1  // Whether operator i can fire. ⏎ pub fn able_at(mem: &mut [u8], base: usize, size: usize, i: usize) -> bool
 same-length : tie.Need-same-length

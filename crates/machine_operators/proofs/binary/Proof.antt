@@ -40,7 +40,7 @@ port-of-requires c κs = search needs
 
 -- src/lib.rt:67:9  let first = port_of(mem, i, FIRST_INPUT); ⏎ let a = token_of(mem, base, size, first);
 token-of-requires : tie.Need-token-of-requires
-token-of-requires c κs = search needs
+token-of-requires c κs = (c .before .before .before .before .pre .1, c .before .before .before .before .pre .2, c .before .before .before .before .pre .3)
 
 -- src/lib.rt:68:8  let a = token_of(mem, base, size, first); ⏎ if is_absent(a) {
 is-absent-requires : tie.Need-is-absent-requires
@@ -61,7 +61,7 @@ port-of-requires-2 c κs = search needs
 
 -- src/lib.rt:72:9  let second = port_of(mem, i, SECOND_INPUT); ⏎ let b = token_of(mem, base, size, second);
 token-of-requires-2 : tie.Need-token-of-requires-2
-token-of-requires-2 c κs = search needs
+token-of-requires-2 c κs = (c .before .before .before .before .before .before .before .before .before .before .pre .1, c .before .before .before .before .before .before .before .before .before .before .pre .2, c .before .before .before .before .before .before .before .before .before .before .pre .3)
 
 -- src/lib.rt:73:8  let b = token_of(mem, base, size, second); ⏎ if is_absent(b) {
 is-absent-requires-2 : tie.Need-is-absent-requires-2
@@ -82,7 +82,7 @@ applied-to-requires c κs = search needs
 
 -- src/lib.rt:77:5  let word = machine_gates::applied_to(code, a, b); ⏎ give_one(mem, base, size, i, first, second, word, dry)
 give-one-requires : tie.Need-give-one-requires
-give-one-requires c κs = search needs
+give-one-requires c κs = c .before .before .before .before .before .before .before .before .before .before .before .before .before .before .before .pre
 
 -- src/lib.rt:62:1  } ⏎ fn binary(mem: &mut [u8], base: usize, size: usize, i: usize, code: u8, dry: bool) -> bool
 same-length-3 : tie.Need-same-length-3

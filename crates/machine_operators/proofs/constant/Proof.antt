@@ -31,7 +31,7 @@ port-of-requires c κs = search needs
 
 -- src/lib.rt:86:18  let trigger = port_of(mem, i, FIRST_INPUT); ⏎ if is_absent(token_of(mem, base, size, trigger)) {
 token-of-requires : tie.Need-token-of-requires
-token-of-requires c κs = search needs
+token-of-requires c κs = (c .before .before .before .before .pre .1, c .before .before .before .before .pre .2, c .before .before .before .before .pre .3)
 
 -- src/lib.rt:86:8  let trigger = port_of(mem, i, FIRST_INPUT); ⏎ if is_absent(token_of(mem, base, size, trigger)) {
 is-absent-requires : tie.Need-is-absent-requires
@@ -65,7 +65,7 @@ returns-2 c = rw ((sym (c .before .before .before .before .before .is-absent .en
 
 -- src/lib.rt:93:5  } ⏎ give_one(mem, base, size, i, trigger, NOWHERE, register, dry)
 give-one-requires : tie.Need-give-one-requires
-give-one-requires c κs = search needs
+give-one-requires c κs = c .before .before .before .before .before .before .before .before .before .before .before .before .pre
 
 -- src/lib.rt:81:1  // "A constant takes one trigger": its value is its register. ⏎ fn constant(mem: &mut [u8], base: usize, size: usize, i: usize, dry: bool) -> bool
 same-length-3 : tie.Need-same-length-3

@@ -1,5 +1,6 @@
 -- The tests, as paths name them:
 --   tie if1  let token = token_of(mem, base, size, first); ⏎ if is_absent(token) {
+use native.Mathlib.Omega.{arith}
 use borrow.Author.Needs.{needs}
 use Rattle.machine_operators.proofs.copy.Statement.{statement}
 use Rattle.machine_operators.proofs.copy.Tie as tie
@@ -29,7 +30,7 @@ port-of-requires c κs = search needs
 
 -- src/lib.rt:101:9  let first = port_of(mem, i, FIRST_INPUT); ⏎ let token = token_of(mem, base, size, first);
 token-of-requires : tie.Need-token-of-requires
-token-of-requires c κs = search needs
+token-of-requires c κs = (c .before .before .before .before .pre .1, c .before .before .before .before .pre .2, c .before .before .before .before .pre .3)
 
 -- src/lib.rt:102:8  let token = token_of(mem, base, size, first); ⏎ if is_absent(token) {
 is-absent-requires : tie.Need-is-absent-requires
@@ -46,7 +47,7 @@ returns c = rw (sym (c .before .is-absent .ensures (tokenFrom (c .before .before
 
 -- src/lib.rt:105:5  } ⏎ give_two(
 give-two-requires : tie.Need-give-two-requires
-give-two-requires c κs = search needs
+give-two-requires c κs = (c .before .before .before .before .before .before .before .before .pre .0, c .before .before .before .before .before .before .before .before .pre .1, c .before .before .before .before .before .before .before .before .pre .2, c .before .before .before .before .before .before .before .before .pre .3, c .before .before .before .before .before .before .before .before .pre .4, omega arith)
 
 -- src/lib.rt:96:1  } ⏎ fn copy(mem: &mut [u8], base: usize, size: usize, i: usize, dry: bool) -> bool
 same-length-2 : tie.Need-same-length-2

@@ -16,7 +16,7 @@ wet false x m = refl
 
 -- src/lib.rt:302:5  { ⏎ fire_or_tell(mem, base, size, i, false)
 fire-or-tell-requires : tie.Need-fire-or-tell-requires
-fire-or-tell-requires c κs = search needs
+fire-or-tell-requires c κs = c .before .before .pre
 
 -- src/lib.rt:298:1  // Fires operator i if it can, and tells whether it did. ⏎ pub fn fire_at(mem: &mut [u8], base: usize, size: usize, i: usize) -> bool
 same-length : tie.Need-same-length

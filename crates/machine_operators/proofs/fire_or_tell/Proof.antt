@@ -35,7 +35,7 @@ slice-read-kind c = search needs
 
 -- src/lib.rt:276:9  if kind == machine_layout::FS { ⏎ return fs_gate(mem, base, size, i, dry);
 fs-gate-requires : tie.Need-fs-gate-requires
-fs-gate-requires c κs = search needs
+fs-gate-requires c κs = c .before .before .before .before .before .pre
 
 -- src/lib.rt:276:9  if kind == machine_layout::FS { ⏎ return fs_gate(mem, base, size, i, dry);
 same-length : tie.Need-same-length

@@ -1,5 +1,6 @@
 -- The tests, as paths name them:
 --   tie if1  { ⏎ if is_absent(register_of(mem, i)) {
+use native.Mathlib.Omega.{arith}
 use borrow.Author.Needs.{needs}
 use Rattle.machine_operators.proofs.fm_gate.Statement.{statement}
 use Rattle.machine_operators.proofs.fm_gate.Tie as tie
@@ -33,7 +34,7 @@ is-absent-requires c κs = search needs
 
 -- src/lib.rt:223:9  if is_absent(register_of(mem, i)) { ⏎ return pass_data(mem, base, size, i, NOWHERE, THIRD_INPUT, dry);
 pass-data-requires : tie.Need-pass-data-requires
-pass-data-requires c κs = search needs
+pass-data-requires c κs = (c .before .before .before .before .before .before .pre .0, c .before .before .before .before .before .before .pre .1, c .before .before .before .before .before .before .pre .2, c .before .before .before .before .before .before .pre .3, c .before .before .before .before .before .before .pre .4, omega arith)
 
 -- src/lib.rt:223:9  if is_absent(register_of(mem, i)) { ⏎ return pass_data(mem, base, size, i, NOWHERE, THIRD_INPUT, dry);
 same-length : tie.Need-same-length
@@ -46,7 +47,7 @@ returns c = rw (sym (c .before .before .before .before .before .is-absent .ensur
 
 -- src/lib.rt:225:5  } ⏎ m_gate(mem, base, size, i, dry)
 m-gate-requires : tie.Need-m-gate-requires
-m-gate-requires c κs = search needs
+m-gate-requires c κs = c .before .before .before .before .before .before .pre
 
 -- src/lib.rt:218:1  // "first firing wants only input 3 and passes it; then as M, with control iter?" ⏎ fn fm_gate(mem: &mut [u8], base: usize, size: usize, i: usize, dry: bool) -> bool
 same-length-2 : tie.Need-same-length-2

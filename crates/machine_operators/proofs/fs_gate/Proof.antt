@@ -38,7 +38,7 @@ is-absent-requires c κs = search needs
 
 -- src/lib.rt:236:9  if is_absent(register) { ⏎ return remember_data(mem, base, size, i, NOWHERE, dry);
 remember-data-requires : tie.Need-remember-data-requires
-remember-data-requires c κs = search needs
+remember-data-requires c κs = c .before .before .before .before .before .before .pre
 
 -- src/lib.rt:236:9  if is_absent(register) { ⏎ return remember_data(mem, base, size, i, NOWHERE, dry);
 same-length : tie.Need-same-length
@@ -55,7 +55,7 @@ port-of-requires c κs = search needs
 
 -- src/lib.rt:239:9  let first = port_of(mem, i, FIRST_INPUT); ⏎ let control = token_of(mem, base, size, first);
 token-of-requires : tie.Need-token-of-requires
-token-of-requires c κs = search needs
+token-of-requires c κs = (c .before .before .before .before .before .before .before .before .pre .1, c .before .before .before .before .before .before .before .before .pre .2, c .before .before .before .before .before .before .before .before .pre .3)
 
 -- src/lib.rt:240:8  let control = token_of(mem, base, size, first); ⏎ if is_absent(control) {
 is-absent-requires-2 : tie.Need-is-absent-requires-2
@@ -76,7 +76,7 @@ is-true-requires c κs = search needs
 
 -- src/lib.rt:244:9  if is_true(control) { ⏎ return remember(mem, base, size, i, first, NOWHERE, register, dry);
 remember-requires : tie.Need-remember-requires
-remember-requires c κs = search needs
+remember-requires c κs = c .before .before .before .before .before .before .before .before .before .before .before .before .before .before .pre
 
 -- src/lib.rt:244:9  if is_true(control) { ⏎ return remember(mem, base, size, i, first, NOWHERE, register, dry);
 same-length-3 : tie.Need-same-length-3
@@ -89,7 +89,7 @@ returns-3 c = let e = (sym (c .before .before .before .before .before .before .b
 
 -- src/lib.rt:246:5  } ⏎ remember_data(mem, base, size, i, first, dry)
 remember-data-requires-2 : tie.Need-remember-data-requires-2
-remember-data-requires-2 c κs = search needs
+remember-data-requires-2 c κs = c .before .before .before .before .before .before .before .before .before .before .before .before .before .before .pre
 
 -- src/lib.rt:230:1  // remembered value, taking none." An iter? that is no truth counts as false. ⏎ fn fs_gate(mem: &mut [u8], base: usize, size: usize, i: usize, dry: bool) -> bool
 same-length-4 : tie.Need-same-length-4

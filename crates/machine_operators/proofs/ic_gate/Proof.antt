@@ -42,15 +42,15 @@ port-of-requires-3 c κs = search needs
 
 -- src/lib.rt:196:9  let third = port_of(mem, i, THIRD_INPUT); ⏎ let control = token_of(mem, base, size, first);
 token-of-requires : tie.Need-token-of-requires
-token-of-requires c κs = search needs
+token-of-requires c κs = (c .before .before .before .before .before .before .before .before .pre .1, c .before .before .before .before .before .before .before .before .pre .2, c .before .before .before .before .before .before .before .before .pre .3)
 
 -- src/lib.rt:197:9  let control = token_of(mem, base, size, first); ⏎ let iter2 = token_of(mem, base, size, second);
 token-of-requires-2 : tie.Need-token-of-requires-2
-token-of-requires-2 c κs = search needs
+token-of-requires-2 c κs = (c .before .before .before .before .before .before .before .before .before .before .pre .1, c .before .before .before .before .before .before .before .before .before .before .pre .2, c .before .before .before .before .before .before .before .before .before .before .pre .3)
 
 -- src/lib.rt:198:9  let iter2 = token_of(mem, base, size, second); ⏎ let iter3 = token_of(mem, base, size, third);
 token-of-requires-3 : tie.Need-token-of-requires-3
-token-of-requires-3 c κs = search needs
+token-of-requires-3 c κs = (c .before .before .before .before .before .before .before .before .before .before .before .before .pre .1, c .before .before .before .before .before .before .before .before .before .before .before .before .pre .2, c .before .before .before .before .before .before .before .before .before .before .before .before .pre .3)
 
 -- src/lib.rt:199:13  let iter3 = token_of(mem, base, size, third); ⏎ if both(is_true(control), is_true(iter2)) {
 is-true-requires : tie.Need-is-true-requires

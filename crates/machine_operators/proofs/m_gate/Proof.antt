@@ -2,6 +2,7 @@
 --   tie if1  let control = token_of(mem, base, size, first); ⏎ if is_absent(control) {
 --   tie if2  } ⏎ if is_true(control) {
 --   tie if3  } ⏎ if is_false(control) {
+use native.Mathlib.Omega.{arith}
 use borrow.Author.Needs.{needs}
 use Rattle.machine_operators.proofs.m_gate.Statement.{statement}
 use Rattle.machine_operators.proofs.m_gate.Tie as tie
@@ -34,7 +35,7 @@ port-of-requires c κs = search needs
 
 -- src/lib.rt:157:9  let first = port_of(mem, i, FIRST_INPUT); ⏎ let control = token_of(mem, base, size, first);
 token-of-requires : tie.Need-token-of-requires
-token-of-requires c κs = search needs
+token-of-requires c κs = (c .before .before .before .before .pre .1, c .before .before .before .before .pre .2, c .before .before .before .before .pre .3)
 
 -- src/lib.rt:158:8  let control = token_of(mem, base, size, first); ⏎ if is_absent(control) {
 is-absent-requires : tie.Need-is-absent-requires
@@ -55,7 +56,7 @@ is-true-requires c κs = search needs
 
 -- src/lib.rt:162:9  if is_true(control) { ⏎ return pass_data(mem, base, size, i, first, SECOND_INPUT, dry);
 pass-data-requires : tie.Need-pass-data-requires
-pass-data-requires c κs = search needs
+pass-data-requires c κs = (c .before .before .before .before .before .before .before .before .before .before .pre .0, c .before .before .before .before .before .before .before .before .before .before .pre .1, c .before .before .before .before .before .before .before .before .before .before .pre .2, c .before .before .before .before .before .before .before .before .before .before .pre .3, c .before .before .before .before .before .before .before .before .before .before .pre .4, omega arith)
 
 -- src/lib.rt:162:9  if is_true(control) { ⏎ return pass_data(mem, base, size, i, first, SECOND_INPUT, dry);
 same-length-2 : tie.Need-same-length-2
@@ -72,7 +73,7 @@ is-false-requires c κs = search needs
 
 -- src/lib.rt:165:9  if is_false(control) { ⏎ return pass_data(mem, base, size, i, first, THIRD_INPUT, dry);
 pass-data-requires-2 : tie.Need-pass-data-requires-2
-pass-data-requires-2 c κs = search needs
+pass-data-requires-2 c κs = (c .before .before .before .before .before .before .before .before .before .before .before .before .pre .0, c .before .before .before .before .before .before .before .before .before .before .before .before .pre .1, c .before .before .before .before .before .before .before .before .before .before .before .before .pre .2, c .before .before .before .before .before .before .before .before .before .before .before .before .pre .3, c .before .before .before .before .before .before .before .before .before .before .before .before .pre .4, omega arith)
 
 -- src/lib.rt:165:9  if is_false(control) { ⏎ return pass_data(mem, base, size, i, first, THIRD_INPUT, dry);
 same-length-3 : tie.Need-same-length-3
@@ -85,7 +86,7 @@ returns-3 c = λ g. rw ((sym (c .before .before .before .before .before .before 
 
 -- src/lib.rt:167:5  } ⏎ give_one(mem, base, size, i, first, NOWHERE, ERR, dry)
 give-one-requires : tie.Need-give-one-requires
-give-one-requires c κs = search needs
+give-one-requires c κs = c .before .before .before .before .before .before .before .before .before .before .before .before .pre
 
 -- src/lib.rt:152:1  // "true takes and passes input 2, false input 3; another control takes only itself, gives err" ⏎ fn m_gate(mem: &mut [u8], base: usize, size: usize, i: usize, dry: bool) -> bool
 same-length-4 : tie.Need-same-length-4

@@ -31,43 +31,43 @@ past n k h ne = omega arith
 
 -- src/lib.rt:257:37  10..=11 => unary(mem, base, size, i, kind, dry), ⏎ machine_layout::CONSTANT => constant(mem, base, size, i, dry),
 constant-requires : tie.Need-constant-requires
-constant-requires c κs = search needs
+constant-requires c κs = (c .before .before .before .pre .0, c .before .before .before .pre .1, c .before .before .before .pre .2, c .before .before .before .pre .3, c .before .before .before .pre .4)
 
 -- src/lib.rt:258:33  machine_layout::CONSTANT => constant(mem, base, size, i, dry), ⏎ machine_layout::COPY => copy(mem, base, size, i, dry),
 copy-requires : tie.Need-copy-requires
-copy-requires c κs = search needs
+copy-requires c κs = (c .before .before .before .pre .0, c .before .before .before .pre .1, c .before .before .before .pre .2, c .before .before .before .pre .3, c .before .before .before .pre .4)
 
 -- src/lib.rt:259:30  machine_layout::COPY => copy(mem, base, size, i, dry), ⏎ machine_layout::T => t_gate(mem, base, size, i, dry),
 t-gate-requires : tie.Need-t-gate-requires
-t-gate-requires c κs = search needs
+t-gate-requires c κs = (c .before .before .before .pre .0, c .before .before .before .pre .1, c .before .before .before .pre .2, c .before .before .before .pre .3, c .before .before .before .pre .4)
 
 -- src/lib.rt:260:30  machine_layout::T => t_gate(mem, base, size, i, dry), ⏎ machine_layout::F => f_gate(mem, base, size, i, dry),
 f-gate-requires : tie.Need-f-gate-requires
-f-gate-requires c κs = search needs
+f-gate-requires c κs = (c .before .before .before .pre .0, c .before .before .before .pre .1, c .before .before .before .pre .2, c .before .before .before .pre .3, c .before .before .before .pre .4)
 
 -- src/lib.rt:261:30  machine_layout::F => f_gate(mem, base, size, i, dry), ⏎ machine_layout::M => m_gate(mem, base, size, i, dry),
 m-gate-requires : tie.Need-m-gate-requires
-m-gate-requires c κs = search needs
+m-gate-requires c κs = (c .before .before .before .pre .0, c .before .before .before .pre .1, c .before .before .before .pre .2, c .before .before .before .pre .3, c .before .before .before .pre .4)
 
 -- src/lib.rt:262:30  machine_layout::M => m_gate(mem, base, size, i, dry), ⏎ machine_layout::E => e_gate(mem, base, size, i, dry),
 e-gate-requires : tie.Need-e-gate-requires
-e-gate-requires c κs = search needs
+e-gate-requires c κs = (c .before .before .before .pre .0, c .before .before .before .pre .1, c .before .before .before .pre .2, c .before .before .before .pre .3, c .before .before .before .pre .4)
 
 -- src/lib.rt:263:31  machine_layout::E => e_gate(mem, base, size, i, dry), ⏎ machine_layout::IC => ic_gate(mem, base, size, i, dry),
 ic-gate-requires : tie.Need-ic-gate-requires
-ic-gate-requires c κs = search needs
+ic-gate-requires c κs = (c .before .before .before .pre .0, c .before .before .before .pre .1, c .before .before .before .pre .2, c .before .before .before .pre .3, c .before .before .before .pre .4)
 
 -- src/lib.rt:264:31  machine_layout::IC => ic_gate(mem, base, size, i, dry), ⏎ machine_layout::FM => fm_gate(mem, base, size, i, dry),
 fm-gate-requires : tie.Need-fm-gate-requires
-fm-gate-requires c κs = search needs
+fm-gate-requires c κs = (c .before .before .before .pre .0, c .before .before .before .pre .1, c .before .before .before .pre .2, c .before .before .before .pre .3, c .before .before .before .pre .4)
 
 -- src/lib.rt:255:18  match kind { ⏎ 1..=9 => binary(mem, base, size, i, kind, dry),
 binary-requires : tie.Need-binary-requires
-binary-requires c κs = search needs
+binary-requires c κs = (c .before .before .before .before .before .pre .0, c .before .before .before .before .before .pre .1, c .before .before .before .before .before .pre .2, c .before .before .before .before .before .pre .3, c .before .before .before .before .before .pre .4)
 
 -- src/lib.rt:256:20  1..=9 => binary(mem, base, size, i, kind, dry), ⏎ 10..=11 => unary(mem, base, size, i, kind, dry),
 unary-requires : tie.Need-unary-requires
-unary-requires c κs = search needs
+unary-requires c κs = (c .before .before .before .before .before .before .pre .0, c .before .before .before .before .before .before .pre .1, c .before .before .before .before .before .before .pre .2, c .before .before .before .before .before .before .pre .3, c .before .before .before .before .before .before .pre .4)
 
 -- src/lib.rt:250:1  // Moves the tokens of an operator of any kind but FS, whose register is its own affair. ⏎ fn move_tokens(mem: &mut [u8], base: usize, size: usize, i: usize, kind: u8, dry: bool) -> bool
 same-length : tie.Need-same-length

@@ -39,7 +39,7 @@ port-of-requires c κs = search needs
 
 -- src/lib.rt:54:9  let first = port_of(mem, i, FIRST_INPUT); ⏎ let a = token_of(mem, base, size, first);
 token-of-requires : tie.Need-token-of-requires
-token-of-requires c κs = search needs
+token-of-requires c κs = (c .before .before .before .before .pre .1, c .before .before .before .before .pre .2, c .before .before .before .before .pre .3)
 
 -- src/lib.rt:55:8  let a = token_of(mem, base, size, first); ⏎ if is_absent(a) {
 is-absent-requires : tie.Need-is-absent-requires
@@ -60,7 +60,7 @@ applied-to-requires c κs = search needs
 
 -- src/lib.rt:59:5  let word = machine_gates::applied_to(code, a, ERR); ⏎ give_one(mem, base, size, i, first, NOWHERE, word, dry)
 give-one-requires : tie.Need-give-one-requires
-give-one-requires c κs = search needs
+give-one-requires c κs = c .before .before .before .before .before .before .before .before .before .pre
 
 -- src/lib.rt:49:1  // "10 and 11 take one operand, the rest two." ⏎ fn unary(mem: &mut [u8], base: usize, size: usize, i: usize, code: u8, dry: bool) -> bool
 same-length-2 : tie.Need-same-length-2
