@@ -20,14 +20,14 @@ static const struct sheet beside_loop = {
     "     6     4     1     7    11\n",
     "WTT\n"};
 
-/* More rounds than any set here needs that ends, and passes after which no further result comes. */
+/* More rounds than any set here needs that ends, and passes enough for all four where none loops. */
 enum { SETS = 4, SET_BYTES = 3 * BENCH_VALUE_BYTES, ENOUGH_ROUNDS = 100, PASSES = 40 };
 
 enum order { BY_ROUNDS, UPWARDS, DOWNWARDS, ORDERS };
 
 /* Set k of the run in which the sets of `endless` loop. */
 static void set_of(uint32_t k, uint32_t endless, uint8_t *set) {
-    uint8_t values[][BENCH_VALUE_BYTES] = {WHOLE(5), FALSE_VALUE, TRUE_VALUE}, loops[] = TRUE_VALUE;
+    uint8_t values[][BENCH_VALUE_BYTES] = {WHOLE(0), FALSE_VALUE, TRUE_VALUE}, loops[] = TRUE_VALUE;
     values[0][1] = (uint8_t)(10 * k + (endless >> k & 1));
     if (endless >> k & 1) {
         memcpy(values[1], loops, sizeof loops);
@@ -48,8 +48,9 @@ static void some_firings(enum order order) {
 
 /* What evaluation gives for a set; it ends exactly where the set does not loop. */
 static void evaluated(const uint8_t *set, int loops, uint8_t *out) {
+    const uint8_t *rows = (const uint8_t *)beside_loop.rows, *kinds = (const uint8_t *)beside_loop.kinds;
     bench_evaluate_answer answer =
-        bench_evaluate((const uint8_t *)beside_loop.rows, strlen(beside_loop.rows), (const uint8_t *)beside_loop.kinds, strlen(beside_loop.kinds), set, SET_BYTES, ENOUGH_ROUNDS, out, BENCH_RESULT_BYTES);
+        bench_evaluate(rows, strlen(beside_loop.rows), kinds, strlen(beside_loop.kinds), set, SET_BYTES, ENOUGH_ROUNDS, out, BENCH_RESULT_BYTES);
     expect("evaluation", answer.refusal, loops ? BENCH_UNFINISHED : BENCH_ACCEPTED);
 }
 

@@ -17,7 +17,7 @@ const ROUNDS: u32 = 40;
 /// For how many of these sets a loop must go on.
 const GOING_ON: RangeInclusive<usize> = 2..=5;
 
-/// For how many of these sets a test must choose the same arm: no result may come after a set that chooses the arm with x.
+/// For how many of these sets a test must choose the same arm: behind a set that loops and chooses the arm with x no result need come.
 const MOSTLY: usize = 14;
 
 /// How many loops or tests are made for one that is as wanted.

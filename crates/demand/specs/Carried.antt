@@ -35,13 +35,13 @@ use Rattle.demand.specs.Followed.{EachRead, shownTokens}
 use Rattle.demand.specs.FollowTake.{take-shows}
 
 -- A set in bytes, five a value.
-abbrev pub setBytes : List Value → List ℕ
-setBytes [] = []
-setBytes (v ∷ vs) = bytesOf v ++ setBytes vs
+abbrev pub bytesOfSet : List Value → List ℕ
+bytesOfSet [] = []
+bytesOfSet (v ∷ vs) = bytesOf v ++ bytesOfSet vs
 
 -- The call on bytes that makes a step, with so many bytes of the memory lent, and these to write a result into.
 abbrev pub onBytes : ℕ → List ℕ → Step → Call
-onBytes lent out (pushing v) = push lent (setBytes v)
+onBytes lent out (pushing v) = push lent (bytesOfSet v)
 onBytes lent out (firing i) = fire lent i
 onBytes lent out taking = take lent out
 
@@ -105,13 +105,13 @@ module _ (x : Exp) (kinds : List ℕ) (capacity : ℕ) (low : 1 ≤ capacity) (h
 
   -- What calls on bytes do that make these steps, from this memory and these links.
   pub record Carried (w : List Step) (m : List ℕ) (q : Links) : Type 0 where
-    pub pushes : setsPushed (map (onBytes lent out) w) m ≡ map setBytes (sets-of w)
+    pub pushes : setsPushed (map (onBytes lent out) w) m ≡ map bytesOfSet (sets-of w)
     pub takes : resultsTaken (map (onBytes lent out) w) m ≡ map shownTokens (handed x w q)
     pub none-refused : map (λ (a : Answer). a .refusal) (answersOf (map (onBytes lent out) w) m) ≡ map (λ (s : Step). 0) w
 
   step-then : (s : Step) (w : List Step) (m : List ℕ) (q : Links) (H : Stands (madeOf x) kinds capacity m q) (sets : List (List ℕ)) (results : List Result)
       → Makes m q H (onBytes lent out s) s sets results → Carried w (memoryAfter (onBytes lent out s) m) (act (demandOf x s) q)
-      → sets ++ map setBytes (sets-of w) ≡ map setBytes (sets-of (s ∷ w)) → results ++ map shownTokens (handed x w (act (demandOf x s) q)) ≡ map shownTokens (handed x (s ∷ w) q)
+      → sets ++ map bytesOfSet (sets-of w) ≡ map bytesOfSet (sets-of (s ∷ w)) → results ++ map shownTokens (handed x w (act (demandOf x s) q)) ≡ map shownTokens (handed x (s ∷ w) q)
       → Carried (s ∷ w) m q
   unfolding setsPushed resultsTaken answersOf
   step-then s w m q H sets results p C e f =
@@ -122,12 +122,12 @@ module _ (x : Exp) (kinds : List ℕ) (capacity : ℕ) (low : 1 ≤ capacity) (h
       }
 
   pub carried : (w : List Step) (m : List ℕ) (q : Links) → Stands (madeOf x) kinds capacity m q → Made-in-turn x capacity w q
-      → EachRead x kinds capacity (map setBytes (sets-of w)) (sets-of w) → Carried w m q
+      → EachRead x kinds capacity (map bytesOfSet (sets-of w)) (sets-of w) → Carried w m q
   unfolding setsPushed resultsTaken answersOf
   carried [] m q H a r = record { pushes = refl; takes = refl; none-refused = refl }
   carried (pushing v ∷ w) m q H a r =
-      let p = push-carried m q H (setBytes v) v (r .0) (a .0) in
-      step-then (pushing v) w m q H (setBytes v ∷ []) [] p (carried w (memoryAfter (push lent (setBytes v)) m) (act (pushOf x v) q) (p .0) (a .1) (r .1)) refl refl
+      let p = push-carried m q H (bytesOfSet v) v (r .0) (a .0) in
+      step-then (pushing v) w m q H (bytesOfSet v ∷ []) [] p (carried w (memoryAfter (push lent (bytesOfSet v)) m) (act (pushOf x v) q) (p .0) (a .1) (r .1)) refl refl
   carried (firing i ∷ w) m q H a r =
       let p = fire-carried m q H i (a .0) in
       step-then (firing i) w m q H [] [] p (carried w (memoryAfter (fire lent i) m) (act (operatorAt x i) q) (p .0) (a .1) r) refl refl

@@ -1,4 +1,4 @@
--- Demand 3 of the memory from demand 3 of the network (theory_verdicts/specs/Verdicts `demand-3`): a list of calls on bytes is followed by one of abstract calls
+-- Demand 3 of the memory from demand 3 of the network (theory_verdicts/specs/Verdicts `alone-verdict`, `demand-3`): a list of calls on bytes is followed by one of abstract calls
 -- (FollowAll), and what direct evaluation of bytes yields are the abstract verdicts (Evaluations). Assumes the laws of `CallsAgree` and a memory in which the
 -- machine of an admissible sheet, whose kinds line passes 17 and 18, stands as started.
 use Prim.Native.Nat.{ℕ, zero, suc, _≤_, _<_}

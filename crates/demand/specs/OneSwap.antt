@@ -1,4 +1,4 @@
--- What Swapped claims beyond demand 3 is met on real memory. Two runs of "let x4 = (for x2 = x1 do if x2 then iter x2 else x0) in if x3 then x0 else x4", at capacity 2 with
+-- What Swapped claims beyond demand 3 has an instance on real memory. Two runs of "let x4 = (for x2 = x1 do if x2 then iter x2 else x0) in if x3 then x0 else x4", at capacity 2 with
 -- the sets (6, T, T) and (5, F, T), at capacity 16 with (7, F, T) and (5, F, T). Evaluation of (6, T, T) never ends (`first-never-ends`), yet both results are taken in
 -- both (`endless-does`, `ending-does`), the same at position 1 (`other-same`), different ones at position 0 (`own-differs`). The steps: theory_verdicts/specs/BehindEndless.
 use Prim.Native.Nat.{ℕ, zero, suc, _≤_, _<_}
@@ -40,9 +40,9 @@ use Rattle.demand.specs.Claim.{Ends}
 use Rattle.demand.specs.Evaluations.{shown, enough-yields, yields-enough}
 use Rattle.demand.specs.Followed.{EachRead, shownTokens}
 use Rattle.demand.specs.Agreed.{calls-agree}
-use Rattle.demand.specs.Carried.{setBytes, onBytes, carried}
+use Rattle.demand.specs.Carried.{bytesOfSet, onBytes, carried}
 use Rattle.demand.specs.LesserStarts.{zeros}
-use Rattle.demand.specs.Swapped.{Run, sets, results, swapped}
+use Rattle.demand.specs.Swapped.{Run, begun, sets, results, swapped}
 
 -- ---- the sheet
 
@@ -70,14 +70,14 @@ abbrev kinds : List ℕ
 kinds = lettersOf (formulaOf (bytes rows)) line
 
 -- Each of the sets has values of the kinds W, T, T.
-read : (setValues kinds (setBytes endlessSet) ≡ some endlessSet) × (setValues kinds (setBytes endingSet) ≡ some endingSet) × (setValues kinds (setBytes swappedSet) ≡ some swappedSet)
+read : (setValues kinds (bytesOfSet endlessSet) ≡ some endlessSet) × (setValues kinds (bytesOfSet endingSet) ≡ some endingSet) × (setValues kinds (bytesOfSet swappedSet) ≡ some swappedSet)
 unfolding formulaOf bytes rows lettersOf setValues bytesOf
 read = (refl, refl, refl)
 
 -- ---- a run that makes steps
 
 abbrev pub refusalsIn : Run (bytes rows) → List ℕ
-refusalsIn r = map (λ (z : Answer). z .refusal) (answersOf (r .calls) (started (bytes rows) (r .line) (r .capacity) (r .memory) .mem ++ r .behind))
+refusalsIn r = map (λ (z : Answer). z .refusal) (answersOf (r .calls) (begun r))
 
 module _ (capacity : ℕ) (low : 1 ≤ capacity) (high : capacity ≤ 16) where
   pub starts : started (bytes rows) line capacity (zeros (need (sizeOf capacity))) .answer .refusal ≡ 0
@@ -97,8 +97,8 @@ module _ (capacity : ℕ) (low : 1 ≤ capacity) (high : capacity ≤ 16) where
       }
 
   -- It pushes the steps' sets, takes their results and has no call refused.
-  run-does : (w : List Step) → history besideLoop capacity (asked w) ≡ w → EachRead (formulaOf (bytes rows)) kinds capacity (map setBytes (sets-of w)) (sets-of w)
-      → (sets (runOf w) ≡ map setBytes (sets-of w)) × (results (runOf w) ≡ map shownTokens (taken besideLoop capacity (asked w))) × (refusalsIn (runOf w) ≡ map (λ (s : Step). 0) w)
+  run-does : (w : List Step) → history besideLoop capacity (asked w) ≡ w → EachRead (formulaOf (bytes rows)) kinds capacity (map bytesOfSet (sets-of w)) (sets-of w)
+      → (sets (runOf w) ≡ map bytesOfSet (sets-of w)) × (results (runOf w) ≡ map shownTokens (taken besideLoop capacity (asked w))) × (refusalsIn (runOf w) ≡ map (λ (s : Step). 0) w)
   unfolding zeros
   run-does w made r =
       let x = formulaOf (bytes rows) in
@@ -123,13 +123,13 @@ abbrev pub endingRun : Run (bytes rows)
 endingRun = runOf 16 (omega arith) (omega arith) withoutLoop
 
 -- All calls are accepted, those of the loop's rounds too.
-pub endless-does : (sets endlessRun ≡ setBytes endlessSet ∷ setBytes endingSet ∷ []) × (results endlessRun ≡ shown (Whole (pos 6) ∷ []) ∷ shown (Whole (pos 5) ∷ []) ∷ [])
+pub endless-does : (sets endlessRun ≡ bytesOfSet endlessSet ∷ bytesOfSet endingSet ∷ []) × (results endlessRun ≡ shown (Whole (pos 6) ∷ []) ∷ shown (Whole (pos 5) ∷ []) ∷ [])
     × (refusalsIn endlessRun ≡ map (λ (s : Step). 0) overtaking)
 endless-does =
     let d = run-does 2 (omega arith) (omega arith) overtaking overtaking-made (read .0, (read .1, tt)) in
     (d .0, d .1 ∙ ap (map shownTokens) overtaking-taken, d .2)
 
-pub ending-does : (sets endingRun ≡ setBytes swappedSet ∷ setBytes endingSet ∷ []) × (results endingRun ≡ shown (Whole (pos 7) ∷ []) ∷ shown (Whole (pos 5) ∷ []) ∷ [])
+pub ending-does : (sets endingRun ≡ bytesOfSet swappedSet ∷ bytesOfSet endingSet ∷ []) × (results endingRun ≡ shown (Whole (pos 7) ∷ []) ∷ shown (Whole (pos 5) ∷ []) ∷ [])
     × (refusalsIn endingRun ≡ map (λ (s : Step). 0) withoutLoop)
 ending-does =
     let d = run-does 16 (omega arith) (omega arith) withoutLoop without-loop-made (read .2, (read .1, tt)) in
@@ -138,8 +138,8 @@ ending-does =
 -- Direct evaluation of the one's first set ends with no number of rounds.
 pub first-never-ends : Ends (bytes rows) (endlessRun .line) (getD (sets endlessRun) 0 []) → ⊥
 first-never-ends e =
-    let f : Ends (bytes rows) line (setBytes endlessSet) = subst (λ (s : List (List ℕ)). Ends (bytes rows) line (getD s 0 [])) (endless-does .0) e in
-    let y = enough-yields (bytes rows) line admissible kinded (setBytes endlessSet) endlessSet (read .0) (f .0) (f .1) in
+    let f : Ends (bytes rows) line (bytesOfSet endlessSet) = subst (λ (s : List (List ℕ)). Ends (bytes rows) line (getD s 0 [])) (endless-does .0) e in
+    let y = enough-yields (bytes rows) line admissible kinded (bytesOfSet endlessSet) endlessSet (read .0) (f .0) (f .1) in
     never-ends (y .0) (subst (λ (x : Exp). EndsWith x endlessSet (y .0)) formula-is (y .1))
 
 -- Position 0.
@@ -155,7 +155,7 @@ other-ends : (k : ℕ) → first k ≡ false → k < length (sets endlessRun) �
 other-ends zero out l m = absurd (false≢true (sym out))
 other-ends (suc zero) out l m =
     subst (λ (s : List (List ℕ)). Ends (bytes rows) line (getD s 1 [])) (sym (endless-does .0))
-    (yields-enough (bytes rows) line admissible kinded (setBytes endingSet) endingSet (read .1) (Whole (pos 5) ∷ [])
+    (yields-enough (bytes rows) line admissible kinded (bytesOfSet endingSet) endingSet (read .1) (Whole (pos 5) ∷ [])
     (subst (λ (x : Exp). EndsWith x endingSet (Whole (pos 5) ∷ [])) (sym formula-is) ends))
 other-ends (suc (suc k)) out l m = absurd (omega (arith, l, ap length (endless-does .0)))
 

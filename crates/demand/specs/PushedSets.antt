@@ -33,7 +33,7 @@ use Rattle.demand.specs.Evaluations.{evaluation-concludes}
 use Rattle.demand.specs.Agreed.{calls-agree}
 use Rattle.demand.specs.OnMemory.{F as bytes-follow, as-many-sets, read}
 
--- Of whatever lies behind what start was lent, and of nothing.
+-- With any bytes behind what start was lent, and with none.
 module _ (sheet line : List ℕ) (capacity : ℕ) (memory : List ℕ) (h : started sheet line capacity memory .answer .refusal ≡ 0) where
   abbrev Are-sets : List ℕ → List Call → Type 0
   Are-sets start calls = (j : ℕ) → j < length (setsPushed calls start) → setOk (lettersOf (formulaOf sheet) line) (getD (setsPushed calls start) j []) ≡ true

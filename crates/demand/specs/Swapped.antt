@@ -31,7 +31,7 @@ pub record Run (sheet : List ℕ) : Type 0 where
   pub calls : List Call
   pub accepted : started sheet line capacity memory .answer .refusal ≡ 0
 
-abbrev begun : {sheet : List ℕ} → Run sheet → List ℕ
+abbrev pub begun : {sheet : List ℕ} → Run sheet → List ℕ
 begun {sheet} r = started sheet (r .line) (r .capacity) (r .memory) .mem ++ r .behind
 
 abbrev pub sets : {sheet : List ℕ} → Run sheet → List (List ℕ)

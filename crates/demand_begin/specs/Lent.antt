@@ -14,7 +14,7 @@ use Rattle.value.specs.Bytes.{wordAt}
 use Rattle.formula.specs.Refusals.{numberOf}
 use Rattle.formula.specs.declared.Refusal.the-variants.{Memory, Altered}
 use Rattle.network.specs.Net.{Links}
-use Rattle.machine_layout.specs.Layout.{inputKindsAt, inputsOf, number16, nameAt, operatorAt, registerAt, sizeOf, linkAt, need, capacityIn, capacityOf, part, storedKinds}
+use Rattle.machine_layout.specs.Layout.{linksAt, inputKindsAt, inputsOf, number16, nameAt, operatorAt, registerAt, sizeOf, linkAt, need, capacityIn, capacityOf, part, storedKinds}
 use Rattle.machine_layout.specs.Fits.{stretch-fits}
 use Rattle.machine_firing.specs.Parts.{part-length}
 use Rattle.machine_valid.specs.Below.{and-both}
@@ -115,7 +115,7 @@ module _ (g : Made) (S : Sound g) (kinds : List ℕ) (capacity : ℕ) (m : List 
         recorded = recorded-there;
         registered = registered-there;
         waits = λ l h.
-            let f = stretch-fits (sizeOf capacity) l (omega (arith, S .few-links)) in
+            let f = stretch-fits linksAt (sizeOf capacity) l (omega (arith, S .few-links)) in
             subst (λ (s : List ℕ). Waits capacity s (q l))
             (sym (agree-part n m k same (linkAt (sizeOf capacity) l) (sizeOf capacity) f (omega (arith, H .long)) (omega arith))) (H .waits l h);
         nowhere-empty = H .nowhere-empty;

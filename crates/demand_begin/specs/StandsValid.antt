@@ -28,13 +28,13 @@ use Rattle.network.specs.Firing.{Holds}
 use Rattle.network.specs.Uses.{In}
 use Rattle.theory_pieces.specs.Sets.{Different}
 use Rattle.machine_queue.specs.Stretch.{waiting}
-use Rattle.machine_layout.specs.Layout.{inputKindsAt, capacityByte, operatorsOf, linksOf, inputsOf, resultsOf, untakenOf, noLink, number16, nameAt, triggerOf, inputLink, operatorAt, kindByte, portOf, sizeOf, linkAt, need}
+use Rattle.machine_layout.specs.Layout.{linksAt, inputKindsAt, capacityByte, operatorsOf, linksOf, inputsOf, resultsOf, untakenOf, noLink, number16, nameAt, triggerOf, inputLink, operatorAt, kindByte, portOf, sizeOf, linkAt, need}
 use Rattle.machine_layout.specs.Fits.{stretch-fits}
 use Rattle.machine_layout.specs.Kinds.{byteOf, Coded, hasPort, mayLack}
 use Rattle.machine_firing.specs.Parts.{part-length}
 use Rattle.machine_firing.specs.LinkLaws.{linkPart}
 use Rattle.machine_valid.specs.Below.{allBelow, and-both, below-all}
-use Rattle.machine_valid.specs.Valid.{figuresOk, unlike, unlikeAt, freshAt, resultOk, inputOk, letterOk, portOk, namedOk, registerOk, kindOk, operatorOk, tokenOk, stretchOk, linkOk, valid}
+use Rattle.machine_valid.specs.Valid.{countsOk, figuresOk, unlike, unlikeAt, freshAt, resultOk, inputOk, letterOk, portOk, namedOk, registerOk, kindOk, operatorOk, tokenOk, stretchOk, linkOkFrom, linkOk, valid}
 use Rattle.machine_calls.specs.Calls.{standing}
 use Rattle.graph.specs.Assembly.{Operator}
 use Rattle.graph.specs.Translation.{Made}
@@ -170,16 +170,16 @@ module _ (g : Made) (S : Sound g) (kinds : List ℕ) (capacity : ℕ) (low : 1 �
       go false e h = or-second (ltb (triggerOf m) (linksOf m)) (eq-eqb (triggerOf m) noLink e)
 
   pub figures-valid : figuresOk m ≡ true
-  unfolding figuresOk
+  unfolding figuresOk countsOk
   figures-valid =
       and-both (le-leb 1 (capacityByte m) (omega (arith, H .capacity-is)))
       (and-both (le-leb (capacityByte m) 16 (omega (arith, H .capacity-is)))
+      (and-both (le-leb (untakenOf m) 16 (omega (arith, H .untaken-is, H .untaken-few)))
       (and-both (le-leb (operatorsOf m) 1024 (omega (arith, H .operators-are, S .few-operators)))
       (and-both (le-leb (linksOf m) 3105 (omega (arith, H .links-are, S .few-links)))
       (and-both (le-leb (inputsOf m) 32 (omega (arith, H .inputs-are, S .few-inputs)))
       (and-both (le-leb 1 (resultsOf m) (omega (arith, H .results-are, S .some-result)))
-      (and-both (le-leb (resultsOf m) 16 (omega (arith, H .results-are, S .few-results)))
-      (and-both (le-leb (untakenOf m) 16 (omega (arith, H .untaken-is, H .untaken-few))) trigger-ok)))))))
+      (and-both (le-leb (resultsOf m) 16 (omega (arith, H .results-are, S .few-results))) trigger-ok)))))))
 
   -- ---- operators
 
@@ -279,9 +279,9 @@ module _ (g : Made) (S : Sound g) (kinds : List ℕ) (capacity : ℕ) (low : 1 �
       (λ j h. let w = W .each j (omega (arith, W .counted)) in ap (λ (z : ℕ). isSome (valueOf z)) (w .3) ∙ value-ok (w .0) (w .1)))
 
   link-valid : (l : ℕ) → l < g .links → linkOk m (sizeOf capacity) l ≡ true
-  unfolding linkOk
+  unfolding linkOkFrom
   link-valid l h =
-      let f = stretch-fits (sizeOf capacity) l (omega (arith, S .few-links)) in
+      let f = stretch-fits linksAt (sizeOf capacity) l (omega (arith, S .few-links)) in
       stretch-valid (linkPart m (sizeOf capacity) l) (q l) (H .waits l h) (part-length m (linkAt (sizeOf capacity) l) (sizeOf capacity) (omega (arith, H .long)))
 
   links-valid : allBelow (linksOf m) (linkOk m (sizeOf (capacityByte m))) ≡ true

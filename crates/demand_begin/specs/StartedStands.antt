@@ -21,7 +21,7 @@ use Rattle.network.specs.Firing.{Holds}
 use Rattle.network.specs.Uses.{In}
 use Rattle.theory_pieces.specs.Load.{put, put-off, On}
 use Rattle.machine_queue.specs.Stretch.{waiting}
-use Rattle.machine_layout.specs.Layout.{inputKindsAt, inputsOf, operatorAt, registerAt, sizeOf, linkAt, need, part, storedKinds}
+use Rattle.machine_layout.specs.Layout.{linksAt, inputKindsAt, inputsOf, operatorAt, registerAt, sizeOf, linkAt, need, part, storedKinds}
 use Rattle.machine_layout.specs.Fits.{stretch-fits}
 use Rattle.machine_firing.specs.LinkLaws.{linkPart}
 use Rattle.graph.specs.Assembly.{Operator}
@@ -213,7 +213,7 @@ module _ (g : Made) (S : Sound g) where
     waits-there : (l : ℕ) → l < g .links → Waits capacity (linkPart memory (sizeOf capacity) l) (empty l)
     waits-there l h =
         let none-waits : empty l ≡ [] = unmarked l (λ k. omega (arith, S .few-links, k)) in
-        let f = stretch-fits (sizeOf capacity) l (omega (arith, S .few-links)) in
+        let f = stretch-fits linksAt (sizeOf capacity) l (omega (arith, S .few-links)) in
         let z : linkAt (sizeOf capacity) l + 0 ≡ linkAt (sizeOf capacity) l = omega arith in
         let size-is : length headered ≡ length m = length-header in
         let count : waiting (linkPart memory (sizeOf capacity) l) ≡ 0 =

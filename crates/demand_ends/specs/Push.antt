@@ -18,7 +18,7 @@ use Rattle.value.specs.Senses.{err}
 use Rattle.network.specs.Values.{true-value}
 use Rattle.network.specs.Net.{val, Links, append, append-same, append-other, Able, act}
 use Rattle.machine_layout.specs.Layout.{inputsOf, untakenOf, noLink, triggerOf, sizeOf, storedKinds}
-use Rattle.machine_firing.specs.Links.{roomAt, appendedAt}
+use Rattle.machine_firing.specs.Links.{roomAt, roomFrom, appendedAt, appendedFrom}
 use Rattle.machine_valid.specs.Below.{allBelow, and-left, and-right, and-both, below-at, below-all}
 use Rattle.graph.specs.Translation.{Made}
 use Rattle.theory_verdicts.specs.Owed.{creditLink}
@@ -35,11 +35,11 @@ use Rattle.demand_ends.specs.Credit.{stands-untaken}
 
 -- A link that does not exist always has room, and nothing happens to it.
 no-link-room : (m : List ℕ) (size : ℕ) → roomAt m size noLink ≡ true
-unfolding roomAt
+unfolding roomFrom
 no-link-room m size = refl
 
 no-link-appended : (m : List ℕ) (size w : ℕ) → appendedAt m size noLink w ≡ m
-unfolding appendedAt
+unfolding appendedFrom
 no-link-appended m size w = refl
 
 module _ (g : Made) (S : Sound g) (kinds : List ℕ) (capacity : ℕ) (low : 1 ≤ capacity) (high : capacity ≤ 16) (m : List ℕ) (q : Links) (H : Stands g kinds capacity m q) where

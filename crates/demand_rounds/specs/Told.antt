@@ -14,7 +14,7 @@ use Rattle.formula.specs.declared.Refusal.the-variants.{Unfinished}
 use Rattle.formula.specs.Refusals.{numberOf}
 use Rattle.machine_layout.specs.Layout.{operatorsOf}
 use Rattle.machine_firing.specs.Fire.{ableAt, firedAt}
-use Rattle.machine_runs.specs.Run.{leastFrom, least, Ran, ran as ran-to, runs, stillAt}
+use Rattle.machine_runs.specs.Run.{leastFrom, firstFrom, lowestFrom, Ran, ran as ran-to, runs, runsFrom, stillAt}
 use Rattle.machine_calls.specs.Calls.{Outcome, outcome, answers, sizeIn, standing, ended, ran}
 use Rattle.machine_calls.specs.CallLaws.{ran-refused, ran-ended}
 use Rattle.machine_rounds.specs.Rounds.{Swept, sweep, round, Rounded, rounded, roundsFrom, ranRounds}
@@ -48,7 +48,7 @@ module _ (size n : ℕ) where
   -- ---- a run
 
   least-able : (m : List ℕ) (k i : ℕ) → leastFrom m size k i < i + k → ableAt m size (leastFrom m size k i) ≡ true
-  unfolding leastFrom
+  unfolding firstFrom
   least-able m zero i l = absurd (omega arith)
   least-able m (suc k) i l = go (ableAt m size i) refl l (least-able m k (suc i))
     where
@@ -58,7 +58,7 @@ module _ (size n : ℕ) where
       go false e h ih = ih (omega arith)
 
   run-told : (b : ℕ) (m : List ℕ) (c : ℕ) → Told (runFires size n b m) m (runs size n b m c .mem) c (runs size n b m c .count)
-  unfolding runFires runs least
+  unfolding runFires runsFrom lowestFrom
   run-told zero m c = none-told m c
   run-told (suc b) m c = go (ltb (leastFrom m size n 0) n) refl (run-told b (firedAt m size (leastFrom m size n 0)) (c + 1))
     where

@@ -22,7 +22,7 @@ use Rattle.graph.specs.Assembly.{upFrom}
 use Rattle.graph.specs.Translation.{madeOf}
 use Rattle.theory_wiring.specs.Machine.{net-past}
 use Rattle.value_sets.specs.Sets.{setValues, setOk, values-set, values-pass}
-use Rattle.machine_layout.specs.Layout.{sizeOf, need, operatorsOf, inputsOf, resultsOf, untakenOf, storedKinds}
+use Rattle.machine_layout.specs.Layout.{linksAt, sizeOf, need, operatorsOf, inputsOf, resultsOf, untakenOf, storedKinds}
 use Rattle.machine_firing.specs.Fire.{ableAt, firedAt}
 use Rattle.machine_valid.specs.Below.{allBelow}
 use Rattle.machine_runs.specs.Run.{least, runs, stillAt}
@@ -277,7 +277,7 @@ module _ (x : Exp) (kinds : List ℕ) (capacity : ℕ) (low : 1 ≤ capacity) (h
           → ((a : ℕ) → a < number → ableAt m size a ≡ true → operators-of (runSteps x capacity n (act (operatorAt x a) q)) ≡ runFires size number n (firedAt m size a))
           → operators-of (onward o later) ≡ pick (ltb (least m size number) number) (least m size number ∷ runFires size number n (firedAt m size (least m size number))) []
       go none e ih =
-          rw (least-none m size number (quiet number (omega arith) (λ j h. none-able x capacity number 0 q e j (omega arith) (omega arith))), le-ltb number number (omega arith)) refl
+          rw (least-none m linksAt size number (quiet number (omega arith) (λ j h. none-able x capacity number 0 q e j (omega arith) (omega arith))), le-ltb number number (omega arith)) refl
       go (some a) e ih = at (decLt a number)
         where
           w : Able (places capacity) (operatorAt x a) q × ((b : ℕ) → 0 ≤ b → b < a → Able (places capacity) (operatorAt x b) q → ⊥)
@@ -288,7 +288,7 @@ module _ (x : Exp) (kinds : List ℕ) (capacity : ℕ) (low : 1 ≤ capacity) (h
           at (no h) = absurd (past-cannot x capacity a q (omega arith) (w .0))
           at (yes h) =
               let t = A .able-bytes m q H a h (w .0) in
-              rw (least-at m size number a h (quiet a (omega arith) (λ j l. w .1 j (omega arith) l)) t, lt-ltb a number h) (ap (λ (z : List ℕ). a ∷ z) (ih a h t))
+              rw (least-at m linksAt size number a h (quiet a (omega arith) (λ j l. w .1 j (omega arith) l)) t, lt-ltb a number h) (ap (λ (z : List ℕ). a ∷ z) (ih a h t))
 
   -- ---- the operators of rounds
 

@@ -18,8 +18,8 @@ use Rattle.network.specs.Decide.{Decision}
 use Rattle.network.specs.Firing.{Holds, fill-able, able-fill}
 use Rattle.network.specs.FiringLinks.{Output, output1, output2, output3, output, Own-links}
 use Rattle.machine_layout.specs.Layout.{sizeOf}
-use Rattle.machine_firing.specs.Links.{roomAt}
-use Rattle.machine_firing.specs.Fire.{given, readyFor, ableAt}
+use Rattle.machine_firing.specs.Links.{roomAt, roomFrom}
+use Rattle.machine_firing.specs.Fire.{given, readyFor, readyFrom, ableAt, ableFrom}
 use Rattle.graph.specs.Assembly.{Operator}
 use Rattle.graph.specs.Translation.{Made}
 use Rattle.theory_reference.specs.Plugged.{registers, link-of, portsOf, demandOf}
@@ -52,7 +52,7 @@ module _ (g : Made) (S : Sound g) (kinds : List ℕ) (capacity : ℕ) (m : List 
   room-is-place (some l) (some v) b e = ltb-true (length (q l)) capacity (sym (stands-room g S kinds capacity m q H l (b l refl)) ∙ e)
 
   place-is-room : (x : Option ℕ) (v : Option Value) → Linked-in g x → Place capacity x v q → roomFor x v ≡ true
-  unfolding given roomAt
+  unfolding given roomFrom
   place-is-room none none b h = refl
   place-is-room none (some v) b h = refl
   place-is-room (some l) none b h = refl
@@ -76,7 +76,7 @@ module _ (g : Made) (S : Sound g) (kinds : List ℕ) (capacity : ℕ) (m : List 
     Places d = Place capacity (o .out1) (d .give1) q × Place capacity (o .out2) (d .give2) q × Place capacity (o .out3) (d .give3) q
 
     pub ready-places : (d : Decision) → now ≡ some d → ableAt m size i ≡ true → Places d
-    unfolding ableAt readyFor
+    unfolding ableFrom readyFrom
     ready-places d e t =
         let a : roomFor (o .out1) (d .give1) && (roomFor (o .out2) (d .give2) && roomFor (o .out3) (d .give3)) ≡ true
         = subst (λ p. readyFor m size p ≡ true) (plan-read g S kinds capacity m q H i o at d e) t in
@@ -88,7 +88,7 @@ module _ (g : Made) (S : Sound g) (kinds : List ℕ) (capacity : ℕ) (m : List 
         )
 
     pub places-ready : (d : Decision) → now ≡ some d → Places d → ableAt m size i ≡ true
-    unfolding ableAt readyFor
+    unfolding ableFrom readyFrom
     places-ready d e p =
         let a = place-is-room (o .out1) (d .give1) (output-below g S i o at output1) (p .0) in
         let b = place-is-room (o .out2) (d .give2) (output-below g S i o at output2) (p .1) in
@@ -96,7 +96,7 @@ module _ (g : Made) (S : Sound g) (kinds : List ℕ) (capacity : ℕ) (m : List 
         ap (readyFor m size) (plan-read g S kinds capacity m q H i o at d e) ∙ simp (a, b, c)
 
     undecided : now ≡ none → ableAt m size i ≡ false
-    unfolding ableAt readyFor
+    unfolding ableFrom readyFrom
     undecided e = simp (plan-none g S kinds capacity m q H i o at e)
 
     -- what the machine decided, where it found itself able

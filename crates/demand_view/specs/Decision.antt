@@ -17,8 +17,8 @@ use Rattle.machine_layout.specs.Layout.{kindByte, portOf, sizeOf}
 use Rattle.machine_layout.specs.Kinds.{kindOf, kind-of-byte}
 use Rattle.machine_gates.specs.Decide.{optional, told, decideAt}
 use Rattle.machine_gates.specs.Decide.{heads as heads-read}
-use Rattle.machine_firing.specs.Links.{headAt, tokenAt}
-use Rattle.machine_firing.specs.Fire.{Plan, taken, given, planned, registerOf, decisionAt, planAt}
+use Rattle.machine_firing.specs.Links.{headFrom, tokenAt, tokenFrom}
+use Rattle.machine_firing.specs.Fire.{Plan, taken, given, planned, registerOf, decisionAt, decisionFrom, planAt, planFrom}
 use Rattle.graph.specs.Assembly.{Operator}
 use Rattle.graph.specs.Translation.{Made}
 use Rattle.theory_reference.specs.Plugged.{nowhere, link-of, portsOf}
@@ -49,12 +49,12 @@ module _ (g : Made) (S : Sound g) (kinds : List ℕ) (capacity : ℕ) (m : List 
   size = sizeOf capacity
 
   nothing-nowhere : tokenAt m size nowhere ≡ decoded (first-token (q nowhere))
-  unfolding tokenAt headAt
+  unfolding tokenFrom headFrom
   nothing-nowhere = rw (H .nowhere-empty) (ap decoded no-value)
 
   -- THE FIRST TOKEN of a port's link, as the machine reads it.
   pub token-read : (x : Option ℕ) → Linked-in g x → tokenAt m size (link-of x) ≡ decoded (first-token (q (link-of x)))
-  unfolding tokenAt
+  unfolding tokenFrom
   token-read none b = nothing-nowhere
   token-read (some l) b = go (q l) refl
     where
@@ -110,7 +110,7 @@ module _ (g : Made) (S : Sound g) (kinds : List ℕ) (capacity : ℕ) (m : List 
 
     -- THE DECISION read from the bytes is the table's on the links.
     pub decision-read : decisionAt m size i ≡ told decisionNow
-    unfolding decisionAt decideAt
+    unfolding decisionFrom decideAt
     decision-read =
         let R = H .recorded i o at in
         let k : kindOf (kindByte m i) ≡ some (o .kind) = ap kindOf (R .kind) ∙ kind-of-byte (o .kind) (S .formed i o at .coded) in
@@ -137,11 +137,11 @@ module _ (g : Made) (S : Sound g) (kinds : List ℕ) (capacity : ℕ) (m : List 
         }
 
     pub plan-read : (d : Decision) → decisionNow ≡ some d → planAt m size i ≡ planOf d
-    unfolding planAt planned
+    unfolding planFrom planned
     plan-read d e =
         let R = H .recorded i o at in
         rw (decision-read, e, R .in1, R .in2, R .in3, R .out1, R .out2, R .out3) refl
 
     pub plan-none : decisionNow ≡ none → planAt m size i .able ≡ false
-    unfolding planAt planned
+    unfolding planFrom planned
     plan-none e = rw (decision-read, e) refl

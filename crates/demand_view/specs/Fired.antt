@@ -19,9 +19,9 @@ use Rattle.network.specs.Decide.{Decision, untouched}
 use Rattle.network.specs.Firing.{heads, pop-if, gone, Took, pop-if-other, Holds, none-took, carried, fill-acts}
 use Rattle.network.specs.FiringLinks.{Output, output1, output2, output3, output, decided-took, register-after}
 use Rattle.machine_layout.specs.Layout.{registerAt, linkAt, sizeOf}
-use Rattle.machine_firing.specs.Links.{removedAt, appendedAt}
+use Rattle.machine_firing.specs.Links.{removedAt, removedFrom, appendedAt, appendedFrom}
 use Rattle.machine_firing.specs.LinkLaws.{linkPart, part-stored}
-use Rattle.machine_firing.specs.Fire.{taken, given, performed, ableAt, firedAt}
+use Rattle.machine_firing.specs.Fire.{taken, given, performed, performedFrom, ableAt, firedAt, firedFrom}
 use Rattle.graph.specs.Assembly.{Operator}
 use Rattle.graph.specs.Translation.{Made}
 use Rattle.theory_reference.specs.Plugged.{nowhere, registers, link-of, portsOf, demandOf}
@@ -42,7 +42,7 @@ use Rattle.demand_view.specs.Able.{owns, holds, ready-places, decided-ab
 module _ (g : Made) (S : Sound g) (kinds : List ℕ) (capacity : ℕ) (m : List ℕ) (q : Links) (H : Stands g kinds capacity m q) (x : Option ℕ) (b : Linked-in g x) where
   -- taken from an input, or not
   stands-taken : (t : Bool) → (t ≡ true → 0 < length (q (link-of x))) → Stands g kinds capacity (removedAt m (sizeOf capacity) (taken t (link-of x))) (pop-if t (link-of x) q)
-  unfolding taken removedAt
+  unfolding taken removedFrom
   stands-taken false h = H
   stands-taken true h = go x b (h refl)
     where
@@ -53,7 +53,7 @@ module _ (g : Made) (S : Sound g) (kinds : List ℕ) (capacity : ℕ) (m : List 
   -- given on an output, or not
   stands-given : (v : Option Value) → Fine v → Place capacity x v q →
       Stands g kinds capacity (appendedAt m (sizeOf capacity) (given (decoded v) (link-of x)) (wordOr (decoded v))) (appends (emission x v) q)
-  unfolding given appendedAt
+  unfolding given appendedFrom
   stands-given v f h = go x v b f h
     where
       go : (x : Option ℕ) (v : Option Value) → Linked-in g x → Fine v → Place capacity x v q →
@@ -260,7 +260,7 @@ module _ (g : Made) (S : Sound g) (kinds : List ℕ) (capacity : ℕ) (m : List 
         (register-after (o .kind) p q now (owns g S kinds capacity m q H i o at) d e (holds g S kinds capacity m q H i o at))
 
     fired-is : firedAt m s i ≡ stored m6 (registerAt i) (wordIn (d .register))
-    unfolding firedAt performed
+    unfolding firedFrom performedFrom
     fired-is =
         rw able
         (ap (performed m s i) (plan-read g S kinds capacity m q H i o at d e) ∙ ap (stored m6 (registerAt i)) (word-given (d .register)))

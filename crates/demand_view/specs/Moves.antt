@@ -14,10 +14,10 @@ use Rattle.value.specs.declared.Value.{Value}
 use Rattle.value.specs.Bytes.{InRange, wordOf}
 use Rattle.network.specs.Net.{Token, val, Links, tail, pop, pop-same, pop-other, append, append-same, append-other}
 use Rattle.machine_queue.specs.Stretch.{appended, removed}
-use Rattle.machine_layout.specs.Layout.{linkAt, sizeOf}
+use Rattle.machine_layout.specs.Layout.{linksAt, linkAt, sizeOf}
 use Rattle.machine_layout.specs.Fits.{stretch-fits}
 use Rattle.machine_firing.specs.Parts.{part-length}
-use Rattle.machine_firing.specs.Links.{headAt, roomAt, removedAt, appendedAt}
+use Rattle.machine_firing.specs.Links.{headAt, headFrom, roomAt, roomFrom, removedAt, removedFrom, appendedAt, appendedFrom}
 use Rattle.machine_firing.specs.LinkLaws.{linkPart, keeps-appended, keeps-removed, same-on, other-on, length-removed, low-removed, length-appended, low-appended}
 use Rattle.graph.specs.Translation.{Made}
 use Rattle.demand_view.specs.Sound.{Sound}
@@ -33,17 +33,17 @@ module _ (g : Made) (S : Sound g) (kinds : List ℕ) (capacity : ℕ) (m : List 
   is-link = omega (arith, S .few-links)
 
   stretch-length : length (linkPart m size l) ≡ 5 * capacity + 1
-  stretch-length = part-length m (linkAt size l) size (omega (arith, stretch-fits size l is-link, H .long))
+  stretch-length = part-length m (linkAt size l) size (omega (arith, stretch-fits linksAt size l is-link, H .long))
 
   waiting-there : (ts : List Token) → q l ≡ ts → Waits capacity (linkPart m size l) ts
   waiting-there ts e = subst (Waits capacity (linkPart m size l)) e (H .waits l below)
 
   pub stands-head : (v : Value) (ts : List Token) → q l ≡ val v ∷ ts → headAt m size l ≡ wordOf v
-  unfolding headAt
+  unfolding headFrom
   stands-head v ts e = simp (lt-ltb l 3105 is-link) (waits-head capacity (linkPart m size l) stretch-length v ts (waiting-there (val v ∷ ts) e))
 
   pub stands-none : q l ≡ [] → headAt m size l ≡ 0
-  unfolding headAt
+  unfolding headFrom
   stands-none e = simp (lt-ltb l 3105 is-link) (waits-none capacity (linkPart m size l) stretch-length (waiting-there [] e))
 
   -- what waits is a value in its range
@@ -51,7 +51,7 @@ module _ (g : Made) (S : Sound g) (kinds : List ℕ) (capacity : ℕ) (m : List 
   stands-value t ts e = waits-value capacity (linkPart m size l) stretch-length t ts (waiting-there (t ∷ ts) e)
 
   pub stands-room : roomAt m size l ≡ ltb (length (q l)) capacity
-  unfolding roomAt
+  unfolding roomFrom
   stands-room = simp (lt-ltb l 3105 is-link) (waits-room capacity (linkPart m size l) stretch-length (q l) (H .waits l below))
 
   -- ---- one link changed
@@ -71,15 +71,15 @@ module _ (g : Made) (S : Sound g) (kinds : List ℕ) (capacity : ℕ) (m : List 
   beyond r e k h = e k (let ne : k ≢ l = omega arith in ne)
 
   pub stands-append : (v : Value) → length (q l) < capacity → InRange v → Stands g kinds capacity (appendedAt m size l (wordOf v)) (append l (val v) q)
-  unfolding appendedAt
+  unfolding appendedFrom
   stands-append v room fine =
       stands-links g S kinds capacity m q H (appendedAt m size l (wordOf v)) (append l (val v) q)
-      (length-appended m size (H .long) l (wordOf v))
-      (low-appended m size (H .long) l (wordOf v))
+      (length-appended m linksAt size (H .long) l (wordOf v))
+      (low-appended m linksAt size (H .long) l (wordOf v))
       (beyond (append l (val v) q) other)
       (waits-each f (appendedAt m size l (wordOf v)) (append l (val v) q)
-      (same-on m size (H .long) l f (keeps-appended (wordOf v)) is-link)
-      (other-on m size (H .long) l f (keeps-appended (wordOf v)))
+      (same-on m linksAt size (H .long) l f (keeps-appended (wordOf v)) is-link)
+      (other-on m linksAt size (H .long) l f (keeps-appended (wordOf v)))
       other
       (subst (Waits capacity (appended (linkPart m size l) (wordOf v))) (sym (append-same l (val v) q))
       (waits-appended capacity (linkPart m size l) stretch-length (q l) (H .waits l below) room v fine)))
@@ -91,15 +91,15 @@ module _ (g : Made) (S : Sound g) (kinds : List ℕ) (capacity : ℕ) (m : List 
       other k ne = append-other l k (val v) q ne
 
   pub stands-remove : 0 < length (q l) → Stands g kinds capacity (removedAt m size l) (pop l q)
-  unfolding removedAt
+  unfolding removedFrom
   stands-remove some-wait =
       stands-links g S kinds capacity m q H (removedAt m size l) (pop l q)
-      (length-removed m size (H .long) l)
-      (low-removed m size (H .long) l)
+      (length-removed m linksAt size (H .long) l)
+      (low-removed m linksAt size (H .long) l)
       (beyond (pop l q) other)
       (waits-each removed (removedAt m size l) (pop l q)
-      (same-on m size (H .long) l removed keeps-removed is-link)
-      (other-on m size (H .long) l removed keeps-removed)
+      (same-on m linksAt size (H .long) l removed keeps-removed is-link)
+      (other-on m linksAt size (H .long) l removed keeps-removed)
       other
       (subst (Waits capacity (removed (linkPart m size l))) (sym (pop-same l q)) (go (q l) refl some-wait)))
     where

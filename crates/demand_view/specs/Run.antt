@@ -16,9 +16,9 @@ use Rattle.network.specs.Firing.{none-is-not-some, some-same}
 use Rattle.theory_pieces.specs.Tape.{Step, firing}
 use Rattle.formula.specs.Tree.{Exp}
 use Rattle.graph.specs.Translation.{madeOf}
-use Rattle.machine_layout.specs.Layout.{sizeOf}
+use Rattle.machine_layout.specs.Layout.{linksAt, sizeOf}
 use Rattle.machine_firing.specs.Fire.{ableAt, firedAt}
-use Rattle.machine_runs.specs.Run.{leastFrom, least, Ran, ran, runs, stillAt}
+use Rattle.machine_runs.specs.Run.{leastFrom, firstFrom, least, lowestFrom, Ran, ran, runs, runsFrom, stillAt, stillFrom}
 use Rattle.machine_runs.specs.RunLaws.{least-none}
 use Rattle.theory_verdicts.specs.Running.{places, decAble, operatorAt, fires, accept, afterSteps, leastAble, onward, runSteps, stepsOf}
 use Rattle.theory_verdicts.specs.RunLaws.{least-is-least, run-below-lent}
@@ -52,7 +52,7 @@ module _ (x : Exp) (S : Sound (madeOf x)) (kinds : List ℕ) (capacity : ℕ) (o
         go false e = e
 
     least-from : (k a : ℕ) → a + k ≤ count → leastFrom m size k a ≡ numbered (leastAbleFrom x capacity k a q) (a + k)
-    unfolding leastFrom leastAbleFrom
+    unfolding firstFrom leastAbleFrom
     least-from zero a h = omega arith
     least-from (suc k) a h = go (decAble (places capacity) (operatorAt x a) q) (least-from k (suc a) (omega arith))
       where
@@ -64,7 +64,7 @@ module _ (x : Exp) (S : Sound (madeOf x)) (kinds : List ℕ) (capacity : ℕ) (o
             rw (unable-on-bytes a (omega arith) n) (ih ∙ ap (numbered (leastAbleFrom x capacity k (suc a) q)) e)
 
     least-is : least m size count ≡ numbered (leastAble x capacity q) count
-    unfolding least
+    unfolding lowestFrom
     least-is = let z : 0 + count ≡ count = omega arith in least-from count 0 (omega arith) ∙ ap (numbered (leastAble x capacity q)) z
 
   -- an operator that is found is one of the graph's
@@ -89,7 +89,7 @@ module _ (x : Exp) (S : Sound (madeOf x)) (kinds : List ℕ) (capacity : ℕ) (o
 
   -- with c firings made before
   runs-same : (lent : ℕ) (m : List ℕ) (q : Links) → Stands (madeOf x) kinds capacity m q → (c : ℕ) → Same-run (runs size count lent m c) (runSteps x capacity lent q) q c
-  unfolding runs runSteps
+  unfolding runsFrom runSteps
   runs-same zero m q H c = (H, omega arith)
   runs-same (suc b) m q H c =
       subst (λ n. Same-run (pick (ltb n count) (runs size count b (firedAt m size n) (c + 1)) (ran m c)) (onward (leastAble x capacity q) later) q c)
@@ -118,12 +118,12 @@ module _ (x : Exp) (S : Sound (madeOf x)) (kinds : List ℕ) (capacity : ℕ) (o
 
   module _ (m : List ℕ) (q : Links) (H : Stands (madeOf x) kinds capacity m q) where
     none-still : ((a : ℕ) → a < count → Cannot a q) → stillAt m size count ≡ true
-    unfolding stillAt
+    unfolding stillFrom
     none-still n =
-        rw (least-none m size count (λ j h. unable-on-bytes m q H j h (n j h)), le-ltb count count (omega arith)) refl
+        rw (least-none m linksAt size count (λ j h. unable-on-bytes m q H j h (n j h)), le-ltb count count (omega arith)) refl
 
     still-found : (c : ℕ) → leastAble x capacity q ≡ some c → stillAt m size count ≡ false
-    unfolding stillAt
+    unfolding stillFrom
     still-found c e = rw (least-is m q H, e, lt-ltb c count (found-there q c e)) refl
 
     no-step : leastAble x capacity q ≡ none → runSteps x capacity 1 q ≡ []

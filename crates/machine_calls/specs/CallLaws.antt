@@ -12,7 +12,7 @@ use lib.ListN.{length, getD, length-set}
 use Rattle.value.specs.Operators.{pick}
 use Rattle.value.specs.Bytes.{wordOf, wordAt}
 use Rattle.network.specs.Values.{true-value}
-use Rattle.machine_layout.specs.Layout.{number16, nameAt, need, untakenAt, inputKindsAt, operatorsOf, inputsOf, resultsOf, untakenOf, triggerOf, inputLink, resultLink, storedKinds}
+use Rattle.machine_layout.specs.Layout.{linksAt, number16, nameAt, need, untakenAt, inputKindsAt, operatorsOf, inputsOf, resultsOf, untakenOf, triggerOf, inputLink, resultLink, storedKinds}
 use Rattle.machine_firing.specs.Parts.{part-length}
 use Rattle.machine_firing.specs.Links.{removedAt, appendedAt}
 use Rattle.machine_firing.specs.LinkLaws.{length-removed, low-removed, length-appended, low-appended}
@@ -64,8 +64,8 @@ module _ (m : List ℕ) (size : ℕ) (h : need size ≤ length m) where
       let p = entered-keeps s j in
       let z : need size ≤ length (entered j m size s) = omega (arith, p .size) in
       record {
-        size = length-appended (entered j m size s) size z (inputLink m j) (wordAt s (5 * j)) ∙ p .size;
-        low = λ x k. low-appended (entered j m size s) size z (inputLink m j) (wordAt s (5 * j)) x k ∙ p .low x k;
+        size = length-appended (entered j m size s) linksAt size z (inputLink m j) (wordAt s (5 * j)) ∙ p .size;
+        low = λ x k. low-appended (entered j m size s) linksAt size z (inputLink m j) (wordAt s (5 * j)) x k ∙ p .low x k;
       }
 
   pub emptied-keeps : (j : ℕ) → Kept m (emptied j m size)
@@ -75,8 +75,8 @@ module _ (m : List ℕ) (size : ℕ) (h : need size ≤ length m) where
       let p = emptied-keeps j in
       let z : need size ≤ length (emptied j m size) = omega (arith, p .size) in
       record {
-        size = length-removed (emptied j m size) size z (resultLink m j) ∙ p .size;
-        low = λ x k. low-removed (emptied j m size) size z (resultLink m j) x k ∙ p .low x k;
+        size = length-removed (emptied j m size) linksAt size z (resultLink m j) ∙ p .size;
+        low = λ x k. low-removed (emptied j m size) linksAt size z (resultLink m j) x k ∙ p .low x k;
       }
 
 -- one value more
@@ -189,7 +189,7 @@ module _ (m : List ℕ) where
 
       -- fewer firings than lent: nothing can fire
       pub ran-early : c < b → ran m b ≡ outcome (answers 0 c) m′
-      ran-early h = ran-still (rw (← e) at (runs-below (sizeIn m) (operatorsOf m) b m 0 (rw (← e) (omega arith))))
+      ran-early h = ran-still (rw (← e) at (runs-below linksAt (sizeIn m) (operatorsOf m) b m 0 (rw (← e) (omega arith))))
 
 -- ---- every push, accepted or not, keeps the memory's length and counts none
 
@@ -203,7 +203,7 @@ module _ (m s : List ℕ) where
       let k = entered-keeps m (sizeIn m) h s (inputsOf m) .size in
       let z : need (sizeIn m) ≤ length (entered (inputsOf m) m (sizeIn m) s) = omega (arith, k) in (
         length-set (triggered m s) untakenAt (untakenOf m + 1)
-            ∙ length-appended (entered (inputsOf m) m (sizeIn m) s) (sizeIn m) z (triggerOf m) (wordOf true-value) ∙ k,
+            ∙ length-appended (entered (inputsOf m) m (sizeIn m) s) linksAt (sizeIn m) z (triggerOf m) (wordOf true-value) ∙ k,
         refl,
       )
 

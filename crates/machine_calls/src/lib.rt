@@ -3,6 +3,7 @@
 // and on every lent byte, and asks nothing of the caller. Values lie in five bytes each (value's
 // specs/Bytes).
 use formula::Refusal;
+use machine_layout::LINKS_AT;
 ghost use mathlib.Core.Path.{_≡_};
 ghost use Prim.Native.Nat.{ℕ, _+_, _*_, _≤_, _<_};
 ghost use lib.ListN.{length};
@@ -63,12 +64,12 @@ fn have_room(mem: &[u8], size: usize, k: usize) -> bool
     requires { ⌜ (leastSize ≤ size) × (size ≤ mostSize) × (need size ≤ length (now mem)) × (k ≤ mostInputs) ⌝ }
     ensures { λ r. ⌜ r ≡ roomsOk (now (mem .entry)) size k ⌝ }
 {
-    if !machine_firing::room_of(mem, size, machine_layout::trigger(mem)) {
+    if !machine_firing::room_of(mem, LINKS_AT, size, machine_layout::trigger(mem)) {
         return false;
     }
     let mut j = 0;
     while j < k {
-        if !machine_firing::room_of(mem, size, machine_layout::input_link(mem, j)) {
+        if !machine_firing::room_of(mem, LINKS_AT, size, machine_layout::input_link(mem, j)) {
             return false;
         }
         j += 1;
@@ -85,7 +86,7 @@ fn enter(mem: &mut [u8], size: usize, k: usize, set: &[u8])
     while j < k {
         let l = machine_layout::input_link(mem, j);
         let word = value::bytes::load(set, 5 * j);
-        machine_firing::append_to(mem, size, l, word);
+        machine_firing::append_to(mem, LINKS_AT, size, l, word);
         j += 1;
     }
 }
@@ -113,7 +114,7 @@ pub fn push(mem: &mut [u8], set: &[u8]) -> Answer
     let trigger = machine_layout::trigger(mem);
     enter(mem, size, inputs, set);
     let token = value::bytes::to_word(value::Value::Truth(true));
-    machine_firing::append_to(mem, size, trigger, token);
+    machine_firing::append_to(mem, LINKS_AT, size, trigger, token);
     mem[machine_layout::UNTAKEN_AT] = (untaken + 1) as u8;
     reply(0, 0)
 }
@@ -131,7 +132,7 @@ pub fn fire(mem: &mut [u8], operator: u32) -> Answer
         return refused(Refusal::NotAble);
     }
     let size = machine_layout::stretch_size(machine_layout::capacity(mem));
-    if machine_operators::fire_at(mem, size, i) {
+    if machine_operators::fire_at(mem, LINKS_AT, size, i) {
         return reply(0, 0);
     }
     refused(Refusal::NotAble)
@@ -148,11 +149,11 @@ pub fn run(mem: &mut [u8], firings: u32) -> Answer
     }
     let n = machine_layout::operators(mem);
     let size = machine_layout::stretch_size(machine_layout::capacity(mem));
-    let count = machine_runs::run(mem, size, n, firings);
+    let count = machine_runs::run(mem, LINKS_AT, size, n, firings);
     if count < firings {
         return reply(0, count);
     }
-    if machine_runs::idle(mem, size, n) {
+    if machine_runs::idle(mem, LINKS_AT, size, n) {
         return reply(0, count);
     }
     reply(formula::refusal_number(Refusal::Unfinished), count)
@@ -165,7 +166,7 @@ fn are_ready(mem: &[u8], size: usize, k: usize) -> bool
 {
     let mut j = 0;
     while j < k {
-        if machine_firing::head_of(mem, size, machine_layout::result_link(mem, j)) == 0 {
+        if machine_firing::head_of(mem, LINKS_AT, size, machine_layout::result_link(mem, j)) == 0 {
             return false;
         }
         j += 1;
@@ -179,7 +180,7 @@ fn result_word(mem: &[u8], size: usize, k: usize, j: usize) -> u64
     ensures { λ r. ⌜ r ≡ resultWord (now (mem .entry)) size k j ⌝ }
 {
     if j < k {
-        return machine_firing::head_of(mem, size, machine_layout::result_link(mem, j));
+        return machine_firing::head_of(mem, LINKS_AT, size, machine_layout::result_link(mem, j));
     }
     value::bytes::ERR
 }
@@ -203,7 +204,7 @@ fn empty_results(mem: &mut [u8], size: usize, k: usize)
     let mut j = 0;
     while j < k {
         let l = machine_layout::result_link(mem, j);
-        machine_firing::remove_from(mem, size, l);
+        machine_firing::remove_from(mem, LINKS_AT, size, l);
         j += 1;
     }
 }

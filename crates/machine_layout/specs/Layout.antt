@@ -144,12 +144,23 @@ leastSize = 6
 abbrev pub mostSize : ℕ
 mostSize = 81
 
+-- Its place where the links begin at a byte `base`, and what the links there need; a firing is stated over that byte.
+abbrev pub linkFrom : ℕ → ℕ → ℕ → ℕ
+linkFrom base size l = base + l * size
+
+abbrev pub needFrom : ℕ → ℕ → ℕ
+needFrom base size = base + mostLinks * size
+
+-- a memory that can be lent is shorter
+abbrev pub addresses : ℕ
+addresses = 18446744073709551616
+
 abbrev pub linkAt : ℕ → ℕ → ℕ
-linkAt size l = linksAt + l * size
+linkAt size l = linkFrom linksAt size l
 
 -- What a machine needs: 40,390 bytes at capacity 1, 55,915 at 2, 15,525 for each place above.
 abbrev pub need : ℕ → ℕ
-need size = linksAt + mostLinks * size
+need size = needFrom linksAt size
 
 -- "the capacity asked or stored (1 where outside 1..16)"
 unfoldable pub capacityIn : ℕ → ℕ

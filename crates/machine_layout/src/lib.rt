@@ -4,7 +4,7 @@
 ghost use mathlib.Core.Path.{_≡_};
 ghost use Prim.Native.Nat.{ℕ, _+_, _*_, _≤_, _<_};
 ghost use lib.ListN.{length};
-ghost use Rattle.machine_layout.specs.Layout.{mostOperators, mostLinks, mostCapacity, mostInputs, mostResults, mostSize, recordsAt, linksAt, number16, stored16, nameAt, capacityByte, operatorsOf, linksOf, inputsOf, resultsOf, untakenOf, triggerOf, inputLink, resultLink, operatorAt, registerAt, linkAt, need, sizeOf, capacityOf};
+ghost use Rattle.machine_layout.specs.Layout.{mostOperators, mostLinks, mostCapacity, mostInputs, mostResults, recordsAt, linksAt, number16, stored16, nameAt, capacityByte, operatorsOf, linksOf, inputsOf, resultsOf, untakenOf, triggerOf, inputLink, resultLink, operatorAt, registerAt, linkFrom, needFrom, need, addresses, sizeOf, capacityOf};
 ghost use Rattle.machine_layout.specs.Record.{recorded, placed};
 
 // The most operators and links of a machine (specs/Layout), the most places of a link, inputs,
@@ -138,12 +138,12 @@ pub fn register_at(i: usize) -> usize
     REGISTERS_AT + 5 * i
 }
 
-// Where the stretch of link l begins; `size` is the length of a stretch.
-pub fn link_at(size: usize, l: usize) -> usize
-    requires { ⌜ (size ≤ mostSize) × (l < mostLinks) ⌝ }
-    ensures { λ r. ⌜ (r ≡ linkAt size l) × (r + size ≤ need size) ⌝ }
+// Where the stretch of link l begins, of the links from `base` on; `size` is the length of a stretch.
+pub fn link_from(base: usize, size: usize, l: usize) -> usize
+    requires { ⌜ (needFrom base size < addresses) × (l < mostLinks) ⌝ }
+    ensures { λ r. ⌜ (r ≡ linkFrom base size l) × (r + size ≤ needFrom base size) ⌝ }
 {
-    LINKS_AT + l * size
+    base + l * size
 }
 
 // Link number p of those that stand in a row from `at` on.

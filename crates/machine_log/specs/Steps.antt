@@ -13,7 +13,7 @@ use lib.ListN.{length, getD, take, drop, set, length-append}
 use Rattle.value.specs.Operators.{pick}
 use Rattle.value_sets.specs.Sets.{setOk}
 use Rattle.formula.specs.declared.Refusal.the-variants.{NotAble, NoResult}
-use Rattle.machine_layout.specs.Layout.{inputsOf, resultsOf, operatorsOf, untakenOf, untakenAt, storedKinds}
+use Rattle.machine_layout.specs.Layout.{linksAt, inputsOf, resultsOf, operatorsOf, untakenOf, untakenAt, storedKinds}
 use Rattle.machine_firing.specs.Fire.{ableAt, firedAt}
 use Rattle.machine_valid.specs.Below.{allBelow}
 use Rattle.machine_valid.specs.Figures.{valid-figures}
@@ -254,7 +254,7 @@ fire-counts m i e = go (ℕ-discrete (standing m) 0)
     able st true p =
         let g = standing-good m st in
         either (Counts m) (ableAt m (sizeIn m) i) _ _
-        (λ z. omega (arith, static-fired m (sizeIn m) (g .0) i (omega (arith, ltb-true i (operatorsOf m) p, valid-figures m (g .1) .operators)) untakenAt (omega arith)))
+        (λ z. omega (arith, static-fired m linksAt (sizeIn m) (omega arith) (g .0) i (omega (arith, ltb-true i (operatorsOf m) p, valid-figures m (g .1) .operators)) untakenAt (omega arith)))
         (λ z. omega arith)
     able st false p = λ z. omega arith
 

@@ -9,10 +9,10 @@ use lib.Dec.{eqb}
 use lib.ListN.{length, getD}
 use Rattle.value.specs.Operators.{pick}
 use Rattle.value.proofs.Words.{length-stored}
-use Rattle.machine_layout.specs.Layout.{number16, need, registerAt, operatorsOf}
+use Rattle.machine_layout.specs.Layout.{linksAt, number16, need, registerAt, operatorsOf}
 use Rattle.machine_firing.specs.Links.{removedAt, appendedAt}
 use Rattle.machine_firing.specs.LinkLaws.{length-removed, length-appended}
-use Rattle.machine_firing.specs.Fire.{Plan, planAt, moved, performed, ableAt, firedAt}
+use Rattle.machine_firing.specs.Fire.{Plan, planAt, moved, movedFrom, performed, performedFrom, ableAt, firedAt, firedFrom}
 use Rattle.machine_runs.specs.Near.{static-fired}
 use Rattle.machine_valid.specs.Figures.{valid-figures}
 use Rattle.machine_calls.specs.Calls.{sizeIn, standing}
@@ -34,27 +34,27 @@ keeps-both m x m′ a b = record { len = b .len ∙ a .len; below = λ at k. b .
 
 module _ (m : List ℕ) (size : ℕ) (h : need size ≤ length m) where
   length-moved : (p : Plan) → length (moved m size p) ≡ length m
-  unfolding moved
+  unfolding movedFrom
   length-moved p =
-      let r1 = length-removed m size h (p .in1) in
+      let r1 = length-removed m linksAt size h (p .in1) in
       let m1 = removedAt m size (p .in1) in
-      let r2 = length-removed m1 size (omega (arith, r1)) (p .in2) in
+      let r2 = length-removed m1 linksAt size (omega (arith, r1)) (p .in2) in
       let m2 = removedAt m1 size (p .in2) in
-      let r3 = length-removed m2 size (omega (arith, r1, r2)) (p .in3) in
+      let r3 = length-removed m2 linksAt size (omega (arith, r1, r2)) (p .in3) in
       let m3 = removedAt m2 size (p .in3) in
-      let a1 = length-appended m3 size (omega (arith, r1, r2, r3)) (p .out1) (p .word1) in
+      let a1 = length-appended m3 linksAt size (omega (arith, r1, r2, r3)) (p .out1) (p .word1) in
       let m4 = appendedAt m3 size (p .out1) (p .word1) in
-      let a2 = length-appended m4 size (omega (arith, r1, r2, r3, a1)) (p .out2) (p .word2) in
+      let a2 = length-appended m4 linksAt size (omega (arith, r1, r2, r3, a1)) (p .out2) (p .word2) in
       let m5 = appendedAt m4 size (p .out2) (p .word2) in
-      let a3 = length-appended m5 size (omega (arith, r1, r2, r3, a1, a2)) (p .out3) (p .word3) in
+      let a3 = length-appended m5 linksAt size (omega (arith, r1, r2, r3, a1, a2)) (p .out3) (p .word3) in
       a3 ∙ a2 ∙ a1 ∙ r3 ∙ r2 ∙ r1
 
   length-performed : (i : ℕ) (p : Plan) → length (performed m size i p) ≡ length m
-  unfolding performed
+  unfolding performedFrom
   length-performed i p = length-stored (moved m size p) (registerAt i) (p .register) ∙ length-moved p
 
   length-fired : (i : ℕ) → length (firedAt m size i) ≡ length m
-  unfolding firedAt
+  unfolding firedFrom
   length-fired i = go (ableAt m size i)
     where
       go : (b : Bool) → length (pick b (performed m size i (planAt m size i)) m) ≡ length m
@@ -62,7 +62,7 @@ module _ (m : List ℕ) (size : ℕ) (h : need size ≤ length m) where
       go false = refl
 
   pub fired-keeps : (i : ℕ) → i < 1024 → Keeps m (firedAt m size i)
-  fired-keeps i l = record { len = length-fired i; below = static-fired m size h i l }
+  fired-keeps i l = record { len = length-fired i; below = static-fired m linksAt size (omega arith) h i l }
 
 -- ---- rounds
 

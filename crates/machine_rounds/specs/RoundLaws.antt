@@ -13,9 +13,9 @@ use lib.ListN.{length}
 use Rattle.value.specs.Operators.{pick}
 use Rattle.formula.specs.declared.Refusal.the-variants.{Unfinished}
 use Rattle.formula.specs.Refusals.{numberOf}
-use Rattle.machine_layout.specs.Layout.{operatorsOf}
+use Rattle.machine_layout.specs.Layout.{linksAt, operatorsOf}
 use Rattle.machine_firing.specs.Fire.{ableAt, firedAt}
-use Rattle.machine_runs.specs.Run.{stillAt}
+use Rattle.machine_runs.specs.Run.{stillAt, stillFrom}
 use Rattle.machine_runs.specs.RunLaws.{Quiet, least-none, fired-idle}
 use Rattle.machine_calls.specs.Calls.{sizeIn, standing}
 use Rattle.machine_rounds.specs.Rounds.{Swept, swept, sweep, round, Rounded, rounded, roundsFrom, outcome, answers, ended, ranRounds}
@@ -64,7 +64,7 @@ module _ (m₀ : List ℕ) (size n : ℕ) (m : List ℕ) (c i : ℕ) (g : Sweepi
   sweeping-passes h e =
       let b = g .each in
       let d : n - i - 1 ≡ n - (i + 1) = omega arith in
-      rw (fired-idle m size i e) (record {
+      rw (fired-idle m linksAt size i e) (record {
         upto = omega arith;
         each = omega arith;
         same = ap (λ (x : ℕ). sweep size x (i + 1) m c) (sym d) ∙ sym (sweep-passes size (n - i) i m c (omega arith) e) ∙ g .same;
@@ -123,8 +123,8 @@ unfolding round
 round-quiet size n m e j h = sweep-unmoved size n 0 m 0 e .quiet j (omega arith) (omega arith)
 
 pub quiet-still : (m : List ℕ) (size n : ℕ) → Quiet m size n → stillAt m size n ≡ true
-unfolding stillAt
-quiet-still m size n q = rw (least-none m size n q, le-ltb n n (omega arith)) refl
+unfolding stillFrom
+quiet-still m size n q = rw (least-none m linksAt size n q, le-ltb n n (omega arith)) refl
 
 -- ---- rounds one after another
 

@@ -10,7 +10,7 @@ use borrow.Author.Tests.{ltb-false, eqb-false, not-true}
 use lib.Dec.{ltb, eqb}
 use Rattle.value.specs.Operators.{pick}
 use Rattle.machine_firing.specs.Fire.{ableAt, firedAt}
-use Rattle.machine_runs.specs.Run.{leastFrom, least, stillAt}
+use Rattle.machine_runs.specs.Run.{leastFrom, firstFrom, lowestFrom, stillAt, stillFrom}
 use Rattle.machine_runs.specs.RunLaws.{Quiet}
 use Rattle.machine_rounds.specs.Rounds.{Swept, swept, sweep, round, Rounded, rounded, roundsFrom}
 use Rattle.machine_rounds.specs.RoundLaws.{rounds-step, rounds-end, rounds-zero}
@@ -181,7 +181,7 @@ counted size n (suc b) m r f =
 -- ---- nothing can fire
 
 least-below : (m : List ℕ) (size k s j : ℕ) → s ≤ j → j < s + k → ableAt m size j ≡ true → leastFrom m size k s < s + k
-unfolding leastFrom
+unfolding firstFrom
 least-below m size zero s j a b e = absurd (omega arith)
 least-below m size (suc k) s j a b e = go (ableAt m size s) refl (ℕ-discrete j s) (λ d. least-below m size k (suc s) j d (omega arith) e)
   where
@@ -191,7 +191,7 @@ least-below m size (suc k) s j a b e = go (ableAt m size s) refl (ℕ-discrete j
     go false t (no q) I = let l = I (omega arith) in omega (arith, l)
 
 pub still-quiet : (m : List ℕ) (size n : ℕ) → stillAt m size n ≡ true → Quiet m size n
-unfolding stillAt least
+unfolding stillFrom lowestFrom
 still-quiet m size n h j l = go (ableAt m size j) refl
   where
     go : (b : Bool) → ableAt m size j ≡ b → ableAt m size j ≡ false

@@ -2,6 +2,7 @@
 // turn firing once. The definitions are specs/Rounds; the contract of the call is an equation on the
 // answer and on every lent byte, and asks nothing of the caller.
 use formula::Refusal;
+use machine_layout::LINKS_AT;
 ghost use mathlib.Core.Path.{_≡_};
 ghost use Prim.Native.Nat.{_≤_};
 ghost use lib.ListN.{length};
@@ -31,7 +32,7 @@ fn one_round(mem: &mut [u8], size: usize, n: usize) -> u32
     let mut i: usize = 0;
     let mut fired: u32 = 0;
     while i < n {
-        if machine_operators::fire_at(mem, size, i) {
+        if machine_operators::fire_at(mem, LINKS_AT, size, i) {
             fired += 1;
         }
         i += 1;
@@ -88,7 +89,7 @@ pub fn run_rounds(mem: &mut [u8], lent: u32) -> RoundsAnswer
     if made.rounds < lent {
         return reply(0, made);
     }
-    if machine_runs::idle(mem, size, n) {
+    if machine_runs::idle(mem, LINKS_AT, size, n) {
         return reply(0, made);
     }
     reply(formula::refusal_number(Refusal::Unfinished), made)

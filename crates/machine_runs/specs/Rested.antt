@@ -1,5 +1,5 @@
 -- After a firing an operator is not able while nothing waits on its first input: each kind takes from it first, but for FM and FS before their first
--- firing, and a firing leaves them a value in their register. Assumes that the memory is as long as a machine needs.
+-- firing, and a firing leaves them a value in their register. Assumes that the memory is as long as its links need and that they begin behind the registers.
 use Prim.Native.Nat.{ℕ, _≤_, _<_}
 use mathlib.Core.Path.{_≡_, refl, sym, ap, subst, _∙_}
 use mathlib.Core.Bool.{Bool, true, false, _&&_, false≢true}
@@ -19,12 +19,12 @@ use Rattle.value.specs.Senses.{sense}
 use Rattle.network.specs.Rules.{Kind, constant, copy, operator, T-gate, F-gate, M-gate, E-gate, IC-gate, FM-gate, FS-gate, Input, first, second, third, Register, Firing, takes, gives, never, M-rule, fired, FS-rule, rule}
 use Rattle.network.specs.Decide.{Taken, untouched, also, Decision, with-head, decided}
 use Rattle.machine_queue.specs.Stretch.{waiting, headOf}
-use Rattle.machine_layout.specs.Layout.{need, operatorAt, kindByte, registerAt}
+use Rattle.machine_layout.specs.Layout.{linksAt, operatorAt, kindByte, registerAt, needFrom}
 use Rattle.machine_layout.specs.Kinds.{kindOf}
 use Rattle.machine_gates.specs.Decide.{optional, heads, idle, told, ruled, decideAt}
-use Rattle.machine_firing.specs.Links.{headAt, tokenAt}
-use Rattle.machine_firing.specs.LinkLaws.{linkPart}
-use Rattle.machine_firing.specs.Fire.{planned, registerOf, decisionAt, planAt, readyFor, performed, ableAt, firedAt}
+use Rattle.machine_firing.specs.Links.{headFrom, tokenFrom}
+use Rattle.machine_firing.specs.LinkLaws.{linkPartFrom}
+use Rattle.machine_firing.specs.Fire.{planned, registerOf, decisionFrom, planFrom, readyFrom, performedFrom, ableFrom, firedFrom}
 use Rattle.machine_runs.specs.Performed.{own-register}
 use Rattle.machine_runs.specs.Near.{name, static-fired, port-fired}
 
@@ -145,47 +145,47 @@ left : (a b : Bool) → a && b ≡ true → a ≡ true
 left true b e = refl
 left false b e = e
 
-module _ (m : List ℕ) (size : ℕ) (h : need size ≤ length m) (i : ℕ) (small : i < 1024) (able : ableAt m size i ≡ true) where
+module _ (m : List ℕ) (base size : ℕ) (behind : linksAt ≤ base) (h : needFrom base size ≤ length m) (i : ℕ) (small : i < 1024) (able : ableFrom m base size i ≡ true) where
   abbrev m′ : List ℕ
-  m′ = firedAt m size i
+  m′ = firedFrom m base size i
 
-  decision-able : decisionAt m size i .able ≡ true
-  unfolding ableAt readyFor planAt planned
-  decision-able = left (decisionAt m size i .able) _ able
+  decision-able : decisionFrom m base size i .able ≡ true
+  unfolding ableFrom readyFrom planFrom planned
+  decision-able = left (decisionFrom m base size i .able) _ able
 
-  token-ranged : (l : ℕ) → Ranged (optional (tokenAt m size l))
-  unfolding tokenAt
-  token-ranged l = word-ranged (headAt m size l)
+  token-ranged : (l : ℕ) → Ranged (optional (tokenFrom m base size l))
+  unfolding tokenFrom
+  token-ranged l = word-ranged (headFrom m base size l)
 
   register-ranged : Ranged (optional (registerOf m i))
   unfolding registerOf
   register-ranged = word-ranged (wordAt m (registerAt i))
 
-  register-is : planAt m size i .register ≡ wordOr (decisionAt m size i .register)
-  unfolding planAt planned
+  register-is : planFrom m base size i .register ≡ wordOr (decisionFrom m base size i .register)
+  unfolding planFrom planned
   register-is = refl
 
-  register-read : Reads (optional (decisionAt m size i .register)) (optional (registerOf m′ i))
-  unfolding firedAt registerOf
-  register-read = rw able (go (decisionAt m size i .register) register-is)
+  register-read : Reads (optional (decisionFrom m base size i .register)) (optional (registerOf m′ i))
+  unfolding firedFrom registerOf
+  register-read = rw able (go (decisionFrom m base size i .register) register-is)
     where
-      go : (x : Decoded) → planAt m size i .register ≡ wordOr x → Reads (optional x) (optional (decoded (valueOf (wordAt (performed m size i (planAt m size i)) (registerAt i)))))
+      go : (x : Decoded) → planFrom m base size i .register ≡ wordOr x → Reads (optional x) (optional (decoded (valueOf (wordAt (performedFrom m base size i (planFrom m base size i)) (registerAt i)))))
       go (Valid v) e = λ b.
-          let s = own-register m size h i small (planAt m size i) (rw e (word-lt v b)) in
+          let s = own-register m base size behind h i small (planFrom m base size i) (rw e (word-lt v b)) in
           rw (s ∙ e, value-of-word v b) refl
       go Invalid e = tt
 
-  module _ (lt : name m i 0 < 3105) (empty : waiting (linkPart m′ size (name m i 0)) ≡ 0) where
-    token-none : tokenAt m′ size (name m′ i 0) ≡ Invalid
-    unfolding tokenAt headAt headOf
-    token-none = rw (port-fired m size h i small i 0 small (omega arith), lt-ltb (name m i 0) 3105 lt, empty, no-value) refl
+  module _ (lt : name m i 0 < 3105) (empty : waiting (linkPartFrom m′ base size (name m i 0)) ≡ 0) where
+    token-none : tokenFrom m′ base size (name m′ i 0) ≡ Invalid
+    unfolding tokenFrom headFrom headOf
+    token-none = rw (port-fired m base size behind h i small i 0 small (omega arith), lt-ltb (name m i 0) 3105 lt, empty, no-value) refl
 
-    decision-idle : decisionAt m′ size i ≡ idle
-    unfolding decisionAt
+    decision-idle : decisionFrom m′ base size i ≡ idle
+    unfolding decisionFrom
     decision-idle =
-        rw (token-none, static-fired m size h i small (operatorAt i) (omega arith))
+        rw (token-none, static-fired m base size behind h i small (operatorAt i) (omega arith))
         (decide-rests _ _ _ _ (token-ranged (name m i 0)) (token-ranged (name m i 1)) (token-ranged (name m i 2)) register-ranged _ _ _ (kindByte m i) decision-able register-read)
 
-    pub rested : ableAt m′ size i ≡ false
-    unfolding ableAt readyFor planAt planned
+    pub rested : ableFrom m′ base size i ≡ false
+    unfolding ableFrom readyFrom planFrom planned
     rested = rw decision-idle refl

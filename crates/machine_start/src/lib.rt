@@ -5,6 +5,7 @@
 // firmware's entry point calls, asks nothing of its caller.
 use formula::Refusal;
 use machine_layout::INPUT_KINDS_AT;
+use machine_layout::LINKS_AT;
 use maker::Making;
 use maker::make;
 use sheet_fields::blank;
@@ -111,7 +112,7 @@ fn empty_links(mem: &mut [u8], size: usize, k: usize)
 {
     let mut l = 0;
     while l < k {
-        let at = machine_layout::link_at(size, l);
+        let at = machine_layout::link_from(LINKS_AT, size, l);
         mem[at] = 0;
         l += 1;
     }

@@ -14,7 +14,7 @@ use Rattle.value.specs.Bytes.{wordOf}
 use Rattle.value_sets.specs.Sets.{setOk, set-short}
 use Rattle.formula.specs.declared.Refusal.the-variants.{Set}
 use Rattle.formula.specs.Refusals.{numberOf}
-use Rattle.machine_layout.specs.Layout.{need, inputsOf, untakenOf, triggerOf, untakenAt, inputCountAt, storedKinds}
+use Rattle.machine_layout.specs.Layout.{linksAt, need, inputsOf, untakenOf, triggerOf, untakenAt, inputCountAt, storedKinds}
 use Rattle.machine_firing.specs.LinkLaws.{low-appended}
 use Rattle.network.specs.Values.{true-value}
 use Rattle.machine_calls.specs.Calls.{Outcome, outcome, answers, refusal, sizeIn, standing, roomsOk, entered, triggered, pushedMemory, pushed}
@@ -72,7 +72,7 @@ entered-inputs m set st =
     let K = entered-keeps m (sizeIn m) (standing-good m st .0) set (inputsOf m) in
     let z : need (sizeIn m) ≤ length (entered (inputsOf m) m (sizeIn m) set) = omega (arith, K .size, standing-good m st .0) in
     getD-set-other (triggered m set) untakenAt inputCountAt (untakenOf m + 1) 0 (λ (e : 5 ≡ 7). absurd (omega arith))
-    ∙ low-appended (entered (inputsOf m) m (sizeIn m) set) (sizeIn m) z (triggerOf m) (wordOf true-value) inputCountAt (omega arith)
+    ∙ low-appended (entered (inputsOf m) m (sizeIn m) set) linksAt (sizeIn m) z (triggerOf m) (wordOf true-value) inputCountAt (omega arith)
     ∙ K .low inputCountAt (omega arith)
 
 abbrev SameInputs : List ℕ → Outcome → Type 0

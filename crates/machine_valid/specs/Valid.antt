@@ -11,18 +11,22 @@ use Rattle.value.specs.Bytes.{isSome, valueOf, wordAt}
 use Rattle.value.specs.Constants.{inConstantRange}
 use Rattle.machine_queue.specs.Stretch.{waiting}
 use Rattle.value.specs.Kinds.{isLetter}
-use Rattle.machine_layout.specs.Layout.{inputKindsAt, mostOperators, mostLinks, mostCapacity, mostInputs, mostResults, mostUntaken, triggerAt, resultLinksAt, portsAt, capacityByte, operatorsOf, linksOf, inputsOf, resultsOf, untakenOf, noLink, nameAt, triggerOf, operatorAt, kindByte, registerAt, sizeOf, linkAt, part}
+use Rattle.machine_layout.specs.Layout.{inputKindsAt, mostOperators, mostLinks, mostCapacity, mostInputs, mostResults, mostUntaken, triggerAt, resultLinksAt, portsAt, capacityByte, operatorsOf, linksOf, inputsOf, resultsOf, untakenOf, noLink, nameAt, triggerOf, operatorAt, kindByte, registerAt, linksAt, sizeOf, linkFrom, part}
 use Rattle.network.specs.Rules.{constant, FM-gate, FS-gate}
 use Rattle.machine_layout.specs.Kinds.{byteOf, hasPort, mayLack}
 use Rattle.machine_valid.specs.Below.{allBelow}
 
 -- ---- the figures of the header
 
--- capacity 1 to 16; up to 1,024 operators, 3,105 links and 32 inputs; 1 to 16 results; up to 16 sets untaken; a trigger's link or none
+-- the graph's: up to 1,024 operators, 3,105 links and 32 inputs; 1 to 16 results; a trigger's link or none
+unfoldable pub countsOk : List ℕ → Bool
+countsOk m =
+    leb (operatorsOf m) mostOperators && (leb (linksOf m) mostLinks && (leb (inputsOf m) mostInputs
+    && (leb 1 (resultsOf m) && (leb (resultsOf m) mostResults && (ltb (triggerOf m) (linksOf m) || eqb (triggerOf m) noLink)))))
+
+-- and the machine's: capacity 1 to 16, up to 16 sets untaken
 unfoldable pub figuresOk : List ℕ → Bool
-figuresOk m =
-    leb 1 (capacityByte m) && (leb (capacityByte m) mostCapacity && (leb (operatorsOf m) mostOperators && (leb (linksOf m) mostLinks && (leb (inputsOf m) mostInputs
-    && (leb 1 (resultsOf m) && (leb (resultsOf m) mostResults && (leb (untakenOf m) mostUntaken && (ltb (triggerOf m) (linksOf m) || eqb (triggerOf m) noLink))))))))
+figuresOk m = leb 1 (capacityByte m) && (leb (capacityByte m) mostCapacity && (leb (untakenOf m) mostUntaken && countsOk m))
 
 -- ---- names in a row: each names a link, and none is named twice
 
@@ -76,8 +80,12 @@ tokenOk q j = isSome (valueOf (wordAt q (5 * j + 1)))
 unfoldable pub stretchOk : List ℕ → Bool
 stretchOk q = leb (5 * waiting q + 1) (length q) && allBelow (waiting q) (tokenOk q)
 
-unfoldable pub linkOk : List ℕ → ℕ → ℕ → Bool
-linkOk m size l = stretchOk (part m (linkAt size l) size)
+-- link l of those that begin at a byte `base`, and of the machine's
+unfoldable pub linkOkFrom : List ℕ → ℕ → ℕ → ℕ → Bool
+linkOkFrom m base size l = stretchOk (part m (linkFrom base size l) size)
+
+abbrev pub linkOk : List ℕ → ℕ → ℕ → Bool
+linkOk m size l = linkOkFrom m linksAt size l
 
 -- ---- the whole
 

@@ -6,9 +6,9 @@ ghost use mathlib.Core.Path.{_≡_};
 ghost use Prim.Native.Nat.{ℕ, _+_, _*_, _≤_, _<_};
 ghost use mathlib.Core.List.{[], _∷_};
 ghost use lib.ListN.{length};
-ghost use Rattle.machine_layout.specs.Layout.{mostOperators, mostLinks, mostInputs, mostResults, recordsAt, linksAt, resultLinksAt, leastSize, mostSize, need, sizeOf, capacityOf, linksOf, noLink, nameAt};
+ghost use Rattle.machine_layout.specs.Layout.{mostOperators, mostLinks, mostInputs, mostResults, recordsAt, linksAt, resultLinksAt, leastSize, mostSize, need, needFrom, sizeOf, capacityOf, linksOf, noLink, nameAt};
 ghost use Rattle.machine_valid.specs.Below.{allBelow};
-ghost use Rattle.machine_valid.specs.Valid.{unlike, freshAt, resultOk, inputOk, letterOk, registerOk, operatorOk, stretchOk, linkOk, figuresOk, valid};
+ghost use Rattle.machine_valid.specs.Valid.{unlike, freshAt, resultOk, inputOk, letterOk, registerOk, operatorOk, stretchOk, linkOkFrom, countsOk, figuresOk, valid};
 ghost use Rattle.machine_valid.specs.Ports.{apart, nones, shaped, wellPorted};
 
 // The ports of an operator in their row: three inputs, three outputs.
@@ -63,7 +63,7 @@ fn result_ok(mem: &[u8], p: usize) -> bool
     false
 }
 
-fn results_ok(mem: &[u8], k: usize) -> bool
+pub fn results_ok(mem: &[u8], k: usize) -> bool
     requires { ⌜ (recordsAt ≤ length (now mem)) × (k ≤ mostResults) ⌝ }
     ensures { λ r. ⌜ r ≡ allBelow k (resultOk (now (mem .entry)) resultLinksAt) ⌝ }
 {
@@ -92,7 +92,7 @@ fn input_ok(mem: &[u8], p: usize) -> bool
     false
 }
 
-fn inputs_ok(mem: &[u8], k: usize) -> bool
+pub fn inputs_ok(mem: &[u8], k: usize) -> bool
     requires { ⌜ (recordsAt ≤ length (now mem)) × (k ≤ mostInputs + 1) ⌝ }
     ensures { λ r. ⌜ r ≡ allBelow k (inputOk (now (mem .entry))) ⌝ }
 {
@@ -115,7 +115,7 @@ fn letter_ok(mem: &[u8], j: usize) -> bool
     value::bytes::is_letter(mem[machine_layout::INPUT_KINDS_AT + j])
 }
 
-fn letters_ok(mem: &[u8], k: usize) -> bool
+pub fn letters_ok(mem: &[u8], k: usize) -> bool
     requires { ⌜ (recordsAt ≤ length (now mem)) × (k ≤ mostInputs) ⌝ }
     ensures { λ r. ⌜ r ≡ allBelow k (letterOk (now (mem .entry))) ⌝ }
 {
@@ -361,7 +361,7 @@ fn operator_ok(mem: &[u8], links: usize, i: usize) -> bool
     register_ok(kind, word)
 }
 
-fn operators_ok(mem: &[u8], n: usize) -> bool
+pub fn operators_ok(mem: &[u8], n: usize) -> bool
     requires { ⌜ (linksAt ≤ length (now mem)) × (n ≤ mostOperators) ⌝ }
     ensures { λ r. ⌜ r ≡ allBelow n (operatorOk (now (mem .entry))) ⌝ }
 {
@@ -399,22 +399,23 @@ fn stretch_ok(q: &[u8]) -> bool
     true
 }
 
-fn link_ok(mem: &[u8], size: usize, l: usize) -> bool
-    requires { ⌜ (leastSize ≤ size) × (size ≤ mostSize) × (need size ≤ length (now mem)) × (l < mostLinks) ⌝ }
-    ensures { λ r. ⌜ r ≡ linkOk (now (mem .entry)) size l ⌝ }
+// Of the links from `base` on.
+fn link_ok(mem: &[u8], base: usize, size: usize, l: usize) -> bool
+    requires { ⌜ (leastSize ≤ size) × (size ≤ mostSize) × (needFrom base size ≤ length (now mem)) × (l < mostLinks) ⌝ }
+    ensures { λ r. ⌜ r ≡ linkOkFrom (now (mem .entry)) base size l ⌝ }
 {
-    let a = machine_layout::link_at(size, l);
+    let a = machine_layout::link_from(base, size, l);
     let e = a + size;
     stretch_ok(&mem[a..e])
 }
 
-fn links_ok(mem: &[u8], size: usize, k: usize) -> bool
-    requires { ⌜ (leastSize ≤ size) × (size ≤ mostSize) × (need size ≤ length (now mem)) × (k ≤ mostLinks) ⌝ }
-    ensures { λ r. ⌜ r ≡ allBelow k (linkOk (now (mem .entry)) size) ⌝ }
+pub fn links_ok(mem: &[u8], base: usize, size: usize, k: usize) -> bool
+    requires { ⌜ (leastSize ≤ size) × (size ≤ mostSize) × (needFrom base size ≤ length (now mem)) × (k ≤ mostLinks) ⌝ }
+    ensures { λ r. ⌜ r ≡ allBelow k (linkOkFrom (now (mem .entry)) base size) ⌝ }
 {
     let mut l = 0;
     while l < k {
-        if link_ok(mem, size, l) {
+        if link_ok(mem, base, size, l) {
             l += 1;
         } else {
             return false;
@@ -423,17 +424,11 @@ fn links_ok(mem: &[u8], size: usize, k: usize) -> bool
     true
 }
 
-fn figures_ok(mem: &[u8]) -> bool
+// The header's figures but for the capacity and the sets untaken.
+pub fn counts_ok(mem: &[u8]) -> bool
     requires { ⌜ recordsAt ≤ length (now mem) ⌝ }
-    ensures { λ r. ⌜ r ≡ figuresOk (now (mem .entry)) ⌝ }
+    ensures { λ r. ⌜ r ≡ countsOk (now (mem .entry)) ⌝ }
 {
-    let capacity = machine_layout::capacity_stored(mem);
-    if capacity < 1 {
-        return false;
-    }
-    if machine_layout::CAPACITY < capacity {
-        return false;
-    }
     if machine_layout::OPERATORS < machine_layout::operators(mem) {
         return false;
     }
@@ -451,9 +446,6 @@ fn figures_ok(mem: &[u8]) -> bool
     if machine_layout::RESULTS < results {
         return false;
     }
-    if machine_layout::UNTAKEN < machine_layout::untaken(mem) {
-        return false;
-    }
     let trigger = machine_layout::trigger(mem);
     if trigger < links {
         return true;
@@ -461,6 +453,24 @@ fn figures_ok(mem: &[u8]) -> bool
     trigger == machine_firing::NOWHERE
 }
 
+fn figures_ok(mem: &[u8]) -> bool
+    requires { ⌜ recordsAt ≤ length (now mem) ⌝ }
+    ensures { λ r. ⌜ r ≡ figuresOk (now (mem .entry)) ⌝ }
+{
+    let capacity = machine_layout::capacity_stored(mem);
+    if capacity < 1 {
+        return false;
+    }
+    if machine_layout::CAPACITY < capacity {
+        return false;
+    }
+    if machine_layout::UNTAKEN < machine_layout::untaken(mem) {
+        return false;
+    }
+    counts_ok(mem)
+}
+
+// The parts are public, links over their base, for a machine that has the same graph in its memory.
 pub fn is_valid(mem: &[u8]) -> bool
     requires { ⌜ need (sizeOf (capacityOf (now mem))) ≤ length (now mem) ⌝ }
     ensures { λ r. ⌜ r ≡ valid (now (mem .entry)) ⌝ }
@@ -472,7 +482,8 @@ pub fn is_valid(mem: &[u8]) -> bool
         return false;
     }
     let size = machine_layout::stretch_size(machine_layout::capacity(mem));
-    if !links_ok(mem, size, machine_layout::links(mem)) {
+    let links = machine_layout::links(mem);
+    if !links_ok(mem, machine_layout::LINKS_AT, size, links) {
         return false;
     }
     let inputs = machine_layout::inputs(mem);

@@ -23,7 +23,7 @@ poisoned (fire es r) = fire (poisons es) r
 poisoned halt = halt
 
 -- It uses the links that the operator uses.
-asks-poisoned : (d : Demand) (l : ℕ) → Never-asks d l → Never-asks (poisoned d) l
+pub asks-poisoned : (d : Demand) (l : ℕ) → Never-asks d l → Never-asks (poisoned d) l
 asks-poisoned (ask m k) l n = (n .0, λ t. asks-poisoned (k t) l (n .1 t))
 asks-poisoned (fire es r) l n = tt
 asks-poisoned halt l n = tt

@@ -16,11 +16,11 @@ use Rattle.value.specs.Operators.{pick}
 use Rattle.value.specs.Bytes.{wordOr, wordAt, stored}
 use Rattle.machine_queue.specs.Stretch.{appended, removed}
 use Rattle.formula.specs.declared.Refusal.the-variants.{NotAble}
-use Rattle.machine_layout.specs.Layout.{capacityByte, operatorsOf, linksOf, inputsOf, resultsOf, noLink, nameAt, operatorAt, kindByte, portOf, registerAt, sizeOf, linkAt, need}
+use Rattle.machine_layout.specs.Layout.{linksAt, capacityByte, operatorsOf, linksOf, inputsOf, resultsOf, noLink, nameAt, operatorAt, kindByte, portOf, registerAt, sizeOf, linkAt, need}
 use Rattle.machine_gates.specs.Decide.{Decided, isAbsent}
-use Rattle.machine_firing.specs.Links.{onLink, removedAt, appendedAt}
+use Rattle.machine_firing.specs.Links.{onLink, removedFrom, appendedFrom}
 use Rattle.machine_firing.specs.LinkLaws.{linkPart, Keeps, keeps-removed, keeps-appended, length-on, same-on, other-on, part-stored}
-use Rattle.machine_firing.specs.Fire.{taken, given, planned, decisionAt, planAt, readyFor, performed, ableAt, firedAt}
+use Rattle.machine_firing.specs.Fire.{taken, given, planned, decisionAt, planFrom, readyFrom, performedFrom, ableAt, ableFrom, firedAt, firedFrom}
 use Rattle.machine_valid.specs.Below.{allBelow, and-left, and-right, below-at}
 use Rattle.machine_valid.specs.Valid.{figuresOk, unlike, unlikeAt, freshAt, resultOk, inputOk, letterOk, namedOk, portOk, kindOk, registerOk, operatorOk, linkOk, valid}
 use Rattle.machine_valid.specs.Figures.{valid-figures}
@@ -47,16 +47,16 @@ Off l (c ∷ cs) = (l ≢ c .0) × Off l cs
 untouched : (size : ℕ) (m : List ℕ) → need size ≤ length m → (cs : Changes) → AllKeep cs → (l : ℕ) → Off l cs → linkPart (changed size cs m) size l ≡ linkPart m size l
 untouched size m h [] k l o = refl
 untouched size m h (c ∷ cs) k l o =
-    untouched size (onLink m size (c .0) (c .1)) (omega (arith, length-on m size h (c .0) (c .1) (k .0))) cs (k .1) l (o .1)
-    ∙ other-on m size h (c .0) (c .1) (k .0) l (o .0)
+    untouched size (onLink m size (c .0) (c .1)) (omega (arith, length-on m linksAt size h (c .0) (c .1) (k .0))) cs (k .1) l (o .1)
+    ∙ other-on m linksAt size h (c .0) (c .1) (k .0) l (o .0)
 
 once : (size : ℕ) (m : List ℕ) → need size ≤ length m → (xs : Changes) → AllKeep xs → (f : List ℕ → List ℕ) → Keeps f → (ys : Changes) → AllKeep ys
     → (l : ℕ) → l < 3105 → Off l xs → Off l ys → linkPart (changed size (xs ++ ((l, f) ∷ ys)) m) size l ≡ f (linkPart m size l)
 once size m h [] kx f kf ys ky l b ox oy =
-    untouched size (onLink m size l f) (omega (arith, length-on m size h l f kf)) ys ky l oy ∙ same-on m size h l f kf b
+    untouched size (onLink m size l f) (omega (arith, length-on m linksAt size h l f kf)) ys ky l oy ∙ same-on m linksAt size h l f kf b
 once size m h (c ∷ xs) kx f kf ys ky l b ox oy =
-    once size (onLink m size (c .0) (c .1)) (omega (arith, length-on m size h (c .0) (c .1) (kx .0))) xs (kx .1) f kf ys ky l b (ox .1) oy
-    ∙ ap f (other-on m size h (c .0) (c .1) (kx .0) l (ox .0))
+    once size (onLink m size (c .0) (c .1)) (omega (arith, length-on m linksAt size h (c .0) (c .1) (kx .0))) xs (kx .1) f kf ys ky l b (ox .1) oy
+    ∙ ap f (other-on m linksAt size h (c .0) (c .1) (kx .0) l (ox .0))
 
 -- a change that is made or not
 off-both : (l : ℕ) (xs ys : Changes) (c : ℕ × (List ℕ → List ℕ)) → Off l xs → l ≢ c .0 → Off l ys → Off l (xs ++ (c ∷ ys))
@@ -180,7 +180,7 @@ module _ (m : List ℕ) (i : ℕ) (st : standing m ≡ 0) (there : i < operators
   gives3 = (pick (isAbsent (d .give3)) noLink (portOf m i 5), λ s. appended s (wordOr (d .give3)))
 
   fired-is : firedAt m size i ≡ stored (changed size (takes1 ∷ takes2 ∷ takes3 ∷ gives1 ∷ gives2 ∷ gives3 ∷ []) m) (registerAt i) (wordOr (d .register))
-  unfolding firedAt performed planAt planned taken given removedAt appendedAt
+  unfolding firedFrom performedFrom planFrom planned taken given removedFrom appendedFrom
   fired-is = rw can refl
 
   below : i < 1024
@@ -212,7 +212,7 @@ module _ (m : List ℕ) (i : ℕ) (st : standing m ≡ 0) (there : i < operators
     off6 ne = off-given l (portOf m i 5) b ne (isAbsent (d .give3))
 
   able-decided : d .able ≡ true
-  unfolding ableAt readyFor planAt planned
+  unfolding ableFrom readyFrom planFrom planned
   able-decided = and-left (d .able) _ can
 
   k1 : Keeps removed

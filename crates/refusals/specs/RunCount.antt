@@ -11,9 +11,9 @@ use lib.Dec.{ltb}
 use Rattle.value.specs.Operators.{pick}
 use Rattle.formula.specs.declared.Refusal.the-variants.{Unfinished}
 use Rattle.formula.specs.Refusals.{numberOf}
-use Rattle.machine_layout.specs.Layout.{operatorsOf}
+use Rattle.machine_layout.specs.Layout.{linksAt, operatorsOf}
 use Rattle.machine_firing.specs.Fire.{ableAt, firedAt}
-use Rattle.machine_runs.specs.Run.{leastFrom, least, Ran, runs, stillAt}
+use Rattle.machine_runs.specs.Run.{leastFrom, firstFrom, least, lowestFrom, Ran, runs, runsFrom, stillAt, stillFrom}
 use Rattle.machine_runs.specs.RunLaws.{Quiet, runs-step, runs-end, runs-zero, runs-below}
 use Rattle.machine_calls.specs.Calls.{sizeIn, standing, ended, ran}
 use Rattle.machine_calls.specs.CallLaws.{ran-ended}
@@ -33,7 +33,7 @@ pub record Found (m : List ℕ) (size k s : ℕ) : Type 0 where
   pub quiet : (j : ℕ) → s ≤ j → j < leastFrom m size k s → ableAt m size j ≡ false
 
 found : (m : List ℕ) (size k s : ℕ) → Found m size k s
-unfolding leastFrom
+unfolding firstFrom
 found m size zero s = record { from = omega arith; upto = omega arith; able = λ h. absurd (omega arith); quiet = λ j a b. absurd (omega arith) }
 found m size (suc k) s = go (ableAt m size s) refl (found m size k (suc s))
   where
@@ -61,7 +61,7 @@ found m size (suc k) s = go (ableAt m size s) refl (found m size k (suc s))
 
 -- Nothing can fire: no operator is able.
 pub still-quiet : (m : List ℕ) (size n : ℕ) → stillAt m size n ≡ true → Quiet m size n
-unfolding stillAt least
+unfolding stillFrom lowestFrom
 still-quiet m size n h j l =
     let F = found m size n 0 in
     let e = ltb-false (leastFrom m size n 0) n (not-true (ltb (leastFrom m size n 0) n) h) in
@@ -69,7 +69,7 @@ still-quiet m size n h j l =
 
 -- Something can fire: an operator is able.
 pub unstill-able : (m : List ℕ) (size n : ℕ) → stillAt m size n ≡ false → (i : ℕ) × (i < n) × (ableAt m size i ≡ true)
-unfolding stillAt least
+unfolding stillFrom lowestFrom
 unstill-able m size n h =
     let F = found m size n 0 in
     let e = ltb-true (leastFrom m size n 0) n (not-false (ltb (leastFrom m size n 0) n) h) in
@@ -84,7 +84,7 @@ pub record Counted (size n b : ℕ) (m : List ℕ) (r : Ran) (c : ℕ) : Type 0 
   pub between : Firings size n made m (r .mem)
 
 counted : (size n b : ℕ) (m : List ℕ) (c : ℕ) → Counted size n b m (runs size n b m c) c
-unfolding runs least
+unfolding runsFrom lowestFrom
 counted size n zero m c = record { made = 0; counts = omega arith; lent = omega arith; between = refl }
 counted size n (suc b) m c = go (ltb (least m size n) n) refl (counted size n b (firedAt m size (least m size n)) (c + 1))
   where
@@ -110,11 +110,11 @@ only size n b zero m m′ c l f s = go (ℕ-discrete b 0)
     z = omega arith
 
     go : Dec (b ≡ 0) → runs size n b m c ≡ record { mem = m′; count = c + 0 }
-    go (yes p) = rw (p, f, z) (runs-zero size n m c)
-    go (no q) = rw (f, z) (runs-end size n b m c (still-quiet m size n (rw f at (s (omega arith)))))
+    go (yes p) = rw (p, f, z) (runs-zero linksAt size n m c)
+    go (no q) = rw (f, z) (runs-end linksAt size n b m c (still-quiet m size n (rw f at (s (omega arith)))))
 only size n b (suc k) m m′ c l f s =
     let z : c + suc k ≡ c + 1 + k = omega arith in
-    runs-step size n b m c (f .0) (omega arith) (f .1) (f .3) (f .2)
+    runs-step linksAt size n b m c (f .0) (omega arith) (f .1) (f .3) (f .2)
     ∙ only size n (b - 1) k (firedAt m size (f .0)) m′ (c + 1) (omega arith) (f .4) (λ h. s (omega arith))
     ∙ (λ i. record { mem = m′; count = sym z i })
 
@@ -155,7 +155,7 @@ module _ (m : List ℕ) (firings : ℕ) (st : standing m ≡ 0) where
       C = counted (sizeIn m) (operatorsOf m) firings m 0
 
       early : R .count < firings → stillAt (R .mem) (sizeIn m) (operatorsOf m) ≡ true
-      early h = runs-below (sizeIn m) (operatorsOf m) firings m 0 (omega arith)
+      early h = runs-below linksAt (sizeIn m) (operatorsOf m) firings m 0 (omega arith)
 
       go : (b : Bool) → stillAt (R .mem) (sizeIn m) (operatorsOf m) ≡ b → RunCounts m firings
       go b e =

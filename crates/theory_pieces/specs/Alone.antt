@@ -1,5 +1,5 @@
 -- A result comes from its own set even where sets before it never end: the k-th result taken is what direct evaluation yields for the k-th set as soon as
--- that set's own evaluation ends. The reference works every set: one that ends as it does, the others cut (`Cut`), by twins that a run never meets.
+-- that set's own evaluation ends. The reference works every set: the k-th as its evaluation goes, every other cut (`Cut`), by twins that a run never meets.
 -- Assumes `Cut` besides what Calls.antt assumes.
 use Prim.Native.Nat.{ℕ, zero, suc, _<_, _≤_}
 use mathlib.Core.Path.{_≡_, refl, sym, _∙_, ap, subst}
@@ -38,7 +38,7 @@ pub record Cut (graph : ℕ → Demand) (p k source credit : ℕ) (P : Piece) (e
   pub part : (cap : ℕ → ℕ) → Part-diamond plain (enabled (net twins p k source credit P M) cap) (next (net twins p k source credit P M) cap) (output (net twins p k source credit P M) cap)
   -- a set whose evaluation ends gives its result
   pub ended : (n : ℕ) (v r : List Value) → Fits (P .ins) v → eval n v ≡ some r → Fits (P .outs) r × ((c : ℕ) × M (some-of v) c (some (some-of r)))
-  -- and every other one something
+  -- and every set, cut, gives something
   pub cut : (v : List Value) → Fits (P .ins) v → (r : List Value) × Fits (P .outs) r × ((c : ℕ) × M (some-of v) c (some (some-of r)))
 
 -- Lists that agree are the same at every place that both have.

@@ -1,7 +1,6 @@
--- Demand 3 over every list of accepted calls, for a graph that the maker made (`Made`) and any capacity of at least one place: the k-th result taken
--- is what direct evaluation yields for the k-th set pushed, if the evaluation of each of the first k sets ends; and when nothing can fire, every
--- pushed set has been taken or a take is possible, and with every pushed set taken any whole set can be pushed. A refused call is no step of the
--- list and a run is its firings.
+-- Demand 3's second half over every list of accepted calls, for a graph that the maker made (`Made`) and any capacity of at least one place: when nothing can fire,
+-- every pushed set has been taken or a take is possible, and with every pushed set taken any whole set can be pushed. A refused call is no step of the
+-- list and a run is its firings. The first half is Alone.antt's.
 -- Assumes besides `Made` that the source is used by push alone and the credit link by push and take alone.
 use Prim.Native.Nat.{ℕ, zero, suc, _<_, _≤_, _+_}
 use mathlib.Core.Path.{_≡_, refl, sym, _∙_, ap, subst}

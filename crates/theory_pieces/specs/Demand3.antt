@@ -1,5 +1,5 @@
--- Both halves of demand 3 for a machine over any piece that has the schedule lemma, at every capacity of at least one place: the reference is
--- push, the piece's schedule, take, for one set after another; the residual (crate schedule) carries its results over to every list of events.
+-- Demand 3's second half for a machine over any piece that has the schedule lemma, at every capacity of at least one place: the reference is
+-- push, the piece's schedule, take, for one set after another (the first half goes by it too, in Alone.antt); the residual carries it over to every list of events.
 -- Assumes that operators commute (network, Commute.antt and Wired.antt).
 use Prim.Native.Nat.{ℕ, suc, _<_, _≤_, _+_}
 use mathlib.Core.Path.{_≡_, refl, sym, _∙_, ap, subst}
@@ -240,7 +240,7 @@ module _ (graph : ℕ → Demand) (p k source credit : ℕ) (P : Piece) (M : Mea
             untaken = let z : count k (p ∷ w) ≡ count k w = if-neg (ℕ-discrete k p) (Ne·symm (B .push-not-take)) _ _ in omega (arith, l .no-take);
           }
 
-  -- Many sets, one after another.
+  -- Each set has this result, by M.
   abbrev pub Evaluated : List (List Value) → List (List Value) → Type 0
   Evaluated [] [] = Unit {0}
   Evaluated [] (r ∷ rss) = ⊥

@@ -1,4 +1,4 @@
--- What the maker of a graph owes (`Made`), and what follows from it: both halves of demand 3 in terms of the direct evaluator.
+-- What the maker of a graph owes (`Made`), and what follows from it: demand 3's second half in terms of the direct evaluator.
 use Prim.Native.Nat.{ℕ, suc, _<_, _≤_}
 use mathlib.Core.Path.{_≡_, refl}
 use mathlib.Core.Logic.{_≢_, _⊎_, inl, inr}

@@ -29,7 +29,7 @@ not-in-tail y ns x e = (λ z. not-both (memberOf (y ∷ ns) x) (subst (λ w. mem
     go (inr h) = h
 
 -- Links.
-named-here : (y : ℕ) (ns : List ℕ) (l : ℕ) (ls : List ℕ) (env : Env) → named (y ∷ ns) (l ∷ ls) env y ≡ l
+pub named-here : (y : ℕ) (ns : List ℕ) (l : ℕ) (ls : List ℕ) (env : Env) → named (y ∷ ns) (l ∷ ls) env y ≡ l
 unfolding named
 named-here y ns l ls env = ap (λ b. cond b l (named ns ls env y)) (eq-eqb y y refl)
 

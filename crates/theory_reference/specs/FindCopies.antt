@@ -3,11 +3,10 @@
 use Prim.Native.Nat.{ℕ, _+_, _≤_, _<_}
 use mathlib.Core.Path.{_≡_, refl, sym, _∙_, ap, subst}
 use mathlib.Core.Logic.{inl, inr}
-use mathlib.Core.Bool.{Bool, true, false, cond, _&&_}
+use mathlib.Core.Bool.{Bool, true, false, _&&_}
 use mathlib.Core.List.{List, [], _∷_}
 use lib.ListN.{getD}
 use native.Mathlib.Omega.{arith}
-use borrow.Author.Tests.{eq-eqb}
 use Rattle.names.specs.Names.{Names, without}
 use Rattle.network.specs.Net.{Token, mark, Demand, ask}
 use Rattle.network.specs.Commute.{Never-emits}
@@ -20,7 +19,7 @@ use Rattle.theory_reference.specs.NameSets.{and-both, or-left, without-i
 use Rattle.theory_reference.specs.Plugged.{nowhere, portsOf, demandOf, Each, each-rest, each-copy}
 use Rattle.theory_reference.specs.Plan.{Between, Control, Envs}
 use Rattle.theory_reference.specs.Sharing.{first-shared, first-alone, second-shared, envs-first, envs-second}
-use Rattle.theory_reference.specs.Binding.{named-others}
+use Rattle.theory_reference.specs.Binding.{named-here, named-others}
 use Rattle.theory_reference.specs.GraphLayout.{RingOf, planOf, layout}
 use Rattle.theory_reference.specs.GraphParts.{outer, maker-at, maker-env, user-at, user-env, bind-room, bind-each}
 use Rattle.theory_reference.specs.Placed.{Placed, Copied}
@@ -83,10 +82,6 @@ test-small = omega arith
 abbrev joined : Bool → ℕ → List ℕ → Graph → Graph → Graph
 joined both k ks z v = bind (k ∷ ks) (gate (IC both) (beside (wire testName) z)) (beside (wire k) v)
 
-named-head : (k : ℕ) (ks : List ℕ) (l : ℕ) (ls : List ℕ) (env : Env) → named (k ∷ ks) (l ∷ ls) env k ≡ l
-unfolding named
-named-head k ks l ls env = ap (λ b. cond b l (named ks ls env k)) (eq-eqb k k refl)
-
 and-none : (p q : Bool) → q ≡ false → p && q ≡ false
 and-none true q e = e
 and-none false q e = refl
@@ -115,8 +110,8 @@ IC-gives false ls n = inl refl
 -- iter? is the first output of IC, and of what is joined.
 IC-named : (both : Bool) (k : ℕ) (ks : List ℕ) (o : ℕ) (env : Env) → named (k ∷ ks) (upFrom o (gateOutputs (IC both))) env k ≡ o
 unfolding upFrom gateOutputs
-IC-named true k ks o env = named-head k ks o _ env
-IC-named false k ks o env = named-head k ks o _ env
+IC-named true k ks o env = named-here k ks o _ env
+IC-named false k ks o env = named-here k ks o _ env
 
 IC-first : (both : Bool) (k : ℕ) (ks : List ℕ) (v : Graph) (o n : ℕ) (env : Env) → free v k ≡ false →
     getD (outputs (beside (wire k) v) n (named (k ∷ ks) (upFrom o (gateOutputs (IC both))) env)) 0 0 ≡ o

@@ -1,30 +1,23 @@
 -- What the schedule lemma gives to the machine over a fit graph: the bench of theory_pieces/specs/Sets, from which both halves of demand 3 follow
--- (theory_pieces/specs/Made, Calls), and the load that start leaves. Assumes the schedule lemma for some meaning of the graph, that push and take are no
--- operators of the net, and that source and credit link lie beyond the graph's links and registers and are used by no operator (crate wiring).
-use Prim.Native.Nat.{ℕ, _+_, _≤_, _<_}
+-- (theory_pieces/specs/Alone, Made, Calls), and the load that start leaves. Assumes the schedule lemma for some meaning of the graph, that push and take are no
+-- operators of the net, and that source and credit link lie beyond the graph's links and registers and are used by no operator (crate theory_wiring).
+use Prim.Native.Nat.{ℕ, _+_, _≤_}
 use mathlib.Core.Path.{_≡_}
 use mathlib.Core.Logic.{_≢_, inl, inr}
-use mathlib.Core.Bool.{true}
 use mathlib.Core.Option.{none, some}
 use native.Mathlib.Omega.{arith}
-use Rattle.names.specs.Names.{Names}
 use Rattle.network.specs.Net.{Links, halt}
 use Rattle.theory_pieces.specs.Load.{Load, On}
 use Rattle.theory_pieces.specs.Goes.{Net, any-list}
 use Rattle.theory_pieces.specs.Sets.{Bench}
-use Rattle.graph.specs.Assembly.{Graph, Env, nameCount, rank, total, free, linksOf, operatorsOf}
+use Rattle.graph.specs.Assembly.{Graph, Env, free, linksOf, operatorsOf}
 use Rattle.graph.specs.Yields.{Values, Answer}
 use Rattle.graph.specs.Fit.{Fit}
-use Rattle.theory_reference.specs.NameSets.{rank-total, rank-differs}
 use Rattle.theory_reference.specs.Plugged.{nowhere, registers}
 use Rattle.theory_reference.specs.Plan.{Between, Plan, Zone, Register, Envs, Leads, Serves}
 use Rattle.theory_reference.specs.Bystanders.{Unused}
 use Rattle.theory_reference.specs.Marks.{marks, marks-hold, marks-in, each-marked, registers-own, rings-marked}
 use Rattle.theory_reference.specs.WholeGraph.{plan, whole, from-inputs, Idle-load, Ends-apart, fresh-idle, bare-state, whole-neat, whole-serves, inputs-differ, results-differ, source-off-region, credit-off-region}
-
--- The links 0, 1, .. in the order of the names.
-pub rank-envs : (f : Names) → ((x : ℕ) → f x ≡ true → x < nameCount) → Envs f (rank f) (total f)
-rank-envs f small = record { below = λ x e. rank-total f x e (small x e); differ = λ x y a b e. rank-differs f x y a b e; small = small }
 
 -- A schedule in a net is one where nothing is asked of the lists of firings.
 any-leads : (net : Net) (P : Plan) (s : Links) (c : ℕ) (a : Answer) → Leads net P s c a → Leads (any-list (net .at)) P s c a

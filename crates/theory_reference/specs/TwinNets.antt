@@ -1,4 +1,4 @@
--- In each round of a loop its first test is copied, from what lies on three links before and after. Assumes one putter for each of the three.
+-- In each round of a loop its first test is copied, shown by what lies on three links before and after. Assumes one putter for each of the three.
 use Prim.Native.Nat.{ℕ, zero, suc, _≤_}
 use mathlib.Core.Path.{_≡_, refl}
 use mathlib.Core.Logic.{_≢_, _⊎_, inl, inr, ite}

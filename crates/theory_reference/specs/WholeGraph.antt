@@ -1,4 +1,4 @@
--- A whole fit graph as a piece with the schedule lemma (pieces, Piece.antt), so that both halves of demand 3 follow (pieces, Made.antt and
+-- A whole fit graph as a piece with the schedule lemma (pieces, Piece.antt), so that both halves of demand 3 follow (pieces, Alone.antt and
 -- Calls.antt). Its inputs are the links of its free names, rising; an idle load says what lies on its own links and registers
 -- between two sets. Assumes the schedule lemma for the graph's layout, with any meaning, and that source and credit are no links of the graph and that
 -- no operator of the net uses them.

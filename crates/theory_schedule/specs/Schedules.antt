@@ -1,7 +1,7 @@
 -- Schedules of any transition system whose different enabled events commute (demand 3; nothing here knows of links, tokens or formulas).
 -- Events are numbers. `enabled`, `next` and `output` are total: what `next` and `output` give for an event that is not enabled is never
 -- used. A *run* is a list of events that did happen, a *reference* one that could have happened from the same state.
--- The residual lemma: what a run has not yet done of a reference is still possible. That each event gives in both what it gives in either is Twins.antt's.
+-- The residual lemma: what a run has not yet done of a reference is still possible. That each event gives the same in both is Twins.antt's.
 -- Assumes the diamond of two events, and nothing else.
 use Prim.Native.Nat.{ℕ}
 use mathlib.Core.Path.{_≡_, refl, sym, ap, subst}

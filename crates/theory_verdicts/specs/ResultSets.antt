@@ -13,7 +13,7 @@ use Rattle.network.specs.Net.{Token, val, mark}
 use Rattle.theory_pieces.specs.Sets.{tokens-of}
 use Rattle.theory_verdicts.specs.Results.{EndsWith}
 use Rattle.theory_verdicts.specs.Running.{Call, pushed, taken}
-use Rattle.theory_verdicts.specs.Verdicts.{demand-3, verdict-width}
+use Rattle.theory_verdicts.specs.Verdicts.{alone-verdict, verdict-width}
 
 pub record ResultSet : Type 0 where
   pub width : ℕ
@@ -36,12 +36,10 @@ values-of-tokens [] = refl
 values-of-tokens (v ∷ r) = ap {B = List Value} (λ w. v ∷ w) (values-of-tokens r)
 
 -- The k-th result set taken is that of the k-th set pushed, in width and all sixteen places.
-pub own-result-set : (s : List ℕ) → Admissible s → (capacity : ℕ) → 1 ≤ capacity → capacity ≤ 16 → (calls : List Call)
-    → (k : ℕ) → k < length (taken (formulaOf s) capacity calls)
-    → ((j : ℕ) → j ≤ k → (r : List Value) × EndsWith (formulaOf s) (getD (pushed (formulaOf s) capacity calls) j []) r)
-    → (r : List Value) → EndsWith (formulaOf s) (getD (pushed (formulaOf s) capacity calls) k []) r
+pub own-result-set : (s : List ℕ) → Admissible s → (capacity : ℕ) → 1 ≤ capacity → (calls : List Call)
+    → (k : ℕ) → k < length (taken (formulaOf s) capacity calls) → (r : List Value) → EndsWith (formulaOf s) (getD (pushed (formulaOf s) capacity calls) k []) r
     → (resultSet (valuesIn (getD (taken (formulaOf s) capacity calls) k [])) ≡ resultSet r) × (length r ≡ width (formulaOf s))
-own-result-set s accepted capacity room most calls k l ends r e = (
-  ap (λ (ts : List Token). resultSet (valuesIn ts)) (demand-3 s accepted capacity room most calls .own k l ends r e) ∙ ap resultSet (values-of-tokens r),
+own-result-set s accepted capacity room calls k l r e = (
+  ap (λ (ts : List Token). resultSet (valuesIn ts)) (alone-verdict s accepted capacity room calls k l r e) ∙ ap resultSet (values-of-tokens r),
   verdict-width s accepted (getD (pushed (formulaOf s) capacity calls) k []) r e,
 )

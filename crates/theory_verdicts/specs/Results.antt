@@ -1,5 +1,5 @@
 -- What direct evaluation yields for a set (document 01, "Running": "Direct evaluation there is the meaning above with as many rounds as it needs, and
--- ends if some number is enough"), and that more rounds never change it. Rests on meaning/specs/Meaning; assumes nothing.
+-- ends if some number is enough"). Rests on meaning/specs/Meaning; assumes nothing.
 use Prim.Native.Nat.{ℕ}
 use mathlib.Core.Path.{_≡_, refl, sym, ap, subst}
 use mathlib.Core.List.{List, [], _∷_}
@@ -8,7 +8,6 @@ use Rattle.value.specs.declared.Value.{Value}
 use Rattle.formula.specs.Tree.{Exp}
 use Rattle.formula.specs.Free.{freeE}
 use Rattle.meaning.specs.Meaning.{Outcome, yields, evalE, inputsHold}
-use Rattle.meaning.specs.Rounds.{ends-once}
 
 abbrev pub valuesOf : Outcome → Option (List Value)
 valuesOf (yields vs left) = some vs
@@ -40,16 +39,6 @@ values-some Outcome.unfinished r e = absurd (subst Is-some (sym e) tt)
 pub values-none : (o : Outcome) → valuesOf o ≡ none → o ≡ Outcome.unfinished
 values-none (yields vs left) e = absurd (subst Is-some e tt)
 values-none Outcome.unfinished e = refl
-
--- ---- more rounds change nothing
-
--- A set has one result.
-pub one-result : (x : Exp) (v r r′ : List Value) → EndsWith x v r → EndsWith x v r′ → r ≡ r′
-unfolding resultOf
-one-result x v r r′ p q =
-    let o = values-some (evalE x (inputsHold (freeE x) v) (p .0)) r (p .1) in
-    let o′ = values-some (evalE x (inputsHold (freeE x) v) (q .0)) r′ (q .1) in
-    ends-once x (inputsHold (freeE x) v) r r′ (record { lent = p .0; left = o .0; enough = o .1 }) (record { lent = q .0; left = o′ .0; enough = o′ .1 })
 
 -- Each set of a list ends, with these results.
 abbrev pub EachEnds : Exp → List (List Value) → List (List Value) → Type 0

@@ -1,5 +1,5 @@
 -- Demand 3 on the abstract machine: "A beacon's verdict comes from its own readings and nobody else's." For every accepted sheet, every capacity
--- from 1 on and every list of calls (Running), both halves; and that a push is accepted when nothing can fire and every set is taken. Rests on the residual and the pieces (theory_pieces/specs/Calls), on what the maker owes (Owed) and on
+-- from 1 on and every list of calls (Running), both halves; and that a push is accepted when nothing can fire and every set is taken. Rests on the pieces (theory_pieces/specs/Alone, Calls), on what the maker owes (Owed, CutOwed) and on
 -- the laws of the calls. Assumes an admissible sheet and one place a link, nothing else.
 use Prim.Native.Nat.{ℕ, zero, suc, _+_, _≤_, _<_}
 use mathlib.Core.Path.{_≡_, refl, sym, ap, subst, _∙_}

@@ -9,10 +9,9 @@ use lib.ListN.{length}
 use native.Mathlib.Decide.{decLt, ℕ-discrete}
 use native.Mathlib.Omega.{arith}
 use Rattle.theory_schedule.specs.Twins.{Part-diamond}
-use Rattle.network.specs.Net.{Token, Demand, ask, fire, halt, Links, Able, act, label}
-use Rattle.network.specs.Commute.{enabled, next, output}
-use Rattle.network.specs.Poisoned.{poisons, poisoned, plain, twinned, twinned-puts, twinned-asks, twin-at, own-at, part-diamond}
-use Rattle.network.specs.Wired.{Emits-in, Uses, never-asks, never-emits}
+use Rattle.network.specs.Net.{Demand, fire, halt, Links, Able, act, label}
+use Rattle.network.specs.Commute.{Never-asks, Never-emits, enabled, next, output}
+use Rattle.network.specs.Poisoned.{poisoned, asks-poisoned, emits-poisoned, plain, twinned, twinned-puts, twinned-asks, twin-at, own-at, part-diamond}
 use Rattle.network.specs.Ends.{push-demand, take-demand, machine, machine-graph}
 use Rattle.network.specs.Uses.{Puts-onto}
 use Rattle.graph.specs.Assembly.{Graph, free, Env, Operator, linksOf, outputs, operatorsOf}
@@ -21,17 +20,7 @@ use Rattle.theory_reference.specs.Plan.{Envs}
 use Rattle.theory_reference.specs.Plugged.{nowhere, portsOf, demandOf, Each}
 use Rattle.theory_reference.specs.Bystanders.{Unused}
 use Rattle.theory_reference.specs.Placed.{Placed}
-use Rattle.theory_wiring.specs.Machine.{netOf, net-past, net-uses, TakesAt, PutsAt, Spare, takes-no-spare, puts-no-spare, puts-alone, Ends, machine-commutes}
-
--- A twin uses the links that its operator uses.
-poisons-in : (W : ℕ → Type 0) (es : List (ℕ × Token)) → Emits-in W es → Emits-in W (poisons es)
-poisons-in W [] u = tt
-poisons-in W (e ∷ es) u = (u .0, poisons-in W es (u .1))
-
-poisoned-uses : (R W : ℕ → Type 0) (d : Demand) → Uses R W d → Uses R W (poisoned d)
-poisoned-uses R W (ask l k) u = (u .0, λ t. poisoned-uses R W (k t) (u .1 t))
-poisoned-uses R W (fire es r) u = poisons-in W es u
-poisoned-uses R W halt u = tt
+use Rattle.theory_wiring.specs.Machine.{netOf, net-past, PutsAt, Spare, spare-unused, puts-alone, Ends, machine-commutes}
 
 -- Where events that are possible in one net are the same in another, the diamond of that one holds.
 module _ (own : ℕ → ℕ) (net net′ : ℕ → Demand) (cap : ℕ → ℕ) (same : (a : ℕ) (q : Links) → Able cap (net a) q → net′ a ≡ net a)
@@ -89,22 +78,21 @@ module _ (g : Graph) (n : ℕ) (env : Env) (fit : Fit g) (E : Envs (free g) env 
   all-placed =
       placed-from 0 ops (omega arith) (λ i. ap (netOf ops) (omega arith)) (λ i l p. subst (λ j. PutsAt ops j l) (omega arith) p)
 
-  twins-use : (a : ℕ) → Uses (TakesAt ops (own a)) (PutsAt ops (own a)) (twins a)
-  unfolding plain twinned
-  twins-use a = go (decLt a T)
-    where
-      go : (d : Dec (a < T)) →
-          Uses (TakesAt ops (ite d a (a - T))) (PutsAt ops (ite d a (a - T))) (ite d (netOf ops a) (poisoned (netOf ops (a - T))))
-      go (yes x) = net-uses ops a
-      go (no x) = poisoned-uses (TakesAt ops (a - T)) (PutsAt ops (a - T)) (netOf ops (a - T)) (net-uses ops (a - T))
-
-  -- Nor does a twin use a spare link.
+  -- A twin uses the links that its operator uses; so no event uses a spare link.
   pub twins-unused : (l : ℕ) → Spare g n env fit E room l → Unused twins l
-  twins-unused l s =
-      record {
-        asks = λ a. never-asks (TakesAt ops (own a)) (PutsAt ops (own a)) (twins a) (twins-use a) l (takes-no-spare g n env fit E room (own a) l s);
-        emits = λ a. never-emits (TakesAt ops (own a)) (PutsAt ops (own a)) (twins a) (twins-use a) l (puts-no-spare g n env fit E room (own a) l s);
-      }
+  unfolding twinned
+  twins-unused l s = record { asks = λ a. none-asks a (decLt a T); emits = λ a. none-emits a (decLt a T) }
+    where
+      none : Unused (netOf ops) l
+      none = spare-unused g n env fit E room l s
+
+      none-asks : (a : ℕ) (d : Dec (a < T)) → Never-asks (ite d (netOf ops a) (poisoned (netOf ops (a - T)))) l
+      none-asks a (yes x) = none .asks a
+      none-asks a (no x) = asks-poisoned (netOf ops (a - T)) l (none .asks (a - T))
+
+      none-emits : (a : ℕ) (d : Dec (a < T)) → Never-emits (ite d (netOf ops a) (poisoned (netOf ops (a - T)))) l
+      none-emits a (yes x) = none .emits a
+      none-emits a (no x) = emits-poisoned (netOf ops (a - T)) l (none .emits (a - T))
 
   -- An operator that can fire is itself.
   pub own-operator : (cap : ℕ → ℕ) (a : ℕ) (q : Links) → Able cap (netOf ops a) q → (twins a ≡ netOf ops a) × (own a ≡ a)

@@ -1,5 +1,5 @@
 -- The tests, as paths name them:
---   tie if1  while j < k { ⏎ if machine_firing::head_of(mem, size, machine_layout::result_link(mem, j)) == 0 {
+--   tie if1  while j < k { ⏎ if machine_firing::head_of(mem, LINKS_AT, size, machine_layout::result_link(mem, j)) == 0 {
 use native.Mathlib.Omega.{arith}
 use borrow.Author.Needs.{needs}
 use Rattle.machine_calls.proofs.are_ready.Statement.{statement}
@@ -23,37 +23,37 @@ Inv-loop mem size k j₀ j = (j ≤ k) × (allBelow j (resultReady mem size) ≡
 abbrev μ-loop : tie.MeasureT-loop
 μ-loop mem size k j₀ j = k - j
 
--- src/lib.rt:167:5  let mut j = 0; ⏎ while j < k {
+-- src/lib.rt:168:5  let mut j = 0; ⏎ while j < k {
 loop-holds : tie.Need-loop-holds Inv-loop μ-loop
 loop-holds c = (omega arith, below-zero (resultReady (c .before .args .mem .now) (c .before .args .size)))
 
--- src/lib.rt:168:47  while j < k { ⏎ if machine_firing::head_of(mem, size, machine_layout::result_link(mem, j)) == 0 {
+-- src/lib.rt:169:57  while j < k { ⏎ if machine_firing::head_of(mem, LINKS_AT, size, machine_layout::result_link(mem, j)) == 0 {
 result-link-requires : tie.Need-result-link-requires Inv-loop μ-loop
 result-link-requires c κs = search needs
 
--- src/lib.rt:168:12  while j < k { ⏎ if machine_firing::head_of(mem, size, machine_layout::result_link(mem, j)) == 0 {
+-- src/lib.rt:169:12  while j < k { ⏎ if machine_firing::head_of(mem, LINKS_AT, size, machine_layout::result_link(mem, j)) == 0 {
 head-of-requires : tie.Need-head-of-requires Inv-loop μ-loop
 head-of-requires c κs = search needs
 
--- src/lib.rt:169:13  if machine_firing::head_of(mem, size, machine_layout::result_link(mem, j)) == 0 { ⏎ return false;
+-- src/lib.rt:170:13  if machine_firing::head_of(mem, LINKS_AT, size, machine_layout::result_link(mem, j)) == 0 { ⏎ return false;
 returns : tie.Need-returns Inv-loop μ-loop
 unfolding resultReady
 returns c = sym (below-fail (c .before .before .before .before .before .before .args .k) (resultReady (c .before .before .before .before .before .before .args .mem .now) (c .before .before .before .before .before .before .args .size)) (c .before .before .before .before .loop .j) (omega arith) (rw (← (c .before .before .result-link .ensures .0)) (simp (eq-eqb (headAt (c .before .before .before .before .before .before .args .mem .now) (c .before .before .before .before .before .before .args .size) (c .before .before .result-link .result)) 0 (sym (c .before .head-of .ensures .0) ∙ c .if1 .taken)))))
 
--- src/lib.rt:171:9  } ⏎ j += 1;
+-- src/lib.rt:172:9  } ⏎ j += 1;
 add-j : tie.Need-add-j Inv-loop μ-loop
 add-j c = search needs
 
--- src/lib.rt:167:5  let mut j = 0; ⏎ while j < k {
+-- src/lib.rt:168:5  let mut j = 0; ⏎ while j < k {
 loop-less : tie.Need-loop-less Inv-loop μ-loop
 loop-less c = search needs
 
--- src/lib.rt:167:5  let mut j = 0; ⏎ while j < k {
+-- src/lib.rt:168:5  let mut j = 0; ⏎ while j < k {
 loop-again : tie.Need-loop-again Inv-loop μ-loop
 unfolding resultReady
 loop-again c = (omega arith, below-step (c .before .before .before .before .loop .j) (resultReady (c .before .before .before .before .before .before .args .mem .now) (c .before .before .before .before .before .before .args .size)) (c .before .before .before .before .loop .inv .1) (rw (← (c .before .before .result-link .ensures .0)) (simp (ne-eqb (headAt (c .before .before .before .before .before .before .args .mem .now) (c .before .before .before .before .before .before .args .size) (c .before .before .result-link .result)) 0 (λ e. c .if1 .left (c .before .head-of .ensures .0 ∙ e))))))
 
--- src/lib.rt:162:1  // Whether a token waits on each of the k result links. ⏎ fn are_ready(mem: &[u8], size: usize, k: usize) -> bool
+-- src/lib.rt:163:1  // Whether a token waits on each of the k result links. ⏎ fn are_ready(mem: &[u8], size: usize, k: usize) -> bool
 returns-2 : tie.Need-returns-2 Inv-loop μ-loop
 returns-2 c = let e : c .before .loop .j ≡ (c .before .before .before .args .k) = omega arith in sym (rw e at (c .before .loop .inv .1))
 

@@ -21,35 +21,35 @@ Inv-loop mem₀ size k j₀ mem j = (j ≤ k) × (mem ≡ emptied j mem₀ size)
 abbrev μ-loop : tie.MeasureT-loop
 μ-loop mem₀ size k j₀ mem j = k - j
 
--- src/lib.rt:204:5  let mut j = 0; ⏎ while j < k {
+-- src/lib.rt:205:5  let mut j = 0; ⏎ while j < k {
 loop-holds : tie.Need-loop-holds Inv-loop μ-loop
 loop-holds c = (omega arith, emptied-none (c .before .args .mem .now) (c .before .args .size), refl)
 
--- src/lib.rt:205:13  while j < k { ⏎ let l = machine_layout::result_link(mem, j);
+-- src/lib.rt:206:13  while j < k { ⏎ let l = machine_layout::result_link(mem, j);
 result-link-requires : tie.Need-result-link-requires Inv-loop μ-loop
 result-link-requires c κs = omega (arith, c .before .before .loop .inv .2)
 
--- src/lib.rt:206:9  let l = machine_layout::result_link(mem, j); ⏎ machine_firing::remove_from(mem, size, l);
+-- src/lib.rt:207:9  let l = machine_layout::result_link(mem, j); ⏎ machine_firing::remove_from(mem, LINKS_AT, size, l);
 remove-from-requires : tie.Need-remove-from-requires Inv-loop μ-loop
 remove-from-requires c κs = omega (arith, c .before .before .before .before .loop .inv .2)
 
--- src/lib.rt:207:9  machine_firing::remove_from(mem, size, l); ⏎ j += 1;
+-- src/lib.rt:208:9  machine_firing::remove_from(mem, LINKS_AT, size, l); ⏎ j += 1;
 add-j : tie.Need-add-j Inv-loop μ-loop
 add-j c = search needs
 
--- src/lib.rt:204:5  let mut j = 0; ⏎ while j < k {
+-- src/lib.rt:205:5  let mut j = 0; ⏎ while j < k {
 loop-less : tie.Need-loop-less Inv-loop μ-loop
 loop-less c = search needs
 
--- src/lib.rt:204:5  let mut j = 0; ⏎ while j < k {
+-- src/lib.rt:205:5  let mut j = 0; ⏎ while j < k {
 loop-again : tie.Need-loop-again Inv-loop μ-loop
 loop-again c = let p = emptied-keeps (c .before .before .before .before .before .before .before .before .before .args .mem .now) (c .before .before .before .before .before .before .before .before .before .args .size) (c .before .before .before .before .before .before .before .before .before .pre .2) (c .before .before .before .before .before .before .before .loop .j) in let n : c .before .before .before .before .result-link .result ≡ nameAt (c .before .before .before .before .before .before .before .before .before .args .mem .now) 74 (c .before .before .before .before .before .before .before .loop .j) = c .before .before .before .before .result-link .ensures .0 ∙ ap (λ (x : List ℕ). nameAt x 74 (c .before .before .before .before .before .before .before .loop .j)) (c .before .before .before .before .before .before .before .loop .inv .1) ∙ same-names (c .before .before .before .before .before .before .before .before .before .args .mem .now) (emptied (c .before .before .before .before .before .before .before .loop .j) (c .before .before .before .before .before .before .before .before .before .args .mem .now) (c .before .before .before .before .before .before .before .before .before .args .size)) (p .low) 74 (c .before .before .before .before .before .before .before .loop .j) (omega arith) in (omega arith, c .before .before .remove-from .ensures ∙ rw (n, c .before .before .before .before .before .before .before .loop .inv .1) refl ∙ sym (emptied-more (c .before .before .before .before .before .before .before .before .before .args .mem .now) (c .before .before .before .before .before .before .before .before .before .args .size) (c .before .before .before .before .before .before .before .loop .j)), omega (arith, c .before .before .before .before .before .before .before .loop .inv .2))
 
--- src/lib.rt:199:1  } ⏎ fn empty_results(mem: &mut [u8], size: usize, k: usize)
+-- src/lib.rt:200:1  } ⏎ fn empty_results(mem: &mut [u8], size: usize, k: usize)
 same-length : tie.Need-same-length Inv-loop μ-loop
 same-length c = c .before .loop .inv .2
 
--- src/lib.rt:199:1  } ⏎ fn empty_results(mem: &mut [u8], size: usize, k: usize)
+-- src/lib.rt:200:1  } ⏎ fn empty_results(mem: &mut [u8], size: usize, k: usize)
 returns : tie.Need-returns Inv-loop μ-loop
 returns c = let e : c .before .loop .j ≡ (c .before .before .before .args .k) = omega arith in (rw e at (c .before .loop .inv .1))
 

@@ -22,43 +22,43 @@ Inv-loop mem₀ size k set j₀ mem j = (j ≤ k) × (mem ≡ entered j mem₀ s
 abbrev μ-loop : tie.MeasureT-loop
 μ-loop mem₀ size k set j₀ mem j = k - j
 
--- src/lib.rt:85:5  let mut j = 0; ⏎ while j < k {
+-- src/lib.rt:86:5  let mut j = 0; ⏎ while j < k {
 loop-holds : tie.Need-loop-holds Inv-loop μ-loop
 loop-holds c = (omega arith, entered-none (c .before .before .args .mem .now) (c .before .before .args .size) (c .before .before .args .set .now), refl)
 
--- src/lib.rt:86:13  while j < k { ⏎ let l = machine_layout::input_link(mem, j);
+-- src/lib.rt:87:13  while j < k { ⏎ let l = machine_layout::input_link(mem, j);
 input-link-requires : tie.Need-input-link-requires Inv-loop μ-loop
 input-link-requires c κs = omega (arith, c .before .before .loop .inv .2)
 
--- src/lib.rt:87:44  let l = machine_layout::input_link(mem, j); ⏎ let word = value::bytes::load(set, 5 * j);
+-- src/lib.rt:88:44  let l = machine_layout::input_link(mem, j); ⏎ let word = value::bytes::load(set, 5 * j);
 mul-load : tie.Need-mul-load Inv-loop μ-loop
 mul-load c = search needs
 
--- src/lib.rt:87:13  let l = machine_layout::input_link(mem, j); ⏎ let word = value::bytes::load(set, 5 * j);
+-- src/lib.rt:88:13  let l = machine_layout::input_link(mem, j); ⏎ let word = value::bytes::load(set, 5 * j);
 load-requires : tie.Need-load-requires Inv-loop μ-loop
 load-requires c κs = omega arith
 
--- src/lib.rt:88:9  let word = value::bytes::load(set, 5 * j); ⏎ machine_firing::append_to(mem, size, l, word);
+-- src/lib.rt:89:9  let word = value::bytes::load(set, 5 * j); ⏎ machine_firing::append_to(mem, LINKS_AT, size, l, word);
 append-to-requires : tie.Need-append-to-requires Inv-loop μ-loop
 append-to-requires c κs = search needs
 
--- src/lib.rt:89:9  machine_firing::append_to(mem, size, l, word); ⏎ j += 1;
+-- src/lib.rt:90:9  machine_firing::append_to(mem, LINKS_AT, size, l, word); ⏎ j += 1;
 add-j : tie.Need-add-j Inv-loop μ-loop
 add-j c = search needs
 
--- src/lib.rt:85:5  let mut j = 0; ⏎ while j < k {
+-- src/lib.rt:86:5  let mut j = 0; ⏎ while j < k {
 loop-less : tie.Need-loop-less Inv-loop μ-loop
 loop-less c = search needs
 
--- src/lib.rt:85:5  let mut j = 0; ⏎ while j < k {
+-- src/lib.rt:86:5  let mut j = 0; ⏎ while j < k {
 loop-again : tie.Need-loop-again Inv-loop μ-loop
 loop-again c = let p = entered-keeps (c .before .before .before .before .before .before .before .before .before .before .before .args .mem .now) (c .before .before .before .before .before .before .before .before .before .before .before .args .size) (c .before .before .before .before .before .before .before .before .before .before .before .pre .2) (c .before .before .before .before .before .before .before .before .before .before .before .args .set .now) (c .before .before .before .before .before .before .before .before .loop .j) in let n : c .before .before .before .before .before .input-link .result ≡ nameAt (c .before .before .before .before .before .before .before .before .before .before .before .args .mem .now) 10 (c .before .before .before .before .before .before .before .before .loop .j) = c .before .before .before .before .before .input-link .ensures .0 ∙ ap (λ (x : List ℕ). nameAt x 10 (c .before .before .before .before .before .before .before .before .loop .j)) (c .before .before .before .before .before .before .before .before .loop .inv .1) ∙ same-names (c .before .before .before .before .before .before .before .before .before .before .before .args .mem .now) (entered (c .before .before .before .before .before .before .before .before .loop .j) (c .before .before .before .before .before .before .before .before .before .before .before .args .mem .now) (c .before .before .before .before .before .before .before .before .before .before .before .args .size) (c .before .before .before .before .before .before .before .before .before .before .before .args .set .now)) (p .low) 10 (c .before .before .before .before .before .before .before .before .loop .j) (omega arith) in (omega arith, c .before .before .append-to .ensures ∙ rw (n, c .before .before .before .before .load .ensures .0, c .before .before .before .before .before .before .before .before .loop .inv .1) refl ∙ sym (entered-more (c .before .before .before .before .before .before .before .before .before .before .before .args .mem .now) (c .before .before .before .before .before .before .before .before .before .before .before .args .size) (c .before .before .before .before .before .before .before .before .before .before .before .args .set .now) (c .before .before .before .before .before .before .before .before .loop .j)), omega (arith, c .before .before .before .before .before .before .before .before .loop .inv .2))
 
--- src/lib.rt:80:1  // Gives the k values of a set to the input links. ⏎ fn enter(mem: &mut [u8], size: usize, k: usize, set: &[u8])
+-- src/lib.rt:81:1  // Gives the k values of a set to the input links. ⏎ fn enter(mem: &mut [u8], size: usize, k: usize, set: &[u8])
 same-length : tie.Need-same-length Inv-loop μ-loop
 same-length c = c .before .loop .inv .2
 
--- src/lib.rt:80:1  // Gives the k values of a set to the input links. ⏎ fn enter(mem: &mut [u8], size: usize, k: usize, set: &[u8])
+-- src/lib.rt:81:1  // Gives the k values of a set to the input links. ⏎ fn enter(mem: &mut [u8], size: usize, k: usize, set: &[u8])
 returns : tie.Need-returns Inv-loop μ-loop
 returns c = let e : c .before .loop .j ≡ (c .before .before .before .before .args .k) = omega arith in (rw e at (c .before .loop .inv .1))
 

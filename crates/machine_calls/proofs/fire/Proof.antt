@@ -1,7 +1,7 @@
 -- The tests, as paths name them:
 --   tie if1  let stands = standing_of(mem); ⏎ if stands != 0 {
 --   tie if2  let i = operator as usize; ⏎ if machine_layout::operators(mem) <= i {
---   tie if3  let size = machine_layout::stretch_size(machine_layout::capacity(mem)); ⏎ if machine_operators::fire_at(mem, size, i) {
+--   tie if3  let size = machine_layout::stretch_size(machine_layout::capacity(mem)); ⏎ if machine_operators::fire_at(mem, LINKS_AT, size, i) {
 use native.Mathlib.Omega.{arith}
 use borrow.Author.Needs.{needs}
 use Rattle.machine_calls.proofs.fire.Statement.{statement}
@@ -30,73 +30,73 @@ use lib.ListN.{length, getD, set, length-set}
 use Rattle.machine_valid.specs.Figures.{Figures, valid-figures}
 use mathlib.Core.Logic.{_≢_}
 use lib.Dec.{ltb}
-use Rattle.machine_firing.specs.Fire.{ableAt, firedAt}
+use Rattle.machine_firing.specs.Fire.{ableAt, firedFrom}
 use Rattle.machine_runs.specs.RunLaws.{Quiet}
 
--- src/lib.rt:125:9  { ⏎ let stands = standing_of(mem);
+-- src/lib.rt:126:9  { ⏎ let stands = standing_of(mem);
 standing-of-requires : tie.Need-standing-of-requires
 standing-of-requires c κs = search needs
 
--- src/lib.rt:127:9  if stands != 0 { ⏎ return reply(stands, 0);
+-- src/lib.rt:128:9  if stands != 0 { ⏎ return reply(stands, 0);
 reply-requires : tie.Need-reply-requires
 reply-requires c κs = search needs
 
--- src/lib.rt:127:9  if stands != 0 { ⏎ return reply(stands, 0);
+-- src/lib.rt:128:9  if stands != 0 { ⏎ return reply(stands, 0);
 same-length : tie.Need-same-length
 same-length c = search needs
 
--- src/lib.rt:127:9  if stands != 0 { ⏎ return reply(stands, 0);
+-- src/lib.rt:128:9  if stands != 0 { ⏎ return reply(stands, 0);
 returns : tie.Need-returns
 returns c = let n : standing (c .before .before .before .before .before .args .mem .now) ≢ 0 = λ e. c .before .if1 .taken (c .before .before .standing-of .ensures ∙ e) in rw (c .reply .ensures, c .before .before .standing-of .ensures) (sym (fired-refused (c .before .before .before .before .before .args .mem .now) (c .before .before .before .before .before .args .operator) n))
 
--- src/lib.rt:130:8  let i = operator as usize; ⏎ if machine_layout::operators(mem) <= i {
+-- src/lib.rt:131:8  let i = operator as usize; ⏎ if machine_layout::operators(mem) <= i {
 operators-requires : tie.Need-operators-requires
 operators-requires c κs =
     let st : standing (c .before .before .before .before .before .args .mem .now) ≡ 0 = sym (c .before .before .standing-of .ensures) ∙ c .before .if1 .left in
     let g = standing-good (c .before .before .before .before .before .args .mem .now) st in
     omega (arith, g .0)
 
--- src/lib.rt:131:9  if machine_layout::operators(mem) <= i { ⏎ return refused(Refusal::NotAble);
+-- src/lib.rt:132:9  if machine_layout::operators(mem) <= i { ⏎ return refused(Refusal::NotAble);
 refused-requires : tie.Need-refused-requires
 refused-requires c κs = search needs
 
--- src/lib.rt:131:9  if machine_layout::operators(mem) <= i { ⏎ return refused(Refusal::NotAble);
+-- src/lib.rt:132:9  if machine_layout::operators(mem) <= i { ⏎ return refused(Refusal::NotAble);
 same-length-2 : tie.Need-same-length-2
 same-length-2 c = search needs
 
--- src/lib.rt:131:9  if machine_layout::operators(mem) <= i { ⏎ return refused(Refusal::NotAble);
+-- src/lib.rt:132:9  if machine_layout::operators(mem) <= i { ⏎ return refused(Refusal::NotAble);
 returns-2 : tie.Need-returns-2
 returns-2 c =
     let st : standing (c .before .before .before .before .before .before .before .before .args .mem .now) ≡ 0 = sym (c .before .before .before .before .before .standing-of .ensures) ∙ c .before .before .before .before .if1 .left in
     let a : ltb (c .before .before .before .before .before .before .before .before .args .operator) (operatorsOf (c .before .before .before .before .before .before .before .before .args .mem .now)) ≡ false = le-ltb (c .before .before .before .before .before .before .before .before .args .operator) (operatorsOf (c .before .before .before .before .before .before .before .before .args .mem .now)) (omega (arith, c .before .before .operators .ensures .0)) in
     rw (c .refused .ensures) (sym (fired-absent (c .before .before .before .before .before .before .before .before .args .mem .now) st (c .before .before .before .before .before .before .before .before .args .operator) a))
 
--- src/lib.rt:133:45  } ⏎ let size = machine_layout::stretch_size(machine_layout::capacity(mem));
+-- src/lib.rt:134:45  } ⏎ let size = machine_layout::stretch_size(machine_layout::capacity(mem));
 capacity-requires : tie.Need-capacity-requires
 capacity-requires c κs = search needs
 
--- src/lib.rt:133:9  } ⏎ let size = machine_layout::stretch_size(machine_layout::capacity(mem));
+-- src/lib.rt:134:9  } ⏎ let size = machine_layout::stretch_size(machine_layout::capacity(mem));
 stretch-size-requires : tie.Need-stretch-size-requires
 stretch-size-requires c κs = search needs
 
--- src/lib.rt:134:8  let size = machine_layout::stretch_size(machine_layout::capacity(mem)); ⏎ if machine_operators::fire_at(mem, size, i) {
+-- src/lib.rt:135:8  let size = machine_layout::stretch_size(machine_layout::capacity(mem)); ⏎ if machine_operators::fire_at(mem, LINKS_AT, size, i) {
 fire-at-requires : tie.Need-fire-at-requires
 fire-at-requires c κs =
     let st : standing (c .before .before .before .before .before .before .before .before .before .before .before .args .mem .now) ≡ 0 = sym (c .before .before .before .before .before .before .before .before .standing-of .ensures) ∙ c .before .before .before .before .before .before .before .if1 .left in
     let g = standing-good (c .before .before .before .before .before .before .before .before .before .before .before .args .mem .now) st in
     let f = valid-figures (c .before .before .before .before .before .before .before .before .before .before .before .args .mem .now) (g .1) in
     let s : c .before .stretch-size .result ≡ sizeIn (c .before .before .before .before .before .before .before .before .before .before .before .args .mem .now) = c .before .stretch-size .ensures ∙ ap sizeOf (c .before .before .capacity .ensures .0) in
-    (omega (arith, c .before .stretch-size .ensures, c .before .before .capacity .ensures .1), omega (arith, c .before .stretch-size .ensures, c .before .before .capacity .ensures .2), omega (arith, s, g .0), omega (arith, f .operators, c .before .before .before .before .before .operators .ensures .0))
+    (omega arith, omega (arith, c .before .stretch-size .ensures, c .before .before .capacity .ensures .1), omega (arith, c .before .stretch-size .ensures, c .before .before .capacity .ensures .2), omega (arith, s, g .0), omega (arith, f .operators, c .before .before .before .before .before .operators .ensures .0))
 
--- src/lib.rt:135:9  if machine_operators::fire_at(mem, size, i) { ⏎ return reply(0, 0);
+-- src/lib.rt:136:9  if machine_operators::fire_at(mem, LINKS_AT, size, i) { ⏎ return reply(0, 0);
 reply-requires-2 : tie.Need-reply-requires-2
 reply-requires-2 c κs = search needs
 
--- src/lib.rt:135:9  if machine_operators::fire_at(mem, size, i) { ⏎ return reply(0, 0);
+-- src/lib.rt:136:9  if machine_operators::fire_at(mem, LINKS_AT, size, i) { ⏎ return reply(0, 0);
 same-length-3 : tie.Need-same-length-3
 same-length-3 c = search needs
 
--- src/lib.rt:135:9  if machine_operators::fire_at(mem, size, i) { ⏎ return reply(0, 0);
+-- src/lib.rt:136:9  if machine_operators::fire_at(mem, LINKS_AT, size, i) { ⏎ return reply(0, 0);
 returns-3 : tie.Need-returns-3
 returns-3 c =
     let st : standing (c .before .before .before .before .before .before .before .before .before .before .before .before .before .before .before .before .args .mem .now) ≡ 0 = sym (c .before .before .before .before .before .before .before .before .before .before .before .before .before .standing-of .ensures) ∙ c .before .before .before .before .before .before .before .before .before .before .before .before .if1 .left in
@@ -105,17 +105,17 @@ returns-3 c =
     let b : ableAt (c .before .before .before .before .before .before .before .before .before .before .before .before .before .before .before .before .args .mem .now) (sizeIn (c .before .before .before .before .before .before .before .before .before .before .before .before .before .before .before .before .args .mem .now)) (c .before .before .before .before .before .before .before .before .before .before .before .before .before .before .before .before .args .operator) ≡ true = rw (← s) (sym (c .before .before .before .before .fire-at .ensures .0) ∙ c .before .if3 .taken) in
     rw (c .reply2 .ensures) (ap (outcome (answers 0 0)) (rw s at (c .before .before .before .before .fire-at .ensures .1)) ∙ sym (fired-accepted (c .before .before .before .before .before .before .before .before .before .before .before .before .before .before .before .before .args .mem .now) st (c .before .before .before .before .before .before .before .before .before .before .before .before .before .before .before .before .args .operator) a b))
 
--- src/lib.rt:137:5  } ⏎ refused(Refusal::NotAble)
+-- src/lib.rt:138:5  } ⏎ refused(Refusal::NotAble)
 refused-requires-2 : tie.Need-refused-requires-2
 refused-requires-2 c κs = search needs
 
--- src/lib.rt:122:1  // Fires one operator, by its number from 0 on. ⏎ pub fn fire(mem: &mut [u8], operator: u32) -> Answer
+-- src/lib.rt:123:1  // Fires one operator, by its number from 0 on. ⏎ pub fn fire(mem: &mut [u8], operator: u32) -> Answer
 same-length-4 : tie.Need-same-length-4
 same-length-4 c = search needs
 
--- src/lib.rt:122:1  // Fires one operator, by its number from 0 on. ⏎ pub fn fire(mem: &mut [u8], operator: u32) -> Answer
+-- src/lib.rt:123:1  // Fires one operator, by its number from 0 on. ⏎ pub fn fire(mem: &mut [u8], operator: u32) -> Answer
 returns-4 : tie.Need-returns-4
-unfolding firedAt
+unfolding firedFrom
 returns-4 c =
     let st : standing (c .before .before .before .before .before .before .before .before .before .before .before .before .before .before .before .before .args .mem .now) ≡ 0 = sym (c .before .before .before .before .before .before .before .before .before .before .before .before .before .standing-of .ensures) ∙ c .before .before .before .before .before .before .before .before .before .before .before .before .if1 .left in
     let a : ltb (c .before .before .before .before .before .before .before .before .before .before .before .before .before .before .before .before .args .operator) (operatorsOf (c .before .before .before .before .before .before .before .before .before .before .before .before .before .before .before .before .args .mem .now)) ≡ true = lt-ltb (c .before .before .before .before .before .before .before .before .before .before .before .before .before .before .before .before .args .operator) (operatorsOf (c .before .before .before .before .before .before .before .before .before .before .before .before .before .before .before .before .args .mem .now)) (omega (arith, c .before .before .before .before .before .before .before .before .before .before .operators .ensures .0)) in

@@ -1,6 +1,6 @@
 -- The tests, as paths name them:
---   tie if1  { ⏎ if !machine_firing::room_of(mem, size, machine_layout::trigger(mem)) {
---   tie if2  while j < k { ⏎ if !machine_firing::room_of(mem, size, machine_layout::input_link(mem, j)) {
+--   tie if1  { ⏎ if !machine_firing::room_of(mem, LINKS_AT, size, machine_layout::trigger(mem)) {
+--   tie if2  while j < k { ⏎ if !machine_firing::room_of(mem, LINKS_AT, size, machine_layout::input_link(mem, j)) {
 use native.Mathlib.Omega.{arith}
 use borrow.Author.Needs.{needs}
 use Rattle.machine_calls.proofs.have_room.Statement.{statement}
@@ -26,50 +26,50 @@ Inv-loop mem size k j₀ j = (j ≤ k) × (allBelow j (inputRoom mem size) ≡ t
 abbrev μ-loop : tie.MeasureT-loop
 μ-loop mem size k j₀ j = k - j
 
--- src/lib.rt:66:44  { ⏎ if !machine_firing::room_of(mem, size, machine_layout::trigger(mem)) {
+-- src/lib.rt:67:54  { ⏎ if !machine_firing::room_of(mem, LINKS_AT, size, machine_layout::trigger(mem)) {
 trigger-requires : tie.Need-trigger-requires Inv-loop μ-loop
 trigger-requires c κs = search needs
 
--- src/lib.rt:66:9  { ⏎ if !machine_firing::room_of(mem, size, machine_layout::trigger(mem)) {
+-- src/lib.rt:67:9  { ⏎ if !machine_firing::room_of(mem, LINKS_AT, size, machine_layout::trigger(mem)) {
 room-of-requires : tie.Need-room-of-requires Inv-loop μ-loop
 room-of-requires c κs = search needs
 
--- src/lib.rt:67:9  if !machine_firing::room_of(mem, size, machine_layout::trigger(mem)) { ⏎ return false;
+-- src/lib.rt:68:9  if !machine_firing::room_of(mem, LINKS_AT, size, machine_layout::trigger(mem)) { ⏎ return false;
 returns : tie.Need-returns Inv-loop μ-loop
 unfolding roomsOk
 returns c = let t : roomAt (c .before .before .before .before .args .mem .now) (c .before .before .before .before .args .size) (triggerOf (c .before .before .before .before .args .mem .now)) ≡ false = rw (← (c .before .before .trigger .ensures .0)) (sym (c .before .room-of .ensures) ∙ not-true (c .before .room-of .result) (c .if1 .taken)) in rw t refl
 
--- src/lib.rt:70:5  let mut j = 0; ⏎ while j < k {
+-- src/lib.rt:71:5  let mut j = 0; ⏎ while j < k {
 loop-holds : tie.Need-loop-holds Inv-loop μ-loop
 loop-holds c = (omega arith, below-zero (inputRoom (c .before .before .before .before .args .mem .now) (c .before .before .before .before .args .size)))
 
--- src/lib.rt:71:48  while j < k { ⏎ if !machine_firing::room_of(mem, size, machine_layout::input_link(mem, j)) {
+-- src/lib.rt:72:58  while j < k { ⏎ if !machine_firing::room_of(mem, LINKS_AT, size, machine_layout::input_link(mem, j)) {
 input-link-requires : tie.Need-input-link-requires Inv-loop μ-loop
 input-link-requires c κs = search needs
 
--- src/lib.rt:71:13  while j < k { ⏎ if !machine_firing::room_of(mem, size, machine_layout::input_link(mem, j)) {
+-- src/lib.rt:72:13  while j < k { ⏎ if !machine_firing::room_of(mem, LINKS_AT, size, machine_layout::input_link(mem, j)) {
 room-of-requires-2 : tie.Need-room-of-requires-2 Inv-loop μ-loop
 room-of-requires-2 c κs = search needs
 
--- src/lib.rt:72:13  if !machine_firing::room_of(mem, size, machine_layout::input_link(mem, j)) { ⏎ return false;
+-- src/lib.rt:73:13  if !machine_firing::room_of(mem, LINKS_AT, size, machine_layout::input_link(mem, j)) { ⏎ return false;
 returns-2 : tie.Need-returns-2 Inv-loop μ-loop
 unfolding roomsOk inputRoom
 returns-2 c = let t : roomAt (c .before .before .before .before .before .before .before .before .before .args .mem .now) (c .before .before .before .before .before .before .before .before .before .args .size) (triggerOf (c .before .before .before .before .before .before .before .before .before .args .mem .now)) ≡ true = rw (← (c .before .before .before .before .before .before .before .trigger .ensures .0)) (sym (c .before .before .before .before .before .before .room-of .ensures) ∙ not-false (c .before .before .before .before .before .before .room-of .result) (c .before .before .before .before .before .if1 .left)) in rw (t, below-fail (c .before .before .before .before .before .before .before .before .before .args .k) (inputRoom (c .before .before .before .before .before .before .before .before .before .args .mem .now) (c .before .before .before .before .before .before .before .before .before .args .size)) (c .before .before .before .before .loop .j) (omega arith) (rw (← (c .before .before .input-link .ensures .0)) (sym (c .before .room-of2 .ensures) ∙ not-true (c .before .room-of2 .result) (c .if2 .taken)))) refl
 
--- src/lib.rt:74:9  } ⏎ j += 1;
+-- src/lib.rt:75:9  } ⏎ j += 1;
 add-j : tie.Need-add-j Inv-loop μ-loop
 add-j c = search needs
 
--- src/lib.rt:70:5  let mut j = 0; ⏎ while j < k {
+-- src/lib.rt:71:5  let mut j = 0; ⏎ while j < k {
 loop-less : tie.Need-loop-less Inv-loop μ-loop
 loop-less c = search needs
 
--- src/lib.rt:70:5  let mut j = 0; ⏎ while j < k {
+-- src/lib.rt:71:5  let mut j = 0; ⏎ while j < k {
 loop-again : tie.Need-loop-again Inv-loop μ-loop
 unfolding inputRoom
 loop-again c = (omega arith, below-step (c .before .before .before .before .loop .j) (inputRoom (c .before .before .before .before .before .before .before .before .before .args .mem .now) (c .before .before .before .before .before .before .before .before .before .args .size)) (c .before .before .before .before .loop .inv .1) (rw (← (c .before .before .input-link .ensures .0)) (sym (c .before .room-of2 .ensures) ∙ not-false (c .before .room-of2 .result) (c .if2 .left))))
 
--- src/lib.rt:62:1  // Whether the trigger's link and the k input links have room. ⏎ fn have_room(mem: &[u8], size: usize, k: usize) -> bool
+-- src/lib.rt:63:1  // Whether the trigger's link and the k input links have room. ⏎ fn have_room(mem: &[u8], size: usize, k: usize) -> bool
 returns-3 : tie.Need-returns-3 Inv-loop μ-loop
 unfolding roomsOk
 returns-3 c = let t : roomAt (c .before .before .before .before .before .before .args .mem .now) (c .before .before .before .before .before .before .args .size) (triggerOf (c .before .before .before .before .before .before .args .mem .now)) ≡ true = rw (← (c .before .before .before .before .trigger .ensures .0)) (sym (c .before .before .before .room-of .ensures) ∙ not-false (c .before .before .before .room-of .result) (c .before .before .if1 .left)) in let e : c .before .loop .j ≡ (c .before .before .before .before .before .before .args .k) = omega arith in rw t (sym (rw e at (c .before .loop .inv .1)))

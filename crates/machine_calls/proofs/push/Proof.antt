@@ -38,60 +38,60 @@ use Rattle.machine_valid.specs.Figures.{Figures, valid-figures}
 use mathlib.Core.Logic.{_≢_}
 use lib.Dec.{ltb}
 
--- src/lib.rt:97:9  { ⏎ let stands = standing_of(mem);
+-- src/lib.rt:98:9  { ⏎ let stands = standing_of(mem);
 standing-of-requires : tie.Need-standing-of-requires
 standing-of-requires c κs = search needs
 
--- src/lib.rt:99:9  if stands != 0 { ⏎ return reply(stands, 0);
+-- src/lib.rt:100:9  if stands != 0 { ⏎ return reply(stands, 0);
 reply-requires : tie.Need-reply-requires
 reply-requires c κs = search needs
 
--- src/lib.rt:99:9  if stands != 0 { ⏎ return reply(stands, 0);
+-- src/lib.rt:100:9  if stands != 0 { ⏎ return reply(stands, 0);
 same-length : tie.Need-same-length
 same-length c = search needs
 
--- src/lib.rt:99:9  if stands != 0 { ⏎ return reply(stands, 0);
+-- src/lib.rt:100:9  if stands != 0 { ⏎ return reply(stands, 0);
 returns : tie.Need-returns
 returns c = let n : standing (c .before .before .before .before .before .before .args .mem .now) ≢ 0 = λ e. c .before .if1 .taken (c .before .before .standing-of .ensures ∙ e) in rw (c .reply .ensures, c .before .before .standing-of .ensures) (sym (pushed-refused (c .before .before .before .before .before .before .args .mem .now) (c .before .before .before .before .before .before .args .set .now) n))
 
--- src/lib.rt:101:9  } ⏎ if !is_set(mem, set) {
+-- src/lib.rt:102:9  } ⏎ if !is_set(mem, set) {
 is-set-requires : tie.Need-is-set-requires
 is-set-requires c κs =
     let st : standing (c .before .before .before .before .before .before .args .mem .now) ≡ 0 = sym (c .before .before .standing-of .ensures) ∙ c .before .if1 .left in
     let g = standing-good (c .before .before .before .before .before .before .args .mem .now) st in
     (omega (arith, g .0), valid-figures (c .before .before .before .before .before .before .args .mem .now) (g .1) .inputs)
 
--- src/lib.rt:102:9  if !is_set(mem, set) { ⏎ return refused(Refusal::Set);
+-- src/lib.rt:103:9  if !is_set(mem, set) { ⏎ return refused(Refusal::Set);
 refused-requires : tie.Need-refused-requires
 refused-requires c κs = search needs
 
--- src/lib.rt:102:9  if !is_set(mem, set) { ⏎ return refused(Refusal::Set);
+-- src/lib.rt:103:9  if !is_set(mem, set) { ⏎ return refused(Refusal::Set);
 same-length-2 : tie.Need-same-length-2
 same-length-2 c = search needs
 
--- src/lib.rt:102:9  if !is_set(mem, set) { ⏎ return refused(Refusal::Set);
+-- src/lib.rt:103:9  if !is_set(mem, set) { ⏎ return refused(Refusal::Set);
 returns-2 : tie.Need-returns-2
 returns-2 c =
     let st : standing (c .before .before .before .before .before .before .before .before .before .args .mem .now) ≡ 0 = sym (c .before .before .before .before .before .standing-of .ensures) ∙ c .before .before .before .before .if1 .left in
     let a : setOk (storedKinds (c .before .before .before .before .before .before .before .before .before .args .mem .now)) (c .before .before .before .before .before .before .before .before .before .args .set .now) ≡ false = sym (c .before .before .is-set .ensures) ∙ not-true (c .before .before .is-set .result) (c .before .if2 .taken) in
     rw (c .refused .ensures) (sym (pushed-no-set (c .before .before .before .before .before .before .before .before .before .args .mem .now) st (c .before .before .before .before .before .before .before .before .before .args .set .now) a))
 
--- src/lib.rt:104:9  } ⏎ let untaken = machine_layout::untaken(mem);
+-- src/lib.rt:105:9  } ⏎ let untaken = machine_layout::untaken(mem);
 untaken-requires : tie.Need-untaken-requires
 untaken-requires c κs =
     let st : standing (c .before .before .before .before .before .before .before .before .before .args .mem .now) ≡ 0 = sym (c .before .before .before .before .before .standing-of .ensures) ∙ c .before .before .before .before .if1 .left in
     let g = standing-good (c .before .before .before .before .before .before .before .before .before .args .mem .now) st in
     omega (arith, g .0)
 
--- src/lib.rt:106:9  if machine_layout::UNTAKEN <= untaken { ⏎ return refused(Refusal::Untaken);
+-- src/lib.rt:107:9  if machine_layout::UNTAKEN <= untaken { ⏎ return refused(Refusal::Untaken);
 refused-requires-2 : tie.Need-refused-requires-2
 refused-requires-2 c κs = search needs
 
--- src/lib.rt:106:9  if machine_layout::UNTAKEN <= untaken { ⏎ return refused(Refusal::Untaken);
+-- src/lib.rt:107:9  if machine_layout::UNTAKEN <= untaken { ⏎ return refused(Refusal::Untaken);
 same-length-3 : tie.Need-same-length-3
 same-length-3 c = search needs
 
--- src/lib.rt:106:9  if machine_layout::UNTAKEN <= untaken { ⏎ return refused(Refusal::Untaken);
+-- src/lib.rt:107:9  if machine_layout::UNTAKEN <= untaken { ⏎ return refused(Refusal::Untaken);
 returns-3 : tie.Need-returns-3
 returns-3 c =
     let st : standing (c .before .before .before .before .before .before .before .before .before .before .before .before .args .mem .now) ≡ 0 = sym (c .before .before .before .before .before .before .before .before .standing-of .ensures) ∙ c .before .before .before .before .before .before .before .if1 .left in
@@ -99,22 +99,22 @@ returns-3 c =
     let b : ltb (untakenOf (c .before .before .before .before .before .before .before .before .before .before .before .before .args .mem .now)) 16 ≡ false = le-ltb (untakenOf (c .before .before .before .before .before .before .before .before .before .before .before .before .args .mem .now)) 16 (omega (arith, c .before .before .untaken .ensures .0)) in
     rw (c .refused2 .ensures) (sym (pushed-untaken (c .before .before .before .before .before .before .before .before .before .before .before .before .args .mem .now) st (c .before .before .before .before .before .before .before .before .before .before .before .before .args .set .now) a b))
 
--- src/lib.rt:108:9  } ⏎ let inputs = machine_layout::inputs(mem);
+-- src/lib.rt:109:9  } ⏎ let inputs = machine_layout::inputs(mem);
 inputs-requires : tie.Need-inputs-requires
 inputs-requires c κs =
     let st : standing (c .before .before .before .before .before .before .before .before .before .before .before .before .args .mem .now) ≡ 0 = sym (c .before .before .before .before .before .before .before .before .standing-of .ensures) ∙ c .before .before .before .before .before .before .before .if1 .left in
     let g = standing-good (c .before .before .before .before .before .before .before .before .before .before .before .before .args .mem .now) st in
     omega (arith, g .0)
 
--- src/lib.rt:109:45  let inputs = machine_layout::inputs(mem); ⏎ let size = machine_layout::stretch_size(machine_layout::capacity(mem));
+-- src/lib.rt:110:45  let inputs = machine_layout::inputs(mem); ⏎ let size = machine_layout::stretch_size(machine_layout::capacity(mem));
 capacity-requires : tie.Need-capacity-requires
 capacity-requires c κs = search needs
 
--- src/lib.rt:109:9  let inputs = machine_layout::inputs(mem); ⏎ let size = machine_layout::stretch_size(machine_layout::capacity(mem));
+-- src/lib.rt:110:9  let inputs = machine_layout::inputs(mem); ⏎ let size = machine_layout::stretch_size(machine_layout::capacity(mem));
 stretch-size-requires : tie.Need-stretch-size-requires
 stretch-size-requires c κs = search needs
 
--- src/lib.rt:110:9  let size = machine_layout::stretch_size(machine_layout::capacity(mem)); ⏎ if !have_room(mem, size, inputs) {
+-- src/lib.rt:111:9  let size = machine_layout::stretch_size(machine_layout::capacity(mem)); ⏎ if !have_room(mem, size, inputs) {
 have-room-requires : tie.Need-have-room-requires
 have-room-requires c κs =
     let st : standing (c .before .before .before .before .before .before .before .before .before .before .before .before .before .before .before .before .before .args .mem .now) ≡ 0 = sym (c .before .before .before .before .before .before .before .before .before .before .before .before .before .standing-of .ensures) ∙ c .before .before .before .before .before .before .before .before .before .before .before .before .if1 .left in
@@ -123,15 +123,15 @@ have-room-requires c κs =
     let s : c .before .stretch-size .result ≡ sizeIn (c .before .before .before .before .before .before .before .before .before .before .before .before .before .before .before .before .before .args .mem .now) = c .before .stretch-size .ensures ∙ ap sizeOf (c .before .before .capacity .ensures .0) in
     (omega (arith, c .before .stretch-size .ensures, c .before .before .capacity .ensures .1), omega (arith, c .before .stretch-size .ensures, c .before .before .capacity .ensures .2), omega (arith, s, g .0), omega (arith, f .inputs, c .before .before .before .before .inputs .ensures .0))
 
--- src/lib.rt:111:9  if !have_room(mem, size, inputs) { ⏎ return refused(Refusal::Full);
+-- src/lib.rt:112:9  if !have_room(mem, size, inputs) { ⏎ return refused(Refusal::Full);
 refused-requires-3 : tie.Need-refused-requires-3
 refused-requires-3 c κs = search needs
 
--- src/lib.rt:111:9  if !have_room(mem, size, inputs) { ⏎ return refused(Refusal::Full);
+-- src/lib.rt:112:9  if !have_room(mem, size, inputs) { ⏎ return refused(Refusal::Full);
 same-length-4 : tie.Need-same-length-4
 same-length-4 c = search needs
 
--- src/lib.rt:111:9  if !have_room(mem, size, inputs) { ⏎ return refused(Refusal::Full);
+-- src/lib.rt:112:9  if !have_room(mem, size, inputs) { ⏎ return refused(Refusal::Full);
 returns-4 : tie.Need-returns-4
 returns-4 c =
     let st : standing (c .before .before .before .before .before .before .before .before .before .before .before .before .before .before .before .before .before .before .before .before .args .mem .now) ≡ 0 = sym (c .before .before .before .before .before .before .before .before .before .before .before .before .before .before .before .before .standing-of .ensures) ∙ c .before .before .before .before .before .before .before .before .before .before .before .before .before .before .before .if1 .left in
@@ -141,14 +141,14 @@ returns-4 c =
     let d : roomsOk (c .before .before .before .before .before .before .before .before .before .before .before .before .before .before .before .before .before .before .before .before .args .mem .now) (sizeIn (c .before .before .before .before .before .before .before .before .before .before .before .before .before .before .before .before .before .before .before .before .args .mem .now)) (inputsOf (c .before .before .before .before .before .before .before .before .before .before .before .before .before .before .before .before .before .before .before .before .args .mem .now)) ≡ false = rw (← (c .before .before .before .before .before .before .before .inputs .ensures .0), ← s) (sym (c .before .before .have-room .ensures) ∙ not-true (c .before .before .have-room .result) (c .before .if4 .taken)) in
     rw (c .refused3 .ensures) (sym (pushed-full (c .before .before .before .before .before .before .before .before .before .before .before .before .before .before .before .before .before .before .before .before .args .mem .now) st (c .before .before .before .before .before .before .before .before .before .before .before .before .before .before .before .before .before .before .before .before .args .set .now) a b d))
 
--- src/lib.rt:113:9  } ⏎ let trigger = machine_layout::trigger(mem);
+-- src/lib.rt:114:9  } ⏎ let trigger = machine_layout::trigger(mem);
 trigger-requires : tie.Need-trigger-requires
 trigger-requires c κs =
     let st : standing (c .before .before .before .before .before .before .before .before .before .before .before .before .before .before .before .before .before .before .before .before .args .mem .now) ≡ 0 = sym (c .before .before .before .before .before .before .before .before .before .before .before .before .before .before .before .before .standing-of .ensures) ∙ c .before .before .before .before .before .before .before .before .before .before .before .before .before .before .before .if1 .left in
     let g = standing-good (c .before .before .before .before .before .before .before .before .before .before .before .before .before .before .before .before .before .before .before .before .args .mem .now) st in
     omega (arith, g .0)
 
--- src/lib.rt:114:5  let trigger = machine_layout::trigger(mem); ⏎ enter(mem, size, inputs, set);
+-- src/lib.rt:115:5  let trigger = machine_layout::trigger(mem); ⏎ enter(mem, size, inputs, set);
 enter-requires : tie.Need-enter-requires
 enter-requires c κs =
     let st : standing (c .before .before .before .before .before .before .before .before .before .before .before .before .before .before .before .before .before .before .before .before .before .before .args .mem .now) ≡ 0 = sym (c .before .before .before .before .before .before .before .before .before .before .before .before .before .before .before .before .before .before .standing-of .ensures) ∙ c .before .before .before .before .before .before .before .before .before .before .before .before .before .before .before .before .before .if1 .left in
@@ -158,11 +158,11 @@ enter-requires c κs =
     let s : c .before .before .before .before .before .before .stretch-size .result ≡ sizeIn (c .before .before .before .before .before .before .before .before .before .before .before .before .before .before .before .before .before .before .before .before .before .before .args .mem .now) = c .before .before .before .before .before .before .stretch-size .ensures ∙ ap sizeOf (c .before .before .before .before .before .before .before .capacity .ensures .0) in
     (omega (arith, c .before .before .before .before .before .before .stretch-size .ensures, c .before .before .before .before .before .before .before .capacity .ensures .1), omega (arith, c .before .before .before .before .before .before .stretch-size .ensures, c .before .before .before .before .before .before .before .capacity .ensures .2), omega (arith, s, g .0), omega (arith, f .inputs, c .before .before .before .before .before .before .before .before .before .inputs .ensures .0), omega (arith, set-length (storedKinds (c .before .before .before .before .before .before .before .before .before .before .before .before .before .before .before .before .before .before .before .before .before .before .args .mem .now)) (c .before .before .before .before .before .before .before .before .before .before .before .before .before .before .before .before .before .before .before .before .before .before .args .set .now) a, kinds-length (c .before .before .before .before .before .before .before .before .before .before .before .before .before .before .before .before .before .before .before .before .before .before .args .mem .now) st, c .before .before .before .before .before .before .before .before .before .inputs .ensures .0))
 
--- src/lib.rt:115:9  enter(mem, size, inputs, set); ⏎ let token = value::bytes::to_word(value::Value::Truth(true));
+-- src/lib.rt:116:9  enter(mem, size, inputs, set); ⏎ let token = value::bytes::to_word(value::Value::Truth(true));
 to-word-requires : tie.Need-to-word-requires
 to-word-requires c κs = search needs
 
--- src/lib.rt:116:5  let token = value::bytes::to_word(value::Value::Truth(true)); ⏎ machine_firing::append_to(mem, size, trigger, token);
+-- src/lib.rt:117:5  let token = value::bytes::to_word(value::Value::Truth(true)); ⏎ machine_firing::append_to(mem, LINKS_AT, size, trigger, token);
 append-to-requires : tie.Need-append-to-requires
 append-to-requires c κs =
     let st : standing (c .before .before .before .before .before .before .before .before .before .before .before .before .before .before .before .before .before .before .before .before .before .before .before .before .before .before .before .args .mem .now) ≡ 0 = sym (c .before .before .before .before .before .before .before .before .before .before .before .before .before .before .before .before .before .before .before .before .before .before .before .standing-of .ensures) ∙ c .before .before .before .before .before .before .before .before .before .before .before .before .before .before .before .before .before .before .before .before .before .before .if1 .left in
@@ -170,30 +170,30 @@ append-to-requires c κs =
     let s : c .before .before .before .before .before .before .before .before .before .before .before .stretch-size .result ≡ sizeIn (c .before .before .before .before .before .before .before .before .before .before .before .before .before .before .before .before .before .before .before .before .before .before .before .before .before .before .before .args .mem .now) = c .before .before .before .before .before .before .before .before .before .before .before .stretch-size .ensures ∙ ap sizeOf (c .before .before .before .before .before .before .before .before .before .before .before .before .capacity .ensures .0) in
     (omega (arith, c .before .before .before .before .before .before .before .before .before .before .before .stretch-size .ensures, c .before .before .before .before .before .before .before .before .before .before .before .before .capacity .ensures .1), omega (arith, c .before .before .before .before .before .before .before .before .before .before .before .stretch-size .ensures, c .before .before .before .before .before .before .before .before .before .before .before .before .capacity .ensures .2), omega (arith, s, g .0, c .before .before .before .before .enter .kept .0))
 
--- src/lib.rt:117:40  machine_firing::append_to(mem, size, trigger, token); ⏎ mem[machine_layout::UNTAKEN_AT] = (untaken + 1) as u8;
+-- src/lib.rt:118:40  machine_firing::append_to(mem, LINKS_AT, size, trigger, token); ⏎ mem[machine_layout::UNTAKEN_AT] = (untaken + 1) as u8;
 add-mem : tie.Need-add-mem
 add-mem c = search needs
 
--- src/lib.rt:117:39  machine_firing::append_to(mem, size, trigger, token); ⏎ mem[machine_layout::UNTAKEN_AT] = (untaken + 1) as u8;
+-- src/lib.rt:118:39  machine_firing::append_to(mem, LINKS_AT, size, trigger, token); ⏎ mem[machine_layout::UNTAKEN_AT] = (untaken + 1) as u8;
 cast-mem : tie.Need-cast-mem
 cast-mem c = search needs
 
--- src/lib.rt:117:5  machine_firing::append_to(mem, size, trigger, token); ⏎ mem[machine_layout::UNTAKEN_AT] = (untaken + 1) as u8;
+-- src/lib.rt:118:5  machine_firing::append_to(mem, LINKS_AT, size, trigger, token); ⏎ mem[machine_layout::UNTAKEN_AT] = (untaken + 1) as u8;
 slice-write-mem : tie.Need-slice-write-mem
 slice-write-mem c =
     let st : standing (c .before .before .before .before .before .before .before .before .before .before .before .before .before .before .before .before .before .before .before .before .before .before .before .before .before .before .before .before .before .before .args .mem .now) ≡ 0 = sym (c .before .before .before .before .before .before .before .before .before .before .before .before .before .before .before .before .before .before .before .before .before .before .before .before .before .before .standing-of .ensures) ∙ c .before .before .before .before .before .before .before .before .before .before .before .before .before .before .before .before .before .before .before .before .before .before .before .before .before .if1 .left in
     let g = standing-good (c .before .before .before .before .before .before .before .before .before .before .before .before .before .before .before .before .before .before .before .before .before .before .before .before .before .before .before .before .before .before .args .mem .now) st in
     omega (arith, g .0, c .before .before .before .before .before .before .before .enter .kept .0, c .before .before .append-to .kept .0)
 
--- src/lib.rt:118:5  mem[machine_layout::UNTAKEN_AT] = (untaken + 1) as u8; ⏎ reply(0, 0)
+-- src/lib.rt:119:5  mem[machine_layout::UNTAKEN_AT] = (untaken + 1) as u8; ⏎ reply(0, 0)
 reply-requires-2 : tie.Need-reply-requires-2
 reply-requires-2 c κs = search needs
 
--- src/lib.rt:94:1  // Pushes one set. ⏎ pub fn push(mem: &mut [u8], set: &[u8]) -> Answer
+-- src/lib.rt:95:1  // Pushes one set. ⏎ pub fn push(mem: &mut [u8], set: &[u8]) -> Answer
 same-length-5 : tie.Need-same-length-5
 same-length-5 c = length-set (c .before .before .before .append-to .last .0) 7 (c .before .before .before .before .before .before .before .before .before .before .before .before .before .before .before .before .before .before .before .before .before .untaken .result + 1) ∙ c .before .before .before .append-to .kept .0 ∙ c .before .before .before .before .before .before .before .before .enter .kept .0
 
--- src/lib.rt:94:1  // Pushes one set. ⏎ pub fn push(mem: &mut [u8], set: &[u8]) -> Answer
+-- src/lib.rt:95:1  // Pushes one set. ⏎ pub fn push(mem: &mut [u8], set: &[u8]) -> Answer
 returns-5 : tie.Need-returns-5
 unfolding pushedMemory triggered
 returns-5 c =

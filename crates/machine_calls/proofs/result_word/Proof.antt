@@ -14,20 +14,20 @@ use Rattle.machine_calls.specs.Calls.{sizeIn, standing, inputRoom, rooms
 use Rattle.machine_layout.specs.Layout.{need, sizeOf, capacityOf, capacityByte, nameAt, triggerOf, inputLink, resultLink, operatorsOf, inputsOf, resultsOf, untakenOf}
 use Rattle.machine_firing.specs.Links.{headAt, roomAt, removedAt, appendedAt}
 
--- src/lib.rt:182:51  if j < k { ⏎ return machine_firing::head_of(mem, size, machine_layout::result_link(mem, j));
+-- src/lib.rt:183:61  if j < k { ⏎ return machine_firing::head_of(mem, LINKS_AT, size, machine_layout::result_link(mem, j));
 result-link-requires : tie.Need-result-link-requires
 result-link-requires c κs = search needs
 
--- src/lib.rt:182:9  if j < k { ⏎ return machine_firing::head_of(mem, size, machine_layout::result_link(mem, j));
+-- src/lib.rt:183:9  if j < k { ⏎ return machine_firing::head_of(mem, LINKS_AT, size, machine_layout::result_link(mem, j));
 head-of-requires : tie.Need-head-of-requires
 head-of-requires c κs = search needs
 
--- src/lib.rt:182:9  if j < k { ⏎ return machine_firing::head_of(mem, size, machine_layout::result_link(mem, j));
+-- src/lib.rt:183:9  if j < k { ⏎ return machine_firing::head_of(mem, LINKS_AT, size, machine_layout::result_link(mem, j));
 returns : tie.Need-returns
 unfolding resultWord
 returns c = simp (lt-ltb (c .before .before .before .before .args .j) (c .before .before .before .before .args .k) (c .before .before .if1 .taken)) (rw (c .before .result-link .ensures .0) at (c .head-of .ensures .0))
 
--- src/lib.rt:177:1  // Value j of the result set: err past the width. ⏎ fn result_word(mem: &[u8], size: usize, k: usize, j: usize) -> u64
+-- src/lib.rt:178:1  // Value j of the result set: err past the width. ⏎ fn result_word(mem: &[u8], size: usize, k: usize, j: usize) -> u64
 returns-2 : tie.Need-returns-2
 unfolding resultWord
 returns-2 c = simp (le-ltb (c .before .before .args .j) (c .before .before .args .k) (c .if1 .left)) (sym word-of-err)

@@ -1,7 +1,7 @@
 -- The tests, as paths name them:
 --   tie if1  let stands = standing_of(mem); ⏎ if stands != 0 {
---   tie if2  let count = machine_runs::run(mem, size, n, firings); ⏎ if count < firings {
---   tie if3  } ⏎ if machine_runs::idle(mem, size, n) {
+--   tie if2  let count = machine_runs::run(mem, LINKS_AT, size, n, firings); ⏎ if count < firings {
+--   tie if3  } ⏎ if machine_runs::idle(mem, LINKS_AT, size, n) {
 use native.Mathlib.Omega.{arith}
 use borrow.Author.Needs.{needs}
 use Rattle.machine_calls.proofs.run.Statement.{statement}
@@ -33,55 +33,55 @@ use Rattle.machine_valid.specs.Figures.{Figures, valid-figures}
 use mathlib.Core.Logic.{_≢_}
 use Rattle.machine_runs.specs.Run.{Ran, runs, stillAt}
 
--- src/lib.rt:145:9  { ⏎ let stands = standing_of(mem);
+-- src/lib.rt:146:9  { ⏎ let stands = standing_of(mem);
 standing-of-requires : tie.Need-standing-of-requires
 standing-of-requires c κs = search needs
 
--- src/lib.rt:147:9  if stands != 0 { ⏎ return reply(stands, 0);
+-- src/lib.rt:148:9  if stands != 0 { ⏎ return reply(stands, 0);
 reply-requires : tie.Need-reply-requires
 reply-requires c κs = search needs
 
--- src/lib.rt:147:9  if stands != 0 { ⏎ return reply(stands, 0);
+-- src/lib.rt:148:9  if stands != 0 { ⏎ return reply(stands, 0);
 same-length : tie.Need-same-length
 same-length c = search needs
 
--- src/lib.rt:147:9  if stands != 0 { ⏎ return reply(stands, 0);
+-- src/lib.rt:148:9  if stands != 0 { ⏎ return reply(stands, 0);
 returns : tie.Need-returns
 returns c = let n : standing (c .before .before .before .before .before .args .mem .now) ≢ 0 = λ e. c .before .if1 .taken (c .before .before .standing-of .ensures ∙ e) in rw (c .reply .ensures, c .before .before .standing-of .ensures) (sym (ran-refused (c .before .before .before .before .before .args .mem .now) (c .before .before .before .before .before .args .firings) n))
 
--- src/lib.rt:149:9  } ⏎ let n = machine_layout::operators(mem);
+-- src/lib.rt:150:9  } ⏎ let n = machine_layout::operators(mem);
 operators-requires : tie.Need-operators-requires
 operators-requires c κs =
     let st : standing (c .before .before .before .before .before .args .mem .now) ≡ 0 = sym (c .before .before .standing-of .ensures) ∙ c .before .if1 .left in
     let g = standing-good (c .before .before .before .before .before .args .mem .now) st in
     omega (arith, g .0)
 
--- src/lib.rt:150:45  let n = machine_layout::operators(mem); ⏎ let size = machine_layout::stretch_size(machine_layout::capacity(mem));
+-- src/lib.rt:151:45  let n = machine_layout::operators(mem); ⏎ let size = machine_layout::stretch_size(machine_layout::capacity(mem));
 capacity-requires : tie.Need-capacity-requires
 capacity-requires c κs = search needs
 
--- src/lib.rt:150:9  let n = machine_layout::operators(mem); ⏎ let size = machine_layout::stretch_size(machine_layout::capacity(mem));
+-- src/lib.rt:151:9  let n = machine_layout::operators(mem); ⏎ let size = machine_layout::stretch_size(machine_layout::capacity(mem));
 stretch-size-requires : tie.Need-stretch-size-requires
 stretch-size-requires c κs = search needs
 
--- src/lib.rt:151:9  let size = machine_layout::stretch_size(machine_layout::capacity(mem)); ⏎ let count = machine_runs::run(mem, size, n, firings);
+-- src/lib.rt:152:9  let size = machine_layout::stretch_size(machine_layout::capacity(mem)); ⏎ let count = machine_runs::run(mem, LINKS_AT, size, n, firings);
 run-requires : tie.Need-run-requires
 run-requires c κs =
     let st : standing (c .before .before .before .before .before .before .before .before .before .before .args .mem .now) ≡ 0 = sym (c .before .before .before .before .before .before .before .standing-of .ensures) ∙ c .before .before .before .before .before .before .if1 .left in
     let g = standing-good (c .before .before .before .before .before .before .before .before .before .before .args .mem .now) st in
     let f = valid-figures (c .before .before .before .before .before .before .before .before .before .before .args .mem .now) (g .1) in
     let s : c .before .stretch-size .result ≡ sizeIn (c .before .before .before .before .before .before .before .before .before .before .args .mem .now) = c .before .stretch-size .ensures ∙ ap sizeOf (c .before .before .capacity .ensures .0) in
-    (omega (arith, c .before .stretch-size .ensures, c .before .before .capacity .ensures .1), omega (arith, c .before .stretch-size .ensures, c .before .before .capacity .ensures .2), omega (arith, s, g .0), omega (arith, f .operators, c .before .before .before .before .operators .ensures .0))
+    (omega arith, omega (arith, c .before .stretch-size .ensures, c .before .before .capacity .ensures .1), omega (arith, c .before .stretch-size .ensures, c .before .before .capacity .ensures .2), omega (arith, s, g .0), omega (arith, f .operators, c .before .before .before .before .operators .ensures .0))
 
--- src/lib.rt:153:9  if count < firings { ⏎ return reply(0, count);
+-- src/lib.rt:154:9  if count < firings { ⏎ return reply(0, count);
 reply-requires-2 : tie.Need-reply-requires-2
 reply-requires-2 c κs = search needs
 
--- src/lib.rt:153:9  if count < firings { ⏎ return reply(0, count);
+-- src/lib.rt:154:9  if count < firings { ⏎ return reply(0, count);
 same-length-2 : tie.Need-same-length-2
 same-length-2 c = search needs
 
--- src/lib.rt:153:9  if count < firings { ⏎ return reply(0, count);
+-- src/lib.rt:154:9  if count < firings { ⏎ return reply(0, count);
 returns-2 : tie.Need-returns-2
 returns-2 c =
     let st : standing (c .before .before .before .before .before .before .before .before .before .before .before .before .before .before .before .args .mem .now) ≡ 0 = sym (c .before .before .before .before .before .before .before .before .before .before .before .before .standing-of .ensures) ∙ c .before .before .before .before .before .before .before .before .before .before .before .if1 .left in
@@ -89,24 +89,24 @@ returns-2 c =
     let e : Run.ran (c .before .before .before .before .run .last .0) (c .before .before .before .before .run .result) ≡ runs (sizeIn (c .before .before .before .before .before .before .before .before .before .before .before .before .before .before .before .args .mem .now)) (operatorsOf (c .before .before .before .before .before .before .before .before .before .before .before .before .before .before .before .args .mem .now)) (c .before .before .before .before .before .before .before .before .before .before .before .before .before .before .before .args .firings) (c .before .before .before .before .before .before .before .before .before .before .before .before .before .before .before .args .mem .now) 0 = rw (c .before .before .before .before .before .before .before .before .before .operators .ensures .0, s) at (c .before .before .before .before .run .ensures) in
     rw (c .reply2 .ensures) (sym (ran-early (c .before .before .before .before .before .before .before .before .before .before .before .before .before .before .before .args .mem .now) st (c .before .before .before .before .before .before .before .before .before .before .before .before .before .before .before .args .firings) (c .before .before .before .before .run .result) (c .before .before .before .before .run .last .0) e (c .before .if2 .taken)))
 
--- src/lib.rt:155:8  } ⏎ if machine_runs::idle(mem, size, n) {
+-- src/lib.rt:156:8  } ⏎ if machine_runs::idle(mem, LINKS_AT, size, n) {
 idle-requires : tie.Need-idle-requires
 idle-requires c κs =
     let st : standing (c .before .before .before .before .before .before .before .before .before .before .before .before .before .before .before .args .mem .now) ≡ 0 = sym (c .before .before .before .before .before .before .before .before .before .before .before .before .standing-of .ensures) ∙ c .before .before .before .before .before .before .before .before .before .before .before .if1 .left in
     let g = standing-good (c .before .before .before .before .before .before .before .before .before .before .before .before .before .before .before .args .mem .now) st in
     let f = valid-figures (c .before .before .before .before .before .before .before .before .before .before .before .before .before .before .before .args .mem .now) (g .1) in
     let s : c .before .before .before .before .before .before .stretch-size .result ≡ sizeIn (c .before .before .before .before .before .before .before .before .before .before .before .before .before .before .before .args .mem .now) = c .before .before .before .before .before .before .stretch-size .ensures ∙ ap sizeOf (c .before .before .before .before .before .before .before .capacity .ensures .0) in
-    (omega (arith, c .before .before .before .before .before .before .stretch-size .ensures, c .before .before .before .before .before .before .before .capacity .ensures .1), omega (arith, c .before .before .before .before .before .before .stretch-size .ensures, c .before .before .before .before .before .before .before .capacity .ensures .2), omega (arith, s, g .0, c .before .before .before .before .run .kept .0), omega (arith, f .operators, c .before .before .before .before .before .before .before .before .before .operators .ensures .0))
+    (omega arith, omega (arith, c .before .before .before .before .before .before .stretch-size .ensures, c .before .before .before .before .before .before .before .capacity .ensures .1), omega (arith, c .before .before .before .before .before .before .stretch-size .ensures, c .before .before .before .before .before .before .before .capacity .ensures .2), omega (arith, s, g .0, c .before .before .before .before .run .kept .0), omega (arith, f .operators, c .before .before .before .before .before .before .before .before .before .operators .ensures .0))
 
--- src/lib.rt:156:9  if machine_runs::idle(mem, size, n) { ⏎ return reply(0, count);
+-- src/lib.rt:157:9  if machine_runs::idle(mem, LINKS_AT, size, n) { ⏎ return reply(0, count);
 reply-requires-3 : tie.Need-reply-requires-3
 reply-requires-3 c κs = search needs
 
--- src/lib.rt:156:9  if machine_runs::idle(mem, size, n) { ⏎ return reply(0, count);
+-- src/lib.rt:157:9  if machine_runs::idle(mem, LINKS_AT, size, n) { ⏎ return reply(0, count);
 same-length-3 : tie.Need-same-length-3
 same-length-3 c = search needs
 
--- src/lib.rt:156:9  if machine_runs::idle(mem, size, n) { ⏎ return reply(0, count);
+-- src/lib.rt:157:9  if machine_runs::idle(mem, LINKS_AT, size, n) { ⏎ return reply(0, count);
 returns-3 : tie.Need-returns-3
 returns-3 c =
     let st : standing (c .before .before .before .before .before .before .before .before .before .before .before .before .before .before .before .before .before .before .before .before .args .mem .now) ≡ 0 = sym (c .before .before .before .before .before .before .before .before .before .before .before .before .before .before .before .before .before .standing-of .ensures) ∙ c .before .before .before .before .before .before .before .before .before .before .before .before .before .before .before .before .if1 .left in
@@ -115,19 +115,19 @@ returns-3 c =
     let q : stillAt (c .before .before .before .before .before .before .before .before .before .run .last .0) (sizeIn (c .before .before .before .before .before .before .before .before .before .before .before .before .before .before .before .before .before .before .before .before .args .mem .now)) (operatorsOf (c .before .before .before .before .before .before .before .before .before .before .before .before .before .before .before .before .before .before .before .before .args .mem .now)) ≡ true = rw (← (c .before .before .before .before .before .before .before .before .before .before .before .before .before .before .operators .ensures .0), ← s) (sym (c .before .before .before .before .idle .ensures .0) ∙ c .before .if3 .taken) in
     rw (c .reply3 .ensures, c .before .before .before .before .idle .ensures .1) (sym (ran-still (c .before .before .before .before .before .before .before .before .before .before .before .before .before .before .before .before .before .before .before .before .args .mem .now) st (c .before .before .before .before .before .before .before .before .before .before .before .before .before .before .before .before .before .before .before .before .args .firings) (c .before .before .before .before .before .before .before .before .before .run .result) (c .before .before .before .before .before .before .before .before .before .run .last .0) e q))
 
--- src/lib.rt:158:11  } ⏎ reply(formula::refusal_number(Refusal::Unfinished), count)
+-- src/lib.rt:159:11  } ⏎ reply(formula::refusal_number(Refusal::Unfinished), count)
 refusal-number-requires : tie.Need-refusal-number-requires
 refusal-number-requires c κs = search needs
 
--- src/lib.rt:158:5  } ⏎ reply(formula::refusal_number(Refusal::Unfinished), count)
+-- src/lib.rt:159:5  } ⏎ reply(formula::refusal_number(Refusal::Unfinished), count)
 reply-requires-4 : tie.Need-reply-requires-4
 reply-requires-4 c κs = search needs
 
--- src/lib.rt:142:1  // look at the operators. ⏎ pub fn run(mem: &mut [u8], firings: u32) -> Answer
+-- src/lib.rt:143:1  // look at the operators. ⏎ pub fn run(mem: &mut [u8], firings: u32) -> Answer
 same-length-4 : tie.Need-same-length-4
 same-length-4 c = search needs
 
--- src/lib.rt:142:1  // look at the operators. ⏎ pub fn run(mem: &mut [u8], firings: u32) -> Answer
+-- src/lib.rt:143:1  // look at the operators. ⏎ pub fn run(mem: &mut [u8], firings: u32) -> Answer
 returns-4 : tie.Need-returns-4
 returns-4 c =
     let st : standing (c .before .before .before .before .before .before .before .before .before .before .before .before .before .before .before .before .before .before .before .before .before .args .mem .now) ≡ 0 = sym (c .before .before .before .before .before .before .before .before .before .before .before .before .before .before .before .before .before .before .standing-of .ensures) ∙ c .before .before .before .before .before .before .before .before .before .before .before .before .before .before .before .before .before .if1 .left in

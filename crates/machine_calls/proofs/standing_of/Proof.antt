@@ -18,37 +18,37 @@ use Rattle.machine_layout.specs.Layout.{need, sizeOf, capacityOf, capacityByte,
 use lib.ListN.{length, getD, set, length-set}
 use Rattle.machine_valid.specs.Valid.{valid}
 
--- src/lib.rt:41:9  { ⏎ let capacity = machine_layout::capacity(mem);
+-- src/lib.rt:42:9  { ⏎ let capacity = machine_layout::capacity(mem);
 capacity-requires : tie.Need-capacity-requires
 capacity-requires c κs = search needs
 
--- src/lib.rt:42:20  let capacity = machine_layout::capacity(mem); ⏎ if mem.len() < machine_layout::machine_need(capacity) {
+-- src/lib.rt:43:20  let capacity = machine_layout::capacity(mem); ⏎ if mem.len() < machine_layout::machine_need(capacity) {
 machine-need-requires : tie.Need-machine-need-requires
 machine-need-requires c κs = search needs
 
--- src/lib.rt:43:9  if mem.len() < machine_layout::machine_need(capacity) { ⏎ return formula::refusal_number(Refusal::Memory);
+-- src/lib.rt:44:9  if mem.len() < machine_layout::machine_need(capacity) { ⏎ return formula::refusal_number(Refusal::Memory);
 refusal-number-requires : tie.Need-refusal-number-requires
 refusal-number-requires c κs = search needs
 
--- src/lib.rt:43:9  if mem.len() < machine_layout::machine_need(capacity) { ⏎ return formula::refusal_number(Refusal::Memory);
+-- src/lib.rt:44:9  if mem.len() < machine_layout::machine_need(capacity) { ⏎ return formula::refusal_number(Refusal::Memory);
 returns : tie.Need-returns
 unfolding standing
 returns c = simp (lt-ltb (length (c .before .before .before .before .before .args .mem .now)) (need (sizeIn (c .before .before .before .before .before .args .mem .now))) (omega (arith, c .before .before .machine-need .ensures, c .before .before .before .capacity .ensures .0))) (c .refusal-number .ensures)
 
--- src/lib.rt:45:8  } ⏎ if machine_valid::is_valid(mem) {
+-- src/lib.rt:46:8  } ⏎ if machine_valid::is_valid(mem) {
 is-valid-requires : tie.Need-is-valid-requires
 is-valid-requires c κs = omega (arith, c .before .machine-need .ensures, c .before .before .capacity .ensures .0)
 
--- src/lib.rt:46:9  if machine_valid::is_valid(mem) { ⏎ return 0;
+-- src/lib.rt:47:9  if machine_valid::is_valid(mem) { ⏎ return 0;
 returns-2 : tie.Need-returns-2
 unfolding standing
 returns-2 c = simp (le-ltb (length (c .before .before .before .before .before .before .args .mem .now)) (need (sizeIn (c .before .before .before .before .before .before .args .mem .now))) (omega (arith, c .before .before .before .machine-need .ensures, c .before .before .before .before .capacity .ensures .0)), sym (c .before .is-valid .ensures) ∙ c .if2 .taken)
 
--- src/lib.rt:48:5  } ⏎ formula::refusal_number(Refusal::Altered)
+-- src/lib.rt:49:5  } ⏎ formula::refusal_number(Refusal::Altered)
 refusal-number-requires-2 : tie.Need-refusal-number-requires-2
 refusal-number-requires-2 c κs = search needs
 
--- src/lib.rt:38:1  // 11 or 31, or 0 where the memory stands well. ⏎ pub fn standing_of(mem: &[u8]) -> u32
+-- src/lib.rt:39:1  // 11 or 31, or 0 where the memory stands well. ⏎ pub fn standing_of(mem: &[u8]) -> u32
 returns-3 : tie.Need-returns-3
 unfolding standing
 returns-3 c = simp (le-ltb (length (c .before .before .before .before .before .before .before .args .mem .now)) (need (sizeIn (c .before .before .before .before .before .before .before .args .mem .now))) (omega (arith, c .before .before .before .before .machine-need .ensures, c .before .before .before .before .before .capacity .ensures .0)), sym (c .before .before .is-valid .ensures) ∙ c .before .if2 .left) (c .refusal-number2 .ensures)

@@ -36,68 +36,68 @@ use Rattle.machine_valid.specs.Below.{allBelow, below-zero, below-step, below-f
 use mathlib.Core.Logic.{_≢_}
 use lib.Dec.{ltb}
 
--- src/lib.rt:216:9  if out.len() < RESULT_BYTES { ⏎ return refused(Refusal::Memory);
+-- src/lib.rt:217:9  if out.len() < RESULT_BYTES { ⏎ return refused(Refusal::Memory);
 refused-requires : tie.Need-refused-requires
 refused-requires c κs = search needs
 
--- src/lib.rt:216:9  if out.len() < RESULT_BYTES { ⏎ return refused(Refusal::Memory);
+-- src/lib.rt:217:9  if out.len() < RESULT_BYTES { ⏎ return refused(Refusal::Memory);
 returns : tie.Need-returns
 returns c = rw (c .refused .ensures) (sym (taken-short (c .before .before .before .before .args .mem .now) (c .before .before .before .before .args .out .now) (c .before .if1 .taken)))
 
--- src/lib.rt:218:9  } ⏎ let stands = standing_of(mem);
+-- src/lib.rt:219:9  } ⏎ let stands = standing_of(mem);
 standing-of-requires : tie.Need-standing-of-requires
 standing-of-requires c κs = search needs
 
--- src/lib.rt:220:9  if stands != 0 { ⏎ return reply(stands, 0);
+-- src/lib.rt:221:9  if stands != 0 { ⏎ return reply(stands, 0);
 reply-requires : tie.Need-reply-requires
 reply-requires c κs = search needs
 
--- src/lib.rt:220:9  if stands != 0 { ⏎ return reply(stands, 0);
+-- src/lib.rt:221:9  if stands != 0 { ⏎ return reply(stands, 0);
 same-length : tie.Need-same-length
 same-length c = search needs
 
--- src/lib.rt:220:9  if stands != 0 { ⏎ return reply(stands, 0);
+-- src/lib.rt:221:9  if stands != 0 { ⏎ return reply(stands, 0);
 returns-2 : tie.Need-returns-2
 returns-2 c = let n : standing (c .before .before .before .before .before .before .before .args .mem .now) ≢ 0 = λ e. c .before .if2 .taken (c .before .before .standing-of .ensures ∙ e) in rw (c .reply .ensures, c .before .before .standing-of .ensures) (sym (taken-refused (c .before .before .before .before .before .before .before .args .mem .now) (c .before .before .before .before .before .before .before .args .out .now) (c .before .before .before .before .if1 .left) n))
 
--- src/lib.rt:222:9  } ⏎ let untaken = machine_layout::untaken(mem);
+-- src/lib.rt:223:9  } ⏎ let untaken = machine_layout::untaken(mem);
 untaken-requires : tie.Need-untaken-requires
 untaken-requires c κs =
     let st : standing (c .before .before .before .before .before .before .before .args .mem .now) ≡ 0 = sym (c .before .before .standing-of .ensures) ∙ c .before .if2 .left in
     let g = standing-good (c .before .before .before .before .before .before .before .args .mem .now) st in
     omega (arith, g .0)
 
--- src/lib.rt:224:9  if untaken < 1 { ⏎ return refused(Refusal::NoResult);
+-- src/lib.rt:225:9  if untaken < 1 { ⏎ return refused(Refusal::NoResult);
 refused-requires-2 : tie.Need-refused-requires-2
 refused-requires-2 c κs = search needs
 
--- src/lib.rt:224:9  if untaken < 1 { ⏎ return refused(Refusal::NoResult);
+-- src/lib.rt:225:9  if untaken < 1 { ⏎ return refused(Refusal::NoResult);
 same-length-2 : tie.Need-same-length-2
 same-length-2 c = search needs
 
--- src/lib.rt:224:9  if untaken < 1 { ⏎ return refused(Refusal::NoResult);
+-- src/lib.rt:225:9  if untaken < 1 { ⏎ return refused(Refusal::NoResult);
 returns-3 : tie.Need-returns-3
 returns-3 c =
     let st : standing (c .before .before .before .before .before .before .before .before .before .before .args .mem .now) ≡ 0 = sym (c .before .before .before .before .before .standing-of .ensures) ∙ c .before .before .before .before .if2 .left in
     let a : ltb 0 (untakenOf (c .before .before .before .before .before .before .before .before .before .before .args .mem .now)) ≡ false = le-ltb 0 (untakenOf (c .before .before .before .before .before .before .before .before .before .before .args .mem .now)) (omega (arith, c .before .before .untaken .ensures .0)) in
     rw (c .refused2 .ensures) (sym (taken-none (c .before .before .before .before .before .before .before .before .before .before .args .mem .now) st (c .before .before .before .before .before .before .before .before .before .before .args .out .now) (c .before .before .before .before .before .before .before .if1 .left) a))
 
--- src/lib.rt:226:9  } ⏎ let results = machine_layout::results(mem);
+-- src/lib.rt:227:9  } ⏎ let results = machine_layout::results(mem);
 results-requires : tie.Need-results-requires
 results-requires c κs =
     let st : standing (c .before .before .before .before .before .before .before .before .before .before .args .mem .now) ≡ 0 = sym (c .before .before .before .before .before .standing-of .ensures) ∙ c .before .before .before .before .if2 .left in
     let g = standing-good (c .before .before .before .before .before .before .before .before .before .before .args .mem .now) st in
     omega (arith, g .0)
 
--- src/lib.rt:227:45  let results = machine_layout::results(mem); ⏎ let size = machine_layout::stretch_size(machine_layout::capacity(mem));
+-- src/lib.rt:228:45  let results = machine_layout::results(mem); ⏎ let size = machine_layout::stretch_size(machine_layout::capacity(mem));
 capacity-requires : tie.Need-capacity-requires
 capacity-requires c κs = search needs
 
--- src/lib.rt:227:9  let results = machine_layout::results(mem); ⏎ let size = machine_layout::stretch_size(machine_layout::capacity(mem));
+-- src/lib.rt:228:9  let results = machine_layout::results(mem); ⏎ let size = machine_layout::stretch_size(machine_layout::capacity(mem));
 stretch-size-requires : tie.Need-stretch-size-requires
 stretch-size-requires c κs = search needs
 
--- src/lib.rt:228:9  let size = machine_layout::stretch_size(machine_layout::capacity(mem)); ⏎ if !are_ready(mem, size, results) {
+-- src/lib.rt:229:9  let size = machine_layout::stretch_size(machine_layout::capacity(mem)); ⏎ if !are_ready(mem, size, results) {
 are-ready-requires : tie.Need-are-ready-requires
 are-ready-requires c κs =
     let st : standing (c .before .before .before .before .before .before .before .before .before .before .before .before .before .before .before .args .mem .now) ≡ 0 = sym (c .before .before .before .before .before .before .before .before .before .before .standing-of .ensures) ∙ c .before .before .before .before .before .before .before .before .before .if2 .left in
@@ -106,15 +106,15 @@ are-ready-requires c κs =
     let s : c .before .stretch-size .result ≡ sizeIn (c .before .before .before .before .before .before .before .before .before .before .before .before .before .before .before .args .mem .now) = c .before .stretch-size .ensures ∙ ap sizeOf (c .before .before .capacity .ensures .0) in
     (omega (arith, c .before .stretch-size .ensures, c .before .before .capacity .ensures .1), omega (arith, c .before .stretch-size .ensures, c .before .before .capacity .ensures .2), omega (arith, s, g .0), omega (arith, f .results16, c .before .before .before .before .results .ensures .0))
 
--- src/lib.rt:229:9  if !are_ready(mem, size, results) { ⏎ return refused(Refusal::NoResult);
+-- src/lib.rt:230:9  if !are_ready(mem, size, results) { ⏎ return refused(Refusal::NoResult);
 refused-requires-3 : tie.Need-refused-requires-3
 refused-requires-3 c κs = search needs
 
--- src/lib.rt:229:9  if !are_ready(mem, size, results) { ⏎ return refused(Refusal::NoResult);
+-- src/lib.rt:230:9  if !are_ready(mem, size, results) { ⏎ return refused(Refusal::NoResult);
 same-length-3 : tie.Need-same-length-3
 same-length-3 c = search needs
 
--- src/lib.rt:229:9  if !are_ready(mem, size, results) { ⏎ return refused(Refusal::NoResult);
+-- src/lib.rt:230:9  if !are_ready(mem, size, results) { ⏎ return refused(Refusal::NoResult);
 returns-4 : tie.Need-returns-4
 returns-4 c =
     let st : standing (c .before .before .before .before .before .before .before .before .before .before .before .before .before .before .before .before .before .before .args .mem .now) ≡ 0 = sym (c .before .before .before .before .before .before .before .before .before .before .before .before .before .standing-of .ensures) ∙ c .before .before .before .before .before .before .before .before .before .before .before .before .if2 .left in
@@ -123,7 +123,7 @@ returns-4 c =
     let b : allBelow (resultsOf (c .before .before .before .before .before .before .before .before .before .before .before .before .before .before .before .before .before .before .args .mem .now)) (resultReady (c .before .before .before .before .before .before .before .before .before .before .before .before .before .before .before .before .before .before .args .mem .now) (sizeIn (c .before .before .before .before .before .before .before .before .before .before .before .before .before .before .before .before .before .before .args .mem .now))) ≡ false = rw (← (c .before .before .before .before .before .before .before .results .ensures .0), ← s) (sym (c .before .before .are-ready .ensures) ∙ not-true (c .before .before .are-ready .result) (c .before .if4 .taken)) in
     rw (c .refused3 .ensures) (sym (taken-empty (c .before .before .before .before .before .before .before .before .before .before .before .before .before .before .before .before .before .before .args .mem .now) st (c .before .before .before .before .before .before .before .before .before .before .before .before .before .before .before .before .before .before .args .out .now) (c .before .before .before .before .before .before .before .before .before .before .before .before .before .before .before .if1 .left) a b))
 
--- src/lib.rt:231:5  } ⏎ write_results(mem, size, results, out);
+-- src/lib.rt:232:5  } ⏎ write_results(mem, size, results, out);
 write-results-requires : tie.Need-write-results-requires
 write-results-requires c κs =
     let st : standing (c .before .before .before .before .before .before .before .before .before .before .before .before .before .before .before .before .before .before .before .args .mem .now) ≡ 0 = sym (c .before .before .before .before .before .before .before .before .before .before .before .before .before .before .standing-of .ensures) ∙ c .before .before .before .before .before .before .before .before .before .before .before .before .before .if2 .left in
@@ -132,7 +132,7 @@ write-results-requires c κs =
     let s : c .before .before .before .before .before .stretch-size .result ≡ sizeIn (c .before .before .before .before .before .before .before .before .before .before .before .before .before .before .before .before .before .before .before .args .mem .now) = c .before .before .before .before .before .stretch-size .ensures ∙ ap sizeOf (c .before .before .before .before .before .before .capacity .ensures .0) in
     (omega (arith, c .before .before .before .before .before .stretch-size .ensures, c .before .before .before .before .before .before .capacity .ensures .1), omega (arith, c .before .before .before .before .before .stretch-size .ensures, c .before .before .before .before .before .before .capacity .ensures .2), omega (arith, s, g .0), omega (arith, f .results16, c .before .before .before .before .before .before .before .before .results .ensures .0), omega arith)
 
--- src/lib.rt:232:5  write_results(mem, size, results, out); ⏎ empty_results(mem, size, results);
+-- src/lib.rt:233:5  write_results(mem, size, results, out); ⏎ empty_results(mem, size, results);
 empty-results-requires : tie.Need-empty-results-requires
 empty-results-requires c κs =
     let st : standing (c .before .before .before .before .before .before .before .before .before .before .before .before .before .before .before .before .before .before .before .before .before .before .before .args .mem .now) ≡ 0 = sym (c .before .before .before .before .before .before .before .before .before .before .before .before .before .before .before .before .before .before .standing-of .ensures) ∙ c .before .before .before .before .before .before .before .before .before .before .before .before .before .before .before .before .before .if2 .left in
@@ -141,34 +141,34 @@ empty-results-requires c κs =
     let s : c .before .before .before .before .before .before .before .before .before .stretch-size .result ≡ sizeIn (c .before .before .before .before .before .before .before .before .before .before .before .before .before .before .before .before .before .before .before .before .before .before .before .args .mem .now) = c .before .before .before .before .before .before .before .before .before .stretch-size .ensures ∙ ap sizeOf (c .before .before .before .before .before .before .before .before .before .before .capacity .ensures .0) in
     (omega (arith, c .before .before .before .before .before .before .before .before .before .stretch-size .ensures, c .before .before .before .before .before .before .before .before .before .before .capacity .ensures .1), omega (arith, c .before .before .before .before .before .before .before .before .before .stretch-size .ensures, c .before .before .before .before .before .before .before .before .before .before .capacity .ensures .2), omega (arith, s, g .0), omega (arith, f .results16, c .before .before .before .before .before .before .before .before .before .before .before .before .results .ensures .0))
 
--- src/lib.rt:233:39  empty_results(mem, size, results); ⏎ mem[machine_layout::UNTAKEN_AT] = (untaken - 1) as u8;
+-- src/lib.rt:234:39  empty_results(mem, size, results); ⏎ mem[machine_layout::UNTAKEN_AT] = (untaken - 1) as u8;
 cast-mem : tie.Need-cast-mem
 cast-mem c = search needs
 
--- src/lib.rt:233:5  empty_results(mem, size, results); ⏎ mem[machine_layout::UNTAKEN_AT] = (untaken - 1) as u8;
+-- src/lib.rt:234:5  empty_results(mem, size, results); ⏎ mem[machine_layout::UNTAKEN_AT] = (untaken - 1) as u8;
 slice-write-mem : tie.Need-slice-write-mem
 slice-write-mem c =
     let st : standing (c .before .before .before .before .before .before .before .before .before .before .before .before .before .before .before .before .before .before .before .before .before .before .before .before .before .before .args .mem .now) ≡ 0 = sym (c .before .before .before .before .before .before .before .before .before .before .before .before .before .before .before .before .before .before .before .before .before .standing-of .ensures) ∙ c .before .before .before .before .before .before .before .before .before .before .before .before .before .before .before .before .before .before .before .before .if2 .left in
     let g = standing-good (c .before .before .before .before .before .before .before .before .before .before .before .before .before .before .before .before .before .before .before .before .before .before .before .before .before .before .args .mem .now) st in
     omega (arith, g .0, c .before .before .empty-results .kept .0)
 
--- src/lib.rt:234:14  mem[machine_layout::UNTAKEN_AT] = (untaken - 1) as u8; ⏎ reply(0, results as u32)
+-- src/lib.rt:235:14  mem[machine_layout::UNTAKEN_AT] = (untaken - 1) as u8; ⏎ reply(0, results as u32)
 cast-reply : tie.Need-cast-reply
 cast-reply c = search needs
 
--- src/lib.rt:234:5  mem[machine_layout::UNTAKEN_AT] = (untaken - 1) as u8; ⏎ reply(0, results as u32)
+-- src/lib.rt:235:5  mem[machine_layout::UNTAKEN_AT] = (untaken - 1) as u8; ⏎ reply(0, results as u32)
 reply-requires-2 : tie.Need-reply-requires-2
 reply-requires-2 c κs = search needs
 
--- src/lib.rt:212:1  // Takes one result set: sixteen values of five bytes each into `out`. ⏎ pub fn take(mem: &mut [u8], out: &mut [u8]) -> Answer
+-- src/lib.rt:213:1  // Takes one result set: sixteen values of five bytes each into `out`. ⏎ pub fn take(mem: &mut [u8], out: &mut [u8]) -> Answer
 same-length-4 : tie.Need-same-length-4
 same-length-4 c = search needs
 
--- src/lib.rt:212:1  // Takes one result set: sixteen values of five bytes each into `out`. ⏎ pub fn take(mem: &mut [u8], out: &mut [u8]) -> Answer
+-- src/lib.rt:213:1  // Takes one result set: sixteen values of five bytes each into `out`. ⏎ pub fn take(mem: &mut [u8], out: &mut [u8]) -> Answer
 same-length-5 : tie.Need-same-length-5
 same-length-5 c = search needs
 
--- src/lib.rt:212:1  // Takes one result set: sixteen values of five bytes each into `out`. ⏎ pub fn take(mem: &mut [u8], out: &mut [u8]) -> Answer
+-- src/lib.rt:213:1  // Takes one result set: sixteen values of five bytes each into `out`. ⏎ pub fn take(mem: &mut [u8], out: &mut [u8]) -> Answer
 returns-5 : tie.Need-returns-5
 unfolding takenMemory
 returns-5 c =

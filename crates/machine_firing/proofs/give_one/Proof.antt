@@ -1,5 +1,5 @@
 -- The tests, as paths name them:
---   tie if1  let out = port_of(mem, i, FIRST_OUTPUT); ⏎ if !room_of(mem, size, out) {
+--   tie if1  let out = port_of(mem, i, FIRST_OUTPUT); ⏎ if !room_of(mem, base, size, out) {
 --   tie if2  } ⏎ if dry {
 use borrow.Author.Needs.{needs}
 use Rattle.machine_firing.proofs.give_one.Statement.{statement}
@@ -13,54 +13,54 @@ use Rattle.machine_firing.proofs.room_of.Reads as room-of-reads
 use mathlib.Core.Path.{_≡_, sym, _∙_, refl, ap}
 use mathlib.Core.Bool.{Bool, true, false, not, _&&_}
 use borrow.Author.Tests.{not-true, not-false}
-use Rattle.machine_firing.specs.Links.{tokenAt, roomAt, removedAt, appendedAt}
+use Rattle.machine_firing.specs.Links.{tokenFrom, roomFrom, removedFrom, appendedFrom}
 use Rattle.machine_firing.specs.Moves.{Done, takenTwo, givenOne, givenTwo}
 use mathlib.Core.List.{List}
 use Prim.Native.Nat.{ℕ}
 
--- src/lib.rt:131:9  { ⏎ let out = port_of(mem, i, FIRST_OUTPUT);
+-- src/lib.rt:120:9  { ⏎ let out = port_of(mem, i, FIRST_OUTPUT);
 port-of-requires : tie.Need-port-of-requires
 port-of-requires c κs = search needs
 
--- src/lib.rt:132:9  let out = port_of(mem, i, FIRST_OUTPUT); ⏎ if !room_of(mem, size, out) {
+-- src/lib.rt:121:9  let out = port_of(mem, i, FIRST_OUTPUT); ⏎ if !room_of(mem, base, size, out) {
 room-of-requires : tie.Need-room-of-requires
 room-of-requires c κs = search needs
 
--- src/lib.rt:133:9  if !room_of(mem, size, out) { ⏎ return false;
+-- src/lib.rt:122:9  if !room_of(mem, base, size, out) { ⏎ return false;
 same-length : tie.Need-same-length
 same-length c = search needs
 
--- src/lib.rt:133:9  if !room_of(mem, size, out) { ⏎ return false;
+-- src/lib.rt:122:9  if !room_of(mem, base, size, out) { ⏎ return false;
 returns : tie.Need-returns
 unfolding Done
 returns c = let e : c .before .room-of .result ≡ false = not-true _ (c .if1 .taken) in (sym e ∙ rw (c .before .before .before .port-of .ensures) at (c .before .room-of .ensures), refl)
 
--- src/lib.rt:136:9  if dry { ⏎ return true;
+-- src/lib.rt:125:9  if dry { ⏎ return true;
 same-length-2 : tie.Need-same-length-2
 same-length-2 c = search needs
 
--- src/lib.rt:136:9  if dry { ⏎ return true;
+-- src/lib.rt:125:9  if dry { ⏎ return true;
 returns-2 : tie.Need-returns-2
 unfolding Done
 returns-2 c = let e : c .before .before .room-of .result ≡ true = not-false _ (c .before .if1 .left) in (sym e ∙ rw (c .before .before .before .before .port-of .ensures) at (c .before .before .room-of .ensures), rw (c .if2 .taken) refl)
 
--- src/lib.rt:138:5  } ⏎ remove_from(mem, size, in1);
+-- src/lib.rt:127:5  } ⏎ remove_from(mem, base, size, in1);
 remove-from-requires : tie.Need-remove-from-requires
 remove-from-requires c κs = search needs
 
--- src/lib.rt:139:5  remove_from(mem, size, in1); ⏎ remove_from(mem, size, in2);
+-- src/lib.rt:128:5  remove_from(mem, base, size, in1); ⏎ remove_from(mem, base, size, in2);
 remove-from-requires-2 : tie.Need-remove-from-requires-2
 remove-from-requires-2 c κs = search needs
 
--- src/lib.rt:140:5  remove_from(mem, size, in2); ⏎ append_to(mem, size, out, word);
+-- src/lib.rt:129:5  remove_from(mem, base, size, in2); ⏎ append_to(mem, base, size, out, word);
 append-to-requires : tie.Need-append-to-requires
 append-to-requires c κs = search needs
 
--- src/lib.rt:119:1  // token on the first output. ⏎ fn give_one(
+-- src/lib.rt:107:1  // token on the first output. ⏎ pub fn give_one(
 same-length-3 : tie.Need-same-length-3
 same-length-3 c = search needs
 
--- src/lib.rt:119:1  // token on the first output. ⏎ fn give_one(
+-- src/lib.rt:107:1  // token on the first output. ⏎ pub fn give_one(
 returns-3 : tie.Need-returns-3
 unfolding givenOne Done
 returns-3 c =

@@ -14,16 +14,16 @@ use Rattle.network.specs.Values.{err-value, true-value}
 use borrow.Author.Tests.{eq-eqb, ne-eqb}
 use Rattle.machine_firing.specs.Moves.{nextRegister}
 
--- src/lib.rt:484:9  if kind == machine_layout::FM { ⏎ return TRUE;
+-- src/lib.rt:261:9  if kind == machine_layout::FM { ⏎ return TRUE;
 returns : tie.Need-returns
 unfolding nextRegister wordOf
 returns c = rw (c .if1 .taken) refl
 
--- src/lib.rt:486:5  } ⏎ register_of(mem, i)
+-- src/lib.rt:263:5  } ⏎ register_of(mem, i)
 register-of-requires : tie.Need-register-of-requires
 register-of-requires c κs = search needs
 
--- src/lib.rt:479:1  // The register that those kinds leave: FM's tells that it has fired, the others' stays. ⏎ fn next_register(mem: &[u8], i: usize, kind: u8) -> u64
+-- src/lib.rt:256:1  // The register that those kinds leave: FM's tells that it has fired, the others' stays. ⏎ pub fn next_register(mem: &[u8], i: usize, kind: u8) -> u64
 returns-2 : tie.Need-returns-2
 unfolding nextRegister
 returns-2 c = rw (ne-eqb (c .before .before .before .args .kind) 19 (c .before .if1 .left)) (c .register-of .ensures)

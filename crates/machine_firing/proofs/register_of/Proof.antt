@@ -9,19 +9,19 @@ use Rattle.value.proofs.bytes.token_word.Reads as token-word-reads
 use mathlib.Core.Path.{_≡_, sym, _∙_, refl, ap}
 use Rattle.machine_firing.specs.Fire.{registerOf}
 
--- src/lib.rt:106:54  { ⏎ value::bytes::token_word(value::bytes::load(mem, machine_layout::register_at(i)))
+-- src/lib.rt:94:54  { ⏎ value::bytes::token_word(value::bytes::load(mem, machine_layout::register_at(i)))
 register-at-requires : tie.Need-register-at-requires
 register-at-requires c κs = search needs
 
--- src/lib.rt:106:30  { ⏎ value::bytes::token_word(value::bytes::load(mem, machine_layout::register_at(i)))
+-- src/lib.rt:94:30  { ⏎ value::bytes::token_word(value::bytes::load(mem, machine_layout::register_at(i)))
 load-requires : tie.Need-load-requires
 load-requires c κs = search needs
 
--- src/lib.rt:106:5  { ⏎ value::bytes::token_word(value::bytes::load(mem, machine_layout::register_at(i)))
+-- src/lib.rt:94:5  { ⏎ value::bytes::token_word(value::bytes::load(mem, machine_layout::register_at(i)))
 token-word-requires : tie.Need-token-word-requires
 token-word-requires c κs = search needs
 
--- src/lib.rt:102:1  // What operator i remembers. ⏎ fn register_of(mem: &[u8], i: usize) -> u64
+-- src/lib.rt:90:1  // What operator i remembers. ⏎ pub fn register_of(mem: &[u8], i: usize) -> u64
 returns : tie.Need-returns
 unfolding registerOf
 returns c = rw (c .before .load .ensures .0, c .before .before .register-at .ensures) at (c .token-word .ensures)

@@ -14,15 +14,15 @@ kept : (r : Bool) {A : Type 0} (x m : A) → pick (r && not true) x m ≡ m
 kept true x m = refl
 kept false x m = refl
 
--- src/lib.rt:514:5  { ⏎ fire_or_tell(mem, size, i, true)
+-- src/lib.rt:294:5  { ⏎ fire_or_tell(mem, base, size, i, true)
 fire-or-tell-requires : tie.Need-fire-or-tell-requires
-fire-or-tell-requires c κs = search needs
+fire-or-tell-requires c κs = c .before .before .pre
 
--- src/lib.rt:510:1  // Whether operator i can fire. ⏎ pub fn able_at(mem: &mut [u8], size: usize, i: usize) -> bool
+-- src/lib.rt:290:1  // Whether operator i can fire. ⏎ pub fn able_at(mem: &mut [u8], base: usize, size: usize, i: usize) -> bool
 same-length : tie.Need-same-length
 same-length c = search needs
 
--- src/lib.rt:510:1  // Whether operator i can fire. ⏎ pub fn able_at(mem: &mut [u8], size: usize, i: usize) -> bool
+-- src/lib.rt:290:1  // Whether operator i can fire. ⏎ pub fn able_at(mem: &mut [u8], base: usize, size: usize, i: usize) -> bool
 returns : tie.Need-returns
 unfolding Done
 returns c = (c .before .before .fire-or-tell .ensures .0, c .before .before .fire-or-tell .ensures .1 ∙ kept (c .before .before .fire-or-tell .result) _ _)

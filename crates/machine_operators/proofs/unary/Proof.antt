@@ -1,5 +1,5 @@
 -- The tests, as paths name them:
---   tie if1  let a = token_of(mem, size, first); ⏎ if is_absent(a) {
+--   tie if1  let a = token_of(mem, base, size, first); ⏎ if is_absent(a) {
 use borrow.Author.Needs.{needs}
 use Rattle.machine_operators.proofs.unary.Statement.{statement}
 use Rattle.machine_operators.proofs.unary.Tie as tie
@@ -12,7 +12,7 @@ use Rattle.machine_gates.proofs.applied_to.Reads as applied-to-reads
 use Rattle.machine_gates.proofs.is_absent.Reads as is-absent-reads
 use mathlib.Core.Path.{_≡_, sym, _∙_, refl, ap}
 use mathlib.Core.Bool.{Bool, true, false, not, _&&_}
-use Rattle.machine_firing.specs.Links.{headAt, tokenAt, roomAt, removedAt, appendedAt}
+use Rattle.machine_firing.specs.Links.{headFrom, tokenFrom, roomFrom, removedFrom, appendedFrom}
 use Rattle.machine_firing.specs.Moves.{takenTwo, givenOne, givenTwo}
 use Rattle.machine_gates.specs.Decide.{isAbsent, isTrue, isFalse, isNeither}
 use Rattle.machine_layout.specs.Layout.{portOf}
@@ -29,50 +29,50 @@ use Rattle.machine_gates.specs.Gates.{unaryBy, applied}
 use Rattle.machine_gates.specs.GateLaws.{applied-there}
 
 -- a token that was read is read again from its word
-again : (m : List ℕ) (size l w : ℕ) → w ≡ wordOr (tokenAt m size l) → decoded (valueOf w) ≡ tokenAt m size l
-unfolding tokenAt
-again m size l w e = rw (e, token-of-word (headAt m size l)) refl
+again : (m : List ℕ) (base size l w : ℕ) → w ≡ wordOr (tokenFrom m base size l) → decoded (valueOf w) ≡ tokenFrom m base size l
+unfolding tokenFrom
+again m base size l w e = rw (e, token-of-word (headFrom m base size l)) refl
 
--- src/lib.rt:219:9  { ⏎ let first = port_of(mem, i, FIRST_INPUT);
+-- src/lib.rt:53:9  { ⏎ let first = port_of(mem, i, FIRST_INPUT);
 port-of-requires : tie.Need-port-of-requires
 port-of-requires c κs = search needs
 
--- src/lib.rt:220:9  let first = port_of(mem, i, FIRST_INPUT); ⏎ let a = token_of(mem, size, first);
+-- src/lib.rt:54:9  let first = port_of(mem, i, FIRST_INPUT); ⏎ let a = token_of(mem, base, size, first);
 token-of-requires : tie.Need-token-of-requires
-token-of-requires c κs = search needs
+token-of-requires c κs = (c .before .before .before .before .pre .1, c .before .before .before .before .pre .2, c .before .before .before .before .pre .3)
 
--- src/lib.rt:221:8  let a = token_of(mem, size, first); ⏎ if is_absent(a) {
+-- src/lib.rt:55:8  let a = token_of(mem, base, size, first); ⏎ if is_absent(a) {
 is-absent-requires : tie.Need-is-absent-requires
 is-absent-requires c κs = search needs
 
--- src/lib.rt:222:9  if is_absent(a) { ⏎ return false;
+-- src/lib.rt:56:9  if is_absent(a) { ⏎ return false;
 same-length : tie.Need-same-length
 same-length c = search needs
 
--- src/lib.rt:222:9  if is_absent(a) { ⏎ return false;
+-- src/lib.rt:56:9  if is_absent(a) { ⏎ return false;
 returns : tie.Need-returns
 unfolding unaryBy
-returns c = rw (sym (c .before .is-absent .ensures (tokenAt (c .before .before .before .before .before .before .before .args .mem .now) (c .before .before .before .before .before .before .before .args .size) (portOf (c .before .before .before .before .before .before .before .args .mem .now) (c .before .before .before .before .before .before .before .args .i) 0)) (rw (c .before .before .before .before .port-of .ensures) at (c .before .before .token-of .ensures))) ∙ c .if1 .taken) (moves-idle (c .before .before .before .before .before .before .before .args .mem .now) (c .before .before .before .before .before .before .before .args .size) (c .before .before .before .before .before .before .before .args .i) (c .before .before .before .before .before .before .before .args .dry))
+returns c = rw (sym (c .before .is-absent .ensures (tokenFrom (c .before .before .before .before .before .before .before .args .mem .now) (c .before .before .before .before .before .before .before .args .base) (c .before .before .before .before .before .before .before .args .size) (portOf (c .before .before .before .before .before .before .before .args .mem .now) (c .before .before .before .before .before .before .before .args .i) 0)) (rw (c .before .before .before .before .port-of .ensures) at (c .before .before .token-of .ensures))) ∙ c .if1 .taken) (moves-idle (c .before .before .before .before .before .before .before .args .mem .now) (c .before .before .before .before .before .before .before .args .base) (c .before .before .before .before .before .before .before .args .size) (c .before .before .before .before .before .before .before .args .i) (c .before .before .before .before .before .before .before .args .dry))
 
--- src/lib.rt:224:9  } ⏎ let word = machine_gates::applied_to(code, a, ERR);
+-- src/lib.rt:58:9  } ⏎ let word = machine_gates::applied_to(code, a, ERR);
 applied-to-requires : tie.Need-applied-to-requires
 applied-to-requires c κs = search needs
 
--- src/lib.rt:225:5  let word = machine_gates::applied_to(code, a, ERR); ⏎ give_one(mem, size, i, first, NOWHERE, word, dry)
+-- src/lib.rt:59:5  let word = machine_gates::applied_to(code, a, ERR); ⏎ give_one(mem, base, size, i, first, NOWHERE, word, dry)
 give-one-requires : tie.Need-give-one-requires
-give-one-requires c κs = search needs
+give-one-requires c κs = c .before .before .before .before .before .before .before .before .before .pre
 
--- src/lib.rt:215:1  // "10 and 11 take one operand, the rest two." ⏎ fn unary(mem: &mut [u8], size: usize, i: usize, code: u8, dry: bool) -> bool
+-- src/lib.rt:49:1  // "10 and 11 take one operand, the rest two." ⏎ fn unary(mem: &mut [u8], base: usize, size: usize, i: usize, code: u8, dry: bool) -> bool
 same-length-2 : tie.Need-same-length-2
 same-length-2 c = search needs
 
--- src/lib.rt:215:1  // "10 and 11 take one operand, the rest two." ⏎ fn unary(mem: &mut [u8], size: usize, i: usize, code: u8, dry: bool) -> bool
+-- src/lib.rt:49:1  // "10 and 11 take one operand, the rest two." ⏎ fn unary(mem: &mut [u8], base: usize, size: usize, i: usize, code: u8, dry: bool) -> bool
 returns-2 : tie.Need-returns-2
 unfolding unaryBy valueOf
 returns-2 c =
-    let e = (sym (c .before .before .before .before .before .before .is-absent .ensures (tokenAt (c .before .before .before .before .before .before .before .before .before .before .before .before .args .mem .now) (c .before .before .before .before .before .before .before .before .before .before .before .before .args .size) (portOf (c .before .before .before .before .before .before .before .before .before .before .before .before .args .mem .now) (c .before .before .before .before .before .before .before .before .before .before .before .before .args .i) 0)) (rw (c .before .before .before .before .before .before .before .before .before .port-of .ensures) at (c .before .before .before .before .before .before .before .token-of .ensures))) ∙ c .before .before .before .before .before .if1 .left) in
-    let w : c .before .before .before .before .applied-to .result ≡ wordOr (applied (c .before .before .before .before .before .before .before .before .before .before .before .before .args .code) (tokenAt (c .before .before .before .before .before .before .before .before .before .before .before .before .args .mem .now) (c .before .before .before .before .before .before .before .before .before .before .before .before .args .size) (portOf (c .before .before .before .before .before .before .before .before .before .before .before .before .args .mem .now) (c .before .before .before .before .before .before .before .before .before .before .before .before .args .i) 0)) (Valid err-value)) = c .before .before .before .before .applied-to .ensures ∙ rw (again (c .before .before .before .before .before .before .before .before .before .before .before .before .args .mem .now) (c .before .before .before .before .before .before .before .before .before .before .before .before .args .size) _ _ (rw (c .before .before .before .before .before .before .before .before .before .port-of .ensures) at (c .before .before .before .before .before .before .before .token-of .ensures))) refl in
-    rw e (gives-one (c .before .before .before .before .before .before .before .before .before .before .before .before .args .mem .now) (c .before .before .give-one .last .0) (c .before .before .before .before .before .before .before .before .before .before .before .before .args .size) (c .before .before .before .before .before .before .before .before .before .before .before .before .args .i) (c .before .before .before .before .before .before .before .before .before .before .before .before .args .dry) (c .before .before .give-one .result) true false false refl (applied (c .before .before .before .before .before .before .before .before .before .before .before .before .args .code) (tokenAt (c .before .before .before .before .before .before .before .before .before .before .before .before .args .mem .now) (c .before .before .before .before .before .before .before .before .before .before .before .before .args .size) (portOf (c .before .before .before .before .before .before .before .before .before .before .before .before .args .mem .now) (c .before .before .before .before .before .before .before .before .before .before .before .before .args .i) 0)) (Valid err-value)) (registerOf (c .before .before .before .before .before .before .before .before .before .before .before .before .args .mem .now) (c .before .before .before .before .before .before .before .before .before .before .before .before .args .i)) (applied-there (c .before .before .before .before .before .before .before .before .before .before .before .before .args .code) (tokenAt (c .before .before .before .before .before .before .before .before .before .before .before .before .args .mem .now) (c .before .before .before .before .before .before .before .before .before .before .before .before .args .size) (portOf (c .before .before .before .before .before .before .before .before .before .before .before .before .args .mem .now) (c .before .before .before .before .before .before .before .before .before .before .before .before .args .i) 0)) (Valid err-value) e refl) (rw (c .before .before .before .before .before .before .before .before .before .port-of .ensures, w) at (c .before .before .give-one .ensures)))
+    let e = (sym (c .before .before .before .before .before .before .is-absent .ensures (tokenFrom (c .before .before .before .before .before .before .before .before .before .before .before .before .args .mem .now) (c .before .before .before .before .before .before .before .before .before .before .before .before .args .base) (c .before .before .before .before .before .before .before .before .before .before .before .before .args .size) (portOf (c .before .before .before .before .before .before .before .before .before .before .before .before .args .mem .now) (c .before .before .before .before .before .before .before .before .before .before .before .before .args .i) 0)) (rw (c .before .before .before .before .before .before .before .before .before .port-of .ensures) at (c .before .before .before .before .before .before .before .token-of .ensures))) ∙ c .before .before .before .before .before .if1 .left) in
+    let w : c .before .before .before .before .applied-to .result ≡ wordOr (applied (c .before .before .before .before .before .before .before .before .before .before .before .before .args .code) (tokenFrom (c .before .before .before .before .before .before .before .before .before .before .before .before .args .mem .now) (c .before .before .before .before .before .before .before .before .before .before .before .before .args .base) (c .before .before .before .before .before .before .before .before .before .before .before .before .args .size) (portOf (c .before .before .before .before .before .before .before .before .before .before .before .before .args .mem .now) (c .before .before .before .before .before .before .before .before .before .before .before .before .args .i) 0)) (Valid err-value)) = c .before .before .before .before .applied-to .ensures ∙ rw (again (c .before .before .before .before .before .before .before .before .before .before .before .before .args .mem .now) (c .before .before .before .before .before .before .before .before .before .before .before .before .args .base) (c .before .before .before .before .before .before .before .before .before .before .before .before .args .size) _ _ (rw (c .before .before .before .before .before .before .before .before .before .port-of .ensures) at (c .before .before .before .before .before .before .before .token-of .ensures))) refl in
+    rw e (gives-one (c .before .before .before .before .before .before .before .before .before .before .before .before .args .mem .now) (c .before .before .give-one .last .0) (c .before .before .before .before .before .before .before .before .before .before .before .before .args .base) (c .before .before .before .before .before .before .before .before .before .before .before .before .args .size) (c .before .before .before .before .before .before .before .before .before .before .before .before .args .i) (c .before .before .before .before .before .before .before .before .before .before .before .before .args .dry) (c .before .before .give-one .result) true false false refl (applied (c .before .before .before .before .before .before .before .before .before .before .before .before .args .code) (tokenFrom (c .before .before .before .before .before .before .before .before .before .before .before .before .args .mem .now) (c .before .before .before .before .before .before .before .before .before .before .before .before .args .base) (c .before .before .before .before .before .before .before .before .before .before .before .before .args .size) (portOf (c .before .before .before .before .before .before .before .before .before .before .before .before .args .mem .now) (c .before .before .before .before .before .before .before .before .before .before .before .before .args .i) 0)) (Valid err-value)) (registerOf (c .before .before .before .before .before .before .before .before .before .before .before .before .args .mem .now) (c .before .before .before .before .before .before .before .before .before .before .before .before .args .i)) (applied-there (c .before .before .before .before .before .before .before .before .before .before .before .before .args .code) (tokenFrom (c .before .before .before .before .before .before .before .before .before .before .before .before .args .mem .now) (c .before .before .before .before .before .before .before .before .before .before .before .before .args .base) (c .before .before .before .before .before .before .before .before .before .before .before .before .args .size) (portOf (c .before .before .before .before .before .before .before .before .before .before .before .before .args .mem .now) (c .before .before .before .before .before .before .before .before .before .before .before .before .args .i) 0)) (Valid err-value) e refl) (rw (c .before .before .before .before .before .before .before .before .before .port-of .ensures, w) at (c .before .before .give-one .ensures)))
 
 pub unary-spec : {M : Type 1} → statement M
 unary-spec =

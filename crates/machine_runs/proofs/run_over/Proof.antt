@@ -10,39 +10,39 @@ use Rattle.machine_marks.proofs.fill_users.Reads as fill-users-reads
 use Rattle.machine_runs.proofs.run_marked.Reads as run-marked-reads
 use Rattle.machine_runs.proofs.run_plain.Reads as run-plain-reads
 
--- src/lib.rt:176:8  { ⏎ if machine_marks::fill_users(mem, n, users) {
+-- src/lib.rt:221:8  { ⏎ if machine_marks::fill_users(mem, n, users) {
 fill-users-requires : tie.Need-fill-users-requires
 fill-users-requires c κs = search needs
 
--- src/lib.rt:177:9  if machine_marks::fill_users(mem, n, users) { ⏎ return run_marked(mem, size, n, budget, users);
+-- src/lib.rt:222:9  if machine_marks::fill_users(mem, n, users) { ⏎ return run_marked(mem, base, size, n, budget, users);
 run-marked-requires : tie.Need-run-marked-requires
-run-marked-requires c κs = (omega arith, omega arith, omega arith, omega arith, c .before .before .before .before .before .fill-users .ensures .1 (c .before .before .if1 .taken))
+run-marked-requires c κs = (omega arith, omega arith, omega arith, omega arith, omega arith, c .before .before .before .before .before .fill-users .ensures .1 (c .before .before .if1 .taken))
 
--- src/lib.rt:177:9  if machine_marks::fill_users(mem, n, users) { ⏎ return run_marked(mem, size, n, budget, users);
+-- src/lib.rt:222:9  if machine_marks::fill_users(mem, n, users) { ⏎ return run_marked(mem, base, size, n, budget, users);
 same-length : tie.Need-same-length
 same-length c = search needs
 
--- src/lib.rt:177:9  if machine_marks::fill_users(mem, n, users) { ⏎ return run_marked(mem, size, n, budget, users);
+-- src/lib.rt:222:9  if machine_marks::fill_users(mem, n, users) { ⏎ return run_marked(mem, base, size, n, budget, users);
 same-length-2 : tie.Need-same-length-2
 same-length-2 c = search needs
 
--- src/lib.rt:177:9  if machine_marks::fill_users(mem, n, users) { ⏎ return run_marked(mem, size, n, budget, users);
+-- src/lib.rt:222:9  if machine_marks::fill_users(mem, n, users) { ⏎ return run_marked(mem, base, size, n, budget, users);
 returns : tie.Need-returns
 returns c = search needs
 
--- src/lib.rt:179:5  } ⏎ run_plain(mem, size, n, budget)
+-- src/lib.rt:224:5  } ⏎ run_plain(mem, base, size, n, budget)
 run-plain-requires : tie.Need-run-plain-requires
 run-plain-requires c κs = search needs
 
--- src/lib.rt:172:1  // The run over a lent table, all its places free; the plain one where the links do not fit it. ⏎ fn run_over(mem: &mut [u8], size: usize, n: usize, budget: u32, users: &mut [u16]) -> u32
+-- src/lib.rt:210:1  // The run over a lent table, all its places free; the plain one where the links do not fit it. ⏎ fn run_over(
 same-length-3 : tie.Need-same-length-3
 same-length-3 c = search needs
 
--- src/lib.rt:172:1  // The run over a lent table, all its places free; the plain one where the links do not fit it. ⏎ fn run_over(mem: &mut [u8], size: usize, n: usize, budget: u32, users: &mut [u16]) -> u32
+-- src/lib.rt:210:1  // The run over a lent table, all its places free; the plain one where the links do not fit it. ⏎ fn run_over(
 same-length-4 : tie.Need-same-length-4
 same-length-4 c = search needs
 
--- src/lib.rt:172:1  // The run over a lent table, all its places free; the plain one where the links do not fit it. ⏎ fn run_over(mem: &mut [u8], size: usize, n: usize, budget: u32, users: &mut [u16]) -> u32
+-- src/lib.rt:210:1  // The run over a lent table, all its places free; the plain one where the links do not fit it. ⏎ fn run_over(
 returns-2 : tie.Need-returns-2
 returns-2 c = search needs
 

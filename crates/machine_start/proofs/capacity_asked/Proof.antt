@@ -10,17 +10,17 @@ use mathlib.Core.Path.{_≡_, refl}
 use borrow.Author.Tests.{le-leb, lt-leb}
 use Rattle.machine_layout.specs.Layout.{capacityIn}
 
--- src/lib.rt:51:9  if capacity < 1 { ⏎ return 1;
+-- src/lib.rt:52:9  if capacity < 1 { ⏎ return 1;
 returns : tie.Need-returns
 unfolding capacityIn
 returns c = (simp (lt-leb 1 (c .before .args .capacity) (omega arith)), omega arith, omega arith)
 
--- src/lib.rt:54:9  if 16 < capacity { ⏎ return 1;
+-- src/lib.rt:55:9  if 16 < capacity { ⏎ return 1;
 returns-2 : tie.Need-returns-2
 unfolding capacityIn
 returns-2 c = (simp (le-leb 1 (c .before .before .args .capacity) (omega arith), lt-leb (c .before .before .args .capacity) 16 (omega arith)), omega arith, omega arith)
 
--- src/lib.rt:47:1  // The capacity by which the need is reckoned: 1 where the one asked is outside 1..16. ⏎ fn capacity_asked(capacity: u32) -> usize
+-- src/lib.rt:48:1  // The capacity by which the need is reckoned: 1 where the one asked is outside 1..16. ⏎ pub fn capacity_asked(capacity: u32) -> usize
 returns-3 : tie.Need-returns-3
 unfolding capacityIn
 returns-3 c = (simp (le-leb 1 (c .before .before .args .capacity) (omega arith), le-leb (c .before .before .args .capacity) 16 (omega arith)), omega arith, omega arith)

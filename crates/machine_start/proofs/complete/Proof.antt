@@ -16,75 +16,75 @@ use Rattle.machine_layout.specs.Layout.{sizeOf}
 use Rattle.machine_start.specs.Start.{figured, named, lettered, emptied}
 use Rattle.machine_start.specs.Completed.{inputNames, resultNames, completed, input-name-count, result-name-count}
 
--- src/lib.rt:132:9  mem, ⏎ capacity as u8,
+-- src/lib.rt:133:9  mem, ⏎ capacity as u8,
 cast-store-figures : tie.Need-cast-store-figures
 cast-store-figures c = search needs
 
--- src/lib.rt:133:9  capacity as u8, ⏎ made.operators as u16,
+-- src/lib.rt:134:9  capacity as u8, ⏎ made.operators as u16,
 cast-store-figures-2 : tie.Need-cast-store-figures-2
 cast-store-figures-2 c = let m = c .before .before .before .before .before .before .pre .2 .operators in omega arith
 
--- src/lib.rt:135:9  links, ⏎ inputs as u8,
+-- src/lib.rt:136:9  links, ⏎ inputs as u8,
 cast-store-figures-3 : tie.Need-cast-store-figures-3
 cast-store-figures-3 c = let m = c .before .before .before .before .before .before .pre .2 .inputs in omega arith
 
--- src/lib.rt:136:9  inputs as u8, ⏎ results as u8,
+-- src/lib.rt:137:9  inputs as u8, ⏎ results as u8,
 cast-store-figures-4 : tie.Need-cast-store-figures-4
 cast-store-figures-4 c = let m = c .before .before .before .before .before .before .pre .2 .results in omega arith
 
--- src/lib.rt:130:5  let result_links = made.result_links; ⏎ store_figures(
+-- src/lib.rt:131:5  let result_links = made.result_links; ⏎ store_figures(
 store-figures-requires : tie.Need-store-figures-requires
 store-figures-requires c κs = search needs
 
--- src/lib.rt:139:26  ); ⏎ store_names(mem, 10, &input_links[..inputs]);
+-- src/lib.rt:140:26  ); ⏎ store_names(mem, 10, &input_links[..inputs]);
 array-share-prefix-input-links : tie.Need-array-share-prefix-input-links
 array-share-prefix-input-links c = omega (arith, c .before .before .before .before .before .before .before .before .before .before .pre .2 .inputs, c .before .before .before .before .before .before .before .before .before .before .pre .2 .input-places)
 
--- src/lib.rt:139:26  ); ⏎ store_names(mem, 10, &input_links[..inputs]);
+-- src/lib.rt:140:26  ); ⏎ store_names(mem, 10, &input_links[..inputs]);
 slice-aggregate-store-names : tie.Need-slice-aggregate-store-names
 slice-aggregate-store-names c = sym (input-name-count (c .before .before .before .before .before .before .before .before .before .before .before .args .made) (c .before .before .before .before .before .before .before .before .before .before .before .pre .2))
 
--- src/lib.rt:139:5  ); ⏎ store_names(mem, 10, &input_links[..inputs]);
+-- src/lib.rt:140:5  ); ⏎ store_names(mem, 10, &input_links[..inputs]);
 store-names-requires : tie.Need-store-names-requires
 store-names-requires c κs = let n = input-name-count (c .before .before .before .before .before .before .before .before .before .before .before .args .made) (c .before .before .before .before .before .before .before .before .before .before .before .pre .2) in omega (arith, c .before .before .before .mem .given, c .before .before .before .before .before .before .before .before .before .before .before .pre .2 .inputs)
 
--- src/lib.rt:140:26  store_names(mem, 10, &input_links[..inputs]); ⏎ store_names(mem, 74, &result_links[..results]);
+-- src/lib.rt:141:26  store_names(mem, 10, &input_links[..inputs]); ⏎ store_names(mem, 74, &result_links[..results]);
 array-share-prefix-result-links : tie.Need-array-share-prefix-result-links
 array-share-prefix-result-links c = omega (arith, c .before .before .before .before .before .before .before .before .before .before .before .before .before .before .before .pre .2 .results, c .before .before .before .before .before .before .before .before .before .before .before .before .before .before .before .pre .2 .result-places)
 
--- src/lib.rt:140:26  store_names(mem, 10, &input_links[..inputs]); ⏎ store_names(mem, 74, &result_links[..results]);
+-- src/lib.rt:141:26  store_names(mem, 10, &input_links[..inputs]); ⏎ store_names(mem, 74, &result_links[..results]);
 slice-aggregate-store-names-2 : tie.Need-slice-aggregate-store-names-2
 slice-aggregate-store-names-2 c = sym (result-name-count (c .before .before .before .before .before .before .before .before .before .before .before .before .before .before .before .before .args .made) (c .before .before .before .before .before .before .before .before .before .before .before .before .before .before .before .before .pre .2))
 
--- src/lib.rt:140:5  store_names(mem, 10, &input_links[..inputs]); ⏎ store_names(mem, 74, &result_links[..results]);
+-- src/lib.rt:141:5  store_names(mem, 10, &input_links[..inputs]); ⏎ store_names(mem, 74, &result_links[..results]);
 store-names-requires-2 : tie.Need-store-names-requires-2
 store-names-requires-2 c κs = let n = result-name-count (c .before .before .before .before .before .before .before .before .before .before .before .before .before .before .before .before .args .made) (c .before .before .before .before .before .before .before .before .before .before .before .before .before .before .before .before .pre .2) in omega (arith, c .before .before .before .before .before .before .before .before .mem .given, c .before .before .before .mem2 .given, c .before .before .before .before .before .before .before .before .before .before .before .before .before .before .before .before .pre .2 .results)
 
--- src/lib.rt:141:5  store_names(mem, 74, &result_links[..results]); ⏎ store_kinds(mem, kinds);
+-- src/lib.rt:142:5  store_names(mem, 74, &result_links[..results]); ⏎ store_kinds(mem, kinds);
 store-kinds-requires : tie.Need-store-kinds-requires
 store-kinds-requires c κs = (c .before .before .before .before .before .before .before .before .before .before .before .before .before .before .before .before .before .before .before .before .pre .3, omega (arith, c .before .before .before .before .before .before .before .before .before .before .before .before .before .before .before .before .before .before .before .before .pre .1, c .before .before .before .before .before .before .before .before .before .before .before .before .mem .given, c .before .before .before .before .before .before .before .mem2 .given, c .before .before .mem3 .given))
 
--- src/lib.rt:142:22  store_kinds(mem, kinds); ⏎ empty_links(mem, 5 * capacity + 1, links as usize);
+-- src/lib.rt:143:22  store_kinds(mem, kinds); ⏎ empty_links(mem, 5 * capacity + 1, links as usize);
 mul-empty-links : tie.Need-mul-empty-links
 mul-empty-links c = search needs
 
--- src/lib.rt:142:22  store_kinds(mem, kinds); ⏎ empty_links(mem, 5 * capacity + 1, links as usize);
+-- src/lib.rt:143:22  store_kinds(mem, kinds); ⏎ empty_links(mem, 5 * capacity + 1, links as usize);
 add-empty-links : tie.Need-add-empty-links
 add-empty-links c = search needs
 
--- src/lib.rt:142:40  store_kinds(mem, kinds); ⏎ empty_links(mem, 5 * capacity + 1, links as usize);
+-- src/lib.rt:143:40  store_kinds(mem, kinds); ⏎ empty_links(mem, 5 * capacity + 1, links as usize);
 cast-empty-links : tie.Need-cast-empty-links
 cast-empty-links c = search needs
 
--- src/lib.rt:142:5  store_kinds(mem, kinds); ⏎ empty_links(mem, 5 * capacity + 1, links as usize);
+-- src/lib.rt:143:5  store_kinds(mem, kinds); ⏎ empty_links(mem, 5 * capacity + 1, links as usize);
 empty-links-requires : tie.Need-empty-links-requires
 empty-links-requires c κs = search needs
 
--- src/lib.rt:121:1  // Writes the header of what was made, with its inputs' kinds, and empties its links. ⏎ fn complete(mem: &mut [u8], capacity: usize, made: Making, kinds: &[u8])
+-- src/lib.rt:122:1  // Writes the header of what was made, with its inputs' kinds, and empties its links. ⏎ fn complete(mem: &mut [u8], capacity: usize, made: Making, kinds: &[u8])
 same-length : tie.Need-same-length
 same-length c = search needs
 
--- src/lib.rt:121:1  // Writes the header of what was made, with its inputs' kinds, and empties its links. ⏎ fn complete(mem: &mut [u8], capacity: usize, made: Making, kinds: &[u8])
+-- src/lib.rt:122:1  // Writes the header of what was made, with its inputs' kinds, and empties its links. ⏎ fn complete(mem: &mut [u8], capacity: usize, made: Making, kinds: &[u8])
 returns : tie.Need-returns
 unfolding completed
 returns c =

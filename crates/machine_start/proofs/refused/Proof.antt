@@ -6,11 +6,11 @@ use Rattle.machine_start.proofs.refused.Lts as lts
 use Rattle.formula.proofs.refusal_number.Reads as refusal-number-reads
 use mathlib.Core.Path.{_≡_, refl}
 
--- src/lib.rt:38:18  StartAnswer { ⏎ refusal: formula::refusal_number(r),
+-- src/lib.rt:39:18  StartAnswer { ⏎ refusal: formula::refusal_number(r),
 refusal-number-requires : tie.Need-refusal-number-requires
 refusal-number-requires c κs = search needs
 
--- src/lib.rt:34:1  } ⏎ fn refused(r: Refusal, row: u32) -> StartAnswer
+-- src/lib.rt:35:1  } ⏎ fn refused(r: Refusal, row: u32) -> StartAnswer
 returns : tie.Need-returns
 returns c = rw (c .refusal-number .ensures) refl
 

@@ -48,7 +48,7 @@ loop-again c = (omega arith, below-step (c .before .before .before .loop .i) (op
 returns : tie.Need-returns Inv-loop μ-loop
 returns c = sym (below-fail (c .before .before .before .before .before .before .args .n) (operatorOk (c .before .before .before .before .before .before .args .mem .now)) (c .before .before .before .loop .i) (omega arith) (sym (c .before .operator-ok .ensures) ∙ c .if1 .left))
 
--- src/lib.rt:364:1  } ⏎ fn operators_ok(mem: &[u8], n: usize) -> bool
+-- src/lib.rt:364:1  } ⏎ pub fn operators_ok(mem: &[u8], n: usize) -> bool
 returns-2 : tie.Need-returns-2 Inv-loop μ-loop
 returns-2 c = let e : c .before .loop .i ≡ (c .before .before .before .before .args .n) = omega arith in sym (rw e at (c .before .loop .inv .1))
 

@@ -1,0 +1,4 @@
+pub mod Planes
+pub mod PlaneBytes
+pub mod PlaneFirings
+pub mod PlaneOthers
