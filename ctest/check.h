@@ -42,6 +42,16 @@ struct sheet {
     const char *rows, *kinds;
 };
 
+/* The rows of "for x2 = x1 do if x2 then iter x2 else x0", which loops without end where x1 is true. The loop is row 7. */
+#define LOOP_ROWS \
+    "     1     1     0     0     0\n" \
+    "     1     2     0     0     0\n" \
+    "     1     2     0     0     0\n" \
+    "     9     3     0     0     0\n" \
+    "     1     0     0     0     0\n" \
+    "     7     2     4     5     0\n" \
+    "     8     2     1     1     6\n"
+
 /* "if x0 < x1 then x0 else x1": the lesser of two. */
 static const struct sheet lesser_of_two = {
     "     1     0     0     0     0\n"

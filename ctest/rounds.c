@@ -11,13 +11,7 @@ _Static_assert(sizeof(bench_rounds_answer) == 16 && offsetof(bench_rounds_answer
 
 /* "-(-(for x2 = x1 do if x2 then iter x2 else x0))": loops without end where x1 is true. Behind the loop are operators of higher numbers. */
 static const struct sheet loop = {
-    "     1     1     0     0     0\n"
-    "     1     2     0     0     0\n"
-    "     1     2     0     0     0\n"
-    "     9     3     0     0     0\n"
-    "     1     0     0     0     0\n"
-    "     7     2     4     5     0\n"
-    "     8     2     1     1     6\n"
+    LOOP_ROWS
     "     5    11     7     0     0\n"
     "     5    11     8     0     0\n",
     "WT\n"};

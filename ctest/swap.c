@@ -6,13 +6,7 @@
 
 /* "let x4 = (for x2 = x1 do if x2 then iter x2 else x0) in if x3 then x0 else x4": loops without end where x1 is true, and gives x0 without waiting where x3 is. */
 static const struct sheet beside_loop = {
-    "     1     1     0     0     0\n"
-    "     1     2     0     0     0\n"
-    "     1     2     0     0     0\n"
-    "     9     3     0     0     0\n"
-    "     1     0     0     0     0\n"
-    "     7     2     4     5     0\n"
-    "     8     2     1     1     6\n"
+    LOOP_ROWS
     "     1     3     0     0     0\n"
     "     1     0     0     0     0\n"
     "     1     4     0     0     0\n"
