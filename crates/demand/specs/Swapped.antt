@@ -1,6 +1,7 @@
 -- SEVERAL SETS SWAPPED AT ONCE (document 02, Job 11), on real memory: two runs of one sheet whose sets differ only at a group of positions have the same result at
 -- every position outside the group that was taken in both (`swapped`), since a set whose evaluation ends has one result, in whatever run and wherever it was
--- pushed (`same-result`). Rests on the claim beside demand 3 (Alone). Assumes the two accepted starts, and that evaluation ends outside the group.
+-- pushed (`same-result`). Rests on the claim beside demand 3 (Alone). Assumes the two accepted starts, and outside the group the same sets, whose
+-- evaluation ends.
 use Prim.Native.Nat.{ℕ, _<_}
 use mathlib.Core.Path.{_≡_, refl, sym, ap, subst, _∙_}
 use mathlib.Core.Bool.{Bool, true, false}

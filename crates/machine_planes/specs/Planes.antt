@@ -1,6 +1,6 @@
 -- The planes of a memory with tags. The links of each of sixteen tags lie in a plane of their own behind the header, the operators and the registers, which
 -- stand once; a link of a plane is a stretch with one place, so that a slot is a queue of capacity 1. A tag's plane with what stands once is a machine's memory at capacity 1
--- (`planeOf`): what a call does under a tag is what the machine's own call does there. Assumes nothing.
+-- (`planeOf`): what a firing does under a tag is what the machine's own does there (PlaneFirings.antt). Assumes nothing.
 use Prim.Native.Nat.{ℕ, _+_, _*_}
 use mathlib.Core.List.{List, _++_}
 use lib.ListN.{getD, take, set}
