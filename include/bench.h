@@ -4,7 +4,8 @@
  * A formula sheet is read (bench_read), evaluated directly (bench_evaluate), or started as a machine on memory that the caller lends
  * (bench_start) and then driven by pushes, firings, runs and takes. A sheet with rows that its formula no longer uses is tidied first (bench_tidy).
  * How far a formula's results can move where its inputs move within tolerances is told by bench_drift. All small sheets, for the factory, are written one after another
- * by bench_next. The log of a bench that drives such machines in its own order is checked by following it (bench_check_log). No call keeps anything but what
+ * by bench_next. The log of a bench that drives such machines in its own order is checked by following it (bench_check_log). A second machine, for sheets
+ * without for, lets quick sets overtake slow ones (bench_tagged_start and the calls behind it). No call keeps anything but what
  * stands in that memory and in the tally: there is no heap and no global. Every call always returns, for any bytes and any numbers.
  *
  * Lent memory. A pointer goes with its length in bytes; a length of 0 goes with any pointer, NULL included. The stretches lent to one
@@ -19,7 +20,7 @@
  *
  * Tally. Each call on a machine, bench_start too, is lent a record as well, a bench_tally, and updates it in place: what firmware shows at its
  * service hatch. The pointer must not be NULL, the record must not overlap the stretches lent beside it, and nothing else may write it during the
- * call. Any numbers may stand in it. A log's check has none: the lines that it follows are another bench's.
+ * call. Any numbers may stand in it. A log's check has none: the lines that it follows are another bench's. Nor has a machine with tags.
  *
  * Values. A value is BENCH_VALUE_BYTES bytes: a tag (BENCH_WHOLE, BENCH_TRUTH, BENCH_ERR or BENCH_REAL) and four bytes, lowest first: a whole
  * number as int32_t, a truth as 0 or 1, an err as its reason, one of BENCH_ERR_... below, a float as its bits, a finite IEEE 754 binary32. Nothing
@@ -82,6 +83,7 @@ enum {
     BENCH_LOG_REFUSED = 16, /* a log's line that the machine would refuse */
     BENCH_KINDS_LINE = 17,  /* a kinds line of another length, or with another letter */
     BENCH_KINDS = 18,       /* a row that breaks the kinds: an operator or test of another kind, arms or loop rounds that do not agree */
+    BENCH_LOOP = 19,        /* a sheet with a for, for a machine with tags */
     BENCH_SORT = 20,        /* a row that drift cannot be told for, or with a value not of kind W */
     BENCH_MOVEMENT = 21,    /* tolerances not as many as the inputs, one out of range, or a row's movement past 2,147,483,647 */
     BENCH_UNLISTED = 22,    /* a given sheet that is neither empty nor a small one */
@@ -89,12 +91,15 @@ enum {
 
     /* Said of how the machine stands. */
     BENCH_ALTERED = 31,     /* a stored figure, letter or token outside its range, or a link named twice by one operator, the inputs or the results;
-                               never given where only these calls wrote since an accepted bench_start, or since the start within bench_check_log */
+                               never given where only these calls wrote since an accepted bench_start, or since the start within bench_check_log;
+                               of a machine with tags where only its calls wrote since an accepted bench_tagged_start */
     BENCH_UNTAKEN = 32,     /* sixteen sets untaken */
     BENCH_FULL = 33,        /* an input link, or the trigger's, full */
-    BENCH_NOT_ABLE = 34,    /* the operator is absent or not able to fire */
+    BENCH_NOT_ABLE = 34,    /* the operator is absent or not able to fire; of a machine with tags also where the tag is absent */
     BENCH_NO_RESULT = 35,   /* a result port empty, or no set untaken */
-    BENCH_UNFINISHED = 36   /* run: something can still fire after the lent firings or rounds; evaluation: more rounds needed than lent */
+    BENCH_UNFINISHED = 36,  /* run: something can still fire after the lent firings or rounds; evaluation: more rounds needed than lent */
+    BENCH_NO_TAG = 37,      /* no tag is free */
+    BENCH_NO_TAG_RESULT = 38 /* the tag is absent or has no whole result */
 };
 
 /* A sheet's rows: how many bytes one has. */
@@ -115,6 +120,10 @@ enum {
 
 /* What a machine needs at a capacity of 1 to 16: 40,390 bytes at 1, 55,915 at 2, 15,525 more for each further place. */
 #define BENCH_MACHINE_BYTES(capacity) ((size_t)21760 + 3105 * (5 * (size_t)(capacity) + 1))
+
+/* What a machine with tags needs, and how many tags it has: 0 to 15. */
+#define BENCH_TAGGED_BYTES ((size_t)319856)
+#define BENCH_TAGS 16
 
 /* A log's lines: how many bytes one has, and how many there may be. */
 #define BENCH_LOG_LINE_BYTES 13
@@ -167,7 +176,7 @@ typedef struct {
 
 typedef struct {
     uint32_t refusal;
-    uint32_t count; /* a run's firings, a taken result set's width, a tray's sets that went in, else 0 */
+    uint32_t count; /* a run's firings, a taken result set's width, a tray's sets that went in, the tag of a set pushed with one, else 0 */
 } bench_answer;
 
 typedef struct {
@@ -304,6 +313,43 @@ bench_answer bench_take(uint8_t *memory, size_t memory_bytes, uint8_t *out, size
 bench_log_answer bench_check_log(const uint8_t *sheet, size_t sheet_bytes, const uint8_t *kinds, size_t kinds_bytes, uint32_t capacity,
                                  const uint8_t *sets, size_t sets_bytes, uint32_t number, const uint8_t *log, size_t log_bytes,
                                  uint8_t *memory, size_t memory_bytes, uint8_t *out, size_t out_bytes);
+
+/*
+ * The machine with tags, for sheets without for: quick sets overtake slow ones. A set that is pushed gets the lowest free tag, 0 to 15, and its tokens carry
+ * it; a link holds one token of each tag. Each taken result is that of the set last pushed under its tag, and when nothing can fire every tag is free or has
+ * its whole result. A tag is free again as soon as, and not before, its result is taken and no token with it is left on any link.
+ *
+ * Starts an empty machine for a sheet with its kinds line in `memory` (any contents). Refusals, in this order: 11 (shorter than BENCH_TAGGED_BYTES), 1 to 9,
+ * 17, 18, 10, 19 (row 0).
+ */
+bench_start_answer bench_tagged_start(const uint8_t *sheet, size_t sheet_bytes, const uint8_t *kinds, size_t kinds_bytes, uint8_t *memory,
+                                      size_t memory_bytes);
+
+/*
+ * The calls on a machine with tags. Each needs BENCH_TAGGED_BYTES, whatever is stored, looks first at that (11) and at all that is stored (31), and then gives
+ * its own refusals. A first machine's memory gets 11 or 31 here, and the memory of a machine with tags 31 from the calls above.
+ */
+
+/*
+ * Gives one value to each input link, and a trigger where the graph has constants, under the lowest free tag, which is the answer's count. Refusals, in this
+ * order: 11, 31, 12, 37.
+ */
+bench_answer bench_tagged_push(uint8_t *memory, size_t memory_bytes, const uint8_t *set, size_t set_bytes);
+
+/* Fires one operator, counted from 0, on the tokens of one tag. Refusals, in this order: 11, 31, 34 (also where the tag is above 15). */
+bench_answer bench_tagged_fire(uint8_t *memory, size_t memory_bytes, uint32_t operator_number, uint32_t tag);
+
+/*
+ * Fires the least-numbered able operator under its lowest able tag again and again, up to `firings` times, and counts. Refusals, in this order: 11, 31; 36
+ * where something can still fire after the lent firings, which are kept.
+ */
+bench_answer bench_tagged_run(uint8_t *memory, size_t memory_bytes, uint32_t firings);
+
+/*
+ * Takes the result set of the set last pushed under a tag: sixteen values into `out`, E past the width, which is the answer's count; bytes of `out` past 80 are
+ * left alone. Refusals, in this order: 11 (also where `out` is shorter than 80 bytes), 31, 38 (also where the tag is above 15).
+ */
+bench_answer bench_tagged_take(uint8_t *memory, size_t memory_bytes, uint32_t tag, uint8_t *out, size_t out_bytes);
 
 #ifdef __cplusplus
 }

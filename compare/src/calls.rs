@@ -4,6 +4,7 @@
 use crate::bytes::{OUT_BYTES, VALUE_BYTES};
 use crate::log::{self, Handed, LogAnswer};
 use crate::memory::{self, Answer, RoundsAnswer, StartAnswer};
+use crate::tag_memory;
 use crate::tally::Tally;
 
 #[derive(Clone, Copy)]
@@ -38,6 +39,37 @@ pub fn product() -> Option<Calls> {
 
 #[cfg(not(feature = "product"))]
 pub fn product() -> Option<Calls> {
+    None
+}
+
+/// The calls on the memory of a machine with tags (document 02, Job 12), which has no record.
+#[derive(Clone, Copy)]
+pub struct TagCalls {
+    pub start: fn(&[u8], &[u8], &mut [u8]) -> StartAnswer,
+    pub push: fn(&mut [u8], &[u8]) -> Answer,
+    pub fire: fn(&mut [u8], u32, u32) -> Answer,
+    pub run: fn(&mut [u8], u32) -> Answer,
+    pub take: fn(&mut [u8], u32, &mut [u8]) -> Answer,
+}
+
+pub const PLAIN_TAGS: TagCalls = TagCalls {
+    start: tag_memory::start,
+    push: tag_memory::push,
+    fire: tag_memory::fire,
+    run: tag_memory::run,
+    take: tag_memory::take,
+};
+
+/// The product's, where it is linked.
+#[cfg(feature = "product")]
+pub fn product_tags() -> Option<TagCalls> {
+    use crate::product::{tagged_fire, tagged_push, tagged_run, tagged_start, tagged_take};
+    let (start, push, fire, run, take) = (tagged_start, tagged_push, tagged_fire, tagged_run, tagged_take);
+    Some(TagCalls { start, push, fire, run, take })
+}
+
+#[cfg(not(feature = "product"))]
+pub fn product_tags() -> Option<TagCalls> {
     None
 }
 

@@ -2,7 +2,7 @@
 // greatest number of operators.
 
 use crate::bytes;
-use crate::random::{heavy_sheet_of_wholes, Made, Rng};
+use crate::random::{heavy_loopless_sheet_of_wholes, heavy_sheet_of_wholes, Made, Rng};
 use crate::sheet::write;
 
 fn made(rows: &[[u32; 5]], kinds: &[u8]) -> Made {
@@ -65,6 +65,15 @@ pub fn scaled() -> Made {
     made(&rows, b"W\n")
 }
 
+/// "let x = ((a + 1) + 1) + 1 in if t then 1 else x", with a, t and x as 0 to 2.
+pub fn slow_sum() -> Made {
+    let one = [2, 1, 0, 0, 0];
+    let sum = |row: u32| [one, [4, row, row + 1, 0, 0], [5, 1, row + 2, 0, 0]];
+    let choice = [[1, 1, 0, 0, 0], one, [1, 2, 0, 0, 0], [7, 11, 12, 13, 0], [6, 2, 1, 10, 14]];
+    let rows = [&[[1, 0, 0, 0, 0]][..], &sum(1), &sum(4), &sum(7), &choice].concat();
+    made(&rows, b"WT\n")
+}
+
 /// A name, negated again and again.
 pub fn negations(rows: u32) -> Made {
     let row = |row| if row == 1 { [1, 0, 0, 0, 0] } else { [5, 11, row - 1, 0, 0] };
@@ -79,8 +88,17 @@ pub fn half_dead(rows: u32) -> Made {
 
 /// A sheet with over 1,000 operators.
 pub fn many_operators(rng: &mut Rng) -> Made {
+    with_many_operators(heavy_sheet_of_wholes, rng)
+}
+
+/// Such a sheet without a for.
+pub fn many_loopless_operators(rng: &mut Rng) -> Made {
+    with_many_operators(heavy_loopless_sheet_of_wholes, rng)
+}
+
+fn with_many_operators(random: fn(&mut Rng) -> Made, rng: &mut Rng) -> Made {
     loop {
-        let made = heavy_sheet_of_wholes(rng);
+        let made = random(rng);
         if bytes::read(&made.bytes, &made.kinds).operators > 1000 {
             return made;
         }

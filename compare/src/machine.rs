@@ -2,7 +2,7 @@
 // Links are queues with a capacity; push, fire, run, a run by rounds (document 02, Job 7) and take give refusals 32 to 36.
 // Memory is never altered from outside here, so refusals 11 and 31 do not arise.
 
-use crate::graph::{Graph, Kind, Link};
+use crate::graph::{Graph, Kind, Link, Operator};
 use crate::sheet::{refuse, Refusal};
 use crate::value::{operate, set_suits, ResultSet, Value};
 
@@ -38,9 +38,9 @@ impl Queue {
 }
 
 /// What an able operator does to its links: the inputs it takes from and the values it emits, by position.
-struct Firing {
-    takes: [bool; 3],
-    emits: [Option<Value>; 3],
+pub struct Firing {
+    pub takes: [bool; 3],
+    pub emits: [Option<Value>; 3],
     /// What an FS remembers from now on.
     remembers: Option<Value>,
 }
@@ -232,27 +232,13 @@ impl<'a> Machine<'a> {
         let operator = self.graph.operators.get(number)?;
         let token = |input: usize| self.queues[operator.inputs[input]].oldest();
         match operator.kind {
-            Kind::Constant(value) => token(0).map(|_| takes_all(value)),
-            Kind::Operator(code) => match operator.inputs.len() {
-                1 => Some(takes_all(operate(code, &[token(0)?]))),
-                _ => Some(takes_all(operate(code, &[token(0)?, token(1)?]))),
-            },
-            Kind::Copy => token(0).map(|value| firing([true, false, false], [Some(value), Some(value), None])),
-            Kind::T => Some(pass_if(token(0)? == Value::Truth(true), token(1)?)),
-            Kind::F => Some(pass_if(token(0)? == Value::Truth(false), token(1)?)),
-            Kind::M => merge(token(0)?, token(1), token(2)),
-            Kind::E => match token(0)? {
-                Value::Truth(_) => Some(emit([true, true, false], token(1)?)),
-                _ => Some(emit([true, false, false], Value::E)),
-            },
-            Kind::IC => join_control(token(0)?, token(1), token(2)),
             Kind::FM if !self.has_fired(number) => Some(emit([false, false, true], token(2)?)),
-            Kind::FM => merge(token(0)?, token(1), token(2)),
             Kind::FS if !self.has_fired(number) => Some(remember([false, true, false], token(1)?)),
             Kind::FS => match token(0)? {
                 Value::Truth(true) => Some(emit([true, false, false], self.memory[number])),
                 _ => Some(remember([true, true, false], token(1)?)),
             },
+            _ => wanted_by(operator, token),
         }
     }
 
@@ -273,6 +259,27 @@ impl<'a> Machine<'a> {
 
     pub fn untaken(&self) -> u32 {
         self.untaken
+    }
+}
+
+/// The firing of an operator for which only the tokens count that wait, if every token listed waits: any but an FS, and an FM after its first firing.
+pub fn wanted_by(operator: &Operator, token: impl Fn(usize) -> Option<Value>) -> Option<Firing> {
+    match operator.kind {
+        Kind::Constant(value) => token(0).map(|_| takes_all(value)),
+        Kind::Operator(code) => match operator.inputs.len() {
+            1 => Some(takes_all(operate(code, &[token(0)?]))),
+            _ => Some(takes_all(operate(code, &[token(0)?, token(1)?]))),
+        },
+        Kind::Copy => token(0).map(|value| firing([true, false, false], [Some(value), Some(value), None])),
+        Kind::T => Some(pass_if(token(0)? == Value::Truth(true), token(1)?)),
+        Kind::F => Some(pass_if(token(0)? == Value::Truth(false), token(1)?)),
+        Kind::M | Kind::FM => merge(token(0)?, token(1), token(2)),
+        Kind::E => match token(0)? {
+            Value::Truth(_) => Some(emit([true, true, false], token(1)?)),
+            _ => Some(emit([true, false, false], Value::E)),
+        },
+        Kind::IC => join_control(token(0)?, token(1), token(2)),
+        Kind::FS => None,
     }
 }
 
@@ -326,7 +333,6 @@ fn join_control(control: Value, yes: Option<Value>, no: Option<Value>) -> Option
 #[cfg(test)]
 mod tests {
     use super::*;
-    use crate::graph::Operator;
     use crate::value::Sort;
     use Value::{Truth, Whole};
 

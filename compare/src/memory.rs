@@ -10,9 +10,9 @@ use crate::value::{operands, operate, Sort, Value};
 
 /// Where the letters of the inputs' kinds stand.
 pub const LETTERS: usize = 106;
-const OPERATORS: usize = 256;
-const REGISTERS: usize = 16_640;
-const LINKS: usize = 21_760;
+pub const OPERATORS: usize = 256;
+pub const REGISTERS: usize = 16_640;
+pub const LINKS: usize = 21_760;
 pub const MOST_OPERATORS: usize = 1_024;
 pub const MOST_LINKS: usize = 3_105;
 pub const NO_LINK: usize = 65_535;
@@ -48,7 +48,7 @@ pub struct StartAnswer {
     pub results: u32,
 }
 
-fn refuse(refusal: u32) -> Answer {
+pub(crate) fn refuse(refusal: u32) -> Answer {
     Answer { refusal, count: 0 }
 }
 
@@ -62,7 +62,7 @@ fn stretch(capacity: usize) -> usize {
     1 + VALUE_BYTES * capacity
 }
 
-fn number(mem: &[u8], at: usize) -> usize {
+pub(crate) fn number(mem: &[u8], at: usize) -> usize {
     usize::from(u16::from_le_bytes([mem[at], mem[at + 1]]))
 }
 
@@ -95,7 +95,13 @@ fn started(sheet: &[u8], kinds: &[u8], capacity: usize, mem: &mut [u8]) -> Resul
 }
 
 fn write_graph(graph: &Graph, capacity: usize, mem: &mut [u8]) {
-    mem[0] = capacity as u8;
+    write_records(graph, capacity as u8, mem);
+    (0..graph.links).for_each(|link| mem[LINKS + link * stretch(capacity)] = 0);
+}
+
+/// All that stands before the links.
+pub(crate) fn write_records(graph: &Graph, first: u8, mem: &mut [u8]) {
+    mem[0] = first;
     write_number(mem, 1, graph.operators.len());
     write_number(mem, 3, graph.links);
     mem[5] = graph.inputs.len() as u8;
@@ -116,7 +122,6 @@ fn write_graph(graph: &Graph, capacity: usize, mem: &mut [u8]) {
         let register = if let Kind::Constant(value) = operator.kind { encode(value) } else { [0; VALUE_BYTES] };
         mem[REGISTERS + 5 * i..REGISTERS + 5 * i + 5].copy_from_slice(&register);
     }
-    (0..graph.links).for_each(|link| mem[LINKS + link * stretch(capacity)] = 0);
 }
 
 fn kind_byte(kind: Kind) -> u8 {
@@ -135,7 +140,7 @@ fn kind_byte(kind: Kind) -> u8 {
 }
 
 /// How many inputs and outputs a kind has.
-fn ports(kind: u8) -> (usize, usize) {
+pub(crate) fn ports(kind: u8) -> (usize, usize) {
     match kind {
         1..=11 => (operands(kind.into()), 1),
         12 => (1, 1),
@@ -168,19 +173,22 @@ fn standing(mem: &[u8]) -> u32 {
 }
 
 fn valid(mem: &[u8]) -> bool {
-    let (capacity, operators, links) = (usize::from(mem[0]), number(mem, 1), number(mem, 3));
-    let (inputs, results, untaken) = (usize::from(mem[5]), usize::from(mem[6]), mem[7]);
-    let in_range = (1..=16).contains(&capacity)
-        && operators <= MOST_OPERATORS
-        && links <= MOST_LINKS
-        && inputs <= 32
-        && (1..=16).contains(&results)
-        && untaken <= 16;
+    let (capacity, untaken, links) = (usize::from(mem[0]), mem[7], number(mem, 3));
+    (1..=16).contains(&capacity)
+        && untaken <= 16
+        && graph_valid(mem)
+        && (0..links).all(|link| link_valid(&mem[LINKS + link * stretch(capacity)..][..stretch(capacity)]))
+}
+
+/// The figures of the graph are within their ranges, and no operator, nor the inputs, nor the results, name a link twice.
+pub(crate) fn graph_valid(mem: &[u8]) -> bool {
+    let (operators, links) = (number(mem, 1), number(mem, 3));
+    let (inputs, results) = (usize::from(mem[5]), usize::from(mem[6]));
+    let in_range = operators <= MOST_OPERATORS && links <= MOST_LINKS && inputs <= 32 && (1..=16).contains(&results);
     in_range
         && (0..inputs).all(|place| stored_sort(mem, place).is_some())
         && (number(mem, 8) < links || number(mem, 8) == NO_LINK)
         && (0..operators).all(|i| operator_valid(mem, i, links))
-        && (0..links).all(|link| link_valid(&mem[LINKS + link * stretch(capacity)..][..stretch(capacity)]))
         && (0..inputs).all(|place| number(mem, 10 + 2 * place) < links)
         && (0..results).all(|place| number(mem, 74 + 2 * place) < links)
         && all_differ(mem, 8, inputs + 1)
@@ -188,7 +196,7 @@ fn valid(mem: &[u8]) -> bool {
 }
 
 /// The kind of an input by its stored letter, none where another byte stands there.
-fn stored_sort(mem: &[u8], place: usize) -> Option<Sort> {
+pub(crate) fn stored_sort(mem: &[u8], place: usize) -> Option<Sort> {
     Sort::of_letter(mem[LETTERS + place])
 }
 
@@ -230,7 +238,7 @@ fn is_constant(value: Value) -> bool {
     }
 }
 
-fn link_valid(stretch: &[u8]) -> bool {
+pub(crate) fn link_valid(stretch: &[u8]) -> bool {
     let waiting = usize::from(stretch[0]);
     VALUE_BYTES * waiting < stretch.len()
         && stretch[1..][..VALUE_BYTES * waiting].chunks_exact(VALUE_BYTES).all(|token| decode(token).is_some())

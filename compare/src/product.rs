@@ -73,6 +73,18 @@ extern "C" {
         out: *mut u8,
         out_len: usize,
     ) -> LogAnswer;
+    fn bench_tagged_start(
+        sheet: *const u8,
+        sheet_len: usize,
+        kinds: *const u8,
+        kinds_len: usize,
+        mem: *mut u8,
+        mem_len: usize,
+    ) -> StartAnswer;
+    fn bench_tagged_push(mem: *mut u8, mem_len: usize, set: *const u8, set_len: usize) -> Answer;
+    fn bench_tagged_fire(mem: *mut u8, mem_len: usize, operator: u32, tag: u32) -> Answer;
+    fn bench_tagged_run(mem: *mut u8, mem_len: usize, firings: u32) -> Answer;
+    fn bench_tagged_take(mem: *mut u8, mem_len: usize, tag: u32, out: *mut u8, out_len: usize) -> Answer;
 }
 
 // In each function the pointers and lengths are slices', a record's pointer is a reference's, and what is written is lent to that call alone.
@@ -169,4 +181,25 @@ pub fn check_log(handed: &Handed<'_>, mem: &mut [u8], out: &mut [u8]) -> LogAnsw
             out.len(),
         )
     }
+}
+
+pub fn tagged_start(sheet: &[u8], kinds: &[u8], mem: &mut [u8]) -> StartAnswer {
+    let (sheet_at, kinds_at) = (sheet.as_ptr(), kinds.as_ptr());
+    unsafe { bench_tagged_start(sheet_at, sheet.len(), kinds_at, kinds.len(), mem.as_mut_ptr(), mem.len()) }
+}
+
+pub fn tagged_push(mem: &mut [u8], set: &[u8]) -> Answer {
+    unsafe { bench_tagged_push(mem.as_mut_ptr(), mem.len(), set.as_ptr(), set.len()) }
+}
+
+pub fn tagged_fire(mem: &mut [u8], operator: u32, tag: u32) -> Answer {
+    unsafe { bench_tagged_fire(mem.as_mut_ptr(), mem.len(), operator, tag) }
+}
+
+pub fn tagged_run(mem: &mut [u8], firings: u32) -> Answer {
+    unsafe { bench_tagged_run(mem.as_mut_ptr(), mem.len(), firings) }
+}
+
+pub fn tagged_take(mem: &mut [u8], tag: u32, out: &mut [u8]) -> Answer {
+    unsafe { bench_tagged_take(mem.as_mut_ptr(), mem.len(), tag, out.as_mut_ptr(), out.len()) }
 }

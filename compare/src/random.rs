@@ -1,6 +1,7 @@
 // Random sheets, sets and bytes for the comparison, from a seed, so that every case can be made again.
 // The generator of numbers is Marsaglia's xorshift with a multiplied output.
 
+pub mod altered;
 pub mod dead;
 pub mod endless;
 pub mod faults;
@@ -12,6 +13,7 @@ pub mod lines;
 pub mod logs;
 pub mod movements;
 pub mod nearly_small;
+pub mod quick;
 pub mod sheets;
 pub mod tree;
 pub mod turns;
@@ -21,8 +23,10 @@ use crate::sheet::Sheet;
 use crate::value::{Sort, Value};
 pub use endless::endless_sheet;
 pub use floats::{random_float, random_pattern};
+pub use quick::quick_sheet;
 pub use sheets::{
-    accepted_sheet, heavy_sheet, heavy_sheet_of_wholes, loose_sheet, renamed_sheet, unkinded_sheet, Made,
+    accepted_sheet, heavy_loopless_sheet, heavy_loopless_sheet_of_wholes, heavy_sheet, heavy_sheet_of_wholes,
+    loopless_sheet, loose_sheet, renamed_sheet, unkinded_sheet, Made,
 };
 
 pub struct Rng(u64);

@@ -8,11 +8,11 @@
 
 use compare::arguments::Cases;
 use compare::bytes::{self, OUT_BYTES, VALUE_BYTES};
-use compare::memory::{self, Answer, RoundsAnswer, GREATEST_CONSTANT, LETTERS, MOST_LINKS};
+use compare::memory::{self, Answer, RoundsAnswer, LETTERS, LINKS};
+use compare::random::altered::alter;
 use compare::random::faults::{plant, PLANTABLE};
 use compare::random::{
-    accepted_sheet, endless_sheet, heavy_sheet, random_err, random_float_bytes, random_pattern, random_set,
-    random_value, Made, Rng,
+    accepted_sheet, endless_sheet, heavy_sheet, random_err, random_float_bytes, random_set, random_value, Made, Rng,
 };
 use compare::sheet::{self, Sheet};
 use compare::tally::Tally;
@@ -287,7 +287,8 @@ impl Run<'_> {
         let alters = rng.chance(40);
         for _ in 0..rng.between(10, 80) {
             if alters && rng.chance(15) {
-                alter(&mut self.mem, length, rng);
+                let size = 1 + VALUE_BYTES * usize::from(self.mem[0]).clamp(1, 16);
+                alter(&mut self.mem[..length], rng, |link, _| LINKS + link * size);
                 self.altered = true;
             }
             if rng.chance(OTHER_RECORDS) {
@@ -615,78 +616,4 @@ fn random_rounds(mem: &[u8], rng: &mut Rng) -> u32 {
     } else {
         MANY_ROUNDS
     }
-}
-
-/// A change of one figure: header, letter, record, register, length or token, to a value about its range.
-fn alter(mem: &mut [u8], length: usize, rng: &mut Rng) {
-    let word = |mem: &[u8], at: usize| usize::from(mem[at]) + 256 * usize::from(mem[at + 1]);
-    let (operators, links) = (word(mem, 1).clamp(1, 1024), word(mem, 3).clamp(1, MOST_LINKS));
-    let size = 1 + VALUE_BYTES * usize::from(mem[0]).clamp(1, 16);
-    let operator = rng.below(operators);
-    // A changed capacity moves the stretches: the last place then stands for one past the end.
-    let link = (21_760 + rng.below(links) * size).min(length - 6);
-    match rng.below(15) {
-        0 => mem[rng.pick(&[0, 5, 6, 7])] = rng.pick(&[0, 1, 2, 15, 16, 17, 31, 32, 33, 255]),
-        1 => write(
-            mem,
-            rng.pick(&[1, 3]),
-            rng.pick(&[0, operators, operators + 1, links, links + 1, links - 1, 1024, 1025, 3105, 3106, 65_535]),
-        ),
-        2 => write(mem, rng.pick(&[8, 10, 12, 74, 76]), rng.pick(&[0, 1, links - 1, links, 65_535])),
-        3 => mem[256 + 16 * operator] = rng.between(0, 22) as u8,
-        4 | 5 => write(
-            mem,
-            256 + 16 * operator + 2 + 2 * rng.below(6),
-            rng.pick(&[rng_link(links, 3), rng_link(links, 7), links, 65_535]),
-        ),
-        6 => mem[16_640 + 5 * operator + rng.below(5)] = rng.pick(&[0, 1, 2, 3, 4, 255]),
-        7 | 8 => mem[link] = rng.pick(&[0, 1, 2, 15, 16, 17, 255]),
-        9 | 10 => {
-            let (err, float) = (random_err(rng), random_float_bytes(rng));
-            let value = rng.pick(&[
-                [1, 5, 0, 0, 0],
-                [2, 0, 0, 0, 0],
-                [2, 1, 0, 0, 0],
-                [2, 2, 0, 0, 0],
-                err,
-                err,
-                float,
-                float,
-                float,
-                [0; 5],
-                [5, 0, 0, 0, 0],
-            ]);
-            mem[link + 1..link + 6].copy_from_slice(&value);
-            mem[link] = mem[link].max(1);
-        }
-        11 => mem[LETTERS + rng.below(usize::from(mem[INPUTS_AT]).clamp(1, 33))] = rng.pick(b"WTRRTTWwrF\0\x01\x02"),
-        12 | 13 => alter_register(mem, operators, rng),
-        _ => mem[rng.below(length)] = rng.number() as u8,
-    }
-}
-
-/// Another value in the register of a constant, an FM or an FS, about the ends of what a constant may be.
-fn alter_register(mem: &mut [u8], operators: usize, rng: &mut Rng) {
-    let holding: Vec<usize> = (0..operators).filter(|i| matches!(mem[256 + 16 * i], 12 | 19 | 20)).collect();
-    if holding.is_empty() {
-        return;
-    }
-    let at = 16_640 + 5 * rng.pick(&holding);
-    let (tag, bits) = match rng.below(8) {
-        0 | 1 => (1, rng.pick(&[0, 1, 999_999, 1_000_000, u32::MAX, 1 << 31])),
-        2 => (2, rng.pick(&[0, 1, 2])),
-        3 => (3, rng.pick(&[0, 1, 2, 3])),
-        4 => (4, random_pattern(rng)),
-        _ => (4, rng.pick(&[0, 1, GREATEST_CONSTANT - 1, GREATEST_CONSTANT, GREATEST_CONSTANT + 1, 1 << 31])),
-    };
-    mem[at] = tag;
-    mem[at + 1..at + VALUE_BYTES].copy_from_slice(&bits.to_le_bytes());
-}
-
-fn rng_link(links: usize, step: usize) -> usize {
-    links * step % 11 * links / 11 % links
-}
-
-fn write(mem: &mut [u8], at: usize, number: usize) {
-    mem[at..at + 2].copy_from_slice(&(number as u16).to_le_bytes());
 }

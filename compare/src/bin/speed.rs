@@ -1,11 +1,14 @@
 // Times the reader, the calls for sheets, the evaluator and the machine's calls here and, with the feature `product`, the product's beside them in the same run.
-// Prints the first three tables of docs/BENCHMARKS.md. The last column of the first is the product's speed over ours: 1.00 is as fast, 0.50 takes twice as long;
-// of the second, that of a tray over as many pushes; of the third, that of a log's check over the calls that its lines name.
+// Prints the first four tables of docs/BENCHMARKS.md. The last column of the first is the product's speed over ours: 1.00 is as fast, 0.50 takes twice as long;
+// of the second, that of a tray over as many pushes; of the third, that of a log's check over the calls that its lines name; of the fourth, that of the machine
+// with tags over the first machine.
 
 use compare::bytes::{self, OUT_BYTES, VALUE_BYTES};
-use compare::calls::{self, Calls, PLAIN};
+use compare::calls::{self, Calls, PLAIN, PLAIN_TAGS};
 use compare::drift::{self, NUMBER_BYTES};
-use compare::examples::{factorial, half_dead, lesser, many_operators, mean, negations, range, scaled};
+use compare::examples::{
+    factorial, half_dead, lesser, many_loopless_operators, many_operators, mean, negations, range, scaled,
+};
 use compare::log::{self, Handed};
 use compare::memory::{self, Machine};
 use compare::odometer::Odometer;
@@ -14,9 +17,9 @@ use compare::sheet::{read_number, ROW_BYTES};
 use compare::small::{NextAnswer, ROOM};
 use compare::table::{grouped, head, row, speed};
 use compare::tally::Tally;
-use compare::tidy;
 use compare::timing::{in_turns, side_by_side, Call, BATCHES};
 use compare::value::Value;
+use compare::{tag_memory, tidy};
 use std::hint::black_box;
 use std::time::{Duration, Instant};
 
@@ -68,6 +71,11 @@ fn main() {
     ]);
     for (name, made, set, _) in evaluations().into_iter().filter(|(.., rounds)| *rounds < MANY_ROUNDS) {
         check_log(&name, &made, &set);
+    }
+    head(&["push, run and take", "first machine, ns", "with tags, ns", "speed"]);
+    for (name, made, set) in loopless() {
+        with_tags(&name, &made, &set, 1);
+        with_tags(&name, &made, &set, SETS);
     }
 }
 
@@ -280,6 +288,41 @@ fn line_by_line(calls: Calls, handed: &Handed<'_>, mem: &mut [u8], out: &mut [u8
     count as u32
 }
 
+/// The whole way of so many sets that are under way at once, on a first machine with a place for each on every link and on one with tags.
+fn with_tags(name: &str, made: &Made, set: &[u8], sets: u32) {
+    let (first, tags) = (calls::product().unwrap_or(PLAIN), calls::product_tags().unwrap_or(PLAIN_TAGS));
+    let (mut mem, mut tally) = (vec![0; memory::need(sets as usize)], Tally::default());
+    let mut tagged = vec![0; tag_memory::NEED];
+    let started = (first.start)(&made.bytes, &made.kinds, sets, &mut mem, &mut tally).refusal;
+    assert_eq!((started, (tags.start)(&made.bytes, &made.kinds, &mut tagged).refusal), (0, 0), "{name}");
+    let [mut out, mut tagged_out] = [[0; OUT_BYTES]; 2];
+    let times = in_turns(
+        &mut [
+            &mut || {
+                let pushed: u32 = (0..sets).map(|_| (first.push)(&mut mem, set, &mut tally).refusal).sum();
+                let ran = (first.run)(&mut mem, FIRINGS, &mut tally).refusal;
+                let taken: u32 = (0..sets).map(|_| (first.take)(&mut mem, &mut out, &mut tally).refusal).sum();
+                all_accepted(pushed + ran + taken)
+            },
+            &mut || {
+                let pushed: u32 = (0..sets).map(|_| (tags.push)(&mut tagged, set).refusal).sum();
+                let ran = (tags.run)(&mut tagged, FIRINGS).refusal;
+                let taken: u32 = (0..sets).map(|tag| (tags.take)(&mut tagged, tag, &mut tagged_out).refusal).sum();
+                all_accepted(pushed + ran + taken)
+            },
+        ],
+        BATCHES,
+        Duration::ZERO,
+    );
+    let many = if sets == 1 { "one set".into() } else { format!("{sets} sets") };
+    row(&[format!("{name}, {many}"), grouped(times[0]), grouped(times[1]), speed(times[0], times[1])]);
+}
+
+fn all_accepted(refusals: u32) -> u32 {
+    assert_eq!(refusals, 0, "a refused call is not timed");
+    refusals
+}
+
 fn starting(calls: Calls, made: &Made) -> Call<'_> {
     let (mut mem, mut tally) = (vec![0; memory::need(2)], Tally::default());
     Box::new(move || (calls.start)(black_box(&made.bytes), &made.kinds, 2, &mut mem, &mut tally).refusal)
@@ -419,5 +462,18 @@ fn evaluations() -> Vec<(String, Made, Vec<u8>, u32)> {
         ("10,000 rounds of factorial".into(), factorial(), number(10_000), 10_000),
         ("200 rows of negations".into(), negations(200), number(7), 0),
         (format!("{} operators", grouped(sheet.figures.operators.into())), many, set, 1000),
+    ]
+}
+
+/// Sheets without for, each with a set in bytes.
+fn loopless() -> Vec<(String, Made, Vec<u8>)> {
+    let mut rng = Rng::new(1);
+    let many = many_loopless_operators(&mut rng);
+    let sheet = many.sheet();
+    let set = bytes::encode_set(&fitting_set(&sheet, &mut rng));
+    vec![
+        ("the lesser of two".into(), lesser(), bytes::encode_set(&[Value::Whole(3), Value::Whole(5)])),
+        ("200 rows of negations".into(), negations(200), bytes::encode_set(&[Value::Whole(7)])),
+        (format!("{} operators", grouped(sheet.figures.operators.into())), many, set),
     ]
 }

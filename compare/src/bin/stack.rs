@@ -8,7 +8,7 @@ use compare::sheet::write;
 use compare::small::{self, SmallSheets};
 use compare::tally::Tally;
 use compare::value::Value;
-use compare::{drift, examples, memory, product, tidy};
+use compare::{drift, examples, memory, product, tag_memory, tidy};
 use std::hint::black_box;
 use std::thread;
 
@@ -20,6 +20,9 @@ const MOST_ROWS: usize = 200;
 
 /// A row that drift is not told for.
 const SORT: u32 = 20;
+
+/// The row kind that the machine with tags has not got.
+const FOR: u32 = 8;
 
 const CALLS: [&str; 12] =
     ["read", "tidy", "drift", "evaluate", "start", "push", "tray", "fire", "run", "rounds", "take", "log"];
@@ -43,6 +46,38 @@ fn measure_all() {
     }
     print_line("the most", most);
     println!("{:36}{:9}", "next, the most", deepest_next());
+    measure_tags();
+}
+
+const TAG_CALLS: [&str; 5] = ["start", "push", "fire", "run", "take"];
+
+/// The calls on a machine with tags, for the sheets without for.
+fn measure_tags() {
+    println!("{:36}{}", "with tags", TAG_CALLS.map(|name| format!("{name:>9}")).concat());
+    let mut most = [0; TAG_CALLS.len()];
+    for (name, made, value) in sheets() {
+        if made.sheet().lines.iter().all(|line| line.row.kind != FOR) {
+            let taken = measure_with_tags(&made, value);
+            print_line(name, taken);
+            most = std::array::from_fn(|call| most[call].max(taken[call]));
+        }
+    }
+    print_line("the most", most);
+}
+
+fn measure_with_tags(made: &Made, value: Value) -> [usize; TAG_CALLS.len()] {
+    let inputs = made.sheet().sorts.len();
+    let set = bytes::encode_set(&vec![value; inputs]);
+    let mut mem = vec![0; tag_memory::NEED];
+    let start = below(|| product::tagged_start(&made.bytes, &made.kinds, &mut mem).refusal);
+    let push = below(|| product::tagged_push(&mut mem, &set).refusal);
+    let operators = made.sheet().figures.operators;
+    let fire = deepest(operators, &mem, |copy, operator| {
+        product::tagged_fire(copy, operator, 0);
+    });
+    let run = below(|| product::tagged_run(&mut mem, FIRINGS).refusal);
+    let take = below(|| product::tagged_take(&mut mem, 0, &mut [0; OUT_BYTES]).refusal);
+    [start, push, fire, run, take]
 }
 
 /// The most that a call for the next small sheet takes, from every so-manieth sheet on.
@@ -52,7 +87,7 @@ fn deepest_next() -> usize {
     SmallSheets::all().list().iter().step_by(STEP).map(next).max().unwrap_or(0)
 }
 
-fn print_line(name: &str, taken: [usize; CALLS.len()]) {
+fn print_line<const CALLS: usize>(name: &str, taken: [usize; CALLS]) {
     println!("{name:36}{}", taken.map(|bytes| format!("{bytes:9}")).concat());
 }
 
@@ -103,14 +138,20 @@ fn log_of(made: &Made, set: &[u8]) -> Vec<u8> {
 
 /// The most that firing any one operator takes, able or not.
 fn deepest_fire(mem: &[u8], operators: u32) -> usize {
-    let fire = |operator| {
-        let (mut copy, mut tally) = (mem.to_vec(), Tally::default());
+    deepest(operators, mem, |copy, operator| {
+        product::fire(copy, operator, &mut Tally::default());
+    })
+}
+
+fn deepest(operators: u32, mem: &[u8], fire: impl Fn(&mut [u8], u32)) -> usize {
+    let taken = |operator| {
+        let mut copy = mem.to_vec();
         below(|| {
-            product::fire(&mut copy, operator, &mut tally);
+            fire(&mut copy, operator);
             0
         })
     };
-    (0..=operators).map(fire).max().unwrap_or(0)
+    (0..=operators).map(taken).max().unwrap_or(0)
 }
 
 /// How far below this frame a call wrote; the call must not be refused.

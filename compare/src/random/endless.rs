@@ -149,7 +149,7 @@ impl Maker<'_> {
 
     /// Of one of these sizes.
     fn manner(&mut self, sizes: &[i32]) -> Manner {
-        Manner { fuel: self.rng.pick(sizes), wrong: 0, palette: self.palette }
+        Manner { fuel: self.rng.pick(sizes), wrong: 0, palette: self.palette, loops: true }
     }
 
     /// The sorts of some values, names for them, and the scope with these.

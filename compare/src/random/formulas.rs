@@ -20,6 +20,8 @@ pub struct Manner {
     pub fuel: i32,
     pub wrong: usize,
     pub palette: Palette,
+    /// Whether there may be a for.
+    pub loops: bool,
 }
 
 /// How many counting loops in a hundred count by floats, in a formula that has them.
@@ -49,18 +51,19 @@ struct Maker<'a> {
     fuel: i32,
     wrong: usize,
     palette: Palette,
+    loops: bool,
 }
 
 /// A random expression with values of these sorts that uses these names.
 pub fn random_expression(sorts: &[Sort], must: Vec<u32>, scope: &Scope, manner: &Manner, rng: &mut Rng) -> Tree {
-    let &Manner { fuel, wrong, palette } = manner;
-    Maker { rng, fuel, wrong, palette }.expression(sorts, must, scope)
+    let &Manner { fuel, wrong, palette, loops } = manner;
+    Maker { rng, fuel, wrong, palette, loops }.expression(sorts, must, scope)
 }
 
 /// A random for with values of these sorts that does not count down, so that its ending hangs on its own tests.
 pub fn random_loop(sorts: &[Sort], scope: &Scope, manner: &Manner, rng: &mut Rng) -> Tree {
-    let &Manner { fuel, wrong, palette } = manner;
-    let mut maker = Maker { rng, fuel, wrong, palette };
+    let &Manner { fuel, wrong, palette, loops } = manner;
+    let mut maker = Maker { rng, fuel, wrong, palette, loops };
     let count = maker.count();
     maker.repetition_of(count, false, sorts, Vec::new(), scope)
 }
@@ -168,13 +171,13 @@ impl Maker<'_> {
                 Tree::pair(left, self.expression(right, parts[1].clone(), scope))
             }
             (45..=59, _) => self.binding(None, must, scope, |maker, must, inner| maker.expression(sorts, must, inner)),
-            (60..=79, _) => {
+            (80.., _) if self.loops => self.repetition(sorts, must, scope),
+            _ => {
                 let parts = self.deal(&must, 3);
                 let test = self.with_share(30, |maker| maker.expression(&[Sort::Truth], parts[0].clone(), scope));
                 let yes = self.with_share(50, |maker| maker.expression(sorts, parts[1].clone(), scope));
                 Tree::choose(test, yes, self.expression(sorts, parts[2].clone(), scope))
             }
-            _ => self.repetition(sorts, must, scope),
         }
     }
 

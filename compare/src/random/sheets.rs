@@ -34,7 +34,17 @@ impl Made {
 /// A random accepted sheet of any size.
 pub fn accepted_sheet(rng: &mut Rng) -> Made {
     loop {
-        let (tree, sorts) = random_tree(0, rng);
+        let (tree, sorts) = random_tree(0, true, rng);
+        if let Some(made) = made(tree, sorts, rng) {
+            return made;
+        }
+    }
+}
+
+/// A random accepted sheet of any size without a for.
+pub fn loopless_sheet(rng: &mut Rng) -> Made {
+    loop {
+        let (tree, sorts) = random_tree(0, false, rng);
         if let Some(made) = made(tree, sorts, rng) {
             return made;
         }
@@ -45,7 +55,7 @@ pub fn accepted_sheet(rng: &mut Rng) -> Made {
 pub fn unkinded_sheet(rng: &mut Rng) -> Made {
     loop {
         let wrong = rng.pick(&[3, 10, 30]);
-        let (tree, sorts) = random_tree(wrong, rng);
+        let (tree, sorts) = random_tree(wrong, true, rng);
         let made = laid_out(&tree, sorts, rng.chance(70), rng);
         if made.refusal() == 18 {
             return made;
@@ -107,7 +117,7 @@ pub(super) fn random_palette(rng: &mut Rng) -> Palette {
 }
 
 /// A random formula and the kinds of its inputs; so many leaves in a hundred may be of another kind. It may have too many rows or operators.
-fn random_tree(wrong: usize, rng: &mut Rng) -> (Tree, [Sort; 32]) {
+fn random_tree(wrong: usize, loops: bool, rng: &mut Rng) -> (Tree, [Sort; 32]) {
     let palette = random_palette(rng);
     let sorts: [Sort; 32] = std::array::from_fn(|_| rng.pick(palette));
     let many = rng.pick(&[0, 1, 2, 3, 4, 6, 32]);
@@ -115,7 +125,7 @@ fn random_tree(wrong: usize, rng: &mut Rng) -> (Tree, [Sort; 32]) {
     let fuel = rng.pick(&[1, 3, 10, 25, 50, 80, 120]);
     let width = rng.pick(&[1, 1, 1, 1, 2, 3, 4, 8, 15, 16]);
     let results = random_sorts(width, palette, rng);
-    let mut tree = random_expression(&results, Vec::new(), &scope, &Manner { fuel, wrong, palette }, rng);
+    let mut tree = random_expression(&results, Vec::new(), &scope, &Manner { fuel, wrong, palette, loops }, rng);
     if rng.chance(5) && tree.size() < 200 {
         let extra = 200 - tree.size();
         pad(&mut tree, extra, rng);
@@ -177,10 +187,11 @@ fn pad(tree: &mut Tree, extra: usize, rng: &mut Rng) {
 struct Heavy {
     wholes: usize,
     palette: Palette,
+    loops: bool,
 }
 
-const HEAVY_WHOLES: Heavy = Heavy { wholes: 32, palette: WITHOUT_FLOATS };
-const HEAVY_FLOATS: Heavy = Heavy { wholes: 16, palette: WITH_FLOATS };
+const HEAVY_WHOLES: Heavy = Heavy { wholes: 32, palette: WITHOUT_FLOATS, loops: true };
+const HEAVY_FLOATS: Heavy = Heavy { wholes: 16, palette: WITH_FLOATS, loops: true };
 
 impl Heavy {
     fn random(rng: &mut Rng) -> Heavy {
@@ -221,6 +232,17 @@ pub fn heavy_sheet_of_wholes(rng: &mut Rng) -> Made {
     heavy_sheet_of(&HEAVY_WHOLES, rng)
 }
 
+/// Such a sheet without a for.
+pub fn heavy_loopless_sheet(rng: &mut Rng) -> Made {
+    let heavy = Heavy { loops: false, ..Heavy::random(rng) };
+    heavy_sheet_of(&heavy, rng)
+}
+
+/// Such a sheet without floats and without a for, to be timed.
+pub fn heavy_loopless_sheet_of_wholes(rng: &mut Rng) -> Made {
+    heavy_sheet_of(&Heavy { loops: false, ..HEAVY_WHOLES }, rng)
+}
+
 fn heavy_sheet_of(heavy: &Heavy, rng: &mut Rng) -> Made {
     loop {
         let tree = heavy_tree(heavy, MOST_OPERATORS as usize, rng);
@@ -252,7 +274,7 @@ fn heavy_tree(heavy: &Heavy, most: usize, rng: &mut Rng) -> Tree {
     let must: Vec<u32> = (0..rng.between(12, 32) as u32).collect();
     let fuel = rng.between(1, 12) as i32;
     let results = random_sorts(width, heavy.palette, rng);
-    let manner = Manner { fuel, wrong: 0, palette: heavy.palette };
+    let manner = Manner { fuel, wrong: 0, palette: heavy.palette, loops: heavy.loops };
     let mut tree = random_expression(&results, must, &heavy.sorts().map(Some), &manner, rng);
     for _ in 0..60 {
         let wrapped = wrap(&tree, &results, heavy, rng);
@@ -292,6 +314,7 @@ fn wrap(tree: &Tree, results: &[Sort], heavy: &Heavy, rng: &mut Rng) -> Tree {
         0..=2 => Tree::choose(test, tree.clone(), other),
         3..=5 => Tree::choose(test, other, tree.clone()),
         6 if tree.size() < 80 => Tree::choose(test, tree.clone(), tree.clone()),
+        _ if !heavy.loops => Tree::choose(test, tree.clone(), other),
         _ => {
             let next = Tree::on_two(2, Tree::Identifier(name, Sort::Whole), Tree::Whole(1));
             let counted = Tree::on_two(6, Tree::Whole(0), Tree::Identifier(name, Sort::Whole));

@@ -23,7 +23,7 @@ use Rattle.machine_valid.specs.Below.{allBelow, and-left, and-right, and-both, 
 use Rattle.graph.specs.Translation.{Made}
 use Rattle.theory_verdicts.specs.Owed.{creditLink}
 use Rattle.theory_verdicts.specs.Running.{places}
-use Rattle.machine_calls.specs.Calls.{outcome, answers, sizeIn, standing, inputRoom, roomsOk, entered, triggered, pushedMemory, pushed}
+use Rattle.machine_calls.specs.Calls.{outcome, answers, sizeIn, standing, inputRoom, roomsOk, enteredFrom, entered, triggeredFrom, triggered, pushedMemory, pushed}
 use Rattle.value_sets.specs.Sets.{setOk, IsSet, values-pass}
 use Rattle.machine_calls.specs.CallLaws.{pushed-accepted}
 use Rattle.demand_view.specs.Sound.{Sound}
@@ -123,7 +123,7 @@ module _ (g : Made) (S : Sound g) (kinds : List ℕ) (capacity : ℕ) (low : 1 �
 
       -- the first values of the set
       stands-entered : (j : ℕ) → j ≤ g .inputs → Stands g kinds capacity (entered j m size s) (given j v q)
-      unfolding entered
+      unfolding enteredFrom
       stands-entered zero h = H
       stands-entered (suc j) h =
           subst (λ (n : List ℕ). Stands g kinds capacity n (append j (val (getD v j err)) (given j v q)))
@@ -152,7 +152,7 @@ module _ (g : Made) (S : Sound g) (kinds : List ℕ) (capacity : ℕ) (low : 1 �
       cued-links = cued (g .triggered) (g .inputs) given-links
 
       stands-triggered : Stands g kinds capacity (triggered m s) cued-links
-      unfolding triggered
+      unfolding triggeredFrom
       stands-triggered =
           rw (stands-size g S kinds capacity low high m q H, H .inputs-are) (stands-cued (g .triggered) refl)
 

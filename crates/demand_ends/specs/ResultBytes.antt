@@ -13,9 +13,9 @@ use Rattle.value.specs.declared.Value.{Value}
 use Rattle.value.specs.Operators.{pick}
 use Rattle.value.specs.Bytes.{wordOf, wordBytes, bytesOf}
 use Rattle.value.specs.Senses.{err}
-use Rattle.machine_layout.specs.Layout.{resultLink}
+use Rattle.machine_layout.specs.Layout.{linksAt, resultLink}
 use Rattle.machine_firing.specs.Links.{headAt}
-use Rattle.machine_calls.specs.Calls.{resultWord, written}
+use Rattle.machine_calls.specs.Calls.{resultWordFrom, resultWord, written}
 use Rattle.machine_calls.specs.Written.{wordsOut, storedOut, stored-out, written-out}
 use Rattle.meaning.specs.declared.Cell.{Cell}
 use Rattle.meaning.specs.Evaluate.{cell, cellsOf}
@@ -129,7 +129,7 @@ cells-stored cs o h =
 -- Take writes these bytes where the result ports' heads are the values.
 module _ (m : List ℕ) (size : ℕ) (r : List Value) (heads : (j : ℕ) → j < length r → headAt m size (resultLink m j) ≡ wordOf (getD r j err)) where
   word-is : (j : ℕ) → resultWord m size (length r) j ≡ wordOf (getD (resultSet r .places) j err)
-  unfolding resultWord
+  unfolding resultWordFrom
   word-is j = go (ltb j (length r)) refl ∙ ap wordOf (sym (place-at r (16 - length r) j))
     where
       go : (b : Bool) → ltb j (length r) ≡ b → pick b (headAt m size (resultLink m j)) (wordOf err) ≡ wordOf (getD r j err)
@@ -139,7 +139,7 @@ module _ (m : List ℕ) (size : ℕ) (r : List Value) (heads : (j : ℕ) → j <
   pub written-result : length r ≤ 16 → (o : List ℕ) → 80 ≤ length o → written 16 m size (length r) o ≡ resultBytes r ++ drop 80 o
   unfolding resultBytes
   written-result few o h =
-      written-out m size (length r) 16 o h
+      written-out m linksAt size (length r) 16 o h
       ∙ ap (λ (z : List ℕ). z ++ drop 80 o)
       (out-same 16 (resultWord m size (length r)) (λ j. wordOf (getD (resultSet r .places) j err)) (λ j l. word-is j)
       ∙ ap (λ (n : ℕ). wordsOut n (λ j. wordOf (getD (resultSet r .places) j err))) (sym (length-places r few))

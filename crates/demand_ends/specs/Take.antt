@@ -26,7 +26,7 @@ use Rattle.graph.specs.Translation.{Made}
 use Rattle.theory_verdicts.specs.Owed.{creditLink}
 use Rattle.theory_verdicts.specs.Running.{places}
 use Rattle.theory_verdicts.specs.ResultSets.{valueIn, valuesIn}
-use Rattle.machine_calls.specs.Calls.{handed, answers, refusal, sizeIn, standing, resultReady, written, emptied, takenMemory, taken}
+use Rattle.machine_calls.specs.Calls.{handed, answers, refusal, sizeIn, standing, resultReadyFrom, resultReady, written, emptiedFrom, emptied, takenMemory, taken}
 use Rattle.machine_calls.specs.CallLaws.{taken-none, taken-empty, taken-accepted}
 use Rattle.demand_view.specs.Sound.{Sound}
 use Rattle.demand_view.specs.FireCall.{stands-size}
@@ -90,7 +90,7 @@ module _ (g : Made) (S : Sound g) (kinds : List ℕ) (capacity : ℕ) (low : 1 �
   Waiting = (l : ℕ) → In l results → 0 < length (q l)
 
   ready-waits : (j : ℕ) → j < length results → resultReady m size j ≡ true → 0 < length (q (getD results j 0))
-  unfolding resultReady
+  unfolding resultReadyFrom
   ready-waits j h r = go (q (getD results j 0)) refl
     where
       go : (ts : List Token) → q (getD results j 0) ≡ ts → 0 < length ts
@@ -100,7 +100,7 @@ module _ (g : Made) (S : Sound g) (kinds : List ℕ) (capacity : ℕ) (low : 1 �
       go (t ∷ ts) e = omega arith
 
   waits-ready : (j : ℕ) → j < length results → 0 < length (q (getD results j 0)) → resultReady m size j ≡ true
-  unfolding resultReady
+  unfolding resultReadyFrom
   waits-ready j h w =
       let p = waiting-value (getD results j 0) (result-below j h) w in
       let z : headAt m size (resultLink m j) ≡ wordOf (p .0) = ap (headAt m size) (H .result-links j h) ∙ p .3 in
@@ -136,7 +136,7 @@ module _ (g : Made) (S : Sound g) (kinds : List ℕ) (capacity : ℕ) (low : 1 �
     -- ---- the memory that take leaves
 
     stands-emptied : (j : ℕ) → j ≤ length results → Stands g kinds capacity (emptied j m size) (popped j results q)
-    unfolding emptied
+    unfolding emptiedFrom
     stands-emptied zero h = H
     stands-emptied (suc j) h =
         let l = getD results j 0 in

@@ -10,7 +10,7 @@ use borrow.Author.Tests.{eqb-true, eq-eqb, ltb-true}
 use lib.Dec.{eqb, ltb}
 use lib.ListN.{length, drop, drop-of-length-le, length-set, take as firstOf}
 use lib.Seq.{take-all}
-use Rattle.machine_layout.specs.Layout.{operatorsOf, resultsOf, untakenAt, untakenOf}
+use Rattle.machine_layout.specs.Layout.{linksAt, operatorsOf, resultsOf, untakenAt, untakenOf}
 use Rattle.machine_firing.specs.Fire.{ableAt}
 use Rattle.machine_valid.specs.Below.{allBelow}
 use Rattle.machine_valid.specs.Figures.{valid-figures}
@@ -52,7 +52,7 @@ module _ (m : List ℕ) where
 
   taken-long : standing m ≡ 0 → length (takenMemory m) ≡ length m
   unfolding takenMemory
-  taken-long st = length-set (emptied (resultsOf m) m (sizeIn m)) untakenAt _ ∙ emptied-keeps m (sizeIn m) (standing-good m st .0) (resultsOf m) .size
+  taken-long st = length-set (emptied (resultsOf m) m (sizeIn m)) untakenAt _ ∙ emptied-keeps m linksAt (sizeIn m) (omega arith) (standing-good m st .0) (resultsOf m) .size
 
   took : (o : List ℕ) → 80 ≤ length o → Took (taken m o)
   took o l = go (ℕ-discrete (standing m) 0)

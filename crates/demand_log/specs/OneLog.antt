@@ -14,7 +14,7 @@ use Rattle.machine_queue.specs.Stretch.{headOf, roomIn, appended, removed}
 use Rattle.machine_firing.specs.Links.{headFrom, tokenFrom, roomFrom, removedFrom, appendedFrom}
 use Rattle.machine_valid.specs.Below.{allBelow}
 use Rattle.machine_valid.specs.Valid.{valid, figuresOk, countsOk, unlike, unlikeAt, freshAt, resultOk, inputOk, letterOk, portOk, namedOk, registerOk, kindOk, operatorOk, tokenOk, stretchOk, linkOkFrom}
-use Rattle.machine_calls.specs.Calls.{standing, inputRoom, roomsOk, entered, triggered, pushedMemory, pushed, fired, resultReady, resultWord, written, emptied, takenMemory, taken}
+use Rattle.machine_calls.specs.Calls.{standing, inputRoom, roomsOk, enteredFrom, triggeredFrom, pushedMemory, pushed, fired, resultReadyFrom, resultWordFrom, writtenFrom, emptiedFrom, takenMemory, taken}
 use Rattle.machine_log.specs.Lines.{linesOf, lineWell}
 use Rattle.machine_log.specs.Checked.{Checked, checked}
 use Rattle.demand.specs.LesserStarts.{zeros}
@@ -42,7 +42,7 @@ unlisted = bytes "     1     2\n"
 
 pub three-logs : map (λ (log : List ℕ). told (check log)) (taken-at-once ∷ then-fired ∷ unlisted ∷ [])
     ≡ (0 ∷ 0 ∷ 1 ∷ 1 ∷ seven) ∷ (16 ∷ 3 ∷ 1 ∷ 1 ∷ seven) ∷ (15 ∷ 1 ∷ 0 ∷ 0 ∷ zeros 5) ∷ []
-unfolding checked bytes capacityIn verdictOf setOk linesOf lineWell zeros pushed standing valid allBelow figuresOk countsOk unlike unlikeAt freshAt resultOk inputOk letterOk portOk namedOk registerOk kindOk operatorOk tokenOk stretchOk linkOkFrom pushedMemory triggered entered roomsOk inputRoom taken takenMemory emptied written resultWord resultReady number16 nameAt headFrom tokenFrom roomFrom removedFrom appendedFrom headOf roomIn appended removed wordOf wordAt stored wordBytes valueOf stored16 fired flatten taken-at-once then-fired unlisted
+unfolding checked bytes capacityIn verdictOf setOk linesOf lineWell zeros pushed standing valid allBelow figuresOk countsOk unlike unlikeAt freshAt resultOk inputOk letterOk portOk namedOk registerOk kindOk operatorOk tokenOk stretchOk linkOkFrom pushedMemory triggeredFrom enteredFrom roomsOk inputRoom taken takenMemory emptiedFrom writtenFrom resultWordFrom resultReadyFrom number16 nameAt headFrom tokenFrom roomFrom removedFrom appendedFrom headOf roomIn appended removed wordOf wordAt stored wordBytes valueOf stored16 fired flatten taken-at-once then-fired unlisted
 three-logs = refl
 
 -- So the log of a push and a take is one "of which every line would have been accepted".

@@ -2,7 +2,7 @@
 // numbers and byte memory"). No call asks anything of its caller; each contract is an equation on the answer and on every lent byte.
 // A call on a machine is also lent the record of firings, takes and refused pushes (document 02, Job 10: "one small record, which the
 // firmware lends and which each call updates in place"): it reads the record, makes the call of machine_tally that takes it by value and
-// writes it back. Its contract has a second equation, on the record.
+// writes it back. Its contract has a second equation, on the record. The machine with tags (document 02, Job 12) has no such record.
 // include/bench.h says the same in C.
 use eval_sheet::EvaluateAnswer;
 use machine_calls::Answer;
@@ -26,6 +26,8 @@ ghost use Rattle.machine_calls.specs.Calls.{outcome, handed, pushed, fired, ran
 ghost use Rattle.machine_rounds.specs.Rounds.{outcome as roundsOutcome, ranRounds};
 ghost use Rattle.machine_tray.specs.Tray.{trayed};
 ghost use Rattle.machine_log.specs.Checked.{checks, checked};
+ghost use Rattle.machine_tags.specs.TagCalls.{tagPushed, tagFired, tagRan, tagTaken};
+ghost use Rattle.machine_tag_start.specs.TagStart.{tagStarted};
 ghost use Rattle.machine_tally.specs.Tallied.{afterStart, afterPush, afterTray, afterFire, afterRun, afterRounds, afterTake};
 
 #[no_mangle]
@@ -169,4 +171,39 @@ pub extern "C" fn bench_check_log(
     ensures { λ a. ⌜ checks a (now (mem .exit)) (now (out .exit)) ≡ checked (now (sheet .entry)) (now (kinds .entry)) capacity (now (sets .entry)) number (now (log .entry)) (now (mem .entry)) (now (out .entry)) ⌝ }
 {
     machine_log::check_log(sheet, kinds, capacity, sets, number, log, mem, out)
+}
+
+#[no_mangle]
+pub extern "C" fn bench_tagged_start(sheet: &[u8], kinds: &[u8], mem: &mut [u8]) -> StartAnswer
+    ensures { λ a. ⌜ begun a (now (mem .exit)) ≡ tagStarted (now (sheet .entry)) (now (kinds .entry)) (now (mem .entry)) ⌝ }
+{
+    machine_tag_start::start(sheet, kinds, mem)
+}
+
+#[no_mangle]
+pub extern "C" fn bench_tagged_push(mem: &mut [u8], set: &[u8]) -> Answer
+    ensures { λ a. ⌜ outcome a (now (mem .exit)) ≡ tagPushed (now (mem .entry)) (now (set .entry)) ⌝ }
+{
+    machine_tag_calls::push(mem, set)
+}
+
+#[no_mangle]
+pub extern "C" fn bench_tagged_fire(mem: &mut [u8], operator: u32, tag: u32) -> Answer
+    ensures { λ a. ⌜ outcome a (now (mem .exit)) ≡ tagFired (now (mem .entry)) operator tag ⌝ }
+{
+    machine_tag_calls::fire(mem, operator, tag)
+}
+
+#[no_mangle]
+pub extern "C" fn bench_tagged_run(mem: &mut [u8], firings: u32) -> Answer
+    ensures { λ a. ⌜ outcome a (now (mem .exit)) ≡ tagRan (now (mem .entry)) firings ⌝ }
+{
+    machine_tag_calls::run(mem, firings)
+}
+
+#[no_mangle]
+pub extern "C" fn bench_tagged_take(mem: &mut [u8], tag: u32, out: &mut [u8]) -> Answer
+    ensures { λ a. ⌜ handed a (now (mem .exit)) (now (out .exit)) ≡ tagTaken (now (mem .entry)) tag (now (out .entry)) ⌝ }
+{
+    machine_tag_calls::take(mem, tag, out)
 }

@@ -1,8 +1,8 @@
--- Document 01, "Said by what was handed in" and "Said by how the machine stands": the number of each refusal; 15 and 16 are document 02's, Job 3, 17 and 18 Job 6, 20 and 21 Job 13, 22 and 23 Job 14.
+-- Document 01, "Said by what was handed in" and "Said by how the machine stands": the number of each refusal; 15 and 16 are document 02's, Job 3, 17 and 18 Job 6, 19, 37 and 38 Job 12, 20 and 21 Job 13, 22 and 23 Job 14.
 use Prim.Native.Nat.{ℕ, _≤_}
 use native.Mathlib.Omega.{arith}
 use Rattle.formula.specs.declared.Refusal.{Refusal}
-use Rattle.formula.specs.declared.Refusal.the-variants.{Layout, Rows, Malformed, Range, Naming, Named, StrayIter, Width, Unused, Operators, Memory, Set, SetFile, Capacity, LogLine, LogRefused, KindsLine, KindsBroken, Sort, Movement, Unlisted, LastListed, Altered, Untaken, Full, NotAble, NoResult, Unfinished}
+use Rattle.formula.specs.declared.Refusal.the-variants.{Layout, Rows, Malformed, Range, Naming, Named, StrayIter, Width, Unused, Operators, Memory, Set, SetFile, Capacity, LogLine, LogRefused, KindsLine, KindsBroken, Loop, Sort, Movement, Unlisted, LastListed, Altered, Untaken, Full, NotAble, NoResult, Unfinished, NoTag, NoTagResult}
 
 abbrev pub numberOf : Refusal → ℕ
 numberOf Layout = 1
@@ -23,6 +23,7 @@ numberOf LogLine = 15
 numberOf LogRefused = 16
 numberOf KindsLine = 17
 numberOf KindsBroken = 18
+numberOf Loop = 19
 numberOf Sort = 20
 numberOf Movement = 21
 numberOf Unlisted = 22
@@ -33,6 +34,8 @@ numberOf Full = 33
 numberOf NotAble = 34
 numberOf NoResult = 35
 numberOf Unfinished = 36
+numberOf NoTag = 37
+numberOf NoTagResult = 38
 
 -- 0 is no refusal's number: an answer of 0 is an acceptance.
 pub number-positive : (r : Refusal) → 1 ≤ numberOf r
@@ -54,6 +57,7 @@ number-positive LogLine = omega arith
 number-positive LogRefused = omega arith
 number-positive KindsLine = omega arith
 number-positive KindsBroken = omega arith
+number-positive Loop = omega arith
 number-positive Sort = omega arith
 number-positive Movement = omega arith
 number-positive Unlisted = omega arith
@@ -64,3 +68,5 @@ number-positive Full = omega arith
 number-positive NotAble = omega arith
 number-positive NoResult = omega arith
 number-positive Unfinished = omega arith
+number-positive NoTag = omega arith
+number-positive NoTagResult = omega arith

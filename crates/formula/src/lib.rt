@@ -87,6 +87,8 @@ pub enum Refusal {
     KindsLine,
     // 18: a row breaks the kinds
     KindsBroken,
+    // 19: the sheet has a for, where the machine with tags is asked for
+    Loop,
     // 20: a row of another sort than drift is told for, or with a value not of kind W
     Sort,
     // 21: tolerances not as many as the inputs or out of range, or a row's movement past the range
@@ -107,6 +109,10 @@ pub enum Refusal {
     NoResult,
     // 36: run: something can still fire after the lent firings; evaluation: more rounds needed than lent
     Unfinished,
+    // 37: no tag is free
+    NoTag,
+    // 38: the tag has no whole result
+    NoTagResult,
 }
 
 // What reading says of a sheet: every test passed, or the first refusal with its row.
@@ -171,6 +177,7 @@ pub fn refusal_number(r: Refusal) -> u32
         Refusal::LogRefused => 16,
         Refusal::KindsLine => 17,
         Refusal::KindsBroken => 18,
+        Refusal::Loop => 19,
         Refusal::Sort => 20,
         Refusal::Movement => 21,
         Refusal::Unlisted => 22,
@@ -181,5 +188,7 @@ pub fn refusal_number(r: Refusal) -> u32
         Refusal::NotAble => 34,
         Refusal::NoResult => 35,
         Refusal::Unfinished => 36,
+        Refusal::NoTag => 37,
+        Refusal::NoTagResult => 38,
     }
 }

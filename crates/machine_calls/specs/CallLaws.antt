@@ -12,9 +12,9 @@ use lib.ListN.{length, getD, length-set}
 use Rattle.value.specs.Operators.{pick}
 use Rattle.value.specs.Bytes.{wordOf, wordAt}
 use Rattle.network.specs.Values.{true-value}
-use Rattle.machine_layout.specs.Layout.{linksAt, number16, nameAt, need, untakenAt, inputKindsAt, operatorsOf, inputsOf, resultsOf, untakenOf, triggerOf, inputLink, resultLink, storedKinds}
+use Rattle.machine_layout.specs.Layout.{linksAt, number16, nameAt, need, needFrom, untakenAt, inputKindsAt, operatorsOf, inputsOf, resultsOf, untakenOf, triggerOf, inputLink, resultLink, storedKinds}
 use Rattle.machine_firing.specs.Parts.{part-length}
-use Rattle.machine_firing.specs.Links.{removedAt, appendedAt}
+use Rattle.machine_firing.specs.Links.{removedFrom, appendedFrom}
 use Rattle.machine_firing.specs.LinkLaws.{length-removed, low-removed, length-appended, low-appended}
 use Rattle.machine_firing.specs.Fire.{ableAt, firedAt}
 use Rattle.machine_valid.specs.Below.{allBelow}
@@ -27,7 +27,7 @@ use Rattle.formula.specs.declared.Refusal.the-variants.{Memory, Set, Untaken, F
 use Rattle.formula.specs.Refusals.{numberOf}
 use native.Mathlib.Numerals.{add-one}
 use Rattle.value.specs.Bytes.{stored}
-use Rattle.machine_calls.specs.Calls.{Outcome, Handed, outcome, handed, answers, refusal, sizeIn, standing, roomsOk, entered, triggered, pushedMemory, pushed, fired, ended, ran, resultReady, emptied, written, resultWord, takenMemory, taken}
+use Rattle.machine_calls.specs.Calls.{Outcome, Handed, outcome, handed, answers, refusal, sizeIn, standing, roomsOk, enteredFrom, entered, triggeredFrom, triggered, pushedMemory, pushed, fired, ended, ran, resultReady, emptiedFrom, writtenFrom, written, resultWordFrom, takenMemory, taken}
 use Rattle.value_sets.specs.Sets.{setOk}
 
 pub standing-good : (m : List ℕ) → standing m ≡ 0 → (need (sizeIn m) ≤ length m) × (valid m ≡ true)
@@ -56,53 +56,53 @@ pub record Kept (m m′ : List ℕ) : Type 0 where
   pub size : length m′ ≡ length m
   pub low : (x : ℕ) → x < 21760 → getD m′ x 0 ≡ getD m x 0
 
-module _ (m : List ℕ) (size : ℕ) (h : need size ≤ length m) where
-  pub entered-keeps : (s : List ℕ) (j : ℕ) → Kept m (entered j m size s)
-  unfolding entered
+module _ (m : List ℕ) (base size : ℕ) (behind : linksAt ≤ base) (h : needFrom base size ≤ length m) where
+  pub entered-keeps : (s : List ℕ) (j : ℕ) → Kept m (enteredFrom j m base size s)
+  unfolding enteredFrom
   entered-keeps s zero = record { size = refl; low = λ x k. refl }
   entered-keeps s (suc j) =
       let p = entered-keeps s j in
-      let z : need size ≤ length (entered j m size s) = omega (arith, p .size) in
+      let z : needFrom base size ≤ length (enteredFrom j m base size s) = omega (arith, p .size) in
       record {
-        size = length-appended (entered j m size s) linksAt size z (inputLink m j) (wordAt s (5 * j)) ∙ p .size;
-        low = λ x k. low-appended (entered j m size s) linksAt size z (inputLink m j) (wordAt s (5 * j)) x k ∙ p .low x k;
+        size = length-appended (enteredFrom j m base size s) base size z (inputLink m j) (wordAt s (5 * j)) ∙ p .size;
+        low = λ x k. low-appended (enteredFrom j m base size s) base size z (inputLink m j) (wordAt s (5 * j)) x (omega arith) ∙ p .low x k;
       }
 
-  pub emptied-keeps : (j : ℕ) → Kept m (emptied j m size)
-  unfolding emptied
+  pub emptied-keeps : (j : ℕ) → Kept m (emptiedFrom j m base size)
+  unfolding emptiedFrom
   emptied-keeps zero = record { size = refl; low = λ x k. refl }
   emptied-keeps (suc j) =
       let p = emptied-keeps j in
-      let z : need size ≤ length (emptied j m size) = omega (arith, p .size) in
+      let z : needFrom base size ≤ length (emptiedFrom j m base size) = omega (arith, p .size) in
       record {
-        size = length-removed (emptied j m size) linksAt size z (resultLink m j) ∙ p .size;
-        low = λ x k. low-removed (emptied j m size) linksAt size z (resultLink m j) x k ∙ p .low x k;
+        size = length-removed (emptiedFrom j m base size) base size z (resultLink m j) ∙ p .size;
+        low = λ x k. low-removed (emptiedFrom j m base size) base size z (resultLink m j) x (omega arith) ∙ p .low x k;
       }
 
 -- one value more
-pub entered-more : (m : List ℕ) (size : ℕ) (s : List ℕ) (j : ℕ) → entered (j + 1) m size s ≡ appendedAt (entered j m size s) size (inputLink m j) (wordAt s (5 * j))
-unfolding entered
-entered-more m size s j = rw (add-one j) refl
+pub entered-more : (m : List ℕ) (base size : ℕ) (s : List ℕ) (j : ℕ) → enteredFrom (j + 1) m base size s ≡ appendedFrom (enteredFrom j m base size s) base size (inputLink m j) (wordAt s (5 * j))
+unfolding enteredFrom
+entered-more m base size s j = rw (add-one j) refl
 
-pub emptied-more : (m : List ℕ) (size j : ℕ) → emptied (j + 1) m size ≡ removedAt (emptied j m size) size (resultLink m j)
-unfolding emptied
-emptied-more m size j = rw (add-one j) refl
+pub emptied-more : (m : List ℕ) (base size j : ℕ) → emptiedFrom (j + 1) m base size ≡ removedFrom (emptiedFrom j m base size) base size (resultLink m j)
+unfolding emptiedFrom
+emptied-more m base size j = rw (add-one j) refl
 
-pub written-more : (m : List ℕ) (size k : ℕ) (o : List ℕ) (j : ℕ) → written (j + 1) m size k o ≡ stored (written j m size k o) (5 * j) (resultWord m size k j)
-unfolding written
-written-more m size k o j = rw (add-one j) refl
+pub written-more : (m : List ℕ) (base size k : ℕ) (o : List ℕ) (j : ℕ) → writtenFrom (j + 1) m base size k o ≡ stored (writtenFrom j m base size k o) (5 * j) (resultWordFrom m base size k j)
+unfolding writtenFrom
+written-more m base size k o j = rw (add-one j) refl
 
-pub written-none : (m : List ℕ) (size k : ℕ) (o : List ℕ) → o ≡ written 0 m size k o
-unfolding written
-written-none m size k o = refl
+pub written-none : (m : List ℕ) (base size k : ℕ) (o : List ℕ) → o ≡ writtenFrom 0 m base size k o
+unfolding writtenFrom
+written-none m base size k o = refl
 
-pub emptied-none : (m : List ℕ) (size : ℕ) → m ≡ emptied 0 m size
-unfolding emptied
-emptied-none m size = refl
+pub emptied-none : (m : List ℕ) (base size : ℕ) → m ≡ emptiedFrom 0 m base size
+unfolding emptiedFrom
+emptied-none m base size = refl
 
-pub entered-none : (m : List ℕ) (size : ℕ) (s : List ℕ) → m ≡ entered 0 m size s
-unfolding entered
-entered-none m size s = refl
+pub entered-none : (m : List ℕ) (base size : ℕ) (s : List ℕ) → m ≡ enteredFrom 0 m base size s
+unfolding enteredFrom
+entered-none m base size s = refl
 
 -- ---- each call by the tests that it meets, in their order
 
@@ -198,9 +198,9 @@ module _ (m s : List ℕ) where
   Plain o = (length (o .mem) ≡ length m) × (o .answer .count ≡ 0)
 
   plain-accepted : need (sizeIn m) ≤ length m → Plain (outcome (answers 0 0) (pushedMemory m s))
-  unfolding pushedMemory triggered
+  unfolding pushedMemory triggeredFrom
   plain-accepted h =
-      let k = entered-keeps m (sizeIn m) h s (inputsOf m) .size in
+      let k = entered-keeps m linksAt (sizeIn m) (omega arith) h s (inputsOf m) .size in
       let z : need (sizeIn m) ≤ length (entered (inputsOf m) m (sizeIn m) s) = omega (arith, k) in (
         length-set (triggered m s) untakenAt (untakenOf m + 1)
             ∙ length-appended (entered (inputsOf m) m (sizeIn m) s) linksAt (sizeIn m) z (triggerOf m) (wordOf true-value) ∙ k,

@@ -1,7 +1,7 @@
 -- The calls of the firmware on a machine's memory: push, fire, run, take (document 01, "Running" and "Said by how the machine stands"), each as
 -- a function from what it is lent to its answer and every lent byte at its end. "Order: 11, 31, 12, then these." A refused call leaves
 -- every byte as it was, save run's 36. Answers carry the refusal's number, 0 where accepted, and a count: a run's firings, the width of a
--- taken result set, else 0. Operators count from 0. Assumes nothing.
+-- taken result set, else 0. Operators count from 0. What goes onto the input links and off the result links is stated over the byte `base` where links begin. Assumes nothing.
 use Prim.Native.Nat.{ℕ, zero, suc, _+_, _-_, _*_}
 use mathlib.Core.Bool.{Bool, true, false, _&&_, _||_, not}
 use mathlib.Core.List.{List}
@@ -14,8 +14,8 @@ use Rattle.network.specs.Values.{true-value, err-value}
 use Rattle.formula.specs.declared.Refusal.{Refusal}
 use Rattle.formula.specs.declared.Refusal.the-variants.{Memory, Set, Altered, Untaken, Full, NotAble, NoResult, Unfinished}
 use Rattle.formula.specs.Refusals.{numberOf}
-use Rattle.machine_layout.specs.Layout.{mostResults, mostUntaken, untakenAt, capacityOf, sizeOf, need, operatorsOf, inputsOf, resultsOf, untakenOf, triggerOf, inputLink, resultLink, storedKinds}
-use Rattle.machine_firing.specs.Links.{headAt, roomAt, removedAt, appendedAt}
+use Rattle.machine_layout.specs.Layout.{mostResults, mostUntaken, untakenAt, linksAt, capacityOf, sizeOf, need, operatorsOf, inputsOf, resultsOf, untakenOf, triggerOf, inputLink, resultLink, storedKinds}
+use Rattle.machine_firing.specs.Links.{headFrom, roomAt, removedFrom, appendedFrom}
 use Rattle.machine_firing.specs.Fire.{ableAt, firedAt}
 use Rattle.machine_valid.specs.Below.{allBelow}
 use Rattle.machine_valid.specs.Valid.{valid}
@@ -63,13 +63,20 @@ unfoldable pub roomsOk : List ℕ → ℕ → ℕ → Bool
 roomsOk m size k = roomAt m size (triggerOf m) && allBelow k (inputRoom m size)
 
 -- "Push gives one value to each input link": the first j values of the set
-unfoldable pub entered : ℕ → List ℕ → ℕ → List ℕ → List ℕ
-entered zero m size s = m
-entered (suc j) m size s = appendedAt (entered j m size s) size (inputLink m j) (wordAt s (5 * j))
+unfoldable pub enteredFrom : ℕ → List ℕ → ℕ → ℕ → List ℕ → List ℕ
+enteredFrom zero m base size s = m
+enteredFrom (suc j) m base size s = appendedFrom (enteredFrom j m base size s) base size (inputLink m j) (wordAt s (5 * j))
 
 -- "and one trigger if that link exists": its token is the value true
-unfoldable pub triggered : List ℕ → List ℕ → List ℕ
-triggered m s = appendedAt (entered (inputsOf m) m (sizeIn m) s) (sizeIn m) (triggerOf m) (wordOf true-value)
+unfoldable pub triggeredFrom : List ℕ → ℕ → ℕ → List ℕ → List ℕ
+triggeredFrom m base size s = appendedFrom (enteredFrom (inputsOf m) m base size s) base size (triggerOf m) (wordOf true-value)
+
+-- the same on the links of a machine, from `linksAt` on
+abbrev pub entered : ℕ → List ℕ → ℕ → List ℕ → List ℕ
+entered j m size s = enteredFrom j m linksAt size s
+
+abbrev pub triggered : List ℕ → List ℕ → List ℕ
+triggered m s = triggeredFrom m linksAt (sizeIn m) s
 
 -- the memory with one set more untaken
 unfoldable pub pushedMemory : List ℕ → List ℕ → List ℕ
@@ -115,25 +122,38 @@ ran m firings =
 -- ---- take
 
 -- 35 "a result port empty or no set untaken"
-unfoldable pub resultReady : List ℕ → ℕ → ℕ → Bool
-resultReady m size j = not (eqb (headAt m size (resultLink m j)) 0)
+unfoldable pub resultReadyFrom : List ℕ → ℕ → ℕ → ℕ → Bool
+resultReadyFrom m base size j = not (eqb (headFrom m base size (resultLink m j)) 0)
 
 -- "A result set is sixteen values carried whole, with its width; places past the width hold err."
-unfoldable pub resultWord : List ℕ → ℕ → ℕ → ℕ → ℕ
-resultWord m size k j = pick (ltb j k) (headAt m size (resultLink m j)) (wordOf err-value)
+unfoldable pub resultWordFrom : List ℕ → ℕ → ℕ → ℕ → ℕ → ℕ
+resultWordFrom m base size k j = pick (ltb j k) (headFrom m base size (resultLink m j)) (wordOf err-value)
 
 abbrev pub resultBytes : ℕ
 resultBytes = 80
 
 -- the first j values of the result set written, five bytes each
-unfoldable pub written : ℕ → List ℕ → ℕ → ℕ → List ℕ → List ℕ
-written zero m size k o = o
-written (suc j) m size k o = stored (written j m size k o) (5 * j) (resultWord m size k j)
+unfoldable pub writtenFrom : ℕ → List ℕ → ℕ → ℕ → ℕ → List ℕ → List ℕ
+writtenFrom zero m base size k o = o
+writtenFrom (suc j) m base size k o = stored (writtenFrom j m base size k o) (5 * j) (resultWordFrom m base size k j)
 
 -- "Take removes one value from each result port."
-unfoldable pub emptied : ℕ → List ℕ → ℕ → List ℕ
-emptied zero m size = m
-emptied (suc j) m size = removedAt (emptied j m size) size (resultLink m j)
+unfoldable pub emptiedFrom : ℕ → List ℕ → ℕ → ℕ → List ℕ
+emptiedFrom zero m base size = m
+emptiedFrom (suc j) m base size = removedFrom (emptiedFrom j m base size) base size (resultLink m j)
+
+-- the same on the links of a machine, from `linksAt` on
+abbrev pub resultReady : List ℕ → ℕ → ℕ → Bool
+resultReady m size j = resultReadyFrom m linksAt size j
+
+abbrev pub resultWord : List ℕ → ℕ → ℕ → ℕ → ℕ
+resultWord m size k j = resultWordFrom m linksAt size k j
+
+abbrev pub written : ℕ → List ℕ → ℕ → ℕ → List ℕ → List ℕ
+written j m size k o = writtenFrom j m linksAt size k o
+
+abbrev pub emptied : ℕ → List ℕ → ℕ → List ℕ
+emptied j m size = emptiedFrom j m linksAt size
 
 unfoldable pub takenMemory : List ℕ → List ℕ
 takenMemory m = set (emptied (resultsOf m) m (sizeIn m)) untakenAt (untakenOf m - 1)

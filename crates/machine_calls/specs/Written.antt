@@ -8,7 +8,7 @@ use lib.ListN.{length, drop, length-append, length-drop}
 use lib.Seq.{take-at, drop-append-add, drop-drop}
 use Rattle.value.specs.Bytes.{wordBytes, stored}
 use Rattle.value.proofs.Words.{stored-parts}
-use Rattle.machine_calls.specs.Calls.{resultWord, written}
+use Rattle.machine_calls.specs.Calls.{resultWordFrom, writtenFrom}
 
 -- The bytes of the first j words.
 abbrev pub wordsOut : ℕ → (ℕ → ℕ) → List ℕ
@@ -45,11 +45,11 @@ stored-out f o (suc j) h =
     ∙ stored-behind (wordsOut j f) o (5 * j) (f j) (length-out j f) (omega arith)
     ∙ ap (λ (n : ℕ). (wordsOut j f ++ wordBytes (f j)) ++ drop n o) z
 
-written-stored : (m : List ℕ) (size k : ℕ) (o : List ℕ) (j : ℕ) → written j m size k o ≡ storedOut j (resultWord m size k) o
-unfolding written
-written-stored m size k o zero = refl
-written-stored m size k o (suc j) = ap (λ (x : List ℕ). stored x (5 * j) (resultWord m size k j)) (written-stored m size k o j)
+written-stored : (m : List ℕ) (base size k : ℕ) (o : List ℕ) (j : ℕ) → writtenFrom j m base size k o ≡ storedOut j (resultWordFrom m base size k) o
+unfolding writtenFrom
+written-stored m base size k o zero = refl
+written-stored m base size k o (suc j) = ap (λ (x : List ℕ). stored x (5 * j) (resultWordFrom m base size k j)) (written-stored m base size k o j)
 
 -- Take's values as bytes, whatever lay there.
-pub written-out : (m : List ℕ) (size k j : ℕ) (o : List ℕ) → 5 * j ≤ length o → written j m size k o ≡ wordsOut j (resultWord m size k) ++ drop (5 * j) o
-written-out m size k j o h = written-stored m size k o j ∙ stored-out (resultWord m size k) o j h
+pub written-out : (m : List ℕ) (base size k j : ℕ) (o : List ℕ) → 5 * j ≤ length o → writtenFrom j m base size k o ≡ wordsOut j (resultWordFrom m base size k) ++ drop (5 * j) o
+written-out m base size k j o h = written-stored m base size k o j ∙ stored-out (resultWordFrom m base size k) o j h

@@ -1,16 +1,16 @@
 // Push, fire, run and take over byte memory (document 01, "Running" and the refusals), the firmware's
 // calls of these names. The definitions are specs/Calls; each contract is an equation on the answer
 // and on every lent byte, and asks nothing of the caller. Values lie in five bytes each (value's
-// specs/Bytes).
+// specs/Bytes). What a push and a take do to links takes `base`, the byte where these begin.
 use formula::Refusal;
 use machine_layout::LINKS_AT;
 ghost use mathlib.Core.Path.{_≡_};
 ghost use Prim.Native.Nat.{ℕ, _+_, _*_, _≤_, _<_};
 ghost use lib.ListN.{length};
-ghost use Rattle.machine_layout.specs.Layout.{mostInputs, mostResults, leastSize, mostSize, recordsAt, need, inputsOf, storedKinds};
+ghost use Rattle.machine_layout.specs.Layout.{mostInputs, mostResults, leastSize, mostSize, recordsAt, linksAt, need, needFrom, inputsOf, storedKinds};
 ghost use Rattle.value_sets.specs.Sets.{setOk};
 ghost use Rattle.machine_valid.specs.Below.{allBelow};
-ghost use Rattle.machine_calls.specs.Calls.{outcome, handed, answers, refusal, standing, roomsOk, entered, resultReady, resultWord, resultBytes, written, emptied, pushed, fired, ran, taken};
+ghost use Rattle.machine_calls.specs.Calls.{outcome, handed, answers, refusal, standing, roomsOk, enteredFrom, resultReadyFrom, resultWordFrom, resultBytes, writtenFrom, emptiedFrom, pushed, fired, ran, taken};
 
 // A call's answer: document 01's number of a refusal, 0 where accepted; the firings of a run, the
 // width of a taken result set or the sets of a tray that went in (machine_tray), else 0.
@@ -21,15 +21,15 @@ pub struct Answer {
 }
 
 // The bytes of a result set.
-const RESULT_BYTES: usize = 80;
+pub const RESULT_BYTES: usize = 80;
 
-fn reply(refusal: u32, count: u32) -> Answer
+pub fn reply(refusal: u32, count: u32) -> Answer
     ensures { λ a. ⌜ a ≡ answers refusal count ⌝ }
 {
     Answer { refusal, count }
 }
 
-fn refused(r: Refusal) -> Answer
+pub fn refused(r: Refusal) -> Answer
     ensures { λ a. ⌜ a ≡ refusal r ⌝ }
 {
     reply(formula::refusal_number(r), 0)
@@ -50,7 +50,7 @@ pub fn standing_of(mem: &[u8]) -> u32
 }
 
 // Whether a set has a value of its stored kind, or an err, for each input.
-fn is_set(mem: &[u8], set: &[u8]) -> bool
+pub fn is_set(mem: &[u8], set: &[u8]) -> bool
     requires { ⌜ (recordsAt ≤ length (now mem)) × (inputsOf (now mem) ≤ mostInputs) ⌝ }
     ensures { λ r. ⌜ r ≡ setOk (storedKinds (now (mem .entry))) (now (set .entry)) ⌝ }
 {
@@ -78,15 +78,15 @@ fn have_room(mem: &[u8], size: usize, k: usize) -> bool
 }
 
 // Gives the k values of a set to the input links.
-fn enter(mem: &mut [u8], size: usize, k: usize, set: &[u8])
-    requires { ⌜ (leastSize ≤ size) × (size ≤ mostSize) × (need size ≤ length (now mem)) × (k ≤ mostInputs) × (5 * k ≤ length (now set)) ⌝ }
-    ensures { λ _. ⌜ now (mem .exit) ≡ entered k (now (mem .entry)) size (now (set .entry)) ⌝ }
+pub fn enter(mem: &mut [u8], base: usize, size: usize, k: usize, set: &[u8])
+    requires { ⌜ (linksAt ≤ base) × (leastSize ≤ size) × (size ≤ mostSize) × (needFrom base size ≤ length (now mem)) × (k ≤ mostInputs) × (5 * k ≤ length (now set)) ⌝ }
+    ensures { λ _. ⌜ now (mem .exit) ≡ enteredFrom k (now (mem .entry)) base size (now (set .entry)) ⌝ }
 {
     let mut j = 0;
     while j < k {
         let l = machine_layout::input_link(mem, j);
         let word = value::bytes::load(set, 5 * j);
-        machine_firing::append_to(mem, LINKS_AT, size, l, word);
+        machine_firing::append_to(mem, base, size, l, word);
         j += 1;
     }
 }
@@ -112,7 +112,7 @@ pub fn push(mem: &mut [u8], set: &[u8]) -> Answer
         return refused(Refusal::Full);
     }
     let trigger = machine_layout::trigger(mem);
-    enter(mem, size, inputs, set);
+    enter(mem, LINKS_AT, size, inputs, set);
     let token = value::bytes::to_word(value::Value::Truth(true));
     machine_firing::append_to(mem, LINKS_AT, size, trigger, token);
     mem[machine_layout::UNTAKEN_AT] = (untaken + 1) as u8;
@@ -160,13 +160,13 @@ pub fn run(mem: &mut [u8], firings: u32) -> Answer
 }
 
 // Whether a token waits on each of the k result links.
-fn are_ready(mem: &[u8], size: usize, k: usize) -> bool
-    requires { ⌜ (leastSize ≤ size) × (size ≤ mostSize) × (need size ≤ length (now mem)) × (k ≤ mostResults) ⌝ }
-    ensures { λ r. ⌜ r ≡ allBelow k (resultReady (now (mem .entry)) size) ⌝ }
+pub fn are_ready(mem: &[u8], base: usize, size: usize, k: usize) -> bool
+    requires { ⌜ (linksAt ≤ base) × (leastSize ≤ size) × (size ≤ mostSize) × (needFrom base size ≤ length (now mem)) × (k ≤ mostResults) ⌝ }
+    ensures { λ r. ⌜ r ≡ allBelow k (resultReadyFrom (now (mem .entry)) base size) ⌝ }
 {
     let mut j = 0;
     while j < k {
-        if machine_firing::head_of(mem, LINKS_AT, size, machine_layout::result_link(mem, j)) == 0 {
+        if machine_firing::head_of(mem, base, size, machine_layout::result_link(mem, j)) == 0 {
             return false;
         }
         j += 1;
@@ -175,36 +175,36 @@ fn are_ready(mem: &[u8], size: usize, k: usize) -> bool
 }
 
 // Value j of the result set: err past the width.
-fn result_word(mem: &[u8], size: usize, k: usize, j: usize) -> u64
-    requires { ⌜ (leastSize ≤ size) × (size ≤ mostSize) × (need size ≤ length (now mem)) × (k ≤ mostResults) ⌝ }
-    ensures { λ r. ⌜ r ≡ resultWord (now (mem .entry)) size k j ⌝ }
+fn result_word(mem: &[u8], base: usize, size: usize, k: usize, j: usize) -> u64
+    requires { ⌜ (linksAt ≤ base) × (leastSize ≤ size) × (size ≤ mostSize) × (needFrom base size ≤ length (now mem)) × (k ≤ mostResults) ⌝ }
+    ensures { λ r. ⌜ r ≡ resultWordFrom (now (mem .entry)) base size k j ⌝ }
 {
     if j < k {
-        return machine_firing::head_of(mem, LINKS_AT, size, machine_layout::result_link(mem, j));
+        return machine_firing::head_of(mem, base, size, machine_layout::result_link(mem, j));
     }
     value::bytes::ERR
 }
 
-fn write_results(mem: &[u8], size: usize, k: usize, out: &mut [u8])
-    requires { ⌜ (leastSize ≤ size) × (size ≤ mostSize) × (need size ≤ length (now mem)) × (k ≤ mostResults) × (resultBytes ≤ length (now out)) ⌝ }
-    ensures { λ _. ⌜ now (out .exit) ≡ written mostResults (now (mem .entry)) size k (now (out .entry)) ⌝ }
+pub fn write_results(mem: &[u8], base: usize, size: usize, k: usize, out: &mut [u8])
+    requires { ⌜ (linksAt ≤ base) × (leastSize ≤ size) × (size ≤ mostSize) × (needFrom base size ≤ length (now mem)) × (k ≤ mostResults) × (resultBytes ≤ length (now out)) ⌝ }
+    ensures { λ _. ⌜ now (out .exit) ≡ writtenFrom mostResults (now (mem .entry)) base size k (now (out .entry)) ⌝ }
 {
     let mut j = 0;
     while j < machine_layout::RESULTS {
-        let word = result_word(mem, size, k, j);
+        let word = result_word(mem, base, size, k, j);
         value::bytes::store(out, 5 * j, word);
         j += 1;
     }
 }
 
-fn empty_results(mem: &mut [u8], size: usize, k: usize)
-    requires { ⌜ (leastSize ≤ size) × (size ≤ mostSize) × (need size ≤ length (now mem)) × (k ≤ mostResults) ⌝ }
-    ensures { λ _. ⌜ now (mem .exit) ≡ emptied k (now (mem .entry)) size ⌝ }
+pub fn empty_results(mem: &mut [u8], base: usize, size: usize, k: usize)
+    requires { ⌜ (linksAt ≤ base) × (leastSize ≤ size) × (size ≤ mostSize) × (needFrom base size ≤ length (now mem)) × (k ≤ mostResults) ⌝ }
+    ensures { λ _. ⌜ now (mem .exit) ≡ emptiedFrom k (now (mem .entry)) base size ⌝ }
 {
     let mut j = 0;
     while j < k {
         let l = machine_layout::result_link(mem, j);
-        machine_firing::remove_from(mem, LINKS_AT, size, l);
+        machine_firing::remove_from(mem, base, size, l);
         j += 1;
     }
 }
@@ -226,11 +226,11 @@ pub fn take(mem: &mut [u8], out: &mut [u8]) -> Answer
     }
     let results = machine_layout::results(mem);
     let size = machine_layout::stretch_size(machine_layout::capacity(mem));
-    if !are_ready(mem, size, results) {
+    if !are_ready(mem, LINKS_AT, size, results) {
         return refused(Refusal::NoResult);
     }
-    write_results(mem, size, results, out);
-    empty_results(mem, size, results);
+    write_results(mem, LINKS_AT, size, results, out);
+    empty_results(mem, LINKS_AT, size, results);
     mem[machine_layout::UNTAKEN_AT] = (untaken - 1) as u8;
     reply(0, results as u32)
 }

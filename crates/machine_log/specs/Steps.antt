@@ -139,7 +139,7 @@ module _ (m : List ℕ) where
 
   took : (o : List ℕ) → 80 ≤ length o → taken m o ≡ tookBy stands ready m o
   unfolding taken
-  took o h = rw (le-ltb (length o) 80 h, written-out m (sizeIn m) (resultsOf m) 16 o h) refl
+  took o h = rw (le-ltb (length o) 80 h, written-out m linksAt (sizeIn m) (resultsOf m) 16 o h) refl
 
   took-room : taken m room ≡ tookBy stands ready m room
   took-room = took room (omega arith)

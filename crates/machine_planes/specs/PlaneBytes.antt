@@ -12,7 +12,7 @@ use Rattle.value.specs.Bytes.{wordAt}
 use Rattle.machine_layout.specs.Layout.{capacityAt, operatorCountAt, linkCountAt, inputCountAt, resultCountAt, untakenAt, triggerAt, inputLinksAt, resultLinksAt, inputKindsAt, capacityByte, operatorsOf, linksOf, inputsOf, resultsOf, untakenOf, triggerOf, inputLink, resultLink, storedKinds, mostInputs, mostResults, mostOperators, mostLinks, linksAt, leastSize, linkAt, linkFrom, need, number16, nameAt, operatorAt, portsAt, portOf, kindByte, registerAt, part, put}
 use Rattle.machine_firing.specs.Parts.{length-put, drop-put-above, part-length, part-set-below}
 use Rattle.machine_firing.specs.Fire.{registerOf}
-use Rattle.machine_planes.specs.Planes.{mostTags, tagByte, planeBytes, planeAt, taggedNeed, planeOf}
+use Rattle.machine_planes.specs.Planes.{mostTags, untakenUnder, planeBytes, planeAt, taggedNeed, planeOf}
 
 -- ---- two lists behind each other: a part read or replaced in one of them
 
@@ -82,34 +82,34 @@ module _ (m : List ℕ) (t : ℕ) (long : taggedNeed ≤ length m) (tag : t < mo
   low-length : length (take linksAt m) ≡ linksAt
   low-length = length-take-le linksAt m (omega arith)
 
-  pub headed-length : length (headed (take linksAt m) (tagByte m t)) ≡ linksAt
+  pub headed-length : length (headed (take linksAt m) (untakenUnder m t)) ≡ linksAt
   headed-length = simp length-set low-length
 
   links-length : length (part m (planeAt t) planeBytes) ≡ planeBytes
   links-length = part-length m (planeAt t) planeBytes (omega arith)
 
-  pub plane-split : planeOf m t ≡ headed (take linksAt m) (tagByte m t) ++ part m (planeAt t) planeBytes
+  pub plane-split : planeOf m t ≡ headed (take linksAt m) (untakenUnder m t) ++ part m (planeAt t) planeBytes
   unfolding planeOf
   plane-split =
       let l = low-length in
       let k : length (set (take linksAt m) capacityAt 1) ≡ linksAt = simp length-set l in
-      ap (λ (x : List ℕ). set x untakenAt (tagByte m t)) (set-append-left (take linksAt m) (part m (planeAt t) planeBytes) capacityAt 1 (omega arith))
-      ∙ set-append-left (set (take linksAt m) capacityAt 1) (part m (planeAt t) planeBytes) untakenAt (tagByte m t) (omega arith)
+      ap (λ (x : List ℕ). set x untakenAt (untakenUnder m t)) (set-append-left (take linksAt m) (part m (planeAt t) planeBytes) capacityAt 1 (omega arith))
+      ∙ set-append-left (set (take linksAt m) capacityAt 1) (part m (planeAt t) planeBytes) untakenAt (untakenUnder m t) (omega arith)
 
   pub plane-length : length (planeOf m t) ≡ need leastSize
-  plane-length = ap length plane-split ∙ length-append (headed (take linksAt m) (tagByte m t)) (part m (planeAt t) planeBytes) ∙ ap₂ _+_ headed-length links-length
+  plane-length = ap length plane-split ∙ length-append (headed (take linksAt m) (untakenUnder m t)) (part m (planeAt t) planeBytes) ∙ ap₂ _+_ headed-length links-length
 
   -- ---- bytes below the links
 
-  low-byte : (at : ℕ) → at < linksAt → getD (planeOf m t) at 0 ≡ getD (headed (take linksAt m) (tagByte m t)) at 0
+  low-byte : (at : ℕ) → at < linksAt → getD (planeOf m t) at 0 ≡ getD (headed (take linksAt m) (untakenUnder m t)) at 0
   low-byte at h =
       let k = headed-length in
-      ap (λ (l : List ℕ). getD l at 0) plane-split ∙ List·getD-append (headed (take linksAt m) (tagByte m t)) (part m (planeAt t) planeBytes) 0 at (omega arith)
+      ap (λ (l : List ℕ). getD l at 0) plane-split ∙ List·getD-append (headed (take linksAt m) (untakenUnder m t)) (part m (planeAt t) planeBytes) 0 at (omega arith)
 
   pub plane-byte : (at : ℕ) → at < linksAt → at ≢ capacityAt → at ≢ untakenAt → getD (planeOf m t) at 0 ≡ getD m at 0
   plane-byte at h p q =
       low-byte at h
-      ∙ getD-set-other (set (take linksAt m) capacityAt 1) untakenAt at (tagByte m t) 0 q
+      ∙ getD-set-other (set (take linksAt m) capacityAt 1) untakenAt at (untakenUnder m t) 0 q
       ∙ getD-set-other (take linksAt m) capacityAt at 1 0 p
       ∙ getD-take linksAt m at 0 h
 
@@ -117,14 +117,14 @@ module _ (m : List ℕ) (t : ℕ) (long : taggedNeed ≤ length m) (tag : t < mo
   plane-capacity =
       let l = low-length in
       low-byte capacityAt (omega arith)
-      ∙ getD-set-other (set (take linksAt m) capacityAt 1) untakenAt capacityAt (tagByte m t) 0 (omega arith)
+      ∙ getD-set-other (set (take linksAt m) capacityAt 1) untakenAt capacityAt (untakenUnder m t) 0 (omega arith)
       ∙ getD-set-same (take linksAt m) capacityAt 1 0 (omega arith)
 
-  pub plane-untaken : untakenOf (planeOf m t) ≡ tagByte m t
+  pub plane-untaken : untakenOf (planeOf m t) ≡ untakenUnder m t
   plane-untaken =
       let l : length (set (take linksAt m) capacityAt 1) ≡ linksAt = simp length-set low-length in
       low-byte untakenAt (omega arith)
-      ∙ getD-set-same (set (take linksAt m) capacityAt 1) untakenAt (tagByte m t) 0 (omega arith)
+      ∙ getD-set-same (set (take linksAt m) capacityAt 1) untakenAt (untakenUnder m t) 0 (omega arith)
 
   -- behind the sets untaken, a part
   pub plane-part : (b s : ℕ) → untakenAt < b → b + s ≤ linksAt → part (planeOf m t) b s ≡ part m b s
@@ -132,8 +132,8 @@ module _ (m : List ℕ) (t : ℕ) (long : taggedNeed ≤ length m) (tag : t < mo
       let l = low-length in
       let e = headed-length in
       ap (λ (x : List ℕ). part x b s) plane-split
-      ∙ part-before (headed (take linksAt m) (tagByte m t)) (part m (planeAt t) planeBytes) b s (omega arith)
-      ∙ part-set-below (set (take linksAt m) capacityAt 1) untakenAt (tagByte m t) b s h
+      ∙ part-before (headed (take linksAt m) (untakenUnder m t)) (part m (planeAt t) planeBytes) b s (omega arith)
+      ∙ part-set-below (set (take linksAt m) capacityAt 1) untakenAt (untakenUnder m t) b s h
       ∙ part-set-below (take linksAt m) capacityAt 1 b s (omega arith)
       ∙ sym (part-before (take linksAt m) (drop linksAt m) b s (omega arith))
       ∙ ap (λ (x : List ℕ). part x b s) (take-append-drop linksAt m)
@@ -198,7 +198,7 @@ module _ (m : List ℕ) (t : ℕ) (long : taggedNeed ≤ length m) (tag : t < mo
   pub plane-links : (b s : ℕ) → b + s ≤ planeBytes → part (planeOf m t) (linksAt + b) s ≡ part m (planeAt t + b) s
   plane-links b s h =
       ap (λ (x : List ℕ). part x (linksAt + b) s) plane-split
-      ∙ part-behind (headed (take linksAt m) (tagByte m t)) (part m (planeAt t) planeBytes) b s linksAt headed-length
+      ∙ part-behind (headed (take linksAt m) (untakenUnder m t)) (part m (planeAt t) planeBytes) b s linksAt headed-length
       ∙ part-inside m (planeAt t) planeBytes (omega arith) b s h
 
   pub plane-link : (l : ℕ) → l < mostLinks → part (planeOf m t) (linkAt leastSize l) leastSize ≡ part m (linkFrom (planeAt t) leastSize l) leastSize

@@ -17,7 +17,7 @@ use Rattle.machine_firing.specs.Links.{headFrom, headAt, tokenFrom, tokenAt, ro
 use Rattle.machine_firing.specs.Parts.{length-put, part-put-below, part-length, part-set-below}
 use Rattle.machine_firing.specs.LinkLaws.{Keeps, length-on, keeps-removed, keeps-appended}
 use Rattle.machine_firing.specs.Fire.{Plan, planned, decisionFrom, decisionAt, planFrom, planAt, readyFrom, readyFor, movedFrom, moved, performedFrom, performed, ableFrom, ableAt, firedFrom, firedAt}
-use Rattle.machine_planes.specs.Planes.{mostTags, tagsAt, tagByte, planeBytes, planeAt, taggedNeed, planeOf}
+use Rattle.machine_planes.specs.Planes.{mostTags, tagsAt, untakenUnder, planeBytes, planeAt, taggedNeed, planeOf}
 use Rattle.machine_planes.specs.PlaneBytes.{put-behind, put-inside, getD-put-above, part-set-above, headed, headed-length, plane-split, plane-kind, plane-port, plane-register, plane-link}
 
 -- ---- what is read under a tag
@@ -88,7 +88,7 @@ headed-set x b i v h = ap (λ (y : List ℕ). set y untakenAt b) (set-comm x i c
 
 module _ (m : List ℕ) (t : ℕ) (long : taggedNeed ≤ length m) (tag : t < mostTags) where
   -- the bytes of the tags lie behind the planes
-  pub tag-put : (b s : ℕ) (ys : List ℕ) → length ys ≡ s → b + s ≤ planeBytes → (u : ℕ) → tagByte (put m (planeAt t + b) s ys) u ≡ tagByte m u
+  pub tag-put : (b s : ℕ) (ys : List ℕ) → length ys ≡ s → b + s ≤ planeBytes → (u : ℕ) → untakenUnder (put m (planeAt t + b) s ys) u ≡ untakenUnder m u
   tag-put b s ys e h u = getD-put-above m (planeAt t + b) s ys (omega arith) e _ (omega arith)
 
   pub plane-put : (b s : ℕ) (ys : List ℕ) → length ys ≡ s → b + s ≤ planeBytes → planeOf (put m (planeAt t + b) s ys) t ≡ put (planeOf m t) (linksAt + b) s ys
@@ -96,9 +96,9 @@ module _ (m : List ℕ) (t : ℕ) (long : taggedNeed ≤ length m) (tag : t < mo
       let k = length-put m (planeAt t + b) s ys (omega arith) e in
       plane-split (put m (planeAt t + b) s ys) t (omega arith) tag
       ∙ ap (λ (c : ℕ). headed (take linksAt (put m (planeAt t + b) s ys)) c ++ part (put m (planeAt t + b) s ys) (planeAt t) planeBytes) (tag-put b s ys e h t)
-      ∙ ap₂ (λ (x y : List ℕ). headed x (tagByte m t) ++ y) (part-put-below m (planeAt t + b) s ys (omega arith) e 0 linksAt (omega arith))
+      ∙ ap₂ (λ (x y : List ℕ). headed x (untakenUnder m t) ++ y) (part-put-below m (planeAt t + b) s ys (omega arith) e 0 linksAt (omega arith))
       (put-inside m (planeAt t) planeBytes (omega arith) b s h ys e)
-      ∙ sym (put-behind (headed (take linksAt m) (tagByte m t)) (part m (planeAt t) planeBytes) b s ys linksAt (headed-length m t long tag))
+      ∙ sym (put-behind (headed (take linksAt m) (untakenUnder m t)) (part m (planeAt t) planeBytes) b s ys linksAt (headed-length m t long tag))
       ∙ ap (λ (x : List ℕ). put x (linksAt + b) s ys) (sym (plane-split m t long tag))
 
   pub plane-on : (l : ℕ) (f : List ℕ → List ℕ) → Keeps f → planeOf (onLinkFrom m (planeAt t) leastSize l f) t ≡ onLink (planeOf m t) leastSize l f
@@ -128,25 +128,25 @@ module _ (m : List ℕ) (t : ℕ) (long : taggedNeed ≤ length m) (tag : t < mo
       let w = headed-length m t long tag in
       plane-split (set m i v) t (omega arith) tag
       ∙ ap (λ (c : ℕ). headed (take linksAt (set m i v)) c ++ part (set m i v) (planeAt t) planeBytes) (getD-set-other m i _ v 0 (omega arith))
-      ∙ ap₂ (λ (x y : List ℕ). headed x (tagByte m t) ++ y) (take-set-lt linksAt m i v k) (part-set-below m i v (planeAt t) planeBytes (omega arith))
-      ∙ ap (λ (x : List ℕ). x ++ part m (planeAt t) planeBytes) (headed-set (take linksAt m) (tagByte m t) i v h)
-      ∙ sym (set-append-left (headed (take linksAt m) (tagByte m t)) (part m (planeAt t) planeBytes) i v (omega arith))
+      ∙ ap₂ (λ (x y : List ℕ). headed x (untakenUnder m t) ++ y) (take-set-lt linksAt m i v k) (part-set-below m i v (planeAt t) planeBytes (omega arith))
+      ∙ ap (λ (x : List ℕ). x ++ part m (planeAt t) planeBytes) (headed-set (take linksAt m) (untakenUnder m t) i v h)
+      ∙ sym (set-append-left (headed (take linksAt m) (untakenUnder m t)) (part m (planeAt t) planeBytes) i v (omega arith))
       ∙ ap (λ (x : List ℕ). set x i v) (sym (plane-split m t long tag))
 
   -- of a byte set behind the planes a tag's machine sees what it makes of the tag's byte
-  pub plane-beyond : (i v : ℕ) → tagsAt ≤ i → planeOf (set m i v) t ≡ headed (take linksAt m) (tagByte (set m i v) t) ++ part m (planeAt t) planeBytes
+  pub plane-beyond : (i v : ℕ) → tagsAt ≤ i → planeOf (set m i v) t ≡ headed (take linksAt m) (untakenUnder (set m i v) t) ++ part m (planeAt t) planeBytes
   plane-beyond i v h =
       let e = length-set m i v in
       plane-split (set m i v) t (omega arith) tag
-      ∙ ap₂ (λ (x y : List ℕ). headed x (tagByte (set m i v) t) ++ y) (take-set-le linksAt m i v (omega arith)) (part-set-above m i v (planeAt t) planeBytes (omega arith))
+      ∙ ap₂ (λ (x y : List ℕ). headed x (untakenUnder (set m i v) t) ++ y) (take-set-le linksAt m i v (omega arith)) (part-set-above m i v (planeAt t) planeBytes (omega arith))
 
   pub plane-tag : (v : ℕ) → planeOf (set m (tagsAt + t) v) t ≡ set (planeOf m t) untakenAt v
   plane-tag v =
       let w = headed-length m t long tag in
       plane-beyond (tagsAt + t) v (omega arith)
       ∙ ap (λ (c : ℕ). headed (take linksAt m) c ++ part m (planeAt t) planeBytes) (getD-set-same m (tagsAt + t) v 0 (omega arith))
-      ∙ ap (λ (x : List ℕ). x ++ part m (planeAt t) planeBytes) (sym (set-set (set (take linksAt m) capacityAt 1) untakenAt (tagByte m t) v))
-      ∙ sym (set-append-left (headed (take linksAt m) (tagByte m t)) (part m (planeAt t) planeBytes) untakenAt v (omega arith))
+      ∙ ap (λ (x : List ℕ). x ++ part m (planeAt t) planeBytes) (sym (set-set (set (take linksAt m) capacityAt 1) untakenAt (untakenUnder m t) v))
+      ∙ sym (set-append-left (headed (take linksAt m) (untakenUnder m t)) (part m (planeAt t) planeBytes) untakenAt v (omega arith))
       ∙ ap (λ (x : List ℕ). set x untakenAt v) (sym (plane-split m t long tag))
 
 plane-sets : (vs m : List ℕ) (t at : ℕ) → taggedNeed ≤ length m → t < mostTags → untakenAt < at → at + length vs ≤ linksAt → planeOf (sets m at vs) t ≡ sets (planeOf m t) at vs

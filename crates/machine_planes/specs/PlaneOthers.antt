@@ -30,7 +30,7 @@ use Rattle.machine_firing.specs.Links.{onLinkFrom, removedFrom, appendedFrom}
 use Rattle.machine_firing.specs.Parts.{length-put, part-put-below, part-put-above, part-length}
 use Rattle.machine_firing.specs.LinkLaws.{Keeps, length-on, low-on, byte-kept, keeps-removed, keeps-appended}
 use Rattle.machine_firing.specs.Fire.{Plan, planned, registerOf, decisionFrom, planFrom, readyFrom, movedFrom, performedFrom, ableFrom, firedFrom}
-use Rattle.machine_planes.specs.Planes.{mostTags, tagsAt, tagByte, planeBytes, planeAt, taggedNeed, planeOf}
+use Rattle.machine_planes.specs.Planes.{mostTags, tagsAt, untakenUnder, planeBytes, planeAt, taggedNeed, planeOf}
 use Rattle.machine_planes.specs.PlaneBytes.{getD-put-above, headed, plane-split}
 use Rattle.machine_planes.specs.PlaneFirings.{tag-put, plane-beyond, plane-stored, by-moves}
 
@@ -50,7 +50,7 @@ module _ (t u : ℕ) (tag : t < mostTags) (tag′ : u < mostTags) (other : u ≢
         let k = length-put m (planeAt t + b) s ys (omega arith) e in
         plane-split (put m (planeAt t + b) s ys) u (omega arith) tag′
         ∙ ap (λ (c : ℕ). headed (take linksAt (put m (planeAt t + b) s ys)) c ++ part (put m (planeAt t + b) s ys) (planeAt u) planeBytes) (tag-put m t long tag b s ys e h u)
-        ∙ ap₂ (λ (x y : List ℕ). headed x (tagByte m u) ++ y) (part-put-below m (planeAt t + b) s ys (omega arith) e 0 linksAt (omega arith)) (beside-part b s ys e h)
+        ∙ ap₂ (λ (x y : List ℕ). headed x (untakenUnder m u) ++ y) (part-put-below m (planeAt t + b) s ys (omega arith) e 0 linksAt (omega arith)) (beside-part b s ys e h)
         ∙ sym (plane-split m u long tag′)
 
     -- the tag's own byte
@@ -182,13 +182,13 @@ module _ (m : List ℕ) (base size : ℕ) (h : needFrom base size ≤ length m) 
 -- ---- the bytes of the tags
 
 module _ (m : List ℕ) (t : ℕ) (long : taggedNeed ≤ length m) (tag : t < mostTags) where
-  pub tag-removed : (l u : ℕ) → tagByte (removedFrom m (planeAt t) leastSize l) u ≡ tagByte m u
+  pub tag-removed : (l u : ℕ) → untakenUnder (removedFrom m (planeAt t) leastSize l) u ≡ untakenUnder m u
   tag-removed l u = removed-behind m (planeAt t) leastSize (omega arith) l _ (omega arith)
 
-  pub tag-appended : (l w u : ℕ) → tagByte (appendedFrom m (planeAt t) leastSize l w) u ≡ tagByte m u
+  pub tag-appended : (l w u : ℕ) → untakenUnder (appendedFrom m (planeAt t) leastSize l w) u ≡ untakenUnder m u
   tag-appended l w u = appended-behind m (planeAt t) leastSize (omega arith) l w _ (omega arith)
 
-  pub tag-fired : (i : ℕ) → i < mostOperators → (u : ℕ) → tagByte (firedFrom m (planeAt t) leastSize i) u ≡ tagByte m u
+  pub tag-fired : (i : ℕ) → i < mostOperators → (u : ℕ) → untakenUnder (firedFrom m (planeAt t) leastSize i) u ≡ untakenUnder m u
   tag-fired i few u = fired-behind m (planeAt t) leastSize (omega arith) (omega arith) i _ few (omega arith)
 
 -- ---- an operator that does not remember
@@ -249,21 +249,23 @@ word-bytes a b c d e p q r s t =
     rw (e0, e1, e2, e3, e4) refl
 
 -- the word that stands there stored again
-stored-same : (m : List ℕ) (at : ℕ) → ((i : ℕ) → getD m i 0 < 256) → stored m at (wordAt m at) ≡ m
+stored-same : (m : List ℕ) (at : ℕ) → ((j : ℕ) → j < 5 → getD m (at + j) 0 < 256) → stored m at (wordAt m at) ≡ m
 unfolding stored wordAt
 stored-same m at small =
+    let p0 : at + 0 ≡ at = omega arith in
+    let first : getD m at 0 < 256 = rw p0 at (small 0 (omega arith)) in
     let p1 : at + 1 ≡ suc at = omega arith in
     let p2 : at + 2 ≡ suc (suc at) = omega arith in
     let p3 : at + 3 ≡ suc (suc (suc at)) = omega arith in
     let p4 : at + 4 ≡ suc (suc (suc (suc at))) = omega arith in
-    ap (sets m at) (word-bytes (getD m at 0) (getD m (at + 1) 0) (getD m (at + 2) 0) (getD m (at + 3) 0) (getD m (at + 4) 0) (small at) (small (at + 1)) (small (at + 2)) (small (at + 3)) (small (at + 4)))
+    ap (sets m at) (word-bytes (getD m at 0) (getD m (at + 1) 0) (getD m (at + 2) 0) (getD m (at + 3) 0) (getD m (at + 4) 0) first (small 1 (omega arith)) (small 2 (omega arith)) (small 3 (omega arith)) (small 4 (omega arith)))
     ∙ rw (p1, p2, p3, p4) (simp set-getD)
 
--- What `beside-fired` asks: the kind is none that remembers, and the register holds a value or nothing.
-pub register-stays : (m : List ℕ) (base size i : ℕ) → ((j : ℕ) → getD m j 0 < 256) → kindByte m i < byteOf FM-gate → wordOr (registerOf m i) ≡ wordAt m (registerAt i) →
+-- What `beside-fired` asks: the kind is none that remembers, and the register holds a value or nothing, in five bytes.
+pub register-bytes-stay : (m : List ℕ) (base size i : ℕ) → ((j : ℕ) → j < 5 → getD m (registerAt i + j) 0 < 256) → kindByte m i < byteOf FM-gate → wordOr (registerOf m i) ≡ wordAt m (registerAt i) →
     ableFrom m base size i ≡ true → stored m (registerAt i) (planFrom m base size i .register) ≡ m
 unfolding ableFrom readyFrom planFrom planned decisionFrom
-register-stays m base size i small kind holds able =
+register-bytes-stay m base size i small kind holds able =
     ap (λ (g : Decoded). stored m (registerAt i) (wordOr g)) (decision-leaves (kindByte m i) _ _ _ (registerOf m i) kind (first-true _ _ able))
     ∙ ap (stored m (registerAt i)) holds
     ∙ stored-same m (registerAt i) small
@@ -271,3 +273,8 @@ register-stays m base size i small kind holds able =
     first-true : (x y : Bool) → x && y ≡ true → x ≡ true
     first-true true y e = refl
     first-true false y e = e
+
+-- In a memory of bytes they are such.
+pub register-stays : (m : List ℕ) (base size i : ℕ) → ((j : ℕ) → getD m j 0 < 256) → kindByte m i < byteOf FM-gate → wordOr (registerOf m i) ≡ wordAt m (registerAt i) →
+    ableFrom m base size i ≡ true → stored m (registerAt i) (planFrom m base size i .register) ≡ m
+register-stays m base size i small = register-bytes-stay m base size i (λ j l. small (registerAt i + j))

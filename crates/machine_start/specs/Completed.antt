@@ -21,7 +21,7 @@ use Rattle.theory_wiring.specs.MadeGraph.{trigger-link, result-count}
 use Rattle.maker.specs.Making.{padded, tellOf, makingOf, makingIn}
 use Rattle.maker.specs.declared.Making.{Making}
 use Rattle.machine_start.specs.declared.StartAnswer.{StartAnswer}
-use Rattle.machine_start.specs.Start.{begun, accepted, figured, named, lettered, headed, emptied, startedMemory, byVerdict}
+use Rattle.machine_start.specs.Start.{begun, accepted, figured, named, lettered, headed, clearedFrom, emptied, startedMemory, byVerdict}
 use Rattle.machine_start.specs.StartLaws.{verdict-passed}
 
 -- Figures that fit the header.
@@ -47,7 +47,7 @@ pub result-name-count : (x : Making) → Modest x → length (resultNames x) ≡
 result-name-count x h = length-take-le (x .results) (x .«result_links») (omega (arith, h .results, h .result-places))
 
 unfoldable pub completed : List ℕ → ℕ → Making → List ℕ → List ℕ
-unfolding figured named lettered emptied
+unfolding figured named lettered clearedFrom
 completed m capacity x kinds =
     let figures : List ℕ = figured m capacity (x .operators) (x .links) (x .inputs) (x .results) (x .trigger) in
     emptied (x .links) (sizeOf capacity) (lettered (named (length (resultNames x)) (named (length (inputNames x)) figures 10 (inputNames x)) 74 (resultNames x)) kinds)

@@ -8,9 +8,9 @@ use native.Mathlib.Omega.{arith}
 use native.Mathlib.Decide.{ℕ-discrete}
 use lib.ListN.{length, getD, set, take, drop, length-set}
 use lib.Seq.{sets, sets-eq, take-at, drop-at, length-take-le, getD-set-same, getD-set-other}
-use Rattle.machine_layout.specs.Layout.{number16, stored16, nameAt, linkAt, part}
+use Rattle.machine_layout.specs.Layout.{number16, stored16, nameAt, linksAt, linkFrom, linkAt, part}
 use Rattle.machine_layout.specs.Fits.{apart}
-use Rattle.machine_start.specs.Start.{named, emptied}
+use Rattle.machine_start.specs.Start.{named, clearedFrom, emptied}
 
 -- A place before or behind a stretch of n bytes.
 abbrev pub Beside : ℕ → ℕ → ℕ → Type 0
@@ -118,23 +118,35 @@ named-read (suc k) m at ls h j l s = go (ℕ-discrete j k) (λ p. named-read k m
 
 -- ---- empty links
 
+module _ (base : ℕ) where
+  pub length-emptied-from : (k size : ℕ) (m : List ℕ) → length (clearedFrom k base size m) ≡ length m
+  unfolding clearedFrom
+  length-emptied-from zero size m = refl
+  length-emptied-from (suc k) size m = length-set (clearedFrom k base size m) (linkFrom base size k) 0 ∙ length-emptied-from k size m
+
+  pub emptied-from-kept : (k size : ℕ) (m : List ℕ) (i : ℕ) → i < base → getD (clearedFrom k base size m) i 0 ≡ getD m i 0
+  unfolding clearedFrom
+  emptied-from-kept zero size m i h = refl
+  emptied-from-kept (suc k) size m i h = getD-set-other (clearedFrom k base size m) (linkFrom base size k) i 0 0 (λ e. omega arith) ∙ emptied-from-kept k size m i h
+
+  pub emptied-from-read : (k size : ℕ) (m : List ℕ) (l : ℕ) → 1 ≤ size → l < k → linkFrom base size l < length m → getD (clearedFrom k base size m) (linkFrom base size l) 0 ≡ 0
+  unfolding clearedFrom
+  emptied-from-read zero size m l h p b = absurd (omega arith)
+  emptied-from-read (suc k) size m l h p b = go (ℕ-discrete l k) (λ q. emptied-from-read k size m l h q b)
+    where
+      go : Dec (l ≡ k) → (l < k → getD (clearedFrom k base size m) (linkFrom base size l) 0 ≡ 0)
+          → getD (set (clearedFrom k base size m) (linkFrom base size k) 0) (linkFrom base size l) 0 ≡ 0
+      go (yes e) ih = rw (sym e) (getD-set-same (clearedFrom l base size m) (linkFrom base size l) 0 0 (omega (arith, length-emptied-from l size m)))
+      go (no e) ih =
+          getD-set-other (clearedFrom k base size m) (linkFrom base size k) (linkFrom base size l) 0 0 (λ z. let a = apart size l k (omega arith) in omega arith)
+          ∙ ih (omega arith)
+
+-- of a machine's own links
 pub length-emptied : (k size : ℕ) (m : List ℕ) → length (emptied k size m) ≡ length m
-unfolding emptied
-length-emptied zero size m = refl
-length-emptied (suc k) size m = length-set (emptied k size m) (linkAt size k) 0 ∙ length-emptied k size m
+length-emptied = length-emptied-from linksAt
 
 pub emptied-kept : (k size : ℕ) (m : List ℕ) (i : ℕ) → i < 21760 → getD (emptied k size m) i 0 ≡ getD m i 0
-unfolding emptied
-emptied-kept zero size m i h = refl
-emptied-kept (suc k) size m i h = getD-set-other (emptied k size m) (linkAt size k) i 0 0 (λ e. omega arith) ∙ emptied-kept k size m i h
+emptied-kept = emptied-from-kept linksAt
 
 pub emptied-read : (k size : ℕ) (m : List ℕ) (l : ℕ) → 1 ≤ size → l < k → linkAt size l < length m → getD (emptied k size m) (linkAt size l) 0 ≡ 0
-unfolding emptied
-emptied-read zero size m l h p b = absurd (omega arith)
-emptied-read (suc k) size m l h p b = go (ℕ-discrete l k) (λ q. emptied-read k size m l h q b)
-  where
-    go : Dec (l ≡ k) → (l < k → getD (emptied k size m) (linkAt size l) 0 ≡ 0) → getD (set (emptied k size m) (linkAt size k) 0) (linkAt size l) 0 ≡ 0
-    go (yes e) ih = rw (sym e) (getD-set-same (emptied l size m) (linkAt size l) 0 0 (omega (arith, length-emptied l size m)))
-    go (no e) ih =
-        getD-set-other (emptied k size m) (linkAt size k) (linkAt size l) 0 0 (λ z. let a = apart size l k (omega arith) in omega arith)
-        ∙ ih (omega arith)
+emptied-read = emptied-from-read linksAt

@@ -16,7 +16,7 @@ use Rattle.formula.specs.Refusals.{numberOf}
 use Rattle.formula.specs.Tree.{Exp, formulaOf}
 use Rattle.formula.specs.Tests.{verdictOf}
 use Rattle.formula.specs.Faults.{lettersOf}
-use Rattle.machine_layout.specs.Layout.{inputKindsAt, stored16, noLink, sizeOf, linkAt, need, capacityIn}
+use Rattle.machine_layout.specs.Layout.{inputKindsAt, stored16, noLink, linksAt, sizeOf, linkFrom, need, capacityIn}
 use Rattle.graph.specs.Assembly.{upFrom}
 use Rattle.graph.specs.Translation.{Made, madeOf}
 use Rattle.maker_laid.specs.Encode.{encoded, written}
@@ -66,16 +66,19 @@ headed g kinds capacity m =
 
 -- ---- the links
 
--- the first k links empty: their counts 0
-unfoldable pub emptied : ℕ → ℕ → List ℕ → List ℕ
-emptied zero size m = m
-emptied (suc l) size m = set (emptied l size m) (linkAt size l) 0
+-- the first k of the links from a byte on empty: their counts 0
+unfoldable pub clearedFrom : ℕ → ℕ → ℕ → List ℕ → List ℕ
+clearedFrom zero base size m = m
+clearedFrom (suc l) base size m = set (clearedFrom l base size m) (linkFrom base size l) 0
+
+abbrev pub emptied : ℕ → ℕ → List ℕ → List ℕ
+emptied k size m = clearedFrom k linksAt size m
 
 -- ---- the whole
 
 -- "Start a machine empty": the operators of the graph from number 0 on, the header, every link of the graph emptied; all other bytes as they were
 unfoldable pub startedMemory : Made → List ℕ → ℕ → List ℕ → List ℕ
-unfolding written headed emptied
+unfolding written headed clearedFrom
 startedMemory g kinds capacity m = emptied (g .links) (sizeOf capacity) (headed g kinds capacity (written m 0 (encoded (g .operators))))
 
 unfoldable pub byVerdict : Verdict → Exp → List ℕ → ℕ → List ℕ → Begun

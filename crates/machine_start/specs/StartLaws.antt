@@ -18,9 +18,9 @@ use Rattle.formula.specs.Tree.{Exp, formulaOf}
 use Rattle.formula.specs.Tests.{verdictOf}
 use Rattle.formula.specs.Faults.{lettersOf}
 use Rattle.formula.specs.Acceptance.{Admissible, Kinded, passed-admissible, passed-kinded}
-use Rattle.machine_layout.specs.Layout.{inputKindsAt, stored16, sizeOf, linkAt, need, capacityIn}
+use Rattle.machine_layout.specs.Layout.{inputKindsAt, stored16, sizeOf, linkFrom, need, capacityIn}
 use Rattle.graph.specs.Translation.{madeOf}
-use Rattle.machine_start.specs.Start.{Begun, begun, refusal, accepted, figureBytes, figured, named, lettered, emptied, startedMemory, byVerdict, started}
+use Rattle.machine_start.specs.Start.{Begun, begun, refusal, accepted, figureBytes, figured, named, lettered, clearedFrom, startedMemory, byVerdict, started}
 
 -- ---- the header's figures as they are written
 
@@ -63,13 +63,13 @@ letters-end m kinds j h = ap (sets m (inputKindsAt + j)) (drop-of-length-le kind
 
 -- ---- links
 
-pub emptied-none : (size : ℕ) (m : List ℕ) → emptied 0 size m ≡ m
-unfolding emptied
-emptied-none size m = refl
+pub emptied-none : (base size : ℕ) (m : List ℕ) → clearedFrom 0 base size m ≡ m
+unfolding clearedFrom
+emptied-none base size m = refl
 
-pub emptied-more : (size : ℕ) (m : List ℕ) (l : ℕ) → set (emptied l size m) (linkAt size l) 0 ≡ emptied (l + 1) size m
-unfolding emptied
-emptied-more size m l = let e : l + 1 ≡ suc l = omega arith in rw e refl
+pub emptied-more : (base size : ℕ) (m : List ℕ) (l : ℕ) → set (clearedFrom l base size m) (linkFrom base size l) 0 ≡ clearedFrom (l + 1) base size m
+unfolding clearedFrom
+emptied-more base size m l = let e : l + 1 ≡ suc l = omega arith in rw e refl
 
 -- ---- the outcomes of start
 

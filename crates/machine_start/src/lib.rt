@@ -17,8 +17,8 @@ ghost use lib.ListN.{length};
 ghost use Rattle.formula.specs.Tests.{verdictOf};
 ghost use Rattle.formula.specs.Tree.{formulaOf};
 ghost use Rattle.formula.specs.Faults.{lettersOf};
-ghost use Rattle.machine_layout.specs.Layout.{need, sizeOf, capacityIn};
-ghost use Rattle.machine_start.specs.Start.{begun, refusal, figured, named, lettered, emptied, byVerdict, started};
+ghost use Rattle.machine_layout.specs.Layout.{need, needFrom, sizeOf, capacityIn};
+ghost use Rattle.machine_start.specs.Start.{begun, refusal, figured, named, lettered, clearedFrom, byVerdict, started};
 ghost use Rattle.machine_start.specs.Completed.{Modest, completed};
 
 // Start's answer: document 01's number of a refusal, 0 where accepted; its row; the figures of the
@@ -32,7 +32,7 @@ pub struct StartAnswer {
     pub results: u32,
 }
 
-fn refused(r: Refusal, row: u32) -> StartAnswer
+pub fn refused(r: Refusal, row: u32) -> StartAnswer
     ensures { λ a. ⌜ a ≡ refusal r row ⌝ }
 {
     StartAnswer {
@@ -105,14 +105,14 @@ fn store_kinds(mem: &mut [u8], kinds: &[u8])
     }
 }
 
-// Empties the first k links.
-fn empty_links(mem: &mut [u8], size: usize, k: usize)
-    requires { ⌜ (1 ≤ size) × (size ≤ 81) × (need size ≤ length (now mem)) × (k ≤ 3105) ⌝ }
-    ensures { λ _. ⌜ now (mem .exit) ≡ emptied k size (now (mem .entry)) ⌝ }
+// Empties the first k of the links from `base` on.
+pub fn empty_links(mem: &mut [u8], base: usize, size: usize, k: usize)
+    requires { ⌜ (1 ≤ size) × (size ≤ 81) × (needFrom base size ≤ length (now mem)) × (k ≤ 3105) ⌝ }
+    ensures { λ _. ⌜ now (mem .exit) ≡ clearedFrom k base size (now (mem .entry)) ⌝ }
 {
     let mut l = 0;
     while l < k {
-        let at = machine_layout::link_from(LINKS_AT, size, l);
+        let at = machine_layout::link_from(base, size, l);
         mem[at] = 0;
         l += 1;
     }
@@ -140,7 +140,7 @@ fn complete(mem: &mut [u8], capacity: usize, made: Making, kinds: &[u8])
     store_names(mem, 10, &input_links[..inputs]);
     store_names(mem, 74, &result_links[..results]);
     store_kinds(mem, kinds);
-    empty_links(mem, 5 * capacity + 1, links as usize);
+    empty_links(mem, LINKS_AT, 5 * capacity + 1, links as usize);
 }
 
 // The tests of a sheet with its kinds line, and the machine of an accepted one.

@@ -17,7 +17,7 @@ use Rattle.formula.specs.Refusals.{numberOf}
 use Rattle.machine_layout.specs.Layout.{linksAt, need, inputsOf, untakenOf, triggerOf, untakenAt, inputCountAt, storedKinds}
 use Rattle.machine_firing.specs.LinkLaws.{low-appended}
 use Rattle.network.specs.Values.{true-value}
-use Rattle.machine_calls.specs.Calls.{Outcome, outcome, answers, refusal, sizeIn, standing, roomsOk, entered, triggered, pushedMemory, pushed}
+use Rattle.machine_calls.specs.Calls.{Outcome, outcome, answers, refusal, sizeIn, standing, roomsOk, entered, triggeredFrom, triggered, pushedMemory, pushed}
 use Rattle.machine_calls.specs.CallLaws.{standing-good, kinds-length, entered-keeps, pushed-refused, pushed-no-set}
 use Rattle.machine_tray.specs.Tray.{trayed, cut}
 use Rattle.machine_tray.specs.OneByOne.{counted, next, after-refusal, one-by-one, either, Pushes}
@@ -67,9 +67,9 @@ part-not-in m part l = go (ℕ-discrete (standing m) 0)
 
 -- A push keeps the number of inputs.
 entered-inputs : (m set : List ℕ) → standing m ≡ 0 → inputsOf (pushedMemory m set) ≡ inputsOf m
-unfolding pushedMemory triggered
+unfolding pushedMemory triggeredFrom
 entered-inputs m set st =
-    let K = entered-keeps m (sizeIn m) (standing-good m st .0) set (inputsOf m) in
+    let K = entered-keeps m linksAt (sizeIn m) (omega arith) (standing-good m st .0) set (inputsOf m) in
     let z : need (sizeIn m) ≤ length (entered (inputsOf m) m (sizeIn m) set) = omega (arith, K .size, standing-good m st .0) in
     getD-set-other (triggered m set) untakenAt inputCountAt (untakenOf m + 1) 0 (λ (e : 5 ≡ 7). absurd (omega arith))
     ∙ low-appended (entered (inputsOf m) m (sizeIn m) set) linksAt (sizeIn m) z (triggerOf m) (wordOf true-value) inputCountAt (omega arith)

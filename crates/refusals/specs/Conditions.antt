@@ -1,7 +1,8 @@
 -- The refusals of each call as an ordered table, each condition by name: document 01, "Said by what was handed in" and "Said by how the machine stands",
 -- "11 comes before all", "Order: 11, 31, 12, then these", "14 .. (start: after 11, before 1)"; document 02, Job 6, "17 .., 18 .., in this order after 9 and
 -- before 10"; document 02, Job 7, "36 is given when something can fire after them"; document 02, Job 3, "15 tested over the whole log first, both after 12";
--- document 02, Job 13, "20 .., after 10, and 21 .., after 20"; document 02, Job 14, "both after 11".
+-- document 02, Job 13, "20 .., after 10, and 21 .., after 20"; document 02, Job 14, "both after 11"; document 02, Job 12, "19 .., after 10, and 37 .., in place of
+-- 32 and 33, and 38 .., in place of 35".
 -- Definitions only; assumes nothing.
 use Prim.Native.Nat.{ℕ, zero, suc, _-_, _*_}
 use mathlib.Core.Bool.{Bool, true, false, not, _&&_, _||_}
@@ -10,7 +11,7 @@ use mathlib.Core.Option.{Option, some, none}
 use lib.Dec.{eqb, leb, ltb}
 use lib.ListN.{length, take, drop}
 use Rattle.value.specs.declared.Value.{Value}
-use Rattle.formula.specs.declared.Refusal.the-variants.{Layout, Rows, Malformed, Range, Naming, Named, StrayIter, Width, Unused, Operators, Memory, Set, Capacity, LogLine, LogRefused, KindsLine, KindsBroken, Sort, Movement, Unlisted, LastListed, Altered, Untaken, Full, NotAble, NoResult, Unfinished}
+use Rattle.formula.specs.declared.Refusal.the-variants.{Layout, Rows, Malformed, Range, Naming, Named, StrayIter, Width, Unused, Operators, Memory, Set, Capacity, LogLine, LogRefused, KindsLine, KindsBroken, Loop, Sort, Movement, Unlisted, LastListed, Altered, Untaken, Full, NotAble, NoResult, Unfinished, NoTag, NoTagResult}
 use Rattle.formula.specs.declared.Check.{Check}
 use Rattle.formula.specs.declared.Check.the-variants.{Passed, Fault}
 use Rattle.formula.specs.Sheet.{rowCount, linesOf, fieldsOf}
@@ -34,6 +35,11 @@ use Rattle.machine_calls.specs.Calls.{sizeIn, roomsOk, pushed, resultReady}
 use Rattle.machine_rounds.specs.Rounds.{roundsFrom}
 use Rattle.machine_log.specs.Lines.{logCheck}
 use Rattle.machine_log.specs.Checked.{setList, allSets, roomFor, followedLog}
+use Rattle.machine_planes.specs.Planes.{mostTags, taggedNeed}
+use Rattle.machine_tags.specs.TagRun.{ableUnder, tagRuns, tagStill}
+use Rattle.machine_tags.specs.TagValid.{tagValid}
+use Rattle.machine_tags.specs.TagCalls.{freeTag, wholeResult}
+use Rattle.machine_tag_start.specs.TagStart.{hasFor}
 use Rattle.refusals.specs.FirstRefusal.{Row}
 
 -- ---- how the machine stands
@@ -130,6 +136,62 @@ takeTable m out =
     ∷ (no-result m, NoResult)
     ∷ []
 
+-- ---- the machine with tags, by how it stands
+
+-- 11, whatever the memory holds
+abbrev pub tagged-short : List ℕ → Bool
+tagged-short m = ltb (length m) taggedNeed
+
+-- 31 with the figures of this machine
+abbrev pub tagged-altered : List ℕ → Bool
+tagged-altered m = not (tagValid m)
+
+-- 37 "when no tag is free"
+abbrev pub no-tag-free : List ℕ → Bool
+no-tag-free m = allBelow mostTags (λ t. not (freeTag m t))
+
+-- 34 "the operator is absent or not able"; "34 covers an absent tag"
+abbrev pub not-able-under : List ℕ → ℕ → ℕ → Bool
+not-able-under m i t = not (ltb i (operatorsOf m) && (ltb t mostTags && ableUnder m i t))
+
+-- 36 "run: something can still fire after the lent firings", under some tag
+abbrev pub can-still-fire-tagged : List ℕ → ℕ → Bool
+can-still-fire-tagged m firings = not (tagStill (tagRuns (operatorsOf m) firings m 0 .mem) (operatorsOf m))
+
+-- 38 "when take's tag has no whole result", an absent one too
+abbrev pub no-result-under : List ℕ → ℕ → Bool
+no-result-under m t = not (ltb t mostTags && wholeResult m t)
+
+abbrev pub taggedPushTable : List ℕ → List ℕ → List Row
+taggedPushTable m set =
+    (tagged-short m, Memory)
+    ∷ (tagged-altered m, Altered)
+    ∷ (no-set m set, Set)
+    ∷ (no-tag-free m, NoTag)
+    ∷ []
+
+abbrev pub taggedFireTable : List ℕ → ℕ → ℕ → List Row
+taggedFireTable m i t =
+    (tagged-short m, Memory)
+    ∷ (tagged-altered m, Altered)
+    ∷ (not-able-under m i t, NotAble)
+    ∷ []
+
+abbrev pub taggedRunTable : List ℕ → ℕ → List Row
+taggedRunTable m firings =
+    (tagged-short m, Memory)
+    ∷ (tagged-altered m, Altered)
+    ∷ (can-still-fire-tagged m firings, Unfinished)
+    ∷ []
+
+abbrev pub taggedTakeTable : List ℕ → ℕ → List ℕ → List Row
+taggedTakeTable m t out =
+    (no-room out, Memory)
+    ∷ (tagged-short m, Memory)
+    ∷ (tagged-altered m, Altered)
+    ∷ (no-result-under m t, NoTagResult)
+    ∷ []
+
 -- ---- what was handed in
 
 -- some row is at fault
@@ -223,6 +285,10 @@ startTable sheet line capacity m =
     (short-asked capacity m, Memory)
     ∷ (capacity-outside capacity, Capacity)
     ∷ sheetTable sheet line
+
+-- 11, the sheet's, "19 when the sheet has a for, after 10"
+abbrev pub taggedStartTable : List ℕ → List ℕ → List ℕ → List Row
+taggedStartTable sheet line m = (tagged-short m, Memory) ∷ (sheetTable sheet line ++ ((hasFor sheet, Loop) ∷ []))
 
 abbrev pub is-none : Option (List Value) → Bool
 is-none (some vs) = false
@@ -325,3 +391,18 @@ evaluateNumbers = 11 ∷ (sheetNumbers ++ (12 ∷ 36 ∷ []))
 
 abbrev pub logNumbers : List ℕ
 logNumbers = 11 ∷ 14 ∷ (sheetNumbers ++ (12 ∷ 15 ∷ 16 ∷ []))
+
+abbrev pub taggedStartNumbers : List ℕ
+taggedStartNumbers = 11 ∷ (sheetNumbers ++ (19 ∷ []))
+
+abbrev pub taggedPushNumbers : List ℕ
+taggedPushNumbers = 11 ∷ 31 ∷ 12 ∷ 37 ∷ []
+
+abbrev pub taggedFireNumbers : List ℕ
+taggedFireNumbers = 11 ∷ 31 ∷ 34 ∷ []
+
+abbrev pub taggedRunNumbers : List ℕ
+taggedRunNumbers = 11 ∷ 31 ∷ 36 ∷ []
+
+abbrev pub taggedTakeNumbers : List ℕ
+taggedTakeNumbers = 11 ∷ 31 ∷ 38 ∷ []

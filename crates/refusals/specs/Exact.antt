@@ -71,7 +71,7 @@ push-exact m set =
     ∙ ap (λ (b : Bool). first-refusal ((short m, Memory) ∷ (altered m, Altered) ∷ (no-set m set, Set) ∷ (b, Untaken) ∷ (link-full m, Full) ∷ []))
     (sym (sixteen (untakenOf m)))
 
-fire-order : (s v a : Bool) (m m′ : List ℕ) → pick (eqb (pick s 11 (pick v 0 31)) 0)
+pub fire-order : (s v a : Bool) (m m′ : List ℕ) → pick (eqb (pick s 11 (pick v 0 31)) 0)
     (pick a (outcome (answers 0 0) m′) (outcome (refusal NotAble) m))
     (outcome (answers (pick s 11 (pick v 0 31)) 0) m) .answer .refusal
     ≡ first-refusal ((s, Memory) ∷ (not v, Altered) ∷ (not a, NotAble) ∷ [])
@@ -86,7 +86,7 @@ pub fire-exact : (m : List ℕ) (i : ℕ) → fired m i .answer .refusal ≡ fir
 unfolding fired standing
 fire-exact m i = fire-order (short m) (valid m) (ltb i (operatorsOf m) && ableAt m (sizeIn m) i) m (firedAt m (sizeIn m) i)
 
-run-order : (s v t : Bool) (m m′ : List ℕ) (c : ℕ) → pick (eqb (pick s 11 (pick v 0 31)) 0)
+pub run-order : (s v t : Bool) (m m′ : List ℕ) (c : ℕ) → pick (eqb (pick s 11 (pick v 0 31)) 0)
     (pick t (outcome (answers 0 c) m′) (outcome (answers 36 c) m′))
     (outcome (answers (pick s 11 (pick v 0 31)) 0) m) .answer .refusal
     ≡ first-refusal ((s, Memory) ∷ (not v, Altered) ∷ (not t, Unfinished) ∷ [])
@@ -120,23 +120,23 @@ rounds-exact m number =
     let w : Rounded = roundsFrom (sizeIn m) (operatorsOf m) number m 0 0 in
     rounds-order (short m) (valid m) (stillAt (w .mem) (sizeIn m) (operatorsOf m)) m (w .mem) (w .rounds) (w .firings)
 
-take-order : (o s v t : Bool) (m m′ out out′ : List ℕ) (k : ℕ) → pick o (handed (refusal Memory) m out)
+pub take-order : (r : Refusal) (o s v t : Bool) (m m′ out out′ : List ℕ) (k : ℕ) → pick o (handed (refusal Memory) m out)
     (pick (eqb (pick s 11 (pick v 0 31)) 0)
-    (pick t (handed (answers 0 k) m′ out′) (handed (refusal NoResult) m out))
+    (pick t (handed (answers 0 k) m′ out′) (handed (refusal r) m out))
     (handed (answers (pick s 11 (pick v 0 31)) 0) m out)) .answer .refusal
-    ≡ first-refusal ((o, Memory) ∷ (s, Memory) ∷ (not v, Altered) ∷ (not t, NoResult) ∷ [])
+    ≡ first-refusal ((o, Memory) ∷ (s, Memory) ∷ (not v, Altered) ∷ (not t, r) ∷ [])
 unfolding first-refusal
-take-order true s v t m m′ out out′ k = refl
-take-order false true v t m m′ out out′ k = refl
-take-order false false false t m m′ out out′ k = refl
-take-order false false true false m m′ out out′ k = refl
-take-order false false true true m m′ out out′ k = refl
+take-order r true s v t m m′ out out′ k = refl
+take-order r false true v t m m′ out out′ k = refl
+take-order r false false false t m m′ out out′ k = refl
+take-order r false false true false m m′ out out′ k = refl
+take-order r false false true true m m′ out out′ k = refl
 
 -- 11, 31, 35
 pub take-exact : (m out : List ℕ) → taken m out .answer .refusal ≡ first-refusal (takeTable m out)
 unfolding taken standing
 take-exact m out =
-    take-order (no-room out) (short m) (valid m) (ltb 0 (untakenOf m) && allBelow (resultsOf m) (resultReady m (sizeIn m)))
+    take-order NoResult (no-room out) (short m) (valid m) (ltb 0 (untakenOf m) && allBelow (resultsOf m) (resultReady m (sizeIn m)))
     m (takenMemory m) out (written 16 m (sizeIn m) (resultsOf m) out) (resultsOf m)
 
 -- ---- what reading says

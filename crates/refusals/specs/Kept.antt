@@ -48,13 +48,13 @@ use Rattle.refusals.specs.Rows.{RowTold, VerdictRow, verdict-row}
 use Rattle.refusals.specs.RunCount.{Firings, run-is, run-counts}
 
 -- A refusal with count 0 that leaves the memory, or an acceptance.
-abbrev Keeps : List ℕ → Outcome → Type 0
+abbrev pub Keeps : List ℕ → Outcome → Type 0
 Keeps m o = o .answer .refusal ≢ 0 → (o .answer .count ≡ 0) × (o .mem ≡ m)
 
-keeps-refused : (m : List ℕ) (n : ℕ) → Keeps m (outcome (answers n 0) m)
+pub keeps-refused : (m : List ℕ) (n : ℕ) → Keeps m (outcome (answers n 0) m)
 keeps-refused m n h = (refl, refl)
 
-keeps-accepted : (m m′ : List ℕ) (c : ℕ) → Keeps m (outcome (answers 0 c) m′)
+pub keeps-accepted : (m m′ : List ℕ) (c : ℕ) → Keeps m (outcome (answers 0 c) m′)
 keeps-accepted m m′ c h = absurd (h refl)
 
 pub push-keeps : (m set : List ℕ) → pushed m set .answer .refusal ≢ 0 → (pushed m set .answer .count ≡ 0) × (pushed m set .mem ≡ m)
@@ -130,10 +130,10 @@ rounds-keeps m number h = go (ℕ-discrete (standing m) 0)
         let e = rounds-refused m number n in
         inl (ap (λ (o : RoundsOutcome). o .answer .rounds) e, ap (λ (o : RoundsOutcome). o .answer .firings) e, ap (λ (o : RoundsOutcome). o .mem) e)
 
-abbrev KeepsBoth : List ℕ → List ℕ → Handed → Type 0
+abbrev pub KeepsBoth : List ℕ → List ℕ → Handed → Type 0
 KeepsBoth m out h = h .answer .refusal ≢ 0 → (h .answer .count ≡ 0) × (h .mem ≡ m) × (h .out ≡ out)
 
-both-refused : (m out : List ℕ) (n : ℕ) → KeepsBoth m out (handed (answers n 0) m out)
+pub both-refused : (m out : List ℕ) (n : ℕ) → KeepsBoth m out (handed (answers n 0) m out)
 both-refused m out n h = (refl, refl, refl)
 
 pub take-keeps : (m out : List ℕ) → taken m out .answer .refusal ≢ 0

@@ -12,5 +12,7 @@ pub mod LogKept
 pub mod TidyRefused
 pub mod DriftRefused
 pub mod NextRefused
+pub mod TagRunCount
+pub mod TaggedRefused
 pub mod Refused
 pub mod FiredLinks

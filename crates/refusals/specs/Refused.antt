@@ -2,7 +2,7 @@
 -- lent firings", as `refused-call` over all calls; and demand 2, "A call is refused exactly when document 01 gives it a refusal, and with the first in the
 -- order there", as `call-exact`. A run by rounds that has used up its lent rounds is such a run too: "the firings kept as at run's 36" (document 02, Job 7). Of a
 -- tray of sets "the rule on unaltered memory speaks of the refused set alone" (document 02, Job 1). A log of which the machine would refuse a line gets "16 leaving
--- machine, results and count as the earlier lines made them" (document 02, Job 3). The calls are the definitions that the contracts of their entry points cite;
+-- machine, results and count as the earlier lines made them" (document 02, Job 3). The calls of the machine with tags are among them (document 02, Job 12). The calls are the definitions that the contracts of their entry points cite;
 -- a sheet, a kinds line, a set, tolerances or a log are lent for reading only. Assumes nothing.
 use Prim.Native.Nat.{ℕ}
 use mathlib.Core.Path.{_≡_, refl, sym, _∙_, subst}
@@ -22,7 +22,9 @@ use Rattle.machine_tray.specs.Tray.{trayed}
 use Rattle.machine_start.specs.Start.{started}
 use Rattle.machine_log.specs.Checked.{checked}
 use Rattle.refusals.specs.FirstRefusal.{Row, first-refusal, Named, Among, numbers, NoneHolds, FirstHolds, accepted-exactly, refused-exactly, first-among, first-named}
-use Rattle.refusals.specs.Conditions.{tidyTable, driftTable, nextTable, pushTable, trayTable, fireTable, runTable, roundsTable, takeTable, sheetTable, startTable, evaluateTable, logTable, sheetNumbers, tidyNumbers, driftNumbers, nextNumbers, pushNumbers, trayNumbers, fireNumbers, runNumbers, roundsNumbers, takeNumbers, startNumbers, evaluateNumbers, logNumbers}
+use Rattle.refusals.specs.Conditions.{tidyTable, driftTable, nextTable, pushTable, trayTable, fireTable, runTable, roundsTable, takeTable, sheetTable, startTable, evaluateTable, logTable, taggedStartTable, taggedPushTable, taggedFireTable, taggedRunTable, taggedTakeTable, sheetNumbers, tidyNumbers, driftNumbers, nextNumbers, pushNumbers, trayNumbers, fireNumbers, runNumbers, roundsNumbers, takeNumbers, startNumbers, evaluateNumbers, logNumbers, taggedStartNumbers, taggedPushNumbers, taggedFireNumbers, taggedRunNumbers, taggedTakeNumbers}
+use Rattle.machine_tags.specs.TagCalls.{tagPushed, tagFired, tagRan, tagTaken}
+use Rattle.machine_tag_start.specs.TagStart.{tagStarted}
 use Rattle.refusals.specs.Rows.{RowTold}
 use Rattle.refusals.specs.Exact.{push-exact, fire-exact, run-exact, rounds-exact, take-exact, read-exact, start-exact, evaluate-exact}
 use Rattle.refusals.specs.TrayExact.{tray-exact, tray-numbers}
@@ -32,6 +34,7 @@ use Rattle.refusals.specs.TidyRefused.{tidy-exact, tidy-keeps}
 use Rattle.refusals.specs.DriftRefused.{drift-exact, drift-keeps}
 use Rattle.refusals.specs.NextRefused.{next-exact, next-keeps}
 use Rattle.refusals.specs.Kept.{UsedUpFirings, UsedUpRounds, RoundsLeave, SetRefused, read-keeps, start-keeps, push-keeps, tray-keeps, fire-keeps, run-keeps, rounds-keeps, take-keeps, evaluate-keeps}
+use Rattle.refusals.specs.TaggedRefused.{UsedUpTagged, tagged-start-exact, tagged-push-exact, tagged-fire-exact, tagged-run-exact, tagged-take-exact, tagged-start-keeps, tagged-push-keeps, tagged-fire-keeps, tagged-run-keeps, tagged-take-keeps}
 use Rattle.refusals.specs.LogKept.{AsEarlierLines, LogLeaves, log-keeps}
 
 -- The firmware's entry points with what each is lent, in the order of their parameters.
@@ -49,6 +52,11 @@ pub data Call : Type 0 where
   take : List ℕ → List ℕ → Call
   evaluate : List ℕ → List ℕ → List ℕ → ℕ → List ℕ → Call
   checkLog : List ℕ → List ℕ → ℕ → List ℕ → ℕ → List ℕ → List ℕ → List ℕ → Call
+  taggedStart : List ℕ → List ℕ → List ℕ → Call
+  taggedPush : List ℕ → List ℕ → Call
+  taggedFire : List ℕ → ℕ → ℕ → Call
+  taggedRun : List ℕ → ℕ → Call
+  taggedTake : List ℕ → ℕ → List ℕ → Call
 
 unfoldable pub refusalOf : Call → ℕ
 refusalOf (read sheet line) = answerOf (readingOf sheet line) .refusal
@@ -64,6 +72,11 @@ refusalOf (rounds m number) = ranRounds m number .answer .refusal
 refusalOf (take m out) = taken m out .answer .refusal
 refusalOf (evaluate sheet line set number out) = handedOut sheet line set number out .answer .refusal
 refusalOf (checkLog sheet line capacity sets number log m out) = checked sheet line capacity sets number log m out .answer .refusal
+refusalOf (taggedStart sheet line m) = tagStarted sheet line m .answer .refusal
+refusalOf (taggedPush m set) = tagPushed m set .answer .refusal
+refusalOf (taggedFire m operator tag) = tagFired m operator tag .answer .refusal
+refusalOf (taggedRun m firings) = tagRan m firings .answer .refusal
+refusalOf (taggedTake m tag out) = tagTaken m tag out .answer .refusal
 
 -- The other numbers of its answer.
 unfoldable pub countsOf : Call → List ℕ
@@ -80,6 +93,11 @@ countsOf (rounds m number) = ranRounds m number .answer .rounds ∷ ranRounds m 
 countsOf (take m out) = taken m out .answer .count ∷ []
 countsOf (evaluate sheet line set number out) = let a = handedOut sheet line set number out .answer in a .width ∷ a .rounds ∷ []
 countsOf (checkLog sheet line capacity sets number log m out) = let a = checked sheet line capacity sets number log m out .answer in a .count ∷ a .width ∷ []
+countsOf (taggedStart sheet line m) = let a = tagStarted sheet line m .answer in a .operators ∷ a .inputs ∷ a .results ∷ []
+countsOf (taggedPush m set) = tagPushed m set .answer .count ∷ []
+countsOf (taggedFire m operator tag) = tagFired m operator tag .answer .count ∷ []
+countsOf (taggedRun m firings) = tagRan m firings .answer .count ∷ []
+countsOf (taggedTake m tag out) = tagTaken m tag out .answer .count ∷ []
 
 -- The bytes lent for writing, and the same at the call's end.
 unfoldable pub lent : Call → List (List ℕ)
@@ -96,6 +114,11 @@ lent (rounds m number) = m ∷ []
 lent (take m out) = m ∷ out ∷ []
 lent (evaluate sheet line set number out) = out ∷ []
 lent (checkLog sheet line capacity sets number log m out) = m ∷ out ∷ []
+lent (taggedStart sheet line m) = m ∷ []
+lent (taggedPush m set) = m ∷ []
+lent (taggedFire m operator tag) = m ∷ []
+lent (taggedRun m firings) = m ∷ []
+lent (taggedTake m tag out) = m ∷ out ∷ []
 
 unfoldable pub handed-back : Call → List (List ℕ)
 handed-back (read sheet line) = []
@@ -111,6 +134,11 @@ handed-back (rounds m number) = ranRounds m number .mem ∷ []
 handed-back (take m out) = taken m out .mem ∷ taken m out .out ∷ []
 handed-back (evaluate sheet line set number out) = handedOut sheet line set number out .out ∷ []
 handed-back (checkLog sheet line capacity sets number log m out) = checked sheet line capacity sets number log m out .mem ∷ checked sheet line capacity sets number log m out .out ∷ []
+handed-back (taggedStart sheet line m) = tagStarted sheet line m .mem ∷ []
+handed-back (taggedPush m set) = tagPushed m set .mem ∷ []
+handed-back (taggedFire m operator tag) = tagFired m operator tag .mem ∷ []
+handed-back (taggedRun m firings) = tagRan m firings .mem ∷ []
+handed-back (taggedTake m tag out) = tagTaken m tag out .mem ∷ tagTaken m tag out .out ∷ []
 
 -- The table of its refusals, and their numbers.
 unfoldable pub tableOf : Call → List Row
@@ -127,6 +155,11 @@ tableOf (rounds m number) = roundsTable m number
 tableOf (take m out) = takeTable m out
 tableOf (evaluate sheet line set number out) = evaluateTable sheet line set number out
 tableOf (checkLog sheet line capacity sets number log m out) = logTable sheet line capacity sets number log m out
+tableOf (taggedStart sheet line m) = taggedStartTable sheet line m
+tableOf (taggedPush m set) = taggedPushTable m set
+tableOf (taggedFire m operator tag) = taggedFireTable m operator tag
+tableOf (taggedRun m firings) = taggedRunTable m firings
+tableOf (taggedTake m tag out) = taggedTakeTable m tag out
 
 unfoldable pub numbersOf : Call → List ℕ
 numbersOf (read sheet line) = sheetNumbers
@@ -142,6 +175,11 @@ numbersOf (rounds m number) = roundsNumbers
 numbersOf (take m out) = takeNumbers
 numbersOf (evaluate sheet line set number out) = evaluateNumbers
 numbersOf (checkLog sheet line capacity sets number log m out) = logNumbers
+numbersOf (taggedStart sheet line m) = taggedStartNumbers
+numbersOf (taggedPush m set) = taggedPushNumbers
+numbersOf (taggedFire m operator tag) = taggedFireNumbers
+numbersOf (taggedRun m firings) = taggedRunNumbers
+numbersOf (taggedTake m tag out) = taggedTakeNumbers
 
 abbrev pub AllZero : List ℕ → Type 0
 AllZero [] = Unit {0}
@@ -165,6 +203,11 @@ Excepted (rounds m number) = UsedUpRounds m number
 Excepted (take m out) = ⊥
 Excepted (evaluate sheet line set number out) = ⊥
 Excepted (checkLog sheet line capacity sets number log m out) = AsEarlierLines sheet line capacity sets number log m out
+Excepted (taggedStart sheet line m) = ⊥
+Excepted (taggedPush m set) = ⊥
+Excepted (taggedFire m operator tag) = ⊥
+Excepted (taggedRun m firings) = UsedUpTagged m firings
+Excepted (taggedTake m tag out) = ⊥
 
 -- The row of the answers that have one.
 abbrev pub RowSaid : Call → Type 0
@@ -182,6 +225,11 @@ RowSaid (take m out) = Unit {0}
 RowSaid (evaluate sheet line set number out) = RowTold sheet line (handedOut sheet line set number out .answer .refusal) (handedOut sheet line set number out .answer .row)
 RowSaid (checkLog sheet line capacity sets number log m out) =
     LogRow sheet line capacity sets number log m (checked sheet line capacity sets number log m out .answer .refusal) (checked sheet line capacity sets number log m out .answer .row)
+RowSaid (taggedStart sheet line m) = RowTold sheet line (tagStarted sheet line m .answer .refusal) (tagStarted sheet line m .answer .row)
+RowSaid (taggedPush m set) = Unit {0}
+RowSaid (taggedFire m operator tag) = Unit {0}
+RowSaid (taggedRun m firings) = Unit {0}
+RowSaid (taggedTake m tag out) = Unit {0}
 
 -- Demand 2's last sentence for every call: its refusal is the first of its table.
 pub call-exact : (c : Call) → refusalOf c ≡ first-refusal (tableOf c)
@@ -199,6 +247,11 @@ call-exact (rounds m number) = rounds-exact m number
 call-exact (take m out) = take-exact m out
 call-exact (evaluate sheet line set number out) = evaluate-exact sheet line set number out
 call-exact (checkLog sheet line capacity sets number log m out) = log-exact sheet line capacity sets number log m out
+call-exact (taggedStart sheet line m) = tagged-start-exact sheet line m
+call-exact (taggedPush m set) = tagged-push-exact m set
+call-exact (taggedFire m operator tag) = tagged-fire-exact m operator tag
+call-exact (taggedRun m firings) = tagged-run-exact m firings
+call-exact (taggedTake m tag out) = tagged-take-exact m tag out
 
 -- Accepted exactly where no condition of its table holds; refused with a number exactly where that number's condition is the first that holds.
 pub call-accepted : (c : Call) → (refusalOf c ≡ 0) ↔ NoneHolds (tableOf c)
@@ -235,6 +288,12 @@ table-numbers (take m out) n (inr a) = a
 table-numbers (evaluate sheet line set number out) n a = a
 table-numbers (checkLog sheet line capacity sets number log m out) n (inl e) = inl e
 table-numbers (checkLog sheet line capacity sets number log m out) n (inr a) = a
+table-numbers (taggedStart sheet line m) n a = a
+table-numbers (taggedPush m set) n a = a
+table-numbers (taggedFire m operator tag) n a = a
+table-numbers (taggedRun m firings) n a = a
+table-numbers (taggedTake m tag out) n (inl e) = inl e
+table-numbers (taggedTake m tag out) n (inr a) = a
 
 one : {m m′ : List ℕ} → m′ ≡ m → _≡_ {A = List (List ℕ)} (m′ ∷ []) (m ∷ [])
 one e = λ i. e i ∷ []
@@ -257,6 +316,11 @@ row-said (rounds m number) h = tt
 row-said (take m out) h = tt
 row-said (evaluate sheet line set number out) h = evaluate-keeps sheet line set number out h .0
 row-said (checkLog sheet line capacity sets number log m out) h = log-row sheet line capacity sets number log m out h
+row-said (taggedStart sheet line m) h = tagged-start-keeps sheet line m h .0
+row-said (taggedPush m set) h = tt
+row-said (taggedFire m operator tag) h = tt
+row-said (taggedRun m firings) h = tt
+row-said (taggedTake m tag out) h = tt
 
 bytes-back : (c : Call) → refusalOf c ≢ 0 → ((handed-back c ≡ lent c) × AllZero (countsOf c)) ⊎ Excepted c
 unfolding refusalOf handed-back lent countsOf
@@ -297,6 +361,17 @@ bytes-back (checkLog sheet line capacity sets number log m out) h = go (log-keep
         × AllZero (countsOf (checkLog sheet line capacity sets number log m out))) ⊎ Excepted (checkLog sheet line capacity sets number log m out)
     go (inl k) = inl (two (k .2) (k .3), (k .0, (k .1, tt)))
     go (inr k) = inr k
+bytes-back (taggedStart sheet line m) h = let k = tagged-start-keeps sheet line m h in inl (one (k .4), (k .1, (k .2, (k .3, tt))))
+bytes-back (taggedPush m set) h = let k = tagged-push-keeps m set h in inl (one (k .1), (k .0, tt))
+bytes-back (taggedFire m operator tag) h = let k = tagged-fire-keeps m operator tag h in inl (one (k .1), (k .0, tt))
+bytes-back (taggedRun m firings) h = go (tagged-run-keeps m firings h)
+  where
+    go : ((tagRan m firings .answer .count ≡ 0) × (tagRan m firings .mem ≡ m))
+        ⊎ UsedUpTagged m firings
+        → ((handed-back (taggedRun m firings) ≡ lent (taggedRun m firings)) × AllZero (countsOf (taggedRun m firings))) ⊎ Excepted (taggedRun m firings)
+    go (inl k) = inl (one (k .1), (k .0, tt))
+    go (inr k) = inr k
+bytes-back (taggedTake m tag out) h = let k = tagged-take-keeps m tag out h in inl (two (k .1) (k .2), (k .0, tt))
 
 pub refused-call : (c : Call) → refusalOf c ≢ 0 → RefusedCall c
 refused-call c h =

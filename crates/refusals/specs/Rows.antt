@@ -6,7 +6,7 @@ use mathlib.Core.Bool.{Bool, true, false}
 use mathlib.Core.List.{List, _++_}
 use lib.Dec.{leb}
 use Rattle.formula.specs.declared.Refusal.{Refusal}
-use Rattle.formula.specs.declared.Refusal.the-variants.{Layout, Rows, Malformed, Range, Naming, Named, StrayIter, Width, Unused, Operators, Memory, Set, SetFile, Capacity, LogLine, LogRefused, KindsLine, KindsBroken, Sort, Movement, Unlisted, LastListed, Altered, Untaken, Full, NotAble, NoResult, Unfinished}
+use Rattle.formula.specs.declared.Refusal.the-variants.{Layout, Rows, Malformed, Range, Naming, Named, StrayIter, Width, Unused, Operators, Memory, Set, SetFile, Capacity, LogLine, LogRefused, KindsLine, KindsBroken, Loop, Sort, Movement, Unlisted, LastListed, Altered, Untaken, Full, NotAble, NoResult, Unfinished, NoTag, NoTagResult}
 use Rattle.formula.specs.declared.Check.the-variants.{Fault}
 use Rattle.formula.specs.declared.Verdict.{Verdict}
 use Rattle.formula.specs.declared.Verdict.the-variants.{Passed as passed, Refused as refused}
@@ -57,6 +57,7 @@ RowOf s line SetFile row = row ≡ 0
 RowOf s line Capacity row = row ≡ 0
 RowOf s line LogLine row = ⊥
 RowOf s line LogRefused row = ⊥
+RowOf s line Loop row = row ≡ 0
 RowOf s line Sort row = LowestOfKinds drifting s line row
 RowOf s line Movement row = row ≡ 0
 RowOf s line Unlisted row = row ≡ 0
@@ -67,6 +68,8 @@ RowOf s line Full row = row ≡ 0
 RowOf s line NotAble row = row ≡ 0
 RowOf s line NoResult row = row ≡ 0
 RowOf s line Unfinished row = row ≡ 0
+RowOf s line NoTag row = row ≡ 0
+RowOf s line NoTagResult row = row ≡ 0
 
 -- A number and a row as an answer tells them: the number is a refusal's, and the row goes with it.
 abbrev pub RowTold : List ℕ → List ℕ → ℕ → ℕ → Type 0

@@ -12,7 +12,7 @@ use lib.Seq.{getD-set-same, sets, length-take-le, drop-at, drop-drop}
 use Rattle.value.specs.Operators.{pick}
 use Rattle.formula.specs.declared.Refusal.the-variants.{NoResult}
 use Rattle.formula.specs.Refusals.{numberOf}
-use Rattle.machine_layout.specs.Layout.{need, sizeOf, capacityOf, capacityIn, untakenOf, resultsOf}
+use Rattle.machine_layout.specs.Layout.{linksAt, need, sizeOf, capacityOf, capacityIn, untakenOf, resultsOf}
 use Rattle.machine_valid.specs.Below.{allBelow}
 use Rattle.machine_valid.specs.Figures.{Figures, valid-figures}
 use Rattle.machine_calls.specs.Calls.{Handed, Outcome, handed, answers, refusal, standing, sizeIn, resultReady, written, emptied, takenMemory, taken, pushed, ran}
@@ -44,7 +44,7 @@ take-says m = go (eqb (standing m) 0) refl (ltb 0 (untakenOf m)) refl (allBelow 
 taken-untaken : (m : List ℕ) → need (sizeIn m) ≤ length m → untakenOf (takenMemory m) ≡ untakenOf m - 1
 unfolding takenMemory
 taken-untaken m h =
-    let k = emptied-keeps m (sizeIn m) h (resultsOf m) in
+    let k = emptied-keeps m linksAt (sizeIn m) (omega arith) h (resultsOf m) in
     getD-set-same (emptied (resultsOf m) m (sizeIn m)) 7 (untakenOf m - 1) 0 (omega (arith, k .size, h))
 
 -- ---- a drain of a given length, take by take

@@ -11,7 +11,7 @@ use lib.Seq.{take-length, take-all, drop-length}
 use Rattle.value.specs.Bytes.{stored}
 use Rattle.value.proofs.Words.{length-stored}
 use Rattle.machine_layout.specs.Layout.{resultsOf}
-use Rattle.machine_calls.specs.Calls.{Handed, sizeIn, resultWord, written, pushed, ran, taken}
+use Rattle.machine_calls.specs.Calls.{Handed, sizeIn, resultWord, writtenFrom, written, pushed, ran, taken}
 use Rattle.text.specs.Printed.{resultLine}
 use Rattle.demand.specs.MemoryCalls.{Call, push, run, take, Result, result, accepted, memoryAfter, setOf, resultOf, memoryAfterAll, setsPushed, resultsTaken}
 use Rattle.demand.specs.Appended.{memory-append}
@@ -44,7 +44,7 @@ abbrev pub handedFrom : List ℕ → Result
 handedFrom m = result (takenFrom m .answer .count) (takenFrom m .out)
 
 length-written : (j : ℕ) (m : List ℕ) (size k : ℕ) (o : List ℕ) → length (written j m size k o) ≡ length o
-unfolding written
+unfolding writtenFrom
 length-written zero m size k o = refl
 length-written (suc j) m size k o = length-stored (written j m size k o) (5 * j) (resultWord m size k j) ∙ length-written j m size k o
 

@@ -36,15 +36,15 @@ pub record AtRest (x : Exp) (capacity : ℕ) (calls : List Call) : Type 0 where
 
 module _ (x : Exp) (h : AdmittedE x) (few : countE x .operators ≤ 1024) where
   -- the calls' steps, every set with its trigger
-  abbrev stepsWith : ℕ → List Call → List Step
+  abbrev pub stepsWith : ℕ → List Call → List Step
   stepsWith capacity calls = map (triggering x capacity) (history x capacity calls)
 
-  abbrev Rests : (capacity : ℕ) → 1 ≤ capacity → List Step → Type 0
+  abbrev pub Rests : (capacity : ℕ) → 1 ≤ capacity → List Step → Type 0
   Rests capacity room w =
       Pieces.At-rest (netOf (madeOf x .operators)) pushNumber takeNumber sourceLink creditLink (pieceOf x h) (meansOf x h) (evaluation x h) (maker-owed x h few) (places capacity)
       (roomy x h few capacity room) (source-is-apart x h few (places capacity)) (credit-is-apart x h few (places capacity)) w
 
-  rests : (capacity : ℕ) (room : 1 ≤ capacity) (calls : List Call) → AtRest x capacity calls → Rests capacity room (stepsWith capacity calls)
+  pub rests : (capacity : ℕ) (room : 1 ≤ capacity) (calls : List Call) → AtRest x capacity calls → Rests capacity room (stepsWith capacity calls)
   unfolding stepsOf
   rests capacity room calls r =
       let w = history x capacity calls in

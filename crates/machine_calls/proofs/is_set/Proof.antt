@@ -35,7 +35,7 @@ part-is-set-end c = search needs
 is-set-requires : tie.Need-is-set-requires
 is-set-requires c κs = omega (arith, part-length (c .before .before .before .before .args .mem .now) 106 (c .before .inputs .result) (omega (arith, c .before .before .before .before .pre, c .before .inputs .ensures)), c .before .before .before .before .pre, c .before .inputs .ensures)
 
--- src/lib.rt:53:1  // Whether a set has a value of its stored kind, or an err, for each input. ⏎ fn is_set(mem: &[u8], set: &[u8]) -> bool
+-- src/lib.rt:53:1  // Whether a set has a value of its stored kind, or an err, for each input. ⏎ pub fn is_set(mem: &[u8], set: &[u8]) -> bool
 returns : tie.Need-returns
 returns c =
     let k : 106 + c .before .before .inputs .result - 106 ≡ inputsOf (c .before .before .before .before .before .args .mem .now) = omega (arith, c .before .before .inputs .ensures .0) in

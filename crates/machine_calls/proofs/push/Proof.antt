@@ -29,7 +29,7 @@ use Prim.Native.Nat.{ℕ, _+_, _-_, _*_, _≤_, _<_}
 use mathlib.Core.List.{List}
 use mathlib.Core.Bool.{Bool, true, false, _&&_, _||_, not}
 use borrow.Author.Tests.{eq-eqb, ne-eqb, le-leb, lt-leb, lt-ltb, le-ltb}
-use Rattle.machine_calls.specs.Calls.{sizeIn, standing, inputRoom, roomsOk, entered, triggered, pushedMemory, pushed, fired, ended, ran, resultReady, resultWord, written, emptied, takenMemory, taken, outcome, handed, refusal, answers}
+use Rattle.machine_calls.specs.Calls.{sizeIn, standing, inputRoom, roomsOk, triggeredFrom, pushedMemory, pushed, fired, ended, ran, resultReady, resultWord, written, emptied, takenMemory, taken, outcome, handed, refusal, answers}
 use Rattle.machine_calls.specs.CallLaws.{standing-good, kinds-length, same-names, Kept, entered-keeps, emptied-keeps, entered-more, emptied-more, written-more, written-none, emptied-none, entered-none, pushed-refused, fired-refused, ran-refused, taken-short, taken-refused, pushed-no-set, pushed-untaken, pushed-full, pushed-accepted, fired-absent, fired-idle, fired-accepted, ran-ended, taken-none, taken-empty, taken-accepted}
 use Rattle.machine_layout.specs.Layout.{need, sizeOf, capacityOf, capacityByte, nameAt, triggerOf, inputLink, resultLink, operatorsOf, inputsOf, resultsOf, untakenOf, storedKinds}
 use Rattle.machine_firing.specs.Links.{headAt, roomAt, removedAt, appendedAt}
@@ -148,7 +148,7 @@ trigger-requires c κs =
     let g = standing-good (c .before .before .before .before .before .before .before .before .before .before .before .before .before .before .before .before .before .before .before .before .args .mem .now) st in
     omega (arith, g .0)
 
--- src/lib.rt:115:5  let trigger = machine_layout::trigger(mem); ⏎ enter(mem, size, inputs, set);
+-- src/lib.rt:115:5  let trigger = machine_layout::trigger(mem); ⏎ enter(mem, LINKS_AT, size, inputs, set);
 enter-requires : tie.Need-enter-requires
 enter-requires c κs =
     let st : standing (c .before .before .before .before .before .before .before .before .before .before .before .before .before .before .before .before .before .before .before .before .before .before .args .mem .now) ≡ 0 = sym (c .before .before .before .before .before .before .before .before .before .before .before .before .before .before .before .before .before .before .standing-of .ensures) ∙ c .before .before .before .before .before .before .before .before .before .before .before .before .before .before .before .before .before .if1 .left in
@@ -156,9 +156,9 @@ enter-requires c κs =
     let f = valid-figures (c .before .before .before .before .before .before .before .before .before .before .before .before .before .before .before .before .before .before .before .before .before .before .args .mem .now) (g .1) in
     let a : setOk (storedKinds (c .before .before .before .before .before .before .before .before .before .before .before .before .before .before .before .before .before .before .before .before .before .before .args .mem .now)) (c .before .before .before .before .before .before .before .before .before .before .before .before .before .before .before .before .before .before .before .before .before .before .args .set .now) ≡ true = sym (c .before .before .before .before .before .before .before .before .before .before .before .before .before .before .before .is-set .ensures) ∙ not-false (c .before .before .before .before .before .before .before .before .before .before .before .before .before .before .before .is-set .result) (c .before .before .before .before .before .before .before .before .before .before .before .before .before .before .if2 .left) in
     let s : c .before .before .before .before .before .before .stretch-size .result ≡ sizeIn (c .before .before .before .before .before .before .before .before .before .before .before .before .before .before .before .before .before .before .before .before .before .before .args .mem .now) = c .before .before .before .before .before .before .stretch-size .ensures ∙ ap sizeOf (c .before .before .before .before .before .before .before .capacity .ensures .0) in
-    (omega (arith, c .before .before .before .before .before .before .stretch-size .ensures, c .before .before .before .before .before .before .before .capacity .ensures .1), omega (arith, c .before .before .before .before .before .before .stretch-size .ensures, c .before .before .before .before .before .before .before .capacity .ensures .2), omega (arith, s, g .0), omega (arith, f .inputs, c .before .before .before .before .before .before .before .before .before .inputs .ensures .0), omega (arith, set-length (storedKinds (c .before .before .before .before .before .before .before .before .before .before .before .before .before .before .before .before .before .before .before .before .before .before .args .mem .now)) (c .before .before .before .before .before .before .before .before .before .before .before .before .before .before .before .before .before .before .before .before .before .before .args .set .now) a, kinds-length (c .before .before .before .before .before .before .before .before .before .before .before .before .before .before .before .before .before .before .before .before .before .before .args .mem .now) st, c .before .before .before .before .before .before .before .before .before .inputs .ensures .0))
+    (omega arith, omega (arith, c .before .before .before .before .before .before .stretch-size .ensures, c .before .before .before .before .before .before .before .capacity .ensures .1), omega (arith, c .before .before .before .before .before .before .stretch-size .ensures, c .before .before .before .before .before .before .before .capacity .ensures .2), omega (arith, s, g .0), omega (arith, f .inputs, c .before .before .before .before .before .before .before .before .before .inputs .ensures .0), omega (arith, set-length (storedKinds (c .before .before .before .before .before .before .before .before .before .before .before .before .before .before .before .before .before .before .before .before .before .before .args .mem .now)) (c .before .before .before .before .before .before .before .before .before .before .before .before .before .before .before .before .before .before .before .before .before .before .args .set .now) a, kinds-length (c .before .before .before .before .before .before .before .before .before .before .before .before .before .before .before .before .before .before .before .before .before .before .args .mem .now) st, c .before .before .before .before .before .before .before .before .before .inputs .ensures .0))
 
--- src/lib.rt:116:9  enter(mem, size, inputs, set); ⏎ let token = value::bytes::to_word(value::Value::Truth(true));
+-- src/lib.rt:116:9  enter(mem, LINKS_AT, size, inputs, set); ⏎ let token = value::bytes::to_word(value::Value::Truth(true));
 to-word-requires : tie.Need-to-word-requires
 to-word-requires c κs = search needs
 
@@ -195,7 +195,7 @@ same-length-5 c = length-set (c .before .before .before .append-to .last .0) 7 (
 
 -- src/lib.rt:95:1  // Pushes one set. ⏎ pub fn push(mem: &mut [u8], set: &[u8]) -> Answer
 returns-5 : tie.Need-returns-5
-unfolding pushedMemory triggered
+unfolding pushedMemory triggeredFrom
 returns-5 c =
     let st : standing (c .before .before .before .before .before .before .before .before .before .before .before .before .before .before .before .before .before .before .before .before .before .before .before .before .before .before .before .before .before .before .before .args .mem .now) ≡ 0 = sym (c .before .before .before .before .before .before .before .before .before .before .before .before .before .before .before .before .before .before .before .before .before .before .before .before .before .before .before .standing-of .ensures) ∙ c .before .before .before .before .before .before .before .before .before .before .before .before .before .before .before .before .before .before .before .before .before .before .before .before .before .before .if1 .left in
     let a : setOk (storedKinds (c .before .before .before .before .before .before .before .before .before .before .before .before .before .before .before .before .before .before .before .before .before .before .before .before .before .before .before .before .before .before .before .args .mem .now)) (c .before .before .before .before .before .before .before .before .before .before .before .before .before .before .before .before .before .before .before .before .before .before .before .before .before .before .before .before .before .before .before .args .set .now) ≡ true = sym (c .before .before .before .before .before .before .before .before .before .before .before .before .before .before .before .before .before .before .before .before .before .before .before .before .is-set .ensures) ∙ not-false (c .before .before .before .before .before .before .before .before .before .before .before .before .before .before .before .before .before .before .before .before .before .before .before .before .is-set .result) (c .before .before .before .before .before .before .before .before .before .before .before .before .before .before .before .before .before .before .before .before .before .before .before .if2 .left) in

@@ -16,7 +16,7 @@ refusal-number-requires c κs = search needs
 reply-requires : tie.Need-reply-requires
 reply-requires c κs = search needs
 
--- src/lib.rt:32:1  } ⏎ fn refused(r: Refusal) -> Answer
+-- src/lib.rt:32:1  } ⏎ pub fn refused(r: Refusal) -> Answer
 returns : tie.Need-returns
 returns c = c .reply .ensures ∙ rw (c .before .refusal-number .ensures) refl
 

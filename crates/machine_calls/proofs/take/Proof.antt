@@ -2,7 +2,7 @@
 --   tie if1  { ⏎ if out.len() < RESULT_BYTES {
 --   tie if2  let stands = standing_of(mem); ⏎ if stands != 0 {
 --   tie if3  let untaken = machine_layout::untaken(mem); ⏎ if untaken < 1 {
---   tie if4  let size = machine_layout::stretch_size(machine_layout::capacity(mem)); ⏎ if !are_ready(mem, size, results) {
+--   tie if4  let size = machine_layout::stretch_size(machine_layout::capacity(mem)); ⏎ if !are_ready(mem, LINKS_AT, size, results) {
 use native.Mathlib.Omega.{arith}
 use borrow.Author.Needs.{needs}
 use Rattle.machine_calls.proofs.take.Statement.{statement}
@@ -97,24 +97,24 @@ capacity-requires c κs = search needs
 stretch-size-requires : tie.Need-stretch-size-requires
 stretch-size-requires c κs = search needs
 
--- src/lib.rt:229:9  let size = machine_layout::stretch_size(machine_layout::capacity(mem)); ⏎ if !are_ready(mem, size, results) {
+-- src/lib.rt:229:9  let size = machine_layout::stretch_size(machine_layout::capacity(mem)); ⏎ if !are_ready(mem, LINKS_AT, size, results) {
 are-ready-requires : tie.Need-are-ready-requires
 are-ready-requires c κs =
     let st : standing (c .before .before .before .before .before .before .before .before .before .before .before .before .before .before .before .args .mem .now) ≡ 0 = sym (c .before .before .before .before .before .before .before .before .before .before .standing-of .ensures) ∙ c .before .before .before .before .before .before .before .before .before .if2 .left in
     let g = standing-good (c .before .before .before .before .before .before .before .before .before .before .before .before .before .before .before .args .mem .now) st in
     let f = valid-figures (c .before .before .before .before .before .before .before .before .before .before .before .before .before .before .before .args .mem .now) (g .1) in
     let s : c .before .stretch-size .result ≡ sizeIn (c .before .before .before .before .before .before .before .before .before .before .before .before .before .before .before .args .mem .now) = c .before .stretch-size .ensures ∙ ap sizeOf (c .before .before .capacity .ensures .0) in
-    (omega (arith, c .before .stretch-size .ensures, c .before .before .capacity .ensures .1), omega (arith, c .before .stretch-size .ensures, c .before .before .capacity .ensures .2), omega (arith, s, g .0), omega (arith, f .results16, c .before .before .before .before .results .ensures .0))
+    (omega arith, omega (arith, c .before .stretch-size .ensures, c .before .before .capacity .ensures .1), omega (arith, c .before .stretch-size .ensures, c .before .before .capacity .ensures .2), omega (arith, s, g .0), omega (arith, f .results16, c .before .before .before .before .results .ensures .0))
 
--- src/lib.rt:230:9  if !are_ready(mem, size, results) { ⏎ return refused(Refusal::NoResult);
+-- src/lib.rt:230:9  if !are_ready(mem, LINKS_AT, size, results) { ⏎ return refused(Refusal::NoResult);
 refused-requires-3 : tie.Need-refused-requires-3
 refused-requires-3 c κs = search needs
 
--- src/lib.rt:230:9  if !are_ready(mem, size, results) { ⏎ return refused(Refusal::NoResult);
+-- src/lib.rt:230:9  if !are_ready(mem, LINKS_AT, size, results) { ⏎ return refused(Refusal::NoResult);
 same-length-3 : tie.Need-same-length-3
 same-length-3 c = search needs
 
--- src/lib.rt:230:9  if !are_ready(mem, size, results) { ⏎ return refused(Refusal::NoResult);
+-- src/lib.rt:230:9  if !are_ready(mem, LINKS_AT, size, results) { ⏎ return refused(Refusal::NoResult);
 returns-4 : tie.Need-returns-4
 returns-4 c =
     let st : standing (c .before .before .before .before .before .before .before .before .before .before .before .before .before .before .before .before .before .before .args .mem .now) ≡ 0 = sym (c .before .before .before .before .before .before .before .before .before .before .before .before .before .standing-of .ensures) ∙ c .before .before .before .before .before .before .before .before .before .before .before .before .if2 .left in
@@ -123,29 +123,29 @@ returns-4 c =
     let b : allBelow (resultsOf (c .before .before .before .before .before .before .before .before .before .before .before .before .before .before .before .before .before .before .args .mem .now)) (resultReady (c .before .before .before .before .before .before .before .before .before .before .before .before .before .before .before .before .before .before .args .mem .now) (sizeIn (c .before .before .before .before .before .before .before .before .before .before .before .before .before .before .before .before .before .before .args .mem .now))) ≡ false = rw (← (c .before .before .before .before .before .before .before .results .ensures .0), ← s) (sym (c .before .before .are-ready .ensures) ∙ not-true (c .before .before .are-ready .result) (c .before .if4 .taken)) in
     rw (c .refused3 .ensures) (sym (taken-empty (c .before .before .before .before .before .before .before .before .before .before .before .before .before .before .before .before .before .before .args .mem .now) st (c .before .before .before .before .before .before .before .before .before .before .before .before .before .before .before .before .before .before .args .out .now) (c .before .before .before .before .before .before .before .before .before .before .before .before .before .before .before .if1 .left) a b))
 
--- src/lib.rt:232:5  } ⏎ write_results(mem, size, results, out);
+-- src/lib.rt:232:5  } ⏎ write_results(mem, LINKS_AT, size, results, out);
 write-results-requires : tie.Need-write-results-requires
 write-results-requires c κs =
     let st : standing (c .before .before .before .before .before .before .before .before .before .before .before .before .before .before .before .before .before .before .before .args .mem .now) ≡ 0 = sym (c .before .before .before .before .before .before .before .before .before .before .before .before .before .before .standing-of .ensures) ∙ c .before .before .before .before .before .before .before .before .before .before .before .before .before .if2 .left in
     let g = standing-good (c .before .before .before .before .before .before .before .before .before .before .before .before .before .before .before .before .before .before .before .args .mem .now) st in
     let f = valid-figures (c .before .before .before .before .before .before .before .before .before .before .before .before .before .before .before .before .before .before .before .args .mem .now) (g .1) in
     let s : c .before .before .before .before .before .stretch-size .result ≡ sizeIn (c .before .before .before .before .before .before .before .before .before .before .before .before .before .before .before .before .before .before .before .args .mem .now) = c .before .before .before .before .before .stretch-size .ensures ∙ ap sizeOf (c .before .before .before .before .before .before .capacity .ensures .0) in
-    (omega (arith, c .before .before .before .before .before .stretch-size .ensures, c .before .before .before .before .before .before .capacity .ensures .1), omega (arith, c .before .before .before .before .before .stretch-size .ensures, c .before .before .before .before .before .before .capacity .ensures .2), omega (arith, s, g .0), omega (arith, f .results16, c .before .before .before .before .before .before .before .before .results .ensures .0), omega arith)
+    (omega arith, omega (arith, c .before .before .before .before .before .stretch-size .ensures, c .before .before .before .before .before .before .capacity .ensures .1), omega (arith, c .before .before .before .before .before .stretch-size .ensures, c .before .before .before .before .before .before .capacity .ensures .2), omega (arith, s, g .0), omega (arith, f .results16, c .before .before .before .before .before .before .before .before .results .ensures .0), omega arith)
 
--- src/lib.rt:233:5  write_results(mem, size, results, out); ⏎ empty_results(mem, size, results);
+-- src/lib.rt:233:5  write_results(mem, LINKS_AT, size, results, out); ⏎ empty_results(mem, LINKS_AT, size, results);
 empty-results-requires : tie.Need-empty-results-requires
 empty-results-requires c κs =
     let st : standing (c .before .before .before .before .before .before .before .before .before .before .before .before .before .before .before .before .before .before .before .before .before .before .before .args .mem .now) ≡ 0 = sym (c .before .before .before .before .before .before .before .before .before .before .before .before .before .before .before .before .before .before .standing-of .ensures) ∙ c .before .before .before .before .before .before .before .before .before .before .before .before .before .before .before .before .before .if2 .left in
     let g = standing-good (c .before .before .before .before .before .before .before .before .before .before .before .before .before .before .before .before .before .before .before .before .before .before .before .args .mem .now) st in
     let f = valid-figures (c .before .before .before .before .before .before .before .before .before .before .before .before .before .before .before .before .before .before .before .before .before .before .before .args .mem .now) (g .1) in
     let s : c .before .before .before .before .before .before .before .before .before .stretch-size .result ≡ sizeIn (c .before .before .before .before .before .before .before .before .before .before .before .before .before .before .before .before .before .before .before .before .before .before .before .args .mem .now) = c .before .before .before .before .before .before .before .before .before .stretch-size .ensures ∙ ap sizeOf (c .before .before .before .before .before .before .before .before .before .before .capacity .ensures .0) in
-    (omega (arith, c .before .before .before .before .before .before .before .before .before .stretch-size .ensures, c .before .before .before .before .before .before .before .before .before .before .capacity .ensures .1), omega (arith, c .before .before .before .before .before .before .before .before .before .stretch-size .ensures, c .before .before .before .before .before .before .before .before .before .before .capacity .ensures .2), omega (arith, s, g .0), omega (arith, f .results16, c .before .before .before .before .before .before .before .before .before .before .before .before .results .ensures .0))
+    (omega arith, omega (arith, c .before .before .before .before .before .before .before .before .before .stretch-size .ensures, c .before .before .before .before .before .before .before .before .before .before .capacity .ensures .1), omega (arith, c .before .before .before .before .before .before .before .before .before .stretch-size .ensures, c .before .before .before .before .before .before .before .before .before .before .capacity .ensures .2), omega (arith, s, g .0), omega (arith, f .results16, c .before .before .before .before .before .before .before .before .before .before .before .before .results .ensures .0))
 
--- src/lib.rt:234:39  empty_results(mem, size, results); ⏎ mem[machine_layout::UNTAKEN_AT] = (untaken - 1) as u8;
+-- src/lib.rt:234:39  empty_results(mem, LINKS_AT, size, results); ⏎ mem[machine_layout::UNTAKEN_AT] = (untaken - 1) as u8;
 cast-mem : tie.Need-cast-mem
 cast-mem c = search needs
 
--- src/lib.rt:234:5  empty_results(mem, size, results); ⏎ mem[machine_layout::UNTAKEN_AT] = (untaken - 1) as u8;
+-- src/lib.rt:234:5  empty_results(mem, LINKS_AT, size, results); ⏎ mem[machine_layout::UNTAKEN_AT] = (untaken - 1) as u8;
 slice-write-mem : tie.Need-slice-write-mem
 slice-write-mem c =
     let st : standing (c .before .before .before .before .before .before .before .before .before .before .before .before .before .before .before .before .before .before .before .before .before .before .before .before .before .before .args .mem .now) ≡ 0 = sym (c .before .before .before .before .before .before .before .before .before .before .before .before .before .before .before .before .before .before .before .before .before .standing-of .ensures) ∙ c .before .before .before .before .before .before .before .before .before .before .before .before .before .before .before .before .before .before .before .before .if2 .left in
@@ -177,8 +177,8 @@ returns-5 c =
     let s : c .before .before .before .before .before .before .before .before .before .before .before .before .before .stretch-size .result ≡ sizeIn (c .before .before .before .before .before .before .before .before .before .before .before .before .before .before .before .before .before .before .before .before .before .before .before .before .before .before .before .args .mem .now) = c .before .before .before .before .before .before .before .before .before .before .before .before .before .stretch-size .ensures ∙ ap sizeOf (c .before .before .before .before .before .before .before .before .before .before .before .before .before .before .capacity .ensures .0) in
     let b : allBelow (resultsOf (c .before .before .before .before .before .before .before .before .before .before .before .before .before .before .before .before .before .before .before .before .before .before .before .before .before .before .before .args .mem .now)) (resultReady (c .before .before .before .before .before .before .before .before .before .before .before .before .before .before .before .before .before .before .before .before .before .before .before .before .before .before .before .args .mem .now) (sizeIn (c .before .before .before .before .before .before .before .before .before .before .before .before .before .before .before .before .before .before .before .before .before .before .before .before .before .before .before .args .mem .now))) ≡ true = rw (← (c .before .before .before .before .before .before .before .before .before .before .before .before .before .before .before .before .results .ensures .0), ← s) (sym (c .before .before .before .before .before .before .before .before .before .before .before .are-ready .ensures) ∙ not-false (c .before .before .before .before .before .before .before .before .before .before .before .are-ready .result) (c .before .before .before .before .before .before .before .before .before .before .if4 .left)) in
     let mm : set (c .before .before .before .empty-results .last .0) 7 (c .before .before .before .before .before .before .before .before .before .before .before .before .before .before .before .before .before .before .before .untaken .result - 1) ≡ takenMemory (c .before .before .before .before .before .before .before .before .before .before .before .before .before .before .before .before .before .before .before .before .before .before .before .before .before .before .before .args .mem .now) = rw (c .before .before .before .empty-results .ensures, c .before .before .before .before .before .before .before .before .before .before .before .before .before .before .before .before .results .ensures .0, c .before .before .before .before .before .before .before .before .before .before .before .before .before .before .before .before .before .before .before .untaken .ensures .0, s) refl in
-    let oo : c .before .before .before .before .before .before .before .write-results .last .1 .1 .1 .0 ≡ written 16 (c .before .before .before .before .before .before .before .before .before .before .before .before .before .before .before .before .before .before .before .before .before .before .before .before .before .before .before .args .mem .now) (sizeIn (c .before .before .before .before .before .before .before .before .before .before .before .before .before .before .before .before .before .before .before .before .before .before .before .before .before .before .before .args .mem .now)) (resultsOf (c .before .before .before .before .before .before .before .before .before .before .before .before .before .before .before .before .before .before .before .before .before .before .before .before .before .before .before .args .mem .now)) (c .before .before .before .before .before .before .before .before .before .before .before .before .before .before .before .before .before .before .before .before .before .before .before .before .before .before .before .args .out .now) = rw (c .before .before .before .before .before .before .before .before .before .before .before .before .before .before .before .before .results .ensures .0, s) at (c .before .before .before .before .before .before .before .write-results .ensures) in
-    rw (c .reply2 .ensures) (ap (λ (q : ℕ). handed (answers 0 q) (set (c .before .before .before .empty-results .last .0) 7 (c .before .before .before .before .before .before .before .before .before .before .before .before .before .before .before .before .before .before .before .untaken .result - 1)) (c .before .before .before .before .before .before .before .write-results .last .1 .1 .1 .0)) (c .before .before .before .before .before .before .before .before .before .before .before .before .before .before .before .before .results .ensures .0) ∙ ap₂ (λ (x y : List ℕ). handed (answers 0 (resultsOf (c .before .before .before .before .before .before .before .before .before .before .before .before .before .before .before .before .before .before .before .before .before .before .before .before .before .before .before .args .mem .now))) x y) mm oo ∙ sym (taken-accepted (c .before .before .before .before .before .before .before .before .before .before .before .before .before .before .before .before .before .before .before .before .before .before .before .before .before .before .before .args .mem .now) st (c .before .before .before .before .before .before .before .before .before .before .before .before .before .before .before .before .before .before .before .before .before .before .before .before .before .before .before .args .out .now) (c .before .before .before .before .before .before .before .before .before .before .before .before .before .before .before .before .before .before .before .before .before .before .before .before .if1 .left) a b))
+    let oo : c .before .before .before .before .before .before .before .write-results .last .1 .1 .1 .1 .0 ≡ written 16 (c .before .before .before .before .before .before .before .before .before .before .before .before .before .before .before .before .before .before .before .before .before .before .before .before .before .before .before .args .mem .now) (sizeIn (c .before .before .before .before .before .before .before .before .before .before .before .before .before .before .before .before .before .before .before .before .before .before .before .before .before .before .before .args .mem .now)) (resultsOf (c .before .before .before .before .before .before .before .before .before .before .before .before .before .before .before .before .before .before .before .before .before .before .before .before .before .before .before .args .mem .now)) (c .before .before .before .before .before .before .before .before .before .before .before .before .before .before .before .before .before .before .before .before .before .before .before .before .before .before .before .args .out .now) = rw (c .before .before .before .before .before .before .before .before .before .before .before .before .before .before .before .before .results .ensures .0, s) at (c .before .before .before .before .before .before .before .write-results .ensures) in
+    rw (c .reply2 .ensures) (ap (λ (q : ℕ). handed (answers 0 q) (set (c .before .before .before .empty-results .last .0) 7 (c .before .before .before .before .before .before .before .before .before .before .before .before .before .before .before .before .before .before .before .untaken .result - 1)) (c .before .before .before .before .before .before .before .write-results .last .1 .1 .1 .1 .0)) (c .before .before .before .before .before .before .before .before .before .before .before .before .before .before .before .before .results .ensures .0) ∙ ap₂ (λ (x y : List ℕ). handed (answers 0 (resultsOf (c .before .before .before .before .before .before .before .before .before .before .before .before .before .before .before .before .before .before .before .before .before .before .before .before .before .before .before .args .mem .now))) x y) mm oo ∙ sym (taken-accepted (c .before .before .before .before .before .before .before .before .before .before .before .before .before .before .before .before .before .before .before .before .before .before .before .before .before .before .before .args .mem .now) st (c .before .before .before .before .before .before .before .before .before .before .before .before .before .before .before .before .before .before .before .before .before .before .before .before .before .before .before .args .out .now) (c .before .before .before .before .before .before .before .before .before .before .before .before .before .before .before .before .before .before .before .before .before .before .before .before .if1 .left) a b))
 
 pub take-spec : {M : Type 1} → statement M
 take-spec =

@@ -64,19 +64,19 @@ store-names-requires-2 c κs = let n = result-name-count (c .before .before .bef
 store-kinds-requires : tie.Need-store-kinds-requires
 store-kinds-requires c κs = (c .before .before .before .before .before .before .before .before .before .before .before .before .before .before .before .before .before .before .before .before .pre .3, omega (arith, c .before .before .before .before .before .before .before .before .before .before .before .before .before .before .before .before .before .before .before .before .pre .1, c .before .before .before .before .before .before .before .before .before .before .before .before .mem .given, c .before .before .before .before .before .before .before .mem2 .given, c .before .before .mem3 .given))
 
--- src/lib.rt:143:22  store_kinds(mem, kinds); ⏎ empty_links(mem, 5 * capacity + 1, links as usize);
+-- src/lib.rt:143:32  store_kinds(mem, kinds); ⏎ empty_links(mem, LINKS_AT, 5 * capacity + 1, links as usize);
 mul-empty-links : tie.Need-mul-empty-links
 mul-empty-links c = search needs
 
--- src/lib.rt:143:22  store_kinds(mem, kinds); ⏎ empty_links(mem, 5 * capacity + 1, links as usize);
+-- src/lib.rt:143:32  store_kinds(mem, kinds); ⏎ empty_links(mem, LINKS_AT, 5 * capacity + 1, links as usize);
 add-empty-links : tie.Need-add-empty-links
 add-empty-links c = search needs
 
--- src/lib.rt:143:40  store_kinds(mem, kinds); ⏎ empty_links(mem, 5 * capacity + 1, links as usize);
+-- src/lib.rt:143:50  store_kinds(mem, kinds); ⏎ empty_links(mem, LINKS_AT, 5 * capacity + 1, links as usize);
 cast-empty-links : tie.Need-cast-empty-links
 cast-empty-links c = search needs
 
--- src/lib.rt:143:5  store_kinds(mem, kinds); ⏎ empty_links(mem, 5 * capacity + 1, links as usize);
+-- src/lib.rt:143:5  store_kinds(mem, kinds); ⏎ empty_links(mem, LINKS_AT, 5 * capacity + 1, links as usize);
 empty-links-requires : tie.Need-empty-links-requires
 empty-links-requires c κs = search needs
 

@@ -9,25 +9,24 @@ use mathlib.Core.Path.{_≡_, refl, sym, ap, _∙_}
 use mathlib.Core.List.{List}
 use Prim.Native.Nat.{ℕ, _+_, _-_, _*_, _≤_, _<_}
 use lib.ListN.{length, set, length-set}
-use Rattle.machine_layout.specs.Layout.{linkAt}
-use Rattle.machine_start.specs.Start.{emptied}
+use Rattle.machine_start.specs.Start.{clearedFrom}
 use Rattle.machine_start.specs.StartLaws.{emptied-none, emptied-more}
 
 abbrev Inv-loop : tie.InvT-loop
-Inv-loop mem₀ size k l₀ mem l = (l ≤ k) × (mem ≡ emptied l size mem₀) × (length mem ≡ length mem₀)
+Inv-loop mem₀ base size k l₀ mem l = (l ≤ k) × (mem ≡ clearedFrom l base size mem₀) × (length mem ≡ length mem₀)
 
 abbrev μ-loop : tie.MeasureT-loop
-μ-loop mem₀ size k l₀ mem l = k - l
+μ-loop mem₀ base size k l₀ mem l = k - l
 
 -- src/lib.rt:114:5  let mut l = 0; ⏎ while l < k {
 loop-holds : tie.Need-loop-holds Inv-loop μ-loop
-loop-holds c = (omega arith, sym (emptied-none (c .before .args .size) (c .before .args .mem .now)), refl)
+loop-holds c = (omega arith, sym (emptied-none (c .before .args .base) (c .before .args .size) (c .before .args .mem .now)), refl)
 
--- src/lib.rt:115:13  while l < k { ⏎ let at = machine_layout::link_from(LINKS_AT, size, l);
+-- src/lib.rt:115:13  while l < k { ⏎ let at = machine_layout::link_from(base, size, l);
 link-from-requires : tie.Need-link-from-requires Inv-loop μ-loop
 link-from-requires c κs = search needs
 
--- src/lib.rt:116:9  let at = machine_layout::link_from(LINKS_AT, size, l); ⏎ mem[at] = 0;
+-- src/lib.rt:116:9  let at = machine_layout::link_from(base, size, l); ⏎ mem[at] = 0;
 slice-write-mem : tie.Need-slice-write-mem Inv-loop μ-loop
 slice-write-mem c = omega (arith, c .before .before .loop .inv .2, c .link-from .ensures)
 
@@ -41,13 +40,13 @@ loop-less c = search needs
 
 -- src/lib.rt:114:5  let mut l = 0; ⏎ while l < k {
 loop-again : tie.Need-loop-again Inv-loop μ-loop
-loop-again c = (omega arith, rw (c .link-from .ensures .0, c .before .before .loop .inv .1) refl ∙ emptied-more (c .before .before .before .before .args .size) (c .before .before .before .before .args .mem .now) (c .before .before .loop .l), simp length-set (c .before .before .loop .inv .2))
+loop-again c = (omega arith, rw (c .link-from .ensures .0, c .before .before .loop .inv .1) refl ∙ emptied-more (c .before .before .before .before .args .base) (c .before .before .before .before .args .size) (c .before .before .before .before .args .mem .now) (c .before .before .loop .l), simp length-set (c .before .before .loop .inv .2))
 
--- src/lib.rt:109:1  // Empties the first k links. ⏎ fn empty_links(mem: &mut [u8], size: usize, k: usize)
+-- src/lib.rt:109:1  // Empties the first k of the links from `base` on. ⏎ pub fn empty_links(mem: &mut [u8], base: usize, size: usize, k: usize)
 same-length : tie.Need-same-length Inv-loop μ-loop
 same-length c = c .before .loop .inv .2
 
--- src/lib.rt:109:1  // Empties the first k links. ⏎ fn empty_links(mem: &mut [u8], size: usize, k: usize)
+-- src/lib.rt:109:1  // Empties the first k of the links from `base` on. ⏎ pub fn empty_links(mem: &mut [u8], base: usize, size: usize, k: usize)
 returns : tie.Need-returns Inv-loop μ-loop
 returns c = let e : c .before .loop .l ≡ (c .before .before .before .args .k) = omega arith in (rw e at (c .before .loop .inv .1))
 

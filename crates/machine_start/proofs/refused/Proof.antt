@@ -10,7 +10,7 @@ use mathlib.Core.Path.{_≡_, refl}
 refusal-number-requires : tie.Need-refusal-number-requires
 refusal-number-requires c κs = search needs
 
--- src/lib.rt:35:1  } ⏎ fn refused(r: Refusal, row: u32) -> StartAnswer
+-- src/lib.rt:35:1  } ⏎ pub fn refused(r: Refusal, row: u32) -> StartAnswer
 returns : tie.Need-returns
 returns c = rw (c .refusal-number .ensures) refl
 

@@ -1,0 +1,3 @@
+pub mod TagStanding
+pub mod TagCallLaws
+pub mod TagRanLaws

@@ -1,0 +1,2 @@
+pub mod FirstMarks
+pub mod FirstInputs

@@ -1,0 +1,3 @@
+pub mod TagRunLaws
+pub mod PlainFirings
+pub mod TagMarks

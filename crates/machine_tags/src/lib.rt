@@ -1,0 +1,1 @@
+// The machine with tags: definitions and laws in specs/, no functions.

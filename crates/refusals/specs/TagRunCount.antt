@@ -1,0 +1,151 @@
+-- The count of a run of the machine with tags (document 02, Job 12: "Run picks the least-numbered able operator and then its lowest able tag"; document 01,
+-- "Running": "the count is the number of firings between the memory before and after. It is below the number only when nothing can fire."). Assumes a memory in
+-- good standing.
+use Prim.Native.Nat.{ℕ, zero, suc, _+_, _≤_, _<_}
+use mathlib.Core.Path.{_≡_, refl, sym, ap, _∙_}
+use mathlib.Core.Bool.{Bool, true, false, false≢true}
+use mathlib.Core.List.{List}
+use native.Mathlib.Omega.{arith}
+use native.Mathlib.Decide.{ℕ-discrete}
+use borrow.Author.Tests.{ltb-true, ltb-false, le-ltb, not-true, not-false}
+use lib.Dec.{ltb}
+use Rattle.value.specs.Operators.{pick}
+use Rattle.formula.specs.declared.Refusal.the-variants.{Unfinished}
+use Rattle.formula.specs.Refusals.{numberOf}
+use Rattle.machine_layout.specs.Layout.{operatorsOf}
+use Rattle.machine_runs.specs.Run.{Ran, ran}
+use Rattle.machine_planes.specs.Planes.{mostTags}
+use Rattle.machine_tags.specs.Least.{NoneBelow, Least, least-says}
+use Rattle.machine_tags.specs.TagRun.{ableUnder, firedUnder, lowestTag, ableTagged, leastOperator, tagRuns, tagStill}
+use Rattle.machine_tags.specs.TagCalls.{tagStanding, tagEnded, tagRan}
+
+-- no operator below i can fire under any tag
+abbrev pub NoneFires : List ℕ → ℕ → Type 0
+NoneFires m i = (j u : ℕ) → j < i → u < mostTags → ableUnder m j u ≡ false
+
+-- The firings between two memories: k of them lead from m to m′, each of the least-numbered able operator of n, under its lowest able tag.
+abbrev pub TagFirings : ℕ → ℕ → List ℕ → List ℕ → Type 0
+TagFirings n zero m m′ = m′ ≡ m
+TagFirings n (suc k) m m′ =
+    (i t : ℕ) × (i < n) × (t < mostTags) × (ableUnder m i t ≡ true) × NoneFires m i × NoneBelow (ableUnder m i) t × TagFirings n k (firedUnder m i t) m′
+
+module _ (m : List ℕ) where
+  tag-says : (i : ℕ) → Least (ableUnder m i) mostTags (lowestTag m i)
+  unfolding lowestTag
+  tag-says i = least-says (ableUnder m i) mostTags
+
+  operator-says : (n : ℕ) → Least (ableTagged m) n (leastOperator m n)
+  unfolding leastOperator
+  operator-says n = least-says (ableTagged m) n
+
+  able-has-tag : (i : ℕ) → ableTagged m i ≡ true → lowestTag m i < mostTags
+  unfolding ableTagged
+  able-has-tag i e = ltb-true (lowestTag m i) mostTags e
+
+  unable-no-tag : (i : ℕ) → ableTagged m i ≡ false → (u : ℕ) → u < mostTags → ableUnder m i u ≡ false
+  unfolding ableTagged
+  unable-no-tag i e u h = tag-says i .none u (omega (arith, ltb-false (lowestTag m i) mostTags e))
+
+  below-lowest : (n : ℕ) → NoneFires m (leastOperator m n)
+  below-lowest n j u h k = unable-no-tag j (operator-says n .none j h) u k
+
+  -- Nothing can fire: no operator can under any tag. Something can: one can under some tag.
+  pub still-none : (n : ℕ) → tagStill m n ≡ true → NoneFires m n
+  unfolding tagStill
+  still-none n e j u h k =
+      let s = operator-says n .upto in
+      let l = ltb-false (leastOperator m n) n (not-true (ltb (leastOperator m n) n) e) in
+      below-lowest n j u (omega arith) k
+
+  pub unstill-some : (n : ℕ) → tagStill m n ≡ false → (i t : ℕ) × (i < n) × (t < mostTags) × (ableUnder m i t ≡ true)
+  unfolding tagStill
+  unstill-some n e =
+      let l = ltb-true (leastOperator m n) n (not-false (ltb (leastOperator m n) n) e) in
+      let t = able-has-tag (leastOperator m n) (operator-says n .passes l) in
+      (leastOperator m n, lowestTag m (leastOperator m n), l, t, tag-says (leastOperator m n) .passes t)
+
+-- ---- a run by its firings
+
+pub record TagCounted (n b : ℕ) (m : List ℕ) (r : Ran) (c : ℕ) : Type 0 where
+  pub made : ℕ
+  pub counts : r .count ≡ c + made
+  pub lent : made ≤ b
+  pub between : TagFirings n made m (r .mem)
+  pub below : made < b → tagStill (r .mem) n ≡ true
+
+tag-counted : (n b : ℕ) (m : List ℕ) (c : ℕ) → TagCounted n b m (tagRuns n b m c) c
+unfolding tagRuns tagStill
+tag-counted n zero m c = record { made = 0; counts = omega arith; lent = omega arith; between = refl; below = λ h. absurd (omega arith) }
+tag-counted n (suc b) m c =
+    go (ltb (leastOperator m n) n) refl (tag-counted n b (firedUnder m (leastOperator m n) (lowestTag m (leastOperator m n))) (c + 1))
+  where
+    after : List ℕ
+    after = firedUnder m (leastOperator m n) (lowestTag m (leastOperator m n))
+
+    go : (t : Bool) → ltb (leastOperator m n) n ≡ t → TagCounted n b after (tagRuns n b after (c + 1)) (c + 1)
+        → TagCounted n (suc b) m (pick t (tagRuns n b after (c + 1)) (ran m c)) c
+    go true e I =
+        let i = leastOperator m n in
+        let l = ltb-true (leastOperator m n) n e in
+        let t = able-has-tag m i (operator-says m n .passes l) in
+        record {
+          made = suc (I .made);
+          counts = omega (arith, I .counts);
+          lent = omega (arith, I .lent);
+          between = (i, lowestTag m i, l, t, tag-says m i .passes t, below-lowest m n, tag-says m i .none, I .between);
+          below = λ h. I .below (omega arith);
+        }
+    go false e I = record { made = 0; counts = omega arith; lent = omega arith; between = refl; below = λ h. rw e refl }
+
+-- ---- the call
+
+-- What a run that was not refused with 11 or 31 says.
+pub record TagRunCounts (m : List ℕ) (firings : ℕ) : Type 0 where
+  pub lent : tagRan m firings .answer .count ≤ firings
+  pub between : TagFirings (operatorsOf m) (tagRan m firings .answer .count) m (tagRan m firings .mem)
+  pub below : tagRan m firings .answer .count < firings → tagStill (tagRan m firings .mem) (operatorsOf m) ≡ true
+  -- 36 "something can still fire after the lent firings", all of which were made; else nothing can.
+  pub unfinished : tagRan m firings .answer .refusal ≡ numberOf Unfinished
+      → (tagRan m firings .answer .count ≡ firings) × (tagStill (tagRan m firings .mem) (operatorsOf m) ≡ false)
+  pub accepted : tagRan m firings .answer .refusal ≡ 0 → tagStill (tagRan m firings .mem) (operatorsOf m) ≡ true
+
+module _ (m : List ℕ) (firings : ℕ) (st : tagStanding m ≡ 0) where
+  abbrev R : Ran
+  R = tagRuns (operatorsOf m) firings m 0
+
+  pub tag-run-is : (b : Bool) → tagStill (R .mem) (operatorsOf m) ≡ b
+      → (tagRan m firings .answer .count ≡ R .count) × (tagRan m firings .mem ≡ R .mem) × (tagRan m firings .answer .refusal ≡ pick b 0 36)
+  unfolding tagRan tagEnded
+  tag-run-is true e = rw (st, e) (refl, refl, refl)
+  tag-run-is false e = rw (st, e) (refl, refl, refl)
+
+  pub tag-run-counts : TagRunCounts m firings
+  tag-run-counts = go (tagStill (R .mem) (operatorsOf m)) refl (ℕ-discrete (R .count) firings)
+    where
+      C : TagCounted (operatorsOf m) firings m R 0
+      C = tag-counted (operatorsOf m) firings m 0
+
+      go : (b : Bool) → tagStill (R .mem) (operatorsOf m) ≡ b → Dec (R .count ≡ firings) → TagRunCounts m firings
+      go b e d =
+          let i = tag-run-is b e in
+          let z : tagRan m firings .answer .count ≡ C .made = omega (arith, i .0, C .counts) in
+          let s : tagStill (tagRan m firings .mem) (operatorsOf m) ≡ b = ap (λ (x : List ℕ). tagStill x (operatorsOf m)) (i .1) ∙ e in
+          record {
+            lent = omega (arith, z, C .lent);
+            between = rw (z, i .1) (C .between);
+            below = λ h. ap (λ (x : List ℕ). tagStill x (operatorsOf m)) (i .1) ∙ C .below (omega (arith, z));
+            unfinished = λ h. full b e s (sym (i .2) ∙ h) d (i .0);
+            accepted = λ h. done b s (sym (i .2) ∙ h);
+          }
+        where
+          full : (b : Bool) → tagStill (R .mem) (operatorsOf m) ≡ b → tagStill (tagRan m firings .mem) (operatorsOf m) ≡ b
+              → _≡_ {A = ℕ} (pick b 0 36) 36 → Dec (R .count ≡ firings) → tagRan m firings .answer .count ≡ R .count
+              → (tagRan m firings .answer .count ≡ firings) × (tagStill (tagRan m firings .mem) (operatorsOf m) ≡ false)
+          full true e s h d c = absurd (omega arith)
+          full false e s h (yes p) c = (c ∙ p, s)
+          full false e s h (no q) c = absurd (false≢true (sym e ∙ C .below (omega (arith, C .counts, C .lent))))
+
+          done : (b : Bool) → tagStill (tagRan m firings .mem) (operatorsOf m) ≡ b → _≡_ {A = ℕ} (pick b 0 36) 0
+              → tagStill (tagRan m firings .mem) (operatorsOf m) ≡ true
+          done true s h = s
+          done false s h = absurd (omega arith)

@@ -1,0 +1,5 @@
+pub mod SameState
+pub mod IdleAgain
+pub mod LoopFree
+pub mod RestEmpty
+pub mod RestExamples

@@ -1,0 +1,2 @@
+pub mod LooplessRows
+pub mod PlainGraphs
