@@ -83,11 +83,3 @@ module _ (sheet line : List ℕ) (ok : Admissible sheet) where
       let same : Agree taggedNeed m (take n m) = λ i l. getD-take n m i 0 (omega arith) in
       bench-kept m (take n m) B long (λ i l. same i (omega arith)) (λ t l. rw (same (tagsAt + t) (omega arith)) (B .bytes t l))
       (λ t l. rw (plane-agrees m (take n m) (B .long) long same t l) (B .planes t l))
-
-  -- with more behind it
-  pub bench-behind : (m rest : List ℕ) → Benched sheet line m → Benched sheet line (m ++ rest)
-  bench-behind m rest B =
-      let long : taggedNeed ≤ length (m ++ rest) = omega (arith, length-append m rest, B .long) in
-      let same : Agree taggedNeed m (m ++ rest) = λ i l. List·getD-append m rest 0 i (omega (arith, B .long)) in
-      bench-kept m (m ++ rest) B long (λ i l. same i (omega arith)) (λ t l. rw (same (tagsAt + t) (omega arith)) (B .bytes t l))
-      (λ t l. rw (plane-agrees m (m ++ rest) (B .long) long same t l) (B .planes t l))

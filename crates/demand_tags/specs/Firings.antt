@@ -19,7 +19,7 @@ use Rattle.machine_tags.specs.TagRun.{ableUnder, firedUnder, tagRuns}
 use Rattle.machine_tags.specs.TagCalls.{tagStanding}
 use Rattle.machine_tags.specs.RunSteps.{TagFiring, tagFirings, firedAll, FiringsAccepted, run-steps}
 use Rattle.machine_tags.specs.PlaneFire.{plane-fire, fired-tag-bytes, beside-fire}
-use Rattle.machine_tags.specs.StandingKept.{fire-changes}
+use Rattle.machine_tags.specs.Changes.{fire-changes}
 use Rattle.demand_view.specs.Operators.{ith-there}
 use Rattle.demand_view.specs.FiredHistory.{Fires-in-memory, fired-by-history}
 use Rattle.demand_begin.specs.MadeSound.{made-sound}

@@ -22,7 +22,7 @@ use Rattle.demand.specs.MemoryCalls.{accepted}
 use Rattle.demand_tags.specs.TagLists.{push, answerOf, memoryAfterAll, setUnder, setsUnder, resultsUnder}
 use Rattle.demand_tags.specs.Benched.{few-links, bench-stands}
 use Rattle.demand_tags.specs.Tested.{push-made}
-use Rattle.demand_tags.specs.StartedBytes.{started-bare}
+use Rattle.demand_tags.specs.StartedBytes.{started-empty}
 use Rattle.demand_tags.specs.Begins.{Begins, plane-begins, bench-begins}
 use Rattle.demand_tags.specs.FreeTags.{left-free}
 
@@ -39,7 +39,7 @@ module _ (sheet line start : List ℕ) (b : Begins sheet line start) where
         λ l h.
             ap waiting (sym (plane-link start t (b .long) tag l (omega arith)))
             ∙ ap (λ (x : List ℕ). waiting (linkPart x leastSize l)) (p .2)
-            ∙ started-bare sheet line (p .0) (p .1) l (omega (arith, H .links-are)),
+            ∙ started-empty sheet line (p .0) (p .1) l (omega (arith, H .links-are)),
       )
 
   first-tag : lowestFree start ≡ 0

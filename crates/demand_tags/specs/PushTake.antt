@@ -18,7 +18,7 @@ use Rattle.machine_tags.specs.TagCalls.{tagStanding, freeTag, tagPushedMemory, 
 use Rattle.machine_tags.specs.PlaneStanding.{tag-standing-good}
 use Rattle.machine_tags.specs.PlanePush.{plane-pushed, pushed-tag-byte}
 use Rattle.machine_tags.specs.PlaneTake.{plane-taken, taken-tag-byte}
-use Rattle.machine_tags.specs.StandingKept.{push-changes, take-changes}
+use Rattle.machine_tags.specs.Changes.{push-changes, take-changes}
 use Rattle.demand.specs.MemoryCalls.{Result, result}
 use Rattle.demand_tags.specs.Plays.{plays-push, plays-take}
 use Rattle.demand_tags.specs.Stepped.{Stepped, no-sets, no-results, changed-step}

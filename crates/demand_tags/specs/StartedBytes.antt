@@ -87,10 +87,10 @@ started-small s line lent h i l =
     )
     (rw z at (written-small (encoded (g .operators)) lent 0 (omega (arith, S .few-operators)) (omega (arith, a .long)) i (omega arith)) j k))
 
-pub started-bare : (s line lent : List ℕ) → started s line 1 lent .answer .refusal ≡ 0 → (l : ℕ) → l < madeOf (formulaOf s) .links
+pub started-empty : (s line lent : List ℕ) → started s line 1 lent .answer .refusal ≡ 0 → (l : ℕ) → l < madeOf (formulaOf s) .links
     → waiting (linkPart (started s line 1 lent .mem) leastSize l) ≡ 0
 unfolding startedMemory
-started-bare s line lent h l below =
+started-empty s line lent h l below =
     let a = accepted-start s line 1 lent h in
     let g = madeOf (formulaOf s) in
     let operated = written lent 0 (encoded (g .operators)) in

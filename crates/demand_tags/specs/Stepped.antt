@@ -15,7 +15,7 @@ use Rattle.formula.specs.Faults.{lettersOf}
 use Rattle.formula.specs.Acceptance.{Admissible}
 use Rattle.machine_layout.specs.Layout.{linksAt}
 use Rattle.machine_planes.specs.Planes.{mostTags, tagsAt, untakenUnder, taggedNeed, planeOf}
-use Rattle.machine_tags.specs.StandingKept.{Changed}
+use Rattle.machine_tags.specs.Changes.{Changed}
 use Rattle.demand_begin.specs.Lent.{Agree}
 use Rattle.demand.specs.MemoryCalls.{Result}
 use Rattle.demand.specs.Agreed.{calls-agree}
@@ -50,7 +50,7 @@ step-then m m′ m″ s s′ r r′ a b =
       plays = λ t h. plays-then (planeOf m t) (planeOf m′ t) (planeOf m″ t) (s t) (s′ t) (r t) (r′ t) (a .plays t h) (b .plays t h);
     }
 
--- A call under the tag f (machine_tags/specs/StandingKept `Changed`) is a step, by what it does to the machine of its tag and to the tag's byte.
+-- A call under the tag f (machine_tags/specs/Changes `Changed`) is a step, by what it does to the machine of its tag and to the tag's byte.
 pub changed-step : (m m′ : List ℕ) (f : ℕ) → Changed f m m′ → (s : ℕ → List (List ℕ)) (r : ℕ → List Result)
     → ((t : ℕ) → t ≢ f → s t ≡ []) → ((t : ℕ) → t ≢ f → r t ≡ []) → length (s f) + untakenUnder m f ≡ length (r f) + untakenUnder m′ f
     → Plays (planeOf m f) (planeOf m′ f) (s f) (r f) → Stepped m m′ s r

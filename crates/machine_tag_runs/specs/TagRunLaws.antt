@@ -10,9 +10,8 @@ use borrow.Author.Tests.{lt-ltb, le-ltb}
 use lib.Dec.{ltb}
 use lib.ListN.{length}
 use Rattle.value.specs.Operators.{pick}
-use Rattle.machine_planes.specs.Planes.{mostTags, planeAt}
+use Rattle.machine_planes.specs.Planes.{mostTags}
 use Rattle.machine_runs.specs.Run.{ran}
-use Rattle.machine_runs.specs.RunLaws.{fired-idle}
 use Rattle.machine_tags.specs.Least.{least-at, least-none}
 use Rattle.machine_tags.specs.TagRun.{ableUnder, firedUnder, lowestTag, ableTagged, leastOperator, tagRuns, tagStill}
 
@@ -106,10 +105,6 @@ module _ (m₀ : List ℕ) (n b : ℕ) (m : List ℕ) (c : ℕ) (g : Going m₀ 
         same = ap (λ (x : ℕ). tagRuns n x (firedUnder m i t) (c + 1)) (sym f) ∙ sym (runs-step n (b - c) m c i t (omega arith) few tag q e) ∙ g .same;
         len = l ∙ g .len;
       }
-
-  -- one that is not able leaves the memory
-  pub going-idle : (i t : ℕ) → ableUnder m i t ≡ false → Going m₀ n b (firedUnder m i t) c
-  going-idle i t e = rw (fired-idle m (planeAt t) 6 i e) g
 
   pub going-end : QuietBelow m (16 * n) → ran m c ≡ tagRuns n b m₀ 0
   going-end q = sym (runs-end n (b - c) m c q) ∙ g .same

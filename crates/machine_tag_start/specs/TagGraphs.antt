@@ -34,6 +34,3 @@ no-for-row s h r l u =
 module _ (s line m : List ℕ) (A : AcceptedTagStart s line m) where
   pub accepted-loopless : Loopless (formulaOf s)
   accepted-loopless = rows-loopless s (A .admissible) (no-for-row s (A .loopless-rows))
-
-  pub accepted-plain : Each Plain (madeOf (formulaOf s) .operators)
-  accepted-plain = plain-graph (formulaOf s) (accepted-admitted s (A .admissible)) accepted-loopless

@@ -8,4 +8,4 @@ pub mod PlanePush
 pub mod PlaneFire
 pub mod PlaneTake
 pub mod RunSteps
-pub mod StandingKept
+pub mod Changes

@@ -49,14 +49,6 @@ module _ (m : List ℕ) (st : tagStanding m ≡ 0) (i : ℕ) (few : i < operator
   pub plane-idle : ableUnder m i t ≡ false → fired (planeOf m t) i .answer .refusal ≡ numberOf NotAble
   plane-idle idle = ap (λ (o : Outcome). o .answer .refusal) (plane-not-fired idle)
 
-  -- accepted only where able
-  pub plane-fired-able : fired (planeOf m t) i .answer .refusal ≡ 0 → ableUnder m i t ≡ true
-  plane-fired-able e = go (ableUnder m i t) refl
-    where
-      go : (b : Bool) → ableUnder m i t ≡ b → b ≡ true
-      go true p = refl
-      go false p = absurd (omega (arith, plane-idle p))
-
   pub fired-tag-length : length (firedUnder m i t) ≡ length m
   fired-tag-length = let l = long in fired-length m (planeAt t) leastSize (omega arith) i
 

@@ -108,13 +108,13 @@ module _ (m : List ℕ) (st : tagStanding m ≡ 0) (t : ℕ) (tag : t < mostTags
   unfolding freeTag
   free-byte free = eqb-true (untakenUnder m t) 0 (and-left (eqb (untakenUnder m t) 0) _ free)
 
-  free-bare : freeTag m t ≡ true → (l : ℕ) → l < linksOf m → waiting (part m (linkFrom (planeAt t) leastSize l) leastSize) ≡ 0
+  free-empty : freeTag m t ≡ true → (l : ℕ) → l < linksOf m → waiting (part m (linkFrom (planeAt t) leastSize l) leastSize) ≡ 0
   unfolding freeTag emptyLink
-  free-bare free l h = eqb-true _ 0 (below-at (linksOf m) (emptyLink m t) (and-right (eqb (untakenUnder m t) 0) _ free) l h)
+  free-empty free l h = eqb-true _ 0 (below-at (linksOf m) (emptyLink m t) (and-right (eqb (untakenUnder m t) 0) _ free) l h)
 
-  bare-room : (l : ℕ) → l < mostLinks → waiting (part m (linkFrom (planeAt t) leastSize l) leastSize) ≡ 0 → roomFrom m (planeAt t) leastSize l ≡ true
+  empty-room : (l : ℕ) → l < mostLinks → waiting (part m (linkFrom (planeAt t) leastSize l) leastSize) ≡ 0 → roomFrom m (planeAt t) leastSize l ≡ true
   unfolding roomFrom roomIn
-  bare-room l h e =
+  empty-room l h e =
       let q = part m (linkFrom (planeAt t) leastSize l) leastSize in
       let long = tag-standing-good m st .0 in
       let k = part-length m (linkFrom (planeAt t) leastSize l) leastSize (omega arith) in
@@ -122,7 +122,7 @@ module _ (m : List ℕ) (st : tagStanding m ≡ 0) (t : ℕ) (tag : t < mostTags
 
   module _ (free : freeTag m t ≡ true) where
     link-room : (l : ℕ) → l < linksOf m → roomFrom m (planeAt t) leastSize l ≡ true
-    link-room l h = bare-room l (omega (arith, tag-counts m st .links)) (free-bare free l h)
+    link-room l h = empty-room l (omega (arith, tag-counts m st .links)) (free-empty free l h)
 
     trigger-room : roomFrom m (planeAt t) leastSize (triggerOf m) ≡ true
     unfolding roomFrom

@@ -2,16 +2,16 @@
 -- fire (document 02, Job 12: "when nothing can fire"). Assumes nothing.
 use Prim.Native.Nat.{ℕ, zero, suc, _+_, _≤_, _<_}
 use mathlib.Core.Path.{_≡_, refl}
-use mathlib.Core.Bool.{Bool, true, false, not}
+use mathlib.Core.Bool.{Bool, true, false}
 use mathlib.Core.List.{List, [], _∷_}
 use native.Mathlib.Omega.{arith}
-use borrow.Author.Tests.{ltb-true, ltb-false, le-ltb}
+use borrow.Author.Tests.{ltb-true, ltb-false, not-true, not-false}
 use lib.Dec.{ltb}
 use lib.ListN.{length}
 use Rattle.value.specs.Operators.{pick}
 use Rattle.machine_runs.specs.Run.{Ran, ran}
 use Rattle.machine_planes.specs.Planes.{mostTags}
-use Rattle.machine_tags.specs.Least.{Least, least-says, least-none}
+use Rattle.machine_tags.specs.Least.{Least, least-says}
 use Rattle.machine_tags.specs.TagRun.{ableUnder, firedUnder, lowestTag, ableTagged, leastOperator, tagRuns, tagStill}
 
 -- ---- which operator and which tag
@@ -33,23 +33,20 @@ pub tagged-idle : (m : List ℕ) (i : ℕ) → ableTagged m i ≡ false → (t :
 unfolding ableTagged
 tagged-idle m i e t h = lowest-tag-says m i .none t (omega (arith, ltb-false (lowestTag m i) mostTags e))
 
-pub idle-tagged : (m : List ℕ) (i : ℕ) → ((t : ℕ) → t < mostTags → ableUnder m i t ≡ false) → ableTagged m i ≡ false
-unfolding ableTagged lowestTag
-idle-tagged m i h = le-ltb (lowestTag m i) mostTags (omega (arith, least-none (ableUnder m i) mostTags h))
-
--- ---- nothing can fire
+-- ---- nothing can fire: no operator under any tag; else one can under some tag
 
 pub tag-still-says : (m : List ℕ) (n : ℕ) → tagStill m n ≡ true → (i t : ℕ) → i < n → t < mostTags → ableUnder m i t ≡ false
 unfolding tagStill
-tag-still-says m n e i t few tag = go (ltb (leastOperator m n) n) refl e
-  where
-    go : (b : Bool) → ltb (leastOperator m n) n ≡ b → not b ≡ true → ableUnder m i t ≡ false
-    go true p q = absurd (let z : _≡_ {A = ℕ} 0 1 = cc in omega arith)
-    go false p q = tagged-idle m i (lowest-operator-says m n .none i (omega (arith, ltb-false (leastOperator m n) n p))) t tag
+tag-still-says m n e i t few tag =
+    let l = ltb-false (leastOperator m n) n (not-true (ltb (leastOperator m n) n) e) in
+    tagged-idle m i (lowest-operator-says m n .none i (omega arith)) t tag
 
-pub tag-still-made : (m : List ℕ) (n : ℕ) → ((i t : ℕ) → i < n → t < mostTags → ableUnder m i t ≡ false) → tagStill m n ≡ true
-unfolding tagStill leastOperator
-tag-still-made m n h = rw (le-ltb (leastOperator m n) n (omega (arith, least-none (ableTagged m) n (λ i few. idle-tagged m i (λ t tag. h i t few tag))))) refl
+pub tag-unstill-says : (m : List ℕ) (n : ℕ) → tagStill m n ≡ false → (i t : ℕ) × (i < n) × (t < mostTags) × (ableUnder m i t ≡ true)
+unfolding tagStill
+tag-unstill-says m n e =
+    let h = ltb-true (leastOperator m n) n (not-false (ltb (leastOperator m n) n) e) in
+    let p = tagged-able m (leastOperator m n) (lowest-operator-says m n .passes h) in
+    (leastOperator m n, lowestTag m (leastOperator m n), h, p .0, p .1)
 
 -- ---- the firings of a run
 

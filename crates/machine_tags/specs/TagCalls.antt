@@ -32,7 +32,7 @@ tagStanding m = pick (ltb (length m) taggedNeed) (numberOf Memory) (pick (tagVal
 unfoldable pub emptyLink : List ℕ → ℕ → ℕ → Bool
 emptyLink m t l = eqb (waiting (linkPartFrom m (planeAt t) leastSize l)) 0
 
--- "A tag is free again as soon as, and not before, its result is taken and no token with it is left on any link"
+-- "A tag is free again as soon as, and not before, its result is taken and no token with it is left on any link, for a gate may still have to absorb one"
 unfoldable pub freeTag : List ℕ → ℕ → Bool
 freeTag m t = eqb (untakenUnder m t) 0 && allBelow (linksOf m) (emptyLink m t)
 

@@ -1,5 +1,5 @@
 -- Refusal 31 for the machine with tags: as for the first machine (machine_valid/specs/Valid), with the figures that this one has. "Capacity here is one token a
--- tag on each link", and it is "for sheets without for", so that a graph has no kind of operator behind M. Assumes nothing.
+-- tag on each link", and it is "for sheets without for", so that a graph has none of the gates of a loop. Assumes nothing.
 use Prim.Native.Nat.{ℕ, _+_}
 use mathlib.Core.Bool.{Bool, _&&_}
 use mathlib.Core.List.{List}
@@ -19,7 +19,7 @@ tagMark = 17
 unfoldable pub tagFiguresOk : List ℕ → Bool
 tagFiguresOk m = eqb (capacityByte m) tagMark && (eqb (untakenOf m) 0 && countsOk m)
 
--- an operator of a graph without for: E, IC, FM and FS are a loop's
+-- an operator of a graph without for: no byte behind M's, which are those of a loop's gates E, IC, FM and FS
 unfoldable pub plainKind : List ℕ → ℕ → Bool
 plainKind m i = leb (kindByte m i) (byteOf M-gate)
 

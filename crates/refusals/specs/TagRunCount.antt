@@ -7,7 +7,7 @@ use mathlib.Core.Bool.{Bool, true, false, false≢true}
 use mathlib.Core.List.{List}
 use native.Mathlib.Omega.{arith}
 use native.Mathlib.Decide.{ℕ-discrete}
-use borrow.Author.Tests.{ltb-true, ltb-false, le-ltb, not-true, not-false}
+use borrow.Author.Tests.{ltb-true}
 use lib.Dec.{ltb}
 use Rattle.value.specs.Operators.{pick}
 use Rattle.formula.specs.declared.Refusal.the-variants.{Unfinished}
@@ -15,8 +15,9 @@ use Rattle.formula.specs.Refusals.{numberOf}
 use Rattle.machine_layout.specs.Layout.{operatorsOf}
 use Rattle.machine_runs.specs.Run.{Ran, ran}
 use Rattle.machine_planes.specs.Planes.{mostTags}
-use Rattle.machine_tags.specs.Least.{NoneBelow, Least, least-says}
-use Rattle.machine_tags.specs.TagRun.{ableUnder, firedUnder, lowestTag, ableTagged, leastOperator, tagRuns, tagStill}
+use Rattle.machine_tags.specs.Least.{NoneBelow}
+use Rattle.machine_tags.specs.TagRun.{ableUnder, firedUnder, lowestTag, leastOperator, tagRuns, tagStill}
+use Rattle.machine_tags.specs.RunSteps.{lowest-tag-says, lowest-operator-says, tagged-able, tagged-idle}
 use Rattle.machine_tags.specs.TagCalls.{tagStanding, tagEnded, tagRan}
 
 -- no operator below i can fire under any tag
@@ -29,40 +30,8 @@ TagFirings n zero m m′ = m′ ≡ m
 TagFirings n (suc k) m m′ =
     (i t : ℕ) × (i < n) × (t < mostTags) × (ableUnder m i t ≡ true) × NoneFires m i × NoneBelow (ableUnder m i) t × TagFirings n k (firedUnder m i t) m′
 
-module _ (m : List ℕ) where
-  tag-says : (i : ℕ) → Least (ableUnder m i) mostTags (lowestTag m i)
-  unfolding lowestTag
-  tag-says i = least-says (ableUnder m i) mostTags
-
-  operator-says : (n : ℕ) → Least (ableTagged m) n (leastOperator m n)
-  unfolding leastOperator
-  operator-says n = least-says (ableTagged m) n
-
-  able-has-tag : (i : ℕ) → ableTagged m i ≡ true → lowestTag m i < mostTags
-  unfolding ableTagged
-  able-has-tag i e = ltb-true (lowestTag m i) mostTags e
-
-  unable-no-tag : (i : ℕ) → ableTagged m i ≡ false → (u : ℕ) → u < mostTags → ableUnder m i u ≡ false
-  unfolding ableTagged
-  unable-no-tag i e u h = tag-says i .none u (omega (arith, ltb-false (lowestTag m i) mostTags e))
-
-  below-lowest : (n : ℕ) → NoneFires m (leastOperator m n)
-  below-lowest n j u h k = unable-no-tag j (operator-says n .none j h) u k
-
-  -- Nothing can fire: no operator can under any tag. Something can: one can under some tag.
-  pub still-none : (n : ℕ) → tagStill m n ≡ true → NoneFires m n
-  unfolding tagStill
-  still-none n e j u h k =
-      let s = operator-says n .upto in
-      let l = ltb-false (leastOperator m n) n (not-true (ltb (leastOperator m n) n) e) in
-      below-lowest n j u (omega arith) k
-
-  pub unstill-some : (n : ℕ) → tagStill m n ≡ false → (i t : ℕ) × (i < n) × (t < mostTags) × (ableUnder m i t ≡ true)
-  unfolding tagStill
-  unstill-some n e =
-      let l = ltb-true (leastOperator m n) n (not-false (ltb (leastOperator m n) n) e) in
-      let t = able-has-tag (leastOperator m n) (operator-says n .passes l) in
-      (leastOperator m n, lowestTag m (leastOperator m n), l, t, tag-says (leastOperator m n) .passes t)
+below-least : (m : List ℕ) (n : ℕ) → NoneFires m (leastOperator m n)
+below-least m n j u h k = tagged-idle m j (lowest-operator-says m n .none j h) u k
 
 -- ---- a run by its firings
 
@@ -87,12 +56,12 @@ tag-counted n (suc b) m c =
     go true e I =
         let i = leastOperator m n in
         let l = ltb-true (leastOperator m n) n e in
-        let t = able-has-tag m i (operator-says m n .passes l) in
+        let p = tagged-able m i (lowest-operator-says m n .passes l) in
         record {
           made = suc (I .made);
           counts = omega (arith, I .counts);
           lent = omega (arith, I .lent);
-          between = (i, lowestTag m i, l, t, tag-says m i .passes t, below-lowest m n, tag-says m i .none, I .between);
+          between = (i, lowestTag m i, l, p .0, p .1, below-least m n, lowest-tag-says m i .none, I .between);
           below = λ h. I .below (omega arith);
         }
     go false e I = record { made = 0; counts = omega arith; lent = omega arith; between = refl; below = λ h. rw e refl }

@@ -1,22 +1,15 @@
--- Good standing after a call under a tag: it is enough that the tag's own machine stands, for every other tag's machine and all that stands once are as they were.
--- Assumes a memory in good standing before the call.
-use Prim.Native.Nat.{ℕ, _+_, _*_, _≤_, _<_}
-use mathlib.Core.Path.{_≡_, ap, ap₂, _∙_}
+-- What a call under a tag leaves as it was: every other tag's links and byte, and all that stands once. Assumes a memory in good standing before the call.
+use Prim.Native.Nat.{ℕ, _+_, _≤_, _<_}
+use mathlib.Core.Path.{_≡_}
 use mathlib.Core.Logic.{_≢_}
-use mathlib.Core.Bool.{true}
 use mathlib.Core.List.{List}
 use native.Mathlib.Omega.{arith}
-use native.Mathlib.Decide.{ℕ-discrete}
-use borrow.Author.Tests.{le-leb}
 use lib.ListN.{length, getD}
-use Rattle.machine_layout.specs.Layout.{capacityAt, operatorCountAt, untakenAt, linksAt, operatorsOf, operatorAt, registerAt, number16}
-use Rattle.machine_valid.specs.Below.{below-at}
-use Rattle.machine_calls.specs.Calls.{standing}
+use Rattle.machine_layout.specs.Layout.{linksAt, operatorsOf, registerAt}
 use Rattle.machine_planes.specs.Planes.{mostTags, untakenUnder, taggedNeed, planeOf}
 use Rattle.machine_tags.specs.TagRun.{firedUnder}
-use Rattle.machine_tags.specs.TagValid.{plainKind, untakenUnderOk}
 use Rattle.machine_tags.specs.TagCalls.{tagStanding, tagPushedMemory, tagTakenMemory}
-use Rattle.machine_tags.specs.PlaneStanding.{tag-standing-good, tag-parts, tag-counts, tag-byte-small, plane-stands, planes-stand}
+use Rattle.machine_tags.specs.PlaneStanding.{tag-standing-good, tag-byte-small}
 use Rattle.machine_tags.specs.PlanePush.{beside-pushed-links, pushed-tag-length, pushed-tag-low, pushed-tag-byte, pushed-tag-others}
 use Rattle.machine_tags.specs.PlaneFire.{beside-fire, fired-tag-length, fired-tag-low, fired-tag-bytes}
 use Rattle.machine_tags.specs.PlaneTake.{beside-taken, taken-tag-length, taken-tag-low, taken-tag-byte, taken-tag-others}
@@ -28,32 +21,6 @@ pub record Changed (t : ℕ) (m n : List ℕ) : Type 0 where
   pub byte : untakenUnder n t ≤ 1
   pub bytes : (u : ℕ) → u ≢ t → untakenUnder n u ≡ untakenUnder m u
   pub beside : (u : ℕ) → u < mostTags → u ≢ t → planeOf n u ≡ planeOf m u
-
-module _ (t : ℕ) (m n : List ℕ) (c : Changed t m n) (st : tagStanding m ≡ 0) where
-  same-operators : operatorsOf n ≡ operatorsOf m
-  unfolding number16
-  same-operators = ap₂ (λ (x y : ℕ). x + 256 * y) (c .low operatorCountAt (omega arith)) (c .low (operatorCountAt + 1) (omega arith))
-
-  same-plain : (i : ℕ) → i < operatorsOf n → plainKind n i ≡ true
-  unfolding plainKind
-  same-plain i h =
-      let e = same-operators in
-      let k = tag-counts m st .operators in
-      rw (c .low (operatorAt i) (omega arith)) (below-at (operatorsOf m) (plainKind m) (tag-parts m st .plain) i (omega arith))
-
-  pub changed-stands : standing (planeOf n t) ≡ 0 → tagStanding n ≡ 0
-  unfolding untakenUnderOk
-  changed-stands own =
-      planes-stand n (omega (arith, c .size, tag-standing-good m st .0)) (c .low capacityAt (omega arith) ∙ tag-parts m st .mark) (c .low untakenAt (omega arith) ∙ tag-parts m st .empty) same-plain
-      (λ u tag. le-leb (untakenUnder n u) 1 (byte u tag (ℕ-discrete u t))) (λ u tag. plane u tag (ℕ-discrete u t))
-    where
-      byte : (u : ℕ) → u < mostTags → Dec (u ≡ t) → untakenUnder n u ≤ 1
-      byte u tag (yes e) = rw e (c .byte)
-      byte u tag (no other) = rw (c .bytes u other) (tag-byte-small m st u tag)
-
-      plane : (u : ℕ) → u < mostTags → Dec (u ≡ t) → standing (planeOf n u) ≡ 0
-      plane u tag (yes e) = rw e own
-      plane u tag (no other) = ap standing (c .beside u tag other) ∙ plane-stands m st u tag
 
 -- ---- the calls
 
