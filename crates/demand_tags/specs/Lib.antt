@@ -22,3 +22,4 @@ pub mod Claimed
 pub mod TaggedStart
 pub mod FirstPush
 pub mod LesserTagged
+pub mod IdentifierTagged
