@@ -8,6 +8,7 @@ pub mod Tested
 pub mod Firings
 pub mod PushTake
 pub mod CallSteps
+pub mod Idle
 pub mod StartedBytes
 pub mod Begins
 pub mod LooplessEnds

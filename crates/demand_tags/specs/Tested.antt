@@ -1,7 +1,7 @@
 -- The calls of the machine with tags by the tests that they meet, in their order: lent too little, and each case of a push, a fire, a run and a take of a memory in good standing.
 -- Assumes nothing.
 use Prim.Native.Nat.{ℕ, _≤_, _<_}
-use mathlib.Core.Path.{_≡_, refl}
+use mathlib.Core.Path.{_≡_, refl, ap, _∙_}
 use mathlib.Core.Logic.{_≢_}
 use mathlib.Core.Bool.{Bool, true, false}
 use mathlib.Core.List.{List}
@@ -107,6 +107,14 @@ module _ (m : List ℕ) (st : tagStanding m ≡ 0) where
   unfolding tagFired
   fire-made i t p q r = rw (st, lt-ltb i (operatorsOf m) p, lt-ltb t mostTags q, r) refl
 
+  -- 34 of an operator that is there, under a tag, says that it is not able.
+  pub fire-idle : (i t : ℕ) → i < operatorsOf m → t < mostTags → tagFired m i t .answer .refusal ≡ numberOf NotAble → ableUnder m i t ≡ false
+  fire-idle i t p q z = go (ableUnder m i t) refl
+    where
+      go : (a : Bool) → ableUnder m i t ≡ a → a ≡ false
+      go false e = refl
+      go true e = absurd (omega (arith, ap (λ (o : Outcome). o .answer .refusal) (fire-made i t p q e), z))
+
   pub take-made : (t : ℕ) (o : List ℕ) → 80 ≤ length o → t < mostTags → wholeResult m t ≡ true → tagTaken m t o .answer .refusal ≡ 0
   unfolding tagTaken
   take-made t o p q r = rw (le-ltb (length o) 80 p, st, lt-ltb t mostTags q, r) refl
@@ -120,3 +128,12 @@ module _ (m : List ℕ) (st : tagStanding m ≡ 0) where
       go : (b : Bool) (r : Ran) → (ended b r .mem ≡ r .mem) × (ended b r .answer .count ≡ r .count) × (ended b r .answer .refusal ≢ numberOf Altered)
       go true r = (refl, refl, omega arith)
       go false r = (refl, refl, omega arith)
+
+  -- An accepted run leaves nothing that can fire.
+  pub run-still : (firings : ℕ) → tagRan m firings .answer .refusal ≡ 0 → tagStill (tagRan m firings .mem) (operatorsOf m) ≡ true
+  unfolding tagRan tagEnded
+  run-still firings z = go (tagStill (tagRuns (operatorsOf m) firings m 0 .mem) (operatorsOf m)) refl
+    where
+      go : (b : Bool) → tagStill (tagRuns (operatorsOf m) firings m 0 .mem) (operatorsOf m) ≡ b → tagStill (tagRan m firings .mem) (operatorsOf m) ≡ true
+      go true e = ap (λ (x : List ℕ). tagStill x (operatorsOf m)) (run-made firings .0) ∙ e
+      go false e = let unfinished : tagRan m firings .answer .refusal ≡ numberOf Unfinished = rw (st, e) refl in absurd (omega (arith, unfinished, z))
