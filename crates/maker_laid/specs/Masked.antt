@@ -76,9 +76,6 @@ module _ (m : ℕ) (k : Mask m) where
     pub mask-less : bitAnd m (m - 1) < m
     mask-less = let h : bitAnd m (m - 1) ≤ m - 1 = and-le-r m (m - 1) in omega arith
 
-    pub mask-shorter : length (listOf m) ≡ suc (length (listOf (bitAnd m (m - 1))))
-    mask-shorter = ap (length {A = ℕ}) mask-walk
-
 -- One turn of a walk: the lowest name x and the mask r without it.
 pub record Walked (m x r : ℕ) : Type 0 where
   pub inside : x < 33
