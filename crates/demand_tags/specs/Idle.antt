@@ -16,10 +16,11 @@ use Rattle.machine_planes.specs.Planes.{mostTags, taggedNeed}
 use Rattle.machine_tags.specs.TagRun.{ableUnder}
 use Rattle.machine_tags.specs.TagCalls.{tagStanding, tagRan}
 use Rattle.machine_tags.specs.RunSteps.{tag-still-says}
+use Rattle.refusals.specs.TagRunCount.{tag-run-counts}
 use Rattle.demand_tags.specs.TagLists.{fire, run, answerOf, memoryAfter}
 use Rattle.demand_tags.specs.LentPlanes.{plane-lent, plane-behind, able-same}
 use Rattle.demand_tags.specs.Benched.{Benched, bench-operators, few-operators, bench-stands, bench-lent}
-use Rattle.demand_tags.specs.Tested.{run-short, fire-idle, run-made, run-still}
+use Rattle.demand_tags.specs.Tested.{run-short, fire-idle, run-made}
 use Rattle.demand_tags.specs.Firings.{run-fires}
 use Rattle.demand_tags.specs.CallSteps.{bench-call}
 
@@ -59,7 +60,7 @@ module _ (sheet line : List ℕ) (ok : Admissible sheet) (m : List ℕ) (B : Ben
           let long : taggedNeed ≤ length left
           = omega (arith, ap length (run-made lentPart (good l) firings .0), run-fires sheet line ok (drop lent m) firings lentPart (L l) .1 .as-long, L l .long) in
           able-same left (left ++ drop lent m) long (B′ .long) t tag (plane-behind left (drop lent m) long t tag) i (omega arith)
-          ∙ tag-still-says left (operatorsOf lentPart) (run-still lentPart (good l) firings z) i t (omega arith) tag
+          ∙ tag-still-says left (operatorsOf lentPart) (tag-run-counts lentPart firings (good l) .accepted z) i t (omega arith) tag
 
       go : Dec (lent < taggedNeed) → Idle (tagRan lentPart firings .mem ++ drop lent m)
       go (yes l) = absurd (omega (arith, ap (λ (o : Outcome). o .answer .refusal) (run-short lentPart (omega (arith, length-take lent m)) firings), z))

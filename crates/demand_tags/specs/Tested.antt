@@ -1,7 +1,7 @@
 -- The calls of the machine with tags by the tests that they meet, in their order: lent too little, and each case of a push, a fire, a run and a take of a memory in good standing.
 -- Assumes nothing.
 use Prim.Native.Nat.{ℕ, _≤_, _<_}
-use mathlib.Core.Path.{_≡_, refl, ap, _∙_}
+use mathlib.Core.Path.{_≡_, refl, ap}
 use mathlib.Core.Logic.{_≢_}
 use mathlib.Core.Bool.{Bool, true, false}
 use mathlib.Core.List.{List}
@@ -128,12 +128,3 @@ module _ (m : List ℕ) (st : tagStanding m ≡ 0) where
       go : (b : Bool) (r : Ran) → (ended b r .mem ≡ r .mem) × (ended b r .answer .count ≡ r .count) × (ended b r .answer .refusal ≢ numberOf Altered)
       go true r = (refl, refl, omega arith)
       go false r = (refl, refl, omega arith)
-
-  -- An accepted run leaves nothing that can fire.
-  pub run-still : (firings : ℕ) → tagRan m firings .answer .refusal ≡ 0 → tagStill (tagRan m firings .mem) (operatorsOf m) ≡ true
-  unfolding tagRan tagEnded
-  run-still firings z = go (tagStill (tagRuns (operatorsOf m) firings m 0 .mem) (operatorsOf m)) refl
-    where
-      go : (b : Bool) → tagStill (tagRuns (operatorsOf m) firings m 0 .mem) (operatorsOf m) ≡ b → tagStill (tagRan m firings .mem) (operatorsOf m) ≡ true
-      go true e = ap (λ (x : List ℕ). tagStill x (operatorsOf m)) (run-made firings .0) ∙ e
-      go false e = let unfinished : tagRan m firings .answer .refusal ≡ numberOf Unfinished = rw (st, e) refl in absurd (omega (arith, unfinished, z))
