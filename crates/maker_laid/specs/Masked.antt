@@ -10,7 +10,7 @@ use lib.Bits.{bitAnd, and-le-r}
 use lib.Count.{ones, trailingZeros}
 use lib.Dec.{eqb}
 use Rattle.names.specs.Names.{Names, one, without, mask, size, members}
-use Rattle.names.proofs.Sets.{mask-inj, mask-has, mask-cong, members-cong, mask-lt, ones-mask, length-members, size-le, known-members, known-rest, known-lowest, known-members-none, known-count}
+use Rattle.names.proofs.Sets.{mask-has, mask-cong, members-cong, ones-mask, length-members, size-le, known-members, known-rest, known-lowest, known-members-none, known-count}
 
 unfoldable pub namesIn : ℕ → Names
 namesIn m i = eqb (m / 2 ^ i % 2) 1
