@@ -91,8 +91,8 @@ enum {
 
     /* Said of how the machine stands. */
     BENCH_ALTERED = 31,     /* a stored figure, letter or token outside its range, or a link named twice by one operator, the inputs or the results;
-                               never given where only these calls wrote since an accepted bench_start, or since the start within bench_check_log;
-                               of a machine with tags where only its calls wrote since an accepted bench_tagged_start */
+                               never given by a machine's own calls where only they wrote since its start: an accepted bench_start, the start within
+                               bench_check_log, or, of a machine with tags, an accepted bench_tagged_start */
     BENCH_UNTAKEN = 32,     /* sixteen sets untaken */
     BENCH_FULL = 33,        /* an input link, or the trigger's, full */
     BENCH_NOT_ABLE = 34,    /* the operator is absent or not able to fire; of a machine with tags also where the tag is absent */
@@ -316,8 +316,9 @@ bench_log_answer bench_check_log(const uint8_t *sheet, size_t sheet_bytes, const
 
 /*
  * The machine with tags, for sheets without for: quick sets overtake slow ones. A set that is pushed gets the lowest free tag, 0 to 15, and its tokens carry
- * it; a link holds one token of each tag. Each taken result is that of the set last pushed under its tag, and when nothing can fire every tag is free or has
- * its whole result. A tag is free again as soon as, and not before, its result is taken and no token with it is left on any link.
+ * it; a link holds one token of each tag. A tag is free again as soon as, and not before, its result is taken and no token with it is left on any link. Where
+ * only its own calls wrote since the start, each taken result is that of the set last pushed under its tag, and when nothing can fire every tag is free or has
+ * its whole result.
  *
  * Starts an empty machine for a sheet with its kinds line in `memory` (any contents). Refusals, in this order: 11 (shorter than BENCH_TAGGED_BYTES), 1 to 9,
  * 17, 18, 10, 19 (row 0).
@@ -327,7 +328,8 @@ bench_start_answer bench_tagged_start(const uint8_t *sheet, size_t sheet_bytes, 
 
 /*
  * The calls on a machine with tags. Each needs BENCH_TAGGED_BYTES, whatever is stored, looks first at that (11) and at all that is stored (31), and then gives
- * its own refusals. A first machine's memory gets 11 or 31 here, and the memory of a machine with tags 31 from the calls above.
+ * its own refusals. A first machine's memory gets 11 or 31 here, and so does the memory of a machine with tags from the first machine's calls on memory that
+ * was started; a start takes any memory, and makes it its own.
  */
 
 /*

@@ -1,7 +1,11 @@
-// The words behind a comparison's name: how many cases, from which seed, and the first of them.
+// The words behind a comparison's name: how many cases, from which seed, and the first of them; and the loop over them.
 
 use crate::random::Rng;
-use std::process;
+use std::collections::BTreeMap;
+use std::{env, process};
+
+/// How often each thing was compared.
+pub type Counts = BTreeMap<String, u64>;
 
 pub struct Cases {
     pub count: u64,
@@ -21,6 +25,24 @@ impl Cases {
                 process::exit(2)
             }
         }
+    }
+
+    /// Those of the program's own words.
+    pub fn asked(usage: &str) -> Cases {
+        Cases::from(&env::args().skip(1).collect::<Vec<_>>(), usage)
+    }
+
+    /// Compares case by case. The first difference is printed and ends the program; else what was compared is.
+    pub fn compare(&self, mut case: impl FnMut(u64, &mut Counts, &mut Rng) -> Result<(), String>) {
+        let mut counts = Counts::new();
+        for number in self.numbers() {
+            if let Err(difference) = case(number, &mut counts, &mut self.rng(number)) {
+                println!("case {number} of seed {}, {difference}", self.seed);
+                process::exit(1);
+            }
+        }
+        let list: Vec<String> = counts.iter().map(|(kind, count)| format!("{kind} {count}")).collect();
+        println!("no difference in {} cases; compared: {}", self.count, list.join(", "));
     }
 
     pub fn numbers(&self) -> std::ops::Range<u64> {

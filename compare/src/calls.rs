@@ -6,6 +6,7 @@ use crate::log::{self, Handed, LogAnswer};
 use crate::memory::{self, Answer, RoundsAnswer, StartAnswer};
 use crate::tag_memory;
 use crate::tally::Tally;
+use std::fmt::Debug;
 
 #[derive(Clone, Copy)]
 pub struct Calls {
@@ -99,4 +100,10 @@ impl Calls {
         }
         Answer { refusal: 0, count }
     }
+}
+
+/// Two answers, and the places at which the bytes left behind them differ.
+pub fn difference(ours: impl Debug, theirs: impl Debug, plain: &[u8], mem: &[u8]) -> String {
+    let places: Vec<usize> = (0..mem.len()).filter(|&at| mem[at] != plain[at]).take(8).collect();
+    format!("here {ours:?}, the product answers {theirs:?}; bytes differ at {places:?}")
 }

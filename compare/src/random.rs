@@ -18,7 +18,7 @@ pub mod sheets;
 pub mod tree;
 pub mod turns;
 
-use crate::bytes::VALUE_BYTES;
+use crate::bytes::{self, VALUE_BYTES};
 use crate::sheet::Sheet;
 use crate::value::{Sort, Value};
 pub use endless::endless_sheet;
@@ -26,7 +26,7 @@ pub use floats::{random_float, random_pattern};
 pub use quick::quick_sheet;
 pub use sheets::{
     accepted_sheet, heavy_loopless_sheet, heavy_loopless_sheet_of_wholes, heavy_sheet, heavy_sheet_of_wholes,
-    loopless_sheet, loose_sheet, renamed_sheet, unkinded_sheet, Made,
+    loopless_sheet, loose_sheet, renamed_sheet, rows_text, unkinded_sheet, Made,
 };
 
 pub struct Rng(u64);
@@ -76,6 +76,28 @@ pub fn random_set(sheet: &Sheet, rng: &mut Rng) -> Vec<Value> {
     if !set.is_empty() && rng.chance(OTHER_KINDS) {
         let place = rng.below(set.len());
         set[place] = value_of_another_kind(sheet.sorts[place], rng);
+    }
+    set
+}
+
+/// The bytes of a set as it is lent to a call, mostly one that a sheet takes.
+pub fn lent_set(sheet: &Sheet, rng: &mut Rng) -> Vec<u8> {
+    let mut values = random_set(sheet, rng);
+    if rng.chance(3) {
+        values.push(random_value(rng.pick(&[Sort::Whole, Sort::Real]), rng));
+    }
+    let mut set = bytes::encode_set(&values);
+    if rng.chance(3) && !set.is_empty() {
+        let at = rng.below(set.len());
+        set[at] = rng.pick(&[0, 1, 2, 3, 4, 255]);
+    }
+    if rng.chance(5) && !values.is_empty() {
+        let at = rng.below(values.len()) * VALUE_BYTES;
+        let value = if rng.chance(50) { random_err(rng) } else { random_float_bytes(rng) };
+        set[at..at + VALUE_BYTES].copy_from_slice(&value);
+    }
+    if rng.chance(2) {
+        set.pop();
     }
     set
 }

@@ -2,7 +2,7 @@
 // difference, which it prints in full. Usage: compare CASES SEED [FIRST]. A case is made from the seed and its number
 // alone, so that `compare 1 SEED NUMBER` makes it again.
 
-use compare::arguments::Cases;
+use compare::arguments::{Cases, Counts};
 use compare::bytes::{self, EvaluateAnswer, OUT_BYTES, VALUE_BYTES};
 use compare::product;
 use compare::random::turns::random_sheet;
@@ -10,34 +10,20 @@ use compare::random::{random_err, random_float_bytes, random_set, random_value, 
 use compare::sheet;
 use compare::surrounded::Surrounded;
 use compare::value::{Sort, Value};
-use std::collections::BTreeMap;
-use std::{env, process};
 
 /// The rounds within which an evaluation is looked for; a loop that takes more is given fewer than it needs.
 const ROUNDS: u32 = 2_000;
 
 /// How many cases of each kind were compared.
-type Counts = BTreeMap<String, u64>;
-
 fn main() {
-    let cases = Cases::from(&env::args().skip(1).collect::<Vec<_>>(), "compare");
-    let mut counts = Counts::new();
-    for number in cases.numbers() {
-        let mut rng = cases.rng(number);
-        let (kind, made) = random_sheet(number, &mut rng);
-        let compared = compare_read(&made, &mut counts, &mut rng).and_then(|()| {
+    Cases::asked("compare").compare(|number, counts, rng| {
+        let (kind, made) = random_sheet(number, rng);
+        let compared = compare_read(&made, counts, rng).and_then(|()| {
             *counts.entry(kind.clone()).or_default() += 1;
-            (0..3).try_for_each(|_| compare_evaluate(&made, &mut counts, &mut rng))
+            (0..3).try_for_each(|_| compare_evaluate(&made, counts, rng))
         });
-        if let Err(difference) = compared {
-            println!("case {number} of seed {}, {kind}\nsheet of {} bytes:", cases.seed, made.bytes.len());
-            println!("{}", made.bytes.escape_ascii().to_string().replace("\\n", "\\n\n"));
-            println!("kinds line {}\n{difference}", made.kinds.escape_ascii());
-            process::exit(1);
-        }
-    }
-    let list: Vec<String> = counts.iter().map(|(kind, count)| format!("{kind} {count}")).collect();
-    println!("no difference; compared: {}", list.join(", "));
+        compared.map_err(|difference| format!("{kind}\n{made}\n{difference}"))
+    });
 }
 
 fn compare_read(made: &Made, counts: &mut Counts, rng: &mut Rng) -> Result<(), String> {

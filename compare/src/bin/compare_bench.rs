@@ -3,7 +3,7 @@
 // Results before a 36 depend on the numbering of operators: there the loop here is run on the graph that the product made, and each line printed must
 // besides be its set's own result.
 
-use compare::arguments::Cases;
+use compare::arguments::{Cases, Counts};
 use compare::bench::{bench, read_sets, write_set, CAPACITY, FIRINGS};
 use compare::bytes::{decode_set, encode_set};
 use compare::calls::{self, PLAIN};
@@ -12,13 +12,10 @@ use compare::sheet::Refusal;
 use compare::tally::Tally;
 use compare::value::Value;
 use compare::{eval, memory, sheet};
-use std::collections::BTreeMap;
 use std::path::{Path, PathBuf};
 use std::process::{Command, Stdio};
 use std::sync::atomic::{AtomicU64, Ordering};
 use std::{env, fs, process, thread};
-
-type Counts = BTreeMap<String, u64>;
 
 fn main() {
     let words: Vec<String> = env::args().skip(1).collect();

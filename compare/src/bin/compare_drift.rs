@@ -3,7 +3,7 @@
 // tolerance, evaluated by the product, each result that is err in neither moves no further than its number.
 // Usage: compare_drift CASES SEED [FIRST]. `compare_drift 1 SEED NUMBER` makes a case again.
 
-use compare::arguments::Cases;
+use compare::arguments::{Cases, Counts};
 use compare::bytes::{self, OUT_BYTES};
 use compare::drift::{self, DriftAnswer, NUMBER_BYTES, ROOM};
 use compare::product;
@@ -12,8 +12,6 @@ use compare::random::{Made, Rng};
 use compare::surrounded::Surrounded;
 use compare::value::Value;
 use std::cmp::Ordering;
-use std::collections::BTreeMap;
-use std::{env, process};
 
 /// How many sheets are looked at in a case.
 const SHEETS: u64 = 10;
@@ -21,30 +19,16 @@ const SHEETS: u64 = 10;
 /// How many pairs of sets are evaluated for an accepted sheet.
 const PAIRS: usize = 5;
 
-type Counts = BTreeMap<String, u64>;
-
 fn main() {
-    let cases = Cases::from(&env::args().skip(1).collect::<Vec<_>>(), "compare_drift");
-    let mut counts = Counts::new();
-    for number in cases.numbers() {
-        let mut rng = cases.rng(number);
-        for sheet in SHEETS * number..SHEETS * (number + 1) {
-            let (kind, moving) = moving_sheet(sheet, &mut rng);
+    Cases::asked("compare_drift").compare(|number, counts, rng| {
+        (SHEETS * number..SHEETS * (number + 1)).try_for_each(|sheet| {
+            let (kind, moving) = moving_sheet(sheet, rng);
             *counts.entry(kind.into()).or_default() += 1;
-            if let Err(difference) = compare_sheet(&moving, &mut counts, &mut rng) {
-                println!("case {number} of seed {}, {kind}\n{}{difference}", cases.seed, text(&moving));
-                process::exit(1);
-            }
-        }
-    }
-    let list: Vec<String> = counts.iter().map(|(kind, count)| format!("{kind} {count}")).collect();
-    println!("no difference in {} cases; compared: {}", cases.count, list.join(", "));
-}
-
-fn text(moving: &Moving) -> String {
-    let Moving { made: Made { bytes, kinds }, tolerances, .. } = moving;
-    let rows = bytes.escape_ascii().to_string().replace("\\n", "\\n\n");
-    format!("sheet of {} bytes:\n{rows}kinds {}, tolerances {tolerances:?}\n", bytes.len(), kinds.escape_ascii())
+            compare_sheet(&moving, counts, rng).map_err(|difference| {
+                format!("{kind}\n{}, tolerances {:?}\n{difference}", moving.made, moving.tolerances)
+            })
+        })
+    });
 }
 
 fn compare_sheet(moving: &Moving, counts: &mut Counts, rng: &mut Rng) -> Result<(), String> {

@@ -5,7 +5,7 @@
 // 02, Job 3; demand 3).
 // Usage: compare_log CASES SEED [FIRST]. `compare_log 1 SEED NUMBER` makes a case again.
 
-use compare::arguments::Cases;
+use compare::arguments::{Cases, Counts};
 use compare::bytes::{self, OUT_BYTES, VALUE_BYTES};
 use compare::examples::endless;
 use compare::log::{self, LogAnswer, LINE_BYTES, MOST_LINES};
@@ -15,7 +15,6 @@ use compare::sheet::Sheet;
 use compare::tally::Tally;
 use compare::{eval, product};
 use std::collections::BTreeMap;
-use std::{env, process};
 
 /// How many times faults are planted in one log.
 const BROKEN: usize = 8;
@@ -29,20 +28,8 @@ const ROUNDS: u32 = 2_000;
 /// Bytes around the lent ones.
 const MARGIN: usize = 32;
 
-type Counts = BTreeMap<String, u64>;
-
 fn main() {
-    let cases = Cases::from(&env::args().skip(1).collect::<Vec<_>>(), "compare_log");
-    let mut counts = Counts::new();
-    for number in cases.numbers() {
-        let mut rng = cases.rng(number);
-        if let Err(difference) = compare_case(number, &mut counts, &mut rng) {
-            println!("case {number} of seed {}\n{difference}", cases.seed);
-            process::exit(1);
-        }
-    }
-    let list: Vec<String> = counts.iter().map(|(kind, count)| format!("{kind} {count}")).collect();
-    println!("no difference in {} cases; compared: {}", cases.count, list.join(", "));
+    Cases::asked("compare_log").compare(compare_case);
 }
 
 fn compare_case(number: u64, counts: &mut Counts, rng: &mut Rng) -> Result<(), String> {

@@ -6,20 +6,17 @@
 // firings that it is owed (document 02, Job 7).
 // Usage: compare_machine CASES SEED [FIRST]. `compare_machine 1 SEED NUMBER` makes a case again.
 
-use compare::arguments::Cases;
+use compare::arguments::{Cases, Counts};
 use compare::bytes::{self, OUT_BYTES, VALUE_BYTES};
+use compare::calls::difference;
 use compare::memory::{self, Answer, RoundsAnswer, LETTERS, LINKS};
 use compare::random::altered::alter;
 use compare::random::faults::{plant, PLANTABLE};
-use compare::random::{
-    accepted_sheet, endless_sheet, heavy_sheet, random_err, random_float_bytes, random_set, random_value, Made, Rng,
-};
+use compare::random::{accepted_sheet, endless_sheet, heavy_sheet, lent_set, Made, Rng};
 use compare::sheet::{self, Sheet};
 use compare::tally::Tally;
-use compare::value::Sort;
 use compare::{eval, product};
-use std::collections::{BTreeMap, VecDeque};
-use std::{env, process};
+use std::collections::VecDeque;
 
 /// The rounds within which an evaluation is looked for.
 const ROUNDS: u32 = 2_000;
@@ -52,26 +49,11 @@ const INPUTS_AT: usize = 5;
 /// No more sets go in at once: after sixteen untaken ones comes 32.
 const MOST_UNTAKEN: usize = 16;
 
-type Counts = BTreeMap<String, u64>;
-
 fn main() {
-    let cases = Cases::from(&env::args().skip(1).collect::<Vec<_>>(), "compare_machine");
-    let mut counts = Counts::new();
-    for number in cases.numbers() {
-        let mut rng = cases.rng(number);
-        let made = random_sheet(number, &mut rng);
-        if let Err(difference) = compare_case(number, &made, &mut counts, &mut rng) {
-            println!(
-                "case {number} of seed {}\n{}",
-                cases.seed,
-                made.bytes.escape_ascii().to_string().replace("\\n", "\\n\n")
-            );
-            println!("kinds line {}\n{difference}", made.kinds.escape_ascii());
-            process::exit(1);
-        }
-    }
-    let list: Vec<String> = counts.iter().map(|(kind, count)| format!("{kind} {count}")).collect();
-    println!("no difference in {} cases; compared: {}", cases.count, list.join(", "));
+    Cases::asked("compare_machine").compare(|number, counts, rng| {
+        let made = random_sheet(number, rng);
+        compare_case(number, &made, counts, rng).map_err(|difference| format!("{made}\n{difference}"))
+    });
 }
 
 fn random_sheet(number: u64, rng: &mut Rng) -> Made {
@@ -402,7 +384,7 @@ impl Run<'_> {
     /// A push or a tray.
     fn push_both(&mut self, plain: &mut Side, product: &mut Side, rng: &mut Rng) -> Result<Called, String> {
         if rng.chance(60) {
-            let set = self.random_set(rng);
+            let set = lent_set(self.sheet, rng);
             let (mem, tally) = plain.memory();
             let ours = memory::push(mem, &set, tally);
             let (mem, tally) = product.memory();
@@ -549,7 +531,7 @@ impl Run<'_> {
         let pushes = Answer { refusal: refusal.unwrap_or(0), count: went_in.len() as u32 };
         self.count_tray(number, pushes);
         if pushes != tray || mem != left.mem {
-            return Err(format!("a tray of {number}: {}", difference(pushes.into(), tray.into(), &mem, &left.mem)));
+            return Err(format!("a tray of {number}: {}", difference(pushes, tray, &mem, &left.mem)));
         }
         self.spare.push(mem);
         Ok(went_in)
@@ -569,7 +551,7 @@ impl Run<'_> {
     /// Sets behind each other and their number; now and then a bad set in the middle, the last not wholly lent, bytes behind it, more sets told than lent.
     fn random_tray(&self, rng: &mut Rng) -> (Vec<u8>, u32) {
         let number = if rng.chance(70) { rng.below(4) } else { rng.below(MOST_UNTAKEN + 5) };
-        let mut sets: Vec<u8> = (0..number).flat_map(|_| self.random_set(rng)).collect();
+        let mut sets: Vec<u8> = (0..number).flat_map(|_| lent_set(self.sheet, rng)).collect();
         match rng.below(10) {
             0 => sets.truncate(sets.len() - rng.below(sets.len().min(2 * VALUE_BYTES) + 1)),
             1 => sets.extend((0..rng.between(1, 12)).map(|_| rng.number() as u8)),
@@ -578,33 +560,6 @@ impl Run<'_> {
         }
         (sets, number as u32)
     }
-
-    /// Mostly a set that fits.
-    fn random_set(&self, rng: &mut Rng) -> Vec<u8> {
-        let mut values = random_set(self.sheet, rng);
-        if rng.chance(3) {
-            values.push(random_value(rng.pick(&[Sort::Whole, Sort::Real]), rng));
-        }
-        let mut set = bytes::encode_set(&values);
-        if rng.chance(3) && !set.is_empty() {
-            let at = rng.below(set.len());
-            set[at] = rng.pick(&[0, 1, 2, 3, 4, 255]);
-        }
-        if rng.chance(5) && !values.is_empty() {
-            let at = rng.below(values.len()) * VALUE_BYTES;
-            let value = if rng.chance(50) { random_err(rng) } else { random_float_bytes(rng) };
-            set[at..at + VALUE_BYTES].copy_from_slice(&value);
-        }
-        if rng.chance(2) {
-            set.pop();
-        }
-        set
-    }
-}
-
-fn difference(ours: Told, theirs: Told, plain: &[u8], mem: &[u8]) -> String {
-    let places: Vec<usize> = (0..mem.len()).filter(|&at| mem[at] != plain[at]).take(8).collect();
-    format!("here {ours:?}, the product answers {theirs:?}; bytes differ at {places:?}")
 }
 
 /// The greatest number only where far fewer rounds end it.

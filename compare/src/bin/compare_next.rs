@@ -6,50 +6,34 @@
 use compare::arguments::Cases;
 use compare::product;
 use compare::random::nearly_small::nearly_small_sheet;
-use compare::random::Rng;
+use compare::random::{rows_text, Rng};
 use compare::sheet::ROW_BYTES;
 use compare::small::{is_small, Digest, NextAnswer, SmallSheets, MOST_ROWS, ROOM};
 use compare::surrounded::Surrounded;
-use std::collections::BTreeMap;
-use std::{env, process};
+use std::process;
 
 /// How many sheets are handed in in a case.
 const SHEETS: u64 = 16;
 
-type Counts = BTreeMap<String, u64>;
-
 fn main() {
-    let cases = Cases::from(&env::args().skip(1).collect::<Vec<_>>(), "compare_next");
+    let cases = Cases::asked("compare_next");
     let sheets = SmallSheets::all();
     match walk(&sheets, &mut cases.rng(cases.first)) {
         Ok(line) => println!("{line}"),
-        Err(difference) => stop(&difference),
-    }
-    let mut counts = Counts::new();
-    for number in cases.numbers() {
-        let mut rng = cases.rng(number);
-        for way in 0..SHEETS {
-            let (kind, sheet) = nearly_small_sheet(way, &sheets, &mut rng);
-            match compare_sheet(&sheet, &sheets, &mut rng) {
-                Ok(refusal) => {
-                    *counts.entry(kind.into()).or_default() += 1;
-                    *counts.entry(format!("answered with {refusal:2}")).or_default() += 1;
-                }
-                Err(difference) => stop(&format!("case {number} of seed {}, {kind}\n{difference}", cases.seed)),
-            }
+        Err(difference) => {
+            println!("{difference}");
+            process::exit(1)
         }
     }
-    let list: Vec<String> = counts.iter().map(|(kind, count)| format!("{kind} {count}")).collect();
-    println!("no difference in {} cases; compared: {}", cases.count, list.join(", "));
-}
-
-fn stop(difference: &str) -> ! {
-    println!("{difference}");
-    process::exit(1)
-}
-
-fn text(bytes: &[u8]) -> String {
-    bytes.escape_ascii().to_string().replace("\\n", "\\n\n")
+    cases.compare(|_, counts, rng| {
+        (0..SHEETS).try_for_each(|way| {
+            let (kind, sheet) = nearly_small_sheet(way, &sheets, rng);
+            let refusal = compare_sheet(&sheet, &sheets, rng).map_err(|difference| format!("{kind}\n{difference}"))?;
+            *counts.entry(kind.into()).or_default() += 1;
+            *counts.entry(format!("answered with {refusal:2}")).or_default() += 1;
+            Ok(())
+        })
+    });
 }
 
 /// Each call is lent what the one before wrote.
@@ -62,7 +46,11 @@ fn walk(sheets: &SmallSheets, rng: &mut Rng) -> Result<String, String> {
         let (answer, out) = compare_next(&given, sheets, room, rng)?;
         given = out[..ROW_BYTES * answer.rows as usize].to_vec();
         if given != *sheet {
-            return Err(format!("the list here goes on with\n{}the call with\n{}", text(sheet), text(&given)));
+            return Err(format!(
+                "the list here goes on with\n{}the call with\n{}",
+                rows_text(sheet),
+                rows_text(&given)
+            ));
         }
         counts[answer.rows as usize] += 1;
         digest = digest.with(&given);
@@ -84,7 +72,7 @@ fn compare_sheet(sheet: &[u8], sheets: &SmallSheets, rng: &mut Rng) -> Result<u3
     let refusal = compare_next(sheet, sheets, room, rng)?.0.refusal;
     let small = is_small(sheet);
     if small != sheets.find(sheet).is_some() || (refusal == 22) != (room >= ROOM && !sheet.is_empty() && !small) {
-        return Err(format!("answered with {refusal}, small: {small}\n{}", text(sheet)));
+        return Err(format!("answered with {refusal}, small: {small}\n{}", rows_text(sheet)));
     }
     Ok(refusal)
 }
@@ -102,12 +90,12 @@ fn compare_next(
     let (lent, before) = (Surrounded::new(sheet, rng), Surrounded::new(&held, rng));
     let mut after = before.clone();
     let theirs = product::next(lent.middle(), after.middle_mut());
-    let told = |difference: &str| Err(format!("{difference}, behind\n{}", text(sheet)));
+    let told = |difference: &str| Err(format!("{difference}, behind\n{}", rows_text(sheet)));
     if lent.middle() != sheet || !after.margins_equal(&before) {
         return told("the product altered memory that it may not write");
     }
     if answer != theirs || out != after.middle() {
-        let (our_text, their_text) = (text(&out), text(after.middle()));
+        let (our_text, their_text) = (rows_text(&out), rows_text(after.middle()));
         return told(&format!("here {answer:?} with\n{our_text}\nthe product answers {theirs:?} with\n{their_text}"));
     }
     Ok((answer, out))

@@ -4,24 +4,20 @@
 // 36 every tag is free or has its whole result. Each machine's memory is handed to the other's calls too.
 // Usage: compare_tags CASES SEED [FIRST]. `compare_tags 1 SEED NUMBER` makes a case again.
 
-use compare::arguments::Cases;
-use compare::bytes::{self, OUT_BYTES, VALUE_BYTES};
-use compare::calls::{self, Calls, TagCalls, PLAIN, PLAIN_TAGS};
+use compare::arguments::{Cases, Counts};
+use compare::bytes::{self, OUT_BYTES};
+use compare::calls::{self, difference, Calls, TagCalls, PLAIN, PLAIN_TAGS};
 use compare::memory::{self, Answer, LETTERS, OPERATORS};
 use compare::random::altered::alter;
 use compare::random::faults::{plant, PLANTABLE};
 use compare::random::{
-    accepted_sheet, heavy_loopless_sheet, heavy_sheet, loopless_sheet, quick_sheet, random_err, random_float_bytes,
-    random_set, random_value, Made, Rng,
+    accepted_sheet, heavy_loopless_sheet, heavy_sheet, lent_set, loopless_sheet, quick_sheet, random_set, Made, Rng,
 };
 use compare::sheet::{self, Sheet};
 use compare::tag_memory::{self, stretch_at, NEED, TAGS_AT};
 use compare::tags::{Machine, Tag, TAGS};
 use compare::tally::Tally;
-use compare::value::Sort;
 use compare::{eval, product};
-use std::collections::BTreeMap;
-use std::{env, process};
 
 /// Bytes behind the lent ones.
 const MARGIN: usize = 32;
@@ -48,26 +44,11 @@ const FLOODS: usize = 2;
 /// After how many runs in a hundred that leave nothing to do the product is asked of each tag.
 const ASKED: usize = 10;
 
-type Counts = BTreeMap<String, u64>;
-
 fn main() {
-    let cases = Cases::from(&env::args().skip(1).collect::<Vec<_>>(), "compare_tags");
-    let mut counts = Counts::new();
-    for number in cases.numbers() {
-        let mut rng = cases.rng(number);
-        let made = random_sheet(number, &mut rng);
-        if let Err(difference) = compare_case(number, &made, &mut counts, &mut rng) {
-            println!(
-                "case {number} of seed {}\n{}",
-                cases.seed,
-                made.bytes.escape_ascii().to_string().replace("\\n", "\\n\n")
-            );
-            println!("kinds line {}\n{difference}", made.kinds.escape_ascii());
-            process::exit(1);
-        }
-    }
-    let list: Vec<String> = counts.iter().map(|(kind, count)| format!("{kind} {count}")).collect();
-    println!("no difference in {} cases; compared: {}", cases.count, list.join(", "));
+    Cases::asked("compare_tags").compare(|number, counts, rng| {
+        let made = random_sheet(number, rng);
+        compare_case(number, &made, counts, rng).map_err(|difference| format!("{made}\n{difference}"))
+    });
 }
 
 /// Mostly sheets without for; a few that 19 speaks of, or a refusal before it.
@@ -299,7 +280,7 @@ impl Run<'_> {
             let Ok(machine) = tag_memory::stored(&self.mem) else { return Ok(()) };
             if machine.has_result(tag) {
                 self.make(&Call::Take(tag), length, OUT_BYTES)?;
-                let set = self.random_set(rng);
+                let set = lent_set(self.sheet, rng);
                 return if rng.chance(70) { self.make(&Call::Push(set), length, OUT_BYTES) } else { Ok(()) };
             }
             let pairs = machine.able_pairs().into_iter().filter(|&(_, other)| other == tag);
@@ -314,7 +295,7 @@ impl Run<'_> {
 
     fn flood(&mut self, length: usize, rng: &mut Rng) -> Result<(), String> {
         (0..=TAGS).try_for_each(|_| {
-            let set = self.random_set(rng);
+            let set = lent_set(self.sheet, rng);
             self.make(&Call::Push(set), length, OUT_BYTES)
         })
     }
@@ -441,7 +422,7 @@ impl Run<'_> {
 
     /// The first machine's calls on this memory: 31, or what the plain ones say where altered bytes make another machine of it.
     fn other_machines_calls(&mut self, length: usize, rng: &mut Rng) -> Result<(), String> {
-        let set = self.random_set(rng);
+        let set = lent_set(self.sheet, rng);
         let calls: [fn(Calls, &mut [u8], &[u8], &mut Tally) -> u32; 6] = [
             |calls, mem, set, tally| (calls.push)(mem, set, tally).refusal,
             |calls, mem, set, tally| (calls.push_tray)(mem, set, 1, tally).refusal,
@@ -465,7 +446,7 @@ impl Run<'_> {
 
     fn random_call(&self, rng: &mut Rng) -> Call {
         match rng.below(20) {
-            0..=5 => Call::Push(self.random_set(rng)),
+            0..=5 => Call::Push(lent_set(self.sheet, rng)),
             6..=10 => self.random_fire(rng),
             11..=13 => Call::Run(self.random_firings(rng)),
             _ => Call::Take(self.random_take(rng)),
@@ -508,24 +489,6 @@ impl Run<'_> {
             _ => random_tag(rng),
         }
     }
-
-    /// Mostly a set that fits.
-    fn random_set(&self, rng: &mut Rng) -> Vec<u8> {
-        let mut values = random_set(self.sheet, rng);
-        if rng.chance(2) {
-            values.push(random_value(rng.pick(&[Sort::Whole, Sort::Real]), rng));
-        }
-        let mut set = bytes::encode_set(&values);
-        if rng.chance(3) && !values.is_empty() {
-            let at = rng.below(values.len()) * VALUE_BYTES;
-            let value = if rng.chance(50) { random_err(rng) } else { random_float_bytes(rng) };
-            set[at..at + VALUE_BYTES].copy_from_slice(&value);
-        }
-        if rng.chance(2) {
-            set.pop();
-        }
-        set
-    }
 }
 
 /// Mostly a tag that there is.
@@ -537,9 +500,4 @@ fn random_tag(rng: &mut Rng) -> Tag {
         let absent = tag + rng.pick(&ABSENT);
         rng.pick(&[TAGS, absent, u32::MAX])
     }
-}
-
-fn difference(ours: Answer, theirs: Answer, plain: &[u8], mem: &[u8]) -> String {
-    let places: Vec<usize> = (0..mem.len()).filter(|&at| mem[at] != plain[at]).take(8).collect();
-    format!("here {ours:?}, the product answers {theirs:?}; bytes differ at {places:?}")
 }

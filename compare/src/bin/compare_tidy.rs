@@ -4,18 +4,16 @@
 // and where the new sheet is accepted, it is evaluated as its formula written down in another order is.
 // Usage: compare_tidy CASES SEED [FIRST]. `compare_tidy 1 SEED NUMBER` makes a case again.
 
-use compare::arguments::Cases;
+use compare::arguments::{Cases, Counts};
 use compare::bytes::{self, OUT_BYTES};
 use compare::product;
 use compare::random::dead::{littered_sheet, Littered};
 use compare::random::faults::naming_fields;
 use compare::random::lines::likely_line;
-use compare::random::{random_set, Made, Rng};
+use compare::random::{random_set, rows_text, Made, Rng};
 use compare::sheet::{self, read_lines, rows_of, ROW_BYTES};
 use compare::surrounded::Surrounded;
 use compare::tidy::{self, room_for, TidyAnswer};
-use std::collections::BTreeMap;
-use std::{env, process};
 
 /// How many sheets are tidied in a case.
 const SHEETS: u64 = 10;
@@ -23,30 +21,21 @@ const SHEETS: u64 = 10;
 /// The rounds lent to an evaluation.
 const ROUNDS: u32 = 500;
 
-type Counts = BTreeMap<String, u64>;
-
 type Rows = Vec<[u32; 5]>;
 
 fn main() {
-    let cases = Cases::from(&env::args().skip(1).collect::<Vec<_>>(), "compare_tidy");
-    let mut counts = Counts::new();
-    for number in cases.numbers() {
-        let mut rng = cases.rng(number);
-        for sheet in SHEETS * number..SHEETS * (number + 1) {
-            let (kind, littered) = littered_sheet(sheet, &mut rng);
-            if let Err(difference) = compare_sheet(&kind, &littered, &mut counts, &mut rng) {
-                println!("case {number} of seed {}, {kind}\n{difference}", cases.seed);
-                process::exit(1);
-            }
-        }
-    }
-    let list: Vec<String> = counts.iter().map(|(kind, count)| format!("{kind} {count}")).collect();
-    println!("no difference in {} cases; compared: {}", cases.count, list.join(", "));
+    Cases::asked("compare_tidy").compare(|number, counts, rng| {
+        (SHEETS * number..SHEETS * (number + 1)).try_for_each(|sheet| {
+            let (kind, littered) = littered_sheet(sheet, rng);
+            compare_sheet(&kind, &littered, counts, rng).map_err(|difference| format!("{kind}\n{difference}"))
+        })
+    });
 }
 
 fn compare_sheet(kind: &str, littered: &Littered, counts: &mut Counts, rng: &mut Rng) -> Result<(), String> {
     let Littered { made, known } = littered;
-    let told = |difference: String| format!("sheet of {} bytes:\n{}{difference}", made.bytes.len(), text(&made.bytes));
+    let told =
+        |difference: String| format!("sheet of {} bytes:\n{}{difference}", made.bytes.len(), rows_text(&made.bytes));
     let tidied = compare_tidy(&made.bytes, rng).map_err(told)?;
     *counts.entry(kind.into()).or_default() += 1;
     *counts.entry(format!("tidied with {:2}", tidied.answer.refusal)).or_default() += 1;
@@ -54,16 +43,12 @@ fn compare_sheet(kind: &str, littered: &Littered, counts: &mut Counts, rng: &mut
         return Ok(());
     }
     if known.as_ref().is_some_and(|(answer, left)| *answer != tidied.answer || left != tidied.sheet()) {
-        return Err(told(format!("known is {known:?}, the answer {:?}\n{}", tidied.answer, text(tidied.sheet()))));
+        return Err(told(format!("known is {known:?}, the answer {:?}\n{}", tidied.answer, rows_text(tidied.sheet()))));
     }
     match tidied.answer.refusal {
         0 => compare_left(made, &tidied, counts, rng).map_err(told),
         _ => Ok(()),
     }
-}
-
-fn text(bytes: &[u8]) -> String {
-    bytes.escape_ascii().to_string().replace("\\n", "\\n\n")
 }
 
 /// What was answered, and the lent memory afterwards.
@@ -98,7 +83,7 @@ fn compare_tidy(sheet: &[u8], rng: &mut Rng) -> Result<Tidied, String> {
         return Err("the product altered memory that it may not write".into());
     }
     if answer != theirs || out != after.middle() {
-        let (our_text, their_text) = (text(&out), text(after.middle()));
+        let (our_text, their_text) = (rows_text(&out), rows_text(after.middle()));
         return Err(format!("here {answer:?} with\n{our_text}\nthe product answers {theirs:?} with\n{their_text}"));
     }
     if answer.refusal != 0 && (out != held || answer.rows != 0) {
@@ -112,7 +97,7 @@ fn compare_left(made: &Made, tidied: &Tidied, counts: &mut Counts, rng: &mut Rng
     let rows = rows_of(&read_lines(&made.bytes).expect("tests 1 to 5 pass"));
     let left = tidied.sheet();
     let mut count = |kind: &str, found: bool| *counts.entry(kind.into()).or_default() += u64::from(found);
-    let wrong = |what: &str| Err(format!("{what}; tidied to\n{}", text(left)));
+    let wrong = |what: &str| Err(format!("{what}; tidied to\n{}", rows_text(left)));
     count("of 200 rows", made.bytes.len() == room_for(usize::MAX));
     count("with rows dropped", left.len() < made.bytes.len());
     count("with a row or two left", left.len() <= 2 * ROW_BYTES);

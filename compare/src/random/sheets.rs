@@ -8,6 +8,7 @@ use super::tree::{rows, Tree};
 use super::Rng;
 use crate::sheet::{self, MOST_OPERATORS, MOST_ROWS};
 use crate::value::Sort;
+use std::fmt;
 
 /// How many formulas in a hundred may have floats.
 const FLOATS: usize = 42;
@@ -17,6 +18,18 @@ const FLOATS: usize = 42;
 pub struct Made {
     pub bytes: Vec<u8>,
     pub kinds: Vec<u8>,
+}
+
+/// Bytes with each row on a line of its own.
+pub fn rows_text(bytes: &[u8]) -> String {
+    bytes.escape_ascii().to_string().replace("\\n", "\\n\n")
+}
+
+impl fmt::Display for Made {
+    fn fmt(&self, f: &mut fmt::Formatter) -> fmt::Result {
+        let Made { bytes, kinds } = self;
+        write!(f, "sheet of {} bytes:\n{}kinds line {}", bytes.len(), rows_text(bytes), kinds.escape_ascii())
+    }
 }
 
 impl Made {

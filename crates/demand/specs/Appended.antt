@@ -2,18 +2,12 @@
 use Prim.Native.Nat.{ℕ}
 use mathlib.Core.Path.{_≡_, refl, sym, ap, _∙_}
 use mathlib.Core.List.{List, [], _∷_, _++_, append-assoc}
-use Rattle.machine_calls.specs.declared.Answer.{Answer}
-use Rattle.demand.specs.MemoryCalls.{Call, Result, answerOf, memoryAfter, setOf, resultOf, memoryAfterAll, answersOf, setsPushed, resultsTaken}
+use Rattle.demand.specs.MemoryCalls.{Call, Result, memoryAfter, setOf, resultOf, memoryAfterAll, setsPushed, resultsTaken}
 
 pub memory-append : (calls more : List Call) (m : List ℕ) → memoryAfterAll (calls ++ more) m ≡ memoryAfterAll more (memoryAfterAll calls m)
 unfolding memoryAfterAll
 memory-append [] more m = refl
 memory-append (c ∷ calls) more m = memory-append calls more (memoryAfter c m)
-
-pub answers-append : (calls more : List Call) (m : List ℕ) → answersOf (calls ++ more) m ≡ answersOf calls m ++ answersOf more (memoryAfterAll calls m)
-unfolding answersOf memoryAfterAll
-answers-append [] more m = refl
-answers-append (c ∷ calls) more m = ap (λ (z : List Answer). answerOf c m ∷ z) (answers-append calls more (memoryAfter c m))
 
 pub sets-append : (calls more : List Call) (m : List ℕ) → setsPushed (calls ++ more) m ≡ setsPushed calls m ++ setsPushed more (memoryAfterAll calls m)
 unfolding setsPushed memoryAfterAll

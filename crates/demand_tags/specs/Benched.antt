@@ -40,11 +40,12 @@ pub record Benched (sheet line m : List ℕ) : Type 0 where
   pub planes : (t : ℕ) → t < mostTags → (q : Links) × StandsOne sheet line (planeOf m t) q
 
 module _ (sheet line : List ℕ) (ok : Admissible sheet) where
+  -- It has the operators of the graph.
+  pub bench-operators : (m : List ℕ) → Benched sheet line m → operatorsOf m ≡ length (madeOf (formulaOf sheet) .operators)
+  bench-operators m B = sym (plane-operators m 0 (B .long) (omega arith)) ∙ B .planes 0 (omega arith) .1 .operators-are
+
   pub few-operators : (m : List ℕ) → Benched sheet line m → operatorsOf m ≤ mostOperators
-  few-operators m B =
-      let H = B .planes 0 (omega arith) .1 in
-      let e : operatorsOf (planeOf m 0) ≡ operatorsOf m = plane-operators m 0 (B .long) (omega arith) in
-      omega (arith, H .operators-are, made-sound sheet ok .few-operators)
+  few-operators m B = omega (arith, bench-operators m B, made-sound sheet ok .few-operators)
 
   pub few-links : (m : List ℕ) → Benched sheet line m → linksOf m ≤ mostLinks
   few-links m B =

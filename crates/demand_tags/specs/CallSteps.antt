@@ -127,7 +127,7 @@ module _ (sheet line : List ℕ) (ok : Admissible sheet) where
   call-steps m B (run lent firings) = run-steps sheet line ok m B lent firings
   call-steps m B (take lent tag out) = take-steps sheet line ok m B lent tag out
 
-  bench-call : (m : List ℕ) → Benched sheet line m → (c : Call) → Benched sheet line (memoryAfter c m)
+  pub bench-call : (m : List ℕ) → Benched sheet line m → (c : Call) → Benched sheet line (memoryAfter c m)
   bench-call m B c = bench-stepped sheet line ok m (memoryAfter c m) (λ t. setUnder t c m) (λ t. resultUnder t c m) B (call-steps m B c .0)
 
   pub calls-step : (calls : List Call) (m : List ℕ) → Benched sheet line m → Stepped m (memoryAfterAll calls m) (λ t. setsUnder t calls m) (λ t. resultsUnder t calls m)

@@ -1,5 +1,5 @@
--- What is read of a memory with tags lies in the bytes that the machine needs: the machine of each tag, and whether a tag is free, are the same in a memory that is lent in part
--- or stands with more behind it; a tag is free where its machine has no set untaken and no token on any link. Assumes that the memory has its planes.
+-- What is read of a memory with tags lies in the bytes that the machine needs: the machine of each tag, what is able under it and whether it is free are the same in a memory that is
+-- lent in part or stands with more behind it; a tag is free where its machine has no set untaken and no token on any link. Assumes that the memory has its planes.
 use Prim.Native.Nat.{ℕ, _+_, _≤_, _<_}
 use mathlib.Core.Path.{_≡_, sym, ap, ap₂, _∙_}
 use mathlib.Core.Bool.{Bool, _&&_}
@@ -9,11 +9,14 @@ use lib.Dec.{eqb}
 use lib.ListN.{length, take, length-take, length-append, List·getD-append}
 use lib.Seq.{getD-take}
 use Rattle.machine_queue.specs.Stretch.{waiting}
-use Rattle.machine_layout.specs.Layout.{mostLinks, linksAt, leastSize, linksOf, untakenOf, part}
+use Rattle.machine_layout.specs.Layout.{mostOperators, mostLinks, linksAt, leastSize, linksOf, untakenOf, part}
 use Rattle.machine_firing.specs.LinkLaws.{linkPart}
+use Rattle.machine_firing.specs.Fire.{ableAt}
 use Rattle.machine_valid.specs.Below.{allBelow}
 use Rattle.machine_planes.specs.Planes.{mostTags, tagsAt, untakenUnder, planeBytes, planeAt, taggedNeed, planeOf}
 use Rattle.machine_planes.specs.PlaneBytes.{headed, plane-split, plane-untaken, plane-link-count, plane-link}
+use Rattle.machine_planes.specs.PlaneFirings.{plane-able}
+use Rattle.machine_tags.specs.TagRun.{ableUnder}
 use Rattle.machine_tags.specs.TagCalls.{emptyLink, freeTag}
 use Rattle.machine_tags.specs.PlaneStanding.{below-same}
 use Rattle.demand_begin.specs.Lent.{Agree, agree-part}
@@ -35,6 +38,12 @@ plane-lent m long n h = plane-agrees m (take n m) long (omega (arith, length-tak
 -- with more behind it
 pub plane-behind : (m rest : List ℕ) → taggedNeed ≤ length m → (t : ℕ) → t < mostTags → planeOf (m ++ rest) t ≡ planeOf m t
 plane-behind m rest long = plane-agrees m (m ++ rest) long (omega (arith, length-append m rest)) (λ i l. List·getD-append m rest 0 i (omega arith))
+
+-- Where a tag's machine is the same an operator is able under the tag in the one memory as in the other.
+pub able-same : (m k : List ℕ) → taggedNeed ≤ length m → taggedNeed ≤ length k → (t : ℕ) → t < mostTags → planeOf k t ≡ planeOf m t
+    → (i : ℕ) → i < mostOperators → ableUnder k i t ≡ ableUnder m i t
+able-same m k long long′ t tag e i few =
+    plane-able k t long′ tag i few ∙ ap (λ (x : List ℕ). ableAt x leastSize i) e ∙ sym (plane-able m t long tag i few)
 
 -- ---- free tags
 

@@ -8,6 +8,7 @@ pub mod Tested
 pub mod Firings
 pub mod PushTake
 pub mod CallSteps
+pub mod Idle
 pub mod StartedBytes
 pub mod Begins
 pub mod LooplessEnds
@@ -22,3 +23,4 @@ pub mod Claimed
 pub mod TaggedStart
 pub mod FirstPush
 pub mod LesserTagged
+pub mod IdentifierTagged

@@ -7,7 +7,9 @@ use mathlib.Core.Bool.{true, false}
 use mathlib.Core.Logic.{_⊎_, _≢_, _↔_}
 use mathlib.Core.List.{List, [], _∷_, _++_}
 use lib.ListN.{length, getD}
+use Rattle.network.specs.Histories.{silence}
 use Rattle.network.specs.Net.{Links}
+use Rattle.network.specs.FiringHistory.{to-come}
 use Rattle.formula.specs.declared.Refusal.the-variants.{Set, Altered, NotAble, NoTag}
 use Rattle.formula.specs.Refusals.{numberOf}
 use Rattle.formula.specs.Tree.{formulaOf}
@@ -15,8 +17,10 @@ use Rattle.formula.specs.Faults.{lettersOf}
 use Rattle.graph.specs.Assembly.{Operator}
 use Rattle.graph.specs.Translation.{madeOf}
 use Rattle.meaning.specs.Evaluate.{evaluationOf}
+use Rattle.theory_reference.specs.Plugged.{portsOf}
 use Rattle.machine_queue.specs.Stretch.{waiting}
-use Rattle.machine_layout.specs.Layout.{operatorsOf, linksOf, resultsOf, leastSize}
+use Rattle.machine_layout.specs.Layout.{operatorsOf, linksOf, resultsOf, portOf, leastSize}
+use Rattle.machine_firing.specs.Links.{roomFrom}
 use Rattle.machine_firing.specs.LinkLaws.{linkPartFrom}
 use Rattle.machine_calls.specs.Calls.{answers, resultReadyFrom}
 use Rattle.machine_planes.specs.Planes.{mostTags, planeAt, taggedNeed, planeOf}
@@ -41,6 +45,22 @@ abbrev pub FiringsUnder : (sheet line : List ℕ) → ℕ → List ℕ → List 
 FiringsUnder sheet line zero m m′ = m′ ≡ m
 FiringsUnder sheet line (suc k) m m′ = (i : ℕ) × (t : ℕ) × (next : List ℕ) × (t < mostTags) × FiresUnder sheet line m i t next × FiringsUnder sheet line k next m′
 
+-- Each output link of operator i, of its ports 3 to 5, has a free place under tag t.
+abbrev pub RoomUnder : List ℕ → ℕ → ℕ → Type 0
+RoomUnder m i t = (p : ℕ) → 3 ≤ p → p < 6 → roomFrom m (planeAt t) leastSize (portOf m i p) ≡ true
+
+-- Brock's rule of operator i gives nothing for the tokens of tag t that wait: on the tag's machine, in which these tokens wait on its links, and with the register
+-- that the operator has there.
+abbrev pub SilentUnder : (sheet line : List ℕ) → List ℕ → ℕ → ℕ → Type 0
+SilentUnder sheet line m i t =
+    (q : Links) × (H : Stands (madeOf (formulaOf sheet)) (lettersOf (formulaOf sheet) line) 1 (planeOf m t) q)
+    × (o : Operator) × (at : Ith (madeOf (formulaOf sheet) .operators) i o)
+    × (to-come (o .kind) (H .registered i o at .register) (portsOf o) q ≡ silence)
+
+-- Tag t is free, or it has its whole result: a take of it that is lent enough and has room would be accepted.
+abbrev pub FreeOrWhole : List ℕ → ℕ → Type 0
+FreeOrWhole m t = (freeTag m t ≡ true) ⊎ ((lent : ℕ) (out : List ℕ) → taggedNeed ≤ lent → 80 ≤ length out → answerOf (take lent t out) m .refusal ≡ 0)
+
 pub record OutOfOrder (sheet line start : List ℕ) (calls : List Call) : Type 0 where
   -- "Each set gets the lowest free tag, 0 to 15, and push gives it back"
   pub lowest : (lent : ℕ) (set : List ℕ) → answerOf (push lent set) (memoryAfterAll calls start) .refusal ≡ 0
@@ -52,6 +72,11 @@ pub record OutOfOrder (sheet line start : List ℕ) (calls : List Call) : Type 0
       → FiresUnder sheet line (memoryAfterAll calls start) i t (memoryAfter (fire lent i t) (memoryAfterAll calls start))
   pub runs-by-rule : (lent firings : ℕ)
       → FiringsUnder sheet line (answerOf (run lent firings) (memoryAfterAll calls start) .count) (memoryAfterAll calls start) (memoryAfter (run lent firings) (memoryAfterAll calls start))
+  -- Demand 2's "just what his history rules say for the next tokens" from the other side: where a fire that is lent enough is refused with 34 though each output link
+  -- of the operator has a free place, the rule gives nothing.
+  pub silent-by-rule : (lent i t : ℕ) → taggedNeed ≤ lent → i < operatorsOf (memoryAfterAll calls start) → t < mostTags
+      → answerOf (fire lent i t) (memoryAfterAll calls start) .refusal ≡ numberOf NotAble → RoomUnder (memoryAfterAll calls start) i t
+      → SilentUnder sheet line (memoryAfterAll calls start) i t
   -- "A tag is free again as soon as, and not before, its result is taken and no token with it is left on any link, for a gate may still have to absorb one."
   pub free-exactly : (t : ℕ) → t < mostTags → (freeTag (memoryAfterAll calls start) t ≡ true)
       ↔ ((length (resultsUnder t calls start) ≡ length (setsUnder t calls start))
@@ -69,8 +94,10 @@ pub record OutOfOrder (sheet line start : List ℕ) (calls : List Call) : Type 0
   -- would be accepted", here under each tag
   pub settled : ((i t : ℕ) → i < operatorsOf (memoryAfterAll calls start) → t < mostTags
       → answerOf (fire (length (memoryAfterAll calls start)) i t) (memoryAfterAll calls start) .refusal ≡ numberOf NotAble)
-      → (t : ℕ) → t < mostTags → (freeTag (memoryAfterAll calls start) t ≡ true)
-      ⊎ ((lent : ℕ) (out : List ℕ) → taggedNeed ≤ lent → 80 ≤ length out → answerOf (take lent t out) (memoryAfterAll calls start) .refusal ≡ 0)
+      → (t : ℕ) → t < mostTags → FreeOrWhole (memoryAfterAll calls start) t
+  -- So "every tag is free or has its whole result" behind an accepted run, for one after which "something can still fire" is refused with 36.
+  pub run-settles : (lent firings : ℕ) → answerOf (run lent firings) (memoryAfterAll calls start) .refusal ≡ 0
+      → (t : ℕ) → t < mostTags → FreeOrWhole (memoryAfter (run lent firings) (memoryAfterAll calls start)) t
   -- "37 when no tag is free": of a push that is lent enough and a set that fits
   pub none-free : (lent : ℕ) (set : List ℕ) → taggedNeed ≤ lent → answerOf (push lent set) (memoryAfterAll calls start) .refusal ≢ numberOf Set
       → (answerOf (push lent set) (memoryAfterAll calls start) .refusal ≡ numberOf NoTag)

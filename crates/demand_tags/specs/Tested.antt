@@ -1,7 +1,7 @@
 -- The calls of the machine with tags by the tests that they meet, in their order: lent too little, and each case of a push, a fire, a run and a take of a memory in good standing.
 -- Assumes nothing.
 use Prim.Native.Nat.{ℕ, _≤_, _<_}
-use mathlib.Core.Path.{_≡_, refl}
+use mathlib.Core.Path.{_≡_, refl, ap}
 use mathlib.Core.Logic.{_≢_}
 use mathlib.Core.Bool.{Bool, true, false}
 use mathlib.Core.List.{List}
@@ -106,6 +106,14 @@ module _ (m : List ℕ) (st : tagStanding m ≡ 0) where
   pub fire-made : (i t : ℕ) → i < operatorsOf m → t < mostTags → ableUnder m i t ≡ true → tagFired m i t ≡ outcome (answers 0 0) (firedUnder m i t)
   unfolding tagFired
   fire-made i t p q r = rw (st, lt-ltb i (operatorsOf m) p, lt-ltb t mostTags q, r) refl
+
+  -- 34 of an operator that is there, under a tag, says that it is not able.
+  pub fire-idle : (i t : ℕ) → i < operatorsOf m → t < mostTags → tagFired m i t .answer .refusal ≡ numberOf NotAble → ableUnder m i t ≡ false
+  fire-idle i t p q z = go (ableUnder m i t) refl
+    where
+      go : (a : Bool) → ableUnder m i t ≡ a → a ≡ false
+      go false e = refl
+      go true e = absurd (omega (arith, ap (λ (o : Outcome). o .answer .refusal) (fire-made i t p q e), z))
 
   pub take-made : (t : ℕ) (o : List ℕ) → 80 ≤ length o → t < mostTags → wholeResult m t ≡ true → tagTaken m t o .answer .refusal ≡ 0
   unfolding tagTaken

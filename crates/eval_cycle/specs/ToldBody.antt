@@ -219,9 +219,6 @@ pub record Turning (y : Body) (a b : ℕ) (z₀ z : List ℕ) (left l : ℕ) : T
   pub same : turns y a b (envOf z₀) (envOf z) l ≡ turns y a b (envOf z₀) (envOf z₀) left
   pub forgets : (vs : List Value) → bind a b vs (envOf z) ≡ bind a b vs (envOf z₀)
 
-pub turning-start : (y : Body) (a b : ℕ) (z : List ℕ) (left : ℕ) → Turning y a b z z left left
-turning-start y a b z left = record { same = refl; forgets = λ vs. refl }
-
 -- No round is left.
 pub turning-none : (y : Body) (a b : ℕ) (z₀ z : List ℕ) (left l : ℕ) → Turning y a b z₀ z left l → l ≤ 0
     → (at : ℕ) (o o′ : List ℕ) → Told (turns y a b (envOf z₀) (envOf z₀) left) Short at o o′

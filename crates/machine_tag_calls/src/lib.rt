@@ -19,7 +19,7 @@ ghost use Rattle.machine_planes.specs.Planes.{mostTags, taggedNeed};
 ghost use Rattle.machine_tags.specs.TagCalls.{tagStanding, emptyLink, freeTag, lowestFree, tagPushed, tagFired, tagRan, tagTaken};
 
 // 11 or 31, or 0 where the memory stands well.
-pub fn standing_of(mem: &[u8]) -> u32
+fn standing_of(mem: &[u8]) -> u32
     ensures { λ r. ⌜ r ≡ tagStanding (now (mem .entry)) ⌝ }
 {
     if mem.len() < machine_tag_valid::TAGGED_NEED {
@@ -50,7 +50,7 @@ fn are_empty(mem: &[u8], t: usize, k: usize) -> bool
 }
 
 // Whether tag t has no set untaken and no token left.
-pub fn is_free(mem: &[u8], t: usize) -> bool
+fn is_free(mem: &[u8], t: usize) -> bool
     requires { ⌜ (taggedNeed ≤ length (now mem)) × (t < mostTags) × (linksOf (now mem) ≤ mostLinks) ⌝ }
     ensures { λ r. ⌜ r ≡ freeTag (now (mem .entry)) t ⌝ }
 {
@@ -61,7 +61,7 @@ pub fn is_free(mem: &[u8], t: usize) -> bool
 }
 
 // The lowest free tag, or TAGS where there is none.
-pub fn lowest_free(mem: &[u8]) -> usize
+fn lowest_free(mem: &[u8]) -> usize
     requires { ⌜ (taggedNeed ≤ length (now mem)) × (linksOf (now mem) ≤ mostLinks) ⌝ }
     ensures { λ r. ⌜ r ≡ lowestFree (now (mem .entry)) ⌝ }
 {

@@ -26,7 +26,7 @@ marked : (m : List ℕ) → tagValid m ≡ true → capacityByte m ≡ tagMark
 unfolding tagValid tagFiguresOk
 marked m v = eqb-true (capacityByte m) tagMark (and-left (eqb (capacityByte m) tagMark) _ (and-left (tagFiguresOk m) _ v))
 
--- Memory of this machine is refused with 31 by the first one's calls, and the other way round.
+-- No memory is valid for both machines, so the calls of either that look at what is stored give 31 for the other's.
 pub one-machine : (m : List ℕ) → tagValid m ≡ true → valid m ≡ false
 one-machine m v = go (valid m) refl
   where

@@ -1,13 +1,11 @@
 -- What the header's test says, as inequalities. Assumes nothing.
 use Prim.Native.Nat.{ℕ, _+_, _*_, _≤_, _<_}
-use mathlib.Core.Path.{_≡_, refl, sym, ap, _∙_}
-use mathlib.Core.Bool.{Bool, true, false, _&&_, _||_}
+use mathlib.Core.Path.{_≡_, sym, ap, _∙_}
+use mathlib.Core.Bool.{Bool, true, _&&_, _||_}
 use mathlib.Core.List.{List}
-use native.Mathlib.Omega.{arith}
 use borrow.Author.Tests.{leb-true, le-leb}
 use lib.Dec.{leb, ltb, eqb}
 use lib.ListN.{length, getD}
-use Rattle.value.specs.Operators.{pick}
 use Rattle.machine_layout.specs.Layout.{mostOperators, mostLinks, mostCapacity, mostInputs, mostResults, mostUntaken, capacityByte, operatorsOf, linksOf, inputsOf, resultsOf, untakenOf, noLink, triggerOf, capacityIn, capacityOf, need, sizeOf}
 use Rattle.machine_valid.specs.Below.{and-left, and-right}
 use Rattle.machine_valid.specs.Valid.{countsOk, figuresOk, valid}
@@ -81,12 +79,3 @@ capacity-is m h = simp (le-leb 1 (capacityByte m) (h .capacity1), le-leb (capaci
 
 pub enough : (m : List ℕ) → Figures m → need (sizeOf (capacityOf m)) ≤ length m → need (sizeOf (capacityByte m)) ≤ length m
 enough m f h = rw (capacity-is m f) at h
-
-pub capacity-small : (m : List ℕ) → capacityOf m ≤ 16
-unfolding capacityIn
-capacity-small m = go (leb 1 (capacityByte m)) (leb (capacityByte m) 16) (leb-true (capacityByte m) 16)
-  where
-    go : (a b : Bool) → (b ≡ true → capacityByte m ≤ 16) → pick (a && b) (capacityByte m) 1 ≤ 16
-    go true true h = h refl
-    go true false h = omega arith
-    go false b h = omega arith

@@ -20,7 +20,7 @@ use Rattle.graph.specs.Assembly.{Graph, loop, Env, Operator, free, memberOf, to
 use Rattle.maker_laid.specs.Encode.{encoded, written}
 use Rattle.maker_laid.specs.Emitted.{linkIn, assigned}
 use Rattle.maker_laid.specs.Masked.{listOf, namesIn, list-is}
-use Rattle.maker_laid.specs.Environments.{Agrees, listed-small, total-small}
+use Rattle.maker_laid.specs.Environments.{Agrees, listed-small}
 use Rattle.maker_laid.specs.Laid.{Laid, Copied, laid-loop, ringOf, listed-length, ends-length}
 use Rattle.maker_laid.specs.Done.{Done, Forked, fork-first, fork-second, fork-copied, up-agrees, named-take}
 

@@ -9,12 +9,11 @@ use lib.Seq.{getD-set-same, getD-set-other}
 use lib.Dec.{eqb}
 use borrow.Author.Tests.{eqb-true, eqb-false, eq-eqb, ne-eqb}
 use native.Mathlib.Omega.{arith}
-use Rattle.names.specs.Names.{Names, common, mask, size, members, sizeFrom, membersFrom, later, put, bit}
-use Rattle.names.proofs.Counts.{sizeFrom-none}
+use Rattle.names.specs.Names.{Names, common, mask, members, sizeFrom, membersFrom, later, put, bit}
 use Rattle.names.proofs.Walk.{membersFrom-none}
 use Rattle.theory_yields.specs.Naming.{Small, or-neither, or-left, or-right}
 use Rattle.graph.specs.Fit.{Different}
-use Rattle.graph.specs.Assembly.{Env, memberOf, nameCount, rank, total, listed, firstUse, secondUse, named, spread}
+use Rattle.graph.specs.Assembly.{Env, memberOf, nameCount, rank, listed, firstUse, secondUse, named, spread}
 use Rattle.maker_laid.specs.Emitted.{linkIn, dealt, dealt-none, dealt-more, assigned}
 
 -- An environment gives each of the 33 names the link that an array gives it.
@@ -30,20 +29,9 @@ members-more (suc n) k at f h =
     let z : suc n + k ≡ suc (n + k) = omega arith in
     rw z (ap (put (f 0) at) (members-more n k (suc at) (later f) (λ i l. h (suc i) (omega arith))))
 
-size-more : (n k : ℕ) (f : Names) → ((i : ℕ) → n ≤ i → f i ≡ false) → sizeFrom (n + k) f ≡ sizeFrom n f
-unfolding sizeFrom
-size-more zero k f h = let z : 0 + k ≡ k = omega arith in rw z (sizeFrom-none k f (λ i _. h i (omega arith)))
-size-more (suc n) k f h =
-    let z : suc n + k ≡ suc (n + k) = omega arith in
-    rw z (ap (λ (j : ℕ). bit (f 0) + j) (size-more n k (later f) (λ i l. h (suc i) (omega arith))))
-
 pub listed-small : (f : Names) → Small f → listed f ≡ members f
 unfolding listed members
 listed-small f s = members-more 33 70 0 f s
-
-pub total-small : (f : Names) → Small f → total f ≡ size f
-unfolding total size
-total-small f s = size-more 33 70 f s
 
 -- ---- links dealt out
 

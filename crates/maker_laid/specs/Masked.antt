@@ -10,7 +10,7 @@ use lib.Bits.{bitAnd, and-le-r}
 use lib.Count.{ones, trailingZeros}
 use lib.Dec.{eqb}
 use Rattle.names.specs.Names.{Names, one, without, mask, size, members}
-use Rattle.names.proofs.Sets.{mask-inj, mask-has, mask-cong, members-cong, mask-lt, ones-mask, length-members, size-le, known-members, known-rest, known-lowest, known-members-none, known-count}
+use Rattle.names.proofs.Sets.{mask-has, mask-cong, members-cong, ones-mask, length-members, size-le, known-members, known-rest, known-lowest, known-members-none, known-count}
 
 unfoldable pub namesIn : ℕ → Names
 namesIn m i = eqb (m / 2 ^ i % 2) 1
@@ -75,9 +75,6 @@ module _ (m : ℕ) (k : Mask m) where
 
     pub mask-less : bitAnd m (m - 1) < m
     mask-less = let h : bitAnd m (m - 1) ≤ m - 1 = and-le-r m (m - 1) in omega arith
-
-    pub mask-shorter : length (listOf m) ≡ suc (length (listOf (bitAnd m (m - 1))))
-    mask-shorter = ap (length {A = ℕ}) mask-walk
 
 -- One turn of a walk: the lowest name x and the mask r without it.
 pub record Walked (m x r : ℕ) : Type 0 where

@@ -16,9 +16,6 @@ use Rattle.maker_laid.specs.Masked.{namesIn}
 abbrev pub NumberedTo : ℕ → ℕ → ℕ → List ℕ → Type 0
 NumberedTo i k n e = (z : ℕ) → z < i → getD e z 0 ≡ n + sizeFrom z (namesIn k)
 
-pub numbered-none : (k n : ℕ) (e : List ℕ) → NumberedTo 0 k n e
-numbered-none k n e z h = absurd (omega arith)
-
 pub numbered-turn : (i k n l : ℕ) (e : List ℕ) → i < length e → l ≡ n + sizeFrom i (namesIn k) → NumberedTo i k n e → NumberedTo (i + 1) k n (set e i l)
 numbered-turn i k n l e h p q z j = go (ℕ-discrete z i)
   where
@@ -37,10 +34,6 @@ count-turn i k n l b p q =
 pub one-more : (n i l : ℕ) (b : Bool) → l ≤ n + i → l + bit b ≤ n + (i + 1)
 one-more n i l true h = omega arith
 one-more n i l false h = omega arith
-
-pub numbered-start : (k n : ℕ) → n ≡ n + sizeFrom 0 (namesIn k)
-unfolding sizeFrom
-numbered-start k n = omega arith
 
 pub numbered-all : (i k n : ℕ) (e : List ℕ) → 33 ≤ i → NumberedTo i k n e → (z : ℕ) → z < 33 → getD e z 0 ≡ n + sizeFrom z (namesIn k)
 numbered-all i k n e h p z l = p z (omega arith)

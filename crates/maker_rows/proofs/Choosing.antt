@@ -214,10 +214,6 @@ module _ (t masks widths : List ℕ) (p : Bool) (w r a b c : ℕ) (Y : Ready t m
   pub arms-room : (v n m : ℕ) → v ≡ bitAnd Mb Mc → Room n m behindTest → Room n m (length (listOf v))
   arms-room v n m q room = subst (λ (z : ℕ). Room n m (length (listOf z))) (sym q) (room-less n m _ behindTest (omega arith) room)
 
-  -- behind the test and the copies for the arms
-  pub room-arms : (n m : ℕ) → Room n m behindTest → Room n m (length (listOf (bitAnd Mb Mc)))
-  room-arms n m room = room-less n m _ behindTest (omega arith) room
-
   pub room-first : (en mem mem₁ first second : List ℕ) (n m n₁ m₁ : ℕ) → Room n m behindTest → Forked (bitAnd Mb Mc) n m en mem mem₁ first second n₁ m₁
       → (m₁ < 1024) × (n₁ ≤ 3000 + 105) × Room (n₁ + 2) (m₁ + 1) (2 * length (listOf Mb) - 1 + operatorCount (graphIn p w t b))
       × (m₁ + 1 + (2 * length (listOf Mb) - 1 + operatorCount (graphIn p w t b) + behindFirst) ≤ 1024)

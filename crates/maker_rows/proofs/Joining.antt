@@ -69,10 +69,6 @@ module _ (ε : Env) (side : Bool) (w : ℕ) (x : Body) (ls : List ℕ) (h : Name
   unfolding I
   length-I = length-upFrom (iteratedName side) (iteratedOutputs x)
 
-  length-R : length (returnedNames side w x) ≡ R
-  unfolding R
-  length-R = length-upFrom (returnedName side) (returnedOutputs w x)
-
   have : (i : ℕ) → i < suc (I + R) → ε (getD (iterName side ∷ (iteratedNames side x ++ returnedNames side w x)) i 0) ≡ getD ls i 0
   unfolding I R
   have i l = ap (λ (ns : List ℕ). ε (getD ns i 0)) (sym (arm-names side w x)) ∙ h i (let z : length (armNames side w x) ≡ suc (iteratedOutputs x + returnedOutputs w x) = length-arm-names side w x in omega arith)

@@ -18,7 +18,7 @@ use Rattle.formula.specs.declared.Shape.the-variants.{Identifier, Constant, Pai
 use Rattle.formula.specs.Constants.{constantValue}
 use Rattle.formula.specs.Sheet.{shapeAt, namedIn}
 use Rattle.formula.specs.Ways.{wayOf}
-use Rattle.formula.specs.Tree.{Exp, pair, expOf, bodyOf, expNode, bodyNode}
+use Rattle.formula.specs.Tree.{Exp, expOf, bodyOf, expNode, bodyNode}
 use Rattle.formula.specs.TreeLaws.{AllBetween, exp-as, body-as, between-as}
 use Rattle.formula.specs.Widths.{width, iterated}
 use Rattle.formula.specs.Free.{freeE, freeB}
@@ -98,10 +98,6 @@ module _ (t masks widths : List ℕ) where
         split-beside (graphE (expOf t a)) (graphE (expOf t b)) (freeE (expOf t a)) (freeE (expOf t b)) (child-has t masks widths false 0 r a pair-first)
         (child-has t masks widths false 0 r b pair-second) (child-small t masks widths false 0 r a pair-first) (getD masks (a - 1) 0) (getD masks (b - 1) 0)
         (pair-first .masked) (pair-second .masked) (operatorCount (graphIn false 0 t r)) n m room (ap operatorCount (at-pair t masks widths 0 r Y a b e .0))
-
-    pub pair-narrow : width (expOf t a) + width (expOf t b) ≤ 16
-    unfolding width
-    pair-narrow = not-too-wide (pair (expOf t a) (expOf t b)) (at-pair t masks widths 0 r Y a b e .1)
 
     pub pair-part : (n m : ℕ) (en mem mem₁ mem₂ mem₃ first second outs : List ℕ) (n₁ m₁ : ℕ) (x y : Emitted) → length en ≡ 33
         → Room n m (operatorCount (graphIn false 0 t r))

@@ -1,7 +1,7 @@
 -- Laws of `size`, `members` and `below`: how many places of a set there are, and where each stands among the members.
 -- Shown over the first n places by induction. Assumes nothing.
 use mathlib.Core.Path.{_≡_, refl, ap, ap₂, _∙_}
-use mathlib.Core.Bool.{Bool, true, false, _&&_, _||_, not}
+use mathlib.Core.Bool.{Bool, true, false}
 use mathlib.Core.List.{List}
 use Prim.Native.Nat.{ℕ, zero, suc, _+_, _*_, _≤_, _<_}
 use native.Mathlib.Omega.{arith}
@@ -10,9 +10,9 @@ use native.Mathlib.Numerals.{one-add}
 use lib.Count.{ones, ones-step}
 use lib.Dec.{eqb·suc-suc}
 use lib.ListN.{length, getD}
-use borrow.Author.Tests.{ne-eqb, lt-leb, lt-ltb}
-use Rattle.names.proofs.Masks.{half, odd, bit-le, range-later, range-from, range-empty}
-use Rattle.names.specs.Names.{Names, one, union, common, without, range, later, bit, put, maskFrom, sizeFrom, membersFrom}
+use borrow.Author.Tests.{ne-eqb}
+use Rattle.names.proofs.Masks.{half, odd, bit-le}
+use Rattle.names.specs.Names.{Names, one, later, bit, put, maskFrom, sizeFrom, membersFrom}
 
 -- ---- size
 
@@ -34,28 +34,6 @@ ones-maskFrom (suc n) f =
     let m = maskFrom n (later f) in
     ones-step (bit (f 0) + 2 * m) ∙ rw (half (f 0) m, odd (f 0) m, ones-maskFrom n (later f)) refl
 
-bits-union : (a b : Bool) → bit (a || b) + bit (a && b) ≡ bit a + bit b
-bits-union true true = refl
-bits-union true false = refl
-bits-union false true = refl
-bits-union false false = refl
-
-pub sizeFrom-union : (n : ℕ) (f g : Names) → sizeFrom n (union f g) + sizeFrom n (common f g) ≡ sizeFrom n f + sizeFrom n g
-unfolding sizeFrom
-sizeFrom-union zero f g = refl
-sizeFrom-union (suc n) f g = omega (arith, bits-union (f 0) (g 0), sizeFrom-union n (later f) (later g))
-
-bits-without : (a b : Bool) → bit (a && not b) + bit (a && b) ≡ bit a
-bits-without true true = refl
-bits-without true false = refl
-bits-without false true = refl
-bits-without false false = refl
-
-pub sizeFrom-without : (n : ℕ) (f g : Names) → sizeFrom n (without f g) + sizeFrom n (common f g) ≡ sizeFrom n f
-unfolding sizeFrom
-sizeFrom-without zero f g = refl
-sizeFrom-without (suc n) f g = omega (arith, bits-without (f 0) (g 0), sizeFrom-without n (later f) (later g))
-
 pub sizeFrom-none : (n : ℕ) (f : Names) → ((i : ℕ) → i < n → f i ≡ false) → sizeFrom n f ≡ 0
 unfolding sizeFrom
 sizeFrom-none zero f h = refl
@@ -67,15 +45,6 @@ sizeFrom-one zero i h = absurd (omega arith)
 sizeFrom-one (suc n) zero h = rw (sizeFrom-none n (later (one 0)) (λ j l. ne-eqb 0 (suc j) (λ e. omega arith))) refl
 sizeFrom-one (suc n) (suc i) h =
     rw (ne-eqb (suc i) 0 (λ e. omega arith), sizeFrom-cong n (later (one (suc i))) (one i) (λ j l. eqb·suc-suc i j), sizeFrom-one n i (omega arith)) refl
-
-pub sizeFrom-range : (n a b : ℕ) → a + b ≤ n → sizeFrom n (range a b) ≡ b
-unfolding sizeFrom
-sizeFrom-range zero a b h = omega arith
-sizeFrom-range (suc n) zero zero h = rw (sizeFrom-none n (later (range 0 0)) (λ j l. range-empty 0 (suc j))) refl
-sizeFrom-range (suc n) zero (suc b) h =
-    rw (lt-ltb 0 (0 + suc b) (omega arith), sizeFrom-cong n (later (range 0 (suc b))) (range 0 b) (λ j l. range-from b j), sizeFrom-range n 0 b (omega arith)) (omega arith)
-sizeFrom-range (suc n) (suc a) b h =
-    rw (lt-leb (suc a) 0 (omega arith), sizeFrom-cong n (later (range (suc a) b)) (range a b) (λ j l. range-later a b j), sizeFrom-range n a b (omega arith)) (omega arith)
 
 -- one place more
 pub sizeFrom-suc : (n : ℕ) (f : Names) → sizeFrom (suc n) f ≡ sizeFrom n f + bit (f n)

@@ -10,19 +10,15 @@ use native.Mathlib.Nat.{zero-add, zero-div}
 use lib.Bits.{bitAnd, bitOr}
 use lib.Count.{ones, trailingZeros}
 use lib.Dec.{eqb}
-use lib.ListN.{length, getD}
-use Rattle.names.proofs.Masks.{bit-one, maskFrom-cong, maskFrom-bit, maskFrom-lt, maskFrom-or, maskFrom-and, maskFrom-without, maskFrom-none, maskFrom-one, maskFrom-range}
-use Rattle.names.proofs.Counts.{sizeFrom-cong, sizeFrom-le, ones-maskFrom, sizeFrom-union, sizeFrom-without, sizeFrom-none, sizeFrom-one, sizeFrom-range, sizeFrom-suc, sizeFrom-mono, length-membersFrom, membersFrom-cong, member-at, Member, member-of}
-use Rattle.names.proofs.Walk.{Least, least, trailing-least, rest-least, size-least, members-least, membersFrom-none}
-use Rattle.names.specs.Names.{Names, none, one, union, common, without, range, bit, mask, size, members, below, sizeFrom}
+use lib.ListN.{length}
+use Rattle.names.proofs.Masks.{bit-one, maskFrom-cong, maskFrom-bit, maskFrom-or, maskFrom-and, maskFrom-without, maskFrom-one, maskFrom-range}
+use Rattle.names.proofs.Counts.{sizeFrom-cong, sizeFrom-le, ones-maskFrom, sizeFrom-none, sizeFrom-suc, sizeFrom-mono, length-membersFrom, membersFrom-cong}
+use Rattle.names.proofs.Walk.{Least, least, trailing-least, rest-least, members-least, membersFrom-none}
+use Rattle.names.specs.Names.{Names, one, union, common, without, range, bit, mask, size, members, below, sizeFrom}
 
 -- ---- one set
 
 module _ (f : Names) where
-  pub mask-lt : mask f < 2 ^ 33
-  unfolding mask
-  mask-lt = maskFrom-lt 33 f
-
   -- testing a bit
   pub mask-bit : (i : ℕ) → i < 33 → mask f / 2 ^ i % 2 ≡ bit (f i)
   unfolding mask
@@ -30,11 +26,6 @@ module _ (f : Names) where
 
   pub mask-has : (i : ℕ) → i < 33 → eqb (mask f / 2 ^ i % 2) 1 ≡ f i
   mask-has i h = rw (mask-bit i h) (bit-one (f i))
-
-  -- a mask is 0 when the set has no member
-  pub mask-empty : ((i : ℕ) → i < 33 → f i ≡ false) → mask f ≡ 0
-  unfolding mask
-  mask-empty h = maskFrom-none 33 f h
 
   pub empty-mask : mask f ≡ 0 → (i : ℕ) → i < 33 → f i ≡ false
   empty-mask e i h = sym (mask-has i h) ∙ rw e (zero-digit (2 ^ i))
@@ -84,25 +75,12 @@ module _ (f : Names) where
       let s : below f (suc x) ≡ below f x + 1 = below-suc x ∙ ap (λ (b : Bool). below f x + bit b) e in
       omega (arith, below-mono (suc x) 33 h, below-all)
 
-  pub member-below : (x : ℕ) → x < 33 → f x ≡ true → getD (members f) (below f x) 0 ≡ x
-  unfolding members below
-  member-below x h e = member-at 33 0 x f h e ∙ zero-add x
-
-  -- each entry of the list of members is a member, with as many below it as stand before it
-  pub nth-member : (k : ℕ) → k < size f → Member 33 0 k f
-  unfolding size
-  nth-member k h = member-of 33 0 k f h
-
 -- ---- two sets
 
 module _ (f g : Names) where
   pub mask-cong : ((i : ℕ) → i < 33 → f i ≡ g i) → mask f ≡ mask g
   unfolding mask
   mask-cong h = maskFrom-cong 33 f g h
-
-  -- sets with one mask agree on the places
-  pub mask-inj : mask f ≡ mask g → (i : ℕ) → i < 33 → f i ≡ g i
-  mask-inj e i h = sym (mask-has f i h) ∙ rw e (mask-has g i h)
 
   pub mask-or : bitOr (mask f) (mask g) ≡ mask (union f g)
   unfolding mask
@@ -128,41 +106,19 @@ module _ (f g : Names) where
   unfolding below
   below-cong x h = sizeFrom-cong x f g h
 
-  pub size-union : size (union f g) + size (common f g) ≡ size f + size g
-  unfolding size
-  size-union = sizeFrom-union 33 f g
-
-  pub size-without : size (without f g) + size (common f g) ≡ size f
-  unfolding size
-  size-without = sizeFrom-without 33 f g
-
 -- ---- none, one, range
-
-pub mask-none : mask none ≡ 0
-mask-none = mask-empty none (λ i h. refl)
 
 pub mask-one : (i : ℕ) → i < 33 → mask (one i) ≡ 2 ^ i
 unfolding mask
 mask-one i h = maskFrom-one 33 i h
 
-pub size-one : (i : ℕ) → i < 33 → size (one i) ≡ 1
-unfolding size
-size-one i h = sizeFrom-one 33 i h
-
 pub mask-range : (a b : ℕ) → a + b ≤ 33 → mask (range a b) ≡ 2 ^ a * (2 ^ b - 1)
 unfolding mask
 mask-range a b h = maskFrom-range 33 a b h
 
-pub size-range : (a b : ℕ) → a + b ≤ 33 → size (range a b) ≡ b
-unfolding size
-size-range a b h = sizeFrom-range 33 a b h
-
 -- ---- for a caller that knows m to be the mask of f
 
 module _ (m : ℕ) (f : Names) (e : m ≡ mask f) where
-  pub known-lt : m < 2 ^ 33
-  known-lt = rw e (mask-lt f)
-
   pub known-count : ones m ≡ size f
   known-count = rw e (ones-mask f)
 
@@ -171,9 +127,6 @@ module _ (m : ℕ) (f : Names) (e : m ≡ mask f) where
 
   pub known-members-none : m ≡ 0 → members f ≡ []
   known-members-none z = members-empty f (empty-mask f (sym e ∙ z))
-
-  pub known-size-none : m ≡ 0 → size f ≡ 0
-  known-size-none z = size-empty f (empty-mask f (sym e ∙ z))
 
   -- the walk
   module _ (p : 0 < m) where
@@ -197,10 +150,6 @@ module _ (m : ℕ) (f : Names) (e : m ≡ mask f) where
     pub known-members : members f ≡ trailingZeros 64 m ∷ members (without f (one (trailingZeros 64 m)))
     unfolding members
     known-members = rw (lowest-is) (members-least 33 0 (least-of .0) f (least-of .1) ∙ ap (λ (x : ℕ). x ∷ members (without f (one (least-of .0)))) (zero-add (least-of .0)))
-
-    pub known-size : size f ≡ suc (size (without f (one (trailingZeros 64 m))))
-    unfolding size
-    known-size = rw (lowest-is) (size-least 33 (least-of .0) f (least-of .1))
 
 module _ (m k : ℕ) (f g : Names) (e : m ≡ mask f) (d : k ≡ mask g) where
   pub known-union : bitOr m k ≡ mask (union f g)

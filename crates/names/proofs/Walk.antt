@@ -11,8 +11,8 @@ use lib.Count.{trailingZeros}
 use lib.Dec.{eqb·suc-suc}
 use borrow.Author.Tests.{ne-eqb}
 use Rattle.names.proofs.Masks.{half, odd, maskFrom-cong}
-use Rattle.names.proofs.Counts.{sizeFrom-cong, membersFrom-cong}
-use Rattle.names.specs.Names.{Names, one, without, later, bit, maskFrom, sizeFrom, membersFrom}
+use Rattle.names.proofs.Counts.{membersFrom-cong}
+use Rattle.names.specs.Names.{Names, one, without, later, bit, maskFrom, membersFrom}
 
 -- t is the least member among the first n places
 pub record Least (n : ℕ) (f : Names) (t : ℕ) : Type 0 where
@@ -104,14 +104,6 @@ rest-least (suc n) (suc t) f l =
     let m = maskFrom n (later f) in
     even-rest (bit (f 0) + 2 * m) (odd (f 0) m ∙ ap bit (l .none-below 0 (omega arith))) (omega (arith, least-pos n t (later f) (nearer n t f l)))
     ∙ rw (half (f 0) m, stays f t, l .none-below 0 (omega arith), maskFrom-cong n (later (without f (one (suc t)))) (without (later f) (one t)) (λ j _. gone-later f t j), rest-least n t (later f) (nearer n t f l)) (omega arith)
-
-pub size-least : (n t : ℕ) (f : Names) → Least n f t → sizeFrom n f ≡ suc (sizeFrom n (without f (one t)))
-unfolding sizeFrom
-size-least zero t f l = absurd (omega (arith, l .inside))
-size-least (suc n) zero f l =
-    rw (and-false (f 0), l .is-in, sizeFrom-cong n (later (without f (one 0))) (later f) (λ j _. gone-first f j)) (omega arith)
-size-least (suc n) (suc t) f l =
-    rw (stays f t, sizeFrom-cong n (later (without f (one (suc t)))) (without (later f) (one t)) (λ j _. gone-later f t j)) (omega (arith, size-least n t (later f) (nearer n t f l)))
 
 pub members-least : (n at t : ℕ) (f : Names) → Least n f t → membersFrom n at f ≡ (at + t) ∷ membersFrom n at (without f (one t))
 unfolding membersFrom

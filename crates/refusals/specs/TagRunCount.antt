@@ -1,7 +1,7 @@
 -- The count of a run of the machine with tags (document 02, Job 12: "Run picks the least-numbered able operator and then its lowest able tag"; document 01,
 -- "Running": "the count is the number of firings between the memory before and after. It is below the number only when nothing can fire."). Assumes a memory in
 -- good standing.
-use Prim.Native.Nat.{ℕ, zero, suc, _+_, _≤_, _<_}
+use Prim.Native.Nat.{ℕ, zero, suc, _+_, _-_, _*_, _≤_, _<_}
 use mathlib.Core.Path.{_≡_, refl, sym, ap, _∙_}
 use mathlib.Core.Bool.{Bool, true, false, false≢true}
 use mathlib.Core.List.{List}
@@ -17,7 +17,8 @@ use Rattle.machine_runs.specs.Run.{Ran, ran}
 use Rattle.machine_planes.specs.Planes.{mostTags}
 use Rattle.machine_tags.specs.Least.{NoneBelow}
 use Rattle.machine_tags.specs.TagRun.{ableUnder, firedUnder, lowestTag, leastOperator, tagRuns, tagStill}
-use Rattle.machine_tags.specs.RunSteps.{lowest-tag-says, lowest-operator-says, tagged-able, tagged-idle}
+use Rattle.machine_tags.specs.RunSteps.{lowest-tag-says, lowest-operator-says, tagged-able, tagged-idle, tag-still-says}
+use Rattle.machine_tag_runs.specs.TagRunLaws.{QuietBelow, runs-step, runs-end, runs-zero}
 use Rattle.machine_tags.specs.TagCalls.{tagStanding, tagEnded, tagRan}
 
 -- no operator below i can fire under any tag
@@ -65,6 +66,32 @@ tag-counted n (suc b) m c =
           below = λ h. I .below (omega arith);
         }
     go false e I = record { made = 0; counts = omega arith; lent = omega arith; between = refl; below = λ h. rw e refl }
+
+-- no other count and no other memory: the pairs of an operator and a tag stand in the order in which a run picks them
+quiet-pairs : (m : List ℕ) (i t : ℕ) → NoneFires m i → NoneBelow (ableUnder m i) t → t < mostTags → QuietBelow m (16 * i + t)
+quiet-pairs m i t before lower tag j u few h = go (ℕ-discrete j i)
+  where
+    go : Dec (j ≡ i) → ableUnder m j u ≡ false
+    go (yes p) = rw p (lower u (omega arith))
+    go (no q) = before j u (omega arith) few
+
+quiet-operators : (m : List ℕ) (n : ℕ) → tagStill m n ≡ true → QuietBelow m (16 * n)
+quiet-operators m n still j u few h = tag-still-says m n still j u (omega arith) few
+
+tag-only : (n b k : ℕ) (m m′ : List ℕ) (c : ℕ) → k ≤ b → TagFirings n k m m′ → (k < b → tagStill m′ n ≡ true) → tagRuns n b m c ≡ ran m′ (c + k)
+tag-only n b zero m m′ c l f s = go (ℕ-discrete b 0)
+  where
+    z : c + 0 ≡ c
+    z = omega arith
+
+    go : Dec (b ≡ 0) → tagRuns n b m c ≡ ran m′ (c + 0)
+    go (yes p) = rw (p, f, z) (runs-zero n m c)
+    go (no q) = rw (f, z) (runs-end n b m c (quiet-operators m n (rw f at (s (omega arith)))))
+tag-only n b (suc k) m m′ c l (i, t, few, tag, able, before, lower, more) s =
+    let z : c + suc k ≡ c + 1 + k = omega arith in
+    runs-step n b m c i t (omega arith) few tag (quiet-pairs m i t before lower tag) able
+    ∙ tag-only n (b - 1) k (firedUnder m i t) m′ (c + 1) (omega arith) more (λ h. s (omega arith))
+    ∙ ap (ran m′) (sym z)
 
 -- ---- the call
 
@@ -118,3 +145,12 @@ module _ (m : List ℕ) (firings : ℕ) (st : tagStanding m ≡ 0) where
               → tagStill (tagRan m firings .mem) (operatorsOf m) ≡ true
           done true s h = s
           done false s h = absurd (omega arith)
+
+  -- No other count and no other memory is a run's: k firings up to the lent number, fewer only where nothing can fire.
+  pub tag-run-only : (k : ℕ) (m′ : List ℕ) → k ≤ firings → TagFirings (operatorsOf m) k m m′
+      → (k < firings → tagStill m′ (operatorsOf m) ≡ true) → (tagRan m firings .answer .count ≡ k) × (tagRan m firings .mem ≡ m′)
+  tag-run-only k m′ l f s =
+      let o = tag-only (operatorsOf m) firings k m m′ 0 l f s in
+      let i = tag-run-is (tagStill (R .mem) (operatorsOf m)) refl in
+      let z : 0 + k ≡ k = omega arith in
+      (i .0 ∙ ap (λ (r : Ran). r .count) o ∙ z, i .1 ∙ ap (λ (r : Ran). r .mem) o)

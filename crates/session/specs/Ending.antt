@@ -1,7 +1,7 @@
 -- The program's loop ends because demand 3 says so (Onward): what its repetitions print (Passes, `Repeats`) is what the definition prints with as many
 -- repetitions as there are sets and firings, and nothing else. Assumes a loop underway from an accepted start, with sets that pass 12.
 use Prim.Native.Nat.{ℕ, zero, suc, _+_, _≤_, _<_}
-use mathlib.Core.Path.{_≡_, refl, sym, ap, subst}
+use mathlib.Core.Path.{_≡_, refl, sym, subst}
 use mathlib.Core.List.{List, [], _++_}
 use native.Mathlib.Omega.{arith}
 use borrow.Author.Tests.{ne-eqb}
@@ -46,15 +46,6 @@ passes-end (suc f) (suc n) rest m left g h =
       last = e .last;
       repeats = again n rest m left (passes f (remainingAfter (suc n) q) (q .rest) (q .mem) (q .left)) (e .last) (e .repeats);
     })
-
--- Repetitions that end print one thing and leave one memory.
-pub repeats-once : (n : ℕ) (rest : List (List ℕ)) (m : List ℕ) (left : ℕ) (out out′ last last′ : List ℕ) → Repeats n rest m left out last → Repeats n rest m left out′ last′
-    → (out ≡ out′) × (last ≡ last′)
-repeats-once zero rest m left out out′ last last′ (none-left a b c) (none-left d e g) = (refl, refl)
-repeats-once (suc n) rest m left out out′ last last′ (again i a b c later end r) (again j d e g later′ end′ r′) =
-    let p = passOf rest m left in
-    let o = repeats-once (remainingAfter (suc n) p) (p .rest) (p .mem) (p .left) later later′ end end′ r r′ in
-    (ap (λ (z : List ℕ). partOf p ++ z) (o .0), o .1)
 
 -- ---- as the code has it
 

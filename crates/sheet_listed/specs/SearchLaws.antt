@@ -4,11 +4,11 @@ use Prim.Native.Nat.{ℕ, zero, suc, _+_, _-_, _≤_, _<_}
 use mathlib.Core.Path.{_≡_, refl, sym, ap, subst, _∙_, fun-ext}
 use mathlib.Core.Logic.{_⊎_, inl, inr}
 use mathlib.Core.Bool.{Bool, true, false, cond, false≢true}
-use mathlib.Core.List.{List, [], _∷_, _++_, map, map-map, map-append, append-assoc, append-nil, flatten}
+use mathlib.Core.List.{List, [], _∷_, _++_, map, map-map, map-append, append-assoc, flatten}
 use mathlib.Core.Option.{some, none}
 use native.Mathlib.Omega.{arith}
 use lib.ListN.{length, getD, take, drop, length-append}
-use lib.Seq.{drop-cons, drop-drop, getD-append-seam, take-append-seam}
+use lib.Seq.{drop-cons, drop-drop, getD-append-seam}
 use Rattle.formula.specs.Sheet.{field}
 use Rattle.formula.specs.FaultRows.{Among}
 use Rattle.sheet_tidied.specs.Text.{sheetText}
@@ -86,10 +86,6 @@ searched-as front k j = refl
 pub completions-more : (front : Rows) (row : List ℕ) (later : Rows) (j : ℕ) → completions front (row ∷ later) j ≡ behindRow front row j ++ completions front later j
 unfolding completions each
 completions-more front row later j = refl
-
-pub completions-one : (front : Rows) (row : List ℕ) (j : ℕ) → completions front (row ∷ []) j ≡ behindRow front row j
-unfolding completions each
-completions-one front row j = append-nil (behindRow front row j)
 
 pub completions-append : (front rows later : Rows) (j : ℕ) → completions front (rows ++ later) j ≡ completions front rows j ++ completions front later j
 unfolding completions each
@@ -209,16 +205,3 @@ rows-more j row rest a l = record { size = ap suc (l .size); listed = each-liste
     each-listed : (i : ℕ) → i < suc j → Among (getD (row ∷ rest) i []) smallRows
     each-listed zero u = a
     each-listed (suc i) u = l .listed i (omega arith)
-
-pub found-rows : (front : Rows) (k j : ℕ) (rs : Rows) → searched front k j ≡ some rs → Found front j rs
-found-rows front k j rs e =
-    let f = first-some (completions front (drop k smallRows) j) rs (sym (searched-as front k j) ∙ e) in
-    each-completion front (drop k smallRows) j (λ qs. isSmall (sheetText qs) ≡ true → Found front j qs)
-    (λ row a rest l s. record { behind = row ∷ rest; whole = refl; listed = rows-more j row rest (among-drop k smallRows row a) l; small = s })
-    rs (f .0) (f .1)
-
-pub found-length : (front : Rows) (j : ℕ) (rs : Rows) → Found front j rs → length rs ≡ suc (length front + j)
-found-length front j rs f = ap length (f .whole) ∙ length-append front (f .behind) ∙ omega (arith, f .listed .size)
-
-pub found-front : (front : Rows) (j : ℕ) (rs : Rows) → Found front j rs → take (length front) rs ≡ front
-found-front front j rs f = ap (take (length front)) (f .whole) ∙ take-append-seam front (f .behind)

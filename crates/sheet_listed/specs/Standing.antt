@@ -180,10 +180,3 @@ module _ (front : Rows) (row : List ℕ) (rest : Rows) (h : Fives front) (e : le
   agree-row =
       let n : length (front ++ (row ∷ [])) ≡ suc (length front) = length-append front (row ∷ []) ∙ omega arith in
       rw (n, append-assoc front (row ∷ []) rest) at (agree-front (front ++ (row ∷ [])) rest (fives-append front (row ∷ []) h (e, tt)))
-
-  -- Whether a row stands does not depend on the rows behind it, where those before it name rows before them.
-  pub stands-front : ((k : ℕ) → 1 ≤ k → k ≤ length front → namesWell (flatten front) k ≡ true)
-      → standsAt (flatten (front ++ (row ∷ rest))) (suc (length front)) ≡ standsAt (flatten (front ++ (row ∷ []))) (suc (length front))
-  stands-front named =
-      stands-alike (flatten (front ++ (row ∷ rest))) (flatten (front ++ (row ∷ []))) (suc (length front)) (omega arith) agree-row
-      (λ k a b. names-alike (flatten (front ++ (row ∷ rest))) (flatten front) (length front) (agree-front front (row ∷ rest) h) k a (omega arith) ∙ named k a (omega arith))

@@ -75,10 +75,6 @@ pub text-more : (r : List ℕ) (rs : List (List ℕ)) → sheetText (r ∷ rs) �
 unfolding sheetText
 text-more r rs = refl
 
-lines-more : (n : ℕ) (s : List ℕ) → linesIn (suc n) s ≡ take 31 s ∷ linesIn n (drop 31 s)
-unfolding linesIn
-lines-more n s = refl
-
 lines-count : (n : ℕ) (s : List ℕ) → length (linesIn n s) ≡ n
 unfolding linesIn
 lines-count zero s = refl

@@ -2,7 +2,7 @@
 -- the row's place (document 01, "Widths", "Names free in a row", "The graph").
 use Prim.Native.Nat.{ℕ, _-_, _≤_}
 use mathlib.Core.Path.{_≡_}
-use mathlib.Core.Bool.{Bool, true, false}
+use mathlib.Core.Bool.{Bool}
 use mathlib.Core.List.{List}
 use lib.ListN.{length, getD}
 use Rattle.names.specs.Names.{Names}
@@ -10,7 +10,7 @@ use Rattle.formula.specs.Tree.{Exp, Body}
 use Rattle.formula.specs.Places.{Node, expression, body, nodeIn, inBody}
 use Rattle.formula.specs.Widths.{width, returned, iterated}
 use Rattle.formula.specs.Free.{freeE, freeB}
-use Rattle.formula.specs.Count.{Count, countE, countB, returns, iterates}
+use Rattle.formula.specs.Count.{Count, countE, countB}
 
 abbrev pub nodeAt : List ℕ → List Bool → ℕ → Node
 nodeAt t p r = nodeIn (inBody p r) t r
@@ -23,14 +23,6 @@ returnedIn (body y) = returned y
 abbrev pub iteratedIn : Node → ℕ
 iteratedIn (expression x) = 0
 iteratedIn (body y) = iterated y
-
-abbrev pub returnsIn : Node → Bool
-returnsIn (expression x) = true
-returnsIn (body y) = returns y
-
-abbrev pub iteratesIn : Node → Bool
-iteratesIn (expression x) = false
-iteratesIn (body y) = iterates y
 
 abbrev pub freeIn : Node → Names
 freeIn (expression x) = freeE x

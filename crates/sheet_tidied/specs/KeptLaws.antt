@@ -23,10 +23,6 @@ use Rattle.sheet_tidied.specs.Reach.{Reachable, last, named-by}
 abbrev pub keepRow : List ℕ → ℕ → List Bool → List Bool
 keepRow t r k = cond (isKept k r) (mark (namedIn (shapeAt t r)) k) k
 
-pub keep-none : (t : List ℕ) (k : List Bool) → keepDown t 0 k ≡ k
-unfolding keepDown
-keep-none t k = refl
-
 pub keep-step : (t : List ℕ) (r : ℕ) (k : List Bool) → 1 ≤ r → keepDown t r k ≡ keepDown t (r - 1) (keepRow t r k)
 unfolding keepDown
 keep-step t zero k h = absurd (omega arith)

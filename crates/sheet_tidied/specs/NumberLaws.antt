@@ -13,14 +13,7 @@ use Rattle.sheet_tidied.specs.Tidy.{isKept, newNumber, newRow, keptRows}
 
 -- ---- row by row
 
-pub kept-index : (k : List Bool) (i : ℕ) → isKept k (i + 1) ≡ getD k i false
-kept-index k i = let e : i + 1 - 1 ≡ i = omega arith in rw e refl
-
 module _ (k : List Bool) where
-  pub number-none : newNumber k 0 ≡ 0
-  unfolding newNumber
-  number-none = refl
-
   pub number-more : (i : ℕ) → newNumber k (i + 1) ≡ newNumber k i + cond (getD k i false) 1 0
   unfolding newNumber
   number-more i = let e : suc i - 1 ≡ i = omega arith in ap (newNumber k) (add-one i) ∙ ap (λ (j : ℕ). newNumber k i + cond (getD k j false) 1 0) e
@@ -93,10 +86,6 @@ module _ (k : List Bool) where
 -- ---- where a kept row stands in the new sheet
 
 module _ (t : List ℕ) (k : List Bool) where
-  pub rows-none : keptRows t k 0 ≡ []
-  unfolding keptRows
-  rows-none = refl
-
   pub rows-more : (i : ℕ) → keptRows t k (i + 1) ≡ keptRows t k i ++ cond (getD k i false) (newRow t k (i + 1) ∷ []) []
   unfolding keptRows
   rows-more i =

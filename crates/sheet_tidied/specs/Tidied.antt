@@ -51,10 +51,6 @@ module _ (s : List ℕ) (ok : Rowwise s) where
       go true = (new-row-fits k (suc r) (omega arith) u, tt)
       go false = tt
 
-  -- Their text, of the first r rows.
-  pub new-text-length : (k : List Bool) (r : ℕ) → r ≤ rowCount s → length (sheetText (keptRows (fieldsOf s) k r)) ≡ 31 * newNumber k r
-  new-text-length k r u = text-length (keptRows (fieldsOf s) k r) (new-rows-fit k r u) ∙ ap (λ (n : ℕ). 31 * n) (rows-length (fieldsOf s) k r)
-
 -- ---- the new sheet
 
 -- What it holds.

@@ -47,10 +47,6 @@ pub number-length : (n : ℕ) → length (numberField n) ≡ 6
 unfolding numberField
 number-length n = shown-length 32 6 n
 
-pub letter-length : (c : ℕ) → length (letterField c) ≡ 11
-unfolding letterField
-letter-length c = refl
-
 pub value-length : (v : Value) → length (valueField v) ≡ 11
 unfolding valueField
 value-length (Whole (pos n)) = shown-length 32 11 n

@@ -9,7 +9,7 @@ use native.Mathlib.Omega.{arith}
 use Rattle.network.specs.Net.{Demand, Links}
 use Rattle.network.specs.Commute.{enabled, next, output}
 use Rattle.theory_schedule.specs.Schedules.{Possible, reached, possible-append, reached-append}
-use Rattle.theory_pieces.specs.Load.{Load, put, put-app, Clear, Off, Apart, Within, put-off, put-clear, Nones, put-nones}
+use Rattle.theory_pieces.specs.Load.{Load, put, put-app, Clear, Off, put-clear}
 
 -- The capacity is one at every link.
 abbrev pub one-place : ℕ → ℕ
@@ -93,17 +93,8 @@ module _ (net : Net) where
   pub go-then : (D : ℕ → Type 0) (xs ys zs : Load) (c d : ℕ) → Goes D xs c ys → Goes D ys d zs → Goes D xs (c + d) zs
   go-then D xs ys zs c d f g b cl = steps-then (put xs b) (put ys b) (put zs b) c d (f b cl) (g b cl)
 
-  pub go-then-on : (D : ℕ → Type 0) (xs ys : Load) (c d : ℕ) → Goes D xs c ys → Goes-on D ys d → Goes-on D xs (c + d)
-  go-then-on D xs ys c d f g b cl = steps-long (put xs b) (put ys b) c d (f b cl) (g b cl)
-
   pub go-wide : (D E : ℕ → Type 0) (xs ys : Load) (c : ℕ) → ((l : ℕ) → D l → E l) → Goes D xs c ys → Goes E xs c ys
   go-wide D E xs ys c up f b cl = f b (λ l d. cl l (up l d))
-
-  pub go-less : (D : ℕ → Type 0) (xs ys : Load) (c d : ℕ) → d ≤ c → Goes D xs c ys → Goes D xs d ys
-  go-less D xs ys c d le f b cl = let s = f b cl in record { w = s .w; runs = s .runs; ends = s .ends; many = omega (arith, s .many); fine = s .fine }
-
-  pub go-less-on : (D : ℕ → Type 0) (xs : Load) (c d : ℕ) → d ≤ c → Goes-on D xs c → Goes-on D xs d
-  go-less-on D xs c d le f b cl = let s = f b cl in record { w = s .w; runs = s .runs; many = omega (arith, s .many); fine = s .fine }
 
   -- the frame: tokens away from the region pass by
   pub go-by : (D : ℕ → Type 0) (xs ys zs : Load) (c : ℕ) → Off zs D → Goes D xs c ys → Goes D (xs ++ zs) c (ys ++ zs)
@@ -113,20 +104,3 @@ module _ (net : Net) where
   -- loads that are one and the same on a clear base
   abbrev pub Alike : (ℕ → Type 0) → Load → Load → Type 0
   Alike D xs ys = (b : Links) → Clear D b → put xs b ≡ put ys b
-
-  pub go-from : (D : ℕ → Type 0) (xs xs′ ys : Load) (c : ℕ) → Alike D xs xs′ → Goes D xs c ys → Goes D xs′ c ys
-  go-from D xs xs′ ys c e f b cl = subst (λ q. Steps q c (put ys b)) (e b cl) (f b cl)
-
-  pub go-to : (D : ℕ → Type 0) (xs ys ys′ : Load) (c : ℕ) → Alike D ys ys′ → Goes D xs c ys → Goes D xs c ys′
-  go-to D xs ys ys′ c e f b cl = subst (λ q. Steps (put xs b) c q) (e b cl) (f b cl)
-
-  pub go-from-on : (D : ℕ → Type 0) (xs xs′ : Load) (c : ℕ) → Alike D xs xs′ → Goes-on D xs c → Goes-on D xs′ c
-  go-from-on D xs xs′ c e f b cl = subst (λ q. Long q c) (e b cl) (f b cl)
-
-  pub alike-sym : (D : ℕ → Type 0) (xs ys : Load) → Alike D xs ys → Alike D ys xs
-  alike-sym D xs ys e b cl = sym (e b cl)
-
-  -- empty links said or not
-  pub alike-nones : (D : ℕ → Type 0) (xs ys : Load) → Nones xs → Within xs D → Apart xs ys → Alike D (xs ++ ys) ys
-  alike-nones D xs ys n wi ap′ b cl =
-      put-app xs ys b ∙ put-nones xs (put ys b) n (λ l o. put-off l ys b (λ o′. ap′ l o o′) ∙ cl l (wi l o))

@@ -1,7 +1,7 @@
 -- Loads: which tokens lie on which links. A state is a load put upon a base that is empty there; all reasoning about schedules is rewriting of
 -- loads, and what is not in the load is in the base, which nothing touches. A register, a waiting control and a datum are all load.
 -- Blocks of a load that share no link may change places; where links have colours, that they share none is computed from numerals.
-use Prim.Native.Nat.{ℕ, zero, suc}
+use Prim.Native.Nat.{ℕ}
 use mathlib.Core.Path.{_≡_, refl, sym, _∙_, ap, fun-ext}
 use mathlib.Core.Logic.{_≢_, ite, _⊎_, inl, inr, ⊎-elim}
 use mathlib.Core.List.{List, [], _∷_, _++_}
@@ -73,15 +73,6 @@ on-app l [] ys o = inr o
 on-app l (x ∷ xs) ys (inl e) = inl (inl e)
 on-app l (x ∷ xs) ys (inr o) = ⊎-elim (λ (p : On l xs). inl (inr p)) (λ (p : On l ys). inr p) (on-app l xs ys o)
 
-pub on-left : (l : ℕ) (xs ys : Load) → On l xs → On l (xs ++ ys)
-on-left l [] ys o = absurd o
-on-left l (x ∷ xs) ys (inl e) = inl e
-on-left l (x ∷ xs) ys (inr o) = inr (on-left l xs ys o)
-
-pub on-right : (l : ℕ) (xs ys : Load) → On l ys → On l (xs ++ ys)
-on-right l [] ys o = o
-on-right l (x ∷ xs) ys o = inr (on-right l xs ys o)
-
 -- the base is empty in a region
 abbrev pub Clear : (ℕ → Type 0) → Links → Type 0
 Clear D b = (l : ℕ) → D l → b l ≡ []
@@ -133,15 +124,6 @@ abbrev pub front : Load → List Load → List Load
 front x [] = x ∷ []
 front x (y ∷ ys) = y ∷ x ∷ ys
 
-abbrev pub pull : ℕ → List Load → List Load
-pull zero bs = bs
-pull (suc k) [] = []
-pull (suc k) (x ∷ bs) = front x (pull k bs)
-
-abbrev pub pulls : List ℕ → List Load → List Load
-pulls [] bs = bs
-pulls (k ∷ ks) bs = pulls ks (pull k bs)
-
 abbrev pub Far : Load → List Load → Type 0
 Far x [] = Unit {0}
 Far x (y ∷ ys) = Apart x y × Far x ys
@@ -149,40 +131,3 @@ Far x (y ∷ ys) = Apart x y × Far x ys
 abbrev pub Pair : List Load → Type 0
 Pair [] = Unit {0}
 Pair (x ∷ bs) = Far x bs × Pair bs
-
-far-pull : (x : Load) (k : ℕ) (bs : List Load) → Far x bs → Far x (pull k bs)
-far-pull x zero bs f = f
-far-pull x (suc k) [] f = f
-far-pull x (suc k) (y ∷ bs) f = go (pull k bs) (far-pull x k bs (f .1))
-  where
-    go : (cs : List Load) → Far x cs → Far x (front y cs)
-    go [] g = (f .0, tt)
-    go (c ∷ cs) g = (g .0, (f .0, g .1))
-
-pub pair-pull : (k : ℕ) (bs : List Load) → Pair bs → Pair (pull k bs)
-pair-pull zero bs p = p
-pair-pull (suc k) [] p = p
-pair-pull (suc k) (y ∷ bs) p = go (pull k bs) (far-pull y k bs (p .0)) (pair-pull k bs (p .1))
-  where
-    go : (cs : List Load) → Far y cs → Pair cs → Pair (front y cs)
-    go [] f q = (tt, tt)
-    go (c ∷ cs) f q = ((λ l o o′. f .0 l o′ o, q .0), (f .1, q .1))
-
-pub put-pull : (k : ℕ) (bs : List Load) (b : Links) → Pair bs → put (cat (pull k bs)) b ≡ put (cat bs) b
-put-pull zero bs b p = refl
-put-pull (suc k) [] b p = refl
-put-pull (suc k) (x ∷ bs) b p = go (pull k bs) (far-pull x k bs (p .0)) (put-pull k bs b (p .1))
-  where
-    go : (cs : List Load) → Far x cs → put (cat cs) b ≡ put (cat bs) b → put (cat (front x cs)) b ≡ put (x ++ cat bs) b
-    go [] f e = put-app x [] b ∙ ap (put x) e ∙ sym (put-app x (cat bs) b)
-    go (c ∷ cs) f e =
-        put-app c (x ++ cat cs) b ∙ ap (put c) (put-app x (cat cs) b) ∙ put-swap c x (put (cat cs) b) (λ l o o′. f .0 l o′ o)
-        ∙ ap (put x) (sym (put-app c (cat cs) b) ∙ e) ∙ sym (put-app x (cat bs) b)
-
-pub put-pulls : (ks : List ℕ) (bs : List Load) (b : Links) → Pair bs → put (cat (pulls ks bs)) b ≡ put (cat bs) b
-put-pulls [] bs b p = refl
-put-pulls (k ∷ ks) bs b p = put-pulls ks (pull k bs) b (pair-pull k bs p) ∙ put-pull k bs b p
-
-pub app-assoc : (xs ys zs : Load) → (xs ++ ys) ++ zs ≡ xs ++ (ys ++ zs)
-app-assoc [] ys zs = refl
-app-assoc (x ∷ xs) ys zs = ap (λ z. x ∷ z) (app-assoc xs ys zs)

@@ -136,9 +136,6 @@ first-input IC-gate = refl
 first-input FM-gate = refl
 first-input FS-gate = refl
 
-some-link : (m l : ℕ) → some m ≡ some l → m ≡ l
-some-link m l e = ap link-of e
-
 none-waits : (ts : List Token) → ts ≡ [] → 0 < length ts → ⊥
 none-waits ts e h = let z : length ts ≡ 0 = ap length e in omega arith
 

@@ -459,8 +459,3 @@ module _ (l : List ℕ) (at w : ℕ) where
   pub word-after : (j : ℕ) → at + 5 ≤ j → wordAt (stored l at w) j ≡ wordAt l j
   unfolding wordAt
   word-after j h = rw (byte-after j h, byte-after (j + 1) (omega arith), byte-after (j + 2) (omega arith), byte-after (j + 3) (omega arith), byte-after (j + 4) (omega arith)) refl
-
--- five bytes make a word below 2^40
-pub word-at-lt : (l : List ℕ) (at : ℕ) → ((i : ℕ) → getD l i 0 < 256) → wordAt l at < 1099511627776
-unfolding wordAt
-word-at-lt l at h = omega (arith, h at, h (at + 1), h (at + 2), h (at + 3), h (at + 4))

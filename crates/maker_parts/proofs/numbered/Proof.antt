@@ -11,7 +11,7 @@ use Rattle.names.specs.Names.{sizeFrom, bit}
 use Rattle.machine_layout.specs.Layout.{mostLinks}
 use Rattle.maker_laid.specs.Masked.{namesIn}
 use Rattle.maker_parts.specs.Parts.{Numbered}
-use Rattle.maker_parts.proofs.Numbering.{NumberedTo, numbered-none, numbered-start, numbered-turn, numbered-all, count-turn, one-more}
+use Rattle.maker_parts.proofs.Numbering.{NumberedTo, numbered-turn, numbered-all, count-turn, one-more}
 use native.Mathlib.Omega.{arith}
 use borrow.Author.Needs.{needs}
 

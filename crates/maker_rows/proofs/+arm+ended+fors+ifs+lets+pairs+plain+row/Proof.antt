@@ -74,8 +74,8 @@ use Rattle.maker_parts.specs.Ranges.{mask-of-range}
 use Rattle.maker_parts.specs.Parts.{Closed, Numbered}
 use Rattle.maker_rows.specs.Rows.{Part, Ended, Armed}
 use Rattle.maker_rows.proofs.Splits.{split-mask, split-fork, split-first, split-second, split-needs, fork-same, child-mask, child-alone, forked-long, arm-needs, arm-behind, arm-part}
-use Rattle.maker_rows.proofs.Steps.{shaped-as, by-place, row-inside, pair-first, pair-second, pair-split, pair-narrow, pair-part, let-first, let-second, let-low, let-split, let-part, end-split, end-part, end-constant-room, iter-child, iter-room, iter-part, return-ready, return-room, return-part, part-E, room-E, few-results, constant-part, constant-room, operator-child, operator-room, operator-needs, operator-part, plain-between, plain-ranged, plain-mask-is, as-expression}
-use Rattle.maker_rows.proofs.Choosing.{if-test, if-first, if-second, if-split, room-arms, room-first, room-between, room-joins, if-needs, if-part, arms-mask, arms-room}
+use Rattle.maker_rows.proofs.Steps.{shaped-as, by-place, row-inside, pair-first, pair-second, pair-split, pair-part, let-first, let-second, let-low, let-split, let-part, end-split, end-part, end-constant-room, iter-child, iter-room, iter-part, return-ready, return-room, return-part, part-E, room-E, few-results, constant-part, constant-room, operator-child, operator-room, operator-needs, operator-part, plain-between, plain-ranged, plain-mask-is, as-expression}
+use Rattle.maker_rows.proofs.Choosing.{if-test, if-first, if-second, if-split, room-first, room-between, room-joins, if-needs, if-part, arms-mask, arms-room}
 use Rattle.maker_rows.proofs.Looping.{for-first, for-second, for-low, body-some, for-split, room-body, room-ring, for-part, body-read, room-start}
 
 abbrev μ-arm : Measures 4 arm-kinds.ps ℕ

@@ -55,7 +55,7 @@ use Rattle.eval_words.specs.Parts.{Compound, PartOf, Operates, Pairs, wide-comp
 use Rattle.eval_cycle.specs.declared.Rest.the-variants.{Left}
 use Rattle.eval_cycle.specs.declared.Turn.{Turn}
 use Rattle.eval_cycle.specs.Told.{Told, ToldB, told-short, tell-pair, tell-let, tell-for, tell-first, tell-second, tell-neither, tell-untested, tell-stopped, single-one, single-two, single-two-short, single-wide, single-wide-short, single-told, tell-single, tell-single-short}
-use Rattle.eval_cycle.specs.ToldBody.{Turning, turning-start, turning-none, round-short, round-back, round-again, shaped-as, tell-iter, tell-ending, tell-let-B, tell-let-B-short, tell-first-B, tell-second-B, tell-neither-B, tell-untested-B}
+use Rattle.eval_cycle.specs.ToldBody.{Turning, turning-none, round-short, round-back, round-again, shaped-as, tell-iter, tell-ending, tell-let-B, tell-let-B-short, tell-first-B, tell-second-B, tell-neither-B, tell-untested-B}
 
 abbrev μ-body : Measures 4 body-kinds.ps ℕ
 μ-body κs a = 5 * a .1 .1 .0 + 3
