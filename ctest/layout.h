@@ -4,7 +4,6 @@
 
 #include "check.h"
 
-/* Where the figures of a memory stand. */
 enum {
     CAPACITY_AT = 0,
     OPERATORS_AT = 1,
