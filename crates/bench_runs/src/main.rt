@@ -1,3 +1,4 @@
+#![tactic(auto)]
 // Stored runs of the bench program: each line of data/runs.txt has the paths of a run's three files, with a space between, and
 // what the runs must print stands in stdout, one after the other. In their order: accepted sheets and sets; a sheet at
 // fault; a kinds line at fault, and rows that break the kinds; a field that is no value, or of another kind; a line of another

@@ -1,3 +1,4 @@
+#![tactic(auto)]
 // Stored drifts (document 02, Job 13): makes the cases 001, 002 and so on, up to the first without room.txt, and writes for each what the
 // call answers, refusal, row and results, in six-character fields, and where there are results their numbers in a line of eleven-character
 // fields. A case has a sheet in formula.txt, its kinds line in kinds.txt, the bytes of its tolerances in tolerances, and in room.txt how many

@@ -1,3 +1,4 @@
+#![tactic(auto)]
 // Direct evaluation of a sheet's bytes with its kinds line on a set (document 01, "Direct evaluation is lent rounds and tells
 // those used"), with its result set written to lent bytes. Refusals come in the order 11, the reader's, 12, 36. Any bytes of any
 // length may be handed in. The definitions are meaning's specs/Evaluate and, for lent bytes, specs/Handed.
@@ -17,7 +18,7 @@ mod row; // row.rt: the evaluation of an accepted row on a set
 
 // What evaluation tells the firmware: refusal 0 is an accepted evaluation.
 #[repr(C)]
-#[derive(Drop)]
+#[derive(Clone, Copy)]
 pub struct EvaluateAnswer {
     pub refusal: u32,
     pub row: u32,

@@ -1,3 +1,4 @@
+#![tactic(auto)]
 // What the evaluators of a formula sheet are made of (document 01, "The meaning"): values as words, and rows of width one taken
 // apart. Assumes an accepted sheet's rows.
 pub mod inputs; // inputs.rt: a formula's inputs by the mask of its free names
@@ -5,7 +6,7 @@ pub mod parts; // parts.rt: what the value of a row of width one is made of
 pub mod words; // words.rt: values as words in lent arrays
 
 // The value of a row of width one: its word with the rounds left, or more rounds are needed than were lent.
-#[derive(Drop)]
+#[derive(Clone, Copy)]
 pub enum Single {
     Word(u64, u32),
     Short,
@@ -13,7 +14,7 @@ pub enum Single {
 
 // A row of width one: a value, an operator on one row or on two rows of width one, an operator on a row of width two, or a
 // row of another kind.
-#[derive(Drop)]
+#[derive(Clone, Copy)]
 pub enum Part {
     // the word of the value
     Value(u64),

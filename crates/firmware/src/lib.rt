@@ -1,3 +1,4 @@
+#![tactic(auto)]
 // Every call of the firmware and of formula editors in one archive, over byte slices and numbers (document 01, "calls push, run and take with
 // numbers and byte memory"). No call asks anything of its caller; each contract is an equation on the answer and on every lent byte.
 // A call on a machine is also lent the record of firings, takes and refused pushes (document 02, Job 10: "one small record, which the

@@ -1,3 +1,4 @@
+#![tactic(auto)]
 // The data of the formula sheet (document 01, "The formula sheet" and the two lists of refusals): a field, a row by its
 // kind, what a test says of a sheet, and the refusals with their numbers. The definitions over them are in specs/.
 ghost use Rattle.std.specs.Prelude.{◌≡◌, ◌≤◌};
@@ -7,14 +8,14 @@ ghost use Rattle.formula.specs.Constants.{constant_value, constant_most};
 use value::Value;
 
 // A decimal field: its number, or malformed.
-#[derive(Drop)]
+#[derive(Clone, Copy)]
 pub enum Field {
     Number(u32),
     Malformed,
 }
 
 // A row by its kind, with the fields that it lists: 1 to 9 in the order of document 01's table; 2, 3 and 10 are one case.
-#[derive(Drop)]
+#[derive(Clone, Copy)]
 pub enum Shape {
     // a: the identifier's number
     Identifier(u32),
@@ -35,7 +36,7 @@ pub enum Shape {
 }
 
 // A row of a body by what its place asks of it: a let, an if and an iter are read by their place, every other row ends the body.
-#[derive(Drop)]
+#[derive(Clone, Copy)]
 pub enum Way {
     // identifiers a to a+b-1, bound to row c, in row d
     Let(u32, u32, usize, usize),
@@ -47,14 +48,14 @@ pub enum Way {
 }
 
 // What one test says of a sheet: passed, or the lowest row at fault (0 where the test is not about a row).
-#[derive(Drop)]
+#[derive(Clone, Copy)]
 pub enum Check {
     Passed,
     Fault(usize),
 }
 
 // The refusals, by their numbers.
-#[derive(Drop)]
+#[derive(Clone, Copy)]
 pub enum Refusal {
     // 1: empty, not in 31-byte rows, or a row without its line feed
     Layout,
@@ -121,14 +122,14 @@ pub enum Refusal {
 }
 
 // What reading says of a sheet: every test passed, or the first refusal with its row.
-#[derive(Drop)]
+#[derive(Clone, Copy)]
 pub enum Verdict {
     Passed,
     Refused(Refusal, usize),
 }
 
 // The figures of an accepted sheet.
-#[derive(Drop)]
+#[derive(Clone, Copy)]
 pub struct Figures {
     pub rows: usize,
     pub operators: usize,
@@ -137,7 +138,7 @@ pub struct Figures {
 }
 
 // The answer of reading a sheet.
-#[derive(Drop)]
+#[derive(Clone, Copy)]
 pub enum Reading {
     Accepted(Figures),
     Rejected(Refusal, usize),

@@ -1,3 +1,4 @@
+#![tactic(auto)]
 // Stored checks of logs (document 02, Job 3): reads the cases 001, 002 and so on, up to the first without asked.txt, and writes for each
 // what the checker answers, refusal, row, results and their width, in six-character fields, then a line for each result. A case has a sheet
 // in formula.txt, its kinds line in kinds.txt, a list of sets as the set lines of sets.txt, a log in log.txt, and in asked.txt the capacity

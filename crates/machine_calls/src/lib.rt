@@ -1,3 +1,4 @@
+#![tactic(auto)]
 // Push, fire, run and take over byte memory (document 01, "Running" and the refusals), the firmware's
 // calls of these names. The definitions are specs/Calls; each contract is an equation on the answer
 // and on every lent byte, and asks nothing of the caller. Values lie in five bytes each (value's
@@ -14,7 +15,7 @@ use machine_layout::LINKS_AT;
 // A call's answer: document 01's number of a refusal, 0 where accepted; the firings of a run, the
 // width of a taken result set or the sets of a tray that went in (machine_tray), else 0.
 #[repr(C)]
-#[derive(Drop)]
+#[derive(Clone, Copy)]
 pub struct Answer {
     pub refusal: u32,
     pub count: u32,

@@ -1,3 +1,4 @@
+#![tactic(auto)]
 // What a firing does to the machine's memory (document 01, "The graph" and "Running"): tokens looked at,
 // taken and given, as words. "a firing is lent those stretches only, in the middle of the whole":
 // each link's part of memory goes to a queue function. `base` is the byte where the links begin,

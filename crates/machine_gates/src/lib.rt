@@ -1,3 +1,4 @@
+#![tactic(auto)]
 // What an operator asks of its tokens (document 01, "The graph", "Rules, control first"): what a
 // control is, and what an operator computes. A token is a word below 2^40, value::bytes::NONE where
 // none waits. The table of rules is network's specs/Rules, and

@@ -1,3 +1,4 @@
+#![tactic(auto)]
 // The machine's memory (document 01, "Running"; docs/ gives the offsets): functions that read and
 // write its figures. The layout itself is specs/Layout, the bytes of an operator specs/Record. All
 // figures of more than a byte lie lowest byte first. Assumes only that the memory is long enough.
@@ -89,7 +90,7 @@ pub const FS: u8 = 20;
 
 // An operator as it stands in memory: its kind's byte, its links and its register's
 // word (0 before the first firing; a constant's value).
-#[derive(Drop)]
+#[derive(Clone, Copy)]
 pub struct Operator {
     pub kind: u8,
     pub in1: u16,

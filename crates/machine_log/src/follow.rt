@@ -11,7 +11,7 @@ use crate::lines::{LINE_BYTES, Line, line_at};
 use formula::Refusal;
 
 // How far a log was followed: the line that was refused, 0 where none was, and the results handed out.
-#[derive(Drop)]
+#[derive(Clone, Copy)]
 pub struct Progress {
     pub line: u32,
     pub count: u32,

@@ -1,3 +1,4 @@
+#![tactic(auto)]
 // A log of another bench checked on a machine of our own (document 02, Job 3): refusals 11, 14, those of the sheet and its kinds
 // line, 12, 15, 16. The definitions are specs/Checked; the contract of `check_log`, which the firmware's entry point calls, is an equation
 // on the answer and on every lent byte, and asks nothing of its caller.
@@ -23,7 +24,7 @@ use sheet_read::read::read;
 // The checker's answer: document 01's number of a refusal, 0 where accepted; its row, which is the log's line for 15 and 16; the results
 // handed out, and the width of each.
 #[repr(C)]
-#[derive(Drop)]
+#[derive(Clone, Copy)]
 pub struct LogAnswer {
     pub refusal: u32,
     pub row: u32,
@@ -32,7 +33,7 @@ pub struct LogAnswer {
 }
 
 // What the tests before a log is followed say: the refusal and its row, or the inputs and the width of the sheet's formula.
-#[derive(Drop)]
+#[derive(Clone, Copy)]
 pub enum Opening {
     Refused(Refusal, usize),
     Passed(usize, usize),

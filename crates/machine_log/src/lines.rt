@@ -7,7 +7,7 @@ use formula::{Check, Field};
 use sheet_fields::field::field_in;
 
 // A line by the call that it names.
-#[derive(Drop)]
+#[derive(Clone, Copy)]
 pub enum Line {
     // 1: the number of a set, from 1 on
     Push(u32),

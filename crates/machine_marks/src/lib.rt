@@ -1,3 +1,4 @@
+#![tactic(auto)]
 // What a run without rescans (machine_runs) keeps beside the memory: a mark for each operator that
 // may be able, in words of 64 (specs/Words, specs/Held), and for each link the operator that takes
 // from it and the one that gives to it (specs/Users). Assumes only that the memory is long enough.
@@ -26,7 +27,7 @@ const SIDE_PORTS: usize = 3;
 const NO_USER: usize = 65535;
 
 // The marks of a block are held in a word, `here`; the others stand in the table, none below `low`.
-#[derive(Drop)]
+#[derive(Clone, Copy)]
 pub struct Marks {
     pub here: u64,
     pub block: usize,

@@ -1,3 +1,4 @@
+#![tactic(auto)]
 // The operators by their kinds (document 01, "The graph", "Rules, control first"): a gate looks at its
 // control and at the tokens that its rule wants, and ends where one does not wait; data pass through
 // unseen. The table of rules is network's specs/Rules, and machine_gates has that what the

@@ -1,3 +1,4 @@
+#![tactic(auto)]
 // The queue of a link (document 01, "A link's waiting tokens fill one stretch of token memory"): a
 // count, then tokens of five bytes, the oldest first, in a part of memory lent as a slice. "Freed
 // places are used again": taking the oldest token moves the others down. The definitions are

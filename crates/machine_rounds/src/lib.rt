@@ -1,3 +1,4 @@
+#![tactic(auto)]
 // A run by rounds over byte memory (document 02, Job 7): operators rising, each that is able at its
 // turn firing once. The definitions are specs/Rounds; the contract of the call is an equation on the
 // answer and on every lent byte, and asks nothing of the caller.
@@ -11,7 +12,7 @@ use machine_layout::LINKS_AT;
 // The call's answer: the number of a refusal, 0 where accepted; the rounds in which something fired,
 // and their firings, which can be more than a number of 32 bits holds.
 #[repr(C)]
-#[derive(Drop)]
+#[derive(Clone, Copy)]
 pub struct RoundsAnswer {
     pub refusal: u32,
     pub rounds: u32,
@@ -19,7 +20,7 @@ pub struct RoundsAnswer {
 }
 
 // The rounds made and their firings.
-#[derive(Drop)]
+#[derive(Clone, Copy)]
 struct Made {
     rounds: u32,
     firings: u64,

@@ -1,3 +1,4 @@
+#![tactic(auto)]
 // Runs of the machine (document 01, "Running"). The definition is specs/Run: the least-numbered able
 // operator fires, again and again. `run` makes it without looking at every operator after each
 // firing: one that was found not able is passed over until a firing may have made it able

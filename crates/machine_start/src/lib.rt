@@ -1,3 +1,4 @@
+#![tactic(auto)]
 // Starting a machine for a formula sheet in lent memory: the sheet read, its graph made, the header
 // written and every link emptied (document 01, "Running": "Start takes a link capacity of 1 to 16";
 // refusals 11, 14, then those of the sheet and its kinds line, document 02, Job 6). The definitions are
@@ -20,7 +21,7 @@ use sheet_read::read::{Tested, fill_tables};
 // Start's answer: document 01's number of a refusal, 0 where accepted; its row; the figures of the
 // graph, 0 on a refusal.
 #[repr(C)]
-#[derive(Drop)]
+#[derive(Clone, Copy)]
 pub struct StartAnswer {
     pub refusal: u32,
     pub row: u32,

@@ -1,3 +1,4 @@
+#![tactic(auto)]
 // Push, fire, run and take of the machine with tags (document 02, Job 12) over byte memory. The
 // definitions are machine_tags' specs/TagCalls; each contract is an equation on the answer and on
 // every lent byte, and asks nothing of the caller. The links of a tag begin at its plane and have one

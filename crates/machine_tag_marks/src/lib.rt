@@ -1,3 +1,4 @@
+#![tactic(auto)]
 // The marks of one tag's operators in a run with tags (machine_tag_runs): which operators begin with a
 // mark, and a step of the first that has one. `base` is the byte where the tag's links begin, a link's
 // stretch has one place. Between calls all marks stand in their sixteen words (specs/FirstMarks).
@@ -79,7 +80,7 @@ pub fn mark_plane(mem: &[u8], base: usize, n: usize, awake: &mut [u64]) -> usize
 }
 
 // Whether an operator fired, and the first one with a mark after that.
-#[derive(Drop)]
+#[derive(Clone, Copy)]
 pub struct Step {
     pub fired: bool,
     pub next: usize,

@@ -1,3 +1,4 @@
+#![tactic(auto)]
 // Runs of the machine with tags (document 02, Job 12). The definition is machine_tags/specs/TagRun: the
 // least-numbered able operator fires under its lowest able tag, again and again. An operator i under a
 // tag t is the pair 16 i + t, so that the least able pair fires. `run` makes it without looking at every

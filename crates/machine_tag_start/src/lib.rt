@@ -1,3 +1,4 @@
+#![tactic(auto)]
 // Starting the machine with tags for a formula sheet without for in lent memory (document 02, Job 12):
 // a machine started at capacity 1 with its mark, and the links of every tag empty. The definition is
 // specs/TagStart; `start`, which the firmware's entry point calls, asks nothing of its caller.

@@ -1,3 +1,4 @@
+#![tactic(auto)]
 // Refusal 31 of the machine with tags (document 02, Job 12): whether every stored figure, kind and
 // token is in its range. The definition is machine_tags' specs/TagValid. What both machines have in
 // their memory is looked at by the parts of machine_valid. Also where the planes and the tags' bytes

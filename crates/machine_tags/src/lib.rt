@@ -1,1 +1,2 @@
+#![tactic(auto)]
 // The machine with tags: definitions and laws in specs/, no functions.

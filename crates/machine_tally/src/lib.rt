@@ -1,3 +1,4 @@
+#![tactic(auto)]
 // The firmware's calls with a record that tells firings, takes and refused pushes (document 02, Job 10:
 // "which the firmware lends and which each call updates in place"). The definitions are specs/Tallied;
 // each contract is the call's own equation on the answer and on every lent byte, and one on the record,
@@ -16,7 +17,7 @@ use machine_start::StartAnswer;
 
 // The record: no number passes MOST.
 #[repr(C)]
-#[derive(Drop)]
+#[derive(Clone, Copy)]
 pub struct Tally {
     pub firings: u32,
     pub takes: u32,
@@ -24,19 +25,19 @@ pub struct Tally {
 }
 
 // A call's answer with the record after it.
-#[derive(Drop)]
+#[derive(Clone, Copy)]
 pub struct Noted {
     pub answer: Answer,
     pub tally: Tally,
 }
 
-#[derive(Drop)]
+#[derive(Clone, Copy)]
 pub struct NotedRounds {
     pub answer: RoundsAnswer,
     pub tally: Tally,
 }
 
-#[derive(Drop)]
+#[derive(Clone, Copy)]
 pub struct NotedStart {
     pub answer: StartAnswer,
     pub tally: Tally,

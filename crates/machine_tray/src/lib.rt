@@ -1,3 +1,4 @@
+#![tactic(auto)]
 // A tray of sets pushed one after the other (document 02, Job 1). The definition is specs/Tray; the
 // contract is an equation on the answer and on every lent byte, and asks nothing of the caller.
 ghost use Rattle.std.specs.Prelude.{◌≡◌, ◌≤◌};

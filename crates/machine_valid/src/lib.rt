@@ -1,3 +1,4 @@
+#![tactic(auto)]
 // Refusal 31 (document 01, "Said by how the machine stands"): whether every stored figure, kind and
 // token is in its range and no link is named twice by one operator, the inputs or the results. The
 // definition is specs/Valid; only the part that the graph uses is looked at. Assumes that the memory

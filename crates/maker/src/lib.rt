@@ -1,3 +1,4 @@
+#![tactic(auto)]
 // The whole graph of an accepted sheet (document 01, "The graph"): its operators in the machine's memory,
 // and by value what start stores besides them.
 ghost use Rattle.std.specs.Prelude.{◌≡◌, cond, ◌++◌, ◌+◌, ◌*◌, ◌-◌, ◌≤◌, ◌<◌, length, take};
@@ -15,7 +16,7 @@ use sheet_tables::masks::mask_at;
 
 // What was made: the numbers of operators and of links, the trigger's link (none where no constant needs it),
 // the input links rising and the result links, each with their number; places past it hold none.
-#[derive(Drop)]
+#[derive(Clone, Copy)]
 pub struct Making {
     pub operators: usize,
     pub links: u16,

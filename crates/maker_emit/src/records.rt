@@ -88,7 +88,7 @@ pub fn ring_gate(
 }
 
 // One turn of a walk over the names of a mask: the lowest name, and the mask without it.
-#[derive(Drop)]
+#[derive(Clone, Copy)]
 pub struct Walk {
     pub name: usize,
     pub rest: u64,

@@ -1,3 +1,4 @@
+#![tactic(auto)]
 // What joins the results of a body if's arms (document 01, "The graph"): M, E or copies, or
 // straight. Each contract holds for every environment that gives the arms' names their links.
 ghost use Rattle.std.specs.Prelude.{◌≡◌, true, false, cond, ◌&&◌, ◌∷◌, ◌++◌, ℕ, ◌+◌, ◌*◌, ◌-◌, ◌≤◌, ◌<◌, length, take, drop, get_or, ltb};
@@ -19,7 +20,7 @@ use maker_emit::records::ic_of;
 
 // The next numbers, of a link and of an operator. Both are as wide as an index, so that no unset
 // bytes lie behind one.
-#[derive(Drop)]
+#[derive(Clone, Copy)]
 pub struct Next {
     pub link: usize,
     pub operator: usize,
@@ -27,7 +28,7 @@ pub struct Next {
 
 // A part of a graph once it is written: its outputs, how many there are and how many of them are
 // iterated results, and the next numbers.
-#[derive(Drop)]
+#[derive(Clone, Copy)]
 pub struct Emitted {
     pub outs: [u16; 33],
     pub count: usize,
@@ -164,7 +165,7 @@ fn ic_outputs(both: bool) -> u16
 }
 
 // The results of an arm of a body if: iter?, i iterated and r returned results.
-#[derive(Drop)]
+#[derive(Clone, Copy)]
 pub struct Arm {
     pub iter: u16,
     pub iterated: [u16; 33],

@@ -1,3 +1,4 @@
+#![tactic(auto)]
 // Parts of a graph that need no other row: copies for shared names, names, constants, operators, an arm's
 // gates, the joins of an if, the ring of a loop (document 01, "The graph"). Each writes from the next
 // numbers on and gives those behind it.
@@ -21,14 +22,14 @@ use value::Value;
 use value::bytes::to_word;
 
 // Where a row is read: whether as a body, and how many values its loop returns.
-#[derive(Drop)]
+#[derive(Clone, Copy)]
 pub struct Place {
     pub body: bool,
     pub returned: usize,
 }
 
 // A let or a loop: `count` identifiers from `first` on have the results of row `value` in row `inner`.
-#[derive(Drop)]
+#[derive(Clone, Copy)]
 pub struct Binding {
     pub first: u32,
     pub count: u32,
@@ -45,7 +46,7 @@ pub fn names_in(mask: u64) -> usize
 }
 
 // The links that two parts have for the names that both use, and the next numbers behind the copies.
-#[derive(Drop)]
+#[derive(Clone, Copy)]
 pub struct Forking {
     pub first: [u16; 33],
     pub second: [u16; 33],
@@ -160,7 +161,7 @@ fn side_kind(yes: bool) -> u8
 }
 
 // The links of the names behind an arm's gates, and the next numbers.
-#[derive(Drop)]
+#[derive(Clone, Copy)]
 pub struct Inside {
     pub env: [u16; 33],
     pub next: Next,

@@ -1,3 +1,4 @@
+#![tactic(auto)]
 // The rows of an accepted sheet, each written as the part of the graph that it is (document 01, "The graph"; graph/specs/Translation,
 // figure by figure). A row is read by its place: as an expression, or as a body of a loop that returns some values. The functions call
 // each other; the row number falls. `env` has the link of each name; links and operators are dealt from the next numbers on.
@@ -34,7 +35,7 @@ pub const EXPRESSION: Place = Place {
 };
 
 // An if: the rows of its test and of its two arms.
-#[derive(Drop)]
+#[derive(Clone, Copy)]
 pub struct Choice {
     pub test: usize,
     pub first: usize,

@@ -1,3 +1,4 @@
+#![tactic(auto)]
 // Sets of names as masks: document 01, "Forms to follow" ("a u64 mask per row"). Each contract says
 // what the function does to the number; proofs/Masks says what that is for the mask of a set. A
 // union is `a | b` and a common part is `a & b`, so they need no function. Assumes of a place that it is one of the 33.

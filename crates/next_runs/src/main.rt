@@ -1,3 +1,4 @@
+#![tactic(auto)]
 // The list of small sheets (document 02, Job 14), walked from the empty sheet on: each call is lent what the one before wrote, up to the
 // first that is refused. Written are every 5,000th sheet, behind the answer that it came with, refusal, row and rows in six-character fields;
 // wherever the number of rows changes, the rows up to then, how many sheets have so many and how many have up to so many, in such fields, and

@@ -1,3 +1,4 @@
+#![tactic(auto)]
 // The session of the bench program (document 01, "Program and readings"): what it prints, from its opening through each
 // repetition of pushes, a run and takes, that it ends, and that each line is its set's own verdict. Definitions and laws are
 // in specs/; the code is in `session_pass` and `session_run`. Assumes nothing.
@@ -18,7 +19,7 @@ pub const KINDS_READ: usize = 64;
 
 // A repetition's end: where the next set's line starts, the sets not taken yet, the firings left, and how many bytes are
 // to be printed.
-#[derive(Drop)]
+#[derive(Clone, Copy)]
 pub struct Stage {
     pub at: usize,
     pub remaining: u32,
@@ -27,14 +28,14 @@ pub struct Stage {
 }
 
 // The inputs of an accepted sheet, and where the loop begins. After a refusal no set remains.
-#[derive(Drop)]
+#[derive(Clone, Copy)]
 pub struct Opened {
     pub inputs: usize,
     pub stage: Stage,
 }
 
 // How many of a sheet's bytes are at hand, and what was seen of all of them.
-#[derive(Drop)]
+#[derive(Clone, Copy)]
 pub struct Sheet {
     pub length: usize,
     pub seen: Seen,

@@ -1,3 +1,4 @@
+#![tactic(auto)]
 // One repetition of the program's loop (session/specs/Passes): "it pushes until refused or out of sets, runs with the firings left,
 // takes until refused".
 ghost use Rattle.std.specs.Prelude.{◌≡◌, ℕ, ◌+◌, ◌*◌, ◌-◌, ◌≤◌, ◌<◌, length, take, drop, replicate};
@@ -9,7 +10,7 @@ use session::Stage;
 use text::{REFUSAL_LINE, RESULT_BYTES, SET_BYTES, VALUE_BYTES, VALUE_FIELD};
 
 // What was taken: sets, and the bytes of their lines.
-#[derive(Drop)]
+#[derive(Clone, Copy)]
 pub struct Handful {
     pub count: u32,
     pub printed: usize,

@@ -1,3 +1,4 @@
+#![tactic(auto)]
 // The bench program on three files: reads them, opens the session, and writes what each repetition prints. What is read and
 // written no contract can say; that the parts belong together is said here.
 pub mod opening; // opening.rt: the tests and the first line
@@ -37,7 +38,7 @@ fn set_buffer() -> [u8; SETS_READ]
 }
 
 // One part more of a file, seen; `more` tells whether there was one.
-#[derive(Drop)]
+#[derive(Clone, Copy)]
 pub struct Part {
     pub more: bool,
     pub seen: Seen,

@@ -18,7 +18,7 @@ use sheet_tables::loops::find_loops;
 use sheet_tables::masks::{mask_at, outside, plain_mask};
 
 // The operators of a row's own: gates with one output, two-way copies, and IC gates.
-#[derive(Drop)]
+#[derive(Clone, Copy)]
 pub struct Own {
     pub gates: u32,
     pub copies: u32,
@@ -26,7 +26,7 @@ pub struct Own {
 }
 
 // What test 10 says: the operators of the formula, or that they are too many.
-#[derive(Drop)]
+#[derive(Clone, Copy)]
 pub enum Total {
     Within(u32),
     Over,

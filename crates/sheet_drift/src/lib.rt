@@ -1,3 +1,4 @@
+#![tactic(auto)]
 // How far each result can move (document 02, Job 13): given a sheet, its kinds line and a tolerance for each input, the number of each result is
 // written to lent memory. Refusals 11, the sheet's, 20, 21. The definitions are specs/Drifting and sheet_movement's; the contract of `drift`, which
 // the entry point calls, is an equation on the answer and on every lent byte, and asks nothing of its caller.
@@ -23,7 +24,7 @@ use sheet_sorts::walk::test_sorts;
 
 // The answer: document 01's number of a refusal, 0 where accepted; its row; how many results there are, a number each.
 #[repr(C)]
-#[derive(Drop)]
+#[derive(Clone, Copy)]
 pub struct DriftAnswer {
     pub refusal: u32,
     pub row: u32,

@@ -1,3 +1,4 @@
+#![tactic(auto)]
 // The next small sheet (document 02, Job 14): given a sheet of the list, or none, the one behind it is written to lent memory. Refusals 11, 22, 23. The
 // definitions are specs/Next and sheet_listed's; the contract of `next_sheet`, which the entry point calls, is an equation on the answer and on every lent
 // byte, and asks nothing of its caller.
@@ -19,7 +20,7 @@ use sheet_tidy::rows::put_row;
 
 // The answer: document 01's number of a refusal, 0 where accepted; its row, 0; the rows of the next sheet.
 #[repr(C)]
-#[derive(Drop)]
+#[derive(Clone, Copy)]
 pub struct NextAnswer {
     pub refusal: u32,
     pub row: u32,

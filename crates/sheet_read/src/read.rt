@@ -28,7 +28,7 @@ use sheet_tables::widths::test_widths;
 
 // What reading tells the firmware: refusal 0 is an accepted sheet.
 #[repr(C)]
-#[derive(Drop)]
+#[derive(Clone, Copy)]
 pub struct ReadAnswer {
     pub refusal: u32,
     pub row: u32,
@@ -39,7 +39,7 @@ pub struct ReadAnswer {
 }
 
 // What all tests say: the refusal and the row at fault, or the operators of an accepted sheet's formula.
-#[derive(Drop)]
+#[derive(Clone, Copy)]
 pub enum Tested {
     Refused(Refusal, usize),
     Passed(u32),

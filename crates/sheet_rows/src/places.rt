@@ -20,7 +20,7 @@ pub fn mark_one(marks: &mut [bool], r: usize)
 }
 
 // The rows that a row names in body places.
-#[derive(Drop)]
+#[derive(Clone, Copy)]
 pub enum Bodies {
     None,
     One(usize),

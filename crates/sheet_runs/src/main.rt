@@ -1,3 +1,4 @@
+#![tactic(auto)]
 // Reads the sheets 001/formula.txt, 002/formula.txt and so on with their kinds lines 001/kinds.txt and so on, up to the first
 // that is missing, and writes for each what bench_read answers: refusal, row, rows, operators, inputs, results, in
 // six-character fields. The sheets in data/ and the answers in stdout are those of the separately written reader (compare/,

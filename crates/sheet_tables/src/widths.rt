@@ -14,7 +14,7 @@ use formula::{Check, Shape};
 use sheet_fields::shape::{shape_at, width_at};
 
 // The widths of a row, 0 for one that it does not have, and whether its kind's rule holds.
-#[derive(Drop)]
+#[derive(Clone, Copy)]
 pub struct Widths {
     pub returned: usize,
     pub iterated: usize,

@@ -1,3 +1,4 @@
+#![tactic(auto)]
 // Tidying a formula sheet (document 02, Job 8): rows that cannot be reached from the last are dropped, the rest renumbered and written to
 // lent memory. Refusals 11, then 1 to 5. The definitions are specs/Tidying and sheet_tidied's; the contract of `tidy`, which the entry point
 // calls, is an equation on the answer and on every lent byte, and asks nothing of its caller.
@@ -23,7 +24,7 @@ use sheet_read::read::row_tests;
 
 // The answer: document 01's number of a refusal, 0 where accepted; its row; the rows of the new sheet.
 #[repr(C)]
-#[derive(Drop)]
+#[derive(Clone, Copy)]
 pub struct TidyAnswer {
     pub refusal: u32,
     pub row: u32,

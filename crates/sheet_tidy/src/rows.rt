@@ -14,7 +14,7 @@ use sheet_fields::shape::shape_at;
 use text_print::put_number;
 
 // The five fields of a row.
-#[derive(Drop)]
+#[derive(Clone, Copy)]
 pub struct RowFields {
     pub kind: u32,
     pub a: u32,

@@ -1,3 +1,4 @@
+#![tactic(auto)]
 // Stored lists of calls on machines with tags (document 02, Job 12): reads the cases 001, 002 and so on, up to the first without a line in
 // calls.txt. A case has a sheet in formula.txt, its kinds line in kinds.txt, sets as the set lines of sets.txt, and in calls.txt a line of
 // three six-character fields for each call: 1 and a set's number for push, 2, an operator and a tag for fire, 3 and a number of firings for

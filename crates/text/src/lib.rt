@@ -1,3 +1,4 @@
+#![tactic(auto)]
 // The text of the bench program (document 01, "Program and readings"): what printed fields, value fields and set lines are,
 // and test 1 of a sheet over a file that is read part by part. Definitions and laws are in specs/; the code is in
 // `text_read` and `text_print`. Assumes nothing.
@@ -31,14 +32,14 @@ pub const COUNTED: usize = 6201;
 pub const LAST_COLUMN: usize = 30;
 
 // Digits read so far, or none.
-#[derive(Drop)]
+#[derive(Clone, Copy)]
 pub enum Digits {
     Count(u64),
     Broken,
 }
 
 // A set file: how many sets it has, or the lowest line at fault.
-#[derive(Drop)]
+#[derive(Clone, Copy)]
 pub enum Lines {
     Sets(usize),
     Bad(usize),
@@ -46,7 +47,7 @@ pub enum Lines {
 
 // What is kept of the bytes of a sheet seen so far: their number, up to 6,201, the place in the row, and whether each row
 // that is whole has its line feed.
-#[derive(Drop)]
+#[derive(Clone, Copy)]
 pub struct Seen {
     pub length: usize,
     pub column: usize,

@@ -1,3 +1,4 @@
+#![tactic(auto)]
 // Printed fields and lines (text/specs/Printed; document 01, "Program and readings"). Each function writes at a place of a lent
 // buffer and leaves its other bytes as they were.
 ghost use Rattle.std.specs.Prelude.{◌≡◌, ◌+◌, ◌*◌, ◌%◌, ◌≤◌, ◌<◌, length, replicate};

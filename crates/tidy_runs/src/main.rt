@@ -1,3 +1,4 @@
+#![tactic(auto)]
 // Stored tidied sheets (document 02, Job 8): tidies the sheets 001/formula.txt, 002/formula.txt and so on, up to the first that is missing,
 // and writes for each what the call answers, refusal, row and rows, in six-character fields, and then the new sheet. The sheets in data/ and
 // what stdout has are those of the separately written tidy (compare/, tidy_cases).

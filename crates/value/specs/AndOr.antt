@@ -55,6 +55,10 @@ decides and (Err r) h = (refl, refl)
 decides or (Truth true) h = (refl, refl)
 decides or (Truth false) h = (refl, refl)
 decides or (Err r) h = (refl, refl)
+decides and (Whole _) h = elim h [ ]
+decides and (Real _) h = elim h [ ]
+decides or (Whole _) h = elim h [ ]
+decides or (Real _) h = elim h [ ]
 
 -- "Both operands must still be truths or err; a whole number gives err", and a float: also beside the truth that decides. Beside an err:
 -- `undecided`.
@@ -72,6 +76,14 @@ number-among or (Whole z) (Real y) g h = (refl, refl)
 number-among or (Real x) (Truth a) g h = (refl, refl)
 number-among or (Real x) (Whole y) g h = (refl, refl)
 number-among or (Real x) (Real y) g h = (refl, refl)
+number-among and (Whole z) (Err _) g h = elim h [ ]
+number-among and (Truth _) v g h = elim g [ ]
+number-among and (Err _) v g h = elim g [ ]
+number-among and (Real x) (Err _) g h = elim h [ ]
+number-among or (Whole z) (Err _) g h = elim h [ ]
+number-among or (Truth _) v g h = elim g [ ]
+number-among or (Err _) v g h = elim g [ ]
+number-among or (Real x) (Err _) g h = elim h [ ]
 
 -- "Otherwise an err operand of codes 8 and 9 still gives err": beside every value but the truth that decides, and the leftmost of two.
 pub undecided : (o : Connective) (r : Reason) (v : Value) → (v ≡ Truth (deciding o) → ⊥)

@@ -1,3 +1,4 @@
+#![tactic(auto)]
 // Values and their operators: document 01, "Values and operators", and document 02, Jobs 2, 5, 6 and 9. The meaning of each code is
 // specs/Operators; the byte form of a value is the module bytes.
 pub mod bytes; // bytes.rt: a value as a tag byte and four bytes
@@ -8,7 +9,7 @@ ghost use Rattle.value.specs.Senses.{err};
 ghost use Rattle.value.specs.Constants.{thousandths};
 
 // "An err now has a reason: Z zero divisor, V answer out of range, E all else."
-#[derive(Drop)]
+#[derive(Clone, Copy)]
 pub enum Reason {
     ZeroDivisor,
     OutOfRange,
@@ -16,7 +17,7 @@ pub enum Reason {
 }
 
 // "A value is a whole number .., a truth, or err." "A value gains a fourth case that carries an f32": a finite number.
-#[derive(Drop)]
+#[derive(Clone, Copy)]
 pub enum Value {
     Whole(i32),
     Truth(bool),
@@ -25,7 +26,7 @@ pub enum Value {
 }
 
 // The kind that a value is told beforehand to have; an err suits every kind.
-#[derive(Drop)]
+#[derive(Clone, Copy)]
 pub enum ValueKind {
     Whole,
     Truth,
@@ -33,7 +34,7 @@ pub enum ValueKind {
 }
 
 // What a value is as a control or a test.
-#[derive(Drop)]
+#[derive(Clone, Copy)]
 pub enum Sense {
     True,
     False,
@@ -41,7 +42,7 @@ pub enum Sense {
 }
 
 // What a word of the byte form is: a value, or none.
-#[derive(Drop)]
+#[derive(Clone, Copy)]
 pub enum Decoded {
     Valid(Value),
     Invalid,

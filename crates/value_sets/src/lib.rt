@@ -1,3 +1,4 @@
+#![tactic(auto)]
 // A set of values in the byte form (document 01, 12: "a set with another number of values than inputs, a bad value field"; document 02,
 // Job 6: "Sets with another kind are refused with 12"): the one test that push and direct evaluation make. The definitions are specs/Sets. Assumes nothing of the bytes.
 ghost use Rattle.std.specs.Prelude.{◌≡◌, ℕ, ◌<◌, length};
