@@ -21,7 +21,7 @@ pub back : {z : ℤ} → SFits w32 z → to_z w32 (of_z w32 z) ≡ z
 back f = to_z-of_z f
 
 pub back64 : {z : ℤ} → SFits w32 z → to_z w64 (of_z w64 z) ≡ z
-back64 f = to_z-of_z (sfits_widen tt f)
+back64 f = to_z-of_z {w = w64} (sfits_widen {w = w32} {w' = w64} tt f)
 
 -- a number cast from 32 bits to 64 is itself
 pub there : {z : ℤ} → SFits w32 z → to_z w64 (of_z w64 (to_z w32 (of_z w32 z))) ≡ z
