@@ -4,7 +4,7 @@
 -- Wired.antt gets it from one taker and one putter a link).
 use Rattle.std.specs.Prelude.{ℕ, ◌<◌, ◌≡◌, refl, ◌≢◌, List, [], ◌∷◌, length}
 use Rattle.std.proofs.Common.{sym, ◌∙◌, ap, arith}
-use Rattle.std.proofs.Math.Logic.{Ne·symm}
+use Rattle.std.proofs.Math.Logic.{Ne-symm}
 use Rattle.theory_schedule.specs.Schedules.{Diamond}
 use Rattle.network.specs.Net.{Token, Demand, ask, fire, halt, Room, Able, appends, act, label, Links, head, pop, append, pop-other, append-other, pop-pop, pop-append, append-append, pop-shortens, append-lengthens, head-append}
 
@@ -49,7 +49,7 @@ module _ (cap : ℕ → ℕ) where
       ∙ appends-pop es l (append e.0 e.1 q) (omega (arith, append-lengthens e.0 l e.1 q))
 
   still : (l m : ℕ) (q : Links) → m ≢ l → 0 < length (q l) → 0 < length (pop m q l)
-  still l m q ne h = rw (pop-other m l q (Ne·symm ne)) h
+  still l m q ne h = rw (pop-other m l q (Ne-symm ne)) h
 
   able-pop : (d : Demand) (l : ℕ) (q : Links) → Never-asks d l → 0 < length (q l) → Able cap d q → Able cap d (pop l q)
   able-pop (ask m k) l q na h o =
@@ -118,7 +118,7 @@ module _ (cap : ℕ → ℕ) where
 
   head-act : (d : Demand) (l : ℕ) (q : Links) → Never-asks d l → 0 < length (q l) → head (act d q l) ≡ head (q l)
   head-act (ask m k) l q na h =
-      head-act (k (head (q m))) l (pop m q) (na.1 (head (q m))) (still l m q na.0 h) ∙ ap head (pop-other m l q (Ne·symm na.0))
+      head-act (k (head (q m))) l (pop m q) (na.1 (head (q m))) (still l m q na.0 h) ∙ ap head (pop-other m l q (Ne-symm na.0))
   head-act (fire es r) l q na h = head-appends es l q h
   head-act halt l q na h = refl
 

@@ -6,7 +6,7 @@
 use Rattle.std.specs.Prelude.{ℕ, ◌≤◌, ◌≡◌, ◌≢◌, List, [], ◌∷◌}
 use Rattle.std.proofs.Math.Path.{refl}
 use Rattle.std.proofs.Common.{◌∙◌, arith}
-use Rattle.std.proofs.Math.Logic.{ite, if_pos, if_neg, Ne·symm}
+use Rattle.std.proofs.Math.Logic.{ite, if_pos, if_neg, Ne-symm}
 use Rattle.std.proofs.Math.Decide.{ℕ_discrete}
 use Rattle.network.specs.Values.{true-value}
 use Rattle.network.specs.Net.{Token, val, Demand, ask, fire}
@@ -50,7 +50,7 @@ module _ (graph : ℕ → Demand) (push take source credit : ℕ) (ins outs : Li
 
   pub machine-take : push ≢ take → machine take ≡ take-demand credit outs
   unfolding machine
-  machine-take ne = if_neg (ℕ_discrete take push) (Ne·symm ne) _ _ ∙ if_pos (ℕ_discrete take take) refl _ _
+  machine-take ne = if_neg (ℕ_discrete take push) (Ne-symm ne) _ _ ∙ if_pos (ℕ_discrete take take) refl _ _
 
   pub machine-graph : (a : ℕ) → a ≢ push → a ≢ take → machine a ≡ graph a
   unfolding machine

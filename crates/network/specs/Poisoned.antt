@@ -3,7 +3,7 @@
 use Rattle.std.specs.Prelude.{ℕ, ◌<◌, ◌+◌, ◌-◌, ◌≡◌, ◌≢◌, ◌⊎◌, List, [], ◌∷◌, length}
 use Rattle.std.proofs.Math.Path.{refl, ap}
 use Rattle.std.proofs.Common.{sym, ◌∙◌, subst, inl, inr}
-use Rattle.std.proofs.Math.Logic.{ite, Ne·symm}
+use Rattle.std.proofs.Math.Logic.{ite, Ne-symm}
 use Rattle.std.proofs.Math.Decide.{dec_lt, ℕ_discrete}
 use native.Mathlib.Omega.{arith}
 use Rattle.theory_schedule.specs.Schedules.{Possible, reached}
@@ -114,8 +114,8 @@ module _ (net : ℕ → Demand) (T : ℕ) where
     apart a b e ne = rw (own a pos e) (go (dec_lt b T) ne)
       where
         go : (d : Dec (b < T)) → a ≢ ite d b (b - T) → Free (net a) (ite d (net b) (poisoned (net (b - T)))) × Free (ite d (net b) (poisoned (net (b - T)))) (net a)
-        go (yes p) n = (free a b n, free b a (Ne·symm n))
-        go (no p) n = (free-to (net a) (net (b - T)) (free a (b - T) n), free-from (net (b - T)) (net a) (free (b - T) a (Ne·symm n)))
+        go (yes p) n = (free a b n, free b a (Ne-symm n))
+        go (no p) n = (free-to (net a) (net (b - T)) (free a (b - T) n), free-from (net (b - T)) (net a) (free (b - T) a (Ne-symm n)))
 
     pub part-diamond : (cap : ℕ → ℕ) → Part-diamond plain (enabled twinned cap) (next twinned cap) (output twinned cap)
     part-diamond cap =
@@ -136,7 +136,7 @@ pop-dry m l q e = go (ℕ_discrete l m)
 
 appends-dry : (es : List (ℕ × Token)) (l : ℕ) (q : Links) → Not-among es l → q l ≡ [] → appends es q l ≡ []
 appends-dry [] l q n e = e
-appends-dry (x ∷ es) l q n e = appends-dry es l (append x.0 x.1 q) n.1 (append-other x.0 l x.1 q (Ne·symm n.0) ∙ e)
+appends-dry (x ∷ es) l q n e = appends-dry es l (append x.0 x.1 q) n.1 (append-other x.0 l x.1 q (Ne-symm n.0) ∙ e)
 
 pub act-dry : (d : Demand) (l : ℕ) (q : Links) → Never-emits d l → q l ≡ [] → act d q l ≡ []
 act-dry (ask m k) l q n e = act-dry (k (head (q m))) l (pop m q) (n (head (q m))) (pop-dry m l q e)

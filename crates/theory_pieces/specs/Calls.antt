@@ -4,7 +4,7 @@
 -- Assumes besides `Made` that the source is used by push alone and the credit link by push and take alone.
 use Rattle.std.specs.Prelude.{ℕ, zero, suc, ◌<◌, ◌≤◌, ◌+◌, ◌≡◌, refl, ◌≢◌, ◌⊎◌, List, [], ◌∷◌, ◌++◌, length, take, drop}
 use Rattle.std.proofs.Common.{sym, ◌∙◌, ap, subst, inl, inr, take-append-drop, length-append, arith}
-use Rattle.std.proofs.Math.Logic.{Ne·symm}
+use Rattle.std.proofs.Math.Logic.{Ne-symm}
 use Rattle.std.proofs.Math.Option.{Option}
 use Rattle.std.proofs.Math.Decide.{ℕ_discrete, dec_le}
 use Rattle.theory_schedule.specs.Schedules.{Possible, reached, Diamond}
@@ -28,10 +28,10 @@ use Rattle.theory_pieces.specs.Tape.{able-set, Step, pushing, firing, taking, se
 -- A firing leaves a link that it does not use as it was.
 appends-at : (es : List (ℕ × Token)) (l : ℕ) (q : Links) → Not-among es l → appends es q l ≡ q l
 appends-at [] l q n = refl
-appends-at (e ∷ es) l q n = appends-at es l (append e.0 e.1 q) n.1 ∙ append-other e.0 l e.1 q (Ne·symm n.0)
+appends-at (e ∷ es) l q n = appends-at es l (append e.0 e.1 q) n.1 ∙ append-other e.0 l e.1 q (Ne-symm n.0)
 
 act-at : (d : Demand) (l : ℕ) (q : Links) → Never-asks d l → Never-emits d l → act d q l ≡ q l
-act-at (ask m k) l q na ne = act-at (k (head (q m))) l (pop m q) (na.1 (head (q m))) (ne (head (q m))) ∙ pop-other m l q (Ne·symm na.0)
+act-at (ask m k) l q na ne = act-at (k (head (q m))) l (pop m q) (na.1 (head (q m))) (ne (head (q m))) ∙ pop-other m l q (Ne-symm na.0)
 act-at (fire es r) l q na ne = appends-at es l q ne
 act-at halt l q na ne = refl
 
@@ -231,7 +231,7 @@ module _ (graph : ℕ → Demand) (p k source credit : ℕ) (P : Piece) (M : Mea
       go : Can p (led w tape) ⊎ Can k (led w tape) → Able cap (fire ((credit, val true-value) ∷ onto P.ins v) []) (standing w)
       go (inl en) =
           without-tape [] (fire ((credit, val true-value) ∷ onto P.ins v) []) (standing w) tt
-          (Ne·symm A.source-no-credit, onto-apart source P.ins v A.source-no-input)
+          (Ne-symm A.source-no-credit, onto-apart source P.ins v A.source-no-input)
           (drawn-able cap source P.ins v [] (standing w) (λ es. fire ((credit, val true-value) ∷ es) []) f
           (event-able w tape (tokens-of v ++ []) there p (push-demand source credit P.ins) (machine-push graph p k source credit P.ins P.outs) en))
       go (inr en) =

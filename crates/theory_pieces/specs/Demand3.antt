@@ -4,7 +4,7 @@
 use Rattle.std.specs.Prelude.{ℕ, suc, ◌<◌, ◌≤◌, ◌+◌, ◌≡◌, refl, ◌≢◌, ◌⊎◌, length}
 use Rattle.std.proofs.Math.Path.{sym, ap}
 use Rattle.std.proofs.Common.{◌∙◌, subst, inl, inr, length-append, arith}
-use Rattle.std.proofs.Math.Logic.{if_pos, if_neg, Ne·symm}
+use Rattle.std.proofs.Math.Logic.{if_pos, if_neg, Ne-symm}
 use mathlib.Core.List.{List, [], ◌∷◌, ◌++◌}
 use Rattle.std.proofs.Math.Option.{none, some}
 use Rattle.std.proofs.Math.Decide.{ℕ_discrete}
@@ -65,9 +65,9 @@ module _ (graph : ℕ → Demand) (p k source credit : ℕ) (P : Piece) (M : Mea
       record {
         runs = (subst (λ d. Able cap d q) (sym e) (able-with-more cap roomy (graph a) q r.0), h'.runs);
         ends' = h'.ends' ∙ ap (λ d. led-to graph w (act d q)) e;
-        no-push = if_neg (ℕ_discrete p a) (Ne·symm ne.0) _ _ ∙ h.no-push;
-        no-take = if_neg (ℕ_discrete k a) (Ne·symm ne.1) _ _ ∙ h.no-take;
-        quiet = if_neg (ℕ_discrete k a) (Ne·symm ne.1) _ _ ∙ h'.quiet;
+        no-push = if_neg (ℕ_discrete p a) (Ne-symm ne.0) _ _ ∙ h.no-push;
+        no-take = if_neg (ℕ_discrete k a) (Ne-symm ne.1) _ _ ∙ h.no-take;
+        quiet = if_neg (ℕ_discrete k a) (Ne-symm ne.1) _ _ ∙ h'.quiet;
       }
 
   -- A reference: a list of events that gives these results and no other, one push and one take for each.
@@ -177,7 +177,7 @@ module _ (graph : ℕ → Demand) (p k source credit : ℕ) (P : Piece) (M : Mea
     take-to =
         ap (λ d. act d Q) (machine-take graph p k source credit P.ins P.outs B.push-not-take) ∙ ap (act (take-it graph p k source credit P M)) split ∙ taken.1
         ∙ put-set credit [] σ (base tape b) (own-src σ i credit B.credit-off)
-        ∙ ap (put σ) (set-ext credit [] (base tape b) (set_link source tape b) (set_other source credit tape b (Ne·symm B.source-not-credit) ∙ ce)
+        ∙ ap (put σ) (set-ext credit [] (base tape b) (set_link source tape b) (set_other source credit tape b (Ne-symm B.source-not-credit) ∙ ce)
         (λ j ne. set_other credit j (val true-value ∷ []) (set_link source tape b) ne))
         ∙ sym (put-set source tape σ b (own-src σ i source B.source-off))
 
@@ -190,7 +190,7 @@ module _ (graph : ℕ → Demand) (p k source credit : ℕ) (P : Piece) (M : Mea
       let l : Lift w q₁ = lift w q₁ r in
       let pt : Next p q₀ ≡ q₁ = push-to vs tape σ b fv i cl ce in
       let en₁ : reached Enabled Next Output w (Next p q₀) ≡ Q rs tape σ' b fr j cl ce = ap (reached Enabled Next Output w) pt ∙ l.ends' ∙ e in
-      let kp : k ≢ p = Ne·symm B.push-not-take in
+      let kp : k ≢ p = Ne-symm B.push-not-take in
       let tail : Possible Enabled Next Output (w ++ (k ∷ [])) (Next p q₀)
       = possible-append Enabled Next Output w (k ∷ []) (Next p q₀) (subst (Possible Enabled Next Output w) (sym pt) l.runs) (subst (λ q. Enabled k q) (sym en₁) (take_on rs tape σ' b fr j cl ce), tt) in (
         record {
@@ -236,7 +236,7 @@ module _ (graph : ℕ → Demand) (p k source credit : ℕ) (P : Piece) (M : Mea
             runs = (push-on vs tape σ b fv i cl ce, subst (Possible Enabled Next Output w) (sym (push-to vs tape σ b fv i cl ce)) l.runs);
             many = omega arith;
             few = let z : count p (p ∷ w) ≡ suc (count p w) = if_pos (ℕ_discrete p p) refl _ _ in omega (arith, l.no-push);
-            untaken = let z : count k (p ∷ w) ≡ count k w = if_neg (ℕ_discrete k p) (Ne·symm B.push-not-take) _ _ in omega (arith, l.no-take);
+            untaken = let z : count k (p ∷ w) ≡ count k w = if_neg (ℕ_discrete k p) (Ne-symm B.push-not-take) _ _ in omega (arith, l.no-take);
           }
 
   -- Each set has this result, by M.

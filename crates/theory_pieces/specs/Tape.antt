@@ -4,7 +4,7 @@
 use Rattle.std.specs.Prelude.{ℕ, suc, ◌<◌, ◌≡◌, refl, ◌≢◌, length}
 use Rattle.std.proofs.Math.Path.{sym, ap}
 use Rattle.std.proofs.Common.{◌∙◌, subst, inl, inr}
-use Rattle.std.proofs.Math.Logic.{ite, if_pos, if_neg, Ne·symm}
+use Rattle.std.proofs.Math.Logic.{ite, if_pos, if_neg, Ne-symm}
 use mathlib.Core.List.{List, [], ◌∷◌, ◌++◌}
 use Rattle.std.proofs.Math.Decide.{ℕ_discrete}
 use Rattle.theory_schedule.specs.Schedules.{Possible, reached, outputs}
@@ -25,13 +25,13 @@ module _ (cap : ℕ → ℕ) (l : ℕ) (x : List Token) where
   append-set : (m : ℕ) (t : Token) (q : Links) → m ≢ l → append m t (set_link l x q) ≡ set_link l x (append m t q)
   unfolding append
   append-set m t q ne =
-      sym (set-ext l x (append m t q) (append m t (set_link l x q)) (if_neg (ℕ_discrete l m) (Ne·symm ne) _ _ ∙ set_same l x q)
+      sym (set-ext l x (append m t q) (append m t (set_link l x q)) (if_neg (ℕ_discrete l m) (Ne-symm ne) _ _ ∙ set_same l x q)
       (λ j n. ap (λ (z : List Token). ite (ℕ_discrete j m) (z ++ (t ∷ [])) z) (sym (set_other l j x q n))))
 
   pop-set-other : (m : ℕ) (q : Links) → m ≢ l → pop m (set_link l x q) ≡ set_link l x (pop m q)
   unfolding pop
   pop-set-other m q ne =
-      sym (set-ext l x (pop m q) (pop m (set_link l x q)) (if_neg (ℕ_discrete l m) (Ne·symm ne) _ _ ∙ set_same l x q)
+      sym (set-ext l x (pop m q) (pop m (set_link l x q)) (if_neg (ℕ_discrete l m) (Ne-symm ne) _ _ ∙ set_same l x q)
       (λ j n. ap (λ (z : List Token). ite (ℕ_discrete j m) (tail z) z) (sym (set_other l j x q n))))
 
   room-set : (es : List (ℕ × Token)) (q : Links) → Not-among es l → Room cap es q → Room cap es (set_link l x q)
@@ -190,7 +190,7 @@ module _ (graph : ℕ → Demand) (push take source credit : ℕ) (ins outs : Li
     take-emits (o ∷ os) k f = λ t. take-emits os (λ ts. k (t ∷ ts)) (λ ts. f (t ∷ ts))
 
     pub asks-take : Never-asks (take-demand credit outs) source
-    asks-take = take-asks outs (λ ts. ask credit (λ u. fire [] ts)) A.source-no-result (λ ts. (Ne·symm A.source-no-credit, λ t. tt))
+    asks-take = take-asks outs (λ ts. ask credit (λ u. fire [] ts)) A.source-no-result (λ ts. (Ne-symm A.source-no-credit, λ t. tt))
 
     pub emits-take : Never-emits (take-demand credit outs) source
     emits-take = take-emits outs (λ ts. ask credit (λ u. fire [] ts)) (λ ts t. tt)
@@ -207,7 +207,7 @@ module _ (graph : ℕ → Demand) (push take source credit : ℕ) (ins outs : Li
     simulated (pushing vs ∷ w) q tape f (o, a) =
         other-first push (push-demand source credit ins) (events-of push take w) (set_link source (tokens-of vs ++ T) q) (set_link source T (act D q))
         (set_link source tape (after graph credit ins outs cap w (act D q))) (results-of graph credit ins outs cap w (act D q))
-        (machine-push graph push take source credit ins outs) (Ne·symm A.push-not-take) (h.0 (able-set cap source T D q tt apart o)) (h.1 ∙ act-set cap source T D q tt apart)
+        (machine-push graph push take source credit ins outs) (Ne-symm A.push-not-take) (h.0 (able-set cap source T D q tt apart o)) (h.1 ∙ act-set cap source T D q tt apart)
         (simulated w (act D q) tape f.1 a)
       where
         T : List Token
@@ -217,7 +217,7 @@ module _ (graph : ℕ → Demand) (push take source credit : ℕ) (ins outs : Li
         D = fire ((credit, val true-value) ∷ onto ins vs) []
 
         apart : Not-among ((credit, val true-value) ∷ onto ins vs) source
-        apart = (Ne·symm A.source-no-credit, onto-apart ins vs A.source-no-input)
+        apart = (Ne-symm A.source-no-credit, onto-apart ins vs A.source-no-input)
 
         h : (Able cap D (set_link source T q) → Able cap (push-demand source credit ins) (set_link source (tokens-of vs ++ T) q))
             × (act (push-demand source credit ins) (set_link source (tokens-of vs ++ T) q) ≡ act D (set_link source T q))
@@ -225,7 +225,7 @@ module _ (graph : ℕ → Demand) (push take source credit : ℕ) (ins outs : Li
     simulated (firing b ∷ w) q tape f (o, a) =
         other-first b (graph b) (events-of push take w) (set_link source T q) (set_link source T (act (graph b) q)) (set_link source tape (after graph credit ins outs cap w (act (graph b) q)))
         (results-of graph credit ins outs cap w (act (graph b) q))
-        (machine-graph graph push take source credit ins outs b (Ne·symm (able-not b push q A.no-push o)) (Ne·symm (able-not b take q A.no-take o)))
+        (machine-graph graph push take source credit ins outs b (Ne-symm (able-not b push q A.no-push o)) (Ne-symm (able-not b take q A.no-take o)))
         (able-not b take q A.no-take o) (able-set cap source T (graph b) q (A.graph-asks b) (A.graph-emits b) o) (act-set cap source T (graph b) q (A.graph-asks b) (A.graph-emits b))
         (simulated w (act (graph b) q) tape f a)
       where
@@ -249,7 +249,7 @@ module _ (graph : ℕ → Demand) (push take source credit : ℕ) (ins outs : Li
     counts [] q a = (refl, refl)
     counts (pushing vs ∷ w) q (o, a) =
         let h = counts w (act (fire ((credit, val true-value) ∷ onto ins vs) []) q) a in
-        (if_pos (ℕ_discrete push push) refl _ _ ∙ ap suc h.0, if_neg (ℕ_discrete take push) (Ne·symm A.push-not-take) _ _ ∙ h.1)
+        (if_pos (ℕ_discrete push push) refl _ _ ∙ ap suc h.0, if_neg (ℕ_discrete take push) (Ne-symm A.push-not-take) _ _ ∙ h.1)
     counts (firing b ∷ w) q (o, a) =
         let h = counts w (act (graph b) q) a in (
           if_neg (ℕ_discrete push b) (able-not b push q A.no-push o) _ _ ∙ h.0,

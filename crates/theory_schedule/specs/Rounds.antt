@@ -6,7 +6,7 @@ use Prim.Native.Nat.{ℕ, zero, suc, ◌+◌, ◌-◌, ◌≤◌, ◌<◌}
 use Rattle.std.specs.Prelude.{◌≡◌, ◌≢◌}
 use Rattle.std.proofs.Math.Path.{refl, ap, subst}
 use Rattle.std.proofs.Common.{sym, ◌∙◌}
-use Rattle.std.proofs.Math.Logic.{ite, if_neg, if_pos, Ne·symm}
+use Rattle.std.proofs.Math.Logic.{ite, if_neg, if_pos, Ne-symm}
 use mathlib.Core.List.{List, [], ◌∷◌, ◌++◌}
 use Rattle.std.proofs.Math.ListN.{length}
 use Rattle.std.proofs.Math.Decide.{ℕ_discrete, dec_lt}
@@ -126,7 +126,7 @@ module _ {S O : Type 0} (enabled : ℕ → S → Type 0) (next : ℕ → S → S
         go (yes p) (yes z) ih = subst (λ (c : ℕ). 0 < count c (i ∷ roundFrom k (suc i) (next i s))) (sym z) (count-own i (roundFrom k (suc i) (next i s)))
         go (yes p) (no z) ih =
             rw (if_neg (ℕ_discrete e i) z (suc (count e (roundFrom k (suc i) (next i s)))) (count e (roundFrom k (suc i) (next i s))))
-            (ih (next i s) (D.stays i e s (Ne·symm z) p h) (omega arith))
+            (ih (next i s) (D.stays i e s (Ne-symm z) p h) (omega arith))
         go (no n) (yes z) ih = absurd (n (subst (λ (c : ℕ). enabled c s) z h))
         go (no n) (no z) ih = ih s h (omega arith)
 

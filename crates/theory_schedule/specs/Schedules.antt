@@ -5,7 +5,7 @@
 -- Assumes the diamond of two events, and nothing else.
 use Rattle.std.specs.Prelude.{ℕ, ◌≡◌, refl, ◌≢◌, ◌⊎◌, List, [], ◌∷◌, ◌++◌}
 use Rattle.std.proofs.Common.{sym, ap, subst, inl, inr}
-use Rattle.std.proofs.Math.Logic.{ite, Ne·symm}
+use Rattle.std.proofs.Math.Logic.{ite, Ne-symm}
 use Rattle.std.proofs.Math.Decide.{ℕ_discrete}
 
 -- Two lists agree as far as both go.
@@ -74,7 +74,7 @@ module _ {S O : Type 0} (enabled : ℕ → S → Type 0) (next : ℕ → S → S
             Possible (ite d w (b ∷ removed-first a w)) (next a s)
         go ih (yes p) = rw p r.1
         go ih (no n) =
-            let k : enabled a (next b s) = D.stays b a s (Ne·symm n) r.0 h in
+            let k : enabled a (next b s) = D.stays b a s (Ne-symm n) r.0 h in
             (D.stays a b s n h r.0, rw (D.meets a b s n h r.0) (ih k))
 
     -- Where `a` occurs in `w`, both ways end in one state; where it does not, `a` is enabled at the end of `w` and leads there.
@@ -91,7 +91,7 @@ module _ {S O : Type 0} (enabled : ℕ → S → Type 0) (next : ℕ → S → S
         go ih (yes p) = inl (ap (λ c. reached w (next c s)) p)
         go ih (no n) =
             subst (λ t. Joined a (reached (removed-first a w) t) (reached w (next b s))) (sym (D.meets a b s n h r.0))
-            (ih (D.stays b a s (Ne·symm n) r.0 h))
+            (ih (D.stays b a s (Ne-symm n) r.0 h))
 
     -- What is left of the reference is possible where the run ends.
     pub remaining-possible : (u w : List ℕ) (s : S) → Possible u s → Possible w s → Possible (remaining u w) (reached u s)
