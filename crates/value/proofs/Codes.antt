@@ -11,9 +11,6 @@ use lib.Dec.{eqb}
 use lib.IntN.{ℤ, neg_ℤ, ◌+ℤ◌, ◌-ℤ◌, ◌*ℤ◌}
 use lib.Signed.{quot_z, rem_z}
 use lib.Ieee.{Float, binary32, add, sub, mul, div, neg}
-use types.Run.{OneOf}
-use denote.Enum.Declared.{tag_of}
-use Rattle.value.specs.contracts.Value.{the_type}
 use Rattle.value.proofs.Whole.{fit-in-range, divided-in-range}
 use Rattle.value.proofs.Floats.{real-in-range}
 use Rattle.value.specs.declared.Reason.{Reason}
@@ -141,15 +138,15 @@ apply-in-range c a b =
 
 -- ---- what this crate's functions cite: a value whose variant was tested and is not the one wanted
 
--- The tags of the variants but one.
+-- Values of any variant but one.
 abbrev NotWhole : Value → Type 0
-NotWhole v = OneOf (1 ∷ 2 ∷ 3 ∷ []) (tag_of the_type v)
+NotWhole v = (x : ℤ) → v ≡ Whole x → ⊥
 
 abbrev NotReal : Value → Type 0
-NotReal v = OneOf (0 ∷ 1 ∷ 2 ∷ []) (tag_of the_type v)
+NotReal v = (x : Float) → v ≡ Real x → ⊥
 
 abbrev NotTruth : Value → Type 0
-NotTruth v = OneOf (0 ∷ 2 ∷ 3 ∷ []) (tag_of the_type v)
+NotTruth v = (x : Bool) → v ≡ Truth x → ⊥
 
 module _ (c : ℕ) (a b : Value) where
   -- Operands that no operator of two numbers takes.
@@ -167,14 +164,14 @@ module _ (c : ℕ) (a b : Value) where
 module _ (c : ℕ) (l : 1 ≤ c) (u : c ≤ 7) where
   pub whole-beside : (x : ℤ) (b : Value) → NotWhole b → apply c (Whole x) b ≡ hand_on (Whole x) b
   unfolding numbers wholes
-  whole-beside x (Whole y) h = absurd (⊎_elim (λ (e : ◌≡◌ {A = ℕ} 0 1). omega arith) (⊎_elim (λ (e : ◌≡◌ {A = ℕ} 0 2). omega arith) (λ (e : ◌≡◌ {A = ℕ} 0 3). omega arith)) h)
+  whole-beside x (Whole y) h = absurd (h y refl)
   whole-beside x (Truth y) h = numbers-err c (Whole x) (Truth y) l u (λ f g. refl) refl
   whole-beside x (Err s) h = numbers-err c (Whole x) (Err s) l u (λ f g. refl) refl
   whole-beside x (Real y) h = numbers-err c (Whole x) (Real y) l u (λ f g. refl) refl
 
   pub real-beside : (x : Float) (b : Value) → NotReal b → apply c (Real x) b ≡ hand_on (Real x) b
   unfolding numbers wholes
-  real-beside x (Real y) h = absurd (⊎_elim (λ (e : ◌≡◌ {A = ℕ} 3 0). omega arith) (⊎_elim (λ (e : ◌≡◌ {A = ℕ} 3 1). omega arith) (λ (e : ◌≡◌ {A = ℕ} 3 2). omega arith)) h)
+  real-beside x (Real y) h = absurd (h y refl)
   real-beside x (Truth y) h = numbers-err c (Real x) (Truth y) l u (λ f g. refl) refl
   real-beside x (Err s) h = numbers-err c (Real x) (Err s) l u (λ f g. refl) refl
   real-beside x (Whole y) h = numbers-err c (Real x) (Whole y) l u (λ f g. refl) refl
@@ -189,7 +186,7 @@ module _ (c : ℕ) (l : 1 ≤ c) (u : c ≤ 7) where
 
 pub not-no-truth : (a b : Value) → NotTruth a → apply 10 a b ≡ hand_on_one a
 unfolding apply
-not-no-truth (Truth x) b h = absurd (⊎_elim (λ (e : ◌≡◌ {A = ℕ} 1 0). omega arith) (⊎_elim (λ (e : ◌≡◌ {A = ℕ} 1 2). omega arith) (λ (e : ◌≡◌ {A = ℕ} 1 3). omega arith)) h)
+not-no-truth (Truth x) b h = absurd (h x refl)
 not-no-truth (Whole x) b h = refl
 not-no-truth (Real x) b h = refl
 not-no-truth (Err r) b h = refl
@@ -200,10 +197,10 @@ unfolding number
 negate-no-number (Truth x) n h = refl
 negate-no-number (Err r) n h = refl
 negate-no-number (Whole x) n h = absurd n
-negate-no-number (Real x) n h = absurd (⊎_elim (λ (e : ◌≡◌ {A = ℕ} 3 0). omega arith) (⊎_elim (λ (e : ◌≡◌ {A = ℕ} 3 1). omega arith) (λ (e : ◌≡◌ {A = ℕ} 3 2). omega arith)) h)
+negate-no-number (Real x) n h = absurd (h x refl)
 
 pub not-whole : (a : Value) → NotWhole a → NoWhole a
-not-whole (Whole x) h = absurd (⊎_elim (λ (e : ◌≡◌ {A = ℕ} 0 1). omega arith) (⊎_elim (λ (e : ◌≡◌ {A = ℕ} 0 2). omega arith) (λ (e : ◌≡◌ {A = ℕ} 0 3). omega arith)) h)
+not-whole (Whole x) h = absurd (h x refl)
 not-whole (Truth x) h = tt
 not-whole (Real x) h = tt
 not-whole (Err r) h = tt
