@@ -72,6 +72,7 @@ module _ (a b c g : Decoded) (r : Row) (e : r.holds a b c ≡ true) where
   some_holds : (rs : List Row) → Among r rs → 1 ≤ holding rs a b c
   some_holds (x ∷ rs) (inl p) = let o : ◌≡◌ {A = ℕ} (cond (x.holds a b c) 1 0) 1 = (rw (p, e) refl) in omega arith
   some_holds (x ∷ rs) (inr m) = let h = some_holds rs m in omega arith
+  some_holds [] x' = elim x' [ ]
 
   that-row : (rs : List Row) → Among r rs → holding rs a b c ≤ 1 → first_row rs a b c g ≡ r.acts g
   that-row (x ∷ rs) (inl p) h = rw (p, e) refl
@@ -80,6 +81,7 @@ module _ (a b c g : Decoded) (r : Row) (e : r.holds a b c ≡ true) where
       go : (t : Bool) → x.holds a b c ≡ t → (holding rs a b c ≤ 1 → first_row rs a b c g ≡ r.acts g) → first_row (x ∷ rs) a b c g ≡ r.acts g
       go true q ih = absurd (let o : ◌≡◌ {A = ℕ} (cond (x.holds a b c) 1 0) 1 = (rw q refl) in omega (arith, h, some_holds rs m))
       go false q ih = let o : ◌≡◌ {A = ℕ} (cond (x.holds a b c) 1 0) 0 = (rw q refl) in rw q (ih (omega (arith, h)))
+  that-row [] x'' h = elim x'' [ ]
 
 pub at_most_one : (a b c g : Decoded) → holding table a b c ≤ 1
 at_most_one a b c g = go (decide_at 18 a b c g).able (exactly-one a b c g)
