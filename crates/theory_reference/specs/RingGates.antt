@@ -2,7 +2,7 @@
 -- true control FM takes the iterated value and FS repeats what it remembers. Its register then holds a value, FS's the one it passed on.
 use Rattle.std.specs.Prelude.{ℕ, ◌+◌, ◌≡◌, refl, ◌≢◌, ◌⊎◌, Bool, true, false, cond, List, [], ◌∷◌}
 use Rattle.std.proofs.Common.{sym, ◌∙◌, ap, subst, inl, inr, arith}
-use Rattle.std.proofs.Math.Logic.{Ne·symm}
+use Rattle.std.proofs.Math.Logic.{Ne-symm}
 use Rattle.std.proofs.lemmas.Bool.{false≢true}
 use Rattle.std.proofs.Math.Option.{some}
 use Rattle.value.specs.declared.Value.{Value}
@@ -77,7 +77,7 @@ module _ (net : Net) (b : Bool) (c e o : ℕ) (v w : Value) (keeps : b ≡ false
       Works net (Touched c e o) 1 (Passed b c e o v) s
   fresh-fires d t at k sr se so sc =
       done xs sub (no off) (yes (inr (inl refl))) (λ i. sc) (λ i. absurd (i (inr (inl refl))))
-      (fires-at net d xs given s at k (distinct-two (r, some t) (e, some (val v)) (Ne·symm er)) given-distinct (sr, (se, tt)) (room xs (inl refl) so))
+      (fires-at net d xs given s at k (distinct-two (r, some t) (e, some (val v)) (Ne-symm er)) given-distinct (sr, (se, tt)) (room xs (inl refl) so))
     where
       xs : Load
       xs = (r, some t) ∷ (e, some (val v)) ∷ []
@@ -97,7 +97,7 @@ module _ (net : Net) (b : Bool) (c e o : ℕ) (v w : Value) (keeps : b ≡ false
       Works net (Touched c e o) 1 (Passed b c e o v) s
   both-fire d t u at k sr sc se so =
       done xs sub (yes (inr (inl refl))) (yes (inr (inr (inl refl)))) (λ i. absurd (i (inr (inl refl)))) (λ i. absurd (i (inr (inr (inl refl)))))
-      (fires-at net d xs given s at k (distinct-three (r, some t) (c, some u) (e, some (val v)) (Ne·symm cr) (Ne·symm er) ce) given-distinct (sr, (sc, (se, tt))) (room xs (inl refl) so))
+      (fires-at net d xs given s at k (distinct-three (r, some t) (c, some u) (e, some (val v)) (Ne-symm cr) (Ne-symm er) ce) given-distinct (sr, (sc, (se, tt))) (room xs (inl refl) so))
     where
       xs : Load
       xs = (r, some t) ∷ (c, some u) ∷ (e, some (val v)) ∷ []
@@ -185,4 +185,4 @@ again-repeats net c i st ow o w s at co cr sc so sr =
     h : Fired net s xs es
     h =
         fires-at net (demand_of (ring_gate false c i st ow o)) xs es s at (0, val w, (refl, refl), (1, val true-value, (refl, refl), ((refl, (refl, tt)), refl)))
-        (distinct-two (r, some (val w)) (c, some (val true-value)) (Ne·symm cr)) (distinct-two (o, some (val w)) (r, some (val w)) (omega arith)) (sr, (sc, tt)) room
+        (distinct-two (r, some (val w)) (c, some (val true-value)) (Ne-symm cr)) (distinct-two (o, some (val w)) (r, some (val w)) (omega arith)) (sr, (sc, tt)) room

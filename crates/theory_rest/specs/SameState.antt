@@ -2,7 +2,7 @@
 -- Assumes the diamond (theory_schedule/specs/Schedules).
 use Rattle.std.specs.Prelude.{ℕ, suc, ◌<◌, ◌-◌, ◌≡◌, refl, List, [], ◌∷◌}
 use Rattle.std.proofs.Common.{◌∙◌, ap, arith}
-use Rattle.std.proofs.Math.Logic.{ite, if_pos, Ne·symm}
+use Rattle.std.proofs.Math.Logic.{ite, if_pos, Ne-symm}
 use Rattle.std.proofs.Math.Decide.{ℕ_discrete}
 use Rattle.theory_schedule.specs.Schedules.{removed-first, removed-first-possible, Possible, reached, Diamond}
 use Rattle.theory_schedule.specs.Counts.{count, count-remaining}
@@ -31,7 +31,7 @@ module _ {S O : Type 0} (enabled : ℕ → S → Type 0) (next : ℕ → S → S
       go ih (yes p) m = ap (λ (z : ℕ). reached enabled next output w (next z s)) p
       go ih (no n) m =
           ap (reached enabled next output (removed-first a w)) (D.meets a b s n h r.0)
-          ∙ ih (D.stays b a s (Ne·symm n) r.0 h) m
+          ∙ ih (D.stays b a s (Ne-symm n) r.0 h) m
 
   pub same-state : (u w : List ℕ) (s : S) → Possible enabled next output u s → Possible enabled next output w s → ((e : ℕ) → count e u ≡ count e w)
       → reached enabled next output u s ≡ reached enabled next output w s

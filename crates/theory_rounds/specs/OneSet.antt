@@ -4,7 +4,7 @@
 use Rattle.std.specs.Prelude.{ℕ, ◌≤◌, ◌≡◌, ◌≢◌}
 use Rattle.std.proofs.Math.Path.{refl, sym, ap}
 use Rattle.std.proofs.Common.{◌∙◌, subst, inl, inr}
-use Rattle.std.proofs.Math.Logic.{Ne·symm}
+use Rattle.std.proofs.Math.Logic.{Ne-symm}
 use mathlib.Core.List.{List, [], ◌∷◌, ◌++◌}
 use Rattle.std.proofs.Math.Option.{Option, some}
 use Rattle.theory_schedule.specs.Schedules.{Possible, reached}
@@ -143,7 +143,7 @@ module _ (graph : ℕ → Demand) (p k source credit : ℕ) (P : Piece) (M : Mea
         let nk = able-not a k whole B.take-apart o in
         let free : Free taking-set (graph a) =
         subst (λ d. Free d (graph a)) (machine-take graph p k source credit P.ins P.outs B.push-not-take)
-        (subst (Free (net-at k)) (machine-graph graph p k source credit P.ins P.outs a np nk) (F.free k a (Ne·symm nk))) in
+        (subst (Free (net-at k)) (machine-graph graph p k source credit P.ins P.outs a np nk) (F.free k a (Ne-symm nk))) in
         still σ i a (subst (Able cap (graph a)) take-leads (stays cap taking-set (graph a) whole free takable o))
       where
         net-at : ℕ → Demand
