@@ -50,6 +50,7 @@ sheets-among (suc n) rs h =
         each : (j : ℕ) → j < suc n → Among (get_or (row ∷ rest) j []) small_rows
         each zero u = a
         each (suc j) u = i.listed j (omega arith)
+sheets-among zero rs (inr x'') = elim x'' [ ]
 
 -- Its rows are five numbers each.
 pub listed-rows : (n : ℕ) (rs : List (List ℕ)) → RowsListed n rs → Rows rs

@@ -70,6 +70,7 @@ following-least (x ∷ l) h g y i = go (same x g) refl i (following-least l h.1 
 headed-last : (x g : List ℕ) (l : List (List ℕ)) → x ≡ g → headed l ≡ none-behind → (u : List ℕ) → Among u (x ∷ l) → Precedes g u → ⊥
 headed-last x g [] e i u (inl p) b = not_itself g (subst (Precedes g) (p ∙ e) b)
 headed-last x g (z ∷ l) e i u a b = next-none z i
+headed-last x g [] e i u (inr x7) b = elim x7 [ ]
 
 following-last : (l : List (List ℕ)) → Ordered Precedes l → (g : List ℕ) → following l g ≡ none-behind → Among g l × ((u : List ℕ) → Among u l → Precedes g u → ⊥)
 unfolding following
