@@ -2,7 +2,6 @@ use mathlib.Core.Path.{sym, ◌∙◌, ap, refl, ◌≡◌}
 use mathlib.Core.Bool.{true, false}
 use native.Mathlib.Omega.{arith}
 use Prim.Native.Nat.{◌+◌, ◌-◌, ◌*◌}
-use borrow.Author.Tests.{not-true, not-false}
 use Rattle.formula.specs.Tests.{fields_well, line_at}
 use Rattle.formula.specs.TestLaws.{starts, goes_on, stops, ends}
 use lib.Seq.{paste, paste-zero, sets}
@@ -20,7 +19,7 @@ decode_row-requires c = omega arith
 pub returns-then-not-decode_row : goal.returns-then-not-decode_row
 returns-then-not-decode_row c =
     let w = fields_well (lines_of c.args.s.now) in
-    let e : w (c.loop-i.i + 1) ≡ false = sym c.decode_row.ensures.0 ∙ not-true c.decode_row.result c.if-not-decode_row.true in (
+    let e : w (c.loop-i.i + 1) ≡ false = sym c.decode_row.ensures.0 ∙ c.if-not-decode_row.true in (
       sym (stops c.args.n c.loop-i.i w c.loop-i-test.true e) ∙ c.loop-i.invariant.1,
       c.decode_row.ensures.1 ∙ ap (λ t. sets t (5 * c.loop-i.i) (line_fields (line_at (lines_of c.args.s.now) (c.loop-i.i + 1)))) c.loop-i.invariant.2 ∙ decoded-more c.args.s.now c.args.fields.now c.loop-i.i (omega arith) (omega arith),
     )
@@ -28,11 +27,11 @@ returns-then-not-decode_row c =
 pub loop-i-preserved : goal.loop-i-preserved
 loop-i-preserved c =
     let w = fields_well (lines_of c.args.s.now) in
-    let e : w (c.loop-i.i + 1) ≡ true = sym c.decode_row.ensures.0 ∙ not-false c.decode_row.result c.if-not-decode_row.false in (
+    let e : w (c.loop-i.i + 1) ≡ true = sym c.decode_row.ensures.0 ∙ c.if-not-decode_row.false in (
       omega arith,
       goes_on c.args.n c.loop-i.i w c.loop-i-test.true e ∙ c.loop-i.invariant.1,
       c.decode_row.ensures.1 ∙ ap (λ t. sets t (5 * c.loop-i.i) (line_fields (line_at (lines_of c.args.s.now) (c.loop-i.i + 1)))) c.loop-i.invariant.2 ∙ decoded-more c.args.s.now c.args.fields.now c.loop-i.i (omega arith) (omega arith),
-      c.decode_row.auto.fields.1.0 ∙ c.loop-i.invariant.3,
+      c.decode_row.auto.fields ∙ c.loop-i.invariant.3,
     )
 
 pub returns : goal.returns

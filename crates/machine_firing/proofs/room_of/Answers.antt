@@ -1,0 +1,14 @@
+use native.Mathlib.Omega.{arith}
+use mathlib.Core.Path.{◌≡◌}
+use Prim.Native.Nat.{◌+◌, ◌-◌}
+use borrow.Author.Tests.{lt-ltb, le-ltb}
+use Rattle.machine_firing.specs.Links.{room_from}
+use Rattle.machine_firing.proofs.room_of.Goals as goal
+
+pub returns-then-l-lt-LINKS : goal.returns-then-l-lt-LINKS
+unfolding room_from
+returns-then-l-lt-LINKS c = let k : c.link_from-a.result + c.args.size - c.link_from-a.result ≡ c.args.size = omega arith in simp (lt-ltb c.args.l 3105 c.if-l-lt-LINKS.true) (rw (k, c.link_from-a.ensures.0) at c.room.ensures)
+
+pub returns : goal.returns
+unfolding room_from
+returns c = simp (le-ltb c.args.l 3105 c.if-l-lt-LINKS.false)

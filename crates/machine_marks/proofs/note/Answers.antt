@@ -1,0 +1,15 @@
+use native.Mathlib.Omega.{arith}
+use mathlib.Core.Path.{sym, ◌∙◌}
+use mathlib.Core.Bool.{true, false, false≢true}
+use borrow.Author.Tests.{leb-true}
+use Rattle.machine_marks.specs.Users.{noted-none, noted-set}
+use Rattle.machine_marks.proofs.note.Goals as goal
+
+pub returns-then-users-at : goal.returns-then-users-at
+returns-then-users-at c = noted-none c.args.users.now c.args.l c.args.side c.args.j _ (λ e. leb-true 3105 c.args.l e)
+
+pub returns-then-user_number-eq-NO_USER : goal.returns-then-user_number-eq-NO_USER
+returns-then-user_number-eq-NO_USER c = noted-set c.args.users.now c.args.l c.args.side c.args.j (sym c.user_number.ensures.0 ∙ c.if-user_number-eq-NO_USER.true) (omega arith)
+
+pub returns : goal.returns
+returns c = noted-none c.args.users.now c.args.l c.args.side c.args.j false (λ e. absurd (false≢true e))

@@ -1,0 +1,42 @@
+use Prim.Native.Nat.{◌-◌}
+use native.Mathlib.Omega.{arith}
+use mathlib.Core.Path.{◌≡◌}
+use mathlib.Core.Logic.{⊎_elim}
+use Rattle.machine_tag_runs.specs.TagMarks.{least-one, least-new, least_kept}
+use Rattle.machine_tag_runs.proofs.least_pair.Goals as goal
+
+pub bounds-firsts-0 : goal.bounds-firsts-0
+bounds-firsts-0 c = omega arith
+
+pub loop-t-init : goal.loop-t-init
+loop-t-init c = (omega arith, omega arith, least-one c.args.firsts.now)
+
+pub offset_bounds-firsts-t : goal.offset_bounds-firsts-t
+offset_bounds-firsts-t c = omega arith
+
+pub bounds-firsts-t : goal.bounds-firsts-t
+bounds-firsts-t c = omega arith
+
+pub offset_bounds-firsts-t-then-firsts-t : goal.offset_bounds-firsts-t-then-firsts-t
+offset_bounds-firsts-t-then-firsts-t c = omega arith
+
+pub bounds-firsts-t-then-firsts-t : goal.bounds-firsts-t-then-firsts-t
+bounds-firsts-t-then-firsts-t c = omega arith
+
+pub overflow_add-t : goal.overflow_add-t
+overflow_add-t c = omega arith
+
+pub loop-t-smaller : goal.loop-t-smaller
+loop-t-smaller c = omega arith
+
+pub loop-t-preserved : goal.loop-t-preserved
+loop-t-preserved c = (
+  omega arith,
+  omega arith,
+  ⊎_elim (λ l. rw l.2 (least-new c.args.firsts.now c.loop-t.t c.loop-t.v c.loop-t.invariant.2 l.0.taken))
+      (λ r. rw r.1 (least_kept c.args.firsts.now c.loop-t.t c.loop-t.v c.loop-t.invariant.2 r.0.left))
+      c.if-firsts-t.branch,
+)
+
+pub returns : goal.returns
+returns c = let e : c.loop-t.t ≡ 16 = omega arith in (rw e at c.loop-t.invariant.2)

@@ -1,0 +1,19 @@
+use borrow.Author.Tests.{eq-eqb, ne_eqb, lt-ltb, le-ltb}
+use Rattle.machine_valid.specs.Ports.{away, apart}
+use Rattle.machine_valid.proofs.are_three.Goals as goal
+
+pub returns-then-links-z : goal.returns-then-links-z
+unfolding apart
+returns-then-links-z c = simp (le-ltb c.args.z c.args.links c.if-links-z.true)
+
+pub returns-then-z-y : goal.returns-then-z-y
+unfolding apart away
+returns-then-z-y c = simp (lt-ltb c.args.z c.args.links c.if-links-z.false, eq-eqb c.args.z c.args.y c.if-z-y.true)
+
+pub returns-then-z-x : goal.returns-then-z-x
+unfolding apart away
+returns-then-z-x c = simp (lt-ltb c.args.z c.args.links c.if-links-z.false, ne_eqb c.args.z c.args.y c.if-z-y.false, eq-eqb c.args.z c.args.x c.if-z-x.true)
+
+pub returns : goal.returns
+unfolding apart away
+returns c = simp (lt-ltb c.args.z c.args.links c.if-links-z.false, ne_eqb c.args.z c.args.y c.if-z-y.false, ne_eqb c.args.z c.args.x c.if-z-x.false) c.are_two.ensures

@@ -1,0 +1,16 @@
+use mathlib.Core.Path.{sym, ◌∙◌}
+use mathlib.Core.List.{[], ◌∷◌}
+use Rattle.machine_layout.specs.Layout.{name_at}
+use Rattle.machine_valid.specs.Ports.{shaped-linked, shaped-not, one-not, one_none}
+use Rattle.machine_valid.proofs.one_to_two.Goals as goal
+
+pub returns-then-name_at-ne-NOWHERE : goal.returns-then-name_at-ne-NOWHERE
+returns-then-name_at-ne-NOWHERE c = shaped-not c.args.links (name_at c.args.mem.now c.args.at 4 ∷ name_at c.args.mem.now c.args.at 3 ∷ name_at c.args.mem.now c.args.at 0 ∷ []) (name_at c.args.mem.now c.args.at 5 ∷ name_at c.args.mem.now c.args.at 2 ∷ name_at c.args.mem.now c.args.at 1 ∷ []) (one-not (name_at c.args.mem.now c.args.at 5) (name_at c.args.mem.now c.args.at 2 ∷ name_at c.args.mem.now c.args.at 1 ∷ []) (λ e. c.if-name_at-ne-NOWHERE.true (c.name_at.ensures.0 ∙ e)))
+
+pub returns-then-not-both_none : goal.returns-then-not-both_none
+returns-then-not-both_none c = shaped-not c.args.links (name_at c.args.mem.now c.args.at 4 ∷ name_at c.args.mem.now c.args.at 3 ∷ name_at c.args.mem.now c.args.at 0 ∷ []) (name_at c.args.mem.now c.args.at 5 ∷ name_at c.args.mem.now c.args.at 2 ∷ name_at c.args.mem.now c.args.at 1 ∷ []) (one_none (name_at c.args.mem.now c.args.at 5) (name_at c.args.mem.now c.args.at 2 ∷ name_at c.args.mem.now c.args.at 1 ∷ []) (sym c.name_at.ensures.0 ∙ c.if-name_at-ne-NOWHERE.false) ∙ (sym c.both_none.ensures ∙ c.if-not-both_none.true))
+
+pub returns : goal.returns
+returns c =
+    (rw (c.name_at-2.ensures.0, c.name_at-3.ensures.0, c.name_at-4.ensures.0) at c.are_three.ensures)
+    ∙ shaped-linked c.args.links (name_at c.args.mem.now c.args.at 4 ∷ name_at c.args.mem.now c.args.at 3 ∷ name_at c.args.mem.now c.args.at 0 ∷ []) (name_at c.args.mem.now c.args.at 5 ∷ name_at c.args.mem.now c.args.at 2 ∷ name_at c.args.mem.now c.args.at 1 ∷ []) (one_none (name_at c.args.mem.now c.args.at 5) (name_at c.args.mem.now c.args.at 2 ∷ name_at c.args.mem.now c.args.at 1 ∷ []) (sym c.name_at.ensures.0 ∙ c.if-name_at-ne-NOWHERE.false) ∙ (sym c.both_none.ensures ∙ c.if-not-both_none.false))

@@ -1,0 +1,32 @@
+use native.Mathlib.Omega.{arith}
+use mathlib.Core.Path.{refl, sym, ◌∙◌}
+use mathlib.Core.Logic.{⊎_elim}
+use Rattle.machine_layout.specs.Layout.{name_at}
+use Rattle.machine_valid.specs.Ports.{binary, unary, selector, control, merge, copies, two-to-one, one-to-one, one-to-two, three-to-one, no_kind, past-kinds}
+use Rattle.machine_valid.proofs.ports_ok.Goals as goal
+
+pub returns-in-13 : goal.returns-in-13
+returns-in-13 c = c.one_to_two.ensures ∙ sym (one-to-two c.args.kind c.args.links (name_at c.args.mem.now c.args.at) (copies c.args.kind c.in-13.is))
+
+pub returns-in-16 : goal.returns-in-16
+returns-in-16 c = c.three_to_one.ensures ∙ sym (three-to-one c.args.kind c.args.links (name_at c.args.mem.now c.args.at) (merge c.args.kind c.in-16.is))
+
+pub returns-in-18 : goal.returns-in-18
+returns-in-18 c = c.three_to_three.ensures ∙ sym (rw c.in-18.is refl)
+
+pub returns-in-10-to-12 : goal.returns-in-10-to-12
+returns-in-10-to-12 c = c.one_to_one.ensures ∙ sym (one-to-one c.args.kind c.args.links (name_at c.args.mem.now c.args.at) (unary c.args.kind c.in-10-to-12.if-kind-lt10-own.false (omega (arith, c.in-10-to-12.if-kind-lt13-own.true))))
+
+pub returns-in_default : goal.returns-in_default
+returns-in_default c = no_kind c.args.kind c.args.links (name_at c.args.mem.now c.args.at) c.in_default.if-kind-lt1-own.true
+
+pub returns-in_default-2 : goal.returns-in_default-2
+returns-in_default-2 c = past-kinds c.args.kind c.args.links (name_at c.args.mem.now c.args.at) c.in_default.if-kind-lt16-own.false c.in_default.in_default-own.rest.0.1 c.in_default.in_default-own.rest.0.0.0.1 c.in_default.in_default-own.rest.1
+
+pub returns-in-1-to-9 : goal.returns-in-1-to-9
+returns-in-1-to-9 c =
+    c.two_to_one.ensures
+    ∙ sym (two-to-one c.args.kind c.args.links (name_at c.args.mem.now c.args.at)
+    (⊎_elim (λ w. control c.args.kind w.keys1)
+    (⊎_elim (λ w. binary c.args.kind w.1.left (omega (arith, w.2.taken))) (λ w. selector c.args.kind w.3.left w.0.rest.0.0.1 w.4.taken))
+    c.in-1-to-9-1.branch))

@@ -1,0 +1,10 @@
+use native.Mathlib.Omega.{arith}
+use Prim.Native.Nat.{ℕ, ◌+◌}
+use mathlib.Core.Path.{◌∙◌, ap}
+use mathlib.Core.List.{List}
+use lib.ListN.{set}
+use Rattle.text.specs.PrintLaws.{spaces-put, letter-parts}
+use Rattle.text_print.proofs.put_letter.Goals as goal
+
+pub returns : goal.returns
+returns c = ap (λ (x : List ℕ). set x (c.args.at + 10) c.args.letter) (spaces-put c.args.out.now c.spaces.new.part c.args.at 10 (omega arith) c.spaces.ensures) ∙ letter-parts c.args.out.now c.args.at c.args.letter c.requires
