@@ -1,0 +1,11 @@
+use mathlib.Core.Path.{refl, sym, ap, ◌∙◌}
+use Rattle.machine_layout.specs.Record.{placed}
+use Rattle.maker_laid.specs.Emitted.{gate_record}
+use Rattle.maker_parts.specs.Parts.{operator-encoded}
+use Prim.Native.Nat.{ℕ}
+use lib.ListN.{get_or}
+use native.Mathlib.Omega.{arith}
+use Rattle.maker_parts.proofs.applied.Goals as goal
+
+pub returns : goal.returns
+returns c = record { memory = c.store_operator.ensures ∙ ap (placed c.args.mem.now c.args.x.next.operator) (c.gate_of-o.ensures ∙ ap (λ (z : ℕ). gate_record c.args.code (get_or c.args.x.outs 0 0) z 65535 c.args.x.next.link) c.second_of.ensures ∙ sym (operator-encoded c.args.code c.args.x.next.link c.args.x.count c.args.x.outs c.requires.1.0 c.requires.1.1 c.requires.2)); count = refl; link = refl; long = omega arith; links = refl; operators = refl }
