@@ -1,0 +1,5 @@
+use mathlib.Core.Path.{refl}
+use Rattle.machine_log.proofs.refused.Goals as goal
+
+pub returns : goal.returns
+returns c = rw c.refusal_number.ensures refl
