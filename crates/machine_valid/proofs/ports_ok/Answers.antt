@@ -1,9 +1,9 @@
 use native.Mathlib.Omega.{arith}
 use mathlib.Core.Path.{refl, sym, ◌∙◌}
-use mathlib.Core.Logic.{⊎_elim}
 use Rattle.machine_layout.specs.Layout.{name_at}
 use Rattle.machine_valid.specs.Ports.{binary, unary, selector, control, merge, copies, two-to-one, one-to-one, one-to-two, three-to-one, no_kind, past-kinds}
 use Rattle.machine_valid.proofs.ports_ok.Goals as goal
+use Rattle.machine_valid.proofs.ports_ok.Goals.{in-17-1, in_default+else-kind-lt1+then-kind-lt10, in_default+else-kind-lt1+else-kind-lt10+else-kind-lt13+then-kind-lt16}
 
 pub returns-in-13 : goal.returns-in-13
 returns-in-13 c = c.one_to_two.ensures ∙ sym (one-to-two c.args.kind c.args.links (name_at c.args.mem.now c.args.at) (copies c.args.kind c.in-13.is))
@@ -27,6 +27,8 @@ pub returns-in-1-to-9 : goal.returns-in-1-to-9
 returns-in-1-to-9 c =
     c.two_to_one.ensures
     ∙ sym (two-to-one c.args.kind c.args.links (name_at c.args.mem.now c.args.at)
-    (⊎_elim (λ w. control c.args.kind w.keys1)
-    (⊎_elim (λ w. binary c.args.kind w.1.left (omega (arith, w.2.taken))) (λ w. selector c.args.kind w.3.left w.0.rest.0.0.1 w.4.taken))
-    c.in-1-to-9-1.branch))
+    (elim c.in-1-to-9-1.branch [
+      | in-17-1 w ↦ control c.args.kind w.in-17-1.keys1
+      | in_default+else-kind-lt1+then-kind-lt10 w ↦ binary c.args.kind (omega arith) (omega arith)
+      | in_default+else-kind-lt1+else-kind-lt10+else-kind-lt13+then-kind-lt16 w ↦ selector c.args.kind (omega arith) (omega arith) (omega arith)
+    ]))

@@ -13,7 +13,7 @@ pub loop-rest-smaller : goal.loop-rest-smaller
 loop-rest-smaller c = c.next-turn.ensures.less
 
 pub loop-rest-preserved : goal.loop-rest-preserved
-loop-rest-preserved c = (c.next-turn.ensures.masked, omega (arith, c.next-turn.ensures.shorter), omega (arith, c.next-turn.ensures.shorter), search rules, search rules, c.loop-rest.invariant.5, c.loop-rest.invariant.6, c.loop-rest.invariant.7, c.loop-rest.invariant.8, c.loop-rest.invariant.9, ring-again c.args.ids c.args.t5 c.args.t6 c.args.t7 c.args.t8 c.args.t9 c.loop-rest.rest c.next-turn.result.name c.next-turn.result.rest c.next-turn.ensures c.loop-rest.mem c.args.m c.loop-rest.k _ _ _ _ (omega (arith, c.next-turn.ensures.shorter, c.loop-rest.invariant.5)) c.store_operator.ensures c.ring_gate-o.ensures c.has.ensures c.loop-rest.invariant.10)
+loop-rest-preserved c = (c.next-turn.ensures.masked, omega (arith, c.next-turn.ensures.shorter), omega (arith, c.next-turn.ensures.shorter), search rules, search rules, c.loop-rest.invariant.5, c.loop-rest.invariant.6, c.loop-rest.invariant.7, c.loop-rest.invariant.8, c.loop-rest.invariant.9, ring-again c.args.ids c.args.controls c.args.iterated c.args.started c.args.own c.args.out c.loop-rest.rest c.next-turn.result.name c.next-turn.result.rest c.next-turn.ensures c.loop-rest.mem c.args.m c.loop-rest.k _ _ _ _ (omega (arith, c.next-turn.ensures.shorter, c.loop-rest.invariant.5)) c.store_operator.ensures c.ring_gate-o.ensures c.has.ensures c.loop-rest.invariant.10)
 
 pub returns : goal.returns
-returns c = ring-over c.args.ids c.args.t5 c.args.t6 c.args.t7 c.args.t8 c.args.t9 c.loop-rest.rest c.loop-rest.invariant.0 c.loop-rest-test.false c.loop-rest.mem _ c.loop-rest.k _ c.loop-rest.invariant.10
+returns c = ring-over c.args.ids c.args.controls c.args.iterated c.args.started c.args.own c.args.out c.loop-rest.rest c.loop-rest.invariant.0 c.loop-rest-test.false c.loop-rest.mem _ c.loop-rest.k _ c.loop-rest.invariant.10

@@ -7,6 +7,7 @@ use lib.ListN.{length, get_or, replicate}
 use Rattle.formula.specs.declared.Check.{Check}
 use Rattle.formula.specs.declared.Shape.TheVariants.{Identifier, Constant, Pair, Operator, Let, If, For, Iter}
 use Rattle.formula.specs.declared.Way.TheVariants.{Iter as iter-way, Let as let-way, If as if-way, End}
+use Rattle.formula.specs.Kinds.{same_kinds}
 use Rattle.formula.specs.Sheet.{shape_at}
 use Rattle.formula.specs.Tree.{body_of}
 use Rattle.meaning.specs.Rows.{ExpRow, ExpChildren, BodyChildren, exp-children, body-children, ending-row}

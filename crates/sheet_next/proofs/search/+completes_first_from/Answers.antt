@@ -30,7 +30,7 @@ pub completes-stands-requires : goal.completes-stands-requires
 completes-stands-requires t c = (part-size c.args.t.now c.args.r c.requires.0 (omega (arith, c.requires.3, c.requires.1, c.requires.2)), c.requires.0, omega (arith, c.requires.1, c.requires.2), part-content c.args.t.now c.args.r c.requires.0 (omega (arith, c.requires.3, c.requires.1, c.requires.2)) c.requires.4, part-front c.args.t.now c.args.r c.requires.0 (omega (arith, c.requires.3, c.requires.1, c.requires.2)) c.args.widths.now c.args.masks.now c.requires.5)
 
 pub completes-returns-then-not-stands : goal.completes-returns-then-not-stands
-completes-returns-then-not-stands t c = (fallen c.args.t.now c.args.widths.now c.args.masks.now c.args.n c.args.r c.requires.0 c.requires.1 c.requires.2 c.requires.3 c.requires.4 c.requires.5 (sym c.stands.ensures.0 ∙ not-true c.stands.result c.if-not-stands.true), λ i l. refl, whole-front c.args.t.now c.args.r c.requires.0 (omega (arith, c.requires.3, c.requires.1, c.requires.2)) _ _ (c.args.r - 1) (omega arith) c.stands.ensures.2)
+completes-returns-then-not-stands t c = (fallen c.args.t.now c.args.widths.now c.args.masks.now c.args.n c.args.r c.requires.0 c.requires.1 c.requires.2 c.requires.3 c.requires.4 c.requires.5 (sym c.stands.ensures.0 ∙ c.if-not-stands.true), λ i l. refl, whole-front c.args.t.now c.args.r c.requires.0 (omega (arith, c.requires.3, c.requires.1, c.requires.2)) _ _ (c.args.r - 1) (omega arith) c.stands.ensures.2)
 
 pub completes-slice_bounds-passes-end : goal.completes-slice_bounds-passes-end
 completes-slice_bounds-passes-end t c = (omega (arith, c.requires.3, c.requires.1, c.requires.2))
@@ -43,17 +43,17 @@ completes-passes-requires t c = (
   part-size c.args.t.now c.args.r c.requires.0 (omega (arith, c.requires.3, c.requires.1, c.requires.2)) ∙ ap (λ (i : ℕ). 5 * i) c.if-r-n.true,
   omega (arith, c.requires.0, c.requires.1),
   c.requires.2,
-  subst (λ (i : ℕ). lowest i (ranges_well (take (5 * c.args.r) c.args.t.now)) ≡ Passed) c.if-r-n.true (front-ranged (take (5 * c.args.r) c.args.t.now) _ _ c.args.r (c.stands.ensures.1 (not-false c.stands.result c.if-not-stands.false))),
-  subst (λ (i : ℕ). lowest i (names_well (take (5 * c.args.r) c.args.t.now)) ≡ Passed) c.if-r-n.true (front-names (take (5 * c.args.r) c.args.t.now) _ _ c.args.r (c.stands.ensures.1 (not-false c.stands.result c.if-not-stands.false))),
+  subst (λ (i : ℕ). lowest i (ranges_well (take (5 * c.args.r) c.args.t.now)) ≡ Passed) c.if-r-n.true (front-ranged (take (5 * c.args.r) c.args.t.now) _ _ c.args.r (c.stands.ensures.1 c.if-not-stands.false)),
+  subst (λ (i : ℕ). lowest i (names_well (take (5 * c.args.r) c.args.t.now)) ≡ Passed) c.if-r-n.true (front-names (take (5 * c.args.r) c.args.t.now) _ _ c.args.r (c.stands.ensures.1 c.if-not-stands.false)),
 )
 
 pub completes-returns-then-r-n : goal.completes-returns-then-r-n
-completes-returns-then-r-n t c = (last_row c.args.t.now _ _ c.args.n c.args.r c.requires.0 c.if-r-n.true c.requires.2 c.requires.3 (c.stands.ensures.1 (not-false c.stands.result c.if-not-stands.false)) c.passes.result c.passes.ensures, λ i l. refl, whole-front c.args.t.now c.args.r c.requires.0 (omega (arith, c.requires.3, c.requires.1, c.requires.2)) _ _ (c.args.r - 1) (omega arith) c.stands.ensures.2)
+completes-returns-then-r-n t c = (last_row c.args.t.now _ _ c.args.n c.args.r c.requires.0 c.if-r-n.true c.requires.2 c.requires.3 (c.stands.ensures.1 c.if-not-stands.false) c.passes.result c.passes.ensures, λ i l. refl, whole-front c.args.t.now c.args.r c.requires.0 (omega (arith, c.requires.3, c.requires.1, c.requires.2)) _ _ (c.args.r - 1) (omega arith) c.stands.ensures.2)
 
 pub completes-first_from-requires : goal.completes-first_from-requires
 completes-first_from-requires t c =
     let e : c.args.r ≡ c.args.r + 1 - 1 = omega arith in
-    (omega (arith, c.requires.0, c.requires.1, c.if-r-n.false), (omega arith, omega (arith, c.requires.1, c.if-r-n.false), c.requires.2, omega arith, c.requires.3, subst (λ (i : ℕ). Front c.args.t.now c.stands.new.widths c.stands.new.masks i) e (whole-front c.args.t.now c.args.r c.requires.0 (omega (arith, c.requires.3, c.requires.1, c.requires.2)) _ _ c.args.r (omega arith) (c.stands.ensures.1 (not-false c.stands.result c.if-not-stands.false)))))
+    (omega (arith, c.requires.0, c.requires.1, c.if-r-n.false), (omega arith, omega (arith, c.requires.1, c.if-r-n.false), c.requires.2, omega arith, c.requires.3, subst (λ (i : ℕ). Front c.args.t.now c.stands.new.widths c.stands.new.masks i) e (whole-front c.args.t.now c.args.r c.requires.0 (omega (arith, c.requires.3, c.requires.1, c.requires.2)) _ _ c.args.r (omega arith) (c.stands.ensures.1 c.if-not-stands.false))))
 
 pub completes-returns : goal.completes-returns
 completes-returns t c = (

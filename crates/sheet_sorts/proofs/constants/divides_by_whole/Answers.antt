@@ -1,3 +1,4 @@
+use borrow.Enum.Refused.{opened}
 use mathlib.Core.Path.{sym, ap, ◌∙◌}
 use mathlib.Core.Bool.{Bool, not, ◌&&◌}
 use lib.Dec.{eqb}
@@ -8,7 +9,7 @@ use Rattle.sheet_sorts.proofs.Others.{no-pair}
 use Rattle.sheet_sorts.proofs.constants.divides_by_whole.Goals as goal
 
 pub returns-in_default : goal.returns-in_default
-returns-in_default c = sym (no-pair c.args.t.now c.shape_at.result c.in_default.in_default-own.keys2).1 ∙ ap (divides_by_whole_row c.args.t.now) c.shape_at.ensures
+returns-in_default c = sym (no-pair c.args.t.now c.shape_at.result (opened c.in_default.in_default-own.keys2)).1 ∙ ap (divides_by_whole_row c.args.t.now) c.shape_at.ensures
 
 pub is_whole-requires : goal.is_whole-requires
 is_whole-requires c = (pair-known c.args.t.now c.args.r c.in-Pair.field-0 c.in-Pair.b c.requires (sym c.shape_at.ensures ∙ c.in-Pair.is)).1

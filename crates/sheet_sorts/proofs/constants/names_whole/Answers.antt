@@ -1,3 +1,4 @@
+use borrow.Enum.Refused.{opened}
 use mathlib.Core.Path.{sym, ap, ◌∙◌}
 use mathlib.Core.Bool.{Bool, ◌||◌}
 use Rattle.formula.specs.Sheet.{shape_at}
@@ -6,7 +7,7 @@ use Rattle.sheet_sorts.proofs.Others.{no-pair}
 use Rattle.sheet_sorts.proofs.constants.names_whole.Goals as goal
 
 pub returns-in_default : goal.returns-in_default
-returns-in_default c = sym (no-pair c.args.t.now c.shape_at.result c.in_default.in_default-own.keys2).0 ∙ ap (names_whole_row c.args.t.now) c.shape_at.ensures
+returns-in_default c = sym (no-pair c.args.t.now c.shape_at.result (opened c.in_default.in_default-own.keys2)).0 ∙ ap (names_whole_row c.args.t.now) c.shape_at.ensures
 
 pub is_whole-requires : goal.is_whole-requires
 is_whole-requires c = (pair-known c.args.t.now c.args.r c.in-Pair.a c.in-Pair.b c.requires (sym c.shape_at.ensures ∙ c.in-Pair.is)).0

@@ -36,7 +36,7 @@ pub bound-requires : goal.bound-requires
 bound-requires t c = let k : Parts c.args.t.now c.args.widths.now c.requires.0.0 c.args.r (Let c.in-Let.a c.in-Let.field-1 c.in-Let.c c.in-Let.d) = parts c.args.t.now c.args.widths.now c.requires.0.0 c.args.r c.requires.0.1 (Let c.in-Let.a c.in-Let.field-1 c.in-Let.c c.in-Let.d) (sym c.shape_at.ensures ∙ c.in-Let.is) in (k.0.0, c.requires.1, omega (arith, k.2.0, k.2.1))
 
 pub other_sort-rest-requires : goal.other_sort-rest-requires
-other_sort-rest-requires t c = let k : Parts c.args.t.now c.args.widths.now c.requires.0.0 c.args.r (Let c.in-Let.a c.in-Let.field-1 c.in-Let.c c.in-Let.d) = parts c.args.t.now c.args.widths.now c.requires.0.0 c.args.r c.requires.0.1 (Let c.in-Let.a c.in-Let.field-1 c.in-Let.c c.in-Let.d) (sym c.shape_at.ensures ∙ c.in-Let.is) in (omega (arith, k.1.1), ((c.requires.0.0, k.1.0), c.bound.type-inv.1.0.1))
+other_sort-rest-requires t c = let k : Parts c.args.t.now c.args.widths.now c.requires.0.0 c.args.r (Let c.in-Let.a c.in-Let.field-1 c.in-Let.c c.in-Let.d) = parts c.args.t.now c.args.widths.now c.requires.0.0 c.args.r c.requires.0.1 (Let c.in-Let.a c.in-Let.field-1 c.in-Let.c c.in-Let.d) (sym c.shape_at.ensures ∙ c.in-Let.is) in (omega (arith, k.1.1), ((c.requires.0.0, k.1.0), c.bound.type_inv.1.0.1))
 
 pub other_sort-test-requires : goal.other_sort-test-requires
 other_sort-test-requires t c = let k : Parts c.args.t.now c.args.widths.now c.requires.0.0 c.args.r (If c.in-If.a c.in-If.b c.in-If.c) = parts c.args.t.now c.args.widths.now c.requires.0.0 c.args.r c.requires.0.1 (If c.in-If.a c.in-If.b c.in-If.c) (sym c.shape_at.ensures ∙ c.in-If.is) in (omega (arith, k.0.1), ((false, k.0.0), c.requires.1))
@@ -54,7 +54,7 @@ pub bound-requires-in-For : goal.bound-requires-in-For
 bound-requires-in-For t c = let k : Parts c.args.t.now c.args.widths.now c.requires.0.0 c.args.r (For c.in-For.a c.in-For.field-1 c.in-For.c c.in-For.d) = parts c.args.t.now c.args.widths.now c.requires.0.0 c.args.r c.requires.0.1 (For c.in-For.a c.in-For.field-1 c.in-For.c c.in-For.d) (sym c.shape_at.ensures ∙ c.in-For.is) in (k.0.0, c.requires.1, omega (arith, k.2.0, k.2.1))
 
 pub other_sort-round-requires : goal.other_sort-round-requires
-other_sort-round-requires t c = let k : Parts c.args.t.now c.args.widths.now c.requires.0.0 c.args.r (For c.in-For.a c.in-For.field-1 c.in-For.c c.in-For.d) = parts c.args.t.now c.args.widths.now c.requires.0.0 c.args.r c.requires.0.1 (For c.in-For.a c.in-For.field-1 c.in-For.c c.in-For.d) (sym c.shape_at.ensures ∙ c.in-For.is) in (omega (arith, k.1.1), ((true, k.1.0), c.bound-in-For.type-inv.1.0.1))
+other_sort-round-requires t c = let k : Parts c.args.t.now c.args.widths.now c.requires.0.0 c.args.r (For c.in-For.a c.in-For.field-1 c.in-For.c c.in-For.d) = parts c.args.t.now c.args.widths.now c.requires.0.0 c.args.r c.requires.0.1 (For c.in-For.a c.in-For.field-1 c.in-For.c c.in-For.d) (sym c.shape_at.ensures ∙ c.in-For.is) in (omega (arith, k.1.1), ((true, k.1.0), c.bound-in-For.type_inv.1.0.1))
 
 pub other_sort-requires : goal.other_sort-requires
 other_sort-requires t c = let k : Parts c.args.t.now c.args.widths.now c.requires.0.0 c.args.r (Iter c.in-Iter.a) = parts c.args.t.now c.args.widths.now c.requires.0.0 c.args.r c.requires.0.1 (Iter c.in-Iter.a) (sym c.shape_at.ensures ∙ c.in-Iter.is) in (omega (arith, k.1), ((false, k.0), c.requires.1))
