@@ -7,7 +7,9 @@
 // What `million_one`, `behind_endless` and `starved` print before their 36 rests on the numbering of docs/NUMBERING.md.
 ghost use Rattle.std.specs.Prelude.{◌≤◌, length};
 
+use files::{large_buffer, open_read, read_full};
 use session_run::run;
+use std::rt::Files;
 
 // Where the byte b stands next, from `at` on; the end where it does not.
 fn next(list: &[u8], at: usize, b: u8) -> usize
@@ -25,7 +27,7 @@ fn next(list: &[u8], at: usize, b: u8) -> usize
 }
 
 // Makes each run of a list.
-fn run_all(list: &[u8]) {
+fn run_all<R: Files + Print>(rt: &R, list: &[u8]) {
     let mut at = 0;
     while at < list.len() {
         let space = next(list, at, b' ');
@@ -39,7 +41,7 @@ fn run_all(list: &[u8]) {
         }
         let file = second + 1;
         let end = next(list, file, b'\n');
-        run(&list[at..space], &list[kinds..second], &list[file..end]);
+        run(rt, &list[at..space], &list[kinds..second], &list[file..end]);
         if end == list.len() {
             return;
         }
@@ -47,13 +49,11 @@ fn run_all(list: &[u8]) {
     }
 }
 
-fn main() {
-    let mut list = io::large_buffer();
-    let fd = os::open_read(b"runs.txt");
-    if fd < 0 {
+fn main(rt: HostRuntime) {
+    let mut list = large_buffer();
+    let Some(mut file) = open_read(&rt, b"runs.txt") else {
         return;
-    }
-    let n = io::read_full(fd, &mut list);
-    libc::close(fd);
-    run_all(&list[..n]);
+    };
+    let n = read_full(&mut file, &mut list);
+    run_all(&rt, &list[..n]);
 }

@@ -5,14 +5,15 @@
 // bytes are lent for the numbers, in a six-character field. The cases in data/ and the answers in stdout are those of the separately written
 // drift (compare/, drift_cases).
 ghost use Rattle.std.specs.Prelude.{◌≡◌, ◌+◌, ◌≤◌, length};
-ghost use Rattle.io.specs.Counts.{IsPrefixLen};
+ghost use Rattle.files.specs.Counts.{IsPrefixLen};
 ghost use Rattle.text.specs.Printed.{head_line};
 
+use files::{buffer, count, large_buffer, open_read, read_full, write_all};
 use formula::Field;
-use libc::STDOUT_FILENO;
 use sheet_drift::numbers::NUMBER_BYTES;
 use sheet_drift::{DriftAnswer, drift};
 use sheet_fields::field::field_in;
+use std::rt::Files;
 use text::{HEAD_LINE, RESULT_LINE, VALUE_FIELD};
 use text_print::{put_head, put_value};
 
@@ -46,7 +47,7 @@ fn digit(k: u32) -> u8 {
 }
 
 // Opens the file of case k that has this name.
-fn open(k: u32, name: &[u8]) -> i32
+fn open<R: Files>(files: &R, k: u32, name: &[u8]) -> Option<R::File>
     requires { length name.now ≤ 11 }
 {
     let mut path = [b'/'; PATH];
@@ -59,21 +60,18 @@ fn open(k: u32, name: &[u8]) -> i32
         i += 1;
     }
     let end = NAME_AT + name.len();
-    os::open_read(&path[..end])
+    open_read(files, &path[..end])
 }
 
 // Reads as much of that file as fits, nothing where it is missing.
-fn load(k: u32, name: &[u8], buf: &mut [u8]) -> usize
+fn load<R: Files>(files: &R, k: u32, name: &[u8], buf: &mut [u8]) -> usize
     requires { length name.now ≤ 11 }
     ensures { IsPrefixLen result buf.new }
 {
-    let fd = open(k, name);
-    if fd < 0 {
-        return io::count(0, buf);
+    match open(files, k, name) {
+        Some(mut file) => read_full(&mut file, buf),
+        None => count(0, buf),
     }
-    let n = io::read_full(fd, buf);
-    libc::close(fd);
-    n
 }
 
 // How many bytes of a buffer are lent, by a line of room.txt: none where it is malformed.
@@ -82,8 +80,8 @@ fn room_of(line: &[u8], buf: &[u8]) -> usize
     ensures { IsPrefixLen result buf.now }
 {
     match field_in(line, 0) {
-        Field::Number(n) => io::count(n as isize, buf),
-        Field::Malformed => io::count(0, buf),
+        Field::Number(n) => count(n as isize, buf),
+        Field::Malformed => count(0, buf),
     }
 }
 
@@ -114,7 +112,7 @@ fn word_at(numbers: &[u8], at: usize) -> u64
 }
 
 // Writes a line of so many numbers.
-fn write_numbers(numbers: &[u8], results: u32) {
+fn write_numbers(rt: &impl Print, numbers: &[u8], results: u32) {
     let n = results as usize;
     if MOST_RESULTS < n {
         return;
@@ -133,34 +131,35 @@ fn write_numbers(numbers: &[u8], results: u32) {
         i += 1;
     }
     let end = VALUE_FIELD * n + 1;
-    io::write_all(STDOUT_FILENO, &text[..end]);
+    write_all(rt, &text[..end]);
 }
 
 // Makes the call with memory that is lent, and writes the answer and the numbers.
-fn tell(sheet: &[u8], kinds: &[u8], tolerances: &[u8], out: &mut [u8]) {
+fn tell(rt: &impl Print, sheet: &[u8], kinds: &[u8], tolerances: &[u8], out: &mut [u8]) {
     let a = drift(sheet, kinds, tolerances, out);
-    io::write_all(STDOUT_FILENO, &line(a));
+    write_all(rt, &line(a));
     if 0 < a.results {
-        write_numbers(out, a.results);
+        write_numbers(rt, out, a.results);
     }
 }
 
 // Makes case k; false where it is missing.
-fn show(k: u32) -> bool {
+fn show<R: Files + Print>(rt: &R, k: u32) -> bool {
     let mut asked = [0u8; ROOM_LINE];
-    let n = load(k, b"room.txt", &mut asked);
+    let n = load(rt, k, b"room.txt", &mut asked);
     if n < ROOM_LINE {
         return false;
     }
-    let mut out = io::buffer();
+    let mut out = buffer();
     let room = room_of(&asked, &out);
-    let mut sheet = io::large_buffer();
-    let rows = load(k, b"formula.txt", &mut sheet);
+    let mut sheet = large_buffer();
+    let rows = load(rt, k, b"formula.txt", &mut sheet);
     let mut letters = [0u8; LINE_BUFFER];
-    let told = load(k, b"kinds.txt", &mut letters);
-    let mut tolerances = io::buffer();
-    let size = load(k, b"tolerances", &mut tolerances);
+    let told = load(rt, k, b"kinds.txt", &mut letters);
+    let mut tolerances = buffer();
+    let size = load(rt, k, b"tolerances", &mut tolerances);
     tell(
+        rt,
         &sheet[..rows],
         &letters[..told],
         &tolerances[..size],
@@ -169,10 +168,10 @@ fn show(k: u32) -> bool {
     true
 }
 
-fn main() {
+fn main(rt: HostRuntime) {
     let mut k = 1;
     while k <= MOST_CASES {
-        if !show(k) {
+        if !show(&rt, k) {
             return;
         }
         k += 1;

@@ -5,13 +5,14 @@
 // and how many sets the list is told to have, in two six-character fields. Machine and results are lent 65,536 bytes each. The cases in
 // data/ and the answers in stdout are those of the separately written checker (compare/, log_cases).
 ghost use Rattle.std.specs.Prelude.{◌≡◌, ◌+◌, ◌≤◌, length};
-ghost use Rattle.io.specs.Counts.{IsPrefixLen};
+ghost use Rattle.files.specs.Counts.{IsPrefixLen};
 ghost use Rattle.log_runs.specs.Lines.{line_of};
 
+use files::{buffer, count, large_buffer, open_read, read_full, write_all};
 use formula::Field;
-use libc::STDOUT_FILENO;
 use machine_log::{LogAnswer, check_log};
 use sheet_fields::field::field_in;
+use std::rt::Files;
 use text::{NUMBER_FIELD, RESULT_BYTES, RESULT_LINE, VALUE_BYTES, VALUE_FIELD};
 use text_print::{put_number, put_refusal, put_results};
 use text_read::sets::read_set;
@@ -42,7 +43,7 @@ fn digit(k: u32) -> u8 {
 }
 
 // Opens the file of case k that has this name.
-fn open(k: u32, name: &[u8]) -> i32
+fn open<R: Files>(files: &R, k: u32, name: &[u8]) -> Option<R::File>
     requires { length name.now ≤ 11 }
 {
     let mut path = [b'/'; PATH];
@@ -55,21 +56,18 @@ fn open(k: u32, name: &[u8]) -> i32
         i += 1;
     }
     let end = NAME_AT + name.len();
-    os::open_read(&path[..end])
+    open_read(files, &path[..end])
 }
 
 // Reads as much of that file as fits, nothing where it is missing.
-fn load(k: u32, name: &[u8], buf: &mut [u8]) -> usize
+fn load<R: Files>(files: &R, k: u32, name: &[u8], buf: &mut [u8]) -> usize
     requires { length name.now ≤ 11 }
     ensures { IsPrefixLen result buf.new }
 {
-    let fd = open(k, name);
-    if fd < 0 {
-        return io::count(0, buf);
+    match open(files, k, name) {
+        Some(mut file) => read_full(&mut file, buf),
+        None => count(0, buf),
     }
-    let n = io::read_full(fd, buf);
-    libc::close(fd);
-    n
 }
 
 // A number of asked.txt; 0 where it is malformed.
@@ -120,11 +118,11 @@ fn read_sets(lines: &[u8], kinds: &[u8], sets: &mut [u8]) -> usize
 }
 
 // The list of sets of case k for a kinds line.
-fn load_sets(k: u32, kinds: &[u8], sets: &mut [u8]) -> usize
+fn load_sets<R: Files>(files: &R, k: u32, kinds: &[u8], sets: &mut [u8]) -> usize
     ensures { IsPrefixLen result sets.new }
 {
-    let mut lines = io::large_buffer();
-    let n = load(k, b"sets.txt", &mut lines);
+    let mut lines = large_buffer();
+    let n = load(files, k, b"sets.txt", &mut lines);
     let letters = letters_of(kinds);
     read_sets(&lines[..n], &kinds[..letters], sets)
 }
@@ -141,7 +139,7 @@ fn line(a: LogAnswer) -> [u8; ANSWER_LINE]
 }
 
 // Writes a line for each result that was handed out.
-fn write_results(results: &[u8], count: u32, width: u32) {
+fn write_results(rt: &impl Print, results: &[u8], count: u32, width: u32) {
     let mut text = [0u8; RESULT_LINE];
     if MOST_WIDTH < width {
         return;
@@ -155,39 +153,48 @@ fn write_results(results: &[u8], count: u32, width: u32) {
         }
         put_results(&mut text, 0, values, &results[at..]);
         let end = VALUE_FIELD * values + 1;
-        io::write_all(STDOUT_FILENO, &text[..end]);
+        write_all(rt, &text[..end]);
         at += RESULT_BYTES;
         left -= 1;
     }
 }
 
 // Checks a log, and writes the answer and the results.
-fn check(sheet: &[u8], kinds: &[u8], capacity: u32, sets: &[u8], number: u32, log: &[u8]) {
-    let mut mem = io::large_buffer();
-    let mut out = io::large_buffer();
+fn check(
+    rt: &impl Print,
+    sheet: &[u8],
+    kinds: &[u8],
+    capacity: u32,
+    sets: &[u8],
+    number: u32,
+    log: &[u8],
+) {
+    let mut mem = large_buffer();
+    let mut out = large_buffer();
     let a = check_log(
         sheet, kinds, capacity, sets, number, log, &mut mem, &mut out,
     );
-    io::write_all(STDOUT_FILENO, &line(a));
-    write_results(&out, a.count, a.width);
+    write_all(rt, &line(a));
+    write_results(rt, &out, a.count, a.width);
 }
 
 // Makes case k; false where it is missing.
-fn show(k: u32) -> bool {
+fn show<R: Files + Print>(rt: &R, k: u32) -> bool {
     let mut asked = [0u8; ASKED];
-    let n = load(k, b"asked.txt", &mut asked);
+    let n = load(rt, k, b"asked.txt", &mut asked);
     if n < ASKED {
         return false;
     }
-    let mut sheet = io::large_buffer();
-    let rows = load(k, b"formula.txt", &mut sheet);
+    let mut sheet = large_buffer();
+    let rows = load(rt, k, b"formula.txt", &mut sheet);
     let mut line = [0u8; LINE_BUFFER];
-    let told = load(k, b"kinds.txt", &mut line);
-    let mut sets = io::buffer();
-    let size = load_sets(k, &line[..told], &mut sets);
-    let mut log = io::large_buffer();
-    let end = load(k, b"log.txt", &mut log);
+    let told = load(rt, k, b"kinds.txt", &mut line);
+    let mut sets = buffer();
+    let size = load_sets(rt, k, &line[..told], &mut sets);
+    let mut log = large_buffer();
+    let end = load(rt, k, b"log.txt", &mut log);
     check(
+        rt,
         &sheet[..rows],
         &line[..told],
         number_at(&asked[..n], 0),
@@ -198,10 +205,10 @@ fn show(k: u32) -> bool {
     true
 }
 
-fn main() {
+fn main(rt: HostRuntime) {
     let mut k = 1;
     while k <= MOST_CASES {
-        if !show(k) {
+        if !show(&rt, k) {
             return;
         }
         k += 1;

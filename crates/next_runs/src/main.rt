@@ -7,7 +7,7 @@
 ghost use Rattle.std.specs.Prelude.{◌≡◌, ◌+◌, ◌<◌, ◌≤◌, length};
 ghost use Rattle.text.specs.Printed.{head_line};
 
-use libc::STDOUT_FILENO;
+use files::write_all;
 use sheet_fields::layout::ROW_BYTES;
 use sheet_next::{NextAnswer, next_sheet};
 use text::HEAD_LINE;
@@ -86,7 +86,7 @@ fn digit(k: u64) -> u8
 }
 
 // Writes a digest's line.
-fn write_digest(digest: u64) {
+fn write_digest(rt: &impl Print, digest: u64) {
     let mut text = [b'\n'; DIGEST_LINE];
     let mut rest = digest;
     let mut i = DIGITS;
@@ -95,7 +95,7 @@ fn write_digest(digest: u64) {
         text[i] = digit(rest % BASE);
         rest /= BASE;
     }
-    io::write_all(STDOUT_FILENO, &text);
+    write_all(rt, &text);
 }
 
 // The bytes of so many rows; no small sheet has more than five.
@@ -110,24 +110,24 @@ fn bytes_of(rows: u32) -> usize
 }
 
 // Writes how many sheets have so many rows, and how many are listed up to them.
-fn write_count(rows: u32, alike: u32, listed: u32, digest: u64) {
-    io::write_all(STDOUT_FILENO, &line(rows, alike, listed));
-    write_digest(digest);
+fn write_count(rt: &impl Print, rows: u32, alike: u32, listed: u32, digest: u64) {
+    write_all(rt, &line(rows, alike, listed));
+    write_digest(rt, digest);
 }
 
 // Writes some rows of a sheet.
-fn write_rows(sheet: &[u8], rows: u32) {
+fn write_rows(rt: &impl Print, sheet: &[u8], rows: u32) {
     let end = bytes_of(rows);
     if end <= sheet.len() {
-        io::write_all(STDOUT_FILENO, &sheet[..end]);
+        write_all(rt, &sheet[..end]);
     }
 }
 
 // Writes a sheet behind its answer where it is to be shown.
-fn show(listed: u32, a: NextAnswer, sheet: &[u8]) {
+fn show(rt: &impl Print, listed: u32, a: NextAnswer, sheet: &[u8]) {
     if listed % SHOWN == 0 {
-        io::write_all(STDOUT_FILENO, &answer_line(a));
-        write_rows(sheet, a.rows);
+        write_all(rt, &answer_line(a));
+        write_rows(rt, sheet, a.rows);
     }
 }
 
@@ -139,7 +139,7 @@ fn count_one(same: bool, alike: u32) -> u32
     if same { alike + 1 } else { 1 }
 }
 
-fn main() {
+fn main(rt: HostRuntime) {
     let mut sheet = [0u8; SMALL_BYTES];
     let mut rows = 0;
     let mut alike = 0;
@@ -150,11 +150,11 @@ fn main() {
         let end = bytes_of(rows);
         let a = next_sheet(&sheet[..end], &mut next);
         if a.rows != rows {
-            write_count(rows, alike, listed, digest);
+            write_count(&rt, rows, alike, listed, digest);
         }
         if a.refusal != 0 {
-            write_rows(&sheet, rows);
-            io::write_all(STDOUT_FILENO, &answer_line(a));
+            write_rows(&rt, &sheet, rows);
+            write_all(rt, &answer_line(a));
             return;
         }
         sheet = next;
@@ -162,6 +162,6 @@ fn main() {
         alike = count_one(a.rows == rows, alike);
         rows = a.rows;
         digest = digest_with(digest, &sheet, bytes_of(rows));
-        show(listed, a, &sheet);
+        show(&rt, listed, a, &sheet);
     }
 }

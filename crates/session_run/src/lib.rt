@@ -4,7 +4,7 @@
 pub mod opening; // opening.rt: the tests and the first line
 
 ghost use Rattle.std.specs.Prelude.{◌≡◌, ◌+◌, ◌≤◌, length};
-ghost use Rattle.io.specs.Counts.{IsPrefixLen};
+ghost use Rattle.files.specs.Counts.{IsPrefixLen};
 ghost use Rattle.session.specs.Reading.{Continued, SheetRead};
 ghost use Rattle.session.specs.Output.{most_sheet_bytes, most_set_bytes};
 ghost use Rattle.session.specs.Passes.{out_bytes};
@@ -12,9 +12,11 @@ ghost use Rattle.session.specs.Opening.{kinds_read};
 ghost use Rattle.session.specs.Ending.{Proceeds, RepeatsTo};
 
 use crate::opening::open;
-use libc::STDOUT_FILENO;
+use files::{large_buffer, open_read, read_full, write_all};
 use session::{KINDS_READ, Opened, SETS_READ, Sheet};
 use session_pass::pass;
+use std::io::Read;
+use std::rt::Files;
 use text::{SHEET, Seen};
 
 // "over 200 rows" is refused, so 200 rows are all that is ever looked at.
@@ -44,11 +46,11 @@ pub struct Part {
     pub seen: Seen,
 }
 
-fn see_part(fd: i32, x: Seen) -> Part
+fn see_part(file: &mut impl Read, x: Seen) -> Part
     ensures { Continued x result.seen }
 {
-    let mut chunk = io::large_buffer();
-    let n = io::read_full(fd, &mut chunk);
+    let mut chunk = large_buffer();
+    let n = read_full(file, &mut chunk);
     Part {
         more: 0 < n,
         seen: text_read::scan::scan(x, &chunk[..n]),
@@ -59,13 +61,13 @@ fn see_part(fd: i32, x: Seen) -> Part
 const MOST_TURNS: u64 = 18446744073709551615;
 
 // The rest of a file, seen.
-fn see_rest(fd: i32, x: Seen) -> Seen
+fn see_rest(file: &mut impl Read, x: Seen) -> Seen
     ensures { Continued x result }
 {
     let mut turns = MOST_TURNS;
     let mut y = x;
     while 0 < turns {
-        let part = see_part(fd, y);
+        let part = see_part(file, y);
         y = part.seen;
         if !part.more {
             return y;
@@ -76,68 +78,69 @@ fn see_rest(fd: i32, x: Seen) -> Seen
 }
 
 // Reads a sheet's first bytes and sees the others. "A missing file counts as empty."
-fn read_sheet(path: &[u8], first: &mut [u8]) -> Sheet
+fn read_sheet<R: Files>(files: &R, path: &[u8], first: &mut [u8]) -> Sheet
     requires { most_sheet_bytes ≤ length first.old }
     ensures { SheetRead first.new result }
 {
     let none = text_read::scan::none_seen();
-    let fd = os::open_read(path);
-    if fd < 0 {
+    let Some(mut file) = open_read(files, path) else {
         return Sheet {
             length: 0,
             seen: none,
         };
-    }
-    let length = io::read_full(fd, first);
+    };
+    let length = read_full(&mut file, first);
     let seen = text_read::scan::scan(none, &first[..length]);
     if length < SHEET {
-        libc::close(fd);
         return Sheet { length, seen };
     }
-    let all = see_rest(fd, seen);
-    libc::close(fd);
+    let all = see_rest(&mut file, seen);
     Sheet { length, seen: all }
 }
 
 // Reads as much of a file as fits, nothing where it is missing.
-fn load(path: &[u8], buf: &mut [u8]) -> usize
+fn load<R: Files>(files: &R, path: &[u8], buf: &mut [u8]) -> usize
     ensures { IsPrefixLen result buf.new }
 {
-    let fd = os::open_read(path);
-    if fd < 0 {
-        return io::count(0, buf);
+    match open_read(files, path) {
+        Some(mut file) => read_full(&mut file, buf),
+        None => files::count(0, buf),
     }
-    let n = io::read_full(fd, buf);
-    libc::close(fd);
-    n
 }
 
 // Writes the first part, and repeats until every set is taken. It ends since each repetition
 // leaves fewer sets to take and firings to make (session/specs/Onward).
-fn repeat(mem: &mut [u8], sets: &[u8], kinds: &[u8], opened: Opened, out: &mut [u8])
+fn repeat(
+    rt: &impl Print,
+    mem: &mut [u8],
+    sets: &[u8],
+    kinds: &[u8],
+    opened: Opened,
+    out: &mut [u8],
+)
     requires kinds_len_bound { (length kinds.now ≤ 32) × (opened.stage.at ≤ length sets.now) × (opened.stage.printed ≤ out_bytes) × (out_bytes ≤ length out.old) }
     requires proceeds { Proceeds kinds.now sets.now opened.stage mem.old }
     ensures { RepeatsTo kinds.now sets.now opened.stage mem.old mem.new }
 {
     let mut stage = opened.stage;
     let mut printed = stage.printed;
-    io::write_all(STDOUT_FILENO, &out[..printed]);
+    write_all(rt, &out[..printed]);
     while 0 < stage.remaining {
         stage = pass(mem, sets, kinds, stage, out);
         printed = stage.printed;
-        io::write_all(STDOUT_FILENO, &out[..printed]);
+        write_all(rt, &out[..printed]);
     }
 }
 
-pub fn run(formula: &[u8], kinds: &[u8], file: &[u8]) {
+pub fn run<R: Files + Print>(rt: &R, formula: &[u8], kinds: &[u8], file: &[u8]) {
     let mut first = sheet_buffer();
     let mut line = kinds_buffer();
     let mut sets = set_buffer();
-    let mut mem = io::large_buffer();
-    let mut out = io::large_buffer();
-    let sheet = read_sheet(formula, &mut first);
-    let told = load(kinds, &mut line);
-    let n = load(file, &mut sets);
+    let mut mem = large_buffer();
+    let mut out = large_buffer();
+    let sheet = read_sheet(rt, formula, &mut first);
+    let told = load(rt, kinds, &mut line);
+    let n = load(rt, file, &mut sets);
     let length = sheet.length;
     let opened = open(
         &first[..length],
@@ -148,5 +151,5 @@ pub fn run(formula: &[u8], kinds: &[u8], file: &[u8]) {
         &mut out,
     );
     let inputs = opened.inputs;
-    repeat(&mut mem, &sets[..n], &line[..inputs], opened, &mut out);
+    repeat(rt, &mut mem, &sets[..n], &line[..inputs], opened, &mut out);
 }

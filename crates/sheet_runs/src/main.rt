@@ -9,8 +9,9 @@ ghost use Rattle.formula.specs.Tests.{reading_of};
 ghost use Rattle.sheet_read.specs.Reading.{answer_of};
 ghost use Rattle.sheet_runs.specs.Lines.{digit_at, place_at, six, line_of, path_of, kinds_path_of};
 
-use libc::STDOUT_FILENO;
+use files::{large_buffer, open_read, read_full, write_all};
 use sheet_read::read::{ReadAnswer, bench_read};
+use std::rt::Files;
 
 // More than any kinds line has: 32 letters and a line feed.
 const LINE_BUFFER: usize = 64;
@@ -94,28 +95,24 @@ fn kinds_path(k: u32) -> [u8; 13]
 }
 
 // Writes the line of sheet k; false where it or its kinds line is missing.
-fn show(k: u32) -> bool {
-    let fd = os::open_read(&path(k));
-    if fd < 0 {
+fn show<R: Files + Print>(rt: &R, k: u32) -> bool {
+    let Some(mut file) = open_read(rt, &path(k)) else {
         return false;
-    }
-    let mut buf = io::large_buffer();
-    let n = io::read_full(fd, &mut buf);
-    libc::close(fd);
-    let kinds = os::open_read(&kinds_path(k));
-    if kinds < 0 {
+    };
+    let mut buf = large_buffer();
+    let n = read_full(&mut file, &mut buf);
+    let Some(mut kinds) = open_read(rt, &kinds_path(k)) else {
         return false;
-    }
+    };
     let mut letters = [0u8; LINE_BUFFER];
-    let m = io::read_full(kinds, &mut letters);
-    libc::close(kinds);
-    io::write_all(STDOUT_FILENO, &told(&buf[..n], &letters[..m]))
+    let m = read_full(&mut kinds, &mut letters);
+    write_all(rt, &told(&buf[..n], &letters[..m]))
 }
 
-fn main() {
+fn main(rt: HostRuntime) {
     let mut k = 1u32;
     while k < 1000 {
-        if !show(k) {
+        if !show(&rt, k) {
             return;
         }
         k += 1;

@@ -6,14 +6,15 @@
 // field, refusal and count, in six-character fields, with the result behind an accepted take. A set that there is not has no bytes. The cases
 // in data/ and the answers in stdout are those of the separately written machine (compare/, tag_cases).
 ghost use Rattle.std.specs.Prelude.{◌≡◌, ◌+◌, ◌≤◌, length};
-ghost use Rattle.io.specs.Counts.{IsPrefixLen};
+ghost use Rattle.files.specs.Counts.{IsPrefixLen};
 ghost use Rattle.text.specs.Printed.{head_line};
 
-use libc::STDOUT_FILENO;
+use files::{buffer, count, large_buffer, open_read, read_full, write_all};
 use machine_calls::Answer;
 use machine_tag_calls::{fire, push, run, take};
 use machine_tag_start::start;
 use sheet_fields::field::{field_in, number};
+use std::rt::Files;
 use text::{
     HEAD_LINE, NUMBER_FIELD, RESULT_BYTES, RESULT_LINE, SET_BYTES, VALUE_BYTES, VALUE_FIELD,
 };
@@ -56,7 +57,7 @@ fn digit(k: u32) -> u8 {
 }
 
 // Opens the file of case k that has this name.
-fn open(k: u32, name: &[u8]) -> i32
+fn open<R: Files>(files: &R, k: u32, name: &[u8]) -> Option<R::File>
     requires { length name.now ≤ 11 }
 {
     let mut path = [b'/'; PATH];
@@ -69,21 +70,18 @@ fn open(k: u32, name: &[u8]) -> i32
         i += 1;
     }
     let end = NAME_AT + name.len();
-    os::open_read(&path[..end])
+    open_read(files, &path[..end])
 }
 
 // Reads as much of that file as fits, nothing where it is missing.
-fn load(k: u32, name: &[u8], buf: &mut [u8]) -> usize
+fn load<R: Files>(files: &R, k: u32, name: &[u8], buf: &mut [u8]) -> usize
     requires { length name.now ≤ 11 }
     ensures { IsPrefixLen result buf.new }
 {
-    let fd = open(k, name);
-    if fd < 0 {
-        return io::count(0, buf);
+    match open(files, k, name) {
+        Some(mut file) => read_full(&mut file, buf),
+        None => count(0, buf),
     }
-    let n = io::read_full(fd, buf);
-    libc::close(fd);
-    n
 }
 
 // How many letters a kinds line has, as far as there can be inputs.
@@ -121,11 +119,11 @@ fn read_sets(lines: &[u8], kinds: &[u8], sets: &mut [u8]) -> usize
 }
 
 // The sets of case k for a kinds line.
-fn load_sets(k: u32, kinds: &[u8], sets: &mut [u8]) -> usize
+fn load_sets<R: Files>(files: &R, k: u32, kinds: &[u8], sets: &mut [u8]) -> usize
     ensures { IsPrefixLen result sets.new }
 {
-    let mut lines = io::large_buffer();
-    let n = load(k, b"sets.txt", &mut lines);
+    let mut lines = large_buffer();
+    let n = load(files, k, b"sets.txt", &mut lines);
     let letters = letters_of(kinds);
     read_sets(&lines[..n], &kinds[..letters], sets)
 }
@@ -146,8 +144,8 @@ fn line(call: u32, refusal: u32, count: u32) -> [u8; HEAD_LINE]
     out
 }
 
-fn write_answer(call: u32, a: Answer) {
-    io::write_all(STDOUT_FILENO, &line(call, a.refusal, a.count));
+fn write_answer(rt: &impl Print, call: u32, a: Answer) {
+    write_all(rt, &line(call, a.refusal, a.count));
 }
 
 // Pushes set k, which counts from 1; a set has this size.
@@ -166,7 +164,7 @@ fn push_set(mem: &mut [u8], sets: &[u8], size: usize, k: u32) -> Answer
 }
 
 // Writes the values of a result.
-fn write_result(res: &[u8], width: u32) {
+fn write_result(rt: &impl Print, res: &[u8], width: u32) {
     let mut text = [0u8; RESULT_LINE];
     if MOST_WIDTH < width {
         return;
@@ -177,16 +175,16 @@ fn write_result(res: &[u8], width: u32) {
     let values = width as usize;
     put_results(&mut text, 0, values, res);
     let end = VALUE_FIELD * values + 1;
-    io::write_all(STDOUT_FILENO, &text[..end]);
+    write_all(rt, &text[..end]);
 }
 
 // Takes a tag's result, and writes the answer and the result.
-fn show_take(mem: &mut [u8], tag: u32) {
+fn show_take(rt: &impl Print, mem: &mut [u8], tag: u32) {
     let mut result = [0u8; RESULT_BYTES];
     let a = take(mem, tag, &mut result);
-    write_answer(TAKE, a);
+    write_answer(rt, TAKE, a);
     if a.refusal == 0 {
-        write_result(&result, a.count);
+        write_result(rt, &result, a.count);
     }
 }
 
@@ -204,61 +202,67 @@ fn make_call(mem: &mut [u8], sets: &[u8], size: usize, call: u32, a: u32, b: u32
 }
 
 // Makes the call of a line, and writes what it answers.
-fn show_call(mem: &mut [u8], sets: &[u8], size: usize, line: &[u8])
+fn show_call(rt: &impl Print, mem: &mut [u8], sets: &[u8], size: usize, line: &[u8])
     requires { (size ≤ 160) × (19 ≤ length line.now) }
 {
     let call = number(field_in(line, 0));
     let a = number(field_in(line, NUMBER_FIELD));
     let b = number(field_in(line, THIRD_FIELD));
     if call == TAKE {
-        show_take(mem, a);
+        show_take(rt, mem, a);
         return;
     }
-    write_answer(call, make_call(mem, sets, size, call, a, b));
+    write_answer(rt, call, make_call(mem, sets, size, call, a, b));
 }
 
 // Makes the calls of a list one after another.
-fn show_calls(mem: &mut [u8], sets: &[u8], size: usize, calls: &[u8])
+fn show_calls(rt: &impl Print, mem: &mut [u8], sets: &[u8], size: usize, calls: &[u8])
     requires { size ≤ 160 }
 {
     let mut at = 0;
     while CALL_LINE <= calls.len() - at {
-        show_call(mem, sets, size, &calls[at..]);
+        show_call(rt, mem, sets, size, &calls[at..]);
         at += CALL_LINE;
     }
 }
 
 // Starts a machine and makes the calls.
-fn show_machine(sheet: &[u8], kinds: &[u8], sets: &[u8], calls: &[u8]) {
+fn show_machine(rt: &impl Print, sheet: &[u8], kinds: &[u8], sets: &[u8], calls: &[u8]) {
     let mut mem = memory();
     let a = start(sheet, kinds, &mut mem);
-    io::write_all(STDOUT_FILENO, &line(START, a.refusal, a.row));
+    write_all(rt, &line(START, a.refusal, a.row));
     if a.refusal == 0 {
-        show_calls(&mut mem, sets, VALUE_BYTES * letters_of(kinds), calls);
+        show_calls(rt, &mut mem, sets, VALUE_BYTES * letters_of(kinds), calls);
     }
 }
 
 // Makes case k; false where it is missing.
-fn show(k: u32) -> bool {
-    let mut calls = io::large_buffer();
-    let n = load(k, b"calls.txt", &mut calls);
+fn show<R: Files + Print>(rt: &R, k: u32) -> bool {
+    let mut calls = large_buffer();
+    let n = load(rt, k, b"calls.txt", &mut calls);
     if n < CALL_LINE {
         return false;
     }
-    let mut sheet = io::large_buffer();
-    let rows = load(k, b"formula.txt", &mut sheet);
+    let mut sheet = large_buffer();
+    let rows = load(rt, k, b"formula.txt", &mut sheet);
     let mut kinds = [0u8; LINE_BUFFER];
-    let told = load(k, b"kinds.txt", &mut kinds);
-    let mut sets = io::buffer();
-    let size = load_sets(k, &kinds[..told], &mut sets);
-    show_machine(&sheet[..rows], &kinds[..told], &sets[..size], &calls[..n]);
+    let told = load(rt, k, b"kinds.txt", &mut kinds);
+    let mut sets = buffer();
+    let size = load_sets(rt, k, &kinds[..told], &mut sets);
+    show_machine(
+        rt,
+        &sheet[..rows],
+        &kinds[..told],
+        &sets[..size],
+        &calls[..n],
+    );
     true
 }
 
-fn main() {
+fn main(rt: HostRuntime) {
     let mut k = 1;
     while k <= MOST_CASES {
-        if !show(k) {
+        if !show(&rt, k) {
             return;
         }
         k += 1;

@@ -5,9 +5,10 @@
 ghost use Rattle.std.specs.Prelude.{◌≡◌, ◌≤◌};
 ghost use Rattle.text.specs.Printed.{head_line};
 
-use libc::STDOUT_FILENO;
+use files::{large_buffer, open_read, read_full, write_all};
 use sheet_fields::layout::{MOST_ROWS, ROW_BYTES};
 use sheet_tidy::{TidyAnswer, tidy};
+use std::rt::Files;
 use text::HEAD_LINE;
 use text_print::{put_head, put_number};
 
@@ -19,12 +20,12 @@ const FIRST_OF_FOUR_DIGITS: u32 = 1000;
 const PATH_AT: usize = 3;
 
 // Opens sheet k.
-fn open(k: u32) -> i32
+fn open<R: Files>(files: &R, k: u32) -> Option<R::File>
     requires { k ≤ 999 }
 {
     let mut path = *b"NNNNNN/formula.txt";
     put_number(&mut path, 0, FIRST_OF_FOUR_DIGITS + k);
-    os::open_read(&path[PATH_AT..])
+    open_read(files, &path[PATH_AT..])
 }
 
 // An answer as a line.
@@ -37,36 +38,34 @@ fn line(a: TidyAnswer) -> [u8; HEAD_LINE]
 }
 
 // Tidies a sheet, and writes the answer and the new sheet.
-fn write_tidied(sheet: &[u8]) {
-    let mut out = io::large_buffer();
+fn write_tidied(rt: &impl Print, sheet: &[u8]) {
+    let mut out = large_buffer();
     let a = tidy(sheet, &mut out);
-    io::write_all(STDOUT_FILENO, &line(a));
+    write_all(rt, &line(a));
     let rows = a.rows as usize;
     if rows <= MOST_ROWS {
         let end = ROW_BYTES * rows;
-        io::write_all(STDOUT_FILENO, &out[..end]);
+        write_all(rt, &out[..end]);
     }
 }
 
 // Makes case k; false where it is missing.
-fn show(k: u32) -> bool
+fn show<R: Files + Print>(rt: &R, k: u32) -> bool
     requires { k ≤ 999 }
 {
-    let fd = open(k);
-    if fd < 0 {
+    let Some(mut file) = open(rt, k) else {
         return false;
-    }
-    let mut sheet = io::large_buffer();
-    let n = io::read_full(fd, &mut sheet);
-    libc::close(fd);
-    write_tidied(&sheet[..n]);
+    };
+    let mut sheet = large_buffer();
+    let n = read_full(&mut file, &mut sheet);
+    write_tidied(rt, &sheet[..n]);
     true
 }
 
-fn main() {
+fn main(rt: HostRuntime) {
     let mut k = 1;
     while k <= MOST_CASES {
-        if !show(k) {
+        if !show(&rt, k) {
             return;
         }
         k += 1;
