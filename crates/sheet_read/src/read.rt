@@ -217,9 +217,8 @@ pub fn read(sheet: &[u8], line: &[u8]) -> Reading
     }
 }
 
-// Reading for the firmware.
-#[unsafe(no_mangle)]
-pub extern "C" fn bench_read(sheet: &[u8], kinds: &[u8]) -> ReadAnswer
+// Reading for the firmware; the crates firmware and sheet_read_c export it for C.
+pub fn bench_read(sheet: &[u8], kinds: &[u8]) -> ReadAnswer
     ensures { result ≡ answer_of (reading_of sheet.now kinds.now) }
 {
     match read(sheet, kinds) {
