@@ -1,9 +1,9 @@
 use Prim.Native.Nat.{◌-◌}
 use native.Mathlib.Omega.{arith}
 use mathlib.Core.Path.{◌≡◌}
-use mathlib.Core.Logic.{⊎_elim}
 use Rattle.machine_tag_runs.specs.TagMarks.{least-one, least-new, least_kept}
 use Rattle.machine_tag_runs.proofs.least_pair.Goals as goal
+use Rattle.machine_tag_runs.proofs.least_pair.Goals.{then-firsts-t, else-firsts-t}
 
 pub bounds-firsts-0 : goal.bounds-firsts-0
 bounds-firsts-0 c = omega arith
@@ -33,9 +33,10 @@ pub loop-t-preserved : goal.loop-t-preserved
 loop-t-preserved c = (
   omega arith,
   omega arith,
-  ⊎_elim (λ l. rw l.2 (least-new c.args.firsts.now c.loop-t.t c.loop-t.v c.loop-t.invariant.2 l.0.taken))
-      (λ r. rw r.1 (least_kept c.args.firsts.now c.loop-t.t c.loop-t.v c.loop-t.invariant.2 r.0.left))
-      c.if-firsts-t.branch,
+  elim c.if-firsts-t.branch [
+    | then-firsts-t w ↦ rw w.v-is (least-new c.args.firsts.now c.loop-t.t c.loop-t.v c.loop-t.invariant.2 w.if-firsts-t.true)
+    | else-firsts-t w ↦ rw w.v-is (least_kept c.args.firsts.now c.loop-t.t c.loop-t.v c.loop-t.invariant.2 w.if-firsts-t.false)
+  ],
 )
 
 pub returns : goal.returns

@@ -58,5 +58,5 @@ returns c =
       stepped = rw (k, c.plane_at-plane.ensures) at c.step_plane-s.ensures;
       words = rw (k, drop-drop 16 (16 * (c.args.v % 16)) c.args.awake.now) refl;
       firsts = refl;
-      bytes = λ j. omega (arith, c.type_inv.mem j);
+      bytes = λ j. omega (arith, c.slice_known-1.given j);
     }

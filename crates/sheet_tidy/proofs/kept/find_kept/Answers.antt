@@ -24,7 +24,7 @@ keep_row-requires c = (omega arith, omega arith, omega arith, c.requires.3.names
 pub loop-r-preserved : goal.loop-r-preserved
 loop-r-preserved c = (
   omega arith,
-  ap (keep_down c.args.fields.now (c.loop-r.r - 1)) c.keep_row.ensures ∙ sym (keep-step c.args.fields.now c.loop-r.r c.loop-r.auto (omega arith)) ∙ c.loop-r.invariant.1,
+  ap (keep_down c.args.fields.now (c.loop-r.r - 1)) c.keep_row.ensures ∙ sym (keep-step c.args.fields.now c.loop-r.r c.loop-r.kept (omega arith)) ∙ c.loop-r.invariant.1,
   c.keep_row.auto.kept ∙ c.loop-r.invariant.2,
 )
 

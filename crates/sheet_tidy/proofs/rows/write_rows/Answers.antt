@@ -1,5 +1,4 @@
 use mathlib.Core.Path.{◌∙◌}
-use mathlib.Core.Logic.{⊎_elim}
 use native.Mathlib.Omega.{arith}
 use Prim.Native.Nat.{◌+◌, ◌-◌, ◌≤◌}
 use lib.ListN.{length}
@@ -7,6 +6,7 @@ use Rattle.formula.specs.Sheet.{shape_at, named_in}
 use Rattle.sheet_tidy.proofs.KeptLaws.{between-wider, new_by}
 use Rattle.sheet_tidy.proofs.WrittenLaws.{writing_start, writing-room, writing-kept, writing-left, writing-end}
 use Rattle.sheet_tidy.proofs.rows.write_rows.Goals as goal
+use Rattle.sheet_tidy.proofs.rows.write_rows.Goals.{then-kept-i, else-kept-i}
 
 pub loop-i-init : goal.loop-i-init
 loop-i-init c = writing_start c.args.fields.now c.args.kept.now c.args.n c.args.out.now
@@ -24,10 +24,12 @@ overflow_add-at c = let room = writing-room c.args.fields.now c.args.kept.now c.
 
 pub loop-i-preserved : goal.loop-i-preserved
 loop-i-preserved c =
-    ⊎_elim
-    (λ w. rw (w.7, w.6 ∙ w.3.ensures) (writing-kept c.args.fields.now c.args.kept.now c.args.n c.args.out.now c.loop-i.out c.loop-i.at c.loop-i.i c.loop-i.invariant c.loop-i-test.true c.requires.5 w.0.taken _ (w.2.ensures ∙ new_by c.args.fields.now c.args.kept.now c.args.n c.args.numbers.now c.requires.1 c.requires.4 (c.loop-i.i + 1) (omega arith) (omega arith))))
-    (λ w. rw (w.1, w.2) (writing-left c.args.fields.now c.args.kept.now c.args.n c.args.out.now c.loop-i.out c.loop-i.at c.loop-i.i c.loop-i.invariant c.loop-i-test.true w.0.left))
-    c.if-kept-i.branch
+    elim c.if-kept-i.branch [
+      | then-kept-i w ↦
+          rw (w.at-is, w.out-is ∙ w.put_row.ensures) (writing-kept c.args.fields.now c.args.kept.now c.args.n c.args.out.now c.loop-i.out c.loop-i.at c.loop-i.i c.loop-i.invariant c.loop-i-test.true c.requires.5 w.if-kept-i.true _ (w.new_row.ensures ∙ new_by c.args.fields.now c.args.kept.now c.args.n c.args.numbers.now c.requires.1 c.requires.4 (c.loop-i.i + 1) (omega arith) (omega arith)))
+      | else-kept-i w ↦
+          rw (w.at-is, w.out-is) (writing-left c.args.fields.now c.args.kept.now c.args.n c.args.out.now c.loop-i.out c.loop-i.at c.loop-i.i c.loop-i.invariant c.loop-i-test.true w.if-kept-i.false)
+    ]
 
 pub shape_of-out : goal.shape_of-out
 shape_of-out c = c.loop-i.invariant.size
