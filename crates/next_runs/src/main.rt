@@ -154,7 +154,7 @@ fn main(rt: HostRuntime) {
         }
         if a.refusal != 0 {
             write_rows(&rt, &sheet, rows);
-            write_all(rt, &answer_line(a));
+            write_all(&rt, &answer_line(a));
             return;
         }
         sheet = next;
