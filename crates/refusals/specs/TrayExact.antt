@@ -74,4 +74,5 @@ turn-numbers (suc n) k m sets r a = go (among-either (push_table m (take k sets)
 pub tray-numbers : (m sets : List ℕ) (number : ℕ) (r : ℕ) → Among r (numbers (tray_table m sets number)) → Among r tray_numbers
 tray-numbers m sets zero r (inl e) = inl e
 tray-numbers m sets zero r (inr (inl e)) = inr (inl e)
+tray-numbers m sets zero r (inr (inr h)) = elim h [ ]
 tray-numbers m sets (suc n) r a = turn-numbers (suc n) (set_bytes m) m sets r a

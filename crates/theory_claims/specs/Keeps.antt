@@ -15,7 +15,7 @@ use Rattle.value.specs.declared.Sense.TheVariants.{True, False, Neither}
 use Rattle.value.specs.declared.ValueKind.{ValueKind}
 use Rattle.value.specs.declared.ValueKind.TheVariants.{Truth as truth-kind}
 use Rattle.value.specs.Senses.{sense}
-use Rattle.value.specs.Kinds.{suits, wanted, gives-its-kind}
+use Rattle.value.specs.Kinds.{suits, wanted, given, gives-its-kind}
 use Rattle.network.specs.Values.{err-value, one-operand, apply}
 use Rattle.network.specs.Rules.{Kind, constant, copy, operator, T-gate, F-gate, M-gate, E-gate, IC-gate, FM-gate, FS-gate, Register, Firing, takes, gives, never, T-rule, F-rule, M-rule, E-rule, chosen, as-truth, IC-table, fired, FS-rule, operator-rule, rule}
 use Rattle.network.specs.Net.{Token, val, mark, Links, head, tail, pop, append, Able, appends, act}
@@ -167,10 +167,10 @@ module _ (K : Claims) where
         → Safe false (operator-rule b code g a)
     operator-safe true code g a e t m =
         passing false (apply code a err-value) g
-        (onto-given _ (claimed K p.out1) _ t.1.3 (gives-its-kind code t.0 a err-value (t.1.1 a m) refl)) tt
+        (onto-given (of-kind (given code (t.0 ∷ []))) (claimed K p.out1) _ t.1.3 (gives-its-kind code t.0 a err-value (t.1.1 a m) refl)) tt
     operator-safe false code g a e t m = λ b n.
         passing false (apply code a b) g
-        (onto-given _ (claimed K p.out1) _ t.1.3 (gives-its-kind code t.0 a b (t.1.1 a m) (t.1.2 e b n))) tt
+        (onto-given (of-kind (given code (t.0 ∷ []))) (claimed K p.out1) _ t.1.3 (gives-its-kind code t.0 a b (t.1.1 a m) (t.1.2 e b n))) tt
 
     -- The third output of IC has a token only where a truth or err may stand on it, or where the chosen iter? is not true.
     abbrev Unless : Bool → Type 0
