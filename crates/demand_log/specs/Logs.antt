@@ -35,7 +35,9 @@ use Rattle.demand_log.specs.Checks.{lines-listed, first-listed, Followed-log, No
 -- The width told is that of the results, where there are some.
 told-wide : (w : ℕ) (rs : List Result) → AllWide w rs → AllWide (width_of (length rs) w) rs
 told-wide w [] h = tt
-told-wide w (r ∷ more) h = rw (ne_eqb (suc (length more)) 0 (λ e. absurd (omega (arith, e)))) h
+told-wide w (r ∷ more) h =
+    let told : width_of (length (r ∷ more)) w ≡ w = rw (ne_eqb (suc (length more)) 0 (λ e. absurd (omega (arith, e)))) in
+    subst (λ (v : ℕ). AllWide v (r ∷ more)) (sym told) h
 
 handed-at : (w : ℕ) (rs : List Result) → AllWide w rs → (rest : List ℕ) (k : ℕ) → k < length rs
     → result w (first_of 80 (drop (80 * k) (flatten (bytes_of rs) ++ rest))) ≡ get_or rs k (result 0 [])
