@@ -10,7 +10,7 @@ use Rattle.session.specs.PassLaws.{drain-end, nothing-drained, one-drained, drai
 use Rattle.session_pass.proofs.drain.Goals as goal
 
 pub loop-count-init : goal.loop-count-init
-loop-count-init c = (refl, refl, nothing-drained c.args.mem.now c.args.out.now, omega arith, refl)
+loop-count-init c = (refl, refl, nothing-drained c.args.mem.now c.args.out.now, omega (arith, (c.type_inv.mem 7).fits), refl)
 
 pub take_line-line-requires : goal.take_line-line-requires
 take_line-line-requires c = omega (arith, c.loop-count.invariant.0, c.loop-count.invariant.2.within)
@@ -31,4 +31,4 @@ pub loop-count-smaller : goal.loop-count-smaller
 loop-count-smaller c = let z : length (line_by (taken_from c.loop-count.mem)) ≡ 0 → ⊥ = λ q. c.if-line-eq0.false (c.take_line-line.ensures.0 ∙ q) in let s = drain-more c.loop-count.mem z in rw c.take_line-line.ensures.1 (omega (arith, s.fewer))
 
 pub loop-count-preserved : goal.loop-count-preserved
-loop-count-preserved c = let z : length (line_by (taken_from c.loop-count.mem)) ≡ 0 → ⊥ = λ q. c.if-line-eq0.false (c.take_line-line.ensures.0 ∙ q) in let s = drain-more c.loop-count.mem z in let n = one-drained c.args.mem.now c.loop-count.mem c.loop-count.count c.loop-count.at c.loop-count.out c.loop-count.invariant.2 (omega (arith, c.loop-count.invariant.0, c.loop-count.invariant.2.within, c.loop-count.invariant.3)) z in (c.take_line-line.auto.out ∙ c.loop-count.invariant.0, c.take_line-line.auto.mem ∙ c.loop-count.invariant.1, rw (c.take_line-line.ensures.0, c.take_line-line.ensures.1, c.take_line-line.ensures.2) n, omega (arith, (c.type_inv.mem 7).fits, c.loop-count.invariant.2.untaken-are, s.fewer), rw (c.take_line-line.ensures.0, c.take_line-line.ensures.2) (behind-written c.args.out.now c.loop-count.out c.loop-count.at (length (line_by (taken_from c.loop-count.mem))) (line_by (taken_from c.loop-count.mem)) refl (omega (arith, s.short, c.loop-count.invariant.0, c.loop-count.invariant.2.within, c.loop-count.invariant.3)) c.loop-count.invariant.4))
+loop-count-preserved c = let z : length (line_by (taken_from c.loop-count.mem)) ≡ 0 → ⊥ = λ q. c.if-line-eq0.false (c.take_line-line.ensures.0 ∙ q) in let s = drain-more c.loop-count.mem z in let n = one-drained c.args.mem.now c.loop-count.mem c.loop-count.count c.loop-count.at c.loop-count.out c.loop-count.invariant.2 (omega (arith, c.loop-count.invariant.0, c.loop-count.invariant.2.within, c.loop-count.invariant.3)) z in (c.take_line-line.auto.out ∙ c.loop-count.invariant.0, c.take_line-line.auto.mem ∙ c.loop-count.invariant.1, rw (c.take_line-line.ensures.0, c.take_line-line.ensures.1, c.take_line-line.ensures.2) n, rw c.take_line-line.ensures.1 (omega (arith, s.fewer, c.loop-count.invariant.3)), rw (c.take_line-line.ensures.0, c.take_line-line.ensures.2) (behind-written c.args.out.now c.loop-count.out c.loop-count.at (length (line_by (taken_from c.loop-count.mem))) (line_by (taken_from c.loop-count.mem)) refl (omega (arith, s.short, c.loop-count.invariant.0, c.loop-count.invariant.2.within, c.loop-count.invariant.3)) c.loop-count.invariant.4))

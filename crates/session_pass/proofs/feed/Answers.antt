@@ -26,7 +26,7 @@ pub shape_of-mem-then-a-ne0 : goal.shape_of-mem-then-a-ne0
 shape_of-mem-then-a-ne0 c = c.push-a.auto.mem ∙ c.loop-next.invariant.0
 
 pub returns-then-a-ne0 : goal.returns-then-a-ne0
-returns-then-a-ne0 c = let b : is_set_line c.args.kinds.now (line_at c.args.kinds.now c.args.sets.now c.loop-next.next) ≡ true = sym c.read_set.ensures.0 ∙ c.if-read_set.true in let t : take (5 * length c.args.kinds.now) c.read_set.new.out ≡ field_bytes (length c.args.kinds.now) (line_at c.args.kinds.now c.args.sets.now c.loop-next.next) = set-lent (length c.args.kinds.now) (line_at c.args.kinds.now c.args.sets.now c.loop-next.next) (drop (5 * length c.args.kinds.now) c.loop-next.set) c.read_set.new.out (c.read_set.ensures.1 c.if-read_set.true) in let o : outcome c.push-a.result c.push-a.new.mem ≡ pushed c.loop-next.mem (field_bytes (length c.args.kinds.now) (line_at c.args.kinds.now c.args.sets.now c.loop-next.next)) = c.push-a.ensures ∙ ap (pushed c.loop-next.mem) t in (rw (ap (λ (x : Outcome). x.mem) o) (fed-stop c.args.kinds.now c.args.sets.now c.args.at c.args.mem.now c.loop-next.next c.loop-next.mem c.loop-next.invariant.3 b (λ q. c.if-a-ne0.true (ap (λ (x : Outcome). x.answer.refusal) o ∙ q))), omega arith)
+returns-then-a-ne0 c = let b : is_set_line c.args.kinds.now (line_at c.args.kinds.now c.args.sets.now c.loop-next.next) ≡ true = sym c.read_set.ensures.0 ∙ c.if-read_set.true in let t : take (5 * length c.args.kinds.now) c.read_set.new.out ≡ field_bytes (length c.args.kinds.now) (line_at c.args.kinds.now c.args.sets.now c.loop-next.next) = set-lent (length c.args.kinds.now) (line_at c.args.kinds.now c.args.sets.now c.loop-next.next) (drop (5 * length c.args.kinds.now) c.loop-next.set) c.read_set.new.out (c.read_set.ensures.1 c.if-read_set.true) in let o : outcome c.push-a.result c.push-a.new.mem ≡ pushed c.loop-next.mem (field_bytes (length c.args.kinds.now) (line_at c.args.kinds.now c.args.sets.now c.loop-next.next)) = c.push-a.ensures ∙ ap (pushed c.loop-next.mem) t in record { feeds_to = rw (ap (λ (x : Outcome). x.mem) o) (fed-stop c.args.kinds.now c.args.sets.now c.args.at c.args.mem.now c.loop-next.next c.loop-next.mem c.loop-next.invariant.3 b (λ q. c.if-a-ne0.true (ap (λ (x : Outcome). x.answer.refusal) o ∙ q))); upper_bound = omega arith }
 
 pub overflow_add-next-then-read_set : goal.overflow_add-next-then-read_set
 overflow_add-next-then-read_set c = let b : is_set_line c.args.kinds.now (line_at c.args.kinds.now c.args.sets.now c.loop-next.next) ≡ true = sym c.read_set.ensures.0 ∙ c.if-read_set.true in let f = set-line-fits c.args.kinds.now (drop c.loop-next.next c.args.sets.now) b in let g : length (drop c.loop-next.next c.args.sets.now) ≡ length c.args.sets.now - c.loop-next.next = length-drop c.loop-next.next c.args.sets.now in omega (arith, f, g)
@@ -41,10 +41,10 @@ pub shape_of-mem-else-read_set : goal.shape_of-mem-else-read_set
 shape_of-mem-else-read_set c = c.loop-next.invariant.0
 
 pub returns-else-read_set : goal.returns-else-read_set
-returns-else-read_set c = (fed-bad c.args.kinds.now c.args.sets.now c.args.at c.args.mem.now c.loop-next.next c.loop-next.mem c.loop-next.invariant.3 c.loop-next-test.true (sym c.read_set.ensures.0 ∙ c.if-read_set.false), omega arith)
+returns-else-read_set c = record { feeds_to = fed-bad c.args.kinds.now c.args.sets.now c.args.at c.args.mem.now c.loop-next.next c.loop-next.mem c.loop-next.invariant.3 c.loop-next-test.true (sym c.read_set.ensures.0 ∙ c.if-read_set.false); upper_bound = omega arith }
 
 pub shape_of-mem : goal.shape_of-mem
 shape_of-mem c = c.loop-next.invariant.0
 
 pub returns : goal.returns
-returns c = (fed-end c.args.kinds.now c.args.sets.now c.args.at c.args.mem.now c.loop-next.next c.loop-next.mem c.loop-next.invariant.3 c.loop-next-test.false, omega arith)
+returns c = record { feeds_to = fed-end c.args.kinds.now c.args.sets.now c.args.at c.args.mem.now c.loop-next.next c.loop-next.mem c.loop-next.invariant.3 c.loop-next-test.false; upper_bound = omega arith }
