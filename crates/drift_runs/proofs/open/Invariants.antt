@@ -4,7 +4,7 @@ use lib.ListN.{length}
 use Rattle.drift_runs.proofs.open.Given as goal
 
 abbrev pub invariant-loop-i : goal.invariant-loop-i
-invariant-loop-i l = (length l.path ≡ 15) × (l.i ≤ length l.name)
+invariant-loop-i g l = (length l.path ≡ 15) × (l.i ≤ length l.name)
 
 abbrev pub decreases-loop-i : goal.decreases-loop-i
-decreases-loop-i l = length l.name - l.i
+decreases-loop-i g l = length l.name - l.i

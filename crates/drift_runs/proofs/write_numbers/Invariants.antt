@@ -4,7 +4,7 @@ use lib.ListN.{length}
 use Rattle.drift_runs.proofs.write_numbers.Given as goal
 
 abbrev pub invariant-loop-i : goal.invariant-loop-i
-invariant-loop-i l = (length l.text ≡ 177) × (l.i ≤ l.n)
+invariant-loop-i g l = (length l.text ≡ 177) × (l.i ≤ l.n)
 
 abbrev pub decreases-loop-i : goal.decreases-loop-i
-decreases-loop-i l = l.n - l.i
+decreases-loop-i g l = l.n - l.i
