@@ -2,7 +2,8 @@
 // Files of the working directory and the standard output, as the programs of this repository use them: a file is opened by the
 // bytes of its path and read as far as a buffer goes, and a buffer is written whole. A file that is missing or cannot be opened
 // is none; one that cannot be read on ends there.
-ghost use Rattle.std.specs.Prelude.{◌≡◌, ◌≤◌, min, length};
+ghost use Rattle.std.specs.Prelude.{◌≡◌, ◌≤◌, min, length, take};
+ghost use Rattle.std.specs.Io.KnownBytes.{Consumes};
 ghost use Rattle.files.specs.Counts.{IsPrefixLen, clamp_len};
 
 use std::io::Read;
@@ -38,10 +39,11 @@ pub fn open_read<R: Files>(files: &R, path: &[u8]) -> Option<R::File> {
     fs::open(files, path).ok()
 }
 
-// Reads until buf is full, the file ends or a read fails, and returns how many bytes it put at the start of buf. On an empty buf
-// it makes no call.
+// Reads until buf is full, the file ends or a read fails, and returns how many bytes it put at the start of buf: those that the
+// file gave. On an empty buf it makes no call.
 pub fn read_full<R: Read>(file: &mut R, buf: &mut [u8]) -> usize
-    ensures { IsPrefixLen result buf.new }
+    ensures in_bounds { IsPrefixLen result buf.new }
+    ensures bytes { Consumes (R.remaining file.old) (R.remaining file.new) (take result buf.new) }
 {
     let mut done = 0;
     while done < buf.len() {
@@ -56,7 +58,8 @@ pub fn read_full<R: Read>(file: &mut R, buf: &mut [u8]) -> usize
 
 // One read; 0 where it fails.
 fn read_some<R: Read>(file: &mut R, buf: &mut [u8]) -> usize
-    ensures { IsPrefixLen result buf.new }
+    ensures in_bounds { IsPrefixLen result buf.new }
+    ensures bytes { Consumes (R.remaining file.old) (R.remaining file.new) (take result buf.new) }
 {
     match file.read(buf) {
         Ok(n) => n,

@@ -3,7 +3,7 @@ use lib.ListN.{length}
 use Rattle.bench_runs.proofs.run_all.Given as goal
 
 abbrev pub invariant-loop-at : goal.invariant-loop-at
-invariant-loop-at l = l.at ≤ length l.list
+invariant-loop-at g l = l.at ≤ length l.list
 
 abbrev pub decreases-loop-at : goal.decreases-loop-at
-decreases-loop-at l = length l.list - l.at
+decreases-loop-at g l = length l.list - l.at

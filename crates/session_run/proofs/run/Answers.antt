@@ -10,10 +10,10 @@ use Rattle.session.specs.OpeningLaws.{begins-proceeds}
 use Rattle.session_run.proofs.run.Goals as goal
 
 pub slice_bounds-open-end : goal.slice_bounds-open-end
-slice_bounds-open-end c = sym (length-take-le c.read_sheet-sheet.result.length c.read_sheet-sheet.new.path c.read_sheet-sheet.ensures.within)
+slice_bounds-open-end g c = sym (length-take-le c.read_sheet-sheet.result.length c.read_sheet-sheet.new.first c.read_sheet-sheet.ensures.within)
 
 pub slice_bounds-repeat-end-3 : goal.slice_bounds-repeat-end-3
-slice_bounds-repeat-end-3 c = sym (length-take-le c.before.«open».result.inputs c.load-told.new.path (omega (arith, c.before.«open».ensures.1.0.told, c.load-told.ensures.0, c.load-told.ensures.1)))
+slice_bounds-repeat-end-3 g c = sym (length-take-le c.open-opened.result.inputs c.load-told.new.buf (omega (arith, c.open-opened.ensures.within.0.told, c.load-told.ensures.0, c.load-told.ensures.1)))
 
 pub repeat-requires : goal.repeat-requires
-repeat-requires c = let w = c.before.«open».ensures.1.0 in let told : c.before.«open».result.inputs ≤ c.load-told.result = omega (arith, w.told, c.load-told.ensures.1) in let few : length (take c.before.«open».result.inputs c.load-told.new.path) ≤ 32 = omega (arith, w.few, length-take c.before.«open».result.inputs c.load-told.new.path) in let p = subst (λ (ks : List ℕ). Proceeds ks (take c.load-n.result c.load-n.new.path) c.before.«open».result.stage c.before.«open».new.1.1.1.1.0) (take-take c.before.«open».result.inputs c.load-told.result c.load-told.new.path told) (begins-proceeds (take c.read_sheet-sheet.result.length c.read_sheet-sheet.new.path ++ c.read_sheet-sheet.ensures.more) (take c.load-told.result c.load-told.new.path ++ []) (take c.load-n.result c.load-n.new.path ++ []) (take c.before.«open».result.inputs (take c.load-told.result c.load-told.new.path)) (take c.load-n.result c.load-n.new.path) c.before.«open».result c.before.«open».new.1.1.1.1.0 c.before.«open».new.1.1.1.1.1.0 (c.before.«open».ensures.0 c.read_sheet-sheet.ensures.more [] [] c.read_sheet-sheet.ensures.whole (inl refl) (inl refl))) in ((few, w.inside, w.fits, omega (arith, c.before.«open».auto.1.1.1.1.1.0, c.large_buffer-out.ensures)), p)
+repeat-requires g c = let w = c.open-opened.ensures.within.0 in let told : c.open-opened.result.inputs ≤ c.load-told.result = omega (arith, w.told, c.load-told.ensures.1) in let few : length (take c.open-opened.result.inputs c.load-told.new.buf) ≤ 32 = omega (arith, w.few, length-take c.open-opened.result.inputs c.load-told.new.buf) in let p = subst (λ (ks : List ℕ). Proceeds ks (take c.load-n.result c.load-n.new.buf) c.open-opened.result.stage c.open-opened.new.mem) (take-take c.open-opened.result.inputs c.load-told.result c.load-told.new.buf told) (begins-proceeds (take c.read_sheet-sheet.result.length c.read_sheet-sheet.new.first ++ c.read_sheet-sheet.ensures.more) (take c.load-told.result c.load-told.new.buf ++ []) (take c.load-n.result c.load-n.new.buf ++ []) (take c.open-opened.result.inputs (take c.load-told.result c.load-told.new.buf)) (take c.load-n.result c.load-n.new.buf) c.open-opened.result c.open-opened.new.mem c.open-opened.new.out (c.open-opened.ensures.opens_to c.read_sheet-sheet.ensures.more [] [] c.read_sheet-sheet.ensures.whole (inl refl) (inl refl))) in record { kinds_len_bound = (few, w.inside, w.fits, omega (arith, c.open-opened.auto.out, c.large_buffer-out.ensures)); proceeds = p }
