@@ -1,15 +1,14 @@
 -- What the program writes is a field of document 01's sheet ("right-justified with spaces, no leading zeros; zero is one
 -- digit 0"): read by the sheet's own definition, it is the number that was written.
-use Prim.Native.Nat.{ℕ, zero, suc, ◌+◌, ◌*◌, ◌-◌, ◌/◌, ◌%◌, ◌≤◌, ◌<◌}
+use Prim.Native.Nat.{ℕ, ◌+◌, ◌*◌, ◌-◌, ◌/◌, ◌%◌, ◌≤◌, ◌<◌}
 use mathlib.Core.Path.{◌≡◌, refl, sym, ap, ◌∙◌}
 use mathlib.Core.List.{List, [], ◌∷◌}
 use native.Mathlib.Omega.{arith}
 use native.Mathlib.Decide.{dec_lt, ℕ_discrete}
 use native.Mathlib.Nat.{mod-lt}
 use borrow.Author.Tests.{lt-ltb, le-ltb, le-leb, ne_eqb}
-use Rattle.formula.specs.declared.Field.{Field}
-use Rattle.formula.specs.declared.Field.TheVariants.{Number, Malformed}
-use Rattle.formula.specs.Sheet.{digits_of, field_of, zero_of}
+use Rattle.formula.specs.declared.Field.TheVariants.{Number}
+use Rattle.formula.specs.Sheet.{digits_of, field_of}
 use Rattle.sheet_runs.specs.Lines.{digit_at, place_at, six}
 
 below-ten : (w : ℕ) → w % 10 < 10

@@ -1,6 +1,6 @@
 -- How the program writes an answer of reading: six numbers, each right-justified in six characters as a field of document
 -- 01's sheet, and a line feed; and where it finds the sheets and their kinds lines.
-use Rattle.std.specs.Prelude.{ℕ, zero, suc, ◌+◌, ◌*◌, ◌-◌, ◌/◌, ◌%◌, ◌≤◌, ◌<◌, ◌≡◌, refl, Bool, true, false, cond, List, [], ◌∷◌, ◌++◌, eqb, ltb}
+use Rattle.std.specs.Prelude.{ℕ, ◌+◌, ◌/◌, ◌%◌, cond, List, [], ◌∷◌, ◌++◌, eqb, ltb}
 use Rattle.sheet_read.specs.declared.read.ReadAnswer.{ReadAnswer}
 
 -- The last decimal digit of k.

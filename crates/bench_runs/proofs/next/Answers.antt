@@ -1,5 +1,4 @@
 use native.Mathlib.Omega.{arith}
-use Prim.Native.Nat.{◌-◌}
 use Rattle.bench_runs.proofs.next.Goals as goal
 
 pub loop-i-init : goal.loop-i-init

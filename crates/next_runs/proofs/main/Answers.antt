@@ -1,4 +1,4 @@
-use Rattle.std.proofs.Common.{◌-◌, sym, length-take-le, rules}
+use Rattle.std.proofs.Common.{sym, length-take-le, rules}
 use Rattle.next_runs.proofs.main.Goals as goal
 
 pub slice_bounds-next_sheet-end : goal.slice_bounds-next_sheet-end

@@ -1,8 +1,7 @@
 use native.Mathlib.Omega.{arith}
-use Prim.Native.Nat.{ℕ, ◌-◌, ◌≤◌}
+use Prim.Native.Nat.{ℕ, ◌≤◌}
 use mathlib.Core.Path.{◌≡◌, sym, ◌∙◌, ap}
 use mathlib.Core.List.{[]}
-use mathlib.Core.Bool.{true, false}
 use lib.ListN.{length, length-replicate}
 use lib.Seq.{sets}
 use Rattle.machine_calls.specs.Calls.{Handed, handed}

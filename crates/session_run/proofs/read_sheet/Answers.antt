@@ -1,5 +1,4 @@
 use native.Mathlib.Omega.{arith}
-use Prim.Native.Nat.{◌-◌}
 use Rattle.session.specs.Reading.{no-sheet, short-sheet, long-sheet}
 use Rattle.session_run.proofs.read_sheet.Goals as goal
 

@@ -1,5 +1,4 @@
 use native.Mathlib.Omega.{arith}
-use Prim.Native.Nat.{◌-◌}
 use mathlib.Core.Path.{sym, ◌∙◌, refl}
 use lib.Seq.{length-take-le}
 use Rattle.session.specs.Ending.{proceeds-on, comes-on, comes-to-end}

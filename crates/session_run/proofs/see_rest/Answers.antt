@@ -1,4 +1,3 @@
-use Prim.Native.Nat.{◌-◌}
 use Rattle.session.specs.Reading.{nothing-more, seen-on}
 use Rattle.session_run.proofs.see_rest.Goals as goal
 

@@ -1,4 +1,3 @@
-use Prim.Native.Nat.{◌-◌}
 use Rattle.session.specs.Reading.{Continued}
 use Rattle.session_run.proofs.see_rest.Given as goal
 
